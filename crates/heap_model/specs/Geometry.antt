@@ -1,0 +1,74 @@
+-- Where things stand in an image, as word indices. A word has 8 bytes, a line 8 words; `capacity` is the number of superblocks, `d` one of them.
+use Rattle.std.specs.Prelude.{ℕ, ◌+◌, ◌*◌}
+
+-- the first word of each image: its first eight bytes are the text "10COLLAR"
+abbrev pub magic : ℕ
+magic = 0x52414C4C4F433031
+
+-- the version of the format
+abbrev pub version : ℕ
+version = 1
+
+-- the greatest capacity
+abbrev pub largest_capacity : ℕ
+largest_capacity = 256
+
+-- the state word of an image that was closed, and of one that was not
+abbrev pub clean : ℕ
+clean = 1
+
+abbrev pub dirty : ℕ
+dirty = 2
+
+-- the header's words
+abbrev pub magic_word : ℕ
+magic_word = 0
+
+abbrev pub version_word : ℕ
+version_word = 1
+
+abbrev pub capacity_word : ℕ
+capacity_word = 2
+
+abbrev pub state_word : ℕ
+state_word = 3
+
+-- the high-water mark: the superblocks below it have been taken
+abbrev pub used_word : ℕ
+used_word = 8
+
+-- the head of the list of free superblocks (0), and of the superblocks of a class with free blocks (1 to 20)
+abbrev pub head_word : ℕ → ℕ
+head_word list = 16 + list
+
+-- how many roots there are, and the word of root i
+abbrev pub roots : ℕ
+roots = 1024
+
+abbrev pub root_word : ℕ → ℕ
+root_word i = 40 + i
+
+-- the words of header and roots together
+abbrev pub fixed_words : ℕ
+fixed_words = 1064
+
+-- the descriptor of superblock d, one line: what it holds, its anchor, and its link in a list
+abbrev pub info_word : ℕ → ℕ
+info_word d = 1064 + 8 * d
+
+abbrev pub anchor_word : ℕ → ℕ
+anchor_word d = 1065 + 8 * d
+
+abbrev pub link_word : ℕ → ℕ
+link_word d = 1066 + 8 * d
+
+-- the words of a superblock, and the first one of superblock d
+abbrev pub superblock_words : ℕ
+superblock_words = 8192
+
+abbrev pub start_word : ℕ → ℕ → ℕ
+start_word capacity d = 1064 + 8 * capacity + 8192 * d
+
+-- the words of a whole image
+abbrev pub image_words : ℕ → ℕ
+image_words capacity = 1064 + 8200 * capacity

@@ -1,0 +1,12 @@
+pub mod Geometry
+pub mod Image
+pub mod Header
+pub mod Sizes
+pub mod Words
+pub mod Blocks
+pub mod Pointers
+pub mod Reach
+pub mod Recovered
+pub mod Chains
+pub mod Durability
+pub mod Counting

@@ -1,0 +1,10 @@
+//! A block of the heap, as its place and size.
+
+/// A block: `words` words of 8 bytes from word `first_word` of the image on.
+#[derive(Clone, Copy, PartialEq, Eq, Debug)]
+pub struct Block {
+    /// The index in the image of the block's first word.
+    pub first_word: u64,
+    /// How many words it has.
+    pub words: u64,
+}
