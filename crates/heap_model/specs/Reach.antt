@@ -1,5 +1,5 @@
 -- What the persistent roots of an image reach, through the links that a filter lists (Ralloc's recoverability and filter functions).
-use Rattle.std.specs.Prelude.{◌≡◌, ℕ, ◌+◌, ◌<◌, List, Contains}
+use Rattle.std.specs.Prelude.{◌≡◌, ℕ, ◌+◌, ◌<◌, List, Contains, Bool, IsTrue}
 use Rattle.heap_model.specs.declared.block.Block.{Block}
 use Rattle.heap_model.specs.Geometry.{roots, root_word}
 use Rattle.heap_model.specs.Image.{Image, words_from}
@@ -37,3 +37,10 @@ pub record IsOutside (image : Image) (kinds : ℕ → ℕ) (links : Links) (at :
 pub record IsReached (image : Image) (kinds : ℕ → ℕ) (links : Links) (b : Block) : Type 0 where
   pub kind : ℕ
   pub reach : Reach image kinds links b kind
+
+-- a set of pairs, as a test, that has what the roots lead to, and what the links of its members lead to
+pub record IsClosed (image : Image) (kinds : ℕ → ℕ) (links : Links) (has : Block → ℕ → Bool) : Type 0 where
+  pub roots_in : (i : ℕ) (b : Block) → i < roots → Leads image (image (root_word i)) b → IsTrue (has b (kinds i))
+  pub links_in : (a b : Block) (from position kind : ℕ) → IsTrue (has a from)
+      → Contains (links from (words_in image a)) (position, kind)
+      → Leads image (image (a.first_word + position)) b → IsTrue (has b kind)

@@ -7,3 +7,7 @@ mod laws;
 
 pub use block::Block;
 pub use header::BadHeader;
+pub use laws::{
+    a_block_lies_in_the_image, a_pointer_leads_to_one_block, blocks_never_overlap, reach_is_closed,
+    reach_is_least,
+};

@@ -1,0 +1,4 @@
+pub mod SizeLemmas
+pub mod BlockLemmas
+pub mod ImageLemmas
+pub mod ReachLemmas
