@@ -2,3 +2,4 @@ pub mod SizeLemmas
 pub mod BlockLemmas
 pub mod ImageLemmas
 pub mod ReachLemmas
+mod ExampleLemmas

@@ -10,3 +10,4 @@ pub mod Recovered
 pub mod Chains
 pub mod Durability
 pub mod Counting
+pub mod Examples
