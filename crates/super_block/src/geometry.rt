@@ -1,0 +1,105 @@
+//! The word indices that depend on the capacity of an image.
+ghost use Rattle.std.specs.Prelude.{◌≡◌, ◌<◌, ◌≤◌};
+ghost use Rattle.heap_model.specs.Geometry.{largest_capacity, info_word, anchor_word, link_word, start_word, image_words};
+
+use crate::layout::{ANCHOR_OFFSET, DESCRIPTOR_WORDS, FIXED_WORDS, LINK_OFFSET, SUPERBLOCK_WORDS};
+
+/// The layout of an image of `capacity` superblocks. Its superblocks are numbered from 0.
+#[derive(Clone, Copy, PartialEq, Eq, Debug)]
+pub struct Geometry {
+    /// How many superblocks the image has.
+    pub capacity: u64,
+    pub ghost some: { 1 ≤ capacity },
+    pub ghost small: { capacity ≤ largest_capacity },
+}
+
+impl Geometry {
+    /// The layout of an image of so many superblocks.
+    pub fn new(capacity: u64) -> Self
+        requires some { 1 ≤ capacity }
+        requires small { capacity ≤ largest_capacity }
+        ensures { result.capacity ≡ capacity }
+    {
+        Geometry { capacity }
+    }
+
+    /// How many superblocks the image has.
+    pub fn capacity(self) -> u64
+        ensures { result ≡ self.capacity }
+    {
+        self.capacity
+    }
+
+    /// How many words the image has.
+    pub fn length(self) -> u64
+        ensures { result ≡ image_words self.capacity }
+    {
+        FIXED_WORDS + (DESCRIPTOR_WORDS + SUPERBLOCK_WORDS) * self.capacity
+    }
+
+    /// The word that says what superblock `d` holds, the first of its descriptor.
+    pub fn info(self, d: u64) -> u64
+        requires { d < self.capacity }
+        ensures { result ≡ info_word d }
+    {
+        FIXED_WORDS + DESCRIPTOR_WORDS * d
+    }
+
+    /// The word that says which blocks of superblock `d` are free.
+    pub fn anchor(self, d: u64) -> u64
+        requires { d < self.capacity }
+        ensures { result ≡ anchor_word d }
+    {
+        self.info(d) + ANCHOR_OFFSET
+    }
+
+    /// The word that links superblock `d` to the next one of its list.
+    pub fn link(self, d: u64) -> u64
+        requires { d < self.capacity }
+        ensures { result ≡ link_word d }
+    {
+        self.info(d) + LINK_OFFSET
+    }
+
+    /// The first word of superblock `d`.
+    pub fn start(self, d: u64) -> u64
+        requires { d < self.capacity }
+        ensures { result ≡ start_word self.capacity d }
+    {
+        FIXED_WORDS + DESCRIPTOR_WORDS * self.capacity + SUPERBLOCK_WORDS * d
+    }
+}
+
+#[cfg(test)]
+mod tests {
+    use super::*;
+    use crate::layout::WORD_BYTES;
+
+    #[test]
+    fn an_image_has_the_length_of_its_capacity(rt: HostRuntime) {
+        for (capacity, words, start_byte) in [
+            (1, 9_264, 8_576),
+            (2, 17_464, 8_640),
+            (4, 33_864, 8_768),
+            (256, 2_100_264, 24_896),
+        ] {
+            assert!(rt; 1 <= capacity && capacity <= 256);
+            let geometry = Geometry::new(capacity);
+            assert_eq!(rt; geometry.length(), words, "at {capacity}");
+            assert_eq!(rt; WORD_BYTES * geometry.start(0), start_byte, "at {capacity}");
+        }
+    }
+
+    #[test]
+    fn a_descriptor_is_one_line_and_a_superblock_8192_words(rt: HostRuntime) {
+        let geometry = Geometry::new(4);
+        assert_eq!(rt; geometry.capacity(), 4);
+        for (d, info, start) in [(0, 1_064, 1_096), (1, 1_072, 9_288), (3, 1_088, 25_672)] {
+            assert!(rt; d < 4);
+            assert_eq!(rt; geometry.info(d), info, "at {d}");
+            assert_eq!(rt; geometry.anchor(d), info + 1, "at {d}");
+            assert_eq!(rt; geometry.link(d), info + 2, "at {d}");
+            assert_eq!(rt; geometry.start(d), start, "at {d}");
+        }
+    }
+}

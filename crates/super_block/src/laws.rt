@@ -1,0 +1,37 @@
+//! What ties the numbers of `layout` to the definitions, as a function with nothing to run.
+ghost use Rattle.std.specs.Prelude.{◌≡◌, ℕ, ◌+◌, ◌*◌};
+ghost use Rattle.heap_model.specs.Geometry.{magic, version, largest_capacity, clean, dirty, magic_word, version_word, capacity_word, state_word, used_word, head_word, roots, root_word, fixed_words, info_word, anchor_word, link_word, superblock_words, start_word};
+
+use crate::layout::{
+    ANCHOR_OFFSET, CAPACITY_WORD, CLEAN, DESCRIPTOR_WORDS, DIRTY, FIXED_WORDS, HEAD_WORD,
+    LARGEST_CAPACITY, LINK_OFFSET, MAGIC, MAGIC_WORD, ROOT_WORD, ROOTS, STATE_WORD,
+    SUPERBLOCK_WORDS, USED_WORD, VERSION, VERSION_WORD,
+};
+
+/// The constants of this crate are the numbers that the definitions of the image speak of.
+pub fn constants_agree()
+    // values
+    ensures magic { MAGIC ≡ magic }
+    ensures version { VERSION ≡ version }
+    ensures largest_capacity { LARGEST_CAPACITY ≡ largest_capacity }
+    ensures clean { CLEAN ≡ clean }
+    ensures dirty { DIRTY ≡ dirty }
+    ensures roots { ROOTS ≡ roots }
+
+    // word indices
+    ensures magic_word { MAGIC_WORD ≡ magic_word }
+    ensures version_word { VERSION_WORD ≡ version_word }
+    ensures capacity_word { CAPACITY_WORD ≡ capacity_word }
+    ensures state_word { STATE_WORD ≡ state_word }
+    ensures used_word { USED_WORD ≡ used_word }
+    ensures head_word { (list : ℕ) → HEAD_WORD + list ≡ head_word list }
+    ensures root_word { (i : ℕ) → ROOT_WORD + i ≡ root_word i }
+
+    // descriptors and superblocks
+    ensures fixed_words { FIXED_WORDS ≡ fixed_words }
+    ensures info { (d : ℕ) → FIXED_WORDS + DESCRIPTOR_WORDS * d ≡ info_word d }
+    ensures anchor { (d : ℕ) → info_word d + ANCHOR_OFFSET ≡ anchor_word d }
+    ensures link { (d : ℕ) → info_word d + LINK_OFFSET ≡ link_word d }
+    ensures superblock { SUPERBLOCK_WORDS ≡ superblock_words }
+    ensures start { (capacity d : ℕ) → info_word capacity + SUPERBLOCK_WORDS * d ≡ start_word capacity d }
+{}
