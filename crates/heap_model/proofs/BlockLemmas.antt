@@ -5,26 +5,26 @@ use Rattle.std.proofs.lemmas.Bool.{cases_order, cases_lt}
 use Rattle.heap_model.specs.declared.block.Block.{Block}
 use Rattle.heap_model.specs.Geometry.{start_word, superblock_words}
 use Rattle.heap_model.specs.Sizes.{words_of_class, blocks_of}
-use Rattle.heap_model.specs.Blocks.{Layout, Begins, class, large, IsBlockOf, IsBlock, AreOneOrApart}
+use Rattle.heap_model.specs.Blocks.{Layout, Begins, of_class, as_large, IsBlockOf, IsBlock, AreOneOrApart}
 use Rattle.heap_model.proofs.SizeLemmas.{blocks_fit, two_words}
 
 -- a superblock begins its blocks in one way only
 pub same_begins : (l : Layout) (d w n v m : ℕ) → Begins l d w n → Begins l d v m → (w ≡ v) × (n ≡ m)
-same_begins l d w n v m (class c e is) (class k f js) = let same : c ≡ k = sym e ∙ f in (ap words_of_class same, ap blocks_of same)
-same_begins l d w n v m (class c e is) (large k some f end zeros) = absurd (omega arith)
-same_begins l d w n v m (large k some f end zeros) (class c e is) = absurd (omega arith)
-same_begins l d w n v m (large k some f end zeros) (large h some' f' end' zeros') =
+same_begins l d w n v m (of_class c e is) (of_class k f js) = let same : c ≡ k = sym e ∙ f in (ap words_of_class same, ap blocks_of same)
+same_begins l d w n v m (of_class c e is) (as_large k some f end zeros) = absurd (omega arith)
+same_begins l d w n v m (as_large k some f end zeros) (of_class c e is) = absurd (omega arith)
+same_begins l d w n v m (as_large k some f end zeros) (as_large h some' f' end' zeros') =
     let same : k ≡ h = omega arith in (ap (λ x. superblock_words * x) same, refl)
 
 -- each block has words
 pub some_words : (l : Layout) (d w n : ℕ) → Begins l d w n → 2 ≤ w
-some_words l d w n (class c e is) = two_words c is
-some_words l d w n (large k some f end zeros) = omega arith
+some_words l d w n (of_class c e is) = two_words c is
+some_words l d w n (as_large k some f end zeros) = omega arith
 
 -- a superblock that begins blocks has an info that is not 0
 pub some_info : (l : Layout) (d w n : ℕ) → Begins l d w n → 1 ≤ l.info d
-some_info l d w n (class c e is) = omega arith
-some_info l d w n (large k some f end zeros) = omega arith
+some_info l d w n (of_class c e is) = omega arith
+some_info l d w n (as_large k some f end zeros) = omega arith
 
 -- block k of n ends where n blocks end, or before
 pub block_step : (k n w : ℕ) → k < n → k * w + w ≤ n * w
@@ -32,15 +32,15 @@ block_step k n w below = rw (← suc-mul k w) (mul-le-mul_right w below)
 
 -- a block begins in its superblock
 pub begins_inside : (l : Layout) (d k w n : ℕ) → Begins l d w n → k < n → k * w < 8192
-begins_inside l d k w n (class c e is) below = omega (arith, block_step k n w below, blocks_fit c is, two_words c is)
-begins_inside l d k w n (large h some f end zeros) below =
+begins_inside l d k w n (of_class c e is) below = omega (arith, block_step k n w below, blocks_fit c is, two_words c is)
+begins_inside l d k w n (as_large h some f end zeros) below =
     let first : k ≡ zero = omega arith in
     subst (λ x. x * w < 8192) (sym first) (rw (zero-mul w) (omega arith))
 
 -- a block ends where the next superblock that begins blocks starts, or before
 pub ends_before : (l : Layout) (d k w n e v m : ℕ) → Begins l d w n → k < n → d < e → Begins l e v m → 8192 * d + (k * w + w) ≤ 8192 * e
-ends_before l d k w n e v m (class c i is) below less next = omega (arith, block_step k n w below, blocks_fit c is)
-ends_before l d k w n e v m (large h some f end zeros) below less next =
+ends_before l d k w n e v m (of_class c i is) below less next = omega (arith, block_step k n w below, blocks_fit c is)
+ends_before l d k w n e v m (as_large h some f end zeros) below less next =
     let first : k ≡ zero = omega arith in
     let none : k * w ≡ 0 = subst (λ x. x * w ≡ 0) (sym first) (zero-mul w) in
     let info = some_info l e v m next in
@@ -48,8 +48,8 @@ ends_before l d k w n e v m (large h some f end zeros) below less next =
 
 -- a block ends where the taken superblocks end, or before
 pub ends_inside : (l : Layout) (d k w n : ℕ) → d < l.used → Begins l d w n → k < n → 8192 * d + (k * w + w) ≤ 8192 * l.used
-ends_inside l d k w n taken (class c i is) below = omega (arith, block_step k n w below, blocks_fit c is)
-ends_inside l d k w n taken (large h some f end zeros) below =
+ends_inside l d k w n taken (of_class c i is) below = omega (arith, block_step k n w below, blocks_fit c is)
+ends_inside l d k w n taken (as_large h some f end zeros) below =
     let first : k ≡ zero = omega arith in
     let none : k * w ≡ 0 = subst (λ x. x * w ≡ 0) (sym first) (zero-mul w) in
     omega arith

@@ -3,7 +3,7 @@ use Rattle.std.proofs.Common.{◌≡◌, ◌+◌, ◌*◌, inl, inr, ap, arith}
 use Rattle.heap_model.specs.declared.block.Block.{Block}
 use Rattle.heap_model.specs.Blocks.{layout_of}
 use Rattle.heap_model.specs.Pointers.{LeadsOutside}
-use Rattle.heap_model.specs.Examples.{one_table, table_block, first_block}
+use Rattle.heap_model.specs.BlockExamples.{one_table, table_block, first_block}
 use Rattle.heap_model.proofs.BlockLemmas.{never_overlap, block_words}
 
 -- a pointer into a block's middle leads to no block

@@ -2,4 +2,5 @@ pub mod SizeLemmas
 pub mod BlockLemmas
 pub mod ImageLemmas
 pub mod ReachLemmas
+pub mod HeaderLemmas
 mod ExampleLemmas

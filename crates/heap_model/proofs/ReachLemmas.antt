@@ -29,18 +29,18 @@ one_name image offset a b is_a is_b = same_first (layout_of image) a b is_a.bloc
 pub closed_reach : (image : Image) (kinds : ℕ → ℕ) (links : Links) (has : Block → ℕ → Bool)
     → ((b : Block) (kind : ℕ) → IsTrue (has b kind) ↔ Reach image kinds links b kind) → IsClosed image kinds links has
 closed_reach image kinds links has same = record {
-  roots_in = λ i b below leads. (same b (kinds i)).1 (by_root i b (kinds i) below refl leads);
+  roots_in = λ i b below leads. (same b (kinds i)).1 (by_root i b (kinds i) below tt refl leads);
   links_in = λ a b from position kind here listed leads. (same b kind).1 (by_link a b from position kind ((same a from).0 here) listed leads);
 }
 
 -- a reached block is in each closed set
 pub in_closed : (image : Image) (kinds : ℕ → ℕ) (links : Links) (has : Block → ℕ → Bool) → IsClosed image kinds links has
     → (b : Block) (kind : ℕ) → Reach image kinds links b kind → IsTrue (has b kind)
-in_closed image kinds links has closed _ _ (by_root i b kind below is leads) = subst (λ k. IsTrue (has b k)) (sym is) (closed.roots_in i b below leads)
+in_closed image kinds links has closed _ _ (by_root i b kind below starts is leads) = subst (λ k. IsTrue (has b k)) (sym is) (closed.roots_in i b below leads)
 in_closed image kinds links has closed _ _ (by_link a b from position kind reached listed leads) =
     closed.links_in a b from position kind (in_closed image kinds links has closed a from reached) listed leads
 
 -- a reached pair names a block
 pub reached_block : (image : Image) (kinds : ℕ → ℕ) (links : Links) (b : Block) (kind : ℕ) → Reach image kinds links b kind → IsBlock (layout_of image) b
-reached_block image kinds links _ _ (by_root i b kind below is leads) = leads.names.block
+reached_block image kinds links _ _ (by_root i b kind below starts is leads) = leads.names.block
 reached_block image kinds links _ _ (by_link a b from position kind reached listed leads) = leads.names.block

@@ -18,8 +18,8 @@ layout_of image = record { capacity = capacity_of image; used = used_of image; i
 
 -- superblock d begins `count` blocks of `words` words each: those of its class, or one large block that takes it and the superblocks behind it, whose infos are 0
 pub data Begins (l : Layout) (d : ℕ) : ℕ → ℕ → Type 0 where
-  class : (c : ℕ) → l.info d ≡ c → IsClass c → Begins l d (words_of_class c) (blocks_of c)
-  large : (n : ℕ) → 1 ≤ n → l.info d ≡ large_info n → d + n ≤ l.used
+  of_class : (c : ℕ) → l.info d ≡ c → IsClass c → Begins l d (words_of_class c) (blocks_of c)
+  as_large : (n : ℕ) → 1 ≤ n → l.info d ≡ large_info n → d + n ≤ l.used
       → ((i : ℕ) → d < i → i < d + n → l.info i ≡ 0) → Begins l d (superblock_words * n) 1
 
 -- b is block `index` of the `count` blocks of `words` words that superblock d begins
@@ -39,9 +39,12 @@ pub record IsBlock (l : Layout) (b : Block) : Type 0 where
   pub is_of : IsBlockOf l b superblock index words count
 
 -- the byte offset names the block: it is the offset of its first byte
-pub record Names (image : Image) (offset : ℕ) (b : Block) : Type 0 where
+pub record NamesIn (l : Layout) (offset : ℕ) (b : Block) : Type 0 where
   pub begins_at : offset ≡ 8 * b.first_word
-  pub block : IsBlock (layout_of image) b
+  pub block : IsBlock l b
+
+abbrev pub Names : Image → ℕ → Block → Type 0
+Names image = NamesIn (layout_of image)
 
 -- the word is one of the block's
 pub record IsIn (b : Block) (word : ℕ) : Type 0 where

@@ -1,5 +1,5 @@
 -- Where things stand in an image, as word indices. A word has 8 bytes, a line 8 words; `capacity` is the number of superblocks, `d` one of them.
-use Rattle.std.specs.Prelude.{ℕ, ◌+◌, ◌*◌}
+use Rattle.std.specs.Prelude.{◌≡◌, ◌≢◌, ℕ, ◌+◌, ◌-◌, ◌*◌, ◌<◌, ◌≤◌, ◌⊎◌}
 
 -- the first word of each image: its first eight bytes are the text "10COLLAR"
 abbrev pub magic : ℕ
@@ -37,6 +37,14 @@ state_word = 3
 abbrev pub used_word : ℕ
 used_word = 8
 
+-- how many lists of superblocks there are: of the free ones, and of each class
+abbrev pub lists : ℕ
+lists = 21
+
+-- the words of a line, the unit of write-back
+abbrev pub line_words : ℕ
+line_words = 8
+
 -- the head of the list of free superblocks (0), and of the superblocks of a class with free blocks (1 to 20)
 abbrev pub head_word : ℕ → ℕ
 head_word list = 16 + list
@@ -72,3 +80,9 @@ start_word capacity d = 1064 + 8 * capacity + 8192 * d
 -- the words of a whole image
 abbrev pub image_words : ℕ → ℕ
 image_words capacity = 1064 + 8200 * capacity
+
+-- a word that has no meaning, in the header or in a descriptor: nothing reads or changes it
+pub data IsReserved (capacity : ℕ) : ℕ → Type 0 where
+  in_header : (word : ℕ) → state_word < word → word < root_word 0 → word ≢ used_word
+      → (word < head_word 0) ⊎ (head_word (lists - 1) < word) → IsReserved capacity word
+  in_descriptor : (d at word : ℕ) → d < capacity → 3 ≤ at → at < 8 → word ≡ info_word d + at → IsReserved capacity word

@@ -1,5 +1,5 @@
--- An image as a reading: what stands at each word index. So one definition serves the words in memory, the bytes of a file, what a crash leaves and any mixture of them.
-use Rattle.std.specs.Prelude.{ℕ, zero, suc, ◌+◌, ◌*◌, List, [], ◌∷◌, cond, nat_eq, drop, flat_map}
+-- An image as a reading: what stands at each word index. So one definition serves the words in memory, the bytes of a file, what a crash leaves and any mixture of them. Beyond its words an image reads 0.
+use Rattle.std.specs.Prelude.{ℕ, zero, suc, ◌+◌, ◌*◌, List, [], ◌∷◌, cond, nat_lt, drop, flat_map, slice_index}
 use Rattle.byteorder.specs.Endian.{little_number, little_bytes}
 
 abbrev pub Image : Type 0
@@ -18,6 +18,6 @@ abbrev pub words_from : Image → ℕ → ℕ → List ℕ
 words_from image from zero = []
 words_from image from (suc count) = image from ∷ words_from image (from + 1) count
 
--- the image with another value at one index
-abbrev pub with_word : ℕ → ℕ → Image → Image
-with_word at value image i = cond (nat_eq i at) value (image i)
+-- `count` words of a longer list, from `from` on, as an image: 0 beyond them
+abbrev pub reading : List ℕ → ℕ → ℕ → Image
+reading words from count i = cond (nat_lt i count) (slice_index words (from + i)) 0

@@ -11,3 +11,5 @@ pub mod Chains
 pub mod Durability
 pub mod Counting
 pub mod Examples
+pub mod BlockExamples
+pub mod ReachExamples

@@ -1,6 +1,6 @@
 //! What follows from the definitions, as functions with nothing to run: a caller cites their clauses.
 
-ghost use Rattle.std.specs.Prelude.{◌≡◌, ◌≢◌, ◌≤◌, ◌<◌, ◌+◌, ◌*◌, ℕ, Bool, IsTrue, ◌↔◌};
+ghost use Rattle.std.specs.Prelude.{◌≡◌, ◌≢◌, ◌≤◌, ◌<◌, ◌+◌, ◌*◌, ℕ, Bool, IsTrue, ◌↔◌, None};
 ghost use Rattle.heap_model.specs.declared.block.Block.{Block};
 ghost use Rattle.heap_model.specs.Geometry.{start_word, image_words};
 ghost use Rattle.heap_model.specs.Image.{Image};
@@ -41,4 +41,9 @@ pub fn reach_is_closed()
 pub fn reach_is_least()
     ensures { (image : Image) (kinds : ℕ → ℕ) (links : Links) (has : Block → ℕ → Bool)
         → IsClosed image kinds links has → (b : Block) (kind : ℕ) → Reach image kinds links b kind → IsTrue (has b kind) }
+{}
+
+/// A header is well formed exactly where no cause holds.
+pub fn a_header_is_good_or_has_a_fault()
+    ensures { (bytes : ℕ) (image : Image) → (header_fault bytes image ≡ None) ↔ IsWellFormed bytes image }
 {}

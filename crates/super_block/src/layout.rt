@@ -89,3 +89,12 @@ pub const LINK_OFFSET: u64 = 2;
 
 /// The words of a superblock.
 pub const SUPERBLOCK_WORDS: u64 = 8192;
+
+/// The last class: an info of 1 to `LAST_CLASS` is a class.
+pub const LAST_CLASS: u64 = 20;
+
+/// The info of a large block's first superblock is `LARGE_INFO` and `LARGE_STEP` for each superblock.
+pub const LARGE_INFO: u64 = 255;
+
+/// What each superblock of a large block adds to the info of the first one.
+pub const LARGE_STEP: u64 = 256;

@@ -1,15 +1,24 @@
 //! Where things stand in the image of a heap: the header, the roots, and each superblock with its descriptor.
 #![tactic(auto)]
 
+mod directory;
+mod division;
 mod geometry;
+mod info;
 mod laws;
 mod layout;
+mod naming;
 
+pub use directory::Directory;
+pub use division::Division;
 pub use geometry::Geometry;
 pub use heap_model::Block;
+pub use info::Info;
 pub use laws::constants_agree;
 pub use layout::{
     ANCHOR_OFFSET, CAPACITY_WORD, CLEAN, DESCRIPTOR_WORDS, DIRTY, FIXED_WORDS, HEAD_WORD,
-    LARGEST_CAPACITY, LINE_WORDS, LINK_OFFSET, LISTS, MAGIC, MAGIC_WORD, ROOT_WORD, ROOTS,
-    STATE_WORD, SUPERBLOCK_WORDS, USED_WORD, VERSION, VERSION_WORD, WORD_BYTES,
+    LARGE_INFO, LARGE_STEP, LARGEST_CAPACITY, LAST_CLASS, LINE_WORDS, LINK_OFFSET, LISTS, MAGIC,
+    MAGIC_WORD, ROOT_WORD, ROOTS, STATE_WORD, SUPERBLOCK_WORDS, USED_WORD, VERSION, VERSION_WORD,
+    WORD_BYTES,
 };
+pub use naming::{block_at, name};

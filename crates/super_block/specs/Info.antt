@@ -1,0 +1,12 @@
+-- What an info word says.
+use Rattle.std.specs.Prelude.{◌≡◌, ℕ, ◌≤◌}
+use Rattle.heap_model.specs.Sizes.{IsClass}
+use Rattle.heap_model.specs.Words.{large_info}
+use Rattle.super_block.specs.declared.info.Info.{Info}
+use Rattle.super_block.specs.declared.info.Info.TheVariants.{Nothing, Class, Large}
+
+-- a class, the superblocks of a large block, or nothing that has a meaning
+abbrev pub Says : ℕ → Info → Type 0
+Says word Nothing = (IsClass word → ⊥) × ((count : ℕ) → 1 ≤ count → word ≡ large_info count → ⊥)
+Says word (Class class) = (word ≡ class) × IsClass class
+Says word (Large count) = (1 ≤ count) × (word ≡ large_info count)

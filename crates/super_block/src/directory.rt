@@ -1,0 +1,76 @@
+//! How each superblock of an image is divided, read once, so that a name is found in constant time.
+
+ghost use Rattle.std.specs.Prelude.{◌≡◌, ◌<◌, ◌*◌, ℕ, length, slice_index, IfOk, IfSome, IfNone};
+ghost use Rattle.heap_model.specs.declared.block.Block.{Block};
+ghost use Rattle.heap_model.specs.Header.{IsWellFormed};
+ghost use Rattle.heap_model.specs.Blocks.{Layout, layout_of, NamesIn};
+ghost use Rattle.super_block.specs.Division.{Describes, DividesAs};
+
+use crate::division::{Division, division_at};
+use crate::layout::{CAPACITY_WORD, USED_WORD};
+use crate::naming::{block_in, place_of};
+use heap_model::Block;
+use std::alloc::{AllocError, Global};
+use std::marker::Model;
+
+/// What each superblock that has been taken begins.
+#[derive(Drop)]
+pub struct Directory {
+    capacity: u64,
+    divisions: Vec<Option<Division>>,
+}
+
+impl Model for Directory {
+    ghost use Rattle.std.specs.Prelude.{◌≤◌, All, IfSome};
+    ghost use Rattle.heap_model.specs.Geometry.{largest_capacity};
+    ghost use Rattle.super_block.specs.Division.{Divisions, AreDivisions};
+
+    ghost Value = { Divisions };
+
+    ghost view = { λ a. record { capacity = a.capacity; of = a.divisions.items } };
+
+    ghost invariant = { λ a. AreDivisions a.capacity a.divisions.items };
+}
+
+impl Directory {
+    /// The directory of the image, whose header is well formed. One pass over the descriptors.
+    pub fn of(alloc: Global, words: &[u64]) -> Result<Directory, AllocError>
+        requires { IsWellFormed (8 * length words.now) (slice_index words.now) }
+        ensures ok { IfOk result (λ directory. Describes directory (layout_of (slice_index words.now))) }
+    {
+        let used = words[USED_WORD as usize];
+        let mut divisions = Vec::with_capacity(alloc, used as usize)?;
+        for d in 0..used {
+            divisions.push(division_at(words, d))?;
+        }
+        Ok(Directory {
+            capacity: words[CAPACITY_WORD as usize],
+            divisions,
+        })
+    }
+
+    /// The block that the byte offset names, or `None` where it names nothing.
+    pub fn name(&self, offset: u64) -> Option<Block>
+        ensures some { (l : Layout) → Describes self.now l → IfSome result (NamesIn l offset) }
+        ensures none { (l : Layout) → Describes self.now l → IfNone result ((b : Block) → NamesIn l offset b → ⊥) }
+    {
+        let Some(place) = place_of(self.capacity, offset) else {
+            return None;
+        };
+        if place.superblock >= self.divisions.len() as u64 {
+            return None;
+        }
+        let Some(division) = self.divisions[place.superblock as usize] else {
+            return None;
+        };
+        block_in(self.capacity, place, division)
+    }
+
+    /// What superblock `d`, which has been taken, begins.
+    pub fn division(&self, d: u64) -> Option<Division>
+        requires { d < length self.now.of }
+        ensures { (l : Layout) → Describes self.now l → DividesAs l d result }
+    {
+        self.divisions[d as usize]
+    }
+}

@@ -1,0 +1,165 @@
+//! Which block a byte offset names.
+
+ghost use Rattle.std.specs.Prelude.{◌≡◌, ◌<◌, ◌≤◌, ◌+◌, ◌*◌, ◌^◌, ℕ, length, slice_index, IfSome, IfNone, IfOk};
+ghost use Rattle.heap_model.specs.declared.block.Block.{Block};
+ghost use Rattle.heap_model.specs.Header.{IsWellFormed, capacity_of, used_of};
+ghost use Rattle.heap_model.specs.Blocks.{Begins, Layout, layout_of, Names, NamesIn};
+ghost use Rattle.heap_model.specs.Recovered.{IsBlockOfClass};
+ghost use Rattle.heap_model.specs.Geometry.{start_word, largest_capacity};
+ghost use Rattle.heap_model.specs.Sizes.{IsClass, blocks_of};
+ghost use Rattle.super_block.specs.Division.{DividesAs, IsPlaceOf, IsFound};
+
+use crate::division::{Division, class_division, division_at};
+use crate::geometry::Geometry;
+use crate::layout::{
+    CAPACITY_WORD, DESCRIPTOR_WORDS, FIXED_WORDS, SUPERBLOCK_WORDS, USED_WORD, WORD_BYTES,
+};
+use heap_model::Block;
+
+/// A word of a superblock: which superblock, and how many words from its start.
+#[derive(Clone, Copy)]
+pub(crate) struct Place {
+    pub(crate) superblock: u64,
+    pub(crate) within: u64,
+}
+
+/// The block that the byte offset names, or `None` where it names nothing: it is no block's first
+/// byte. The header is well formed.
+pub fn name(words: &[u64], offset: u64) -> Option<Block>
+    requires { IsWellFormed (8 * length words.now) (slice_index words.now) }
+    ensures some { IfSome result (Names (slice_index words.now) offset) }
+    ensures none { IfNone result ((b : Block) → Names (slice_index words.now) offset b → ⊥) }
+{
+    let capacity = words[CAPACITY_WORD as usize];
+    let Some(place) = place_of(capacity, offset) else {
+        return None;
+    };
+    if place.superblock >= words[USED_WORD as usize] {
+        return None;
+    }
+    let Some(division) = division_at(words, place.superblock) else {
+        return None;
+    };
+    block_in(capacity, place, division)
+}
+
+/// Where the byte offset lies, or `None` where it is no word of a superblock.
+pub(crate) fn place_of(capacity: u64, offset: u64) -> Option<Place>
+    requires { capacity ≤ largest_capacity }
+    ensures some { IfSome result (IsPlaceOf capacity offset) }
+    ensures none { IfNone result ((d within : ℕ) → offset ≡ 8 * (start_word capacity d + within) → ⊥) }
+{
+    let start = FIXED_WORDS + DESCRIPTOR_WORDS * capacity;
+    let word = offset / WORD_BYTES;
+    if offset % WORD_BYTES != 0 || word < start {
+        return None;
+    }
+    Some(Place {
+        superblock: (word - start) / SUPERBLOCK_WORDS,
+        within: (word - start) % SUPERBLOCK_WORDS,
+    })
+}
+
+/// The block that begins at the place, where its superblock is divided so.
+pub(crate) fn block_in(capacity: u64, place: Place, division: Division) -> Option<Block>
+    requires capacity { capacity ≤ largest_capacity }
+    requires superblock { place.superblock < 2 ^ 48 }
+    requires inside { place.within < 2 ^ 48 }
+    requires words { 1 ≤ division.words }
+    ensures some { (l : Layout) (offset : ℕ) → IsFound l offset capacity place division
+        → IfSome result (NamesIn l offset) }
+    ensures none { (l : Layout) (offset : ℕ) → IsFound l offset capacity place division
+        → IfNone result ((b : Block) → NamesIn l offset b → ⊥) }
+{
+    if place.within % division.words != 0 {
+        return None;
+    }
+    if place.within / division.words >= division.count {
+        return None;
+    }
+    let start = FIXED_WORDS + DESCRIPTOR_WORDS * capacity + SUPERBLOCK_WORDS * place.superblock;
+    Some(Block {
+        first_word: start + place.within,
+        words: division.words,
+    })
+}
+
+/// Block `index` of superblock `d` when that is divided into blocks of the class.
+pub fn block_at(geometry: &Geometry, d: u64, index: u64, class: u8) -> Block
+    requires superblock { d < geometry.now.capacity }
+    requires class { IsClass class }
+    requires index { index < blocks_of class }
+    ensures { IsBlockOfClass geometry.now.capacity class d index result }
+{
+    let words = class_division(class).words;
+    Block {
+        first_word: geometry.start(d) + index * words,
+        words,
+    }
+}
+
+#[cfg(test)]
+mod tests {
+    use super::*;
+    use crate::directory::Directory;
+    use crate::layout::{CLEAN, MAGIC, MAGIC_WORD, STATE_WORD, VERSION, VERSION_WORD};
+    use std::alloc::{AllocError, Global};
+    use std::test::Fail;
+
+    /// An image of two superblocks that have been taken, of these infos, and 0 elsewhere.
+    fn two_superblocks(alloc: Global, infos: [u64; 2]) -> Result<Vec<u64>, AllocError>
+        ensures { IfOk result (λ words. IsWellFormed (8 * length words.items) (slice_index words.items)) }
+    {
+        let mut words = vec![in alloc; 0; 17_464]?;
+        words[MAGIC_WORD as usize] = MAGIC;
+        words[VERSION_WORD as usize] = VERSION;
+        words[CAPACITY_WORD as usize] = 2;
+        words[STATE_WORD as usize] = CLEAN;
+        words[USED_WORD as usize] = 2;
+        words[1_064] = infos[0];
+        words[1_072] = infos[1];
+        Ok(words)
+    }
+
+    #[test]
+    fn an_offset_names_the_block_that_begins_there(rt: HostRuntime) -> Result<(), Fail> {
+        let table = Block {
+            first_word: 1_080,
+            words: 128,
+        };
+        let node = Block {
+            first_word: 9_276,
+            words: 4,
+        };
+        let large = Block {
+            first_word: 1_080,
+            words: 16_384,
+        };
+        for (infos, offset, block) in [
+            ([12, 2], 8_640, Some(table)),
+            ([12, 2], 8_648, None),
+            ([12, 2], 8_632, None),
+            ([12, 2], 74_208, Some(node)),
+            ([12, 21], 74_208, None),
+            ([767, 0], 8_640, Some(large)),
+            ([767, 0], 9_664, None),
+            ([767, 4], 8_640, None),
+            ([0, 767], 74_176, None),
+            ([255, 0], 8_640, None),
+        ] {
+            let words = two_superblocks(rt.alloc(), infos)?;
+            assert_eq!(rt; name(&words, offset), block, "{infos:?} at {offset}");
+            let directory = Directory::of(rt.alloc(), &words)?;
+            assert_eq!(rt; directory.name(offset), block, "{infos:?} at {offset}");
+        }
+        Ok(())
+    }
+
+    #[test]
+    fn a_block_of_a_class_lies_in_its_superblock(rt: HostRuntime) {
+        let geometry = Geometry::new(2);
+        assert!(rt; 1 < size_table::blocks_of(2));
+        let block = block_at(&geometry, 1, 1, 2);
+        assert_eq!(rt; (block.first_word, block.words), (9_276, 4));
+    }
+}
