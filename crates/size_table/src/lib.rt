@@ -1,0 +1,11 @@
+//! The size classes of an allocator's small blocks, and the superblocks that a large one takes.
+#![tactic(auto)]
+
+mod class;
+mod span;
+
+pub use class::{blocks_of, class_of, size_of};
+pub use span::span_of;
+
+#[cfg(test)]
+mod tests;
