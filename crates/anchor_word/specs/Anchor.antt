@@ -1,6 +1,6 @@
 -- The word of an anchor, and two worked examples.
 use Rattle.std.specs.Prelude.{◌≡◌, ℕ, ◌<◌, ◌^◌, refl}
-use Rattle.heap_model.specs.Words.{anchor_of, empty_state, partial_state, full_state}
+use Rattle.heap_model.specs.Words.{anchor_of, anchor_state, anchor_first, anchor_count, empty_state, partial_state, full_state}
 use Rattle.anchor_word.specs.declared.anchor.State.{State}
 use Rattle.anchor_word.specs.declared.anchor.State.TheVariants.{Empty, Partial, Full}
 use Rattle.anchor_word.specs.declared.anchor.Anchor.{Anchor}
@@ -19,6 +19,12 @@ pub record IsPackable (anchor : Anchor) : Type 0 where
 -- the word of an anchor
 abbrev pub word_of : Anchor → ℕ
 word_of anchor = anchor_of (state_number anchor.state) anchor.first anchor.count
+
+-- the anchor has the parts of the word
+pub record HasParts (word : ℕ) (anchor : Anchor) : Type 0 where
+  pub state : state_number anchor.state ≡ anchor_state word
+  pub first : anchor.first ≡ anchor_first word
+  pub count : anchor.count ≡ anchor_count word
 
 -- five blocks are free, from block 3 on
 pub partial_word : word_of (record { state = Partial; first = 3; count = 5 }) ≡ 42949672973

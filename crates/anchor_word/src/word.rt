@@ -1,23 +1,24 @@
 //! The word of an anchor:
 //!
 //! ```text
-//! 63                    33 32                     2 1   0
-//! |  count of free blocks |  first free block's index | state |
+//! 63                    33 32                       2 1     0
+//! | count of free blocks  | first free block's index | state |
 //! ```
 
 ghost use Rattle.std.specs.Prelude.{◌≡◌, ◌↔◌, IsNone, IfSome};
-ghost use Rattle.heap_model.specs.Words.{anchor_state, anchor_first, anchor_count};
+ghost use Rattle.heap_model.specs.Words.{anchor_state};
 ghost use Rattle.anchor_word.specs.declared.anchor.Anchor.{Anchor};
-ghost use Rattle.anchor_word.specs.Anchor.{IsPackable, state_number, word_of};
+ghost use Rattle.anchor_word.specs.Anchor.{HasParts, IsPackable, word_of};
 
 use crate::anchor::{Anchor, State};
 
-/// The first bit of the first free block's index, and how many bits it has.
+/// Where the first free block's index begins.
 const FIRST_SHIFT: u32 = 2;
 
+/// How many bits that index has.
 const FIRST_BITS: u32 = 31;
 
-/// The first bit of the count.
+/// Where the count begins.
 const COUNT_SHIFT: u32 = 33;
 
 /// The word of an anchor.
@@ -31,9 +32,7 @@ pub fn pack(anchor: &Anchor) -> u64
 /// The anchor that the word stands for, if its state is one.
 pub fn unpack(word: u64) -> Option<Anchor>
     ensures none { IsNone result ↔ (anchor_state word ≡ 3) }
-    ensures state { IfSome result (λ a. state_number a.state ≡ anchor_state word) }
-    ensures first { IfSome result (λ a. a.first ≡ anchor_first word) }
-    ensures count { IfSome result (λ a. a.count ≡ anchor_count word) }
+    ensures some { IfSome result (HasParts word) }
 
     // It undoes `pack`, and `pack` undoes it.
     ensures unpacked { (a : Anchor) → IsPackable a → word ≡ word_of a → result ≡ Some a }

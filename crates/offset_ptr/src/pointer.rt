@@ -1,8 +1,8 @@
 //! A pointer word, after Ralloc's position-independent pointers:
 //!
 //! ```text
-//! 63        48 47                                  0
-//! |  0x5250   |  byte offset from the heap's start |
+//! 63        48 47                       0
+//! |   0x5250  | byte offset in the image |
 //! ```
 //!
 //! The word 0 is the null pointer, and every other word without the tag is alien.
@@ -22,7 +22,7 @@ const OFFSET_LIMIT: u64 = 1 << 48;
 pub enum Ptr {
     /// Nothing.
     Null,
-    /// The byte at this offset from the heap's start.
+    /// The byte at this offset in the image.
     At(u64),
     /// The word is no pointer.
     Alien,
