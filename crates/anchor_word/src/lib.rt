@@ -1,0 +1,11 @@
+//! The anchor of a superblock: one word with its state, its first free block and how many are free.
+#![tactic(auto)]
+
+mod anchor;
+mod word;
+
+pub use anchor::{Anchor, State, give, take_all};
+pub use word::{pack, unpack};
+
+#[cfg(test)]
+mod tests;
