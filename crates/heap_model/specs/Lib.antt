@@ -10,6 +10,8 @@ pub mod Recovered
 pub mod Chains
 pub mod Durability
 pub mod Counting
+pub mod Rest
+pub mod Recovery
 pub mod Examples
 pub mod BlockExamples
 pub mod ReachExamples
