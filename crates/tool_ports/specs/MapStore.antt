@@ -1,0 +1,12 @@
+-- What a store in memory holds.
+use Rattle.std.specs.Prelude.{ℕ, List, Option}
+use Rattle.tool_ports.specs.Images.{images_in}
+use Rattle.tool_ports.specs.declared.map_store.MapStore.{MapStore}
+
+-- the bytes under a name, in the store
+abbrev pub images_of : MapStore → List ℕ → Option (List ℕ)
+images_of store name = images_in store.images name
+
+-- how many of its calls have failed
+abbrev pub fault_count : MapStore → ℕ
+fault_count store = store.calls.faults.count
