@@ -9,3 +9,11 @@ bytes_of sink = sink.bytes.items
 -- how many of its calls have failed
 abbrev pub fault_count : VecSink → ℕ
 fault_count sink = sink.calls.faults.count
+
+-- the numbers of the calls that are to fail
+abbrev pub failing_numbers : VecSink → List ℕ
+failing_numbers sink = sink.calls.numbers.items
+
+-- how many bytes it takes by one call
+abbrev pub most_of : VecSink → ℕ
+most_of sink = sink.most

@@ -7,7 +7,7 @@ use crate::image_store::{GetFault, ImageStore, PutImageFault};
 use std::alloc::{AllocError, Global};
 use std::collections::BTreeMap;
 
-/// What a `put` that is to fail leaves under its name. A store may do either.
+/// What a `put` that is to fail leaves under its name: a store may do either.
 #[derive(Clone, Copy, Debug, PartialEq, Eq)]
 pub enum FailedPut {
     LeavesOld,
@@ -23,12 +23,13 @@ pub struct MapStore {
 }
 
 impl MapStore {
-    ghost use Rattle.tool_ports.specs.MapStore.{images_of, fault_count};
+    ghost use Rattle.tool_ports.specs.MapStore.{images_of, fault_count, failing_numbers, failed_put_of};
 
     /// An empty store. `failing` has the numbers of the calls that are to fail, gets and puts counted together from 0.
     pub fn new(alloc: Global, failing: Vec<u64>, failed_put: FailedPut) -> Self
         ensures none { (name : List ℕ) → images_of result name ≡ None }
         ensures faults { fault_count result ≡ 0 }
+        ensures asked { (failing_numbers result ≡ failing.items) × (failed_put_of result ≡ failed_put) }
     {
         MapStore {
             images: BTreeMap::new(alloc),

@@ -15,7 +15,7 @@ pub struct VecSink {
 }
 
 impl VecSink {
-    ghost use Rattle.tool_ports.specs.VecSink.{bytes_of, fault_count};
+    ghost use Rattle.tool_ports.specs.VecSink.{bytes_of, fault_count, failing_numbers, most_of};
 
     /// An empty sink that takes at most `most` bytes by one call. `failing` has the numbers of the calls that are to
     /// fail, counted from 0.
@@ -23,6 +23,7 @@ impl VecSink {
         requires { 0 < most }
         ensures bytes { bytes_of result ≡ [] }
         ensures faults { fault_count result ≡ 0 }
+        ensures asked { (failing_numbers result ≡ failing.items) × (most_of result ≡ most) }
     {
         VecSink {
             bytes: Vec::new(alloc),
