@@ -29,8 +29,8 @@ pub struct Header {
 /// How many words there are up to the last one of the header.
 const HEADER_WORDS: usize = USED_WORD as usize + 1;
 
-/// The header of the image in the bytes of a file, or the first of the causes that make it bad, in the order of
-/// `BadHeader`. A file of any length may be given.
+/// The header of the image in the bytes of a file, or the first of the causes that make it bad, in
+/// the order of `BadHeader`. A file of any length may be given.
 pub fn check_bytes(bytes: &[u8]) -> Result<Header, BadHeader>
     ensures cause { result_err result ≡ header_fault (length bytes.now) (image_of_bytes bytes.now) }
     ensures well_formed { OnOk result (IsWellFormed (length bytes.now) (image_of_bytes bytes.now)) }
@@ -47,8 +47,10 @@ pub fn check_bytes(bytes: &[u8]) -> Result<Header, BadHeader>
 
 /// The same for an image in words.
 pub fn read_header(words: &[u64]) -> Result<Header, BadHeader>
-    ensures cause { result_err result ≡ header_fault (8 * length words.now) (slice_index words.now) }
-    ensures well_formed { OnOk result (IsWellFormed (8 * length words.now) (slice_index words.now)) }
+    ensures cause { result_err result
+        ≡ header_fault (8 * length words.now) (slice_index words.now) }
+    ensures well_formed { OnOk result
+        (IsWellFormed (8 * length words.now) (slice_index words.now)) }
     ensures ok { IfOk result (λ header. IsHeaderOf header (slice_index words.now)) }
 {
     let size = WORD_BYTES * words.len() as u64;
@@ -58,7 +60,7 @@ pub fn read_header(words: &[u64]) -> Result<Header, BadHeader>
     check(size, words)
 }
 
-// The check of an image of `size` bytes, long enough for header and roots, that begins with these words.
+// The check of an image of `size` bytes, header and roots at least, that begins with these words.
 fn check(size: u64, words: &[u64]) -> Result<Header, BadHeader>
     requires long { 8 * fixed_words ≤ size }
     requires whole { HEADER_WORDS ≤ length words.now }

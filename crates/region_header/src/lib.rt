@@ -1,4 +1,4 @@
-//! The header of a heap image: what makes it good, the image of an empty heap, and words as bytes and back.
+//! The header of a heap image, the image of an empty heap, and images as words and as bytes.
 #![tactic(auto)]
 
 mod byte_list;
