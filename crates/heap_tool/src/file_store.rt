@@ -73,9 +73,10 @@ fn read_image<R: Files>(
     }
 }
 
-// The first `most` bytes that a reader has left, or all. A file's length isn't asked for, since it may change.
+// The first `most` bytes that a reader has left, or all. A file's length isn't asked for: it may change.
 fn read_first<F: Read>(alloc: Global, file: &mut F, most: usize) -> Result<Vec<u8>, GetFault>
-    ensures ok { IfOk result (λ v. IfSome (F.remaining file.old) (λ left. v.items ≡ take most left)) }
+    ensures ok { IfOk result (λ v.
+        IfSome (F.remaining file.old) (λ left. v.items ≡ take most left)) }
     ensures none { IsErrOf result GetFault.Absent → ⊥ }
 {
     let mut image = Vec::new(alloc);
@@ -91,7 +92,8 @@ fn read_first<F: Read>(alloc: Global, file: &mut F, most: usize) -> Result<Vec<u
 // One read more, of at most `room` bytes. It answers false at the end.
 fn read_piece<F: Read>(file: &mut F, image: &mut Vec<u8>, room: usize) -> Result<bool, GetFault>
     requires { 0 < room }
-    ensures ok { OnOk result (ReadsOn room (F.remaining file.old) (F.remaining file.new) image.old.items image.new.items) }
+    ensures ok { OnOk result (ReadsOn room (F.remaining file.old) (F.remaining file.new)
+        image.old.items image.new.items) }
     ensures end { result ≡ Ok false → IsAtEnd (F.remaining file.new) }
     ensures none { IsErrOf result GetFault.Absent → ⊥ }
 {
