@@ -1,0 +1,108 @@
+//! A memory for one thread.
+ghost use Rattle.std.specs.Prelude.{◌≡◌, ◌<◌, OnOk, IfOk, IfErr, IsSome};
+ghost use Rattle.line_memory.specs.View.{opened, word_count, HasLine};
+ghost use Rattle.line_memory.specs.Steps.{Does, Refuses, IsLoad, IsStore, IsWriteBack, IsFence};
+ghost use Rattle.line_memory.specs.Words.{volatile_words, durable_words};
+ghost use Rattle.line_memory.specs.LinesView.{lines_view};
+ghost use Rattle.line_memory.specs.Sound.{plain_sound};
+
+use std::alloc::{AllocError, Global};
+
+use crate::chance::Chance;
+use crate::closed::Closed;
+use crate::lines::Lines;
+use crate::memory::{LineMemory, Stopped};
+
+/// A memory of words for one thread. No call but `new` takes room.
+#[derive(Drop)]
+pub struct PlainMemory<C> {
+    lines: Lines,
+    chance: C,
+}
+
+impl<C: Chance> PlainMemory<C> {
+    /// A memory of these words, all durable, that allows `budget` steps.
+    pub fn new(
+        alloc: Global,
+        words: Vec<u64>,
+        budget: u64,
+        chance: C,
+    ) -> Result<PlainMemory<C>, AllocError>
+        ensures ok { IfOk result (λ m. lines_view m.lines ≡ opened words.items budget) }
+        ensures chance { IfOk result (λ m. m.chance ≡ chance) }
+    {
+        Ok(PlainMemory {
+            lines: Lines::new(alloc, words, budget)?,
+            chance,
+        })
+    }
+
+    /// Closes the memory, and gives what loads saw and what a crash would have left.
+    pub fn finish(self) -> Closed
+        ensures volatile { volatile_words result ≡ (lines_view self.lines).volatile }
+        ensures durable { durable_words result ≡ (lines_view self.lines).durable }
+    {
+        self.lines.finish()
+    }
+
+    /// Draws the ticket of one step.
+    fn take_ticket(&mut self) -> Result<(), Stopped>
+        ensures ok { OnOk result (Does (λ r. C.draw_gives self.old.chance r self.new.chance) (λ v w. w ≡ v) (lines_view self.old.lines) (lines_view self.new.lines)) }
+        ensures stopped { IfErr result (λ e. Refuses (λ r. C.draw_gives self.old.chance r self.new.chance) e.step (lines_view self.old.lines) (lines_view self.new.lines)) }
+        ensures unchanged { IsSome (lines_view self.old.lines).stopped → self.new ≡ self.old }
+    {
+        if let Some(step) = self.lines.stopped() {
+            return Err(Stopped { step });
+        }
+        let number = self.chance.draw();
+        self.lines.draw(number)
+    }
+}
+
+impl<C: Chance> LineMemory for PlainMemory<C> {
+    ghost view = { λ m. lines_view m.lines };
+
+    fn load(&mut self, word: u64) -> Result<u64, Stopped>
+        requires { word < word_count (lines_view self.old.lines) }
+        ensures ok { IfOk result (λ value. Does (λ r. C.draw_gives self.old.chance r self.new.chance) (IsLoad word value) (lines_view self.old.lines) (lines_view self.new.lines)) }
+        ensures stopped { IfErr result (λ e. Refuses (λ r. C.draw_gives self.old.chance r self.new.chance) e.step (lines_view self.old.lines) (lines_view self.new.lines)) }
+        ensures unchanged { IsSome (lines_view self.old.lines).stopped → self.new ≡ self.old }
+    {
+        self.take_ticket()?;
+        Ok(self.lines.load(word))
+    }
+
+    fn store(&mut self, word: u64, value: u64) -> Result<(), Stopped>
+        requires { word < word_count (lines_view self.old.lines) }
+        ensures ok { OnOk result (Does (λ r. C.draw_gives self.old.chance r self.new.chance) (IsStore word value) (lines_view self.old.lines) (lines_view self.new.lines)) }
+        ensures stopped { IfErr result (λ e. Refuses (λ r. C.draw_gives self.old.chance r self.new.chance) e.step (lines_view self.old.lines) (lines_view self.new.lines)) }
+        ensures unchanged { IsSome (lines_view self.old.lines).stopped → self.new ≡ self.old }
+    {
+        self.take_ticket()?;
+        self.lines.store(word, value);
+        Ok(())
+    }
+
+    fn write_back(&mut self, line: u64) -> Result<(), Stopped>
+        requires { HasLine (lines_view self.old.lines) line }
+        ensures ok { OnOk result (Does (λ r. C.draw_gives self.old.chance r self.new.chance) (IsWriteBack line) (lines_view self.old.lines) (lines_view self.new.lines)) }
+        ensures stopped { IfErr result (λ e. Refuses (λ r. C.draw_gives self.old.chance r self.new.chance) e.step (lines_view self.old.lines) (lines_view self.new.lines)) }
+        ensures unchanged { IsSome (lines_view self.old.lines).stopped → self.new ≡ self.old }
+    {
+        self.take_ticket()?;
+        self.lines.write_back(line);
+        Ok(())
+    }
+
+    fn fence(&mut self) -> Result<(), Stopped>
+        ensures ok { OnOk result (Does (λ r. C.draw_gives self.old.chance r self.new.chance) IsFence (lines_view self.old.lines) (lines_view self.new.lines)) }
+        ensures stopped { IfErr result (λ e. Refuses (λ r. C.draw_gives self.old.chance r self.new.chance) e.step (lines_view self.old.lines) (lines_view self.new.lines)) }
+        ensures unchanged { IsSome (lines_view self.old.lines).stopped → self.new ≡ self.old }
+    {
+        self.take_ticket()?;
+        self.lines.fence();
+        Ok(())
+    }
+
+    ghost sound = { λ m. plain_sound m.lines.volatile.items m.lines.durable.items m.lines.pending m.lines.recent m.lines.allowed m.lines.budget m.lines.stopped m.lines.lengths m.lines.marks m.lines.recent_within m.lines.recent_few m.lines.running m.lines.stopping };
+}
