@@ -4,7 +4,7 @@ use Rattle.std.proofs.lemmas.List.Elements.{Contains-append_left, Contains-push,
 use Rattle.std.proofs.lemmas.Bool.{cases_eq, cases_lt, cases_Bool}
 use Rattle.std.proofs.lemmas.List.{get_or_default}
 use Rattle.std.proofs.lemmas.Grind.{common_steps, elements, get_or-set_at}
-use Rattle.line_memory.specs.Marks.{IsListed, IsMarked, mark_count, settled_at}
+use Rattle.line_memory.specs.Marks.{IsListed, IsMarked, mark_count, completed_at}
 use Rattle.line_memory.specs.Marked.{is_marked_within}
 
 -- no more marks than places
@@ -160,9 +160,9 @@ marked_first words slice new lines list pushed capacity room line h s len same o
     subst (λ (x : List ℕ). IsListed new (set lines line true) x room) (sym p)
     (marked_again words slice new (set lines line true) (list ++ line ∷ []) room line there s len same (get_or-set_same lines line true false within))
 
--- the last line of the list is settled
-pub settled_last : (words slice new lines : List Bool) (list all : List ℕ) (capacity room line : ℕ) → IsListed words lines all capacity → all ≡ list ++ line ∷ [] → room ≡ capacity → slice ≡ words → length new ≡ length slice → ((k : ℕ) → k / 8 ≡ line → get_or new k false ≡ false) → ((k : ℕ) → k / 8 ≢ line → get_or new k false ≡ get_or slice k false) → IsListed new (set lines line false) list room
-settled_last words slice new lines list all capacity room line h p r s len clear same =
+-- the last line of the list is completed
+pub completed_last : (words slice new lines : List Bool) (list all : List ℕ) (capacity room line : ℕ) → IsListed words lines all capacity → all ≡ list ++ line ∷ [] → room ≡ capacity → slice ≡ words → length new ≡ length slice → ((k : ℕ) → k / 8 ≡ line → get_or new k false ≡ false) → ((k : ℕ) → k / 8 ≢ line → get_or new k false ≡ get_or slice k false) → IsListed new (set lines line false) list room
+completed_last words slice new lines list all capacity room line h p r s len clear same =
     let there = subst (λ (x : List ℕ). IsListed words lines x capacity) p h in
     let more = subst (λ (x : ℕ). IsListed words lines (list ++ line ∷ []) x) (sym r) there in
     unlist_line words new lines list room line more (len ∙ ap length s) clear

@@ -3,13 +3,13 @@ use Rattle.std.proofs.Common.{◌≡◌, ◌≢◌, ℕ, ◌+◌, ◌<◌, Bool,
 use Rattle.std.proofs.lemmas.Bool.{cases_Bool}
 use Rattle.std.proofs.lemmas.Grind.{elements}
 use Rattle.line_memory.specs.View.{View, opened}
-use Rattle.line_memory.specs.Marks.{marked_words, IsMarked, settled_at}
+use Rattle.line_memory.specs.Marks.{marked_words, IsMarked, completed_at}
 use Rattle.line_memory.specs.Marked.{marked_words-has, marked_words-only, marked_words-none}
-use Rattle.line_memory.specs.Steps.{Does, after_draw}
+use Rattle.line_memory.specs.Steps.{TakesStep, after_draw}
 
 -- what is done once the ticket is drawn
-pub does_after : (gives : ℕ → Type 0) (step : View → View → Type 0) (v u w : View) → Does gives (λ a b. b ≡ a) v u → step u w → Does gives step v w
-does_after gives step v u w d s =
+pub takes_after : (gives : ℕ → Type 0) (step : View → View → Type 0) (v u w : View) → TakesStep gives (λ a b. b ≡ a) v u → step u w → TakesStep gives step v w
+takes_after gives step v u w d s =
     record {
       running = d.running;
       allowed = d.allowed;
@@ -59,14 +59,14 @@ recent_pushed recent new word bound after each l e a =
 pub lengths_stay : (marks new : List Bool) (words : List ℕ) (word value : ℕ) → length marks ≡ length words → new ≡ set marks word false → length new ≡ length (set words word value)
 lengths_stay marks new words word value l e = rw e (omega (arith, length-set {A = Bool}, length-set {A = ℕ}))
 
--- a pending word is settled
-pub settled_pending : (marks : List Bool) (volatile durable : List ℕ) (word : ℕ) → Contains (marked_words marks) word → settled_at marks volatile durable word ≡ get_or volatile word 0
-settled_pending marks volatile durable word h =
+-- a pending word is completed
+pub completed_pending : (marks : List Bool) (volatile durable : List ℕ) (word : ℕ) → Contains (marked_words marks) word → completed_at marks volatile durable word ≡ get_or volatile word 0
+completed_pending marks volatile durable word h =
     ap (λ (b : Bool). cond b (get_or volatile word 0) (get_or durable word 0)) (marked_words-only marks word h)
 
 -- and no other
-pub settled_other : (marks : List Bool) (volatile durable : List ℕ) (word : ℕ) → (Contains (marked_words marks) word → ⊥) → settled_at marks volatile durable word ≡ get_or durable word 0
-settled_other marks volatile durable word no_mark =
+pub completed_other : (marks : List Bool) (volatile durable : List ℕ) (word : ℕ) → (Contains (marked_words marks) word → ⊥) → completed_at marks volatile durable word ≡ get_or durable word 0
+completed_other marks volatile durable word no_mark =
     elim (cases_Bool (get_or marks word false)) [
       inl m ↦ absurd (no_mark (marked_words-has marks word m))
     | inr e ↦ ap (λ (b : Bool). cond b (get_or volatile word 0) (get_or durable word 0)) e

@@ -1,8 +1,10 @@
+pub mod ClosedWords
 pub mod Crash
-pub mod Marks
-pub mod Steps
-pub mod View
-pub mod Words
+pub mod Examples
 pub mod LinesView
 pub mod Marked
+pub mod Marks
+pub mod Plain
 pub mod Sound
+pub mod Steps
+pub mod View

@@ -22,8 +22,8 @@ mark_count (true ∷ marks) = mark_count marks + 1
 mark_count (false ∷ marks) = mark_count marks
 
 -- what is durable of a word once the marked words are written back
-abbrev pub settled_at : List Bool → List ℕ → List ℕ → ℕ → ℕ
-settled_at marks volatile durable word =
+abbrev pub completed_at : List Bool → List ℕ → List ℕ → ℕ → ℕ
+completed_at marks volatile durable word =
     cond (slice_index_or marks word false) (slice_index volatile word) (slice_index durable word)
 
 -- the marks of words, whether each line is listed, and the list of these lines, which has room for every line

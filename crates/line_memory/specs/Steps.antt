@@ -1,5 +1,5 @@
 -- What a call of a memory does: it draws a ticket and a number by chance, and then takes its step or is refused.
-use Rattle.std.specs.Prelude.{◌≡◌, ◌≢◌, ℕ, ◌+◌, ◌/◌, ◌%◌, ◌<◌, ◌≤◌, ◌⊎◌, ◌↔◌, List, [], ◌∷◌, take, slice_get, slice_set, slice_index, Option, None, Some, ◌==◌, if◌then◌else◌}
+use Rattle.std.specs.Prelude.{◌≡◌, ◌≢◌, ℕ, ◌+◌, ◌/◌, ◌%◌, ◌<◌, ◌≤◌, ◌⊎◌, ◌↔◌, List, [], ◌∷◌, take, slice_get, slice_set, slice_index, Option, None, Some, ◌==◌, if◌then◌else◌, ⊤}
 use Rattle.std.specs.Option.{option_map_or}
 use Rattle.line_memory.specs.View.{View, word_count, volatile_at, durable_at, IsPending, line_of}
 
@@ -21,8 +21,12 @@ abbrev pub after_draw : ℕ → View → View
 after_draw r v =
     record v { durable = durable_after r v.recent v.volatile v.durable; drawn = v.drawn + 1 }
 
+-- the number may be any
+abbrev pub any_number : ℕ → Type 0
+any_number _ = ⊤
+
 -- the ticket allows the step, which follows a draw of some number that chance gives
-pub record Does (gives : ℕ → Type 0) (step : View → View → Type 0) (v w : View) : Type 0 where
+pub record TakesStep (gives : ℕ → Type 0) (step : View → View → Type 0) (v w : View) : Type 0 where
   pub running : v.stopped ≡ None
   pub allowed : v.drawn < v.budget
   pub number : ℕ

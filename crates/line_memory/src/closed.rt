@@ -12,7 +12,7 @@ pub struct Closed {
 
 impl Model for Closed {
     ghost use Rattle.std.specs.Prelude.{◌≡◌, length};
-    ghost use Rattle.line_memory.specs.Words.{ClosedWords};
+    ghost use Rattle.line_memory.specs.ClosedWords.{ClosedWords};
 
     ghost Value = { ClosedWords };
 

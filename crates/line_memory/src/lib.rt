@@ -12,5 +12,5 @@ mod recent;
 
 pub use chance::Chance;
 pub use closed::Closed;
-pub use memory::{LineMemory, Stopped, persist};
+pub use memory::{LineMemory, Stopped, only_stores_add, persist};
 pub use plain::PlainMemory;

@@ -31,7 +31,7 @@ pub struct Lines {
 impl Lines {
     ghost use Rattle.line_memory.specs.View.{opened, word_count, HasLine, volatile_at};
     ghost use Rattle.line_memory.specs.Steps.{after_draw, IsStore, IsWriteBack, IsFence};
-    ghost use Rattle.line_memory.specs.Words.{volatile_words, durable_words};
+    ghost use Rattle.line_memory.specs.ClosedWords.{volatile_words, durable_words};
     ghost use Rattle.line_memory.specs.LinesView.{lines_view};
 
     pub fn new(alloc: Global, words: Vec<u64>, budget: u64) -> Result<Lines, AllocError>
@@ -113,7 +113,7 @@ impl Lines {
     pub fn fence(&mut self)
         ensures { IsFence (lines_view self.old) (lines_view self.new) }
     {
-        self.pending.settle(&self.volatile, &mut self.durable);
+        self.pending.complete(&self.volatile, &mut self.durable);
     }
 }
 

@@ -1,12 +1,14 @@
 //! The pending write-backs of a memory, in room that is taken once.
 ghost use Rattle.std.specs.Prelude.{◌≡◌, ◌≢◌, ℕ, ◌+◌, ◌*◌, ◌/◌, ◌<◌, ◌≤◌, false, true, length, replicate, slice_index, slice_index_or, slice_set, IfOk, vec_len};
-ghost use Rattle.line_memory.specs.Marks.{settled_at};
+ghost use Rattle.line_memory.specs.Marks.{completed_at};
 
 use std::alloc::{AllocError, Global};
 use std::marker::Model;
 
+use crate::memory;
+
 /// How many words a line has.
-const LINE: usize = 8;
+const LINE: usize = memory::LINE as usize;
 
 /// A mark for each word. Since a line is listed once at most, the list never outgrows its room,
 /// and a fence goes over the lines that were written back, and not over the whole memory.
@@ -65,17 +67,17 @@ impl Pending {
     }
 
     /// Makes each marked word durable, and takes back all marks.
-    pub fn settle(&mut self, volatile: &[u64], durable: &mut [u64])
+    pub fn complete(&mut self, volatile: &[u64], durable: &mut [u64])
         requires marks { length self.old ≡ length volatile.now }
         requires lengths { length durable.old ≡ length volatile.now }
         ensures len { length self.new ≡ length self.old }
         ensures clear { (k : ℕ) → slice_index_or self.new k false ≡ false }
-        ensures settled { (k : ℕ) → slice_index durable.new k ≡ settled_at self.old volatile.now durable.old k }
+        ensures completed { (k : ℕ) → slice_index durable.new k ≡ completed_at self.old volatile.now durable.old k }
     {
         while let Some(line) = self.lines.pop() {
             let at = line as usize;
             self.listed[at] = false;
-            settle_line(&mut self.marks, volatile, durable, at);
+            complete_line(&mut self.marks, volatile, durable, at);
         }
     }
 }
@@ -94,13 +96,13 @@ fn mark_words(marks: &mut [bool], line: usize)
 }
 
 /// Makes the marked words of the line durable, and takes back their marks.
-fn settle_line(marks: &mut [bool], volatile: &[u64], durable: &mut [u64], line: usize)
+fn complete_line(marks: &mut [bool], volatile: &[u64], durable: &mut [u64], line: usize)
     requires in_memory { 8 * line < length marks.old }
     requires marks { length marks.old ≡ length volatile.now }
     requires lengths { length durable.old ≡ length volatile.now }
     ensures clear { (k : ℕ) → k / 8 ≡ line → slice_index_or marks.new k false ≡ false }
     ensures others { (k : ℕ) → k / 8 ≢ line → slice_index_or marks.new k false ≡ slice_index_or marks.old k false }
-    ensures settled { (k : ℕ) → settled_at marks.new volatile.now durable.new k ≡ settled_at marks.old volatile.now durable.old k }
+    ensures completed { (k : ℕ) → completed_at marks.new volatile.now durable.new k ≡ completed_at marks.old volatile.now durable.old k }
 {
     let first = LINE * line;
     let count = LINE.min(marks.len() - first);

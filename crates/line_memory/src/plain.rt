@@ -1,9 +1,9 @@
 //! A memory for one thread.
 ghost use Rattle.std.specs.Prelude.{◌≡◌, ◌<◌, OnOk, IfOk, IfErr, IsSome};
 ghost use Rattle.line_memory.specs.View.{opened, word_count, HasLine};
-ghost use Rattle.line_memory.specs.Steps.{Does, Refuses, IsLoad, IsStore, IsWriteBack, IsFence};
-ghost use Rattle.line_memory.specs.Words.{volatile_words, durable_words};
-ghost use Rattle.line_memory.specs.LinesView.{lines_view};
+ghost use Rattle.line_memory.specs.Steps.{IsLoad, IsStore, IsWriteBack, IsFence};
+ghost use Rattle.line_memory.specs.ClosedWords.{volatile_words, durable_words};
+ghost use Rattle.line_memory.specs.Plain.{view_of, Takes, IsRefused};
 ghost use Rattle.line_memory.specs.Sound.{plain_sound};
 
 use std::alloc::{AllocError, Global};
@@ -28,7 +28,7 @@ impl<C: Chance> PlainMemory<C> {
         budget: u64,
         chance: C,
     ) -> Result<PlainMemory<C>, AllocError>
-        ensures ok { IfOk result (λ m. lines_view m.lines ≡ opened words.items budget) }
+        ensures ok { IfOk result (λ m. view_of m ≡ opened words.items budget) }
         ensures chance { IfOk result (λ m. m.chance ≡ chance) }
     {
         Ok(PlainMemory {
@@ -39,17 +39,17 @@ impl<C: Chance> PlainMemory<C> {
 
     /// Closes the memory, and gives what loads saw and what a crash would have left.
     pub fn finish(self) -> Closed
-        ensures volatile { volatile_words result ≡ (lines_view self.lines).volatile }
-        ensures durable { durable_words result ≡ (lines_view self.lines).durable }
+        ensures volatile { volatile_words result ≡ (view_of self).volatile }
+        ensures durable { durable_words result ≡ (view_of self).durable }
     {
         self.lines.finish()
     }
 
     /// Draws the ticket of one step.
     fn take_ticket(&mut self) -> Result<(), Stopped>
-        ensures ok { OnOk result (Does (λ r. C.draw_gives self.old.chance r self.new.chance) (λ v w. w ≡ v) (lines_view self.old.lines) (lines_view self.new.lines)) }
-        ensures stopped { IfErr result (λ e. Refuses (λ r. C.draw_gives self.old.chance r self.new.chance) e.step (lines_view self.old.lines) (lines_view self.new.lines)) }
-        ensures unchanged { IsSome (lines_view self.old.lines).stopped → self.new ≡ self.old }
+        ensures ok { OnOk result (Takes C.draw_gives (λ v w. w ≡ v) self.old self.new) }
+        ensures stopped { IfErr result (λ e. IsRefused C.draw_gives e.step self.old self.new) }
+        ensures unchanged { IsSome (view_of self.old).stopped → self.new ≡ self.old }
     {
         if let Some(step) = self.lines.stopped() {
             return Err(Stopped { step });
@@ -60,23 +60,23 @@ impl<C: Chance> PlainMemory<C> {
 }
 
 impl<C: Chance> LineMemory for PlainMemory<C> {
-    ghost view = { λ m. lines_view m.lines };
+    ghost view = { view_of };
 
     fn load(&mut self, word: u64) -> Result<u64, Stopped>
-        requires { word < word_count (lines_view self.old.lines) }
-        ensures ok { IfOk result (λ value. Does (λ r. C.draw_gives self.old.chance r self.new.chance) (IsLoad word value) (lines_view self.old.lines) (lines_view self.new.lines)) }
-        ensures stopped { IfErr result (λ e. Refuses (λ r. C.draw_gives self.old.chance r self.new.chance) e.step (lines_view self.old.lines) (lines_view self.new.lines)) }
-        ensures unchanged { IsSome (lines_view self.old.lines).stopped → self.new ≡ self.old }
+        requires { word < word_count (view_of self.old) }
+        ensures ok { IfOk result (λ value. Takes C.draw_gives (IsLoad word value) self.old self.new) }
+        ensures stopped { IfErr result (λ e. IsRefused C.draw_gives e.step self.old self.new) }
+        ensures unchanged { IsSome (view_of self.old).stopped → self.new ≡ self.old }
     {
         self.take_ticket()?;
         Ok(self.lines.load(word))
     }
 
     fn store(&mut self, word: u64, value: u64) -> Result<(), Stopped>
-        requires { word < word_count (lines_view self.old.lines) }
-        ensures ok { OnOk result (Does (λ r. C.draw_gives self.old.chance r self.new.chance) (IsStore word value) (lines_view self.old.lines) (lines_view self.new.lines)) }
-        ensures stopped { IfErr result (λ e. Refuses (λ r. C.draw_gives self.old.chance r self.new.chance) e.step (lines_view self.old.lines) (lines_view self.new.lines)) }
-        ensures unchanged { IsSome (lines_view self.old.lines).stopped → self.new ≡ self.old }
+        requires { word < word_count (view_of self.old) }
+        ensures ok { OnOk result (Takes C.draw_gives (IsStore word value) self.old self.new) }
+        ensures stopped { IfErr result (λ e. IsRefused C.draw_gives e.step self.old self.new) }
+        ensures unchanged { IsSome (view_of self.old).stopped → self.new ≡ self.old }
     {
         self.take_ticket()?;
         self.lines.store(word, value);
@@ -84,10 +84,10 @@ impl<C: Chance> LineMemory for PlainMemory<C> {
     }
 
     fn write_back(&mut self, line: u64) -> Result<(), Stopped>
-        requires { HasLine (lines_view self.old.lines) line }
-        ensures ok { OnOk result (Does (λ r. C.draw_gives self.old.chance r self.new.chance) (IsWriteBack line) (lines_view self.old.lines) (lines_view self.new.lines)) }
-        ensures stopped { IfErr result (λ e. Refuses (λ r. C.draw_gives self.old.chance r self.new.chance) e.step (lines_view self.old.lines) (lines_view self.new.lines)) }
-        ensures unchanged { IsSome (lines_view self.old.lines).stopped → self.new ≡ self.old }
+        requires { HasLine (view_of self.old) line }
+        ensures ok { OnOk result (Takes C.draw_gives (IsWriteBack line) self.old self.new) }
+        ensures stopped { IfErr result (λ e. IsRefused C.draw_gives e.step self.old self.new) }
+        ensures unchanged { IsSome (view_of self.old).stopped → self.new ≡ self.old }
     {
         self.take_ticket()?;
         self.lines.write_back(line);
@@ -95,9 +95,9 @@ impl<C: Chance> LineMemory for PlainMemory<C> {
     }
 
     fn fence(&mut self) -> Result<(), Stopped>
-        ensures ok { OnOk result (Does (λ r. C.draw_gives self.old.chance r self.new.chance) IsFence (lines_view self.old.lines) (lines_view self.new.lines)) }
-        ensures stopped { IfErr result (λ e. Refuses (λ r. C.draw_gives self.old.chance r self.new.chance) e.step (lines_view self.old.lines) (lines_view self.new.lines)) }
-        ensures unchanged { IsSome (lines_view self.old.lines).stopped → self.new ≡ self.old }
+        ensures ok { OnOk result (Takes C.draw_gives IsFence self.old self.new) }
+        ensures stopped { IfErr result (λ e. IsRefused C.draw_gives e.step self.old self.new) }
+        ensures unchanged { IsSome (view_of self.old).stopped → self.new ≡ self.old }
     {
         self.take_ticket()?;
         self.lines.fence();

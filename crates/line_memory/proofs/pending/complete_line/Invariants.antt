@@ -1,6 +1,6 @@
 use Rattle.std.proofs.Common.{◌≡◌, ℕ, ◌*◌, ◌<◌, ◌≤◌, get_or, true, false}
-use Rattle.line_memory.specs.Marks.{settled_at}
-use Rattle.line_memory.proofs.pending.settle_line.Given as goal
+use Rattle.line_memory.specs.Marks.{completed_at}
+use Rattle.line_memory.proofs.pending.complete_line.Given as goal
 
 abbrev pub invariant-loop-word : goal.invariant-loop-word
 invariant-loop-word l =
@@ -8,5 +8,5 @@ invariant-loop-word l =
       below : (k : ℕ) → k < 8 * l.line → get_or l.marks k false ≡ get_or l.fn.marks k false;
       done : (k : ℕ) → 8 * l.line ≤ k → k < l.word → get_or l.marks k false ≡ false;
       above : (k : ℕ) → l.word ≤ k → get_or l.marks k false ≡ get_or l.fn.marks k false;
-      settled : (k : ℕ) → settled_at l.marks l.volatile l.durable k ≡ settled_at l.fn.marks l.volatile l.fn.durable k;
+      completed : (k : ℕ) → completed_at l.marks l.volatile l.durable k ≡ completed_at l.fn.marks l.volatile l.fn.durable k;
     }

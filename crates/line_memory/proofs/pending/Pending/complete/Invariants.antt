@@ -1,7 +1,7 @@
 use Rattle.std.proofs.Common.{◌≡◌, ℕ, length, vec_len}
 use Rattle.std.specs.Vec.{vec_capacity}
-use Rattle.line_memory.specs.Marks.{IsListed, settled_at}
-use Rattle.line_memory.proofs.pending.Pending.settle.Given as goal
+use Rattle.line_memory.specs.Marks.{IsListed, completed_at}
+use Rattle.line_memory.proofs.pending.Pending.complete.Given as goal
 
 abbrev pub invariant-loop-line : goal.invariant-loop-line
 invariant-loop-line l =
@@ -9,7 +9,7 @@ invariant-loop-line l =
       listed : IsListed l.self-inside.marks.items l.self-inside.listed.items l.self-inside.lines.items (vec_capacity l.self-inside.lines);
       marks : length l.self-inside.marks.items ≡ length l.volatile;
       lengths : length l.durable ≡ length l.volatile;
-      settled : (k : ℕ) → settled_at l.self-inside.marks.items l.volatile l.durable k ≡ settled_at l.initial.self-inside.marks.items l.volatile l.initial.durable k;
+      completed : (k : ℕ) → completed_at l.self-inside.marks.items l.volatile l.durable k ≡ completed_at l.initial.self-inside.marks.items l.volatile l.initial.durable k;
     }
 
 abbrev pub decreases-loop-line : goal.decreases-loop-line
