@@ -1,5 +1,5 @@
 -- What each call leaves, for callers of a memory: no call but a store adds a value, and a store adds only its own.
-use Rattle.std.proofs.Common.{◌≡◌, ◌≢◌, ℕ, ◌+◌, ◌<◌, ◌≤◌, ◌⊎◌, List, [], ◌∷◌, length, get_or, set, refl, sym, ◌∙◌, ap, subst, arith, Contains, inl, inr, suc, zero, None, Some, Option, get_or-set_same, get_or-set_other, Result, Ok, Err, OnOk, IfErr}
+use Rattle.std.proofs.Common.{◌≡◌, ◌≢◌, ℕ, ◌+◌, ◌<◌, ◌≤◌, ◌⊎◌, List, [], ◌∷◌, length, get_or, set, refl, sym, ◌∙◌, ap, subst, arith, Contains, inl, inr, suc, zero, None, Some, Option, get_or-set_same, get_or-set_other, length-set, Result, Ok, Err, OnOk, IfErr}
 use Rattle.std.specs.Option.{option_map_or}
 use Rattle.std.proofs.lemmas.Bool.{cases_eq, cases_lt}
 use Rattle.std.proofs.lemmas.Grind.{get_or-set_at}
@@ -13,12 +13,12 @@ pub contains_or_not : (xs : List ℕ) (x : ℕ) → Contains xs x ⊎ (Contains 
 contains_or_not [] x = inr (λ h. absurd (omega (arith, h.1)))
 contains_or_not (y ∷ ys) x =
     elim (cases_eq y x) [
-      inl e ↦ inl (0, omega arith, e)
-    | inr ne ↦
-        elim (contains_or_not ys x) [
-          inl h ↦ inl (suc h.0, omega (arith, h.1), h.2)
-        | inr no_tail ↦ inr (λ h. not_at y ys x ne no_tail h.0 h.1 h.2)
-        ]
+      | inl e ↦ inl (0, omega arith, e)
+      | inr ne ↦
+          elim (contains_or_not ys x) [
+            | inl h ↦ inl (suc h.0, omega (arith, h.1), h.2)
+            | inr no_tail ↦ inr (λ h. not_at y ys x ne no_tail h.0 h.1 h.2)
+          ]
     ]
   where
     not_at : (y : ℕ) (ys : List ℕ) (x : ℕ) → (y ≡ x → ⊥) → (Contains ys x → ⊥) → (k : ℕ) → k < length (y ∷ ys) → get_or (y ∷ ys) k x ≡ x → ⊥
@@ -29,12 +29,12 @@ contains_or_not (y ∷ ys) x =
 written_cases : (volatile durable : List ℕ) (word other : ℕ) → (get_or (set durable word (get_or volatile word 0)) other 0 ≡ get_or durable other 0) ⊎ (get_or (set durable word (get_or volatile word 0)) other 0 ≡ get_or volatile other 0)
 written_cases volatile durable word other =
     elim (cases_eq other word) [
-      inl e ↦
-        elim (cases_lt word (length durable)) [
-          inl l ↦ inr (get_or-set_at durable word other (get_or volatile word 0) 0 e l ∙ ap (λ (k : ℕ). get_or volatile k 0) (sym e))
-        | inr past ↦ inl (ap (λ (xs : List ℕ). get_or xs other 0) (set_past durable word (get_or volatile word 0) past))
-        ]
-    | inr ne ↦ inl (get_or-set_other durable word other (get_or volatile word 0) 0 ne)
+      | inl e ↦
+          elim (cases_lt word (length durable)) [
+            | inl l ↦ inr (get_or-set_at durable word other (get_or volatile word 0) 0 e l ∙ ap (λ (k : ℕ). get_or volatile k 0) (sym e))
+            | inr past ↦ inl (ap (λ (xs : List ℕ). get_or xs other 0) (set_past durable word (get_or volatile word 0) past))
+          ]
+      | inr ne ↦ inl (get_or-set_other durable word other (get_or volatile word 0) 0 ne)
     ]
 
 -- and so with the word that a draw writes back, if there is one
@@ -53,10 +53,10 @@ adds_then v u w a b =
     record {
       volatile = b.volatile ∙ a.volatile;
       durable = λ word.
-        elim (b.durable word) [
-          inl e ↦ value_moved v word _ _ (sym e) (a.durable word)
-        | inr e ↦ inr (e ∙ ap (λ (x : List ℕ). get_or x word 0) a.volatile)
-        ];
+          elim (b.durable word) [
+            | inl e ↦ value_moved v word _ _ (sym e) (a.durable word)
+            | inr e ↦ inr (e ∙ ap (λ (x : List ℕ). get_or x word 0) a.volatile)
+          ];
     }
   where
     value_moved : (v : View) (word x y : ℕ) → x ≡ y → IsValueOf v word x → IsValueOf v word y
@@ -84,10 +84,10 @@ fence_only v w f =
     record {
       volatile = f.volatile;
       durable = λ word.
-        elim (contains_or_not v.pending word) [
-          inl h ↦ inr (f.durable word h)
-        | inr h ↦ inl (f.others word h)
-        ];
+          elim (contains_or_not v.pending word) [
+            | inl h ↦ inr (f.durable word h)
+            | inr h ↦ inl (f.others word h)
+          ];
     }
 
 pub fence_adds : (gives : ℕ → Type 0) (v w : View) → TakesStep gives IsFence v w → AddsNothing v w
@@ -97,32 +97,33 @@ fence_adds gives v w t =
 pub refused_adds : (gives : ℕ → Type 0) (ticket : ℕ) (v w : View) → Refuses gives ticket v w → AddsNothing v w
 refused_adds gives ticket v w h =
     elim h [
-      inl had ↦ same_adds v w had.unchanged
-    | inr stops ↦
-        adds_then v (after_draw stops.number v) w (draw_adds stops.number v)
-        (durable_stays (after_draw stops.number v) w (ap (λ (x : View). x.volatile) stops.done) (ap (λ (x : View). x.durable) stops.done))
+      | inl had ↦ same_adds v w had.unchanged
+      | inr stops ↦
+          adds_then v (after_draw stops.number v) w (draw_adds stops.number v)
+          (durable_stays (after_draw stops.number v) w (ap (λ (x : View). x.volatile) stops.done) (ap (λ (x : View). x.durable) stops.done))
     ]
 
 -- a refused call leaves the memory stopped at its ticket
 pub refused_stopped : (gives : ℕ → Type 0) (ticket : ℕ) (v w : View) → Refuses gives ticket v w → w.stopped ≡ Some ticket
 refused_stopped gives ticket v w h =
     elim h [
-      inl had ↦ ap (λ (x : View). x.stopped) had.unchanged ∙ had.stopped
-    | inr stops ↦ ap (λ (x : View). x.stopped) stops.done
+      | inl had ↦ ap (λ (x : View). x.stopped) had.unchanged ∙ had.stopped
+      | inr stops ↦ ap (λ (x : View). x.stopped) stops.done
     ]
 
 -- a running memory with a ticket below its budget doesn't refuse
 pub allowed_not_refused : (gives : ℕ → Type 0) (ticket : ℕ) (v w : View) → v.stopped ≡ None → v.drawn < v.budget → Refuses gives ticket v w → ⊥
 allowed_not_refused gives ticket v w running allowed h =
     elim h [
-      inl had ↦ let e = had.stopped in absurd (cc)
-    | inr stops ↦ absurd (omega (arith, stops.above))
+      | inl had ↦ let e = had.stopped in absurd (cc)
+      | inr stops ↦ absurd (omega (arith, stops.above))
     ]
 
 -- what adds nothing stores nothing
 pub adds_may_store : (word value : ℕ) (v w : View) → AddsNothing v w → MayStore word value v w
 adds_may_store word value v w a =
     record {
+      words = ap (λ (x : List ℕ). length x) a.volatile;
       others = λ other _. ap (λ (x : List ℕ). get_or x other 0) a.volatile;
       others_durable = λ other _. a.durable other;
       seen = inr (ap (λ (x : List ℕ). get_or x word 0) a.volatile);
@@ -136,6 +137,7 @@ store_leaves gives word value v w t = λ other.
 pub store_may_store : (gives : ℕ → Type 0) (word value : ℕ) (v w : View) → word < word_count v → TakesStep gives (IsStore word value) v w → MayStore word value v w
 store_may_store gives word value v w l t =
     record {
+      words = ap (λ (x : List ℕ). length x) t.done.volatile ∙ length-set v.volatile word value;
       others = λ other ne. ap (λ (x : List ℕ). get_or x other 0) t.done.volatile ∙ get_or-set_other v.volatile word other value 0 ne;
       others_durable = λ other _. store_leaves gives word value v w t other;
       seen = inl (ap (λ (x : List ℕ). get_or x word 0) t.done.volatile ∙ get_or-set_same v.volatile word value 0 l);
@@ -147,16 +149,17 @@ pub may_store_then : (word value : ℕ) (v u w : View) → MayStore word value v
 may_store_then word value v u w m a =
     let stays : volatile_at w word ≡ volatile_at u word = ap (λ (x : List ℕ). get_or x word 0) a.volatile in
     record {
+      words = ap (λ (x : List ℕ). length x) a.volatile ∙ m.words;
       others = λ other ne. ap (λ (x : List ℕ). get_or x other 0) a.volatile ∙ m.others other ne;
       others_durable = λ other ne.
-        elim (a.durable other) [
-          inl e ↦ subst (λ (z : ℕ). IsValueOf v other z) (sym e) (m.others_durable other ne)
-        | inr e ↦ inr (e ∙ m.others other ne)
-        ];
+          elim (a.durable other) [
+            | inl e ↦ subst (λ (z : ℕ). IsValueOf v other z) (sym e) (m.others_durable other ne)
+            | inr e ↦ inr (e ∙ m.others other ne)
+          ];
       seen = elim m.seen [ inl e ↦ inl (stays ∙ e) | inr e ↦ inr (stays ∙ e) ];
       left = elim (a.durable word) [
-        inl e ↦ elim m.left [ inl x ↦ inl (e ∙ x) | inr y ↦ inr (subst (λ (z : ℕ). IsValueOf v word z) (sym e) y) ]
-      | inr e ↦ elim m.seen [ inl x ↦ inl (e ∙ x) | inr y ↦ inr (inr (e ∙ y)) ]
+        | inl e ↦ elim m.left [ inl x ↦ inl (e ∙ x) | inr y ↦ inr (subst (λ (z : ℕ). IsValueOf v word z) (sym e) y) ]
+        | inr e ↦ elim m.seen [ inl x ↦ inl (e ∙ x) | inr y ↦ inr (inr (e ∙ y)) ]
       ];
     }
 

@@ -50,16 +50,16 @@ line_within words lines list capacity line h l = omega (arith, h.reach)
 set_keeps : (lines : List Bool) (line other : ℕ) → IsMarked lines other → IsMarked (set lines line true) other
 set_keeps lines line other m =
     elim (cases_eq other line) [
-      inl e ↦ let lt = is_marked_within lines other m in get_or-set_at lines line other true false e (omega arith)
-    | inr ne ↦ get_or-set_other lines line other true false ne ∙ m
+      | inl e ↦ let lt = is_marked_within lines other m in get_or-set_at lines line other true false e (omega arith)
+      | inr ne ↦ get_or-set_other lines line other true false ne ∙ m
     ]
 
 -- what is set is the new mark or was set
 set_cases : (lines : List Bool) (line other : ℕ) → IsMarked (set lines line true) other → (line ≡ other) ⊎ IsMarked lines other
 set_cases lines line other m =
     elim (cases_eq other line) [
-      inl e ↦ inl (sym e)
-    | inr ne ↦ inr (sym (get_or-set_other lines line other true false ne) ∙ m)
+      | inl e ↦ inl (sym e)
+      | inr ne ↦ inr (sym (get_or-set_other lines line other true false ne) ∙ m)
     ]
 
 -- what holds of each number of a list and of one more
@@ -81,10 +81,10 @@ list_line words lines list capacity room line h more l e =
       within = each_pushed list line (length words) h.within l;
       covers = λ word m. set_keeps lines line (word / 8) (h.covers word m);
       all = λ other m.
-        elim (set_cases lines line other m) [
-          inl e ↦ subst (λ (x : ℕ). Contains (list ++ line ∷ []) x) e (Contains-push list line)
-        | inr was ↦ Contains-append_left list (line ∷ []) other (h.all other was)
-        ];
+          elim (set_cases lines line other m) [
+            | inl e ↦ subst (λ (x : ℕ). Contains (list ++ line ∷ []) x) e (Contains-push list line)
+            | inr was ↦ Contains-append_left list (line ∷ []) other (h.all other was)
+          ];
     }
 
 -- the marks of the words of a listed line may change
@@ -96,10 +96,10 @@ remark words new lines list capacity line h len on same =
       few = h.few;
       within = λ k lt. let w = h.within k lt in omega arith;
       covers = λ word m.
-        elim (cases_eq (word / 8) line) [
-          inl e ↦ subst (λ (x : ℕ). IsMarked lines x) (sym e) on
-        | inr ne ↦ h.covers word (sym (same word ne) ∙ m)
-        ];
+          elim (cases_eq (word / 8) line) [
+            | inl e ↦ subst (λ (x : ℕ). IsMarked lines x) (sym e) on
+            | inr ne ↦ h.covers word (sym (same word ne) ∙ m)
+          ];
       all = h.all;
     }
 
@@ -107,15 +107,15 @@ remark words new lines list capacity line h len on same =
 unset_all : (lines : List Bool) (list : List ℕ) (line other : ℕ) → ((l : ℕ) → IsMarked lines l → Contains (list ++ line ∷ []) l) → IsMarked (set lines line false) other → Contains list other
 unset_all lines list line other all m =
     elim (cases_eq other line) [
-      inl e ↦
-        let lt = is_marked_within (set lines line false) other m in
-        let off = get_or-set_at lines line other false false e (omega (arith, lt, length-set {A = Bool})) in
-        absurd (cc)
-    | inr ne ↦
-        elim (Contains-push_cases list line other (all other (sym (get_or-set_other lines line other false false ne) ∙ m))) [
-          inl there ↦ there
-        | inr e ↦ absurd (ne (sym e))
-        ]
+      | inl e ↦
+          let lt = is_marked_within (set lines line false) other m in
+          let off = get_or-set_at lines line other false false e (omega (arith, lt, length-set {A = Bool})) in
+          absurd (cc)
+      | inr ne ↦
+          elim (Contains-push_cases list line other (all other (sym (get_or-set_other lines line other false false ne) ∙ m))) [
+            | inl there ↦ there
+            | inr e ↦ absurd (ne (sym e))
+          ]
     ]
 
 -- the list once its last line is taken, whose words have no mark any more
@@ -127,10 +127,10 @@ unlist_line words new lines list capacity line h len clear same =
       few = let n = mark_count-unset lines line in omega (arith, h.few, length-append {A = ℕ});
       within = λ k lt. let w = each_popped list line (length words) h.within k lt in omega arith;
       covers = λ word m.
-        elim (cases_eq (word / 8) line) [
-          inl e ↦ let c = clear word e in absurd (cc)
-        | inr ne ↦ get_or-set_other lines line (word / 8) false false ne ∙ h.covers word (sym (same word ne) ∙ m)
-        ];
+          elim (cases_eq (word / 8) line) [
+            | inl e ↦ let c = clear word e in absurd (cc)
+            | inr ne ↦ get_or-set_other lines line (word / 8) false false ne ∙ h.covers word (sym (same word ne) ∙ m)
+          ];
       all = λ other m. unset_all lines list line other h.all m;
     }
 
@@ -138,8 +138,8 @@ unlist_line words new lines list capacity line h len clear same =
 pub no_marks : (words lines : List Bool) (capacity : ℕ) → IsListed words lines [] capacity → (k : ℕ) → get_or words k false ≡ false
 no_marks words lines capacity h k =
     elim (cases_Bool (get_or words k false)) [
-      inl m ↦ let c = h.all (k / 8) (h.covers k m) in absurd (omega (arith, c.1))
-    | inr e ↦ e
+      | inl m ↦ let c = h.all (k / 8) (h.covers k m) in absurd (omega (arith, c.1))
+      | inr e ↦ e
     ]
 
 -- what a read gave is there, whatever the default

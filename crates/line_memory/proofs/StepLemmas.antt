@@ -68,6 +68,6 @@ completed_pending marks volatile durable word h =
 pub completed_other : (marks : List Bool) (volatile durable : List ℕ) (word : ℕ) → (Contains (marked_words marks) word → ⊥) → completed_at marks volatile durable word ≡ get_or durable word 0
 completed_other marks volatile durable word no_mark =
     elim (cases_Bool (get_or marks word false)) [
-      inl m ↦ absurd (no_mark (marked_words-has marks word m))
-    | inr e ↦ ap (λ (b : Bool). cond b (get_or volatile word 0) (get_or durable word 0)) e
+      | inl m ↦ absurd (no_mark (marked_words-has marks word m))
+      | inr e ↦ ap (λ (b : Bool). cond b (get_or volatile word 0) (get_or durable word 0)) e
     ]

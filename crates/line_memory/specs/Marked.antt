@@ -54,9 +54,10 @@ marked_words-only marks k h =
 
 -- two lists of marks that agree at a word
 pub marked_words-same : (old new : List Bool) (k : ℕ) → get_or new k false ≡ get_or old k false → (Contains (marked_words new) k ↔ Contains (marked_words old) k)
-marked_words-same old new k e =
-    ((λ h. marked_words-has old k (sym e ∙ marked_words-only new k h)),
-    (λ h. marked_words-has new k (e ∙ marked_words-only old k h)))
+marked_words-same old new k e = (
+  (λ h. marked_words-has old k (sym e ∙ marked_words-only new k h)),
+  (λ h. marked_words-has new k (e ∙ marked_words-only old k h)),
+)
 
 -- no mark, no word
 marked_from-none : (from : ℕ) (marks : List Bool) → ((k : ℕ) → get_or marks k false ≡ false) → marked_from from marks ≡ []

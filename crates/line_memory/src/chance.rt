@@ -1,7 +1,6 @@
 //! The source of the numbers that decide which words are written back early.
 ghost use Rattle.std.specs.Prelude.{ℕ, ⊤};
 
-
 /// A source of numbers. Nothing is promised of them, so each theorem holds whatever it gives.
 pub trait Chance: Drop {
     // What one draw gives: the source before, the number, the source after. By default anything.

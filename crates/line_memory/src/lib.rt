@@ -14,3 +14,6 @@ pub use chance::Chance;
 pub use closed::Closed;
 pub use memory::{LineMemory, Stopped, only_stores_add, persist};
 pub use plain::PlainMemory;
+
+#[cfg(test)]
+mod tests;

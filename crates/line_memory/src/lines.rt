@@ -2,12 +2,11 @@
 ghost use Rattle.std.specs.Prelude.{◌≡◌, ◌≢◌, ℕ, ◌+◌, ◌<◌, ◌≤◌, Some, None, length, slice_index, OnOk, OnErr, IfOk, IfErr, Option, IsNone};
 ghost use Rattle.line_memory.specs.Steps.{durable_after};
 
-use std::alloc::{AllocError, Global};
-
 use crate::closed::Closed;
 use crate::memory::Stopped;
 use crate::pending::Pending;
 use crate::recent::RecentStores;
+use std::alloc::{AllocError, Global};
 
 /// The words of a memory with what is pending. Whatever room it needs is taken by `new`.
 #[derive(Drop)]

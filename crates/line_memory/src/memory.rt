@@ -70,5 +70,4 @@ pub fn only_stores_add()
     ensures write_back { (line : ℕ) (v w : View) → TakesStep any_number (IsWriteBack line) v w → AddsNothing v w }
     ensures fence { (v w : View) → TakesStep any_number IsFence v w → AddsNothing v w }
     ensures stopped { (ticket : ℕ) (v w : View) → Refuses any_number ticket v w → AddsNothing v w }
-{
-}
+{}

@@ -2,10 +2,9 @@
 ghost use Rattle.std.specs.Prelude.{◌≡◌, ◌≢◌, ℕ, ◌+◌, ◌*◌, ◌/◌, ◌<◌, ◌≤◌, false, true, length, replicate, slice_index, slice_index_or, slice_set, IfOk, vec_len};
 ghost use Rattle.line_memory.specs.Marks.{completed_at};
 
+use crate::memory;
 use std::alloc::{AllocError, Global};
 use std::marker::Model;
-
-use crate::memory;
 
 /// How many words a line has.
 const LINE: usize = memory::LINE as usize;

@@ -6,12 +6,11 @@ ghost use Rattle.line_memory.specs.ClosedWords.{volatile_words, durable_words};
 ghost use Rattle.line_memory.specs.Plain.{view_of, Takes, IsRefused};
 ghost use Rattle.line_memory.specs.Sound.{plain_sound};
 
-use std::alloc::{AllocError, Global};
-
 use crate::chance::Chance;
 use crate::closed::Closed;
 use crate::lines::Lines;
 use crate::memory::{LineMemory, Stopped};
+use std::alloc::{AllocError, Global};
 
 /// A memory of words for one thread. No call but `new` takes room.
 #[derive(Drop)]

@@ -19,8 +19,8 @@ returns-clause-crash g c =
     let u = view c.write_back.new.self in
     let w = view c.fence.new.self in
     let fenced =
-      at_both c.fence.result (AddsNothing u w) (on_ok_weaker c.fence.result (fence_adds any_number u w) c.fence.ensures.ok)
-      (IfErr-weaker c.fence.result _ _ (λ e. refused_adds any_number e.step u w) c.fence.ensures.stopped)
+    at_both c.fence.result (AddsNothing u w) (on_ok_weaker c.fence.result (fence_adds any_number u w) c.fence.ensures.ok)
+    (IfErr-weaker c.fence.result _ _ (λ e. refused_adds any_number e.step u w) c.fence.ensures.stopped)
     in
     may_store_then c.args.word c.args.value (view c.args.memory.now) v w
     (store_may_store any_number c.args.word c.args.value (view c.args.memory.now) v c.requires c.in_ok-store.ensures.ok)

@@ -18,6 +18,6 @@ loop-line-preserved c =
       marks = rw whole (len ∙ ap length n.value ∙ c.loop-line.invariant.marks);
       lengths = c.complete_line.auto.durable ∙ c.loop-line.invariant.lengths;
       completed = λ k.
-        rw whole
-        (q.completed k ∙ ap (λ (x : List Bool). completed_at x c.args.volatile.now c.loop-line.durable k) n.value ∙ c.loop-line.invariant.completed k);
+          rw whole
+          (q.completed k ∙ ap (λ (x : List Bool). completed_at x c.args.volatile.now c.loop-line.durable k) n.value ∙ c.loop-line.invariant.completed k);
     }
