@@ -1,12 +1,12 @@
 -- What each call leaves, for callers of a memory: no call but a store adds a value, and a store adds only its own.
-use Rattle.std.proofs.Common.{◌≡◌, ◌≢◌, ℕ, ◌+◌, ◌<◌, ◌≤◌, ◌⊎◌, List, [], ◌∷◌, length, get_or, set, refl, sym, ◌∙◌, ap, subst, arith, Contains, inl, inr, suc, zero, None, Some, Option, get_or-set_same, get_or-set_other, length-set, Result, Ok, Err, OnOk, IfErr}
+use Rattle.std.proofs.Common.{◌≡◌, ℕ, ◌<◌, ◌⊎◌, List, [], ◌∷◌, length, get_or, set, refl, sym, ◌∙◌, ap, subst, arith, Contains, inl, inr, suc, zero, None, Some, Option, get_or-set_same, get_or-set_other, length-set, Result, Ok, Err, OnOk, IfErr}
 use Rattle.std.specs.Option.{option_map_or}
 use Rattle.std.proofs.lemmas.Bool.{cases_eq, cases_lt}
 use Rattle.std.proofs.lemmas.Grind.{get_or-set_at}
 use Rattle.std.proofs.lemmas.List.{set_past}
-use Rattle.line_memory.specs.View.{View, volatile_at, durable_at, word_count, IsPending}
-use Rattle.line_memory.specs.Crash.{IsValueOf, IsMixed, OnlyWritesBack, AddsNothing, MayStore}
-use Rattle.line_memory.specs.Steps.{TakesStep, Refuses, HadStopped, Stops, IsLoad, IsStore, IsWriteBack, IsFence, after_draw, written_back, early_word}
+use Rattle.line_memory.specs.View.{View, volatile_at, word_count}
+use Rattle.line_memory.specs.Crash.{IsValueOf, OnlyWritesBack, AddsNothing, MayStore}
+use Rattle.line_memory.specs.Steps.{TakesBy, RefusesBy, IsLoad, IsStore, IsWriteBack, IsFence, after_draw, written_back, early_word}
 
 -- a list has the number or hasn't
 pub contains_or_not : (xs : List ℕ) (x : ℕ) → Contains xs x ⊎ (Contains xs x → ⊥)
@@ -66,7 +66,7 @@ adds_then v u w a b =
 same_adds : (v w : View) → w ≡ v → AddsNothing v w
 same_adds v w e = subst (λ (x : View). AddsNothing v x) (sym e) (record { volatile = refl; durable = λ word. inl refl })
 
-pub load_adds : (gives : ℕ → Type 0) (word value : ℕ) (v w : View) → TakesStep gives (IsLoad word value) v w → AddsNothing v w
+pub load_adds : (gives : ℕ → Type 0) (word value : ℕ) (v w : View) → TakesBy gives (IsLoad word value) v w → AddsNothing v w
 load_adds gives word value v w t =
     subst (λ (x : View). AddsNothing v x) (sym t.done.unchanged) (draw_adds t.number v)
 
@@ -74,7 +74,7 @@ load_adds gives word value v w t =
 durable_stays : (v w : View) → w.volatile ≡ v.volatile → w.durable ≡ v.durable → AddsNothing v w
 durable_stays v w e d = record { volatile = e; durable = λ word. inl (ap (λ (x : List ℕ). get_or x word 0) d) }
 
-pub write_back_adds : (gives : ℕ → Type 0) (line : ℕ) (v w : View) → TakesStep gives (IsWriteBack line) v w → AddsNothing v w
+pub write_back_adds : (gives : ℕ → Type 0) (line : ℕ) (v w : View) → TakesBy gives (IsWriteBack line) v w → AddsNothing v w
 write_back_adds gives line v w t =
     adds_then v (after_draw t.number v) w (draw_adds t.number v) (durable_stays (after_draw t.number v) w t.done.volatile t.done.durable)
 
@@ -90,11 +90,11 @@ fence_only v w f =
           ];
     }
 
-pub fence_adds : (gives : ℕ → Type 0) (v w : View) → TakesStep gives IsFence v w → AddsNothing v w
+pub fence_adds : (gives : ℕ → Type 0) (v w : View) → TakesBy gives IsFence v w → AddsNothing v w
 fence_adds gives v w t =
     adds_then v (after_draw t.number v) w (draw_adds t.number v) (fence_only (after_draw t.number v) w t.done)
 
-pub refused_adds : (gives : ℕ → Type 0) (ticket : ℕ) (v w : View) → Refuses gives ticket v w → AddsNothing v w
+pub refused_adds : (gives : ℕ → Type 0) (ticket : ℕ) (v w : View) → RefusesBy gives ticket v w → AddsNothing v w
 refused_adds gives ticket v w h =
     elim h [
       | inl had ↦ same_adds v w had.unchanged
@@ -104,7 +104,7 @@ refused_adds gives ticket v w h =
     ]
 
 -- a refused call leaves the memory stopped at its ticket
-pub refused_stopped : (gives : ℕ → Type 0) (ticket : ℕ) (v w : View) → Refuses gives ticket v w → w.stopped ≡ Some ticket
+pub refused_stopped : (gives : ℕ → Type 0) (ticket : ℕ) (v w : View) → RefusesBy gives ticket v w → w.stopped ≡ Some ticket
 refused_stopped gives ticket v w h =
     elim h [
       | inl had ↦ ap (λ (x : View). x.stopped) had.unchanged ∙ had.stopped
@@ -112,7 +112,7 @@ refused_stopped gives ticket v w h =
     ]
 
 -- a running memory with a ticket below its budget doesn't refuse
-pub allowed_not_refused : (gives : ℕ → Type 0) (ticket : ℕ) (v w : View) → v.stopped ≡ None → v.drawn < v.budget → Refuses gives ticket v w → ⊥
+pub allowed_not_refused : (gives : ℕ → Type 0) (ticket : ℕ) (v w : View) → v.stopped ≡ None → v.drawn < v.budget → RefusesBy gives ticket v w → ⊥
 allowed_not_refused gives ticket v w running allowed h =
     elim h [
       | inl had ↦ let e = had.stopped in absurd (cc)
@@ -130,11 +130,11 @@ adds_may_store word value v w a =
       left = inr (a.durable word);
     }
 
-pub store_leaves : (gives : ℕ → Type 0) (word value : ℕ) (v w : View) → TakesStep gives (IsStore word value) v w → OnlyWritesBack v w
+pub store_leaves : (gives : ℕ → Type 0) (word value : ℕ) (v w : View) → TakesBy gives (IsStore word value) v w → OnlyWritesBack v w
 store_leaves gives word value v w t = λ other.
     subst (λ (x : List ℕ). IsValueOf v other (get_or x other 0)) (sym t.done.durable) ((draw_adds t.number v).durable other)
 
-pub store_may_store : (gives : ℕ → Type 0) (word value : ℕ) (v w : View) → word < word_count v → TakesStep gives (IsStore word value) v w → MayStore word value v w
+pub store_may_store : (gives : ℕ → Type 0) (word value : ℕ) (v w : View) → word < word_count v → TakesBy gives (IsStore word value) v w → MayStore word value v w
 store_may_store gives word value v w l t =
     record {
       words = ap (λ (x : List ℕ). length x) t.done.volatile ∙ length-set v.volatile word value;

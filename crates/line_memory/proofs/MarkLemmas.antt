@@ -1,10 +1,10 @@
 -- The list of lines with a mark: a line that isn't listed has room, and each listed line is there once at most.
-use Rattle.std.proofs.Common.{◌≡◌, ◌≢◌, ℕ, ◌+◌, ◌*◌, ◌/◌, ◌<◌, ◌≤◌, ◌⊎◌, Bool, true, false, List, [], ◌∷◌, ◌++◌, length, get_or, set, refl, sym, ◌∙◌, subst, arith, length-set, length-append, get_or-set_other, get_or-set_same, Contains, inl, inr, suc, zero, cond, ap}
+use Rattle.std.proofs.Common.{◌≡◌, ◌≢◌, ℕ, ◌+◌, ◌*◌, ◌/◌, ◌<◌, ◌≤◌, ◌⊎◌, Bool, true, false, List, [], ◌∷◌, ◌++◌, length, get_or, set, refl, sym, ◌∙◌, subst, arith, length-set, length-append, get_or-set_other, get_or-set_same, Contains, inl, inr, suc, zero, ap}
 use Rattle.std.proofs.lemmas.List.Elements.{Contains-append_left, Contains-push, Contains-push_cases}
-use Rattle.std.proofs.lemmas.Bool.{cases_eq, cases_lt, cases_Bool}
+use Rattle.std.proofs.lemmas.Bool.{cases_eq, cases_Bool}
 use Rattle.std.proofs.lemmas.List.{get_or_default}
-use Rattle.std.proofs.lemmas.Grind.{common_steps, elements, get_or-set_at}
-use Rattle.line_memory.specs.Marks.{IsListed, IsMarked, mark_count, completed_at}
+use Rattle.std.proofs.lemmas.Grind.{elements, get_or-set_at}
+use Rattle.line_memory.specs.Marks.{IsListed, IsMarked, mark_count}
 use Rattle.line_memory.specs.Marked.{is_marked_within}
 
 -- no more marks than places

@@ -1,14 +1,14 @@
 -- A step that follows a ticket, and what marks say of pending words.
-use Rattle.std.proofs.Common.{◌≡◌, ◌≢◌, ℕ, ◌+◌, ◌<◌, Bool, true, false, List, [], ◌∷◌, length, get_or, set, take, replicate, refl, sym, ◌∙◌, ap, subst, arith, Contains, cond, suc, zero, None, inl, inr, get_or-set_same, get_or-set_other, length-set}
+use Rattle.std.proofs.Common.{◌≡◌, ◌≢◌, ℕ, ◌<◌, Bool, true, false, List, [], ◌∷◌, length, get_or, set, take, replicate, refl, ap, subst, arith, Contains, cond, suc, zero, None, inl, inr, get_or-set_same, get_or-set_other, length-set}
 use Rattle.std.proofs.lemmas.Bool.{cases_Bool}
 use Rattle.std.proofs.lemmas.Grind.{elements}
 use Rattle.line_memory.specs.View.{View, opened}
-use Rattle.line_memory.specs.Marks.{marked_words, IsMarked, completed_at}
+use Rattle.line_memory.specs.Marks.{marked_words, completed_at}
 use Rattle.line_memory.specs.Marked.{marked_words-has, marked_words-only, marked_words-none}
-use Rattle.line_memory.specs.Steps.{TakesStep, after_draw}
+use Rattle.line_memory.specs.Steps.{TakesBy}
 
 -- what is done once the ticket is drawn
-pub takes_after : (gives : ℕ → Type 0) (step : View → View → Type 0) (v u w : View) → TakesStep gives (λ a b. b ≡ a) v u → step u w → TakesStep gives step v w
+pub takes_after : (gives : ℕ → Type 0) (step : View → View → Type 0) (v u w : View) → TakesBy gives (λ a b. b ≡ a) v u → step u w → TakesBy gives step v w
 takes_after gives step v u w d s =
     record {
       running = d.running;

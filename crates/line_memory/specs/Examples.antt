@@ -1,5 +1,5 @@
 -- Worked examples of the definitions, by computation.
-use Rattle.std.specs.Prelude.{◌≡◌, ℕ, List, [], ◌∷◌, true, false, None, Some, Option, refl}
+use Rattle.std.specs.Prelude.{◌≡◌, [], ◌∷◌, true, false, None, Some, refl}
 use Rattle.line_memory.specs.View.{line_of}
 use Rattle.line_memory.specs.Marks.{marked_words}
 use Rattle.line_memory.specs.Steps.{early_word, durable_after}

@@ -11,9 +11,13 @@ marked_from from (false ∷ marks) = marked_from (from + 1) marks
 abbrev pub marked_words : List Bool → List ℕ
 marked_words marks = marked_from 0 marks
 
+-- the word's mark
+abbrev pub mark_at : List Bool → ℕ → Bool
+mark_at marks word = slice_index_or marks word false
+
 -- the word is marked
 abbrev pub IsMarked : List Bool → ℕ → Type 0
-IsMarked marks word = slice_index_or marks word false ≡ true
+IsMarked marks word = mark_at marks word ≡ true
 
 -- how many marks there are
 abbrev pub mark_count : List Bool → ℕ
@@ -24,9 +28,9 @@ mark_count (false ∷ marks) = mark_count marks
 -- what is durable of a word once the marked words are written back
 abbrev pub completed_at : List Bool → List ℕ → List ℕ → ℕ → ℕ
 completed_at marks volatile durable word =
-    cond (slice_index_or marks word false) (slice_index volatile word) (slice_index durable word)
+    cond (mark_at marks word) (slice_index volatile word) (slice_index durable word)
 
--- the marks of words, whether each line is listed, and the list of these lines, which has room for every line
+-- the marks of words, whether each line is listed, and the list of these, with room for every line
 pub record IsListed (words lines : List Bool) (list : List ℕ) (capacity : ℕ) : Type 0 where
   pub reach : length words ≤ 8 * length lines
   pub room : length lines ≤ capacity

@@ -1,9 +1,9 @@
--- What a call of a memory does: it draws a ticket and a number by chance, and then takes its step or is refused.
+-- What a call does: it draws a ticket and a number by chance, and takes its step or is refused.
 use Rattle.std.specs.Prelude.{◌≡◌, ◌≢◌, ℕ, ◌+◌, ◌/◌, ◌%◌, ◌<◌, ◌≤◌, ◌⊎◌, ◌↔◌, List, [], ◌∷◌, take, slice_get, slice_set, slice_index, Option, None, Some, ◌==◌, if◌then◌else◌, ⊤}
 use Rattle.std.specs.Option.{option_map_or}
 use Rattle.line_memory.specs.View.{View, word_count, volatile_at, durable_at, IsPending, line_of}
 
--- the word that a draw of r writes back early: for odd r the one numbered (r / 2) % 16 among the recent stores
+-- the word that a draw of r writes back early: for odd r the recent store numbered (r / 2) % 16
 abbrev pub early_word : ℕ → List ℕ → Option ℕ
 early_word r recent = if r % 2 == 1 then slice_get recent (r / 2 % 16) else None
 
@@ -21,17 +21,21 @@ abbrev pub after_draw : ℕ → View → View
 after_draw r v =
     record v { durable = durable_after r v.recent v.volatile v.durable; drawn = v.drawn + 1 }
 
--- the number may be any
-abbrev pub any_number : ℕ → Type 0
-any_number _ = ⊤
-
 -- the ticket allows the step, which follows a draw of some number that chance gives
-pub record TakesStep (gives : ℕ → Type 0) (step : View → View → Type 0) (v w : View) : Type 0 where
+pub record TakesBy (gives : ℕ → Type 0) (step : View → View → Type 0) (v w : View) : Type 0 where
   pub running : v.stopped ≡ None
   pub allowed : v.drawn < v.budget
   pub number : ℕ
   pub given : gives number
   pub done : step (after_draw number v) w
+
+-- the same, whatever chance gives
+abbrev pub Takes : (View → View → Type 0) → View → View → Type 0
+Takes step v w = TakesBy (λ _. ⊤) step v w
+
+-- a memory that stops at the ticket
+abbrev pub stopped_at : ℕ → View → View
+stopped_at ticket v = record v { stopped = Some ticket }
 
 -- it had stopped: the same ticket again, and nothing changes
 pub record HadStopped (ticket : ℕ) (v w : View) : Type 0 where
@@ -39,17 +43,21 @@ pub record HadStopped (ticket : ℕ) (v w : View) : Type 0 where
   pub unchanged : w ≡ v
 
 -- the ticket drawn is refused: it stops, and nothing but the draw is done
-pub record Stops (gives : ℕ → Type 0) (ticket : ℕ) (v w : View) : Type 0 where
+pub record StopsBy (gives : ℕ → Type 0) (ticket : ℕ) (v w : View) : Type 0 where
   pub running : v.stopped ≡ None
   pub above : v.budget ≤ v.drawn
   pub is_ticket : ticket ≡ v.drawn
   pub number : ℕ
   pub given : gives number
-  pub done : w ≡ record (after_draw number v) { stopped = Some ticket }
+  pub done : w ≡ stopped_at ticket (after_draw number v)
 
 -- a call that answers the ticket in place of its step
-abbrev pub Refuses : (ℕ → Type 0) → ℕ → View → View → Type 0
-Refuses gives ticket v w = HadStopped ticket v w ⊎ Stops gives ticket v w
+abbrev pub RefusesBy : (ℕ → Type 0) → ℕ → View → View → Type 0
+RefusesBy gives ticket v w = HadStopped ticket v w ⊎ StopsBy gives ticket v w
+
+-- the same, whatever chance gives
+abbrev pub Refuses : ℕ → View → View → Type 0
+Refuses ticket v w = RefusesBy (λ _. ⊤) ticket v w
 
 -- tickets and stop stay
 pub record SameTickets (v w : View) : Type 0 where
@@ -62,7 +70,7 @@ pub record IsLoad (word value : ℕ) (v w : View) : Type 0 where
   pub seen : value ≡ volatile_at v word
   pub unchanged : w ≡ v
 
--- a store changes what loads see of its word alone, and takes back a pending write-back of that word
+-- a store changes what loads see of its word alone, and that word is pending no more
 pub record IsStore (word value : ℕ) (v w : View) : Type 0 where
   pub volatile : w.volatile ≡ slice_set v.volatile word value
   pub durable : w.durable ≡ v.durable

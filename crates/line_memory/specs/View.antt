@@ -1,4 +1,4 @@
--- What contracts see of a memory of words: two values of each word, and what the calls so far left open.
+-- What contracts see of a memory: two values of each word, and what is still open.
 use Rattle.std.specs.Prelude.{◌≡◌, ℕ, ◌+◌, ◌*◌, ◌/◌, ◌<◌, ◌≤◌, List, [], length, slice_index, Contains, None, Some, Option}
 
 pub record View : Type 0 where
@@ -41,14 +41,19 @@ line_of word = word / 8
 abbrev pub HasLine : View → ℕ → Type 0
 HasLine v line = 8 * line < word_count v
 
+-- each number of the list is below the bound
+abbrev pub AllBelow : List ℕ → ℕ → Type 0
+AllBelow xs bound = (k : ℕ) → k < length xs → slice_index xs k < bound
+
 -- what is so of every memory at every moment
 pub record IsSound (v : View) : Type 0 where
   pub lengths : length v.durable ≡ length v.volatile
   pub pending_within : (word : ℕ) → IsPending v word → word < word_count v
-  pub recent_within : (k : ℕ) → k < length v.recent → slice_index v.recent k < word_count v
+  pub recent_within : AllBelow v.recent (word_count v)
   pub recent_few : length v.recent ≤ 16
   pub running : v.stopped ≡ None → v.drawn ≤ v.budget
-  pub stopping : (ticket : ℕ) → v.stopped ≡ Some ticket → (v.budget ≤ ticket) × (v.drawn ≡ ticket + 1)
+  pub stopping : (ticket : ℕ) → v.stopped ≡ Some ticket → v.budget ≤ ticket
+  pub last_ticket : (ticket : ℕ) → v.stopped ≡ Some ticket → v.drawn ≡ ticket + 1
 
 -- a memory as it is opened: every word durable, and no ticket drawn
 abbrev pub opened : List ℕ → ℕ → View

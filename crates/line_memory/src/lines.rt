@@ -1,6 +1,7 @@
 //! The words of a memory, and its steps without a source of chance.
 ghost use Rattle.std.specs.Prelude.{◌≡◌, ◌≢◌, ℕ, ◌+◌, ◌<◌, ◌≤◌, Some, None, length, slice_index, OnOk, OnErr, IfOk, IfErr, Option, IsNone};
 ghost use Rattle.line_memory.specs.Steps.{durable_after};
+ghost use Rattle.line_memory.specs.View.{AllBelow};
 
 use crate::closed::Closed;
 use crate::memory::Stopped;
@@ -21,15 +22,16 @@ pub struct Lines {
     stopped: Option<u64>,
     ghost lengths: { length durable.items ≡ length volatile.items },
     ghost marks: { length pending ≡ length volatile.items },
-    ghost recent_within: { (k : ℕ) → k < length recent → slice_index recent k < length volatile.items },
+    ghost recent_within: { AllBelow recent (length volatile.items) },
     ghost recent_few: { length recent ≤ 16 },
     ghost running: { allowed ≤ budget },
-    ghost stopping: { (ticket : ℕ) → stopped ≡ Some ticket → (budget ≤ ticket) × (allowed ≡ ticket) },
+    ghost stopping: { (ticket : ℕ) → stopped ≡ Some ticket → budget ≤ ticket },
+    ghost last_ticket: { (ticket : ℕ) → stopped ≡ Some ticket → allowed ≡ ticket },
 }
 
 impl Lines {
     ghost use Rattle.line_memory.specs.View.{opened, word_count, HasLine, volatile_at};
-    ghost use Rattle.line_memory.specs.Steps.{after_draw, IsStore, IsWriteBack, IsFence};
+    ghost use Rattle.line_memory.specs.Steps.{after_draw, stopped_at, IsStore, IsWriteBack, IsFence};
     ghost use Rattle.line_memory.specs.ClosedWords.{volatile_words, durable_words};
     ghost use Rattle.line_memory.specs.LinesView.{lines_view};
 
@@ -71,10 +73,12 @@ impl Lines {
     pub fn draw(&mut self, number: u64) -> Result<(), Stopped>
         requires { (lines_view self.old).stopped ≡ None }
         ensures ok { OnOk result ((lines_view self.old).drawn < (lines_view self.old).budget) }
-        ensures drawn { OnOk result (lines_view self.new ≡ after_draw number (lines_view self.old)) }
+        ensures drawn { let drawn = after_draw number (lines_view self.old) in
+            OnOk result (lines_view self.new ≡ drawn) }
         ensures above { OnErr result ((lines_view self.old).budget ≤ (lines_view self.old).drawn) }
         ensures ticket { IfErr result (λ e. e.step ≡ (lines_view self.old).drawn) }
-        ensures stopped { IfErr result (λ e. lines_view self.new ≡ record (after_draw number (lines_view self.old)) { stopped = Some e.step }) }
+        ensures stopped { let drawn = after_draw number (lines_view self.old) in
+            IfErr result (λ e. lines_view self.new ≡ stopped_at e.step drawn) }
     {
         write_back_early(number, &self.recent, &self.volatile, &mut self.durable);
         if self.allowed < self.budget {
@@ -118,7 +122,7 @@ impl Lines {
 
 /// Writes back the recent store that the number names, if it names one.
 fn write_back_early(number: u64, recent: &RecentStores, volatile: &[u64], durable: &mut [u64])
-    requires within { (k : ℕ) → k < length recent.now → slice_index recent.now k < length volatile.now }
+    requires within { AllBelow recent.now (length volatile.now) }
     requires lengths { length durable.old ≡ length volatile.now }
     ensures { durable.new ≡ durable_after number recent.now volatile.now durable.old }
 {

@@ -2,7 +2,7 @@
 ghost use Rattle.std.specs.Prelude.{◌≡◌, ◌≢◌, ℕ, ◌<◌, ◌⊎◌, Some, OnOk, IfOk, IfErr, ⊤};
 ghost use Rattle.line_memory.specs.View.{View, IsSound, word_count, HasLine, volatile_at, durable_at};
 ghost use Rattle.line_memory.specs.Crash.{AddsNothing, OnlyWritesBack, MayStore};
-ghost use Rattle.line_memory.specs.Steps.{any_number, TakesStep, Refuses, IsLoad, IsStore, IsWriteBack, IsFence};
+ghost use Rattle.line_memory.specs.Steps.{Takes, Refuses, IsLoad, IsStore, IsWriteBack, IsFence};
 
 /// How many words a line has.
 pub const LINE: u64 = 8;
@@ -23,25 +23,25 @@ pub trait LineMemory {
     /// What loads see of the word.
     fn load(&mut self, word: u64) -> Result<u64, Stopped>
         requires { word < word_count (view self.old) }
-        ensures ok { IfOk result (λ value. TakesStep any_number (IsLoad word value) (view self.old) (view self.new)) }
-        ensures stopped { IfErr result (λ e. Refuses any_number e.step (view self.old) (view self.new)) };
+        ensures ok { IfOk result (λ value. Takes (IsLoad word value) (view self.old) (view self.new)) }
+        ensures stopped { IfErr result (λ e. Refuses e.step (view self.old) (view self.new)) };
 
     /// Changes what loads see of the word. A crash may still leave its old value.
     fn store(&mut self, word: u64, value: u64) -> Result<(), Stopped>
         requires { word < word_count (view self.old) }
-        ensures ok { OnOk result (TakesStep any_number (IsStore word value) (view self.old) (view self.new)) }
-        ensures stopped { IfErr result (λ e. Refuses any_number e.step (view self.old) (view self.new)) };
+        ensures ok { OnOk result (Takes (IsStore word value) (view self.old) (view self.new)) }
+        ensures stopped { IfErr result (λ e. Refuses e.step (view self.old) (view self.new)) };
 
     /// Asks for the words of the line to be made durable, which the next fence awaits.
     fn write_back(&mut self, line: u64) -> Result<(), Stopped>
         requires { HasLine (view self.old) line }
-        ensures ok { OnOk result (TakesStep any_number (IsWriteBack line) (view self.old) (view self.new)) }
-        ensures stopped { IfErr result (λ e. Refuses any_number e.step (view self.old) (view self.new)) };
+        ensures ok { OnOk result (Takes (IsWriteBack line) (view self.old) (view self.new)) }
+        ensures stopped { IfErr result (λ e. Refuses e.step (view self.old) (view self.new)) };
 
     /// Waits until each word that was written back, and not stored to since, is durable.
     fn fence(&mut self) -> Result<(), Stopped>
-        ensures ok { OnOk result (TakesStep any_number IsFence (view self.old) (view self.new)) }
-        ensures stopped { IfErr result (λ e. Refuses any_number e.step (view self.old) (view self.new)) };
+        ensures ok { OnOk result (Takes IsFence (view self.old) (view self.new)) }
+        ensures stopped { IfErr result (λ e. Refuses e.step (view self.old) (view self.new)) };
 
     ghost sound: { (memory : Self) → IsSound (view memory) };
 }
@@ -65,9 +65,10 @@ pub fn persist<M: LineMemory>(memory: &mut M, word: u64, value: u64) -> Result<(
 ///
 /// No call changes a durable value to any but the one that loads saw before it.
 pub fn only_stores_add()
-    ensures load { (word value : ℕ) (v w : View) → TakesStep any_number (IsLoad word value) v w → AddsNothing v w }
-    ensures store { (word value : ℕ) (v w : View) → TakesStep any_number (IsStore word value) v w → OnlyWritesBack v w }
-    ensures write_back { (line : ℕ) (v w : View) → TakesStep any_number (IsWriteBack line) v w → AddsNothing v w }
-    ensures fence { (v w : View) → TakesStep any_number IsFence v w → AddsNothing v w }
-    ensures stopped { (ticket : ℕ) (v w : View) → Refuses any_number ticket v w → AddsNothing v w }
+    ensures load { (word value : ℕ) (v w : View) → Takes (IsLoad word value) v w → AddsNothing v w }
+    ensures store { (word value : ℕ) (v w : View) → Takes (IsStore word value) v w →
+        OnlyWritesBack v w }
+    ensures write_back { (line : ℕ) (v w : View) → Takes (IsWriteBack line) v w → AddsNothing v w }
+    ensures fence { (v w : View) → Takes IsFence v w → AddsNothing v w }
+    ensures stopped { (ticket : ℕ) (v w : View) → Refuses ticket v w → AddsNothing v w }
 {}

@@ -1,6 +1,6 @@
 //! The pending write-backs of a memory, in room that is taken once.
 ghost use Rattle.std.specs.Prelude.{◌≡◌, ◌≢◌, ℕ, ◌+◌, ◌*◌, ◌/◌, ◌<◌, ◌≤◌, false, true, length, replicate, slice_index, slice_index_or, slice_set, IfOk, vec_len};
-ghost use Rattle.line_memory.specs.Marks.{completed_at};
+ghost use Rattle.line_memory.specs.Marks.{completed_at, mark_at, IsMarked};
 
 use crate::memory;
 use std::alloc::{AllocError, Global};
@@ -27,7 +27,8 @@ impl Model for Pending {
 
     ghost view = { λ p. p.marks.items };
 
-    ghost invariant = { λ p. IsListed p.marks.items p.listed.items p.lines.items (vec_capacity p.lines) };
+    ghost invariant = { λ p.
+        IsListed p.marks.items p.listed.items p.lines.items (vec_capacity p.lines) };
 }
 
 impl Pending {
@@ -46,8 +47,8 @@ impl Pending {
     pub fn mark_line(&mut self, line: u64)
         requires { 8 * line < length self.old }
         ensures len { length self.new ≡ length self.old }
-        ensures in_line { (k : ℕ) → k < length self.old → k / 8 ≡ line → slice_index_or self.new k false ≡ true }
-        ensures others { (k : ℕ) → k / 8 ≢ line → slice_index_or self.new k false ≡ slice_index_or self.old k false }
+        ensures in_line { (k : ℕ) → k < length self.old → k / 8 ≡ line → IsMarked self.new k }
+        ensures others { (k : ℕ) → k / 8 ≢ line → mark_at self.new k ≡ mark_at self.old k }
     {
         let at = line as usize;
         mark_words(&mut self.marks, at);
@@ -70,8 +71,9 @@ impl Pending {
         requires marks { length self.old ≡ length volatile.now }
         requires lengths { length durable.old ≡ length volatile.now }
         ensures len { length self.new ≡ length self.old }
-        ensures clear { (k : ℕ) → slice_index_or self.new k false ≡ false }
-        ensures completed { (k : ℕ) → slice_index durable.new k ≡ completed_at self.old volatile.now durable.old k }
+        ensures clear { (k : ℕ) → mark_at self.new k ≡ false }
+        ensures completed { (k : ℕ) → slice_index durable.new k
+            ≡ completed_at self.old volatile.now durable.old k }
     {
         while let Some(line) = self.lines.pop() {
             let at = line as usize;
@@ -84,8 +86,8 @@ impl Pending {
 /// Marks the words of the line.
 fn mark_words(marks: &mut [bool], line: usize)
     requires { 8 * line < length marks.old }
-    ensures in_line { (k : ℕ) → k < length marks.old → k / 8 ≡ line → slice_index_or marks.new k false ≡ true }
-    ensures others { (k : ℕ) → k / 8 ≢ line → slice_index_or marks.new k false ≡ slice_index_or marks.old k false }
+    ensures in_line { (k : ℕ) → k < length marks.old → k / 8 ≡ line → IsMarked marks.new k }
+    ensures others { (k : ℕ) → k / 8 ≢ line → mark_at marks.new k ≡ mark_at marks.old k }
 {
     let first = LINE * line;
     let count = LINE.min(marks.len() - first);
@@ -99,9 +101,10 @@ fn complete_line(marks: &mut [bool], volatile: &[u64], durable: &mut [u64], line
     requires in_memory { 8 * line < length marks.old }
     requires marks { length marks.old ≡ length volatile.now }
     requires lengths { length durable.old ≡ length volatile.now }
-    ensures clear { (k : ℕ) → k / 8 ≡ line → slice_index_or marks.new k false ≡ false }
-    ensures others { (k : ℕ) → k / 8 ≢ line → slice_index_or marks.new k false ≡ slice_index_or marks.old k false }
-    ensures completed { (k : ℕ) → completed_at marks.new volatile.now durable.new k ≡ completed_at marks.old volatile.now durable.old k }
+    ensures clear { (k : ℕ) → k / 8 ≡ line → mark_at marks.new k ≡ false }
+    ensures others { (k : ℕ) → k / 8 ≢ line → mark_at marks.new k ≡ mark_at marks.old k }
+    ensures completed { (k : ℕ) → completed_at marks.new volatile.now durable.new k
+        ≡ completed_at marks.old volatile.now durable.old k }
 {
     let first = LINE * line;
     let count = LINE.min(marks.len() - first);

@@ -3,8 +3,8 @@ ghost use Rattle.std.specs.Prelude.{◌≡◌, ◌<◌, OnOk, IfOk, IfErr, IsSom
 ghost use Rattle.line_memory.specs.View.{opened, word_count, HasLine};
 ghost use Rattle.line_memory.specs.Steps.{IsLoad, IsStore, IsWriteBack, IsFence};
 ghost use Rattle.line_memory.specs.ClosedWords.{volatile_words, durable_words};
-ghost use Rattle.line_memory.specs.Plain.{view_of, Takes, IsRefused};
-ghost use Rattle.line_memory.specs.Sound.{plain_sound};
+ghost use Rattle.line_memory.specs.Plain.{view_of, PlainTakes, PlainRefuses};
+ghost use Rattle.line_memory.specs.Sound.{lines_sound};
 
 use crate::chance::Chance;
 use crate::closed::Closed;
@@ -46,8 +46,8 @@ impl<C: Chance> PlainMemory<C> {
 
     /// Draws the ticket of one step.
     fn take_ticket(&mut self) -> Result<(), Stopped>
-        ensures ok { OnOk result (Takes C.draw_gives (λ v w. w ≡ v) self.old self.new) }
-        ensures stopped { IfErr result (λ e. IsRefused C.draw_gives e.step self.old self.new) }
+        ensures ok { OnOk result (PlainTakes C.draw_gives (λ v w. w ≡ v) self.old self.new) }
+        ensures stopped { IfErr result (λ e. PlainRefuses C.draw_gives e.step self.old self.new) }
         ensures unchanged { IsSome (view_of self.old).stopped → self.new ≡ self.old }
     {
         if let Some(step) = self.lines.stopped() {
@@ -63,8 +63,8 @@ impl<C: Chance> LineMemory for PlainMemory<C> {
 
     fn load(&mut self, word: u64) -> Result<u64, Stopped>
         requires { word < word_count (view_of self.old) }
-        ensures ok { IfOk result (λ value. Takes C.draw_gives (IsLoad word value) self.old self.new) }
-        ensures stopped { IfErr result (λ e. IsRefused C.draw_gives e.step self.old self.new) }
+        ensures ok { IfOk result (λ value. PlainTakes C.draw_gives (IsLoad word value) self.old self.new) }
+        ensures stopped { IfErr result (λ e. PlainRefuses C.draw_gives e.step self.old self.new) }
         ensures unchanged { IsSome (view_of self.old).stopped → self.new ≡ self.old }
     {
         self.take_ticket()?;
@@ -73,8 +73,8 @@ impl<C: Chance> LineMemory for PlainMemory<C> {
 
     fn store(&mut self, word: u64, value: u64) -> Result<(), Stopped>
         requires { word < word_count (view_of self.old) }
-        ensures ok { OnOk result (Takes C.draw_gives (IsStore word value) self.old self.new) }
-        ensures stopped { IfErr result (λ e. IsRefused C.draw_gives e.step self.old self.new) }
+        ensures ok { OnOk result (PlainTakes C.draw_gives (IsStore word value) self.old self.new) }
+        ensures stopped { IfErr result (λ e. PlainRefuses C.draw_gives e.step self.old self.new) }
         ensures unchanged { IsSome (view_of self.old).stopped → self.new ≡ self.old }
     {
         self.take_ticket()?;
@@ -84,8 +84,8 @@ impl<C: Chance> LineMemory for PlainMemory<C> {
 
     fn write_back(&mut self, line: u64) -> Result<(), Stopped>
         requires { HasLine (view_of self.old) line }
-        ensures ok { OnOk result (Takes C.draw_gives (IsWriteBack line) self.old self.new) }
-        ensures stopped { IfErr result (λ e. IsRefused C.draw_gives e.step self.old self.new) }
+        ensures ok { OnOk result (PlainTakes C.draw_gives (IsWriteBack line) self.old self.new) }
+        ensures stopped { IfErr result (λ e. PlainRefuses C.draw_gives e.step self.old self.new) }
         ensures unchanged { IsSome (view_of self.old).stopped → self.new ≡ self.old }
     {
         self.take_ticket()?;
@@ -94,8 +94,8 @@ impl<C: Chance> LineMemory for PlainMemory<C> {
     }
 
     fn fence(&mut self) -> Result<(), Stopped>
-        ensures ok { OnOk result (Takes C.draw_gives IsFence self.old self.new) }
-        ensures stopped { IfErr result (λ e. IsRefused C.draw_gives e.step self.old self.new) }
+        ensures ok { OnOk result (PlainTakes C.draw_gives IsFence self.old self.new) }
+        ensures stopped { IfErr result (λ e. PlainRefuses C.draw_gives e.step self.old self.new) }
         ensures unchanged { IsSome (view_of self.old).stopped → self.new ≡ self.old }
     {
         self.take_ticket()?;
@@ -103,5 +103,5 @@ impl<C: Chance> LineMemory for PlainMemory<C> {
         Ok(())
     }
 
-    ghost sound = { λ m. plain_sound m.lines.volatile.items m.lines.durable.items m.lines.pending m.lines.recent m.lines.allowed m.lines.budget m.lines.stopped m.lines.lengths m.lines.marks m.lines.recent_within m.lines.recent_few m.lines.running m.lines.stopping };
+    ghost sound = { λ m. lines_sound m.lines };
 }

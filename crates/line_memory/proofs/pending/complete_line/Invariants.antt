@@ -1,4 +1,4 @@
-use Rattle.std.proofs.Common.{◌≡◌, ℕ, ◌*◌, ◌<◌, ◌≤◌, get_or, true, false}
+use Rattle.std.proofs.Common.{◌≡◌, ℕ, ◌*◌, ◌<◌, ◌≤◌, get_or, false}
 use Rattle.line_memory.specs.Marks.{completed_at}
 use Rattle.line_memory.proofs.pending.complete_line.Given as goal
 

@@ -1,6 +1,5 @@
-use Rattle.std.proofs.Common.{◌≡◌, ℕ, length, refl, ap, ◌∙◌, List, get_or}
+use Rattle.std.proofs.Common.{ℕ, refl, ap, ◌∙◌, List, get_or}
 use Rattle.std.proofs.lemmas.List.{with_items_is}
-use Rattle.line_memory.specs.LinesView.{lines_view}
 use Rattle.line_memory.specs.Marked.{marked_words-none}
 use Rattle.line_memory.proofs.StepLemmas.{completed_pending, completed_other}
 use Rattle.line_memory.proofs.lines.Lines.fence.Goals as goal

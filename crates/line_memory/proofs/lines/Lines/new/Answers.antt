@@ -1,5 +1,4 @@
 use Rattle.std.proofs.Common.{◌∙◌}
-use Rattle.line_memory.specs.LinesView.{lines_view}
 use Rattle.line_memory.proofs.StepLemmas.{opened_is}
 use Rattle.line_memory.proofs.lines.Lines.new.Goals as goal
 

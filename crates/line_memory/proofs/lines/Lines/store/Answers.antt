@@ -1,5 +1,4 @@
-use Rattle.std.proofs.Common.{◌≡◌, ◌≢◌, ℕ, ◌<◌, length, refl, arith, length-set, subst, List, get_or, ap, sym}
-use Rattle.line_memory.specs.LinesView.{lines_view}
+use Rattle.std.proofs.Common.{◌<◌, length, refl, arith, length-set}
 use Rattle.line_memory.specs.Marked.{marked_words-same}
 use Rattle.line_memory.proofs.StepLemmas.{not_pending, other_mark, recent_pushed, lengths_stay}
 use Rattle.line_memory.proofs.lines.Lines.store.Goals as goal

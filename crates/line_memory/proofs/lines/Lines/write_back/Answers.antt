@@ -1,5 +1,4 @@
-use Rattle.std.proofs.Common.{◌≡◌, ◌≢◌, ℕ, ◌<◌, length, refl, arith}
-use Rattle.line_memory.specs.LinesView.{lines_view}
+use Rattle.std.proofs.Common.{refl, arith}
 use Rattle.line_memory.specs.Marked.{marked_words-has, marked_words-same}
 use Rattle.line_memory.proofs.lines.Lines.write_back.Goals as goal
 

@@ -1,6 +1,5 @@
-use Rattle.std.proofs.Common.{◌≡◌, ◌≢◌, ℕ, ◌+◌, ◌*◌, ◌/◌, ◌<◌, ◌≤◌, false, true, length, get_or, set, arith, Bool, List, [], ◌∷◌, ◌++◌, vec_len, ap, sym, ◌∙◌}
-use Rattle.std.specs.Vec.{vec_capacity}
-use Rattle.line_memory.specs.Marks.{IsListed, completed_at}
+use Rattle.std.proofs.Common.{length, Bool, List, ap, ◌∙◌}
+use Rattle.line_memory.specs.Marks.{completed_at}
 use Rattle.line_memory.proofs.MarkLemmas.{completed_last}
 use Rattle.std.proofs.lemmas.List.{with_items_is}
 use Rattle.line_memory.proofs.pending.Pending.complete.Goals as goal

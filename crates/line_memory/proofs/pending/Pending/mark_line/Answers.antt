@@ -1,7 +1,7 @@
 -- The list of lines has room for a line that isn't on it, and lists each line with a mark.
-use Rattle.std.proofs.Common.{◌≡◌, ℕ, ◌<◌, ◌≤◌, ◌*◌, false, length, get_or, arith, sym, ◌∙◌, ap, subst, refl}
+use Rattle.std.proofs.Common.{◌<◌, ◌*◌, length, arith, ◌∙◌}
 use Rattle.std.proofs.lemmas.List.{with_items_is}
-use Rattle.line_memory.proofs.MarkLemmas.{has_room, line_within, marked_first, marked_again, read_is}
+use Rattle.line_memory.proofs.MarkLemmas.{has_room, line_within, marked_first, read_is}
 use Rattle.line_memory.proofs.pending.Pending.mark_line.Goals as goal
 
 pub push_reserved-requires : goal.push_reserved-requires
