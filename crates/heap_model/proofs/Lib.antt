@@ -11,4 +11,5 @@ pub mod LeftLemmas
 pub mod PlaceLemmas
 pub mod RecoveredLemmas
 pub mod ReadyLemmas
+pub mod EmptyLemmas
 mod ExampleLemmas
