@@ -1,5 +1,5 @@
 -- An empty heap is at rest.
-use Rattle.std.proofs.Common.{◌≡◌, ℕ, zero, suc, ◌+◌, ◌*◌, ◌≤◌, inl, inr, [], length, slice_index, slice_set, replicate, refl, sym, arith}
+use Rattle.std.proofs.Common.{◌≡◌, ℕ, zero, suc, ◌+◌, ◌*◌, ◌≤◌, inl, inr, List, [], length, slice_index, slice_set, replicate, refl, sym, arith}
 use Rattle.std.proofs.lemmas.Bool.{cases_lt, ltb-true}
 use Rattle.std.proofs.lemmas.List.{length-replicate, get_or-replicate, get_or_past}
 use Rattle.heap_model.specs.Geometry.{magic, version, clean, largest_capacity, image_words, info_word, anchor_word, link_word}
@@ -57,3 +57,8 @@ empty_ready capacity some small = record {
   ascending = λ i j d less within. absurd (omega arith);
   shaped = empty_shaped capacity;
 }
+
+-- as the words are made: zeros, and then the header
+pub ready_by_sets : (zeros : List ℕ) (capacity count : ℕ) → zeros ≡ replicate count 0 → count ≡ image_words capacity → 1 ≤ capacity → capacity ≤ largest_capacity
+    → IsReady (slice_set (slice_set (slice_set (slice_set zeros 0 magic) 1 version) 2 capacity) 3 clean) []
+ready_by_sets zeros capacity count are is some small = rw (are, empty_by_sets capacity count is) (empty_ready capacity some small)
