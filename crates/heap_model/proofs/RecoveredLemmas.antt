@@ -71,5 +71,5 @@ module _ (old new : Image) (kept : Block → Type 0) (held : List Block) (left :
         count = ap anchor_count anchor ∙ parts.2;
         empty = (λ none. absurd (omega arith), λ all. absurd (omega arith));
         full = (λ is_full. absurd (let wrong : anchor_state (new (anchor_word d)) ≡ 2 = ap anchor_state is_full in omega arith), λ none. absurd (omega arith));
-        valid = omega arith;
+        partial = λ some fewer_than_all. state;
       }
