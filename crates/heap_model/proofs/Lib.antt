@@ -3,4 +3,13 @@ pub mod BlockLemmas
 pub mod ImageLemmas
 pub mod ReachLemmas
 pub mod HeaderLemmas
+pub mod CountingLemmas
+pub mod PartLemmas
+pub mod StandingLemmas
+pub mod ChainLemmas
+pub mod LeftLemmas
+pub mod PlaceLemmas
+pub mod RecoveredLemmas
+pub mod ReadyLemmas
+pub mod EmptyLemmas
 mod ExampleLemmas
