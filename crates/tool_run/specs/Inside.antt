@@ -19,7 +19,7 @@ use Rattle.tool_run.specs.Status.{usage, out_of_memory, read_fault, write_fault,
 
 -- the command that an invocation is
 abbrev pub command_of : Invocation → Command
-command_of (Format image capacity) = format_image image.now capacity
+command_of (Format image layout) = format_image image.now layout.capacity
 command_of (Show image) = show_image image.now
 
 -- the status of a fault

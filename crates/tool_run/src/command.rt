@@ -4,12 +4,12 @@ ghost use Rattle.heap_model.specs.Geometry.{largest_capacity};
 ghost use Rattle.tool_run.specs.Command.{Asks, IsUsage, IsImageName, IsNumber, texts, image_name};
 ghost use Rattle.tool_run.specs.Inside.{command_of};
 
-use super_block::LARGEST_CAPACITY;
+use super_block::{Geometry, LARGEST_CAPACITY};
 
 /// What the words ask for.
 #[derive(Clone, Copy)]
 pub enum Invocation<'a> {
-    Format { image: &'a str, capacity: u64 },
+    Format { image: &'a str, layout: Geometry },
     Show { image: &'a str },
 }
 
@@ -19,7 +19,7 @@ impl<'a> Invocation<'a> {
         ensures { result.now ≡ image_name (command_of self.entry) }
     {
         match self {
-            Invocation::Format { image, capacity: _ } => image,
+            Invocation::Format { image, layout: _ } => image,
             Invocation::Show { image } => image,
         }
     }
@@ -44,7 +44,8 @@ fn parse_format<'a>(command: &str, image: &'a str, number: &str) -> Option<Invoc
 {
     let capacity = parse_capacity(number)?;
     if command == "format" && is_image_name(image) {
-        Some(Invocation::Format { image, capacity })
+        let layout = Geometry::new(capacity);
+        Some(Invocation::Format { image, layout })
     } else {
         None
     }

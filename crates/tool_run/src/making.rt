@@ -1,6 +1,5 @@
 //! What each command makes, all of it before anything is put or printed.
-ghost use Rattle.std.specs.Prelude.{◌≡◌, ◌≤◌, Option, List, ℕ, IfOk, IfErr};
-ghost use Rattle.heap_model.specs.Geometry.{largest_capacity};
+ghost use Rattle.std.specs.Prelude.{◌≡◌, ◌≤◌, IfOk, IfErr};
 ghost use Rattle.tool_ports.specs.Causes.{Rose};
 ghost use Rattle.tool_run.specs.Inside.{command_of, Refuses};
 ghost use Rattle.tool_run.specs.Command.{show_image};
@@ -10,6 +9,7 @@ use crate::command::Invocation;
 use crate::fault::Fault;
 use region_header::{Bytes, check_bytes, format, words_to_bytes};
 use std::alloc::{AllocError, Global};
+use super_block::{Geometry, WORD_BYTES};
 use tool_ports::ImageStore;
 use trace_text::heap_line;
 
@@ -37,20 +37,20 @@ pub fn make<I: ImageStore>(
     ensures later { I.faults images.old ≤ I.faults images.new }
 {
     match command {
-        Invocation::Format { image: _, capacity } => Ok(empty_image(alloc, capacity)?),
+        Invocation::Format { image: _, layout } => Ok(empty_image(alloc, layout)?),
         Invocation::Show { image } => report(alloc, image, images),
     }
 }
 
 // An empty image, closed.
-fn empty_image(alloc: Global, capacity: u64) -> Result<Product, AllocError>
-    requires some { 1 ≤ capacity }
-    requires small { capacity ≤ largest_capacity }
-    ensures ok { IfOk result (λ product. IsFormatted capacity product.image product.text) }
+fn empty_image(alloc: Global, layout: Geometry) -> Result<Product, AllocError>
+    ensures ok { IfOk result
+        (λ product. IsFormatted layout.capacity product.image product.text) }
 {
+    let capacity = layout.capacity();
     let words = format(alloc, capacity)?;
     let image = words_to_bytes(alloc, &words)?;
-    let length = image.as_slice().len();
+    let length = WORD_BYTES * layout.length();
     let line = format!(in alloc; "formatted {capacity} bytes {length}\n")?;
     Ok(Product {
         image: Some(image),
