@@ -12,7 +12,7 @@ not_put_at : (name : List ℕ) (image : Option (List ℕ)) (text : List ℕ) (ol
     → PutFails name image old new put_failed fault → DeliveryFails name image text old new put_failed print_failed taken taken fault
 not_put_at name image text old new put_failed print_failed taken Memory same = record { store = same; sink = refl }
 not_put_at name image text old new put_failed print_failed taken WriteFault half =
-    rw half.is_some (while_putting half.bytes half.cause half.stored half.others)
+    while_putting half.bytes half.is_some half.cause half.stored half.others refl
 not_put_at name image text old new put_failed print_failed taken Usage h = h
 not_put_at name image text old new put_failed print_failed taken ReadFault h = h
 not_put_at name image text old new put_failed print_failed taken Absent h = h
@@ -34,4 +34,4 @@ pub not_printed : (name : List ℕ) (image : Option (List ℕ)) (text bytes : Li
     → fault ≡ WriteFault → print_failed → Puts name image old new → bytes ≡ text → TakesPart bytes taken taken' → DeliveryFails name image text old new put_failed print_failed taken taken' fault
 not_printed name image text bytes old new put_failed print_failed taken taken' fault is failed put same part =
     subst (λ (f : Fault). DeliveryFails name image text old new put_failed print_failed taken taken' f) (sym is)
-        (while_printing image taken' failed put (subst (λ (l : List ℕ). TakesPart l taken taken') same part))
+        (while_printing failed put (subst (λ (l : List ℕ). TakesPart l taken taken') same part))

@@ -62,7 +62,7 @@ pub record IsUntouched (old new : Contents) (taken taken' : Option (List ℕ)) :
 -- why a result was not put and printed in full
 abbrev pub DeliveryFails : List ℕ → Option (List ℕ) → List ℕ → Contents → Contents → Type 0 → Type 0 → Option (List ℕ) → Option (List ℕ) → Fault → Type 0
 DeliveryFails name image text old new put_failed print_failed taken taken' Memory = IsUntouched old new taken taken'
-DeliveryFails name image text old new put_failed print_failed taken taken' WriteFault = IsCutOff name text old new put_failed print_failed taken image taken'
+DeliveryFails name image text old new put_failed print_failed taken taken' WriteFault = IsCutOff name image text old new put_failed print_failed taken taken'
 DeliveryFails name image text old new put_failed print_failed taken taken' Usage = ⊥
 DeliveryFails name image text old new put_failed print_failed taken taken' ReadFault = ⊥
 DeliveryFails name image text old new put_failed print_failed taken taken' Absent = ⊥
