@@ -14,7 +14,7 @@ pub rose_since : (before mid now later : ℕ) → before ≤ mid → now ≤ lat
 rose_since before mid now later low high rose = omega arith
 
 -- a result that was cut off, with wider words on the causes
-wider_cut : (name : List ℕ) (image : Option (List ℕ)) (text : List ℕ) (old new : Contents) (A B A' B' : Type 0) (taken taken' : Option (List ℕ)) → (A → A') → (B → B')
+pub wider_cut : (name : List ℕ) (image : Option (List ℕ)) (text : List ℕ) (old new : Contents) (A B A' B' : Type 0) (taken taken' : Option (List ℕ)) → (A → A') → (B → B')
     → IsCutOff name image text old new A B taken taken' → IsCutOff name image text old new A' B' taken taken'
 wider_cut name image text old new A B A' B' taken taken' to still (while_putting bytes is failed stored others same) = while_putting bytes is (to failed) stored others same
 wider_cut name image text old new A B A' B' taken taken' to still (while_printing failed put part) = while_printing (still failed) put part
