@@ -38,8 +38,15 @@ stops_at_delivery command name text image old mid new first second third print_f
     subst (λ (n : List ℕ). DeliveryFails n image text mid new (Rose second third) print_failed taken taken' fault) named why in
     let there : DeliveryFails (image_name command) image text old new (Rose second third) print_failed taken taken' fault =
     subst (λ (m : Contents). DeliveryFails (image_name command) image text m new (Rose second third) print_failed taken taken' fault) same here in
-    record { cause = inr (image, text, made, wider_failure (image_name command) text old new (Rose second third) (Rose first third) print_failed taken taken' image
-        (rose_since first second third third low (omega arith)) fault there) }
+    record {
+      cause = inr (
+        image,
+        text,
+        made,
+        wider_failure (image_name command) text old new (Rose second third) (Rose first third) print_failed taken taken' image
+            (rose_since first second third third low (omega arith)) fault there,
+      );
+    }
 
 -- what follows at an error, of its cause
 pub if_error : {T E : Type 0} (P Q : E → Type 0) (result : Result T E) → IfErr result P → ((e : E) → P e → Q e) → IfErr result Q

@@ -22,7 +22,7 @@ pub not_put : (name : List ℕ) (image : Option (List ℕ)) (text : List ℕ) (o
     → fault ≡ cause → PutFails name image old new put_failed cause → DeliveryFails name image text old new put_failed print_failed taken taken fault
 not_put name image text old new put_failed print_failed taken fault cause is why =
     subst (λ (f : Fault). DeliveryFails name image text old new put_failed print_failed taken taken f) (sym is)
-        (not_put_at name image text old new put_failed print_failed taken cause why)
+    (not_put_at name image text old new put_failed print_failed taken cause why)
 
 -- what follows from the cause of an error
 pub at_cause : {T E : Type 0} {P : E → Type 0} (Q : E → Type 0) (result : Result T E) → IsErr result × IsErrAnd result P → ((e : E) → P e → Q e) → IfErr result Q
@@ -34,4 +34,4 @@ pub not_printed : (name : List ℕ) (image : Option (List ℕ)) (text bytes : Li
     → fault ≡ WriteFault → print_failed → Puts name image old new → bytes ≡ text → TakesPart bytes taken taken' → DeliveryFails name image text old new put_failed print_failed taken taken' fault
 not_printed name image text bytes old new put_failed print_failed taken taken' fault is failed put same part =
     subst (λ (f : Fault). DeliveryFails name image text old new put_failed print_failed taken taken' f) (sym is)
-        (while_printing failed put (subst (λ (l : List ℕ). TakesPart l taken taken') same part))
+    (while_printing failed put (subst (λ (l : List ℕ). TakesPart l taken taken') same part))
