@@ -2,4 +2,5 @@ pub mod Bits
 pub mod Pairs
 pub mod Tables
 pub mod Trace
+pub mod Steps
 pub mod MarksInside
