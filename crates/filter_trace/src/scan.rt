@@ -7,7 +7,8 @@ ghost use Rattle.heap_model.specs.Blocks.{layout_of, IsBlock};
 ghost use Rattle.heap_model.specs.Reach.{Reach, words_in};
 ghost use Rattle.super_block.specs.Division.{Describes};
 ghost use Rattle.filter_trace.specs.Steps.{IsImage, IsSetOf, FollowsWord, FollowsAllRoots, HasFound, FollowsAllLinks};
-ghost use Rattle.filter_trace.specs.Trace.{LeadsTo, TellsOfWord, TellsOfRoots, TellsOutside};
+ghost use Rattle.filter_trace.specs.Reached.{TellsOutside};
+ghost use Rattle.filter_trace.specs.Trace.{LeadsTo, TellsOfWord, TellsOfRoots};
 
 use crate::fault::TraceFault;
 use crate::filter::Filter;
