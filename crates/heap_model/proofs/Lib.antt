@@ -12,4 +12,5 @@ pub mod PlaceLemmas
 pub mod RecoveredLemmas
 pub mod ReadyLemmas
 pub mod EmptyLemmas
+pub mod CutLemmas
 mod ExampleLemmas

@@ -83,9 +83,9 @@ module _ (old new : Image) (kept : Block → Type 0) (held : List Block) (left :
         (subst (λ u. total (λ list. times d (left.recovered.descriptors list)) list_numbers + full_mark (standing old new kept held left d) + total (large_part (capacity_of old) d) held ≡ below d u) (sym (used_is old new kept held left))
         (one_place old new kept held left d (standing old new kept held left d)));
     free = λ d some.
-      let listed = in_list old new kept held left d 0 (omega arith) some in
-      let words = left.recovered.free d listed in
-      (ap anchor_state words.anchor_is, λ b p part. listed.empty b (left.are_held.sound b p) (subst (λ c. HasPartIn c b d) (capacity_is old new kept held left) part));
+        let listed = in_list old new kept held left d 0 (omega arith) some in
+        let words = left.recovered.free d listed in
+        (ap anchor_state words.anchor_is, λ b p part. listed.empty b (left.are_held.sound b p) (subst (λ c. HasPartIn c b d) (capacity_is old new kept held left) part));
     in_class = λ class d is some.
         let part = in_class class d is some in
         let anchored_here = anchored old new kept held left class d is part in
