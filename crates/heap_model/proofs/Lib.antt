@@ -3,6 +3,7 @@ pub mod BlockLemmas
 pub mod ImageLemmas
 pub mod ReachLemmas
 pub mod HeaderLemmas
+pub mod MemberLemmas
 pub mod CountingLemmas
 pub mod PartLemmas
 pub mod StandingLemmas
