@@ -1,0 +1,16 @@
+//! Recovery: from any image to a heap at rest, in which exactly the blocks that the roots reach are held.
+#![tactic(auto)]
+
+mod answer;
+mod chains;
+mod fault;
+mod lists;
+mod marks;
+mod parts;
+mod passes;
+mod roles;
+mod superblocks;
+mod surveys;
+
+pub use answer::Was;
+pub use fault::RecoverFault;
