@@ -1,0 +1,5 @@
+mod BitLemmas
+mod PairLemmas
+mod StepLemmas
+mod TraceLemmas
+mod MarksLemmas

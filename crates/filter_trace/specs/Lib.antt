@@ -1,0 +1,4 @@
+pub mod Bits
+pub mod Pairs
+pub mod Trace
+pub mod MarksInside
