@@ -1,0 +1,3 @@
+pub mod SameHeader
+pub mod WordBytes
+pub mod EmptyImage

@@ -1,0 +1,18 @@
+//! The header of a heap image, the image of an empty heap, and images as words and as bytes.
+#![tactic(auto)]
+
+mod byte_list;
+mod check;
+mod conversions;
+mod empty;
+mod laws;
+
+pub use byte_list::Bytes;
+pub use check::{Header, check_bytes, read_header};
+pub use conversions::{bytes_to_words, words_to_bytes};
+pub use empty::format;
+pub use heap_model::BadHeader;
+pub use laws::conversions_are_inverse;
+
+#[cfg(test)]
+mod tests;

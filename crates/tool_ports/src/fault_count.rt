@@ -1,0 +1,26 @@
+//! The count of failures that each port keeps.
+ghost use Rattle.std.specs.Prelude.{◌≡◌, ◌^◌, ◌<◌, ⊤};
+ghost use Rattle.tool_ports.specs.Causes.{HasCause};
+
+/// How many calls of a port have failed by the outside. It stops at its last value.
+#[derive(Drop)]
+pub struct FaultCount {
+    pub count: u64,
+    pub ghost fits: { count < 2 ^ 64 },
+}
+
+impl FaultCount {
+    /// No failure yet.
+    pub fn new() -> Self
+        ensures { result.count ≡ 0 }
+    {
+        FaultCount { count: 0 }
+    }
+
+    /// Counts one failure.
+    pub fn rise(&mut self)
+        ensures { HasCause self.old.count self.new.count ⊤ }
+    {
+        self.count = self.count.saturating_add(1);
+    }
+}

@@ -1,0 +1,84 @@
+//! A store of heap images under names, as the tool sees it.
+ghost use Rattle.std.specs.Prelude.{◌≡◌, ◌^◌, ◌<◌, ℕ, List, Option, IfOk, OnOk, OnErr, IsErrOf};
+ghost use Rattle.tool_ports.specs.Causes.{HasCause};
+ghost use Rattle.tool_ports.specs.Contents.{HoldsFirst, Lacks, Holds, HoldsOldOrNew, KeepsOthers};
+ghost use Rattle.tool_ports.specs.declared.image_store.GetFault.TheVariants.{Memory as GetMemory, Failed as GetFailed};
+ghost use Rattle.tool_ports.specs.declared.image_store.PutImageFault.TheVariants.{Memory as PutMemory, Failed as PutFailed};
+
+use crate::sink::Failed;
+use std::alloc::{AllocError, AllocFailed, Global};
+
+/// Why a store gave no image.
+#[derive(Clone, Copy, Debug, PartialEq, Eq)]
+pub enum GetFault {
+    /// The store has no such name.
+    Absent,
+    /// The outside failed, and the store counted it.
+    Failed,
+    /// Memory ran out.
+    Memory,
+}
+
+/// Why a store took no image.
+#[derive(Clone, Copy, Debug, PartialEq, Eq)]
+pub enum PutImageFault {
+    /// The outside failed, and the store counted it: the name has its old or its new bytes.
+    Failed,
+    /// Memory ran out before anything was changed.
+    Memory,
+}
+
+/// Keeps heap images, each a row of bytes under a name.
+pub trait ImageStore {
+    /// What it holds under each name, by the name's UTF-8 bytes, where it tells that.
+    ghost contents: { Self → Option (List ℕ → Option (List ℕ)) };
+
+    /// How many of its calls have failed by the outside; it stops at 2^64 - 1.
+    ghost faults: { Self → ℕ };
+
+    /// The image's first `most` bytes, or all if it has fewer.
+    fn get(&mut self, alloc: Global, name: &str, most: usize) -> Result<Vec<u8>, GetFault>
+        ensures ok { IfOk result (λ v. HoldsFirst (contents self.old) name.now most v.items) }
+        ensures none { IsErrOf result GetFault.Absent → Lacks (contents self.old) name.now }
+        ensures unchanged { contents self.new ≡ contents self.old }
+        ensures cause { HasCause (faults self.old) (faults self.new)
+            (IsErrOf result GetFault.Failed) };
+
+    /// Puts these bytes under the name, in the place of what was there.
+    fn put(&mut self, alloc: Global, name: &str, bytes: &[u8]) -> Result<(), PutImageFault>
+        ensures ok { OnOk result (Holds (contents self.new) name.now bytes.now) }
+        ensures err { OnErr result (HoldsOldOrNew name.now bytes.now
+            (contents self.old) (contents self.new)) }
+        ensures unchanged { IsErrOf result PutImageFault.Memory →
+            contents self.new ≡ contents self.old }
+        ensures others { KeepsOthers name.now (contents self.old) (contents self.new) }
+        ensures cause { HasCause (faults self.old) (faults self.new)
+            (IsErrOf result PutImageFault.Failed) };
+
+    /// The last value at which the count of faults stands is 2^64 - 1.
+    ghost faults_fit: { (store : Self) → faults store < 2 ^ 64 };
+}
+
+impl From<Failed> for GetFault {
+    ghost from_gives = { λ _ e. e ≡ GetFailed };
+
+    fn from(_: Failed) -> Self {
+        GetFault::Failed
+    }
+}
+
+impl From<AllocError> for GetFault {
+    ghost from_gives = { λ _ e. e ≡ GetMemory };
+
+    fn from(_: AllocError) -> Self {
+        GetFault::Memory
+    }
+}
+
+impl From<AllocError> for PutImageFault {
+    ghost from_gives = { λ _ e. e ≡ PutMemory };
+
+    fn from(_: AllocError) -> Self {
+        PutImageFault::Memory
+    }
+}

@@ -1,0 +1,96 @@
+//! Both forms in memory, through the traits' bounds, with failing calls and partial writes.
+use crate::*;
+use std::alloc::Global;
+use std::test::Fail;
+
+fn get<I: ImageStore>(
+    store: &mut I,
+    alloc: Global,
+    name: &str,
+    most: usize,
+) -> Result<Vec<u8>, GetFault> {
+    store.get(alloc, name, most)
+}
+
+fn put<I: ImageStore>(
+    store: &mut I,
+    alloc: Global,
+    name: &str,
+    bytes: &[u8],
+) -> Result<(), PutImageFault> {
+    store.put(alloc, name, bytes)
+}
+
+#[test]
+fn a_get_gives_the_first_bytes_of_what_was_put(rt: HostRuntime) -> Result<(), Fail> {
+    let alloc = rt.alloc();
+    let mut store = MapStore::new(alloc, Vec::new(alloc), FailedPut::LeavesOld);
+    assert_eq!(rt; put(&mut store, alloc, "heap", b"abc"), Ok(()));
+    assert_eq!(rt; put(&mut store, alloc, "other", b"x"), Ok(()));
+    assert_eq!(rt; put(&mut store, alloc, "heap", b"abcd"), Ok(()));
+    for (most, want) in [(0, ""), (3, "abc"), (4, "abcd"), (9, "abcd")] {
+        let image = get(&mut store, alloc, "heap", most).ok();
+        assert!(rt;
+            image.is_some_and(|bytes| bytes.as_slice() == want.as_bytes()),
+            "at {most}"
+        );
+    }
+    assert_eq!(rt;
+        get(&mut store, alloc, "hea", 9).err(),
+        Some(GetFault::Absent)
+    );
+    Ok(())
+}
+
+#[test]
+fn a_failed_put_leaves_the_old_bytes_or_the_new(rt: HostRuntime) -> Result<(), Fail> {
+    let alloc = rt.alloc();
+    for (failed_put, want) in [(FailedPut::LeavesOld, "old"), (FailedPut::LeavesNew, "new")] {
+        let mut store = MapStore::new(alloc, vec![in alloc; 1]?, failed_put);
+        assert_eq!(rt; put(&mut store, alloc, "heap", b"old"), Ok(()));
+        assert_eq!(rt;
+            put(&mut store, alloc, "heap", b"new"),
+            Err(PutImageFault::Failed)
+        );
+        assert_eq!(rt; store.image("heap"), Some(want.as_bytes()));
+    }
+    Ok(())
+}
+
+#[test]
+fn the_chosen_gets_fail_and_no_other(rt: HostRuntime) -> Result<(), Fail> {
+    let alloc = rt.alloc();
+    let mut store = MapStore::new(alloc, vec![in alloc; 1, 3]?, FailedPut::LeavesOld);
+    assert_eq!(rt; put(&mut store, alloc, "heap", b"abc"), Ok(()));
+    for want in [Some(GetFault::Failed), None, Some(GetFault::Failed), None] {
+        assert_eq!(rt; get(&mut store, alloc, "heap", 9).err(), want);
+    }
+    Ok(())
+}
+
+#[test]
+fn all_is_written_in_pieces_up_to_the_call_that_fails(rt: HostRuntime) -> Result<(), Fail> {
+    let alloc = rt.alloc();
+    let cases = [
+        (0, Err(Failed), ""),
+        (1, Err(Failed), "ab"),
+        (2, Err(Failed), "abcd"),
+        (3, Ok(()), "abcde"),
+    ];
+    for (failing, answer, want) in cases {
+        let mut sink = VecSink::new(alloc, vec![in alloc; failing]?, 2);
+        assert_eq!(rt; write_all(&mut sink, b"abcde"), answer);
+        assert_eq!(rt; sink.bytes(), want.as_bytes());
+    }
+    Ok(())
+}
+
+#[test]
+fn nothing_is_written_without_a_call(rt: HostRuntime) -> Result<(), Fail> {
+    let alloc = rt.alloc();
+    let mut sink = VecSink::new(alloc, vec![in alloc; 0]?, 2);
+    assert_eq!(rt; write_all(&mut sink, b""), Ok(()));
+    assert_eq!(rt; write_all(&mut sink, b"a"), Err(Failed));
+    assert_eq!(rt; write_all(&mut sink, b"a"), Ok(()));
+    Ok(())
+}
