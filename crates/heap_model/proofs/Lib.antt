@@ -3,4 +3,9 @@ pub mod BlockLemmas
 pub mod ImageLemmas
 pub mod ReachLemmas
 pub mod HeaderLemmas
+pub mod CountingLemmas
+pub mod PartLemmas
+pub mod StandingLemmas
+pub mod AnchorLemmas
+pub mod LeftLemmas
 mod ExampleLemmas
