@@ -1,0 +1,5 @@
+pub mod AscendingLemmas
+pub mod WritingLemmas
+pub mod PartLemmas
+pub mod SurveyLemmas
+pub mod SuperblockLemmas

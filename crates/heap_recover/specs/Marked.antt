@@ -33,8 +33,8 @@ pub record IsSpareAmong (kept : Block → Type 0) (capacity class d count w : �
 
 -- the first `count` blocks of the class in superblock d, parted into those that are kept and the first words of the others
 pub record AreParted (kept : Block → Type 0) (capacity class d count : ℕ) (held : List Block) (spares : List ℕ) : Type 0 where
-  pub held : AreAscending (λ (b : Block). b.first_word) (IsKeptAmong kept capacity class d count) held
-  pub spares : AreAscending (λ w. w) (IsSpareAmong kept capacity class d count) spares
+  pub kept_in_order : AreAscending (λ (b : Block). b.first_word) (IsKeptAmong kept capacity class d count) held
+  pub spares_in_order : AreAscending (λ w. w) (IsSpareAmong kept capacity class d count) spares
   pub each : (index : ℕ) (b : Block) → index < count → IsBlockOfClass capacity class d index b → Contains held b ⊎ Contains spares b.first_word
 
 -- a kept block that begins in superblock d

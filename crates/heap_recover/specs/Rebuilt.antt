@@ -61,6 +61,20 @@ IsAnchorOf capacity d spares word (Partial class) = CountsSpares capacity class 
 IsAnchorOf capacity d spares word (Full class) = word ≡ full_anchor
 IsAnchorOf capacity d spares word Large = word ≡ full_anchor
 
+-- the info of a superblock of the role, after another one
+abbrev pub IsInfoAfter : ℕ → ℕ → Role → Type 0
+IsInfoAfter old new Free = new ≡ 0
+IsInfoAfter old new (Partial class) = new ≡ old
+IsInfoAfter old new (Full class) = new ≡ old
+IsInfoAfter old new Large = new ≡ old
+
+-- the descriptor of superblock d is written for the role, and no other word changes
+pub record IsWrittenAs (old new : Image) (d : ℕ) (role : Role) (anchor : ℕ) : Type 0 where
+  pub info : IsInfoAfter (old (info_word d)) (new (info_word d)) role
+  pub anchor_is : new (anchor_word d) ≡ anchor
+  pub link_is : new (link_word d) ≡ 0
+  pub others : (word : ℕ) → word ≢ info_word d → word ≢ anchor_word d → word ≢ link_word d → new word ≡ old word
+
 -- info, anchor and chain of a superblock of the role
 abbrev pub IsDescribed : Image → Image → ℕ → List ℕ → Role → Type 0
 IsDescribed old new d spares Free = HasInfoAndAnchor new d 0 0
@@ -91,7 +105,7 @@ pub record AreDone (old new : Image) (kept : Block → Type 0) (d : ℕ) (held :
   pub long : length roles ≡ d
   pub each : (e : ℕ) → e < d → IsDone old new kept e (slice_index_or roles e Large)
   pub links : (e : ℕ) → e < d → new (link_word e) ≡ 0
-  pub held : AreAscending (λ (b : Block). b.first_word) (IsKeptBelow (capacity_of old) kept d) held
+  pub in_order : AreAscending (λ (b : Block). b.first_word) (IsKeptBelow (capacity_of old) kept d) held
   pub others : (word : ℕ) → ((e : ℕ) → e < d → IsOf (capacity_of old) e word → ⊥) → new word ≡ old word
 
 -- the superblocks from `used` up to d are cleared, and no other word changes
@@ -121,5 +135,5 @@ pub record AreListed (old new : Image) (capacity : ℕ) (roles : List Role) (lis
 -- the whole rebuild: the new image, the held blocks and the roles
 pub record IsRebuild (old new : Image) (kept : Block → Type 0) (held : List Block) (roles : List Role) : Type 0 where
   pub recovered : IsRecovered old new kept
-  pub held : AreAscending (λ (b : Block). b.first_word) kept held
+  pub in_order : AreAscending (λ (b : Block). b.first_word) kept held
   pub free : (d : ℕ) → IsMember roles 0 d ↔ IsFreeSuperblock (layout_of old) kept d

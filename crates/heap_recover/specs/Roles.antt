@@ -26,7 +26,7 @@ pub data RoleOfParts (class : ℕ) (held : List Block) (spares : List ℕ) : Rol
 -- what a survey of superblock d tells: its role, the kept blocks that it begins, and how far these go on
 pub record IsSurvey (l : Layout) (kept : Block → Type 0) (d : ℕ) (survey : Survey) : Type 0 where
   pub role : IsRole l kept d survey.role survey.spares.items
-  pub held : AreAscending (λ (b : Block). b.first_word) (IsKeptIn l.capacity kept d) survey.held.items
+  pub in_order : AreAscending (λ (b : Block). b.first_word) (IsKeptIn l.capacity kept d) survey.held.items
   pub goes_on : GoOnTo l kept (d + 1) survey.end
 
 -- the list that a superblock of the role is in, if any

@@ -5,7 +5,6 @@ mod answer;
 mod chains;
 mod fault;
 mod lists;
-mod marks;
 mod parts;
 mod passes;
 mod roles;

@@ -7,7 +7,7 @@ use std::alloc::{AllocError, Global};
 
 use super_block::{Block, Geometry, block_at};
 
-use crate::marks::Marks;
+use filter_trace::Marks;
 
 /// The blocks of a superblock of a class.
 #[derive(Drop)]

@@ -12,7 +12,7 @@ use std::alloc::{AllocError, Global};
 use super_block::{Block, CAPACITY_WORD, DIRTY, Geometry, STATE_WORD, USED_WORD};
 
 use crate::lists::link_lists;
-use crate::marks::Marks;
+use filter_trace::Marks;
 use crate::roles::Role;
 use crate::superblocks::rebuild_superblock;
 use crate::surveys::survey_superblock;

@@ -2,7 +2,7 @@
 ghost use Rattle.std.specs.Prelude.{◌≡◌, ◌<◌, ◌≤◌, length, slice_index};
 ghost use Rattle.heap_model.specs.Geometry.{image_words, info_word};
 ghost use Rattle.heap_model.specs.Header.{capacity_of};
-ghost use Rattle.heap_recover.specs.Rebuilt.{HasSpares, HasInfo, IsAnchorOf, IsRebuilt};
+ghost use Rattle.heap_recover.specs.Rebuilt.{HasSpares, HasInfo, IsAnchorOf, IsWrittenAs, IsRebuilt};
 
 use anchor_word::{Anchor, State, pack};
 use size_table::size_of;
@@ -28,10 +28,19 @@ pub fn rebuild_superblock(
     ensures { IsRebuilt (slice_index words.old) (slice_index words.new) geometry.now.capacity d role spares.now }
 {
     link_chain(words, spares);
-    if role == Role::Free {
+    write_descriptor(words, geometry, d, role, anchor_word_of(geometry, d, role, spares));
+}
+
+/// Writes the descriptor of superblock `d`. Only a free superblock loses its info.
+fn write_descriptor(words: &mut [u64], geometry: &Geometry, d: u64, role: Role, anchor: u64)
+    requires long { length words.old ≡ image_words geometry.now.capacity }
+    requires superblock { d < geometry.now.capacity }
+    ensures { IsWrittenAs (slice_index words.old) (slice_index words.new) d role anchor }
+{
+    if let Role::Free = role {
         words[geometry.info(d) as usize] = 0;
     }
-    words[geometry.anchor(d) as usize] = anchor_word_of(geometry, d, role, spares);
+    words[geometry.anchor(d) as usize] = anchor;
     words[geometry.link(d) as usize] = 0;
 }
 

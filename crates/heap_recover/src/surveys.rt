@@ -9,7 +9,7 @@ use std::alloc::{AllocError, Global};
 
 use super_block::{Block, Geometry, Info, SUPERBLOCK_WORDS, USED_WORD};
 
-use crate::marks::Marks;
+use filter_trace::Marks;
 use crate::parts::{Parts, part_blocks};
 use crate::roles::Role;
 
@@ -56,7 +56,12 @@ pub fn survey_superblock(
                     words: SUPERBLOCK_WORDS * count,
                 };
                 if marks.holds(block) {
-                    return survey_large(alloc, block, d + count);
+                    return Ok(Survey {
+                        role: Role::Large,
+                        held: vec![in alloc; block]?,
+                        spares: Vec::new(alloc),
+                        end: d + count,
+                    });
                 }
             }
             Ok(Survey::without_blocks(alloc, Role::Free, end))
@@ -88,23 +93,6 @@ fn survey_parts(alloc: Global, class: u8, parts: Parts, end: u64) -> Survey
         spares,
         end,
     }
-}
-
-/// The survey of a superblock that begins a kept large block.
-fn survey_large(alloc: Global, block: Block, end: u64) -> Result<Survey, AllocError>
-    ensures role { IfOk result (λ survey. survey.role ≡ Role.Large) }
-    ensures held { IfOk result (λ survey. survey.held.items ≡ block ∷ []) }
-    ensures spares { IfOk result (λ survey. survey.spares.items ≡ []) }
-    ensures end { IfOk result (λ survey. survey.end ≡ end) }
-{
-    let mut held = Vec::new(alloc);
-    held.push(block)?;
-    Ok(Survey {
-        role: Role::Large,
-        held,
-        spares: Vec::new(alloc),
-        end,
-    })
 }
 
 impl Survey {
