@@ -3,3 +3,4 @@ pub mod WritingLemmas
 pub mod PartLemmas
 pub mod SurveyLemmas
 pub mod SuperblockLemmas
+pub mod ListLemmas

@@ -1,8 +1,7 @@
 -- The words of one superblock after its chain and its descriptor are written.
-use Rattle.std.proofs.Common.{◌≡◌, ◌≢◌, ℕ, zero, suc, ◌+◌, ◌-◌, ◌*◌, ◌/◌, ◌<◌, ◌≤◌, ◌^◌, List, [], ◌∷◌, length, set, get_or, slice_index, All, refl, ap, sym, subst, ◌∙◌, arith}
+use Rattle.std.proofs.Common.{◌≡◌, ◌≢◌, ℕ, zero, suc, ◌+◌, ◌-◌, ◌*◌, ◌/◌, ◌<◌, ◌≤◌, ◌^◌, ◌⊎◌, inl, inr, List, [], ◌∷◌, length, get_or, slice_index, All, refl, ap, sym, subst, ◌∙◌, arith}
 use Rattle.std.specs.List.{Contains, AllPairs}
 use Rattle.std.proofs.Math.Nat.{mul-div_cancel}
-use Rattle.std.proofs.lemmas.List.{length-set, get_or-set_same, get_or-set_other}
 use Rattle.std.proofs.lemmas.List.Elements.{Contains-get_or}
 use Rattle.heap_model.specs.declared.block.Block.{Block}
 use Rattle.heap_model.specs.Geometry.{info_word, anchor_word, link_word, start_word, image_words}
@@ -83,15 +82,38 @@ walks_same next next' [] from same walks = tt
 walks_same next next' (b ∷ bs) from same walks =
     (walks.0, subst (λ f. Walks next' f bs) (sym (same b (0, omega arith, refl))) (walks_same next next' bs (next b) (λ x has. same x (suc has.0, (let below = has.1 in omega arith), has.2)) walks.1))
 
--- the descriptor is written, after the info
-pub written_descriptor : (old mid : List ℕ) (d : ℕ) (role : Role) (anchor : ℕ) → length mid ≡ length old → link_word d < length old
-    → IsInfoAfter (slice_index old (info_word d)) (slice_index mid (info_word d)) role → ((word : ℕ) → word ≢ info_word d → slice_index mid word ≡ slice_index old word)
-    → IsWrittenAs (slice_index old) (slice_index (set (set mid (anchor_word d) anchor) (link_word d) 0)) d role anchor
-written_descriptor old mid d role anchor long inside info others = record {
-  info = subst (λ x. IsInfoAfter (slice_index old (info_word d)) x role) (sym (beyond (info_word d) (λ same. omega arith) (λ same. omega arith))) info;
-  anchor_is = get_or-set_other (set mid (anchor_word d) anchor) (link_word d) (anchor_word d) 0 0 (λ same. omega arith) ∙ get_or-set_same mid (anchor_word d) anchor 0 (omega arith);
-  link_is = get_or-set_same (set mid (anchor_word d) anchor) (link_word d) 0 0 (let longer = length-set mid (anchor_word d) anchor in omega arith);
-  others = λ word no_info no_anchor no_link. beyond word no_anchor no_link ∙ others word no_info;
-} where
-  beyond : (word : ℕ) → word ≢ anchor_word d → word ≢ link_word d → slice_index (set (set mid (anchor_word d) anchor) (link_word d) 0) word ≡ slice_index mid word
-  beyond word no_anchor no_link = get_or-set_other (set mid (anchor_word d) anchor) (link_word d) word 0 0 no_link ∙ get_or-set_other mid (anchor_word d) word anchor 0 no_anchor
+-- the chain and the descriptor of a superblock are written
+module _ (old chained new : Image) (capacity d : ℕ) (spares : List ℕ) (anchor : ℕ) (below : d < capacity) (is_chained : IsChained old chained spares) where
+
+  -- a word that is no first word of a chained block is as it was before the chain
+  before_chain : (role : Role) → HasSpares capacity d spares role → (word : ℕ) → (IsOf capacity d word → ⊥) ⊎ (word < start_word capacity d) → chained word ≡ old word
+  before_chain role has word away = is_chained.others word (λ linked.
+      let inside = spares_inside capacity d spares role has word (but_last_in spares word linked) in
+      elim away as (λ _. ⊥) [ inl outside ↦ outside (is_inside word inside.0 inside.1) | inr lower ↦ let low = inside.0 in omega arith ])
+
+  -- a word of the superblock's blocks is as it was before the descriptor
+  module _ (role : Role) (has : HasSpares capacity d spares role) (written : IsWrittenAs chained new d role anchor) where
+    inside_kept : (word : ℕ) → start_word capacity d ≤ word → new word ≡ chained word
+    inside_kept word low = written.others word (λ same. omega arith) (λ same. omega arith) (λ same. omega arith)
+
+    pub rebuilt : IsDescribed old new d spares role → IsRebuilt old new capacity d role spares
+    rebuilt described = record {
+      described = described;
+      link = written.link_is;
+      inside = record { each = λ word low high unlinked. inside_kept word low ∙ is_chained.others word unlinked };
+      others = λ word outside. written.others word (λ same. outside (is_info word same)) (λ same. outside (is_anchor word same)) (λ same. outside (is_link word same)) ∙ before_chain role has word (inl outside);
+    }
+
+  pub described : (role : Role) → capacity_of old ≡ capacity → HasInfo (old (info_word d)) role → HasSpares capacity d spares role → IsAnchorOf capacity d spares anchor role → IsWrittenAs chained new d role anchor
+      → IsDescribed old new d spares role
+  described Free same info has is written = record { info_is = written.info; anchor_is = written.anchor_is ∙ is }
+  described (Partial class) same info are counts written = record {
+    first = counts.first;
+    words = record { info_is = written.info ∙ before_chain (Partial class) are (info_word d) (inr (omega arith)) ∙ info; anchor_is = written.anchor_is ∙ counts.is };
+    walks = subst (λ n. Walks new (start_word n d + counts.first * words_of_class class) spares) (sym same)
+        (walks_same chained new spares (start_word capacity d + counts.first * words_of_class class)
+            (λ b has. inside_kept (Partial class) are written b (spares_inside capacity d spares (Partial class) are b has).0)
+            (is_chained.walks (start_word capacity d + counts.first * words_of_class class) (λ some. counts.begins)));
+  }
+  described (Full class) same info none is written = record { info_is = written.info ∙ before_chain (Full class) none (info_word d) (inr (omega arith)); anchor_is = written.anchor_is ∙ is }
+  described Large same info none is written = record { info_is = written.info ∙ before_chain Large none (info_word d) (inr (omega arith)); anchor_is = written.anchor_is ∙ is }
