@@ -4,3 +4,4 @@ pub mod PartLemmas
 pub mod SurveyLemmas
 pub mod SuperblockLemmas
 pub mod ListLemmas
+pub mod PassLemmas

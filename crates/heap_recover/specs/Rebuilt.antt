@@ -112,6 +112,7 @@ pub record AreDone (old new : Image) (kept : Block → Type 0) (d : ℕ) (held :
 pub record AreCleared (old new : Image) (capacity used d : ℕ) : Type 0 where
   pub each : (e : ℕ) → used ≤ e → e < d → HasInfoAndAnchor new e 0 0
   pub links : (e : ℕ) → used ≤ e → e < d → new (link_word e) ≡ 0
+  pub inside : (e : ℕ) → used ≤ e → e < d → KeepsInside old new capacity e []
   pub others : (word : ℕ) → ((e : ℕ) → used ≤ e → e < d → IsOf capacity e word → ⊥) → new word ≡ old word
 
 -- the list has these descriptors, and no other word changes

@@ -62,9 +62,10 @@ fn link_list(words: &mut [u64], geometry: &Geometry, list: u8, ds: &[u32])
 fn number_at(ds: &[u32], i: usize) -> u64
     ensures { result ≡ number_at ds.now i }
 {
-    match ds.get(i) {
-        Some(d) => *d as u64 + 1,
-        None => 0,
+    if i < ds.len() {
+        ds[i] as u64 + 1
+    } else {
+        0
     }
 }
 
