@@ -5,3 +5,4 @@ pub mod SurveyLemmas
 pub mod SuperblockLemmas
 pub mod ListLemmas
 pub mod PassLemmas
+pub mod RoleLemmas

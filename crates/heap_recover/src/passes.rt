@@ -73,6 +73,7 @@ fn rebuild_taken(
 fn clear_rest(new: &mut [u64], geometry: &Geometry, used: u64)
     requires long { length new.old ≡ image_words geometry.now.capacity }
     requires capacity { capacity_of (slice_index new.old) ≡ geometry.now.capacity }
+    requires used { used ≤ geometry.now.capacity }
     ensures { AreCleared (slice_index new.old) (slice_index new.new) geometry.now.capacity used geometry.now.capacity }
 {
     for d in used..geometry.capacity() {
