@@ -6,3 +6,4 @@ pub mod SuperblockLemmas
 pub mod ListLemmas
 pub mod PassLemmas
 pub mod RoleLemmas
+pub mod RebuildLemmas

@@ -225,3 +225,11 @@ cleared_next old mid new capacity used d from below first rebuilt = record { eac
   ] }
   others : (word : ℕ) → ((e : ℕ) → used ≤ e → e < d + 1 → IsOf capacity e word → ⊥) → new word ≡ old word
   others word outside = rebuilt.others word (outside d from (omega arith)) ∙ first.others word (λ e low less. outside e low (omega arith))
+
+-- the capacity, and the next info, are as they were
+pub done_capacity : (old new : Image) (kept : Block → Type 0) (d : ℕ) (held : List Block) (roles : List Role) → d ≤ capacity_of old → AreDone old new kept d held roles → capacity_of new ≡ capacity_of old
+done_capacity old new kept d held roles below done = done.others capacity_word (λ e less owned. kept_apart (capacity_of old) e capacity_word (omega arith) (header_kept capacity_word (inr (inr (inl refl)))) owned)
+
+pub done_info : (old new : Image) (kept : Block → Type 0) (d : ℕ) (held : List Block) (roles : List Role) → d < capacity_of old → AreDone old new kept d held roles → new (info_word d) ≡ old (info_word d)
+done_info old new kept d held roles below done =
+    done.others (info_word d) (λ e less owned. let same = one_owner (capacity_of old) e d (info_word d) (omega arith) below owned (is_info (info_word d) refl) in omega arith)

@@ -30,7 +30,7 @@ pub struct Found {
 pub fn rebuild(alloc: Global, old: &[u64], new: &mut [u64], marks: &Marks) -> Result<Found, AllocError>
     requires formed { IsWellFormed (8 * length old.now) (slice_index old.now) }
     requires copy { new.old ≡ old.now }
-    requires blocks { KeepsBlocks (layout_of (slice_index old.now)) (IsMarked marks.now) }
+    requires keeps { KeepsBlocks (layout_of (slice_index old.now)) (IsMarked marks.now) }
     ensures ok { IfOk result (λ found. IsRebuild (slice_index old.now) (slice_index new.new) (IsMarked marks.now) found.held.items found.roles.items) }
 {
     let geometry = Geometry::new(old[CAPACITY_WORD as usize]);
@@ -53,7 +53,7 @@ fn rebuild_taken(
     requires formed { IsWellFormed (8 * length old.now) (slice_index old.now) }
     requires capacity { geometry.now.capacity ≡ capacity_of (slice_index old.now) }
     requires copy { new.old ≡ old.now }
-    requires blocks { KeepsBlocks (layout_of (slice_index old.now)) (IsMarked marks.now) }
+    requires keeps { KeepsBlocks (layout_of (slice_index old.now)) (IsMarked marks.now) }
     ensures ok { IfOk result (λ found. AreDone (slice_index old.now) (slice_index new.new) (IsMarked marks.now) (used_of (slice_index old.now)) found.held.items found.roles.items) }
 {
     let mut held = Vec::new(alloc);

@@ -38,7 +38,7 @@ pub fn survey_superblock(
     requires formed { IsWellFormed (8 * length words.now) (slice_index words.now) }
     requires capacity { geometry.now.capacity ≡ capacity_of (slice_index words.now) }
     requires taken { d < used_of (slice_index words.now) }
-    requires blocks { KeepsBlocks (layout_of (slice_index words.now)) (IsMarked marks.now) }
+    requires keeps { KeepsBlocks (layout_of (slice_index words.now)) (IsMarked marks.now) }
     requires goes_on { GoOnTo (layout_of (slice_index words.now)) (IsMarked marks.now) d end }
     ensures ok { IfOk result (IsSurvey (layout_of (slice_index words.now)) (IsMarked marks.now) d) }
 {
