@@ -3,6 +3,7 @@ use Rattle.std.proofs.Common.{◌≡◌, ℕ, zero, suc, ◌+◌, ◌<◌, ◌�
 use Rattle.std.specs.Prelude.{AllPairs}
 use Rattle.std.proofs.lemmas.Bool.{cases_lt, eqb-true, eq-eqb, agree_below_at}
 use Rattle.std.proofs.lemmas.List.{get_or_default}
+use Rattle.std.proofs.lemmas.List.Kept.{AllPairs-cons}
 use Rattle.heap_model.specs.Geometry.{lists}
 use Rattle.heap_model.specs.Counting.{times, total, one_if}
 use Rattle.heap_model.specs.Rest.{list_numbers}
@@ -140,3 +141,12 @@ number_below list p = let same : p.0 ≡ list = sym (list_number p.0 list p.1) �
 
 pub numbers_ascend : AllPairs (λ a b. a < b) list_numbers
 numbers_ascend = λ i j d less within. let at_i = list_number i d (omega arith) in let at_j = list_number j d within in omega arith
+
+-- the numbers of a list in order of them ascend
+pub order_map : {X : Type 0} (f : X → ℕ) (xs : List X) → AllPairs (λ x y. f x < f y) xs → AllPairs (λ a b. a < b) (map f xs)
+order_map f [] pairs = λ i j d less within. absurd (omega arith)
+order_map f (x ∷ xs) pairs = AllPairs-cons (λ a b. a < b) (f x) (map f xs)
+    (λ k d within. let p : Contains (map f xs) (get_or (map f xs) k d) = (k, within, get_or_default (map f xs) k (get_or (map f xs) k d) d within) in
+    let found = in_map f xs (get_or (map f xs) k d) p in
+    subst (λ n. f x < n) found.2 (order_head (λ y z. f y < f z) x found.0 xs pairs found.1))
+    (order_map f xs (order_rest (λ y z. f y < f z) x xs pairs))

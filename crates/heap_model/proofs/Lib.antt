@@ -6,6 +6,10 @@ pub mod HeaderLemmas
 pub mod CountingLemmas
 pub mod PartLemmas
 pub mod StandingLemmas
-pub mod AnchorLemmas
+pub mod ChainLemmas
 pub mod LeftLemmas
+pub mod PlaceLemmas
+pub mod RecoveredLemmas
+pub mod ReadyLemmas
+pub mod EmptyLemmas
 mod ExampleLemmas

@@ -35,6 +35,10 @@ cases_spare l kept class d (suc n) decide within = elim (cases_spare l kept clas
       ]
 ]
 
+-- where the kept blocks are those of a list, a block is kept or not
+pub cases_kept : (l : Layout) (kept : Block → Type 0) (held : List Block) (b : Block) → AreAscending (λ (x : Block). x.first_word) kept held → kept b ⊎ (kept b → ⊥)
+cases_kept l kept held b are = elim (cases_held held b) [ inl is_held ↦ inl (are.sound b is_held) | inr unheld ↦ inr (λ is. unheld (are.complete b is)) ]
+
 -- each superblock stands in one of these ways
 pub cases_superblock : (l : Layout) (kept : Block → Type 0) (held : List Block) (d : ℕ) → AreAscending (λ (b : Block). b.first_word) kept held → Standing l kept d
 cases_superblock l kept held d are = elim (cases_lt d l.used) as (λ _. Standing l kept d) [
@@ -45,13 +49,10 @@ cases_superblock l kept held d are = elim (cases_lt d l.used) as (λ _. Standing
         let holds : HoldsKept l kept d = record { block = some.0; is_kept = are.sound some.0 some.1; part = some.2 } in
         elim (cases_class (l.info d)) as (λ _. Standing l kept d) [
           | inr no_class ↦ is_in_large (record { taken = taken; holds = holds; no_class = no_class })
-          | inl is ↦ elim (cases_spare l kept (l.info d) d (blocks_of (l.info d)) decide (omega arith)) as (λ _. Standing l kept d) [
+          | inl is ↦ elim (cases_spare l kept (l.info d) d (blocks_of (l.info d)) (λ b. cases_kept l kept held b are) (omega arith)) as (λ _. Standing l kept d) [
             | inl spare ↦ is_partial (l.info d) is (record { taken = taken; info_is = refl; holds = holds; spare = spare })
             | inr all ↦ is_fully_kept (l.info d) is (record { taken = taken; info_is = refl; all = λ index b of. all index b of.below of })
           ]
         ]
   ]
 ]
-  where
-    decide : (b : Block) → kept b ⊎ (kept b → ⊥)
-    decide b = elim (cases_held held b) [ inl is_held ↦ inl (are.sound b is_held) | inr unheld ↦ inr (λ is. unheld (are.complete b is)) ]

@@ -5,7 +5,7 @@ use Rattle.std.proofs.Math.ListN.{get_or-append}
 use Rattle.std.proofs.Math.Seq.{get_or-append_seam}
 use Rattle.std.proofs.lemmas.Bool.{cases_lt}
 use Rattle.heap_model.specs.declared.block.Block.{Block}
-use Rattle.heap_model.specs.Geometry.{info_word, anchor_word, link_word, start_word, state_word, capacity_word, IsReserved, in_header, in_descriptor}
+use Rattle.heap_model.specs.Geometry.{info_word, anchor_word, link_word, head_word, start_word, state_word, capacity_word, IsReserved, in_header, in_descriptor}
 use Rattle.heap_model.specs.Header.{capacity_of, used_of}
 use Rattle.heap_model.specs.Image.{Image}
 use Rattle.heap_model.specs.Sizes.{IsClass, words_of_class}
@@ -65,6 +65,33 @@ kept_where capacity _ (header_kept word is) = inl (elim is as (λ _. word < 1064
 kept_where capacity _ (is_root i word below is) = inl (omega arith)
 kept_where capacity _ (is_reserved word (in_header _ low high used_not lists_not)) = inl (omega arith)
 kept_where capacity _ (is_reserved word (in_descriptor d at _ below low high is)) = inr (d, at, below, low, high, is)
+
+-- a kept word is not the state
+pub kept_no_state : (capacity word : ℕ) → IsKeptWord capacity word → word ≡ state_word → ⊥
+kept_no_state capacity _ (header_kept word is) same = elim is as (λ _. ⊥) [
+    | inl magic ↦ omega arith
+    | inr rest ↦ elim rest as (λ _. ⊥) [ inl version ↦ omega arith | inr last ↦ elim last as (λ _. ⊥) [ inl capacity_is ↦ omega arith | inr used ↦ omega arith ] ]
+  ]
+kept_no_state capacity _ (is_root i word below is) same = omega arith
+kept_no_state capacity _ (is_reserved word (in_header _ low high used_not lists_not)) same = omega arith
+kept_no_state capacity _ (is_reserved word (in_descriptor d at _ below low high is)) same = omega arith
+
+-- nor a head
+pub kept_no_head : (capacity word : ℕ) → IsKeptWord capacity word → (j : ℕ) → j < 21 → word ≡ head_word j → ⊥
+kept_no_head capacity _ (header_kept word is) j few same = elim is as (λ _. ⊥) [
+    | inl magic ↦ omega arith
+    | inr rest ↦ elim rest as (λ _. ⊥) [ inl version ↦ omega arith | inr last ↦ elim last as (λ _. ⊥) [ inl capacity_is ↦ omega arith | inr used ↦ omega arith ] ]
+  ]
+kept_no_head capacity _ (is_root i word below is) j few same = omega arith
+kept_no_head capacity _ (is_reserved word (in_header _ low high used_not lists_not)) j few same = elim lists_not as (λ _. ⊥) [ inl before ↦ omega arith | inr behind ↦ omega arith ]
+kept_no_head capacity _ (is_reserved word (in_descriptor d at _ below low high is)) j few same = omega arith
+
+-- a word of a superblock's blocks belongs to no lower superblock
+pub no_lower : (capacity d e word : ℕ) → e < d → e < capacity → start_word capacity d ≤ word → IsOf capacity e word → ⊥
+no_lower capacity d e word less below from (is_info _ is) = omega arith
+no_lower capacity d e word less below from (is_anchor _ is) = omega arith
+no_lower capacity d e word less below from (is_link _ is) = omega arith
+no_lower capacity d e word less below from (is_inside _ from' until) = omega arith
 
 -- a kept word belongs to no superblock
 pub kept_apart : (capacity d word : ℕ) → d < capacity → IsKeptWord capacity word → IsOf capacity d word → ⊥

@@ -21,7 +21,7 @@ use Rattle.heap_recover.specs.Rebuilt.{IsOf, is_info, is_anchor, is_link, is_ins
 use Rattle.heap_recover.proofs.AscendingLemmas.{ascending_same}
 use Rattle.heap_recover.proofs.ListLemmas.{follows_same}
 use Rattle.heap_recover.proofs.SurveyLemmas.{none_of}
-use Rattle.heap_recover.proofs.PassLemmas.{SameIn, done_same, one_owner, kept_where, kept_apart}
+use Rattle.heap_recover.proofs.PassLemmas.{SameIn, done_same, one_owner, no_lower, kept_no_state, kept_no_head, kept_apart}
 use Rattle.heap_recover.proofs.RoleLemmas.{free_role, partial_role, full_role, large_role, role_listed, listed_role, listed_taken}
 
 -- in which superblock a word lies
@@ -57,7 +57,7 @@ module _ (old done cleared listed new : Image) (kept : Block → Type 0) (held :
   taken_left : (d word : ℕ) → d < used_of old → IsOf (capacity_of old) d word → cleared word ≡ done word
   taken_left d word below owned = are_cleared.others word (λ e low high other. let same = one_owner (capacity_of old) d e word (omega arith) high owned other in omega arith)
 
-  role_of : ℕ → Role
+  abbrev role_of : ℕ → Role
   role_of d = slice_index_or roles d Large
 
   taken_done : (d : ℕ) → d < used_of old → IsDone old new kept d (slice_index_or roles d Large)
@@ -78,11 +78,11 @@ module _ (old done cleared listed new : Image) (kept : Block → Type 0) (held :
       record { below = (let long = are_done.long in omega arith); in_list = listed_role (layout_of old) kept d list (slice_index_or roles d Large) here.spares few here.has_role is }
 
   -- the descriptors of each list, and the chain of each superblock
-  members_at : (list : ℕ) → (list < 21) ⊎ (21 ≤ list) → List ℕ
+  abbrev members_at : (list : ℕ) → (list < 21) ⊎ (21 ≤ list) → List ℕ
   members_at list (inl few) = (are_listed.each list few).members
   members_at list (inr past) = []
 
-  chain_at : (d : ℕ) → (d < used_of old) ⊎ (used_of old ≤ d) → List ℕ
+  abbrev chain_at : (d : ℕ) → (d < used_of old) ⊎ (used_of old ≤ d) → List ℕ
   chain_at d (inl below) = (taken_done d below).spares
   chain_at d (inr past) = []
 
@@ -159,28 +159,18 @@ module _ (old done cleared listed new : Image) (kept : Block → Type 0) (held :
         → ((class : ℕ) → IsClass class → IsPartial (layout_of old) kept class d → Contains (but_last (chain_at d which)) word → ⊥) → new word ≡ old word
     in_superblock d from until (inl below) away' = let here = taken_done d below in here.inside.each word from until (unlinked_in d word (role_of d) here.spares here.has_role away')
     in_superblock d from until (inr past) away' = inside_left word low ∙ elim (cases_lt d (capacity_of old)) as (λ _. cleared word ≡ old word) [
-      | inl below ↦ (are_cleared.inside d past below).each word from until (λ linked. none_of refl linked) ∙ untouched d (λ e taken. omega arith)
-      | inr beyond ↦ are_cleared.others word (λ e _ less owned. past_the_image e less d beyond from owned) ∙ untouched d (λ e taken. omega arith)
+      | inl below ↦ (are_cleared.inside d past below).each word from until (λ linked. none_of refl linked) ∙ untouched d past from
+      | inr beyond ↦ are_cleared.others word (λ e low less owned. no_lower (capacity_of old) d e word (omega arith) less from owned) ∙ untouched d past from
     ] where
-      untouched : (d : ℕ) → ((e : ℕ) → e < used_of old → e < d) → done word ≡ old word
-      untouched d behind = are_done.others word (λ e taken owned. elsewhere e (behind e taken) owned)
-      elsewhere : (e : ℕ) → e < d → IsOf (capacity_of old) e word → ⊥
-      elsewhere e less owned = ?
-      past_the_image : (e : ℕ) → e < capacity_of old → (d : ℕ) → capacity_of old ≤ d → start_word (capacity_of old) d ≤ word → IsOf (capacity_of old) e word → ⊥
-      past_the_image e less d beyond from owned = ?
+      untouched : (d : ℕ) → used_of old ≤ d → start_word (capacity_of old) d ≤ word → done word ≡ old word
+      untouched d past from = are_done.others word (λ e taken owned. no_lower (capacity_of old) d e word (omega arith) (omega arith) from owned)
 
   -- the words that recovery leaves alone
   kept_left : (word : ℕ) → IsKeptWord (capacity_of old) word → new word ≡ old word
-  kept_left word is = after_lists word (λ same. not_state is same) (λ j few same. not_head is j few same) (λ d j few member same. not_link is d (let below = member_below j d member in omega arith) same)
+  kept_left word is = after_lists word (kept_no_state (capacity_of old) word is) (kept_no_head (capacity_of old) word is)
+          (λ d j few member same. kept_apart (capacity_of old) d word (let below = member_below j d member in omega arith) is (is_link word same))
       ∙ are_cleared.others word (λ e low below owned. kept_apart (capacity_of old) e word below is owned)
       ∙ are_done.others word (λ e below owned. kept_apart (capacity_of old) e word (omega arith) is owned)
-    where
-    not_state : IsKeptWord (capacity_of old) word → word ≡ state_word → ⊥
-    not_state kept_word same = ?
-    not_head : IsKeptWord (capacity_of old) word → (j : ℕ) → j < 21 → word ≡ head_word j → ⊥
-    not_head kept_word j few same = ?
-    not_link : IsKeptWord (capacity_of old) word → (d : ℕ) → d < capacity_of old → word ≡ link_word d → ⊥
-    not_link kept_word d below same = kept_apart (capacity_of old) d word below kept_word (is_link word same)
 
   -- the whole image
   pub recovered : IsRecovered old new kept

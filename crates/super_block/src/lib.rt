@@ -23,4 +23,4 @@ pub use layout::{
     WORD_BYTES,
 };
 pub use naming::{block_at, name};
-pub use ready::Ready;
+pub use ready::{Ready, an_empty_heap_is_ready, what_recovery_leaves_is_ready};

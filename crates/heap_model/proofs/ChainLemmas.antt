@@ -68,11 +68,11 @@ fewer_steps start words low n left (x ∷ xs) from until pairs steps out =
 
 module _ (l : Layout) (kept : Block → Type 0) (class d : ℕ) (ws : List ℕ) (is : IsClass class) (part : IsPartial l kept class d) (chain : AreAscending (λ w. w) (IsSpare l kept class d) ws) where
   -- the chain has some block
-  some_spare : 1 ≤ length ws
+  pub some_spare : 1 ≤ length ws
   some_spare = let p = chain.complete part.spare.0 part.spare.1 in omega (arith, p.1)
 
   -- but not all, since one is kept
-  not_all_spare : ((b : Block) → kept b → IsBlock l b) → length ws < blocks_of class
+  pub not_all_spare : ((b : Block) → kept b → IsBlock l b) → length ws < blocks_of class
   not_all_spare named = elim (cases_of_part l part.holds.block d (named part.holds.block part.holds.is_kept) part.holds.part) as (λ _. length ws < blocks_of class) [
     | inr all ↦ absurd (all.no_class (subst IsClass (sym part.info_is) is))
     | inl one ↦
@@ -87,7 +87,7 @@ module _ (l : Layout) (kept : Block → Type 0) (class d : ℕ) (ws : List ℕ) 
   ]
 
   -- a walk along the chain begins at the index of a block
-  first_short : (next : ℕ → ℕ) (first : ℕ) → Walks next (start_word l.capacity d + first * words_of_class class) ws → first < 2147483648
+  pub first_short : (next : ℕ → ℕ) (first : ℕ) → Walks next (start_word l.capacity d + first * words_of_class class) ws → first < 2147483648
   first_short next first walks = by_list ws walks (λ w p. chain.sound w p) some_spare where
     by_list : (xs : List ℕ) → Walks next (start_word l.capacity d + first * words_of_class class) xs → ((w : ℕ) → Contains xs w → IsSpare l kept class d w) → 1 ≤ length xs → first < 2147483648
     by_list [] walks spares some = absurd (omega arith)

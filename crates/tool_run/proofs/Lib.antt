@@ -1,0 +1,5 @@
+pub mod PrintLemmas
+pub mod DeliveryLemmas
+pub mod ImageLemmas
+pub mod CallLemmas
+pub mod StatusLemmas
