@@ -7,3 +7,4 @@ pub mod ListLemmas
 pub mod PassLemmas
 pub mod RoleLemmas
 pub mod RebuildLemmas
+pub mod KeptLemmas

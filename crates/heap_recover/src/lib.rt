@@ -7,9 +7,11 @@ mod fault;
 mod lists;
 mod parts;
 mod passes;
+mod recovery;
 mod roles;
 mod superblocks;
 mod surveys;
 
-pub use answer::Was;
+pub use answer::{Recovered, Was};
 pub use fault::RecoverFault;
+pub use recovery::recover;

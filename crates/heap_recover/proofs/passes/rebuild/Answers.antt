@@ -26,5 +26,5 @@ returns c =
         (subst (λ rs. AreListed cleared (slice_index words) c.new-geometry.result.capacity rs 21) c.deref.ensures.value c.in_ok-link_lists.ensures.ok) in
     record { ok = rebuild old done cleared (slice_index words) (slice_index (set words 3 2)) (IsMarked c.args.marks.now) found.held.items found.roles.items
         c.requires.keeps c.requires.formed.used c.in_ok-found.ensures.ok are_cleared are_listed
-        (get_or-set_same words 3 2 0 (let long = c.requires.formed.length_is in omega arith))
+        (get_or-set_same words 3 2 0 (let copied = ap length c.requires.copy in let long = c.requires.formed.length_is in omega arith))
         (λ word other. get_or-set_other words 3 word 2 0 other) }
