@@ -1,5 +1,6 @@
 -- What recovery makes of an image depends only on which blocks are kept.
-use Rattle.std.proofs.Common.{◌≡◌, ℕ, zero, suc, ◌+◌, ◌<◌, List, subst, sym}
+use Rattle.std.proofs.Common.{◌≡◌, ℕ, zero, suc, ◌+◌, ◌<◌, List, ◌++◌, length, take, drop, ap, subst, sym, ◌∙◌}
+use Rattle.std.proofs.Math.Seq.{take-append_seam}
 use Rattle.std.specs.List.{Contains}
 use Rattle.heap_model.specs.declared.block.Block.{Block}
 use Rattle.heap_model.specs.Image.{Image}
@@ -7,6 +8,10 @@ use Rattle.heap_model.specs.Header.{capacity_of}
 use Rattle.heap_model.specs.Blocks.{Layout, layout_of}
 use Rattle.heap_model.specs.Recovered.{IsFreeSuperblock, AreAscending}
 use Rattle.heap_model.specs.Recovery.{HoldsKept, IsSpare, IsPartial, IsFullyKept, IsInLarge, IsListed, IsRecovered}
+use Rattle.heap_model.specs.Reach.{Links, IsReached}
+use Rattle.heap_model.proofs.ReachLemmas.{reached_block}
+use Rattle.filter_trace.specs.Trace.{AreReached}
+use Rattle.heap_recover.specs.Marked.{IsMarked, KeepsBlocks}
 use Rattle.heap_recover.proofs.AscendingLemmas.{ascending_same}
 
 module _ (l : Layout) (kept other : Block → Type 0) (to : (b : Block) → kept b → other b) (from : (b : Block) → other b → kept b) (d : ℕ) where
@@ -54,3 +59,18 @@ module _ (old new : Image) (kept other : Block → Type 0) (to : (b : Block) →
     untaken = is.untaken;
     inside = λ word low away. is.inside word low (λ class d is_class partial. away class d is_class (partial_with (layout_of old) kept other to from d class partial));
   }
+
+-- what a slice of a whole vector is written back as
+pub written_back : (xs items : List ℕ) (n : ℕ) → n ≡ length xs → take n (xs ++ drop (length xs) items) ≡ xs
+written_back xs items n all = ap (λ k. take k (xs ++ drop (length xs) items)) all ∙ take-append_seam xs (drop (length xs) items)
+
+-- what a trace has marked is what is reached
+pub marked_reached : (image : Image) (kinds : ℕ → ℕ) (links : Links) (pairs : List (Block × ℕ)) → AreReached image kinds links pairs → (b : Block) → IsMarked pairs b → IsReached image kinds links b
+marked_reached image kinds links pairs are b marked = record { kind = marked.kind; reach = (are.each b marked.kind).0 marked.pair }
+
+pub reached_marked : (image : Image) (kinds : ℕ → ℕ) (links : Links) (pairs : List (Block × ℕ)) → AreReached image kinds links pairs → (b : Block) → IsReached image kinds links b → IsMarked pairs b
+reached_marked image kinds links pairs are b reached = record { kind = reached.kind; pair = (are.each b reached.kind).1 reached.reach }
+
+-- and so are blocks of the image
+pub marked_blocks : (image : Image) (kinds : ℕ → ℕ) (links : Links) (pairs : List (Block × ℕ)) → AreReached image kinds links pairs → KeepsBlocks (layout_of image) (IsMarked pairs)
+marked_blocks image kinds links pairs are = record { each = λ b marked. reached_block image kinds links b marked.kind ((are.each b marked.kind).0 marked.pair) }

@@ -196,6 +196,7 @@ module _ (old done cleared listed new : Image) (kept : Block → Type 0) (held :
   pub rebuild : IsRebuild old new kept held roles
   rebuild = record {
     recovered = recovered;
+    long = are_done.long;
     in_order = ascending_same (λ (b : Block). b.first_word) (IsKeptBelow (capacity_of old) kept (used_of old)) kept held (λ b is. is.is_kept)
         (λ b is_kept. record { is_kept = is_kept; below = (let inside = block_inside (layout_of old) b (blocks.each b is_kept) in let some = block_words (layout_of old) b (blocks.each b is_kept) in omega (arith, inside.1)) })
         are_done.in_order;

@@ -136,5 +136,6 @@ pub record AreListed (old new : Image) (capacity : ℕ) (roles : List Role) (lis
 -- the whole rebuild: the new image, the held blocks and the roles
 pub record IsRebuild (old new : Image) (kept : Block → Type 0) (held : List Block) (roles : List Role) : Type 0 where
   pub recovered : IsRecovered old new kept
+  pub long : length roles ≡ used_of old
   pub in_order : AreAscending (λ (b : Block). b.first_word) kept held
   pub free : (d : ℕ) → IsMember roles 0 d ↔ IsFreeSuperblock (layout_of old) kept d

@@ -1,5 +1,5 @@
 //! The call that recovers an image.
-ghost use Rattle.std.specs.Prelude.{◌≡◌, ◌↔◌, ◌<◌, ◌*◌, ℕ, All, Some, Err, length, slice_index, IfOk, OnOk, IfErr};
+ghost use Rattle.std.specs.Prelude.{◌≡◌, ◌↔◌, ◌<◌, ◌*◌, ℕ, All, Some, Err, length, slice_index, IfOk, OnOk, IfErr, IsTrue};
 ghost use Rattle.heap_model.specs.declared.block.Block.{Block};
 ghost use Rattle.heap_model.specs.declared.header.BadHeader.{BadHeader};
 ghost use Rattle.heap_model.specs.Geometry.{roots, clean};
@@ -71,10 +71,16 @@ fn keep_marked(
     let mut new = Vec::from_slice(alloc, words)?;
     let found = rebuild(alloc, words, &mut new, marks)?;
     let free = members(alloc, &found.roles, 0)?;
-    let was = if clean { Was::Clean } else { Was::Dirty };
     Ok(Recovered {
         heap: Ready::new(new, found.held),
-        was,
+        was: was(clean),
         free,
     })
+}
+
+/// How an image was left whose header says that it is clean, or not.
+fn was(clean: bool) -> Was
+    ensures { (result ≡ Was.Clean) ↔ IsTrue clean }
+{
+    if clean { Was::Clean } else { Was::Dirty }
 }
