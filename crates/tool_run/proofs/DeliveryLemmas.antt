@@ -1,11 +1,11 @@
 -- Why a result was not delivered, from why it was not put or not printed.
-use Rattle.std.proofs.Common.{◌≡◌, ℕ, List, Option, Some, None, Result, Ok, Err, IfErr, IsErr, IsErrAnd, refl, sym, subst}
-use Rattle.tool_ports.specs.Contents.{Contents, HoldsOldOrNew, KeepsOthers}
-use Rattle.tool_ports.specs.Taken.{taken_with, TakesPart}
+use Rattle.std.proofs.Common.{◌≡◌, ℕ, List, Option, Result, Ok, Err, IfErr, IsErr, IsErrAnd, refl, sym, subst}
+use Rattle.tool_ports.specs.Contents.{Contents}
+use Rattle.tool_ports.specs.Taken.{TakesPart}
 use Rattle.tool_run.specs.declared.fault.Fault.{Fault}
 use Rattle.tool_run.specs.declared.fault.Fault.TheVariants.{Usage, Memory, ReadFault, WriteFault, Absent, Malformed}
-use Rattle.tool_run.specs.Inside.{PutFails, IsHalfPut, DeliveryFails}
-use Rattle.tool_run.specs.Outcome.{Puts, IsCutOff, while_putting, while_printing}
+use Rattle.tool_run.specs.Inside.{PutFails, DeliveryFails}
+use Rattle.tool_run.specs.Outcome.{Puts, while_putting, while_printing}
 
 -- what was not put is not delivered
 not_put_at : (name : List ℕ) (image : Option (List ℕ)) (text : List ℕ) (old new : Contents) (put_failed print_failed : Type 0) (taken : Option (List ℕ)) (fault : Fault)

@@ -1,6 +1,6 @@
 -- What the first bytes of an image tell of it, where they are more than the longest image has.
-use Rattle.std.proofs.Common.{◌≡◌, ◌↔◌, ℕ, ◌+◌, ◌-◌, ◌*◌, ◌<◌, ◌≤◌, Bool, true, false, not, ◌||◌, nat_eq, nat_lt, List, length, take, drop, Option, Some, None, IsTrue, IsSomeAnd, refl, sym, ap, ◌∙◌, subst, inl, inr, arith}
-use Rattle.std.proofs.lemmas.Bool.{cases_lt, le-ltb, ltb-false, ne_eqb, eq-eqb, not_from_true, or_parts}
+use Rattle.std.proofs.Common.{◌≡◌, ◌↔◌, ℕ, ◌+◌, ◌-◌, ◌*◌, ◌≤◌, Bool, true, false, ◌||◌, nat_eq, nat_lt, List, length, take, drop, Option, Some, None, IsTrue, IsSomeAnd, refl, sym, ap, ◌∙◌, subst, inl, inr, arith}
+use Rattle.std.proofs.lemmas.Bool.{cases_lt, le-ltb, ltb-false, ne_eqb, eq-eqb, or_parts}
 use Rattle.std.proofs.lemmas.List.{drop-take, take_all, length-take-le}
 use Rattle.byteorder.specs.Endian.{little_number}
 use Rattle.byteorder.specs.Numbers.{little_from-take}
@@ -17,7 +17,7 @@ use Rattle.tool_run.specs.declared.fault.Fault.{Fault}
 use Rattle.tool_run.specs.declared.fault.Fault.TheVariants.{Malformed}
 use Rattle.tool_run.specs.Command.{show_image}
 use Rattle.tool_run.specs.Inside.{Refuses}
-use Rattle.tool_run.specs.Making.{fault_of, heap_line, Shows, IsMalformed}
+use Rattle.tool_run.specs.Making.{fault_of, Shows, IsMalformed}
 
 -- one more byte than the longest image has
 abbrev most : ℕ
