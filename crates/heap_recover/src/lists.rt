@@ -5,11 +5,9 @@ ghost use Rattle.heap_model.specs.Recovered.{AreAscending};
 ghost use Rattle.heap_recover.specs.Roles.{list_of, number_at, IsMember};
 ghost use Rattle.heap_recover.specs.Rebuilt.{IsLinked, AreListed};
 
-use std::alloc::{AllocError, Global};
-
-use super_block::{Geometry, HEAD_WORD, LARGEST_CAPACITY, LISTS};
-
 use crate::roles::Role;
+use std::alloc::{AllocError, Global};
+use super_block::{Geometry, HEAD_WORD, LARGEST_CAPACITY, LISTS};
 
 /// Links all lists, of superblocks with these roles.
 pub fn link_lists(
@@ -62,11 +60,7 @@ fn link_list(words: &mut [u64], geometry: &Geometry, list: u8, ds: &[u32])
 fn number_at(ds: &[u32], i: usize) -> u64
     ensures { result ≡ number_at ds.now i }
 {
-    if i < ds.len() {
-        ds[i] as u64 + 1
-    } else {
-        0
-    }
+    if i < ds.len() { ds[i] as u64 + 1 } else { 0 }
 }
 
 /// The list that a superblock of the role is in, if any.

@@ -3,11 +3,9 @@ ghost use Rattle.std.specs.Prelude.{◌<◌, IfOk};
 ghost use Rattle.heap_model.specs.Sizes.{IsClass, blocks_of};
 ghost use Rattle.heap_recover.specs.Marked.{IsMarked, AreParted};
 
-use std::alloc::{AllocError, Global};
-
-use super_block::{Block, Geometry, block_at};
-
 use filter_trace::Marks;
+use std::alloc::{AllocError, Global};
+use super_block::{Block, Geometry, block_at};
 
 /// The blocks of a superblock of a class.
 #[derive(Drop)]

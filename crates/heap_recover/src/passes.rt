@@ -7,15 +7,13 @@ ghost use Rattle.heap_model.specs.Recovery.{IsRecovered};
 ghost use Rattle.heap_recover.specs.Marked.{IsMarked, KeepsBlocks};
 ghost use Rattle.heap_recover.specs.Rebuilt.{AreDone, AreCleared, IsRebuild};
 
-use std::alloc::{AllocError, Global};
-
-use super_block::{Block, CAPACITY_WORD, DIRTY, Geometry, STATE_WORD, USED_WORD};
-
 use crate::lists::link_lists;
-use filter_trace::Marks;
 use crate::roles::Role;
 use crate::superblocks::rebuild_superblock;
 use crate::surveys::survey_superblock;
+use filter_trace::Marks;
+use std::alloc::{AllocError, Global};
+use super_block::{Block, CAPACITY_WORD, DIRTY, Geometry, STATE_WORD, USED_WORD};
 
 /// What recovery finds in the superblocks of an image.
 #[derive(Drop)]
@@ -27,7 +25,12 @@ pub struct Found {
 }
 
 /// Makes the copy `new` of the image `old` a heap at rest that keeps the marked blocks.
-pub fn rebuild(alloc: Global, old: &[u64], new: &mut [u64], marks: &Marks) -> Result<Found, AllocError>
+pub fn rebuild(
+    alloc: Global,
+    old: &[u64],
+    new: &mut [u64],
+    marks: &Marks,
+) -> Result<Found, AllocError>
     requires formed { IsWellFormed (8 * length old.now) (slice_index old.now) }
     requires copy { new.old ≡ old.now }
     requires keeps { KeepsBlocks (layout_of (slice_index old.now)) (IsMarked marks.now) }

@@ -12,15 +12,14 @@ ghost use Rattle.heap_recover.specs.Marked.{IsMarked, KeepsBlocks};
 ghost use Rattle.heap_recover.specs.Fault.{TellsFault};
 ghost use Rattle.heap_recover.specs.Answer.{IsMadeOf};
 
-use filter_trace::{Filter, Marks, trace};
-use region_header::read_header;
-use std::alloc::{AllocError, Global};
-use super_block::Ready;
-
 use crate::answer::{Recovered, Was};
 use crate::fault::RecoverFault;
 use crate::lists::members;
 use crate::passes::rebuild;
+use filter_trace::{Filter, Marks, trace};
+use region_header::read_header;
+use std::alloc::{AllocError, Global};
+use super_block::Ready;
 
 /// Recovers an image: makes of any words a heap at rest in which exactly the blocks are held that
 /// the roots reach through the links of the filter, `kinds` being the kind of what each root leads

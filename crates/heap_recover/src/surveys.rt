@@ -5,13 +5,11 @@ ghost use Rattle.heap_model.specs.Blocks.{layout_of};
 ghost use Rattle.heap_recover.specs.Marked.{IsMarked, KeepsBlocks, GoOnTo};
 ghost use Rattle.heap_recover.specs.Roles.{IsSurvey, RoleOfParts};
 
-use std::alloc::{AllocError, Global};
-
-use super_block::{Block, Geometry, Info, SUPERBLOCK_WORDS, USED_WORD};
-
-use filter_trace::Marks;
 use crate::parts::{Parts, part_blocks};
 use crate::roles::Role;
+use filter_trace::Marks;
+use std::alloc::{AllocError, Global};
+use super_block::{Block, Geometry, Info, SUPERBLOCK_WORDS, USED_WORD};
 
 /// What recovery finds in a superblock.
 #[derive(Drop)]

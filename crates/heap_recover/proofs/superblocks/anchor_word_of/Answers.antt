@@ -26,7 +26,7 @@ pack-requires-in-Partial c =
     let first = first_spare c.args.geometry.now.capacity c.in-Partial.class c.args.d c.args.spares.now (omega arith) (omega arith) are in
     let words : c.size_of.result / 8 ≡ words_of_class c.in-Partial.class = ap (λ x. x / 8) c.size_of.ensures ∙ words_from_size c.in-Partial.class are.is_class in
     let quotient : (slice_index c.args.spares.now 0 - c.start.result) / (c.size_of.result / 8) ≡ first.0 =
-        ap (λ x. (slice_index c.args.spares.now 0 - x) / (c.size_of.result / 8)) c.start.ensures ∙ ap (λ w. (slice_index c.args.spares.now 0 - start_word c.args.geometry.now.capacity c.args.d) / w) words ∙ first.1.quotient in
+    ap (λ x. (slice_index c.args.spares.now 0 - x) / (c.size_of.result / 8)) c.start.ensures ∙ ap (λ w. (slice_index c.args.spares.now 0 - start_word c.args.geometry.now.capacity c.args.d) / w) words ∙ first.1.quotient in
     record { first = subst (λ x. x < 2 ^ 31) (sym quotient) (omega (arith, first.1.below, few_blocks c.in-Partial.class are.is_class)); count = first.1.few }
 
 pub returns-in-Partial : goal.returns-in-Partial
@@ -35,7 +35,7 @@ returns-in-Partial c =
     let first = first_spare c.args.geometry.now.capacity c.in-Partial.class c.args.d c.args.spares.now (omega arith) (omega arith) are in
     let words : c.size_of.result / 8 ≡ words_of_class c.in-Partial.class = ap (λ x. x / 8) c.size_of.ensures ∙ words_from_size c.in-Partial.class are.is_class in
     let quotient : (slice_index c.args.spares.now 0 - c.start.result) / (c.size_of.result / 8) ≡ first.0 =
-        ap (λ x. (slice_index c.args.spares.now 0 - x) / (c.size_of.result / 8)) c.start.ensures ∙ ap (λ w. (slice_index c.args.spares.now 0 - start_word c.args.geometry.now.capacity c.args.d) / w) words ∙ first.1.quotient in
+    ap (λ x. (slice_index c.args.spares.now 0 - x) / (c.size_of.result / 8)) c.start.ensures ∙ ap (λ w. (slice_index c.args.spares.now 0 - start_word c.args.geometry.now.capacity c.args.d) / w) words ∙ first.1.quotient in
     subst (λ (r : Role). IsAnchorOf c.args.geometry.now.capacity c.args.d c.args.spares.now c.pack-in-Partial.result r) (sym c.in-Partial.is)
     (record {
       first = (slice_index c.args.spares.now 0 - c.start.result) / (c.size_of.result / 8);
