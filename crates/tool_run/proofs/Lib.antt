@@ -1,0 +1,4 @@
+pub mod PrintLemmas
+pub mod DeliveryLemmas
+pub mod ImageLemmas
+pub mod CallLemmas

@@ -1,0 +1,56 @@
+-- The words of the command line, and the command that they ask for.
+use Rattle.std.specs.Prelude.{◌≡◌, ◌≢◌, ℕ, ◌<◌, ◌≤◌, List, [], ◌∷◌, length, slice_index, map, codes, String, string_bytes}
+use Rattle.std.specs.declared.alloc.Global.{Global}
+use Rattle.std.specs.Str.Parse.{IsNumeral, digits_value}
+use Rattle.heap_model.specs.Geometry.{largest_capacity}
+
+-- what the tool can be asked for, each with the name of an image
+pub data Command : Type 0 where
+  format_image : (image : List ℕ) → (capacity : ℕ) → Command
+  show_image : (image : List ℕ) → Command
+
+-- the image that a command is about
+abbrev pub image_name : Command → List ℕ
+image_name (format_image image capacity) = image
+image_name (show_image image) = image
+
+-- the bytes of each word
+abbrev pub texts : List (String Global) → List (List ℕ)
+texts words = map (λ word. string_bytes word) words
+
+-- a hyphen, with which an option begins
+abbrev pub hyphen : ℕ
+hyphen = 45
+
+-- a word that names an image: it isn't empty, and isn't an option
+pub record IsImageName (word : List ℕ) : Type 0 where
+  pub some : 0 < length word
+  pub no_option : slice_index word 0 ≢ hyphen
+
+-- one decimal digit or more, which write the number
+pub record IsNumber (word : List ℕ) (number : ℕ) : Type 0 where
+  pub digits : IsNumeral 10 word
+  pub value : digits_value 10 word ≡ number
+
+-- the words 'format IMAGE S'
+pub record AsksToFormat (words : List (List ℕ)) (image : List ℕ) (capacity : ℕ) : Type 0 where
+  pub number : List ℕ
+  pub words_are : words ≡ codes "format" ∷ image ∷ number ∷ []
+  pub named : IsImageName image
+  pub counted : IsNumber number capacity
+  pub least : 1 ≤ capacity
+  pub most : capacity ≤ largest_capacity
+
+-- the words 'show IMAGE'
+pub record AsksToShow (words : List (List ℕ)) (image : List ℕ) : Type 0 where
+  pub words_are : words ≡ codes "show" ∷ image ∷ []
+  pub named : IsImageName image
+
+-- the words ask for this command
+abbrev pub Asks : List (List ℕ) → Command → Type 0
+Asks words (format_image image capacity) = AsksToFormat words image capacity
+Asks words (show_image image) = AsksToShow words image
+
+-- the words ask for no command
+abbrev pub IsUsage : List (List ℕ) → Type 0
+IsUsage words = (command : Command) → ¬ (Asks words command)

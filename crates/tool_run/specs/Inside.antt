@@ -1,0 +1,109 @@
+-- What the functions of this crate say of each other's answers.
+use Rattle.std.specs.Prelude.{◌≡◌, ◌⊎◌, ℕ, List, Option, Some}
+use Rattle.heap_model.specs.declared.header.BadHeader.{BadHeader}
+use Rattle.tool_ports.specs.Contents.{Contents, Lacks, HoldsOldOrNew, KeepsOthers}
+use Rattle.tool_ports.specs.declared.image_store.GetFault.{GetFault}
+use Rattle.tool_ports.specs.declared.image_store.GetFault.TheVariants.{Absent as NoSuchImage, Failed as GetFailed, Memory as GetMemory}
+use Rattle.tool_ports.specs.declared.image_store.PutImageFault.{PutImageFault}
+use Rattle.tool_ports.specs.declared.image_store.PutImageFault.TheVariants.{Failed as PutFailed, Memory as PutMemory}
+use Rattle.tool_ports.specs.Taken.{taken_with}
+use Rattle.tool_run.specs.declared.command.Invocation.{Invocation}
+use Rattle.tool_run.specs.declared.command.Invocation.TheVariants.{Format, Show}
+use Rattle.tool_run.specs.declared.fault.Fault.{Fault}
+use Rattle.tool_run.specs.declared.fault.Fault.TheVariants.{Usage, Memory, ReadFault, WriteFault, Absent, Malformed}
+use Rattle.tool_run.specs.Command.{Command, format_image, show_image, image_name}
+use Rattle.tool_run.specs.Lines.{usage_line, memory_line, read_line, write_line, no_image_line, bad_header_line}
+use Rattle.tool_run.specs.Making.{Makes, Gets, IsMalformed}
+use Rattle.tool_run.specs.Outcome.{Puts, IsCutOff}
+use Rattle.tool_run.specs.Status.{usage, out_of_memory, read_fault, write_fault, no_image, bad_header}
+
+-- the command that an invocation is
+abbrev pub command_of : Invocation → Command
+command_of (Format image layout) = format_image image.now layout.capacity
+command_of (Show image) = show_image image.now
+
+-- the status of a fault
+abbrev pub status_of : Fault → ℕ
+status_of Usage = usage
+status_of Memory = out_of_memory
+status_of ReadFault = read_fault
+status_of WriteFault = write_fault
+status_of Absent = no_image
+status_of (Malformed cause) = bad_header
+
+-- the line of a fault, where the command is about the image of this name
+abbrev pub line_of : Fault → List ℕ → List ℕ
+line_of Usage name = usage_line
+line_of Memory name = memory_line
+line_of ReadFault name = read_line
+line_of WriteFault name = write_line
+line_of Absent name = no_image_line name
+line_of (Malformed cause) name = bad_header_line cause
+
+-- why nothing was made for a command; `get_failed` is that the store's count of failures rose
+abbrev pub Refuses : Command → Contents → Type 0 → Fault → Type 0
+Refuses command contents get_failed Usage = ⊥
+Refuses command contents get_failed Memory = Unit {0}
+Refuses command contents get_failed ReadFault = Gets command × get_failed
+Refuses command contents get_failed WriteFault = ⊥
+Refuses command contents get_failed Absent = Gets command × Lacks contents (image_name command)
+Refuses command contents get_failed (Malformed cause) = Gets command × IsMalformed contents (image_name command) cause
+
+-- the result was put and printed in full
+pub record IsDelivered (name : List ℕ) (image : Option (List ℕ)) (text : List ℕ) (old new : Contents) (taken taken' : Option (List ℕ)) : Type 0 where
+  pub stored : Puts name image old new
+  pub printed : taken' ≡ taken_with taken text
+
+-- nothing was put and nothing printed
+pub record IsUntouched (old new : Contents) (taken taken' : Option (List ℕ)) : Type 0 where
+  pub store : new ≡ old
+  pub sink : taken' ≡ taken
+
+-- why a result was not put and printed in full
+abbrev pub DeliveryFails : List ℕ → Option (List ℕ) → List ℕ → Contents → Contents → Type 0 → Type 0 → Option (List ℕ) → Option (List ℕ) → Fault → Type 0
+DeliveryFails name image text old new put_failed print_failed taken taken' Memory = IsUntouched old new taken taken'
+DeliveryFails name image text old new put_failed print_failed taken taken' WriteFault = IsCutOff name text old new put_failed print_failed taken image taken'
+DeliveryFails name image text old new put_failed print_failed taken taken' Usage = ⊥
+DeliveryFails name image text old new put_failed print_failed taken taken' ReadFault = ⊥
+DeliveryFails name image text old new put_failed print_failed taken taken' Absent = ⊥
+DeliveryFails name image text old new put_failed print_failed taken taken' (Malformed cause) = ⊥
+
+-- a command's result was made, put and printed in full
+pub record IsCarriedOut (command : Command) (old new : Contents) (taken taken' : Option (List ℕ)) : Type 0 where
+  pub image : Option (List ℕ)
+  pub text : List ℕ
+  pub made : Makes command old image text
+  pub delivered : IsDelivered (image_name command) image text old new taken taken'
+
+-- nothing was made for a command, or not all of it was put and printed
+pub record IsStopped (command : Command) (old new : Contents) (store_failed sink_failed : Type 0) (taken taken' : Option (List ℕ)) (fault : Fault) : Type 0 where
+  pub cause : Refuses command old store_failed fault × IsUntouched old new taken taken'
+    ⊎ ((image : Option (List ℕ)) × (text : List ℕ) × Makes command old image text × DeliveryFails (image_name command) image text old new store_failed sink_failed taken taken' fault)
+
+-- a failed `get`, as a fault of the tool
+abbrev pub fault_of_get : GetFault → Fault
+fault_of_get NoSuchImage = Absent
+fault_of_get GetFailed = ReadFault
+fault_of_get GetMemory = Memory
+
+-- a failed `put`
+abbrev pub fault_of_put : PutImageFault → Fault
+fault_of_put PutFailed = WriteFault
+fault_of_put PutMemory = Memory
+
+-- the store failed to put an image: the name has the old bytes or the new
+pub record IsHalfPut (name : List ℕ) (image : Option (List ℕ)) (old new : Contents) (put_failed : Type 0) : Type 0 where
+  pub bytes : List ℕ
+  pub is_some : image ≡ Some bytes
+  pub cause : put_failed
+  pub stored : HoldsOldOrNew name bytes old new
+  pub others : KeepsOthers name old new
+
+-- why an image was not put: an image that is to be put, and want of memory, or a failure of the store
+abbrev pub PutFails : List ℕ → Option (List ℕ) → Contents → Contents → Type 0 → Fault → Type 0
+PutFails name image old new put_failed Memory = new ≡ old
+PutFails name image old new put_failed WriteFault = IsHalfPut name image old new put_failed
+PutFails name image old new put_failed Usage = ⊥
+PutFails name image old new put_failed ReadFault = ⊥
+PutFails name image old new put_failed Absent = ⊥
+PutFails name image old new put_failed (Malformed cause) = ⊥

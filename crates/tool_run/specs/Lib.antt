@@ -1,0 +1,6 @@
+pub mod Command
+pub mod Status
+pub mod Lines
+pub mod Making
+pub mod Outcome
+pub mod Inside

@@ -1,0 +1,42 @@
+-- The lines that tell why there is no result.
+use Rattle.std.specs.Prelude.{◌≡◌, ◌⊎◌, ℕ, List, [], ◌∷◌, ◌++◌, codes, Option, Some, None, slice_index_or}
+use Rattle.tool_ports.specs.Causes.{Rose}
+use Rattle.tool_ports.specs.Taken.{taken_with, TakesPart}
+use Rattle.heap_model.specs.declared.header.BadHeader.{BadHeader}
+use Rattle.heap_model.specs.declared.header.BadHeader.TheVariants.{Short, Magic, Version, Capacity, Length, State, Used}
+use Rattle.trace_text.specs.Report.{line_feed}
+
+-- the lines of the statuses 2 to 5
+abbrev pub usage_line : List ℕ
+usage_line = codes "usage" ++ line_feed
+
+abbrev pub memory_line : List ℕ
+memory_line = codes "out of memory" ++ line_feed
+
+abbrev pub read_line : List ℕ
+read_line = codes "read fault" ++ line_feed
+
+abbrev pub write_line : List ℕ
+write_line = codes "write fault" ++ line_feed
+
+-- the line on an image that isn't there
+abbrev pub no_image_line : List ℕ → List ℕ
+no_image_line name = codes "no image " ++ name ++ line_feed
+
+-- what is wrong with a header, in a word
+abbrev pub cause_name : BadHeader → List ℕ
+cause_name Short = codes "short"
+cause_name Magic = codes "magic"
+cause_name Version = codes "version"
+cause_name Capacity = codes "capacity"
+cause_name Length = codes "length"
+cause_name State = codes "state"
+cause_name Used = codes "used"
+
+-- the line on a malformed header
+abbrev pub bad_header_line : BadHeader → List ℕ
+bad_header_line cause = codes "bad header " ++ cause_name cause ++ line_feed
+
+-- A sink took the line or, only where the count of its failures rose, a first part of it.
+abbrev pub Tells : List ℕ → ℕ → ℕ → Option (List ℕ) → Option (List ℕ) → Type 0
+Tells line faults faults' taken taken' = (taken' ≡ taken_with taken line) ⊎ (Rose faults faults' × TakesPart line taken taken')

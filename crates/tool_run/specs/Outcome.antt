@@ -1,0 +1,81 @@
+-- What a call of the tool has done, by its status. `old` is what the store held before it and `new` what it holds after it; `taken` and `taken'` are what the sink had taken.
+use Rattle.std.specs.Prelude.{◌≡◌, ℕ, List, Option, Some, None}
+use Rattle.heap_model.specs.declared.header.BadHeader.{BadHeader}
+use Rattle.tool_ports.specs.Contents.{Contents, Holds, HoldsOldOrNew, KeepsOthers, Lacks, told_of}
+use Rattle.tool_ports.specs.Taken.{taken_with, TakesPart}
+use Rattle.tool_run.specs.Command.{Command, format_image, show_image, image_name, Asks}
+use Rattle.tool_run.specs.Lines.{no_image_line, bad_header_line}
+use Rattle.tool_run.specs.Making.{Makes, Gets, IsMalformed, fault_of}
+
+-- The image, if there is one, is under the name, and every other name has what it had.
+abbrev pub Puts : List ℕ → Option (List ℕ) → Contents → Contents → Type 0
+Puts name None old new = new ≡ old
+Puts name (Some image) old new = Holds new name image × KeepsOthers name old new
+
+-- the words ask for a command, and it was carried out in full
+pub record IsDone (words : List (List ℕ)) (old new : Contents) (taken taken' : Option (List ℕ)) : Type 0 where
+  pub command : Command
+  pub asked : Asks words command
+  pub image : Option (List ℕ)
+  pub text : List ℕ
+  pub made : Makes command old image text
+  pub stored : Puts (image_name command) image old new
+  pub printed : taken' ≡ taken_with taken text
+
+-- what is left of a result that wasn't put and printed in full
+pub data IsCutOff (name text : List ℕ) (old new : Contents) (store_failed sink_failed : Type 0) (taken : Option (List ℕ)) : Option (List ℕ) → Option (List ℕ) → Type 0 where
+  -- The store failed: the name has its old bytes or the new, and nothing is printed.
+  while_putting : (image : List ℕ) → store_failed → HoldsOldOrNew name image old new → KeepsOthers name old new → IsCutOff name text old new store_failed sink_failed taken (Some image) taken
+  -- The sink failed: the image is put, and a first part of the text is printed.
+  while_printing : (image taken' : Option (List ℕ)) → sink_failed → Puts name image old new → TakesPart text taken taken' → IsCutOff name text old new store_failed sink_failed taken image taken'
+
+-- the words ask for a command, and its result was cut off; `Told` is what was printed after that
+pub record IsWriteFault (words : List (List ℕ)) (old new : Contents) (store_failed sink_failed : Type 0) (taken : Option (List ℕ)) (Told : Option (List ℕ) → Type 0) : Type 0 where
+  pub command : Command
+  pub asked : Asks words command
+  pub image : Option (List ℕ)
+  pub text : List ℕ
+  pub made : Makes command old image text
+  pub before : Option (List ℕ)
+  pub left : IsCutOff (image_name command) text old new store_failed sink_failed taken image before
+  pub told : Told before
+
+-- the words ask for a command that gets the image of this name
+pub record AsksToGet (words : List (List ℕ)) (name : List ℕ) : Type 0 where
+  pub command : Command
+  pub asked : Asks words command
+  pub gets : Gets command
+  pub is_named : image_name command ≡ name
+
+-- the words name an image that isn't there, where the store tells; `Told` is the line that was printed
+pub record IsAbsent (words : List (List ℕ)) (contents : Contents) (Told : List ℕ → Type 0) : Type 0 where
+  pub name : List ℕ
+  pub asks : AsksToGet words name
+  pub lacks : Lacks contents name
+  pub told : Told (no_image_line name)
+
+-- the words name an image with a malformed header
+pub record IsBadHeader (words : List (List ℕ)) (contents : Contents) (Told : List ℕ → Type 0) : Type 0 where
+  pub name : List ℕ
+  pub asks : AsksToGet words name
+  pub cause : BadHeader
+  pub malformed : IsMalformed contents name cause
+  pub told : Told (bad_header_line cause)
+
+-- the store tells that it has a malformed image of this name
+pub record HoldsMalformed (contents : Contents) (name : List ℕ) : Type 0 where
+  pub bytes : List ℕ
+  pub held : told_of contents name ≡ Some (Some bytes)
+  pub cause : BadHeader
+  pub fault : fault_of bytes ≡ Some cause
+
+-- the store tells that it has a good image of this name
+pub record HoldsGood (contents : Contents) (name : List ℕ) : Type 0 where
+  pub bytes : List ℕ
+  pub held : told_of contents name ≡ Some (Some bytes)
+  pub good : fault_of bytes ≡ None
+
+-- nothing in the store stands against the command
+abbrev pub CanBeDone : Command → Contents → Type 0
+CanBeDone (format_image image capacity) contents = Unit {0}
+CanBeDone (show_image image) contents = HoldsGood contents image

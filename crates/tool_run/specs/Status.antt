@@ -1,0 +1,43 @@
+-- What each status says.
+use Rattle.std.specs.Prelude.{◌≡◌, ◌≢◌, ℕ, List, [], ◌∷◌, Contains, Option, Some, None, slice_index_or}
+use Rattle.tool_run.specs.Lines.{usage_line, memory_line, read_line}
+
+-- the result was put and printed in full
+abbrev pub done : ℕ
+done = 0
+
+-- the words ask for no command
+abbrev pub usage : ℕ
+usage = 2
+
+-- memory ran out before anything was put
+abbrev pub out_of_memory : ℕ
+out_of_memory = 3
+
+-- the outside failed while something was read
+abbrev pub read_fault : ℕ
+read_fault = 4
+
+-- the outside failed while the result was put or printed
+abbrev pub write_fault : ℕ
+write_fault = 5
+
+-- there is no such image
+abbrev pub no_image : ℕ
+no_image = 6
+
+-- the image has a malformed header
+abbrev pub bad_header : ℕ
+bad_header = 7
+
+abbrev pub statuses : List ℕ
+statuses = done ∷ usage ∷ out_of_memory ∷ read_fault ∷ write_fault ∷ no_image ∷ bad_header ∷ []
+
+-- a status after which the store is as it was, whatever the command
+pub record LeavesStore (status : ℕ) : Type 0 where
+  pub refused : status ≢ done
+  pub not_put : status ≢ write_fault
+
+-- the line of each status that has one line alone
+abbrev pub own_line : ℕ → Option (List ℕ)
+own_line status = slice_index_or (None ∷ None ∷ Some usage_line ∷ Some memory_line ∷ Some read_line ∷ []) status None

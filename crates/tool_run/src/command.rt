@@ -1,0 +1,88 @@
+//! The words of the command line, read by hand.
+ghost use Rattle.std.specs.Prelude.{◌≡◌, ℕ, ◌≤◌, ◌∷◌, [], codes, IsTrue, ◌↔◌, IfSome, IfNone};
+ghost use Rattle.heap_model.specs.Geometry.{largest_capacity};
+ghost use Rattle.tool_run.specs.Command.{Asks, IsUsage, IsImageName, IsNumber, texts, image_name};
+ghost use Rattle.tool_run.specs.Inside.{command_of};
+
+use super_block::{Geometry, LARGEST_CAPACITY};
+
+/// What the words ask for.
+#[derive(Clone, Copy)]
+pub enum Invocation<'a> {
+    Format { image: &'a str, layout: Geometry },
+    Show { image: &'a str },
+}
+
+impl<'a> Invocation<'a> {
+    /// The name of the image that it is about.
+    pub fn image(self) -> &'a str
+        ensures { result.now ≡ image_name (command_of self.entry) }
+    {
+        match self {
+            Invocation::Format { image, layout: _ } => image,
+            Invocation::Show { image } => image,
+        }
+    }
+}
+
+/// The invocation that the words are, or `None` where they are none.
+pub fn parse(words: &[String]) -> Option<Invocation<'_>>
+    ensures some { IfSome result (λ invocation. Asks (texts words.now) (command_of invocation)) }
+    ensures none { IfNone result (IsUsage (texts words.now)) }
+{
+    match words {
+        [command, image, number] => parse_format(command.as_str(), image.as_str(), number.as_str()),
+        [command, image] => parse_show(command.as_str(), image.as_str()),
+        _ => None,
+    }
+}
+
+fn parse_format<'a>(command: &str, image: &'a str, number: &str) -> Option<Invocation<'a>>
+    ensures some { IfSome result
+        (λ invocation. Asks (command.now ∷ image.now ∷ number.now ∷ []) (command_of invocation)) }
+    ensures none { IfNone result (IsUsage (command.now ∷ image.now ∷ number.now ∷ [])) }
+{
+    let capacity = parse_capacity(number)?;
+    if command == "format" && is_image_name(image) {
+        let layout = Geometry::new(capacity);
+        Some(Invocation::Format { image, layout })
+    } else {
+        None
+    }
+}
+
+fn parse_show<'a>(command: &str, image: &'a str) -> Option<Invocation<'a>>
+    ensures some { IfSome result
+        (λ invocation. Asks (command.now ∷ image.now ∷ []) (command_of invocation)) }
+    ensures none { IfNone result (IsUsage (command.now ∷ image.now ∷ [])) }
+{
+    if command == "show" && is_image_name(image) {
+        Some(Invocation::Show { image })
+    } else {
+        None
+    }
+}
+
+fn is_image_name(word: &str) -> bool
+    ensures { IsTrue result ↔ IsImageName word.now }
+{
+    match word.as_bytes() {
+        [] => false,
+        [first, ..] => *first != b'-',
+    }
+}
+
+// The parser of std takes a plus sign too, which is no digit.
+fn parse_capacity(word: &str) -> Option<u64>
+    ensures some { IfSome result (λ n. IsNumber word.now n × (1 ≤ n) × (n ≤ largest_capacity)) }
+    ensures none { IfNone result
+        ((n : ℕ) → IsNumber word.now n → 1 ≤ n → n ≤ largest_capacity → ⊥) }
+{
+    if word.as_bytes().first() == Some(&b'+') {
+        return None;
+    }
+    match word.parse::<u64>() {
+        Ok(capacity) if 1 <= capacity && capacity <= LARGEST_CAPACITY => Some(capacity),
+        _ => None,
+    }
+}

@@ -1,0 +1,53 @@
+//! Puts and prints what a command has made.
+ghost use Rattle.std.specs.Prelude.{◌≡◌, ◌≤◌, Option, List, ℕ, OnOk, IfErr};
+ghost use Rattle.tool_ports.specs.Causes.{Rose};
+ghost use Rattle.tool_run.specs.Inside.{IsDelivered, DeliveryFails, PutFails};
+ghost use Rattle.tool_run.specs.Outcome.{Puts};
+
+use crate::fault::Fault;
+use crate::making::Product;
+use region_header::Bytes;
+use std::alloc::Global;
+use tool_ports::{ImageStore, Sink, write_all};
+
+/// Puts the image, and prints the text after that: so a text that was printed tells of what is put.
+pub fn deliver<I: ImageStore, O: Sink>(
+    alloc: Global,
+    name: &str,
+    product: &Product,
+    images: &mut I,
+    out: &mut O,
+) -> Result<(), Fault>
+    ensures ok { OnOk result (IsDelivered name.now product.now.image product.now.text
+        (I.contents images.old) (I.contents images.new) (O.taken out.old) (O.taken out.new)) }
+    ensures err { IfErr result (DeliveryFails name.now product.now.image product.now.text
+        (I.contents images.old) (I.contents images.new)
+        (Rose (I.faults images.old) (I.faults images.new))
+        (Rose (O.faults out.old) (O.faults out.new)) (O.taken out.old) (O.taken out.new)) }
+    ensures later_store { I.faults images.old ≤ I.faults images.new }
+    ensures later_sink { O.faults out.old ≤ O.faults out.new }
+{
+    put_image(alloc, name, &product.image, images)?;
+    write_all(out, product.text.as_slice())?;
+    Ok(())
+}
+
+// Puts the image, if there is one.
+fn put_image<I: ImageStore>(
+    alloc: Global,
+    name: &str,
+    image: &Option<Bytes>,
+    images: &mut I,
+) -> Result<(), Fault>
+    ensures ok { OnOk result
+        (Puts name.now image.now (I.contents images.old) (I.contents images.new)) }
+    ensures err { IfErr result (PutFails name.now image.now
+        (I.contents images.old) (I.contents images.new)
+        (Rose (I.faults images.old) (I.faults images.new))) }
+    ensures later { I.faults images.old ≤ I.faults images.new }
+{
+    if let Some(image) = image {
+        images.put(alloc, name, image.as_slice())?;
+    }
+    Ok(())
+}

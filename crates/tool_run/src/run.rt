@@ -1,0 +1,90 @@
+//! The top call.
+ghost use Rattle.std.specs.Prelude.{◌≡◌, ◌↔◌, ◌⊎◌, ◌≤◌, Option, List, ℕ, OnOk, IfErr, IfSome, Contains};
+ghost use Rattle.tool_ports.specs.Causes.{Rose};
+ghost use Rattle.tool_ports.specs.Contents.{told_of};
+ghost use Rattle.tool_run.specs.Command.{Command, Asks, IsUsage, texts};
+ghost use Rattle.tool_run.specs.Inside.{command_of, IsCarriedOut, IsStopped};
+ghost use Rattle.tool_run.specs.Lines.{Tells, write_line};
+ghost use Rattle.tool_run.specs.Outcome.{IsDone, IsWriteFault, AsksToGet, IsAbsent, IsBadHeader, HoldsMalformed, CanBeDone};
+ghost use Rattle.tool_run.specs.Status.{done, usage, out_of_memory, read_fault, write_fault, no_image, bad_header, statuses, LeavesStore, own_line};
+
+use crate::command::{Invocation, parse};
+use crate::delivery::deliver;
+use crate::fault::Fault;
+use crate::making::make;
+use crate::status::Status;
+use std::alloc::Global;
+use tool_ports::{ImageStore, Sink};
+
+/// Does what the words ask for. They are those after the program's name: `format IMAGE S` puts an
+/// empty image of S superblocks, `show IMAGE` prints a report on an image. Where there is no result,
+/// a line tells why; one that the sink refuses is lost.
+pub fn run_tool<R, I: ImageStore, O: Sink>(
+    _rt: &R,
+    alloc: Global,
+    words: &[String],
+    images: &mut I,
+    out: &mut O,
+) -> Status
+    ensures known { Contains statuses result }
+
+    // What each status says.
+    ensures ok { result ≡ done → IsDone (texts words.now)
+        (I.contents images.old) (I.contents images.new) (O.taken out.old) (O.taken out.new) }
+    ensures usage { (result ≡ usage) ↔ IsUsage (texts words.now) }
+    ensures read_fault { result ≡ read_fault → ((name : List ℕ) × AsksToGet (texts words.now) name)
+        × Rose (I.faults images.old) (I.faults images.new) }
+    ensures write_fault { result ≡ write_fault → IsWriteFault (texts words.now)
+        (I.contents images.old) (I.contents images.new)
+        (Rose (I.faults images.old) (I.faults images.new))
+        (Rose (O.faults out.old) (O.faults out.new)) (O.taken out.old)
+        (λ taken. Tells write_line (O.faults out.old) (O.faults out.new) taken (O.taken out.new)) }
+    ensures absent { result ≡ no_image → IsAbsent (texts words.now) (I.contents images.old)
+        (λ line. Tells line (O.faults out.old) (O.faults out.new) (O.taken out.old) (O.taken out.new)) }
+    ensures cause { result ≡ bad_header → IsBadHeader (texts words.now) (I.contents images.old)
+        (λ line. Tells line (O.faults out.old) (O.faults out.new) (O.taken out.old) (O.taken out.new)) }
+    ensures line { IfSome (own_line result)
+        (λ line. Tells line (O.faults out.old) (O.faults out.new) (O.taken out.old) (O.taken out.new)) }
+    ensures unchanged { LeavesStore result → I.contents images.new ≡ I.contents images.old }
+
+    // When a status comes: nothing else does, but want of memory or a failure before it.
+    ensures always_absent { (name : List ℕ) → AsksToGet (texts words.now) name
+        → told_of (I.contents images.old) name ≡ Some None
+        → (result ≡ no_image) ⊎ (result ≡ out_of_memory) ⊎ (result ≡ read_fault) }
+    ensures always_cause { (name : List ℕ) → AsksToGet (texts words.now) name
+        → HoldsMalformed (I.contents images.old) name
+        → (result ≡ bad_header) ⊎ (result ≡ out_of_memory) ⊎ (result ≡ read_fault) }
+    ensures complete { (command : Command) → Asks (texts words.now) command
+        → CanBeDone command (I.contents images.old)
+        → ¬ (Rose (I.faults images.old) (I.faults images.new))
+        → ¬ (Rose (O.faults out.old) (O.faults out.new))
+        → (result ≡ done) ⊎ (result ≡ out_of_memory) }
+{
+    let Some(command) = parse(words) else {
+        return Fault::Usage.tell("", out);
+    };
+    match carry_out(alloc, command, images, out) {
+        Ok(()) => Status::new(0),
+        Err(fault) => fault.tell(command.image(), out),
+    }
+}
+
+// Makes the whole result first, then puts and prints it.
+fn carry_out<I: ImageStore, O: Sink>(
+    alloc: Global,
+    command: Invocation<'_>,
+    images: &mut I,
+    out: &mut O,
+) -> Result<(), Fault>
+    ensures ok { OnOk result (IsCarriedOut (command_of command.entry)
+        (I.contents images.old) (I.contents images.new) (O.taken out.old) (O.taken out.new)) }
+    ensures err { IfErr result (IsStopped (command_of command.entry)
+        (I.contents images.old) (I.contents images.new)
+        (Rose (I.faults images.old) (I.faults images.new))
+        (Rose (O.faults out.old) (O.faults out.new)) (O.taken out.old) (O.taken out.new)) }
+    ensures later_store { I.faults images.old ≤ I.faults images.new }
+    ensures later_sink { O.faults out.old ≤ O.faults out.new }
+{
+    let product = make(alloc, command, images)?;
+    deliver(alloc, command.image(), &product, images, out)
+}

@@ -1,0 +1,15 @@
+-- The report on a heap that was read, as bytes.
+use Rattle.std.specs.Prelude.{◌≡◌, ℕ, Bool, true, false, List, [], ◌∷◌, ◌++◌, codes, decimal, refl}
+
+-- how a line ends
+abbrev pub line_feed : List ℕ
+line_feed = 10 ∷ []
+
+-- whether the image was closed, in a word
+abbrev pub state_name : Bool → List ℕ
+state_name true = codes "clean"
+state_name false = codes "dirty"
+
+-- the report's first line
+abbrev pub heap_line_of : ℕ → Bool → List ℕ
+heap_line_of capacity is_clean = codes "heap " ++ decimal capacity ++ codes " " ++ state_name is_clean ++ line_feed
