@@ -45,13 +45,17 @@ is_large info = nat_le 511 info && (info % 256 == 255)
 abbrev pub class_use : ℕ → ℕ → List Block → ℕ → List ℕ
 class_use capacity class held d = codes "class " ++ decimal class ++ codes " held" ++ ranges_of (held_indexes capacity class d held)
 
+-- the same of one of a large block that is not its first
+abbrev pub inside_use : ℕ → List ℕ
+inside_use first = codes "inside " ++ decimal first
+
 -- what superblock d is used for, in words
 abbrev pub use_of : Image → List Block → List ℕ → ℕ → List ℕ
 use_of image held free d =
   if list_any (λ f. f == d) free then codes "free"
   else if is_class (image (info_word d)) then class_use (capacity_of image) (image (info_word d)) held d
   else if is_large (image (info_word d)) then codes "large " ++ decimal (image (info_word d) / 256)
-  else codes "inside " ++ decimal (first_of (capacity_of image) d held)
+  else inside_use (first_of (capacity_of image) d held)
 
 -- the line of a superblock
 abbrev pub line_of : ℕ → List ℕ → List ℕ

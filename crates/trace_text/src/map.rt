@@ -5,7 +5,7 @@ ghost use Rattle.std.specs.List.{AllWithin};
 ghost use Rattle.heap_model.specs.declared.block.Block.{Block};
 ghost use Rattle.heap_model.specs.Header.{IsWellFormed, capacity_of, used_of};
 ghost use Rattle.heap_model.specs.Sizes.{IsClass};
-ghost use Rattle.trace_text.specs.HeapMap.{AreInOrder, begins_in, held_indexes, first_of, class_use, line_of, superblock_line, used_line, map_of};
+ghost use Rattle.trace_text.specs.HeapMap.{AreInOrder, begins_in, held_indexes, first_of, class_use, inside_use, line_of, superblock_line, used_line, map_of};
 
 use crate::class::words_of;
 use crate::ranges::write_ranges;
@@ -77,7 +77,7 @@ fn write_superblock_line(
         Info::Large(superblocks) => writeln!(text, "sb {d} large {superblocks}"),
         Info::Nothing => {
             let first = first_superblock(geometry, held, d);
-            writeln!(text, "sb {d} inside {first}")
+            write_inside_line(text, d, first)
         }
     }
 }
@@ -135,6 +135,13 @@ fn begun_in<'a>(geometry: Geometry, held: &'a [Block], d: u64) -> &'a [Block]
     let from = count_before(held, start);
     let until = count_before(held, start + SUPERBLOCK_WORDS);
     &held[from..until]
+}
+
+fn write_inside_line(text: &mut String, d: u64, first: u64) -> Result<(), AllocError>
+    ensures ok { OnOk result
+        (string_bytes text.new ≡ string_bytes text.old ++ line_of d (inside_use first)) }
+{
+    writeln!(text, "sb {d} inside {first}")
 }
 
 /// The first superblock of the held large block that goes on into superblock `d`.
