@@ -1,1 +1,4 @@
 pub mod Report
+pub mod Ranges
+pub mod HeapMap
+pub mod Examples

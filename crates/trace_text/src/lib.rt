@@ -1,9 +1,11 @@
 //! The texts that the tool prints of a heap, as bytes.
 #![tactic(auto)]
 
+mod class;
+mod map;
+mod ranges;
 mod report;
 
-pub use report::heap_line;
+pub use map::map_lines;
+pub use report::{heap_line, report_lines};
 
-#[cfg(test)]
-mod tests;

@@ -1,0 +1,4 @@
+pub mod TextLemmas
+pub mod RunLemmas
+pub mod OrderLemmas
+pub mod MapLemmas
