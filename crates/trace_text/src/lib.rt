@@ -4,8 +4,13 @@
 mod class;
 mod map;
 mod ranges;
+mod recovered;
 mod report;
 
 pub use map::map_lines;
+pub use recovered::{map_text, report_text};
 pub use report::{heap_line, report_lines};
 
+
+#[cfg(test)]
+mod tests;
