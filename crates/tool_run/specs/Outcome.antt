@@ -4,8 +4,9 @@ use Rattle.heap_model.specs.declared.header.BadHeader.{BadHeader}
 use Rattle.tool_ports.specs.Contents.{Contents, Holds, HoldsOldOrNew, KeepsOthers, Lacks, told_of}
 use Rattle.tool_ports.specs.Taken.{taken_with, TakesPart}
 use Rattle.tool_run.specs.Command.{Command, format_image, show_image, image_name, Asks}
-use Rattle.tool_run.specs.Lines.{no_image_line, bad_header_line}
-use Rattle.tool_run.specs.Making.{Makes, Gets, IsMalformed, fault_of}
+use Rattle.tool_run.specs.Lines.{no_image_line, bad_header_line, outside_line}
+use Rattle.tool_run.specs.Making.{Makes, Gets, IsMalformed, HasOutside, PointsOutside, fault_of}
+use Rattle.heap_model.specs.Image.{image_of_bytes}
 
 -- The image, if there is one, is under the name, and every other name has what it had.
 abbrev pub Puts : List ℕ → Option (List ℕ) → Contents → Contents → Type 0
@@ -64,6 +65,15 @@ pub record IsBadHeader (words : List (List ℕ)) (contents : Contents) (Told : L
   pub malformed : IsMalformed contents name cause
   pub told : Told (bad_header_line cause)
 
+-- the words name an image in which a word points outside
+pub record IsOutsideAt (words : List (List ℕ)) (contents : Contents) (Told : List ℕ → Type 0) : Type 0 where
+  pub name : List ℕ
+  pub asks : AsksToGet words name
+  pub at : ℕ
+  pub value : ℕ
+  pub has : HasOutside contents name at value
+  pub told : Told (outside_line at value)
+
 -- the store tells that it has a malformed image of this name
 pub record HoldsMalformed (contents : Contents) (name : List ℕ) : Type 0 where
   pub bytes : List ℕ
@@ -71,13 +81,21 @@ pub record HoldsMalformed (contents : Contents) (name : List ℕ) : Type 0 where
   pub cause : BadHeader
   pub fault : fault_of bytes ≡ Some cause
 
--- the store tells that it has a good image of this name
+-- the store tells that it has an image of this name with a good header, in which the word points outside
+pub record HoldsOutside (contents : Contents) (name : List ℕ) (at : ℕ) : Type 0 where
+  pub bytes : List ℕ
+  pub held : told_of contents name ≡ Some (Some bytes)
+  pub good : fault_of bytes ≡ None
+  pub points : PointsOutside (image_of_bytes bytes) at
+
+-- the store tells that it has an image of this name that can be recovered
 pub record HoldsGood (contents : Contents) (name : List ℕ) : Type 0 where
   pub bytes : List ℕ
   pub held : told_of contents name ≡ Some (Some bytes)
   pub good : fault_of bytes ≡ None
+  pub inside : (at : ℕ) → PointsOutside (image_of_bytes bytes) at → ⊥
 
 -- nothing in the store stands against the command
 abbrev pub CanBeDone : Command → Contents → Type 0
 CanBeDone (format_image image capacity) contents = Unit {0}
-CanBeDone (show_image image) contents = HoldsGood contents image
+CanBeDone (show_image image with_map) contents = HoldsGood contents image

@@ -30,8 +30,12 @@ no_image = 6
 abbrev pub bad_header : ℕ
 bad_header = 7
 
+-- a root or a linked word points to no block
+abbrev pub outside : ℕ
+outside = 8
+
 abbrev pub statuses : List ℕ
-statuses = done ∷ usage ∷ out_of_memory ∷ read_fault ∷ write_fault ∷ no_image ∷ bad_header ∷ []
+statuses = done ∷ usage ∷ out_of_memory ∷ read_fault ∷ write_fault ∷ no_image ∷ bad_header ∷ outside ∷ []
 
 -- a status after which the store is as it was, whatever the command
 pub record LeavesStore (status : ℕ) : Type 0 where
