@@ -39,4 +39,5 @@ bad_header_line cause = codes "bad header " ++ cause_name cause ++ line_feed
 
 -- A sink took the line or, only where the count of its failures rose, a first part of it.
 abbrev pub Tells : List ℕ → ℕ → ℕ → Option (List ℕ) → Option (List ℕ) → Type 0
-Tells line faults faults' taken taken' = (taken' ≡ taken_with taken line) ⊎ (Rose faults faults' × TakesPart line taken taken')
+Tells line faults faults' taken taken' =
+    (taken' ≡ taken_with taken line) ⊎ (Rose faults faults' × TakesPart line taken taken')

@@ -10,7 +10,8 @@ use Rattle.tool_run.specs.Command.{Command, format_image, show_image}
 
 -- what `format` prints: the capacity, and the length of the image in bytes
 abbrev pub formatted_line : ℕ → List ℕ
-formatted_line capacity = codes "formatted " ++ decimal capacity ++ codes " bytes " ++ decimal (8 * image_words capacity) ++ line_feed
+formatted_line capacity = codes "formatted " ++ decimal capacity
+    ++ codes " bytes " ++ decimal (8 * image_words capacity) ++ line_feed
 
 -- the first cause for which an image of these bytes is malformed
 abbrev pub fault_of : List ℕ → Option BadHeader
@@ -18,7 +19,8 @@ fault_of bytes = header_fault (length bytes) (image_of_bytes bytes)
 
 -- the first line of the report on an image of these bytes
 abbrev pub heap_line : List ℕ → List ℕ
-heap_line bytes = heap_line_of (capacity_of (image_of_bytes bytes)) (nat_eq (state_of (image_of_bytes bytes)) clean)
+heap_line bytes = let image = image_of_bytes bytes in
+    heap_line_of (capacity_of image) (nat_eq (state_of image) clean)
 
 -- an empty image, and the line that tells of it
 pub record IsFormatted (capacity : ℕ) (put : Option (List ℕ)) (text : List ℕ) : Type 0 where

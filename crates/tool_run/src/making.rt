@@ -20,7 +20,7 @@ const MOST_BYTES: usize = (WORD_BYTES
     * (FIXED_WORDS + (DESCRIPTOR_WORDS + SUPERBLOCK_WORDS) * LARGEST_CAPACITY)
     + 1) as usize;
 
-/// What a command has made: the image that is to be put, if any, and the text that is to be printed.
+/// What a command has made: the image that is to be put, if any, and the text to be printed.
 #[derive(Drop)]
 pub struct Product {
     pub image: Option<Bytes>,

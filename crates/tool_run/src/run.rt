@@ -17,8 +17,8 @@ use std::alloc::Global;
 use tool_ports::{ImageStore, Sink};
 
 /// Does what the words ask for. They are those after the program's name: `format IMAGE S` puts an
-/// empty image of S superblocks, `show IMAGE` prints a report on an image. Where there is no result,
-/// a line tells why; one that the sink refuses is lost.
+/// empty image of S superblocks, `show IMAGE` prints a report on an image. Where there is no
+/// result, a line tells why; one that the sink refuses is lost.
 pub fn run_tool<R, I: ImageStore, O: Sink>(
     _rt: &R,
     alloc: Global,
@@ -40,11 +40,14 @@ pub fn run_tool<R, I: ImageStore, O: Sink>(
         (Rose (O.faults out.old) (O.faults out.new)) (O.taken out.old)
         (λ taken. Tells write_line (O.faults out.old) (O.faults out.new) taken (O.taken out.new)) }
     ensures absent { result ≡ no_image → IsAbsent (texts words.now) (I.contents images.old)
-        (λ line. Tells line (O.faults out.old) (O.faults out.new) (O.taken out.old) (O.taken out.new)) }
+        (λ line. Tells line (O.faults out.old) (O.faults out.new)
+            (O.taken out.old) (O.taken out.new)) }
     ensures cause { result ≡ bad_header → IsBadHeader (texts words.now) (I.contents images.old)
-        (λ line. Tells line (O.faults out.old) (O.faults out.new) (O.taken out.old) (O.taken out.new)) }
+        (λ line. Tells line (O.faults out.old) (O.faults out.new)
+            (O.taken out.old) (O.taken out.new)) }
     ensures line { IfSome (own_line result)
-        (λ line. Tells line (O.faults out.old) (O.faults out.new) (O.taken out.old) (O.taken out.new)) }
+        (λ line. Tells line (O.faults out.old) (O.faults out.new)
+            (O.taken out.old) (O.taken out.new)) }
     ensures unchanged { LeavesStore result → I.contents images.new ≡ I.contents images.old }
 
     // When a status comes: nothing else does, but want of memory or a failure before it.

@@ -13,7 +13,8 @@ state_name false = codes "dirty"
 
 -- the report's first line
 abbrev pub heap_line_of : ℕ → Bool → List ℕ
-heap_line_of capacity is_clean = codes "heap " ++ decimal capacity ++ codes " " ++ state_name is_clean ++ line_feed
+heap_line_of capacity is_clean =
+    codes "heap " ++ decimal capacity ++ codes " " ++ state_name is_clean ++ line_feed
 
 one_clean : heap_line_of 1 true ≡ codes "heap 1 clean" ++ line_feed
 unfolding digits
