@@ -8,6 +8,7 @@ mod info;
 mod laws;
 mod layout;
 mod naming;
+mod ready;
 
 pub use directory::Directory;
 pub use division::Division;
@@ -17,8 +18,9 @@ pub use info::Info;
 pub use laws::constants_agree;
 pub use layout::{
     ANCHOR_OFFSET, CAPACITY_WORD, CLEAN, DESCRIPTOR_WORDS, DIRTY, FIXED_WORDS, HEAD_WORD,
-    LARGE_INFO, LARGE_STEP, LARGEST_CAPACITY, LAST_CLASS, LINE_WORDS, LINK_OFFSET, LISTS, MAGIC,
-    MAGIC_WORD, ROOT_WORD, ROOTS, STATE_WORD, SUPERBLOCK_WORDS, USED_WORD, VERSION, VERSION_WORD,
-    WORD_BYTES,
+    LARGE_INFO, LARGE_STEP, LARGEST_CAPACITY, LAST_CLASS, LINE_WORDS, LINK_OFFSET, LISTS,
+    LONGEST_IMAGE, MAGIC, MAGIC_WORD, ROOT_WORD, ROOTS, STATE_WORD, SUPERBLOCK_WORDS, USED_WORD,
+    VERSION, VERSION_WORD, WORD_BYTES,
 };
 pub use naming::{block_at, name};
+pub use ready::{Ready, an_empty_heap_is_ready, what_recovery_leaves_is_ready};

@@ -12,7 +12,8 @@ told_of contents name = option_map (λ image_of. image_of name) contents
 
 -- where the store tells, it has the name, and these are the first `most` bytes there, or all
 abbrev pub HoldsFirst : Contents → List ℕ → ℕ → List ℕ → Type 0
-HoldsFirst contents name most bytes = IfSome (told_of contents name) (λ image. IsSomeAnd image (λ held. bytes ≡ take most held))
+HoldsFirst contents name most bytes =
+    IfSome (told_of contents name) (λ image. IsSomeAnd image (λ held. bytes ≡ take most held))
 
 -- where the store tells, it has no such name
 abbrev pub Lacks : Contents → List ℕ → Type 0

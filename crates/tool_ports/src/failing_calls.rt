@@ -5,7 +5,8 @@ ghost use Rattle.tool_ports.specs.Causes.{HasCause};
 use crate::fault_count::FaultCount;
 use crate::sink::Failed;
 
-/// The numbers of the calls that are to fail, counted from 0, how many calls there were, and how many of them failed.
+/// The numbers of the calls that are to fail, counted from 0, how many calls there were, and how
+/// many of them failed.
 #[derive(Drop)]
 pub struct FailingCalls {
     pub numbers: Vec<u64>,

@@ -1,5 +1,5 @@
 //! A store of heap images under names, as the tool sees it.
-ghost use Rattle.std.specs.Prelude.{◌≡◌, ◌^◌, ◌<◌, ℕ, List, Option, IfOk, OnOk, OnErr, IsErrOf};
+ghost use Rattle.std.specs.Prelude.{◌≡◌, ◌^◌, ◌<◌, ◌≤◌, ℕ, List, Option, length, IfOk, OnOk, OnErr, IsErrOf};
 ghost use Rattle.tool_ports.specs.Causes.{HasCause};
 ghost use Rattle.tool_ports.specs.Contents.{HoldsFirst, Lacks, Holds, HoldsOldOrNew, KeepsOthers};
 ghost use Rattle.tool_ports.specs.declared.image_store.GetFault.TheVariants.{Memory as GetMemory, Failed as GetFailed};
@@ -39,17 +39,22 @@ pub trait ImageStore {
     /// The image's first `most` bytes, or all if it has fewer.
     fn get(&mut self, alloc: Global, name: &str, most: usize) -> Result<Vec<u8>, GetFault>
         ensures ok { IfOk result (λ v. HoldsFirst (contents self.old) name.now most v.items) }
+        ensures short { IfOk result (λ v. length v.items ≤ most) }
         ensures none { IsErrOf result GetFault.Absent → Lacks (contents self.old) name.now }
         ensures unchanged { contents self.new ≡ contents self.old }
-        ensures cause { HasCause (faults self.old) (faults self.new) (IsErrOf result GetFault.Failed) };
+        ensures cause { HasCause (faults self.old) (faults self.new)
+            (IsErrOf result GetFault.Failed) };
 
     /// Puts these bytes under the name, in the place of what was there.
     fn put(&mut self, alloc: Global, name: &str, bytes: &[u8]) -> Result<(), PutImageFault>
         ensures ok { OnOk result (Holds (contents self.new) name.now bytes.now) }
-        ensures err { OnErr result (HoldsOldOrNew name.now bytes.now (contents self.old) (contents self.new)) }
-        ensures unchanged { IsErrOf result PutImageFault.Memory → contents self.new ≡ contents self.old }
+        ensures err { OnErr result (HoldsOldOrNew name.now bytes.now
+            (contents self.old) (contents self.new)) }
+        ensures unchanged { IsErrOf result PutImageFault.Memory →
+            contents self.new ≡ contents self.old }
         ensures others { KeepsOthers name.now (contents self.old) (contents self.new) }
-        ensures cause { HasCause (faults self.old) (faults self.new) (IsErrOf result PutImageFault.Failed) };
+        ensures cause { HasCause (faults self.old) (faults self.new)
+            (IsErrOf result PutImageFault.Failed) };
 
     /// The last value at which the count of faults stands is 2^64 - 1.
     ghost faults_fit: { (store : Self) → faults store < 2 ^ 64 };

@@ -1,4 +1,4 @@
-//! The traits by which the tool reaches the outside (a store of heap images, a sink of bytes), and their forms in memory.
+//! The tool's outside as traits: a store of heap images and a sink of bytes, with forms in memory.
 #![tactic(auto)]
 
 mod failing_calls;

@@ -10,7 +10,9 @@ use std::collections::BTreeMap;
 /// What a `put` that is to fail leaves under its name: a store may do either.
 #[derive(Clone, Copy, Debug, PartialEq, Eq)]
 pub enum FailedPut {
+    /// What was there before.
     LeavesOld,
+    /// What was to be put.
     LeavesNew,
 }
 
@@ -25,11 +27,13 @@ pub struct MapStore {
 impl MapStore {
     ghost use Rattle.tool_ports.specs.MapStore.{images_of, fault_count, failing_numbers, failed_put_of};
 
-    /// An empty store. `failing` has the numbers of the calls that are to fail, gets and puts counted together from 0.
+    /// An empty store. `failing` has the numbers of the calls that are to fail: gets and puts are
+    /// counted together, from 0.
     pub fn new(alloc: Global, failing: Vec<u64>, failed_put: FailedPut) -> Self
         ensures none { (name : List ℕ) → images_of result name ≡ None }
         ensures faults { fault_count result ≡ 0 }
-        ensures asked { (failing_numbers result ≡ failing.items) × (failed_put_of result ≡ failed_put) }
+        ensures failing { failing_numbers result ≡ failing.items }
+        ensures failed_put { failed_put_of result ≡ failed_put }
     {
         MapStore {
             images: BTreeMap::new(alloc),
@@ -53,8 +57,10 @@ fn insert_image(
     bytes: &[u8],
 ) -> Result<(), AllocError>
     ensures ok { OnOk result (images_in images.new name.now ≡ Some bytes.now) }
-    ensures err { OnErr result ((other : List ℕ) → images_in images.new other ≡ images_in images.old other) }
-    ensures others { (other : List ℕ) → other ≢ name.now → images_in images.new other ≡ images_in images.old other }
+    ensures err { OnErr result ((other : List ℕ) →
+        images_in images.new other ≡ images_in images.old other) }
+    ensures others { (other : List ℕ) → other ≢ name.now →
+        images_in images.new other ≡ images_in images.old other }
 {
     let image = Vec::from_slice(alloc, bytes)?;
     images.insert(String::from_str(alloc, name)?, image)?;

@@ -19,7 +19,8 @@ pub trait Sink {
     fn write(&mut self, bytes: &[u8]) -> Result<usize, Failed>
         requires { 0 < length bytes.now }
         ensures some { IfOk result (λ n. (0 < n) × (n ≤ length bytes.now)) }
-        ensures ok { IfOk result (λ n. taken self.new ≡ taken_with (taken self.old) (take n bytes.now)) }
+        ensures ok { IfOk result (λ n.
+            taken self.new ≡ taken_with (taken self.old) (take n bytes.now)) }
         ensures err { OnErr result (taken self.new ≡ taken self.old) }
         ensures cause { HasCause (faults self.old) (faults self.new) (IsErr result) };
 

@@ -5,7 +5,8 @@ use crate::failing_calls::FailingCalls;
 use crate::sink::{Failed, Sink};
 use std::alloc::Global;
 
-/// Bytes in memory, which tell what they have taken. Chosen calls fail, and want of memory counts as a failure.
+/// Bytes in memory, which tell what they have taken. Chosen calls fail, and want of memory counts
+/// as a failure.
 #[derive(Drop)]
 pub struct VecSink {
     bytes: Vec<u8>,
@@ -17,13 +18,14 @@ pub struct VecSink {
 impl VecSink {
     ghost use Rattle.tool_ports.specs.VecSink.{bytes_of, fault_count, failing_numbers, most_of};
 
-    /// An empty sink that takes at most `most` bytes by one call. `failing` has the numbers of the calls that are to
-    /// fail, counted from 0.
+    /// An empty sink that takes at most `most` bytes by one call. `failing` has the numbers of the
+    /// calls that are to fail, counted from 0.
     pub fn new(alloc: Global, failing: Vec<u64>, most: usize) -> Self
         requires { 0 < most }
         ensures bytes { bytes_of result ≡ [] }
         ensures faults { fault_count result ≡ 0 }
-        ensures asked { (failing_numbers result ≡ failing.items) × (most_of result ≡ most) }
+        ensures failing { failing_numbers result ≡ failing.items }
+        ensures most { most_of result ≡ most }
     {
         VecSink {
             bytes: Vec::new(alloc),

@@ -1,4 +1,4 @@
-use Rattle.std.proofs.Common.{arith, rules, ◌∙◌}
+use Rattle.std.proofs.Common.{arith, ◌∙◌}
 use Rattle.std.proofs.lemmas.Grind.{common_steps}
 use Rattle.tool_ports.proofs.Written.{goes_on_range, part_written, some_bytes, at_err}
 use Rattle.tool_ports.proofs.sink.write_all.Goals as goal

@@ -1,0 +1,6 @@
+mod BitLemmas
+mod PairLemmas
+mod StepLemmas
+mod TraceLemmas
+mod MarksLemmas
+mod TestLemmas

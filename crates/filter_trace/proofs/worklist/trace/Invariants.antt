@@ -1,0 +1,13 @@
+use Rattle.std.proofs.Common.{◌≡◌, ◌-◌, length, slice_index}
+use Rattle.filter_trace.specs.Trace.{IsWork}
+use Rattle.filter_trace.proofs.worklist.trace.Given as goal
+
+abbrev pub invariant-loop-next : goal.invariant-loop-next
+invariant-loop-next g l = record {
+  same : l.found.kinds ≡ g.F.Filter.KINDS;
+  work : IsWork (slice_index l.words) (slice_index l.kinds) (g.F.Filter.links_of l.filter) g.F.Filter.KINDS l.next l.found.pairs.items l.found.marks;
+  long : length l.found.marks ≡ length l.initial.found.marks;
+}
+
+abbrev pub decreases-loop-next : goal.decreases-loop-next
+decreases-loop-next g l = length l.initial.found.marks - l.next

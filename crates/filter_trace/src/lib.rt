@@ -1,0 +1,18 @@
+//! Which blocks of a heap image its roots reach, through the links that a filter lists.
+#![tactic(auto)]
+
+mod bits;
+mod fault;
+mod filter;
+mod marks;
+mod pairs;
+mod scan;
+mod worklist;
+
+pub use fault::TraceFault;
+pub use filter::Filter;
+pub use marks::Marks;
+pub use worklist::trace;
+
+#[cfg(test)]
+mod tests;

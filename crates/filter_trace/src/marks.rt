@@ -1,0 +1,68 @@
+//! What a trace has reached.
+ghost use Rattle.std.specs.Prelude.{◌≡◌, ℕ, ◌<◌, ◌^◌, ◌↔◌, IsTrue, Contains};
+ghost use Rattle.heap_model.specs.declared.block.Block.{Block};
+ghost use Rattle.heap_model.specs.Blocks.{Layout, IsBlock};
+ghost use Rattle.super_block.specs.Division.{Describes};
+
+use crate::pairs::PairSet;
+use heap_model::Block;
+use std::marker::Model;
+use super_block::{Directory, WORD_BYTES};
+
+/// What a trace has reached: blocks, each with the kinds that it was reached with.
+#[derive(Drop)]
+pub struct Marks {
+    pub(crate) directory: Directory,
+    pub(crate) found: PairSet,
+}
+
+impl Model for Marks {
+    ghost use Rattle.std.specs.Prelude.{List, ℕ};
+    ghost use Rattle.heap_model.specs.declared.block.Block.{Block};
+
+    ghost Value = { List (Block × ℕ) };
+
+    ghost use Rattle.filter_trace.specs.MarksInside.{IsSound};
+
+    ghost view = { λ m. m.found.pairs.items };
+
+    ghost invariant = { IsSound };
+}
+
+impl Marks {
+    /// Whether the block has been reached as one of the kind. Also a block that the image does not
+    /// have may be asked for.
+    pub fn has(&self, block: Block, kind: u32) -> bool
+        ensures { IsTrue result ↔ Contains self.now (block, kind) }
+    {
+        if !is_block(&self.directory, block) {
+            return false;
+        }
+        kind < self.found.kinds && self.found.has(block, kind)
+    }
+
+    /// Whether the block has been reached at all, in time that grows with the number of kinds.
+    pub fn holds(&self, block: Block) -> bool
+        ensures { IsTrue result ↔ ((kind : ℕ) × Contains self.now (block, kind)) }
+    {
+        if !is_block(&self.directory, block) {
+            return false;
+        }
+        self.found.holds(block)
+    }
+}
+
+/// Whether the image that the directory describes has the block.
+fn is_block(directory: &Directory, block: Block) -> bool
+    ensures yes { (l : Layout) → Describes directory.now l → IsTrue result → IsBlock l block }
+    ensures no { (l : Layout) → Describes directory.now l → block.first_word < 2 ^ 32
+        → IsBlock l block → IsTrue result }
+{
+    let Some(offset) = block.first_word.checked_mul(WORD_BYTES) else {
+        return false;
+    };
+    match directory.name(offset) {
+        Some(named) => named == block,
+        None => false,
+    }
+}

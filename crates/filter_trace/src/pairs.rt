@@ -1,0 +1,86 @@
+//! A growing set of pairs of a block and a kind, each with a mark bit by which it is found again.
+ghost use Rattle.std.specs.Prelude.{◌≡◌, ◌+◌, ◌*◌, ℕ, ◌<◌, ◌≤◌, ◌^◌, [], true, false, IsTrue, length, slice_index_or, IfOk, OnOk};
+ghost use Rattle.std.specs.List.{All};
+ghost use Rattle.filter_trace.specs.Pairs.{mark_of, HasRoom};
+
+use crate::bits::Bits;
+use heap_model::Block;
+use std::alloc::{AllocError, Global};
+
+/// Pairs of a block and a kind.
+#[derive(Drop)]
+pub struct PairSet {
+    /// Kinds lie below this.
+    pub kinds: u32,
+    /// The pairs, in the order in which they came.
+    pub pairs: Vec<(Block, u32)>,
+    /// For each word of the image and each kind, whether the block that begins there is in the set.
+    pub marks: Bits,
+}
+
+impl PairSet {
+    ghost use Rattle.filter_trace.specs.Steps.{Adds, IsMarked};
+
+    /// The empty set, for the blocks of an image of so many words.
+    pub fn new(alloc: Global, words: usize, kinds: u32) -> Result<Self, AllocError>
+        requires { words < 2 ^ 31 }
+        ensures kinds { IfOk result (λ set. set.kinds ≡ kinds) }
+        ensures empty { IfOk result (λ set. set.pairs.items ≡ []) }
+        ensures room { IfOk result (λ set. HasRoom words kinds set.marks) }
+        ensures clear { IfOk result (λ set. All (λ mark. mark ≡ false) set.marks) }
+    {
+        Ok(PairSet {
+            kinds,
+            pairs: Vec::new(alloc),
+            marks: Bits::new(alloc, words * kinds as usize)?,
+        })
+    }
+
+    /// Adds the pair, unless it is there.
+    pub fn insert(&mut self, block: Block, kind: u32) -> Result<(), AllocError>
+        requires here { mark_of self.old.kinds block kind < length self.old.marks }
+        requires short { length self.old.marks < 2 ^ 64 }
+        ensures kinds { self.new.kinds ≡ self.old.kinds }
+        ensures ok { OnOk result (Adds block kind self.old self.new) }
+    {
+        let mark = self.mark_of(block, kind);
+        if self.marks.get(mark) {
+            return Ok(());
+        }
+        self.pairs.push((block, kind))?;
+        self.marks.set(mark);
+        Ok(())
+    }
+
+    /// Whether the pair is marked.
+    pub fn has(&self, block: Block, kind: u32) -> bool
+        requires here { mark_of self.now.kinds block kind < length self.now.marks }
+        requires short { length self.now.marks < 2 ^ 64 }
+        ensures { result ≡ slice_index_or self.now.marks (mark_of self.now.kinds block kind) false }
+    {
+        self.marks.get(self.mark_of(block, kind))
+    }
+
+    /// Whether the block is marked with some kind.
+    pub fn holds(&self, block: Block) -> bool
+        requires here { block.first_word * self.now.kinds + self.now.kinds ≤ length self.now.marks }
+        requires short { length self.now.marks < 2 ^ 64 }
+        ensures some { IsTrue result → (kind : ℕ) × (kind < self.now.kinds) × IsMarked self.now block kind }
+        ensures each { (kind : ℕ) → kind < self.now.kinds → IsMarked self.now block kind → IsTrue result }
+    {
+        for kind in 0..self.kinds {
+            if self.has(block, kind) {
+                return true;
+            }
+        }
+        false
+    }
+
+    /// The index of the pair's mark.
+    pub fn mark_of(&self, block: Block, kind: u32) -> usize
+        requires { mark_of self.now.kinds block kind < 2 ^ 64 }
+        ensures { result ≡ mark_of self.now.kinds block kind }
+    {
+        (block.first_word * self.kinds as u64 + kind as u64) as usize
+    }
+}

@@ -1,0 +1,3 @@
+pub mod CallerLemmas
+pub mod MarkLemmas
+pub mod StepLemmas

@@ -1,0 +1,10 @@
+pub mod ClosedWords
+pub mod Crash
+pub mod Examples
+pub mod LinesView
+pub mod Marked
+pub mod Marks
+pub mod Plain
+pub mod Sound
+pub mod Steps
+pub mod View
