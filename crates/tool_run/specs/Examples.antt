@@ -24,8 +24,11 @@ absent_line = refl
 length_line : bad_header_line Length ≡ codes "bad header length" ++ line_feed
 length_line = refl
 
-lines : (own_line usage ≡ Some (codes "usage" ++ line_feed)) × (own_line done ≡ None) × (own_line bad_header ≡ None)
-lines = (refl, refl, refl)
+line_of_usage : own_line usage ≡ Some (codes "usage" ++ line_feed)
+line_of_usage = refl
+
+no_own_line : (own_line done ≡ None) × (own_line bad_header ≡ None)
+no_own_line = (refl, refl)
 
 -- a leading zero changes nothing
 number_one : IsNumber (codes "01") 1
@@ -35,7 +38,14 @@ name_h : IsImageName (codes "h")
 name_h = record { some = lit< tt; no_option = λ e. omega (arith, e) }
 
 format_one : Asks (codes "format" ∷ codes "h" ∷ codes "01" ∷ []) (format_image (codes "h") 1)
-format_one = record { number = codes "01"; words_are = refl; named = name_h; counted = number_one; least = lit≤ tt; most = lit≤ tt }
+format_one = record {
+  number = codes "01";
+  words_are = refl;
+  named = name_h;
+  counted = number_one;
+  least = lit≤ tt;
+  most = lit≤ tt;
+}
 
 show_one : Asks (codes "show" ∷ codes "h" ∷ []) (show_image (codes "h") false)
 show_one = record { words_are = refl; named = name_h }
@@ -56,9 +66,12 @@ word_at i words = slice_index_or words i []
 one_command : (words : List (List ℕ)) (a b : Command) → Asks words a → Asks words b → a ≡ b
 unfolding word_at
 one_command words (format_image image capacity) (format_image other count) asks also =
-    let same : asks.number ≡ also.number = sym (ap (word_at 2) asks.words_are) ∙ ap (word_at 2) also.words_are in
-    let named : image ≡ other = sym (ap (word_at 1) asks.words_are) ∙ ap (word_at 1) also.words_are in
-    let counted : capacity ≡ count = sym asks.counted.value ∙ ap (digits_value 10) same ∙ also.counted.value in
+    let same : asks.number ≡ also.number =
+    sym (ap (word_at 2) asks.words_are) ∙ ap (word_at 2) also.words_are in
+    let named : image ≡ other =
+    sym (ap (word_at 1) asks.words_are) ∙ ap (word_at 1) also.words_are in
+    let counted : capacity ≡ count =
+    sym asks.counted.value ∙ ap (digits_value 10) same ∙ also.counted.value in
     cc
 one_command words (show_image image true) (show_image other true) asks also =
     let named : image ≡ other = sym (ap (word_at 1) asks.words_are) ∙ ap (word_at 1) also.words_are in

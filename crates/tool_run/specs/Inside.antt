@@ -64,7 +64,8 @@ Refuses command contents get_failed (Malformed cause) = Gets command × IsMalfor
 Refuses command contents get_failed (Outside at value) = Gets command × HasOutside contents (image_name command) at value
 
 -- the result was put and printed in full
-pub record IsDelivered (name : List ℕ) (image : Option (List ℕ)) (text : List ℕ) (old new : Contents) (taken taken' : Option (List ℕ)) : Type 0 where
+pub record IsDelivered (name : List ℕ) (image : Option (List ℕ)) (text : List ℕ) (old new : Contents)
+    (taken taken' : Option (List ℕ)) : Type 0 where
   pub stored : Puts name image old new
   pub printed : taken' ≡ taken_with taken text
 
@@ -74,9 +75,12 @@ pub record IsUntouched (old new : Contents) (taken taken' : Option (List ℕ)) :
   pub sink : taken' ≡ taken
 
 -- why a result was not put and printed in full
-abbrev pub DeliveryFails : List ℕ → Option (List ℕ) → List ℕ → Contents → Contents → Type 0 → Type 0 → Option (List ℕ) → Option (List ℕ) → Fault → Type 0
-DeliveryFails name image text old new put_failed print_failed taken taken' Memory = IsUntouched old new taken taken'
-DeliveryFails name image text old new put_failed print_failed taken taken' WriteFault = IsCutOff name image text old new put_failed print_failed taken taken'
+abbrev pub DeliveryFails : List ℕ → Option (List ℕ) → List ℕ → Contents → Contents → Type 0 → Type 0
+    → Option (List ℕ) → Option (List ℕ) → Fault → Type 0
+DeliveryFails name image text old new put_failed print_failed taken taken' Memory =
+    IsUntouched old new taken taken'
+DeliveryFails name image text old new put_failed print_failed taken taken' WriteFault =
+    IsCutOff name image text old new put_failed print_failed taken taken'
 DeliveryFails name image text old new put_failed print_failed taken taken' Usage = ⊥
 DeliveryFails name image text old new put_failed print_failed taken taken' ReadFault = ⊥
 DeliveryFails name image text old new put_failed print_failed taken taken' Absent = ⊥
@@ -84,16 +88,19 @@ DeliveryFails name image text old new put_failed print_failed taken taken' (Malf
 DeliveryFails name image text old new put_failed print_failed taken taken' (Outside at value) = ⊥
 
 -- a command's result was made, put and printed in full
-pub record IsCarriedOut (command : Command) (old new : Contents) (taken taken' : Option (List ℕ)) : Type 0 where
+pub record IsCarriedOut (command : Command) (old new : Contents) (taken taken' : Option (List ℕ))
+    : Type 0 where
   pub image : Option (List ℕ)
   pub text : List ℕ
   pub made : Makes command old image text
   pub delivered : IsDelivered (image_name command) image text old new taken taken'
 
 -- nothing was made for a command, or not all of it was put and printed
-pub record IsStopped (command : Command) (old new : Contents) (store_failed sink_failed : Type 0) (taken taken' : Option (List ℕ)) (fault : Fault) : Type 0 where
+pub record IsStopped (command : Command) (old new : Contents) (store_failed sink_failed : Type 0)
+    (taken taken' : Option (List ℕ)) (fault : Fault) : Type 0 where
   pub cause : Refuses command old store_failed fault × IsUntouched old new taken taken'
-      ⊎ ((image : Option (List ℕ)) × (text : List ℕ) × Makes command old image text × DeliveryFails (image_name command) image text old new store_failed sink_failed taken taken' fault)
+      ⊎ ((image : Option (List ℕ)) × (text : List ℕ) × Makes command old image text
+      × DeliveryFails (image_name command) image text old new store_failed sink_failed taken taken' fault)
 
 -- a failed `get`, as a fault of the tool
 abbrev pub fault_of_get : GetFault → Fault
@@ -107,14 +114,15 @@ fault_of_put PutFailed = WriteFault
 fault_of_put PutMemory = Memory
 
 -- the store failed to put an image: the name has the old bytes or the new
-pub record IsHalfPut (name : List ℕ) (image : Option (List ℕ)) (old new : Contents) (put_failed : Type 0) : Type 0 where
+pub record IsHalfPut (name : List ℕ) (image : Option (List ℕ)) (old new : Contents) (put_failed : Type 0)
+    : Type 0 where
   pub bytes : List ℕ
   pub is_some : image ≡ Some bytes
   pub cause : put_failed
   pub stored : HoldsOldOrNew name bytes old new
   pub others : KeepsOthers name old new
 
--- why an image was not put: an image that is to be put, and want of memory, or a failure of the store
+-- why an image that is to be put was not: want of memory, or a failure of the store
 abbrev pub PutFails : List ℕ → Option (List ℕ) → Contents → Contents → Type 0 → Fault → Type 0
 PutFails name image old new put_failed Memory = new ≡ old
 PutFails name image old new put_failed WriteFault = IsHalfPut name image old new put_failed

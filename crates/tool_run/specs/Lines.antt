@@ -45,4 +45,5 @@ outside_line at value = codes "pointer outside at " ++ decimal at ++ codes " val
 
 -- A sink took the line or, only where the count of its failures rose, a first part of it.
 abbrev pub Tells : List ℕ → ℕ → ℕ → Option (List ℕ) → Option (List ℕ) → Type 0
-Tells line faults faults' taken taken' = (taken' ≡ taken_with taken line) ⊎ (Rose faults faults' × TakesPart line taken taken')
+Tells line faults faults' taken taken' =
+    (taken' ≡ taken_with taken line) ⊎ (Rose faults faults' × TakesPart line taken taken')

@@ -17,7 +17,8 @@ use Rattle.tool_run.specs.Command.{Command, format_image, show_image}
 
 -- what `format` prints: the capacity, and the length of the image in bytes
 abbrev pub formatted_line : ℕ → List ℕ
-formatted_line capacity = codes "formatted " ++ decimal capacity ++ codes " bytes " ++ decimal (8 * image_words capacity) ++ line_feed
+formatted_line capacity = codes "formatted " ++ decimal capacity
+    ++ codes " bytes " ++ decimal (8 * image_words capacity) ++ line_feed
 
 -- the first cause for which an image of these bytes is malformed
 abbrev pub fault_of : List ℕ → Option BadHeader

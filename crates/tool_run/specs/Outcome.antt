@@ -1,4 +1,5 @@
--- What a call of the tool has done, by its status. `old` is what the store held before it and `new` what it holds after it; `taken` and `taken'` are what the sink had taken.
+-- What a call of the tool has done, by its status. `old` is what the store held before it, `new` what
+-- it holds after it; `taken` and `taken'` are what the sink had taken.
 use Rattle.std.specs.Prelude.{◌≡◌, ℕ, List, Option, Some, None}
 use Rattle.heap_model.specs.declared.header.BadHeader.{BadHeader}
 use Rattle.tool_ports.specs.Contents.{Contents, Holds, HoldsOldOrNew, KeepsOthers, Lacks, told_of}
@@ -14,7 +15,8 @@ Puts name None old new = new ≡ old
 Puts name (Some image) old new = Holds new name image × KeepsOthers name old new
 
 -- the words ask for a command, and it was carried out in full
-pub record IsDone (words : List (List ℕ)) (old new : Contents) (taken taken' : Option (List ℕ)) : Type 0 where
+pub record IsDone (words : List (List ℕ)) (old new : Contents) (taken taken' : Option (List ℕ))
+    : Type 0 where
   pub command : Command
   pub asked : Asks words command
   pub image : Option (List ℕ)
@@ -24,16 +26,19 @@ pub record IsDone (words : List (List ℕ)) (old new : Contents) (taken taken' :
   pub printed : taken' ≡ taken_with taken text
 
 -- what is left of a result that wasn't put and printed in full
-pub data IsCutOff (name : List ℕ) (image : Option (List ℕ)) (text : List ℕ) (old new : Contents) (store_failed sink_failed : Type 0) (taken taken' : Option (List ℕ)) : Type 0 where
+pub data IsCutOff (name : List ℕ) (image : Option (List ℕ)) (text : List ℕ) (old new : Contents)
+    (store_failed sink_failed : Type 0) (taken taken' : Option (List ℕ)) : Type 0 where
   -- The store failed: the name has its old bytes or the new, and nothing is printed.
-  while_putting : (bytes : List ℕ) → image ≡ Some bytes → store_failed → HoldsOldOrNew name bytes old new → KeepsOthers name old new → taken' ≡ taken
+  while_putting : (bytes : List ℕ) → image ≡ Some bytes → store_failed
+      → HoldsOldOrNew name bytes old new → KeepsOthers name old new → taken' ≡ taken
       → IsCutOff name image text old new store_failed sink_failed taken taken'
   -- The sink failed: the image is put, and a first part of the text is printed.
   while_printing : sink_failed → Puts name image old new → TakesPart text taken taken'
       → IsCutOff name image text old new store_failed sink_failed taken taken'
 
 -- the words ask for a command, and its result was cut off; `Told` is what was printed after that
-pub record IsWriteFault (words : List (List ℕ)) (old new : Contents) (store_failed sink_failed : Type 0) (taken : Option (List ℕ)) (Told : Option (List ℕ) → Type 0) : Type 0 where
+pub record IsWriteFault (words : List (List ℕ)) (old new : Contents) (store_failed sink_failed : Type 0)
+    (taken : Option (List ℕ)) (Told : Option (List ℕ) → Type 0) : Type 0 where
   pub command : Command
   pub asked : Asks words command
   pub image : Option (List ℕ)
@@ -50,15 +55,17 @@ pub record AsksToGet (words : List (List ℕ)) (name : List ℕ) : Type 0 where
   pub gets : Gets command
   pub is_named : image_name command ≡ name
 
--- the words name an image that isn't there, where the store tells; `Told` is the line that was printed
-pub record IsAbsent (words : List (List ℕ)) (contents : Contents) (Told : List ℕ → Type 0) : Type 0 where
+-- the words name an image that isn't there, where the store tells; `Told` says which line was told
+pub record IsAbsent (words : List (List ℕ)) (contents : Contents) (Told : List ℕ → Type 0)
+    : Type 0 where
   pub name : List ℕ
   pub asks : AsksToGet words name
   pub lacks : Lacks contents name
   pub told : Told (no_image_line name)
 
 -- the words name an image with a malformed header
-pub record IsBadHeader (words : List (List ℕ)) (contents : Contents) (Told : List ℕ → Type 0) : Type 0 where
+pub record IsBadHeader (words : List (List ℕ)) (contents : Contents) (Told : List ℕ → Type 0)
+    : Type 0 where
   pub name : List ℕ
   pub asks : AsksToGet words name
   pub cause : BadHeader

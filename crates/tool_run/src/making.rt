@@ -21,7 +21,7 @@ use trace_text::{map_text, report_text};
 /// How many bytes of an image are asked for: one more than the longest image has.
 const MOST_BYTES: usize = LONGEST_IMAGE as usize + 1;
 
-/// What a command has made: the image that is to be put, if any, and the text that is to be printed.
+/// What a command has made: the image that is to be put, if any, and the text to be printed.
 #[derive(Drop)]
 pub struct Product {
     pub image: Option<Bytes>,

@@ -41,13 +41,15 @@ pub fn run_tool<R, I: ImageStore, O: Sink>(
         (Rose (O.faults out.old) (O.faults out.new)) (O.taken out.old)
         (λ taken. Tells write_line (O.faults out.old) (O.faults out.new) taken (O.taken out.new)) }
     ensures absent { result ≡ no_image → IsAbsent (texts words.now) (I.contents images.old)
-        (λ line. Tells line (O.faults out.old) (O.faults out.new) (O.taken out.old) (O.taken out.new)) }
+        (λ line. Tells line (O.faults out.old) (O.faults out.new)
+        (O.taken out.old) (O.taken out.new)) }
     ensures cause { result ≡ bad_header → IsBadHeader (texts words.now) (I.contents images.old)
         (λ line. Tells line (O.faults out.old) (O.faults out.new) (O.taken out.old) (O.taken out.new)) }
     ensures outside { result ≡ outside → IsOutsideAt (texts words.now) (I.contents images.old)
         (λ line. Tells line (O.faults out.old) (O.faults out.new) (O.taken out.old) (O.taken out.new)) }
     ensures line { IfSome (own_line result)
-        (λ line. Tells line (O.faults out.old) (O.faults out.new) (O.taken out.old) (O.taken out.new)) }
+        (λ line. Tells line (O.faults out.old) (O.faults out.new)
+        (O.taken out.old) (O.taken out.new)) }
     ensures unchanged { LeavesStore result → I.contents images.new ≡ I.contents images.old }
 
     // When a status comes: nothing else does, but want of memory or a failure before it.

@@ -16,7 +16,8 @@ state_name false = codes "dirty"
 
 -- the report's first line
 abbrev pub heap_line_of : ℕ → Bool → List ℕ
-heap_line_of capacity is_clean = codes "heap " ++ decimal capacity ++ codes " " ++ state_name is_clean ++ line_feed
+heap_line_of capacity is_clean =
+    codes "heap " ++ decimal capacity ++ codes " " ++ state_name is_clean ++ line_feed
 
 -- how many of the blocks have so many words
 abbrev pub count_of : ℕ → List Block → ℕ
