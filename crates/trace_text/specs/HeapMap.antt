@@ -52,10 +52,10 @@ inside_use first = codes "inside " ++ decimal first
 -- what superblock d is used for, in words
 abbrev pub use_of : Image → List Block → List ℕ → ℕ → List ℕ
 use_of image held free d =
-  if list_any (λ f. f == d) free then codes "free"
-  else if is_class (image (info_word d)) then class_use (capacity_of image) (image (info_word d)) held d
-  else if is_large (image (info_word d)) then codes "large " ++ decimal (image (info_word d) / 256)
-  else inside_use (first_of (capacity_of image) d held)
+    if list_any (λ f. f == d) free then codes "free"
+    else if is_class (image (info_word d)) then class_use (capacity_of image) (image (info_word d)) held d
+    else if is_large (image (info_word d)) then codes "large " ++ decimal (image (info_word d) / 256)
+    else inside_use (first_of (capacity_of image) d held)
 
 -- the line of a superblock
 abbrev pub line_of : ℕ → List ℕ → List ℕ

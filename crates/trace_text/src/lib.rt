@@ -9,3 +9,5 @@ mod report;
 pub use map::map_lines;
 pub use report::{heap_line, report_lines};
 
+#[cfg(test)]
+mod tests;
