@@ -1,5 +1,5 @@
 -- The map of a heap, as bytes: what each superblock that has been taken is used for.
-use Rattle.std.specs.Prelude.{◌≡◌, ℕ, ◌+◌, ◌-◌, ◌*◌, ◌/◌, ◌%◌, ◌&&◌, ◌==◌, ◌≤◌, AllPairs, if◌then◌else◌, nat_lt, nat_le, Bool, List, [], ◌∷◌, ◌++◌, codes, decimal, length, map, filter, find, slice_index}
+use Rattle.std.specs.Prelude.{ℕ, ◌+◌, ◌-◌, ◌/◌, ◌%◌, ◌&&◌, ◌==◌, ◌≤◌, AllPairs, if◌then◌else◌, nat_lt, nat_le, Bool, List, ◌++◌, codes, decimal, length, map, filter, find}
 use Rattle.std.specs.List.{flat_map, range_with_len, list_any}
 use Rattle.std.specs.Option.{option_map_or}
 use Rattle.heap_model.specs.declared.block.Block.{Block}

@@ -1,4 +1,4 @@
-use Rattle.std.proofs.Common.{◌≡◌, ◌+◌, slice_index, refl, arith}
+use Rattle.std.proofs.Common.{◌+◌, slice_index, refl, arith}
 use Rattle.trace_text.specs.HeapMap.{used_line, superblock_line}
 use Rattle.trace_text.proofs.TextLemmas.{line_more}
 use Rattle.trace_text.proofs.map.map_of_image.Goals as goal
