@@ -2,3 +2,4 @@ pub mod PrintLemmas
 pub mod DeliveryLemmas
 pub mod ImageLemmas
 pub mod CallLemmas
+pub mod StatusLemmas

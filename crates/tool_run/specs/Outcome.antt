@@ -23,11 +23,13 @@ pub record IsDone (words : List (List ℕ)) (old new : Contents) (taken taken' :
   pub printed : taken' ≡ taken_with taken text
 
 -- what is left of a result that wasn't put and printed in full
-pub data IsCutOff (name text : List ℕ) (old new : Contents) (store_failed sink_failed : Type 0) (taken : Option (List ℕ)) : Option (List ℕ) → Option (List ℕ) → Type 0 where
+pub data IsCutOff (name : List ℕ) (image : Option (List ℕ)) (text : List ℕ) (old new : Contents) (store_failed sink_failed : Type 0) (taken taken' : Option (List ℕ)) : Type 0 where
   -- The store failed: the name has its old bytes or the new, and nothing is printed.
-  while_putting : (image : List ℕ) → store_failed → HoldsOldOrNew name image old new → KeepsOthers name old new → IsCutOff name text old new store_failed sink_failed taken (Some image) taken
+  while_putting : (bytes : List ℕ) → image ≡ Some bytes → store_failed → HoldsOldOrNew name bytes old new → KeepsOthers name old new → taken' ≡ taken
+      → IsCutOff name image text old new store_failed sink_failed taken taken'
   -- The sink failed: the image is put, and a first part of the text is printed.
-  while_printing : (image taken' : Option (List ℕ)) → sink_failed → Puts name image old new → TakesPart text taken taken' → IsCutOff name text old new store_failed sink_failed taken image taken'
+  while_printing : sink_failed → Puts name image old new → TakesPart text taken taken'
+      → IsCutOff name image text old new store_failed sink_failed taken taken'
 
 -- the words ask for a command, and its result was cut off; `Told` is what was printed after that
 pub record IsWriteFault (words : List (List ℕ)) (old new : Contents) (store_failed sink_failed : Type 0) (taken : Option (List ℕ)) (Told : Option (List ℕ) → Type 0) : Type 0 where
@@ -37,7 +39,7 @@ pub record IsWriteFault (words : List (List ℕ)) (old new : Contents) (store_fa
   pub text : List ℕ
   pub made : Makes command old image text
   pub before : Option (List ℕ)
-  pub left : IsCutOff (image_name command) text old new store_failed sink_failed taken image before
+  pub left : IsCutOff (image_name command) image text old new store_failed sink_failed taken before
   pub told : Told before
 
 -- the words ask for a command that gets the image of this name

@@ -1,12 +1,17 @@
 -- Worked examples of the texts.
-use Rattle.std.specs.Prelude.{◌≡◌, List, [], ◌∷◌, ◌++◌, codes, true, refl}
+use Rattle.std.specs.Prelude.{◌≡◌, List, [], ◌∷◌, ◌++◌, codes, true, false, refl}
 use Rattle.std.specs.Fmt.{digits}
 use Rattle.heap_model.specs.declared.block.Block.{Block}
 use Rattle.heap_model.specs.Examples.{formatted}
 use Rattle.heap_model.specs.Sizes.{class_sizes, size_of, words_of_class}
 use Rattle.trace_text.specs.HeapMap.{map_of}
 use Rattle.trace_text.specs.Ranges.{ranges_of}
-use Rattle.trace_text.specs.Report.{line_feed, classes, report_of}
+use Rattle.trace_text.specs.Report.{line_feed, classes, heap_line_of, report_of}
+
+-- the first line
+most_dirty : heap_line_of 256 false ≡ codes "heap 256 dirty" ++ line_feed
+unfolding digits
+most_dirty = refl
 
 -- runs of one number, of three and of none
 two_apart : ranges_of (0 ∷ 2 ∷ []) ≡ codes " 0 2"

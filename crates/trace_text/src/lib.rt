@@ -6,7 +6,7 @@ mod map;
 mod ranges;
 mod report;
 
-pub use map::map_lines;
+pub use map::{map_lines, map_text};
 pub use report::{heap_line, report_lines};
 
 #[cfg(test)]

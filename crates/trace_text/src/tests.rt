@@ -5,6 +5,7 @@ ghost use Rattle.trace_text.specs.HeapMap.{AreInOrder};
 use super::*;
 use crate::map::map_of_image;
 use crate::report::report_of_blocks;
+use heap_recover::{Recovered, Was};
 use region_header::{format, read_header};
 use std::alloc::{AllocError, Global};
 use std::test::Fail;
@@ -140,7 +141,12 @@ fn an_empty_heap_is_reported_and_mapped(rt: HostRuntime) -> Result<(), Fail> {
     assert_eq!(rt; line.as_slice(), b"heap 256 dirty\n".as_slice());
     let report = report_lines(rt.alloc(), &heap, false)?;
     assert_eq!(rt; report.as_slice(), b"heap 256 dirty\n".as_slice());
-    let map = map_lines(rt.alloc(), &heap, &[])?;
+    let recovered = Recovered {
+        heap,
+        was: Was::Dirty,
+        free: Vec::new(rt.alloc()),
+    };
+    let map = map_text(rt.alloc(), &recovered)?;
     assert_eq!(rt; map.as_slice(), b"used 0 free 0 fresh 256\n".as_slice());
     Ok(())
 }

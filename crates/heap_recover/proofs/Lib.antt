@@ -1,0 +1,10 @@
+pub mod AscendingLemmas
+pub mod WritingLemmas
+pub mod PartLemmas
+pub mod SurveyLemmas
+pub mod SuperblockLemmas
+pub mod ListLemmas
+pub mod PassLemmas
+pub mod RoleLemmas
+pub mod RebuildLemmas
+pub mod KeptLemmas

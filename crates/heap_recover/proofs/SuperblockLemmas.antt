@@ -1,0 +1,120 @@
+-- The words of one superblock after its chain and its descriptor are written.
+use Rattle.std.proofs.Common.{◌≡◌, ◌≢◌, ℕ, zero, suc, ◌+◌, ◌-◌, ◌*◌, ◌/◌, ◌<◌, ◌≤◌, ◌^◌, ◌⊎◌, inl, inr, List, [], ◌∷◌, length, get_or, slice_index, All, refl, ap, sym, subst, ◌∙◌, arith}
+use Rattle.std.specs.List.{Contains, AllPairs}
+use Rattle.std.proofs.Math.Nat.{mul-div_cancel}
+use Rattle.std.proofs.lemmas.List.Elements.{Contains-get_or}
+use Rattle.heap_model.specs.declared.block.Block.{Block}
+use Rattle.heap_model.specs.Geometry.{info_word, anchor_word, link_word, start_word, image_words}
+use Rattle.heap_model.specs.Header.{capacity_of}
+use Rattle.heap_model.specs.Image.{Image}
+use Rattle.heap_model.specs.Sizes.{IsClass, words_of_class, blocks_of}
+use Rattle.heap_model.specs.Words.{anchor_of, partial_state, full_anchor}
+use Rattle.heap_model.specs.Recovered.{IsBlockOfClass}
+use Rattle.heap_model.specs.Recovery.{HasInfoAndAnchor, IsRechained, but_last}
+use Rattle.heap_model.specs.Chains.{Walks}
+use Rattle.heap_model.proofs.SizeLemmas.{two_words}
+use Rattle.heap_recover.specs.declared.roles.Role.{Role}
+use Rattle.heap_recover.specs.declared.roles.Role.TheVariants.{Free, Partial, Full, Large}
+use Rattle.heap_recover.specs.Rebuilt.{IsChained, IsOf, is_info, is_anchor, is_link, is_inside, AreSpares, HasSpares, HasInfo, CountsSpares, IsAnchorOf, IsInfoAfter, IsWrittenAs, IsDescribed, KeepsInside, IsRebuilt}
+use Rattle.heap_recover.proofs.SurveyLemmas.{class_inside, none_of}
+
+-- a member of all but the last is a member
+pub but_last_in : (xs : List ℕ) (w : ℕ) → Contains (but_last xs) w → Contains xs w
+but_last_in [] w has = has
+but_last_in (x ∷ []) w has = absurd (none_of refl has)
+but_last_in (x ∷ y ∷ ys) w (zero, below, is) = (zero, omega arith, is)
+but_last_in (x ∷ y ∷ ys) w (suc k, below, is) = let rest = but_last_in (y ∷ ys) w (k, omega arith, is) in (suc rest.0, (let inside = rest.1 in omega arith), rest.2)
+
+-- a number of a strictly ascending list is at least its index
+pub ascending_index : (xs : List ℕ) → AllPairs (λ x y. x < y) xs → (k : ℕ) → k < length xs → k ≤ slice_index xs k
+ascending_index xs ascending zero below = omega arith
+ascending_index xs ascending (suc k) below =
+    let before = ascending_index xs ascending k (omega arith) in
+    let step = ascending k (suc k) 0 (omega arith) below in omega arith
+
+-- the spares of a superblock lie in it
+pub spares_inside : (capacity d : ℕ) (spares : List ℕ) (role : Role) → HasSpares capacity d spares role → (w : ℕ) → Contains spares w
+    → (start_word capacity d ≤ w) × (w < start_word capacity (d + 1))
+spares_inside capacity d spares Free none w has = absurd (none_of none has)
+spares_inside capacity d spares (Partial class) are w has =
+    let block = are.blocks w has in
+    let inside = class_inside capacity class d block.0 (record { first_word = w; words = words_of_class class }) are.is_class block.1 in
+    (inside.0, omega (arith, inside.1, inside.2))
+spares_inside capacity d spares (Full class) none w has = absurd (none_of none has)
+spares_inside capacity d spares Large none w has = absurd (none_of none has)
+
+-- so their words are words of the image
+pub spares_fit : (capacity d : ℕ) (spares : List ℕ) (role : Role) → HasSpares capacity d spares role → d < capacity → All (λ w. w < image_words capacity) spares
+spares_fit capacity d spares role has below k x less =
+    let inside = spares_inside capacity d spares role has (get_or spares k x) (Contains-get_or spares k x less) in omega (arith, inside.1)
+
+-- they are in ascending order
+pub spares_ascend : (capacity d : ℕ) (spares : List ℕ) (role : Role) → HasSpares capacity d spares role → AllPairs (λ x y. x < y) spares
+spares_ascend capacity d spares Free none = subst (λ xs. AllPairs (λ x y. x < y) xs) (sym none) (λ i j e less below. absurd (omega arith))
+spares_ascend capacity d spares (Partial class) are = are.ascending
+spares_ascend capacity d spares (Full class) none = subst (λ xs. AllPairs (λ x y. x < y) xs) (sym none) (λ i j e less below. absurd (omega arith))
+spares_ascend capacity d spares Large none = subst (λ xs. AllPairs (λ x y. x < y) xs) (sym none) (λ i j e less below. absurd (omega arith))
+
+-- which block is the first spare one
+pub record IsFirstSpare (capacity class d : ℕ) (spares : List ℕ) (index : ℕ) : Type 0 where
+  pub below : index < blocks_of class
+  pub at : slice_index spares 0 ≡ start_word capacity d + index * words_of_class class
+  pub quotient : (slice_index spares 0 - start_word capacity d) / words_of_class class ≡ index
+  pub few : length spares < 2 ^ 31
+
+pub first_spare : (capacity class d : ℕ) (spares : List ℕ) → capacity ≤ 256 → d < capacity → AreSpares capacity class d spares → (index : ℕ) × IsFirstSpare capacity class d spares index
+first_spare capacity class d spares small below are =
+    let block = are.blocks (slice_index spares 0) (Contains-get_or spares 0 0 are.some) in
+    let at : slice_index spares 0 ≡ start_word capacity d + block.0 * words_of_class class = block.1.at in
+    let rest : slice_index spares 0 - start_word capacity d ≡ block.0 * words_of_class class = omega arith in
+    let last = ascending_index spares are.ascending (length spares - 1) (let some = are.some in omega arith) in
+    let inside = spares_inside capacity d spares (Partial class) are (slice_index spares (length spares - 1)) (Contains-get_or spares (length spares - 1) 0 (let some = are.some in omega arith)) in (
+      block.0,
+      record {
+        below = block.1.below;
+        at = at;
+        quotient = ap (λ x. x / words_of_class class) rest ∙ mul-div_cancel block.0 (let two = two_words class are.is_class in omega arith);
+        few = omega (arith, inside.1);
+      },
+    )
+
+-- a walk on words that agree
+pub walks_same : (next next' : ℕ → ℕ) (bs : List ℕ) (from : ℕ) → ((b : ℕ) → Contains bs b → next' b ≡ next b) → Walks next from bs → Walks next' from bs
+walks_same next next' [] from same walks = tt
+walks_same next next' (b ∷ bs) from same walks =
+    (walks.0, subst (λ f. Walks next' f bs) (sym (same b (0, omega arith, refl))) (walks_same next next' bs (next b) (λ x has. same x (suc has.0, (let below = has.1 in omega arith), has.2)) walks.1))
+
+-- the chain and the descriptor of a superblock are written
+module _ (old chained new : Image) (capacity d : ℕ) (spares : List ℕ) (anchor : ℕ) (below : d < capacity) (is_chained : IsChained old chained spares) where
+  -- a word that is no first word of a chained block is as it was before the chain
+  before_chain : (role : Role) → HasSpares capacity d spares role → (word : ℕ) → (IsOf capacity d word → ⊥) ⊎ (word < start_word capacity d) → chained word ≡ old word
+  before_chain role has word away = is_chained.others word (λ linked.
+      let inside = spares_inside capacity d spares role has word (but_last_in spares word linked) in
+      elim away as (λ _. ⊥) [ inl outside ↦ outside (is_inside word inside.0 inside.1) | inr lower ↦ let low = inside.0 in omega arith ])
+
+  -- a word of the superblock's blocks is as it was before the descriptor
+  module _ (role : Role) (has : HasSpares capacity d spares role) (written : IsWrittenAs chained new d role anchor) where
+    inside_kept : (word : ℕ) → start_word capacity d ≤ word → new word ≡ chained word
+    inside_kept word low = written.others word (λ same. omega arith) (λ same. omega arith) (λ same. omega arith)
+
+    pub rebuilt : IsDescribed old new d spares role → IsRebuilt old new capacity d role spares
+    rebuilt described = record {
+      described = described;
+      link = written.link_is;
+      inside = record { each = λ word low high unlinked. inside_kept word low ∙ is_chained.others word unlinked };
+      others = λ word outside. written.others word (λ same. outside (is_info word same)) (λ same. outside (is_anchor word same)) (λ same. outside (is_link word same)) ∙ before_chain role has word (inl outside);
+    }
+
+  pub described : (role : Role) → capacity_of old ≡ capacity → HasInfo (old (info_word d)) role → HasSpares capacity d spares role → IsAnchorOf capacity d spares anchor role → IsWrittenAs chained new d role anchor
+      → IsDescribed old new d spares role
+  described Free same info has is written = record { info_is = written.info; anchor_is = written.anchor_is ∙ is }
+  described (Partial class) same info are counts written = record {
+    first = counts.first;
+    words = record { info_is = written.info ∙ before_chain (Partial class) are (info_word d) (inr (omega arith)) ∙ info; anchor_is = written.anchor_is ∙ counts.is };
+    walks = subst (λ n. Walks new (start_word n d + counts.first * words_of_class class) spares) (sym same)
+        (walks_same chained new spares (start_word capacity d + counts.first * words_of_class class)
+        (λ b has. inside_kept (Partial class) are written b (spares_inside capacity d spares (Partial class) are b has).0)
+        (is_chained.walks (start_word capacity d + counts.first * words_of_class class) (λ some. counts.begins)));
+  }
+  described (Full class) same info none is written = record { info_is = written.info ∙ before_chain (Full class) none (info_word d) (inr (omega arith)); anchor_is = written.anchor_is ∙ is }
+  described Large same info none is written = record { info_is = written.info ∙ before_chain Large none (info_word d) (inr (omega arith)); anchor_is = written.anchor_is ∙ is }

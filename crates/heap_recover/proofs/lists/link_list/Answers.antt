@@ -1,0 +1,16 @@
+use Rattle.std.proofs.Common.{◌≡◌, ◌+◌, suc, set, length, slice_index, sym, subst, arith}
+use Rattle.heap_model.specs.Geometry.{link_word}
+use Rattle.heap_recover.specs.Roles.{number_at}
+use Rattle.heap_recover.specs.Rebuilt.{IsLinked}
+use Rattle.heap_recover.proofs.WritingLemmas.{AreWritten}
+use Rattle.heap_recover.proofs.ListLemmas.{linked}
+use Rattle.heap_recover.proofs.lists.link_list.Goals as goal
+
+pub returns : goal.returns
+returns c =
+    let old = c.args.words.now in
+    let ds = c.args.ds.now in
+    let all : c.loop-i.i ≡ length ds = omega arith in
+    let written = subst (λ n. AreWritten (λ j. link_word (slice_index ds j)) (λ j. number_at ds (suc j)) old c.loop-i.words n) all c.loop-i.invariant in
+    subst (λ x. IsLinked (slice_index old) (slice_index (set c.loop-i.words (16 + c.args.list) x)) c.args.geometry.now.capacity c.args.list ds) (sym c.number_at-2.ensures)
+    (linked old c.loop-i.words c.args.geometry.now.capacity c.args.list ds c.requires.list c.requires.long c.requires.inside written)

@@ -1,0 +1,5 @@
+use Rattle.heap_recover.specs.Marked.{IsMarked, AreParted}
+use Rattle.heap_recover.proofs.parts.part_blocks.Given as goal
+
+abbrev pub invariant-loop-index : goal.invariant-loop-index
+invariant-loop-index l = AreParted (IsMarked l.marks) l.geometry.capacity l.class l.d l.index l.held.items l.spares.items

@@ -1,0 +1,17 @@
+-- What recovery gives back.
+use Rattle.std.specs.Prelude.{◌≡◌, ◌↔◌, ℕ, List, length, slice_index, Bool, IsTrue}
+use Rattle.heap_model.specs.declared.block.Block.{Block}
+use Rattle.heap_model.specs.Blocks.{layout_of}
+use Rattle.heap_model.specs.Recovered.{IsFreeSuperblock, AreAscending}
+use Rattle.heap_model.specs.Recovery.{IsRecovered}
+use Rattle.heap_recover.specs.declared.answer.Was.{Was}
+use Rattle.heap_recover.specs.declared.answer.Was.TheVariants.{Clean}
+use Rattle.heap_recover.specs.declared.answer.Recovered.{Recovered}
+
+-- the heap that recovery makes of the words where these blocks are kept
+pub record IsMadeOf (words : List ℕ) (kept : Block → Type 0) (clean : Bool) (answer : Recovered) : Type 0 where
+  pub held : AreAscending (λ (b : Block). b.first_word) kept answer.heap.held
+  pub free : AreAscending (λ d. d) (IsFreeSuperblock (layout_of (slice_index words)) kept) answer.free.items
+  pub was : (answer.was ≡ Clean) ↔ IsTrue clean
+  pub long : length answer.heap.words ≡ length words
+  pub recovered : IsRecovered (slice_index words) (slice_index answer.heap.words) kept

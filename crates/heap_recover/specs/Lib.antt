@@ -1,0 +1,5 @@
+pub mod Marked
+pub mod Roles
+pub mod Rebuilt
+pub mod Fault
+pub mod Answer

@@ -1,0 +1,17 @@
+//! Recovery: from any image to a heap at rest, in which exactly the blocks that the roots reach are held.
+#![tactic(auto)]
+
+mod answer;
+mod chains;
+mod fault;
+mod lists;
+mod parts;
+mod passes;
+mod recovery;
+mod roles;
+mod superblocks;
+mod surveys;
+
+pub use answer::{Recovered, Was};
+pub use fault::RecoverFault;
+pub use recovery::recover;

@@ -1,0 +1,75 @@
+//! The lists of superblocks after recovery.
+ghost use Rattle.std.specs.Prelude.{◌≡◌, ◌<◌, ◌≤◌, ◌+◌, ◌^◌, All, AllPairs, length, slice_index, IfOk, OnOk};
+ghost use Rattle.heap_model.specs.Geometry.{image_words, lists};
+ghost use Rattle.heap_model.specs.Recovered.{AreAscending};
+ghost use Rattle.heap_recover.specs.Roles.{list_of, number_at, IsMember};
+ghost use Rattle.heap_recover.specs.Rebuilt.{IsLinked, AreListed};
+
+use crate::roles::Role;
+use std::alloc::{AllocError, Global};
+use super_block::{Geometry, HEAD_WORD, LARGEST_CAPACITY, LISTS};
+
+/// Links all lists, of superblocks with these roles.
+pub fn link_lists(
+    alloc: Global,
+    words: &mut [u64],
+    geometry: &Geometry,
+    roles: &[Role],
+) -> Result<(), AllocError>
+    requires long { length words.old ≡ image_words geometry.now.capacity }
+    requires few { length roles.now ≤ geometry.now.capacity }
+    ensures ok { OnOk result (AreListed (slice_index words.old) (slice_index words.new) geometry.now.capacity roles.now lists) }
+{
+    for list in 0..LISTS as u8 {
+        let members = members(alloc, roles, list)?;
+        link_list(words, geometry, list, &members);
+    }
+    Ok(())
+}
+
+/// The superblocks that their role puts into the list, in order.
+pub fn members(alloc: Global, roles: &[Role], list: u8) -> Result<Vec<u32>, AllocError>
+    requires { length roles.now < 2 ^ 32 }
+    ensures ok { IfOk result (λ ds. AreAscending (λ d. d) (IsMember roles.now list) ds.items) }
+{
+    let mut members = Vec::new(alloc);
+    for d in 0..roles.len() {
+        if list_of(roles[d]) == Some(list) {
+            members.push(d as u32)?;
+        }
+    }
+    Ok(members)
+}
+
+/// Makes the list one of these superblocks, in this order.
+fn link_list(words: &mut [u64], geometry: &Geometry, list: u8, ds: &[u32])
+    requires long { length words.old ≡ image_words geometry.now.capacity }
+    requires list { list < lists }
+    requires inside { All (λ d. d < geometry.now.capacity) ds.now }
+    requires ascending { AllPairs (λ d e. d < e) ds.now }
+    ensures { IsLinked (slice_index words.old) (slice_index words.new) geometry.now.capacity list ds.now }
+{
+    for i in 0..ds.len() {
+        words[geometry.link(ds[i] as u64) as usize] = number_at(ds, i + 1);
+    }
+    words[(HEAD_WORD + list as u64) as usize] = number_at(ds, 0);
+}
+
+/// How a link or a head speaks of superblock `i` of the list: 1 more than its index, or 0 behind
+/// the last one.
+fn number_at(ds: &[u32], i: usize) -> u64
+    ensures { result ≡ number_at ds.now i }
+{
+    if i < ds.len() { ds[i] as u64 + 1 } else { 0 }
+}
+
+/// The list that a superblock of the role is in, if any.
+fn list_of(role: Role) -> Option<u8>
+    ensures { result ≡ list_of role }
+{
+    match role {
+        Role::Free => Some(0),
+        Role::Partial(class) => Some(class),
+        Role::Full(_) | Role::Large => None,
+    }
+}

@@ -1,0 +1,42 @@
+//! The blocks of a superblock, parted by whether they are kept.
+ghost use Rattle.std.specs.Prelude.{◌<◌, IfOk};
+ghost use Rattle.heap_model.specs.Sizes.{IsClass, blocks_of};
+ghost use Rattle.heap_recover.specs.Marked.{IsMarked, AreParted};
+
+use filter_trace::Marks;
+use std::alloc::{AllocError, Global};
+use super_block::{Block, Geometry, block_at};
+
+/// The blocks of a superblock of a class.
+#[derive(Drop)]
+pub struct Parts {
+    /// The kept ones.
+    pub held: Vec<Block>,
+    /// The first words of the others.
+    pub spares: Vec<u64>,
+}
+
+/// Parts the blocks of superblock `d`, which is of the class.
+pub fn part_blocks(
+    alloc: Global,
+    geometry: &Geometry,
+    d: u64,
+    class: u8,
+    marks: &Marks,
+) -> Result<Parts, AllocError>
+    requires superblock { d < geometry.now.capacity }
+    requires class { IsClass class }
+    ensures ok { IfOk result (λ parts. AreParted (IsMarked marks.now) geometry.now.capacity class d (blocks_of class) parts.held.items parts.spares.items) }
+{
+    let mut held = Vec::new(alloc);
+    let mut spares = Vec::new(alloc);
+    for index in 0..size_table::blocks_of(class) {
+        let block = block_at(geometry, d, index, class);
+        if marks.holds(block) {
+            held.push(block)?;
+        } else {
+            spares.push(block.first_word)?;
+        }
+    }
+    Ok(Parts { held, spares })
+}

@@ -1,0 +1,81 @@
+//! The words of one superblock after recovery.
+ghost use Rattle.std.specs.Prelude.{◌≡◌, ◌<◌, ◌≤◌, length, slice_index};
+ghost use Rattle.heap_model.specs.Geometry.{image_words, info_word};
+ghost use Rattle.heap_model.specs.Header.{capacity_of};
+ghost use Rattle.heap_recover.specs.Rebuilt.{HasSpares, HasInfo, IsAnchorOf, IsWrittenAs, IsRebuilt};
+
+use crate::chains::link_chain;
+use crate::roles::Role;
+use anchor_word::{Anchor, State, pack};
+use size_table::size_of;
+use super_block::{Geometry, WORD_BYTES};
+
+/// Rebuilds superblock `d` in its role: info, anchor, link, and the chain of its `spares`, the
+/// first words of the blocks that are not kept.
+pub fn rebuild_superblock(
+    words: &mut [u64],
+    geometry: &Geometry,
+    d: u64,
+    role: Role,
+    spares: &[u64],
+)
+    requires long { length words.old ≡ image_words geometry.now.capacity }
+    requires capacity { capacity_of (slice_index words.old) ≡ geometry.now.capacity }
+    requires superblock { d < geometry.now.capacity }
+    requires info { HasInfo (slice_index words.old (info_word d)) role }
+    requires spares { HasSpares geometry.now.capacity d spares.now role }
+    ensures { IsRebuilt (slice_index words.old) (slice_index words.new) geometry.now.capacity d role spares.now }
+{
+    link_chain(words, spares);
+    write_descriptor(
+        words,
+        geometry,
+        d,
+        role,
+        anchor_word_of(geometry, d, role, spares),
+    );
+}
+
+/// Writes the descriptor of superblock `d`. Only a free superblock loses its info.
+fn write_descriptor(words: &mut [u64], geometry: &Geometry, d: u64, role: Role, anchor: u64)
+    requires long { length words.old ≡ image_words geometry.now.capacity }
+    requires superblock { d < geometry.now.capacity }
+    ensures { IsWrittenAs (slice_index words.old) (slice_index words.new) d role anchor }
+{
+    if let Role::Free = role {
+        words[geometry.info(d) as usize] = 0;
+    }
+    words[geometry.anchor(d) as usize] = anchor;
+    words[geometry.link(d) as usize] = 0;
+}
+
+/// The anchor of superblock `d` in its role.
+fn anchor_word_of(geometry: &Geometry, d: u64, role: Role, spares: &[u64]) -> u64
+    requires superblock { d < geometry.now.capacity }
+    requires spares { HasSpares geometry.now.capacity d spares.now role }
+    ensures { IsAnchorOf geometry.now.capacity d spares.now result role }
+{
+    match role {
+        Role::Free => pack(&EMPTY),
+        Role::Partial(class) => pack(&Anchor {
+            state: State::Partial,
+            first: (spares[0] - geometry.start(d)) / (size_of(class) / WORD_BYTES),
+            count: spares.len() as u64,
+        }),
+        Role::Full(_) | Role::Large => pack(&FULL),
+    }
+}
+
+/// The anchor of a superblock whose blocks are all free.
+const EMPTY: Anchor = Anchor {
+    state: State::Empty,
+    first: 0,
+    count: 0,
+};
+
+/// The anchor of a superblock with no free block.
+const FULL: Anchor = Anchor {
+    state: State::Full,
+    first: 0,
+    count: 0,
+};

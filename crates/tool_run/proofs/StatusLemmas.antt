@@ -1,0 +1,87 @@
+-- From why a command stopped, and the line that was printed then, to what its status says.
+use Rattle.std.proofs.Common.{◌≡◌, ℕ, ◌≤◌, List, Option, Contains, inl, inr, refl, subst, arith, lit<}
+use Rattle.tool_ports.specs.Causes.{Rose}
+use Rattle.tool_ports.specs.Contents.{Contents}
+use Rattle.tool_ports.specs.Taken.{TakesPart}
+use Rattle.tool_run.specs.Command.{Command, image_name, Asks}
+use Rattle.tool_run.specs.declared.fault.Fault.{Fault}
+use Rattle.tool_run.specs.declared.fault.Fault.TheVariants.{Usage, Memory, ReadFault, WriteFault, Absent, Malformed}
+use Rattle.tool_run.specs.Inside.{IsStopped, status_of, line_of}
+use Rattle.tool_run.specs.Lines.{Tells, write_line}
+use Rattle.tool_run.specs.Outcome.{AsksToGet, IsWriteFault, IsBadHeader}
+use Rattle.tool_run.specs.Status.{statuses, read_fault, write_fault, bad_header}
+use Rattle.tool_run.proofs.CallLemmas.{rose_since, wider_cut}
+
+-- a fault has a status
+pub has_status : (fault : Fault) (status : ℕ) → status ≡ status_of fault → Contains statuses status
+has_status Usage status is = rw is (1, lit< tt, refl)
+has_status Memory status is = rw is (2, lit< tt, refl)
+has_status ReadFault status is = rw is (3, lit< tt, refl)
+has_status WriteFault status is = rw is (4, lit< tt, refl)
+has_status Absent status is = rw is (5, lit< tt, refl)
+has_status (Malformed cause) status is = rw is (6, lit< tt, refl)
+
+-- a line that tells, where the count is compared with an earlier one and what was taken goes by another name
+pub tells_since : (line : List ℕ) (first second third : ℕ) (taken mid new : Option (List ℕ)) → first ≤ second → mid ≡ taken → Tells line second third mid new → Tells line first third taken new
+tells_since line first second third taken mid new low same (inl all) = inl (rw (← same) all)
+tells_since line first second third taken mid new low same (inr (rose, part)) =
+    inr (rose_since first second third third low (omega arith) rose, subst (λ (m : Option (List ℕ)). TakesPart line m new) same part)
+
+module _ (words : List (List ℕ)) (command : Command) (old new : Contents) (store_failed : Type 0) (first second third : ℕ) (taken mid final : Option (List ℕ))
+    (status : ℕ) (asked : Asks words command) (low : first ≤ second) (high : second ≤ third) where
+  -- the outside failed while something was read
+  pub is_read_fault : (fault : Fault) → IsStopped command old new store_failed (Rose first second) taken mid fault → status ≡ status_of fault
+      → status ≡ read_fault → ((name : List ℕ) × AsksToGet words name) × store_failed
+  is_read_fault ReadFault stopped is four = elim stopped.cause [
+    | inl (why, same) ↦ ((image_name command, record { command = command; asked = asked; gets = why.0; is_named = refl }), why.1)
+    | inr (image, text, made, why) ↦ absurd why
+  ]
+  is_read_fault Usage stopped is four = absurd (omega arith)
+  is_read_fault Memory stopped is four = absurd (omega arith)
+  is_read_fault WriteFault stopped is four = absurd (omega arith)
+  is_read_fault Absent stopped is four = absurd (omega arith)
+  is_read_fault (Malformed cause) stopped is four = absurd (omega arith)
+
+  -- the result was cut off
+  pub is_write_fault : (fault : Fault) (name : List ℕ) → IsStopped command old new store_failed (Rose first second) taken mid fault → status ≡ status_of fault
+      → Tells (line_of fault name) second third mid final
+      → status ≡ write_fault → IsWriteFault words old new store_failed (Rose first third) taken (λ before. Tells write_line first third before final)
+  is_write_fault WriteFault name stopped is told five = elim stopped.cause [
+    | inl (why, same) ↦ absurd why
+    | inr (image, text, made, why) ↦ record {
+      command = command;
+      asked = asked;
+      image = image;
+      text = text;
+      made = made;
+      before = mid;
+      left = wider_cut (image_name command) image text old new store_failed (Rose first second) store_failed (Rose first third) taken mid (λ failed. failed)
+          (rose_since first first second third (omega arith) high) why;
+      told = tells_since write_line first second third mid mid final low refl told;
+    }
+  ]
+  is_write_fault Usage name stopped is told five = absurd (omega arith)
+  is_write_fault Memory name stopped is told five = absurd (omega arith)
+  is_write_fault ReadFault name stopped is told five = absurd (omega arith)
+  is_write_fault Absent name stopped is told five = absurd (omega arith)
+  is_write_fault (Malformed cause) name stopped is told five = absurd (omega arith)
+
+  -- the image has a malformed header
+  pub is_bad_header : (fault : Fault) (name : List ℕ) → IsStopped command old new store_failed (Rose first second) taken mid fault → status ≡ status_of fault
+      → Tells (line_of fault name) second third mid final
+      → status ≡ bad_header → IsBadHeader words old (λ line. Tells line first third taken final)
+  is_bad_header (Malformed cause) name stopped is told seven = elim stopped.cause [
+    | inl (why, same) ↦ record {
+      name = image_name command;
+      asks = record { command = command; asked = asked; gets = why.0; is_named = refl };
+      cause = cause;
+      malformed = why.1;
+      told = tells_since (line_of (Malformed cause) name) first second third taken mid final low same.sink told;
+    }
+    | inr (image, text, made, why) ↦ absurd why
+  ]
+  is_bad_header Usage name stopped is told seven = absurd (omega arith)
+  is_bad_header Memory name stopped is told seven = absurd (omega arith)
+  is_bad_header ReadFault name stopped is told seven = absurd (omega arith)
+  is_bad_header WriteFault name stopped is told seven = absurd (omega arith)
+  is_bad_header Absent name stopped is told seven = absurd (omega arith)
