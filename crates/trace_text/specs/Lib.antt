@@ -1,4 +1,5 @@
 pub mod Report
+pub mod Recovered
 pub mod Ranges
 pub mod HeapMap
 pub mod Examples

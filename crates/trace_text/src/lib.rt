@@ -4,9 +4,11 @@
 mod class;
 mod map;
 mod ranges;
+mod recovered;
 mod report;
 
-pub use map::{map_lines, map_text};
+pub use map::map_lines;
+pub use recovered::{map_text, report_text};
 pub use report::{heap_line, report_lines};
 
 #[cfg(test)]

@@ -9,18 +9,9 @@ ghost use Rattle.trace_text.specs.HeapMap.{AreInOrder, begins_in, held_indexes, 
 
 use crate::class::words_of;
 use crate::ranges::write_ranges;
-use heap_recover::Recovered;
 use region_header::Bytes;
 use std::alloc::{AllocError, Global};
 use super_block::{Block, CAPACITY_WORD, Geometry, Info, Ready, SUPERBLOCK_WORDS, USED_WORD};
-
-/// The map of a heap that was recovered.
-pub fn map_text(alloc: Global, recovered: &Recovered) -> Result<Bytes, AllocError>
-    ensures ok { IfOk result (λ text. text ≡ map_of (slice_index recovered.now.heap.words)
-        recovered.now.heap.held recovered.now.free.items) }
-{
-    map_lines(alloc, &recovered.heap, &recovered.free)
-}
 
 /// The map of a heap whose free superblocks are these: how many superblocks have been taken, are
 /// free and are fresh, and a line for each that has been taken.

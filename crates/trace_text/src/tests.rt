@@ -139,13 +139,13 @@ fn an_empty_heap_is_reported_and_mapped(rt: HostRuntime) -> Result<(), Fail> {
     let heap = Ready::new(format(rt.alloc(), 256)?, Vec::new(rt.alloc()));
     let line = heap_line(rt.alloc(), 256, false)?;
     assert_eq!(rt; line.as_slice(), b"heap 256 dirty\n".as_slice());
-    let report = report_lines(rt.alloc(), &heap, false)?;
-    assert_eq!(rt; report.as_slice(), b"heap 256 dirty\n".as_slice());
     let recovered = Recovered {
         heap,
         was: Was::Dirty,
         free: Vec::new(rt.alloc()),
     };
+    let report = report_text(rt.alloc(), &recovered)?;
+    assert_eq!(rt; report.as_slice(), b"heap 256 dirty\n".as_slice());
     let map = map_text(rt.alloc(), &recovered)?;
     assert_eq!(rt; map.as_slice(), b"used 0 free 0 fresh 256\n".as_slice());
     Ok(())
