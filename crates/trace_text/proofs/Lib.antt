@@ -2,3 +2,4 @@ pub mod TextLemmas
 pub mod RunLemmas
 pub mod OrderLemmas
 pub mod MapLemmas
+pub mod LawLemmas

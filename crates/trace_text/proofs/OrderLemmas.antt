@@ -49,10 +49,10 @@ counts_rise held m n i j less within before behind =
     ]
 
 -- what a test chooses, where it is known
-chosen : {A : Type 0} (b : Bool) (x y : A) → b ≡ true → cond b x y ≡ x
+pub chosen : {A : Type 0} (b : Bool) (x y : A) → b ≡ true → cond b x y ≡ x
 chosen b x y e = rw e refl
 
-not_chosen : {A : Type 0} (b : Bool) (x y : A) → b ≡ false → cond b x y ≡ y
+pub not_chosen : {A : Type 0} (b : Bool) (x y : A) → b ≡ false → cond b x y ≡ y
 not_chosen b x y e = rw e refl
 
 -- a filter that keeps the elements of one stretch
@@ -100,13 +100,13 @@ and_false : (t : Bool) → (t && false) ≡ false
 and_false true = refl
 and_false false = refl
 
-both : (s t : Bool) → s ≡ true → t ≡ true → (s && t) ≡ true
+pub both : (s t : Bool) → s ≡ true → t ≡ true → (s && t) ≡ true
 both s t first second = rw (first, second) refl
 
-second_fails : (s t : Bool) → t ≡ false → (s && t) ≡ false
+pub second_fails : (s t : Bool) → t ≡ false → (s && t) ≡ false
 second_fails s t fails = ap (λ x. s && x) fails ∙ and_false s
 
-first_fails : (s t : Bool) → s ≡ false → (s && t) ≡ false
+pub first_fails : (s t : Bool) → s ≡ false → (s && t) ≡ false
 first_fails s t fails = ap (λ x. x && t) fails
 
 -- the held blocks that begin in a superblock are those between two counts

@@ -22,9 +22,13 @@ begins_in capacity d b = nat_le (start_word capacity d) b.first_word && nat_lt b
 abbrev pub reaches_into : ℕ → ℕ → Block → Bool
 reaches_into capacity d b = nat_lt b.first_word (start_word capacity d) && nat_lt (start_word capacity d) (b.first_word + b.words)
 
+-- which of the blocks of superblock d this is, when that is cut for the class
+abbrev pub index_of : ℕ → ℕ → ℕ → Block → ℕ
+index_of capacity class d b = (b.first_word - start_word capacity d) / words_of_class class
+
 -- the indexes of the held blocks of superblock d, which is cut for the class
 abbrev pub held_indexes : ℕ → ℕ → ℕ → List Block → List ℕ
-held_indexes capacity class d held = map (λ b. (b.first_word - start_word capacity d) / words_of_class class) (filter (begins_in capacity d) held)
+held_indexes capacity class d held = map (index_of capacity class d) (filter (begins_in capacity d) held)
 
 -- the superblock in which a block begins
 abbrev pub superblock_of : ℕ → Block → ℕ
