@@ -1,17 +1,17 @@
 -- What the texts tell of each held block.
-use Rattle.std.proofs.Common.{◌≡◌, ◌≢◌, ℕ, ◌+◌, ◌-◌, ◌*◌, ◌/◌, ◌<◌, ◌≤◌, Bool, true, false, nat_lt, nat_le, List, length, slice_index, get_or, Option, Some, None, refl, sym, ap, ◌∙◌, subst, arith, inl, inr}
+use Rattle.std.proofs.Common.{◌≡◌, ℕ, ◌+◌, ◌-◌, ◌*◌, ◌/◌, ◌<◌, ◌≤◌, true, false, nat_lt, nat_le, List, length, slice_index, get_or, Option, Some, None, ap, ◌∙◌, arith, inl, inr}
 use Rattle.std.proofs.Math.Nat.{mul-div_cancel}
 use Rattle.std.proofs.lemmas.Bool.{cases_lt, lt-ltb, le-ltb, le-leb}
 use Rattle.std.proofs.lemmas.List.{get_or_default}
 use Rattle.std.specs.List.{Contains, find}
 use Rattle.std.specs.Option.{option_map_or}
 use Rattle.heap_model.specs.declared.block.Block.{Block}
-use Rattle.heap_model.specs.Blocks.{Layout, layout_of, Begins, of_class, as_large, IsBlock}
+use Rattle.heap_model.specs.Blocks.{Layout, layout_of, Begins, of_class, as_large}
 use Rattle.heap_model.specs.Geometry.{start_word}
 use Rattle.heap_model.specs.Header.{capacity_of}
 use Rattle.heap_model.specs.Recovered.{IsBlockOfClass}
 use Rattle.heap_model.specs.Rest.{IsReady}
-use Rattle.heap_model.specs.Sizes.{IsClass, words_of_class, blocks_of}
+use Rattle.heap_model.specs.Sizes.{IsClass, words_of_class}
 use Rattle.heap_model.proofs.SizeLemmas.{two_words}
 use Rattle.super_block.proofs.NamingLemmas.{block_offset}
 use Rattle.trace_text.specs.HeapMap.{AreInOrder, begins_in, index_of, reaches_into, superblock_of, first_of}
@@ -49,19 +49,19 @@ reaching_found : (capacity d at : ℕ) (held : List Block) (e : Block) → AreIn
 reaching_found capacity d at held e order within before ends =
     let b = get_or held at e in
     find_only (reaches_into capacity d) held at e within
-      (λ k x high other. elim (cases_lt k at) as (λ _. reaches_into capacity d (get_or held k x) ≡ false) [
-          inl less ↦
-            let apart = order k at x less within in
-            let first_same = ap (λ (y : Block). y.first_word) (get_or_default held at x e within) in
-            second_fails _ _ (le-ltb (start_word capacity d) _ (omega arith))
-        | inr most ↦
-            let apart = order at k x (omega arith) high in
-            let first_same = ap (λ (y : Block). y.first_word) (get_or_default held at x e within) in
-            let words_same = ap (λ (y : Block). y.words) (get_or_default held at x e within) in
-            first_fails _ _ (le-ltb _ (start_word capacity d) (omega arith))
-      ])
-      ∙ chosen (reaches_into capacity d b) (Some b) None
-          (both (nat_lt b.first_word (start_word capacity d)) (nat_lt (start_word capacity d) (b.first_word + b.words)) (lt-ltb _ _ before) (lt-ltb _ _ ends))
+    (λ k x high other. elim (cases_lt k at) as (λ _. reaches_into capacity d (get_or held k x) ≡ false) [
+      | inl less ↦
+          let apart = order k at x less within in
+          let first_same = ap (λ (y : Block). y.first_word) (get_or_default held at x e within) in
+          second_fails _ _ (le-ltb (start_word capacity d) _ (omega arith))
+      | inr most ↦
+          let apart = order at k x (omega arith) high in
+          let first_same = ap (λ (y : Block). y.first_word) (get_or_default held at x e within) in
+          let words_same = ap (λ (y : Block). y.words) (get_or_default held at x e within) in
+          first_fails _ _ (le-ltb _ (start_word capacity d) (omega arith))
+    ])
+    ∙ chosen (reaches_into capacity d b) (Some b) None
+    (both (nat_lt b.first_word (start_word capacity d)) (nat_lt (start_word capacity d) (b.first_word + b.words)) (lt-ltb _ _ before) (lt-ltb _ _ ends))
 
 pub inside_told : (words : List ℕ) (held : List Block) (b : Block) (first superblocks d : ℕ) → IsReady words held → Contains held b
     → b.first_word ≡ start_word (capacity_of (slice_index words)) first → b.words ≡ 8192 * superblocks → first < d → d < first + superblocks
@@ -72,5 +72,5 @@ inside_told words held b first superblocks d ready among at size behind below =
     let at_same = ap (λ (x : Block). x.first_word) same in
     let size_same = ap (λ (x : Block). x.words) same in
     ap (λ (o : Option Block). option_map_or (superblock_of capacity) o 0)
-        (reaching_found capacity d among.0 held b (ready_in_order words held ready) among.1 (omega arith) (omega arith) ∙ ap (λ (x : Block). Some x) same)
-      ∙ (omega arith)
+    (reaching_found capacity d among.0 held b (ready_in_order words held ready) among.1 (omega arith) (omega arith) ∙ ap (λ (x : Block). Some x) same)
+    ∙ (omega arith)

@@ -3,3 +3,4 @@ pub mod RunLemmas
 pub mod OrderLemmas
 pub mod MapLemmas
 pub mod LawLemmas
+pub mod LongestLemmas

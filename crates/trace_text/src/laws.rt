@@ -1,4 +1,4 @@
-//! What the texts tell of a heap at rest, as a function with nothing to run.
+//! What the texts tell of a heap at rest, as functions with nothing to run.
 ghost use Rattle.std.specs.Prelude.{◌≡◌, ◌<◌, ◌+◌, ◌-◌, ◌*◌, ◌/◌, ℕ, List, true, Contains, slice_index};
 ghost use Rattle.heap_model.specs.declared.block.Block.{Block};
 ghost use Rattle.heap_model.specs.Geometry.{start_word, superblock_words};
@@ -7,6 +7,7 @@ ghost use Rattle.heap_model.specs.Recovered.{IsBlockOfClass};
 ghost use Rattle.heap_model.specs.Rest.{IsReady};
 ghost use Rattle.heap_model.specs.Sizes.{IsClass, words_of_class};
 ghost use Rattle.trace_text.specs.HeapMap.{begins_in, index_of, first_of};
+ghost use Rattle.trace_text.specs.Ranges.{longest_runs, AreLongestRuns};
 ghost use Rattle.trace_text.specs.Laws.{IsCounted};
 
 /// The texts tell of each held block.
@@ -27,4 +28,9 @@ pub fn each_held_block_is_told()
         → b.first_word ≡ start_word (capacity_of (slice_index words)) first
         → b.words ≡ superblock_words * superblocks → first < d → d < first + superblocks
         → first_of (capacity_of (slice_index words)) d held ≡ first }
+{}
+
+/// The runs that are printed are the longest.
+pub fn runs_are_the_longest()
+    ensures { (ns : List ℕ) → AreLongestRuns ns (longest_runs ns) }
 {}
