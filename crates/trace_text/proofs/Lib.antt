@@ -2,3 +2,5 @@ pub mod TextLemmas
 pub mod RunLemmas
 pub mod OrderLemmas
 pub mod MapLemmas
+pub mod LawLemmas
+pub mod LongestLemmas

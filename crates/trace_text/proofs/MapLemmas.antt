@@ -1,5 +1,5 @@
 -- What a superblock is used for that is not free and whose info says nothing.
-use Rattle.std.proofs.Common.{◌≡◌, ℕ, ◌+◌, ◌*◌, ◌/◌, ◌%◌, ◌≤◌, Bool, true, false, nat_eq, nat_le, ◌&&◌, List, ◌++◌, refl, sym, ap, ◌∙◌, arith, leb-true, eqb-true}
+use Rattle.std.proofs.Common.{◌≡◌, ℕ, ◌+◌, ◌*◌, ◌/◌, ◌%◌, ◌≤◌, Bool, true, false, nat_eq, nat_le, ◌&&◌, List, refl, arith, leb-true, eqb-true}
 use Rattle.std.specs.List.{list_any}
 use Rattle.heap_model.specs.declared.block.Block.{Block}
 use Rattle.heap_model.specs.Geometry.{info_word}

@@ -1,5 +1,5 @@
 -- Blocks in order: which of them a superblock has.
-use Rattle.std.proofs.Common.{◌≡◌, ℕ, zero, suc, ◌+◌, ◌-◌, ◌*◌, ◌<◌, ◌≤◌, Bool, true, false, cond, nat_lt, nat_le, ◌&&◌, List, [], ◌∷◌, length, slice_index, get_or,  take, drop, Option, Some, None, ◌≢◌, refl, sym, ap, ◌∙◌, subst, arith, inl, inr}
+use Rattle.std.proofs.Common.{◌≡◌, ℕ, zero, suc, ◌+◌, ◌-◌, ◌<◌, ◌≤◌, Bool, true, false, cond, nat_lt, ◌&&◌, List, [], ◌∷◌, length, slice_index, get_or, take, drop, Option, Some, None, ◌≢◌, refl, sym, ap, ◌∙◌, subst, arith, inl, inr}
 use Rattle.std.specs.List.{filter, find, AllWithin}
 use Rattle.std.specs.Option.{option_map_or}
 use Rattle.std.specs.List.Sorted.{IsNonDecreasingBy}
@@ -24,14 +24,14 @@ ready_in_order words held ready i j d low high =
     let a = get_or held i d in
     let b = get_or held j d in
     ends_before a b
-      (never_overlap (layout_of (slice_index words)) a b (ready.blocks a (Contains-get_or held i d (omega arith))) (ready.blocks b (Contains-get_or held j d high)))
-      (ready.ascending i j d low high)
+    (never_overlap (layout_of (slice_index words)) a b (ready.blocks a (Contains-get_or held i d (omega arith))) (ready.blocks b (Contains-get_or held j d high)))
+    (ready.ascending i j d low high)
 
 -- their first words do not fall
 pub first_words_rise : (held : List Block) → AreInOrder held → IsNonDecreasingBy (λ (b : Block). b.first_word) held
 first_words_rise held order i j d low high =
     elim (cases_lt i j) as (λ _. (get_or held i d).first_word ≤ (get_or held j d).first_word) [
-        inl less ↦ let before = order i j d less high in omega arith
+      | inl less ↦ let before = order i j d less high in omega arith
       | inr most ↦ let same : i ≡ j = omega arith in subst (λ k. (get_or held i d).first_word ≤ (get_or held k d).first_word) same (omega arith)
     ]
 
@@ -40,7 +40,7 @@ pub counts_rise : (held : List Block) (m n i j : ℕ) → m ≤ n → i ≤ leng
     → AllWithin (λ (b : Block). b.first_word < m) held 0 i → AllWithin (λ (b : Block). n ≤ b.first_word) held j (length held) → i ≤ j
 counts_rise held m n i j less within before behind =
     elim (cases_lt j i) as (λ _. i ≤ j) [
-        inl fewer ↦
+      | inl fewer ↦
           let none : Block = record { first_word = 0; words = 0 } in
           let low = before j none (omega arith) fewer in
           let high = behind j none (omega arith) (omega arith) in
@@ -49,10 +49,10 @@ counts_rise held m n i j less within before behind =
     ]
 
 -- what a test chooses, where it is known
-chosen : {A : Type 0} (b : Bool) (x y : A) → b ≡ true → cond b x y ≡ x
+pub chosen : {A : Type 0} (b : Bool) (x y : A) → b ≡ true → cond b x y ≡ x
 chosen b x y e = rw e refl
 
-not_chosen : {A : Type 0} (b : Bool) (x y : A) → b ≡ false → cond b x y ≡ y
+pub not_chosen : {A : Type 0} (b : Bool) (x y : A) → b ≡ false → cond b x y ≡ y
 not_chosen b x y e = rw e refl
 
 -- a filter that keeps the elements of one stretch
@@ -66,18 +66,18 @@ filter_between p [] zero (suc count) short before within behind = absurd (omega 
 filter_between p [] (suc from) count short before within behind = absurd (omega arith)
 filter_between p (x ∷ xs) zero zero short before within behind =
     not_chosen (p x) (x ∷ filter p xs) (filter p xs) (behind zero x (omega arith) (omega arith))
-      ∙ filter_between p xs zero zero (omega arith) (λ k d low. absurd (omega arith)) (λ k d low high. absurd (omega arith))
-          (λ k d low high. behind (suc k) d (omega arith) (omega arith))
+    ∙ filter_between p xs zero zero (omega arith) (λ k d low. absurd (omega arith)) (λ k d low high. absurd (omega arith))
+    (λ k d low high. behind (suc k) d (omega arith) (omega arith))
 filter_between p (x ∷ xs) zero (suc count) short before within behind =
     chosen (p x) (x ∷ filter p xs) (filter p xs) (within zero x (omega arith) (omega arith))
-      ∙ ap (λ (l : List Block). x ∷ l) (filter_between p xs zero count (omega arith) (λ k d low. absurd (omega arith))
-          (λ k d low high. within (suc k) d (omega arith) (omega arith))
-          (λ k d low high. behind (suc k) d (omega arith) (omega arith)))
+    ∙ ap (λ (l : List Block). x ∷ l) (filter_between p xs zero count (omega arith) (λ k d low. absurd (omega arith))
+    (λ k d low high. within (suc k) d (omega arith) (omega arith))
+    (λ k d low high. behind (suc k) d (omega arith) (omega arith)))
 filter_between p (x ∷ xs) (suc from) count short before within behind =
     not_chosen (p x) (x ∷ filter p xs) (filter p xs) (before zero x (omega arith))
-      ∙ filter_between p xs from count (omega arith) (λ k d low. before (suc k) d (omega arith))
-          (λ k d low high. within (suc k) d (omega arith) (omega arith))
-          (λ k d low high. behind (suc k) d (omega arith) (omega arith))
+    ∙ filter_between p xs from count (omega arith) (λ k d low. before (suc k) d (omega arith))
+    (λ k d low high. within (suc k) d (omega arith) (omega arith))
+    (λ k d low high. behind (suc k) d (omega arith) (omega arith))
 
 -- a search that no element passes, and one that a single element may pass
 pub find_none : (p : Block → Bool) (xs : List Block) → ((k : ℕ) (d : Block) → k < length xs → p (get_or xs k d) ≡ false) → find p xs ≡ None
@@ -93,20 +93,20 @@ find_only p (x ∷ xs) zero d within others =
     ap (λ (o : Option Block). cond (p x) (Some x) o) (find_none p xs (λ k e high. others (suc k) e (omega arith) (λ same. omega arith)))
 find_only p (x ∷ xs) (suc at) d within others =
     not_chosen (p x) (Some x) (find p xs) (others zero x (omega arith) (λ same. omega arith))
-      ∙ find_only p xs at d (omega arith) (λ k e high other. others (suc k) e (omega arith) (λ same. other (omega arith)))
+    ∙ find_only p xs at d (omega arith) (λ k e high other. others (suc k) e (omega arith) (λ same. other (omega arith)))
 
 -- tests on one block
 and_false : (t : Bool) → (t && false) ≡ false
 and_false true = refl
 and_false false = refl
 
-both : (s t : Bool) → s ≡ true → t ≡ true → (s && t) ≡ true
+pub both : (s t : Bool) → s ≡ true → t ≡ true → (s && t) ≡ true
 both s t first second = rw (first, second) refl
 
-second_fails : (s t : Bool) → t ≡ false → (s && t) ≡ false
+pub second_fails : (s t : Bool) → t ≡ false → (s && t) ≡ false
 second_fails s t fails = ap (λ x. s && x) fails ∙ and_false s
 
-first_fails : (s t : Bool) → s ≡ false → (s && t) ≡ false
+pub first_fails : (s t : Bool) → s ≡ false → (s && t) ≡ false
 first_fails s t fails = ap (λ x. x && t) fails
 
 -- the held blocks that begin in a superblock are those between two counts
@@ -118,16 +118,16 @@ pub begun_between : (capacity d : ℕ) (held : List Block) (from until : ℕ) �
     → take (until - from) (drop from held) ≡ filter (begins_in capacity d) held
 begun_between capacity d held from until order within before behind under over =
     sym (filter_between (begins_in capacity d) held from (until - from) (omega arith)
-      (λ k e low. first_fails _ _ (lt-leb _ _ (before k e (omega arith) low)))
-      (λ k e low high. both _ _ (le-leb _ _ (behind k e low (omega arith))) (lt-ltb _ _ (under k e (omega arith) (omega arith))))
-      (λ k e low high. second_fails _ _ (le-ltb _ _ (over k e (omega arith) high))))
+    (λ k e low. first_fails _ _ (lt-leb _ _ (before k e (omega arith) low)))
+    (λ k e low high. both _ _ (le-leb _ _ (behind k e low (omega arith))) (lt-ltb _ _ (under k e (omega arith) (omega arith))))
+    (λ k e low high. second_fails _ _ (le-ltb _ _ (over k e (omega arith) high))))
 
 -- no held block begins before the superblock
 pub first_of-none : (capacity d : ℕ) (held : List Block)
     → AllWithin (λ (b : Block). start_word capacity d ≤ b.first_word) held 0 (length held) → first_of capacity d held ≡ 0
 first_of-none capacity d held behind =
     ap (λ (o : Option Block). option_map_or (superblock_of capacity) o 0)
-      (find_none (reaches_into capacity d) held (λ k e high. first_fails _ _ (le-ltb _ _ (behind k e (omega arith) high))))
+    (find_none (reaches_into capacity d) held (λ k e high. first_fails _ _ (le-ltb _ _ (behind k e (omega arith) high))))
 
 -- a number that is at least another less one, and not that, is at least the other
 lt_from_ne : (count k : ℕ) → count - 1 ≤ k → k ≢ count - 1 → count ≤ k
@@ -140,15 +140,15 @@ last_reaches : (capacity d : ℕ) (held : List Block) (count : ℕ) (e : Block) 
     → find (reaches_into capacity d) held ≡ cond (reaches_into capacity d (get_or held (count - 1) e)) (Some (get_or held (count - 1) e)) None
 last_reaches capacity d held count e order some within before behind =
     find_only (reaches_into capacity d) held (count - 1) e (omega arith)
-      (λ k x high other. elim (cases_lt k (count - 1)) as (λ _. reaches_into capacity d (get_or held k x) ≡ false) [
-          inl less ↦
-            let ends = order k (count - 1) x less (omega arith) in
-            let begins = before (count - 1) x (omega arith) (omega arith) in
-            second_fails _ _ (le-ltb (start_word capacity d) _ (omega arith))
-        | inr most ↦
-            let above : count ≤ k = lt_from_ne count k most other in
-            first_fails _ _ (le-ltb _ _ (behind k x above high))
-      ])
+    (λ k x high other. elim (cases_lt k (count - 1)) as (λ _. reaches_into capacity d (get_or held k x) ≡ false) [
+      | inl less ↦
+          let ends = order k (count - 1) x less (omega arith) in
+          let begins = before (count - 1) x (omega arith) (omega arith) in
+          second_fails _ _ (le-ltb (start_word capacity d) _ (omega arith))
+      | inr most ↦
+          let above : count ≤ k = lt_from_ne count k most other in
+          first_fails _ _ (le-ltb _ _ (behind k x above high))
+    ])
 
 pub first_of-some : (capacity d : ℕ) (held : List Block) (count : ℕ) (e : Block) → AreInOrder held → 0 < count → count ≤ length held
     → AllWithin (λ (b : Block). b.first_word < start_word capacity d) held 0 count
@@ -160,7 +160,7 @@ first_of-some capacity d held count e order some within before behind reaches =
     let first = before (count - 1) e (omega arith) (omega arith) in
     let test = both (nat_lt b.first_word (start_word capacity d)) (nat_lt (start_word capacity d) (b.first_word + b.words)) (lt-ltb _ _ first) (lt-ltb _ _ (omega arith)) in
     ap (λ (o : Option Block). option_map_or (superblock_of capacity) o 0)
-      (last_reaches capacity d held count e order some within before behind ∙ chosen (reaches_into capacity d b) (Some b) None test)
+    (last_reaches capacity d held count e order some within before behind ∙ chosen (reaches_into capacity d b) (Some b) None test)
 
 pub first_of-other : (capacity d : ℕ) (held : List Block) (count : ℕ) (e : Block) → AreInOrder held → 0 < count → count ≤ length held
     → AllWithin (λ (b : Block). b.first_word < start_word capacity d) held 0 count
@@ -172,4 +172,4 @@ first_of-other capacity d held count e order some within before behind short =
     let first = before (count - 1) e (omega arith) (omega arith) in
     let test = second_fails (nat_lt b.first_word (start_word capacity d)) (nat_lt (start_word capacity d) (b.first_word + b.words)) (le-ltb _ _ (omega arith)) in
     ap (λ (o : Option Block). option_map_or (superblock_of capacity) o 0)
-      (last_reaches capacity d held count e order some within before behind ∙ not_chosen (reaches_into capacity d b) (Some b) None test)
+    (last_reaches capacity d held count e order some within before behind ∙ not_chosen (reaches_into capacity d b) (Some b) None test)

@@ -1,5 +1,5 @@
 -- The map of a heap, as bytes: what each superblock that has been taken is used for.
-use Rattle.std.specs.Prelude.{◌≡◌, ℕ, ◌+◌, ◌-◌, ◌*◌, ◌/◌, ◌%◌, ◌&&◌, ◌==◌, ◌≤◌, AllPairs, if◌then◌else◌, nat_lt, nat_le, Bool, List, [], ◌∷◌, ◌++◌, codes, decimal, length, map, filter, find, slice_index}
+use Rattle.std.specs.Prelude.{ℕ, ◌+◌, ◌-◌, ◌/◌, ◌%◌, ◌&&◌, ◌==◌, ◌≤◌, AllPairs, if◌then◌else◌, nat_lt, nat_le, Bool, List, ◌++◌, codes, decimal, length, map, filter, find}
 use Rattle.std.specs.List.{flat_map, range_with_len, list_any}
 use Rattle.std.specs.Option.{option_map_or}
 use Rattle.heap_model.specs.declared.block.Block.{Block}
@@ -22,9 +22,13 @@ begins_in capacity d b = nat_le (start_word capacity d) b.first_word && nat_lt b
 abbrev pub reaches_into : ℕ → ℕ → Block → Bool
 reaches_into capacity d b = nat_lt b.first_word (start_word capacity d) && nat_lt (start_word capacity d) (b.first_word + b.words)
 
+-- which of the blocks of superblock d this is, when that is cut for the class
+abbrev pub index_of : ℕ → ℕ → ℕ → Block → ℕ
+index_of capacity class d b = (b.first_word - start_word capacity d) / words_of_class class
+
 -- the indexes of the held blocks of superblock d, which is cut for the class
 abbrev pub held_indexes : ℕ → ℕ → ℕ → List Block → List ℕ
-held_indexes capacity class d held = map (λ b. (b.first_word - start_word capacity d) / words_of_class class) (filter (begins_in capacity d) held)
+held_indexes capacity class d held = map (index_of capacity class d) (filter (begins_in capacity d) held)
 
 -- the superblock in which a block begins
 abbrev pub superblock_of : ℕ → Block → ℕ
@@ -52,10 +56,10 @@ inside_use first = codes "inside " ++ decimal first
 -- what superblock d is used for, in words
 abbrev pub use_of : Image → List Block → List ℕ → ℕ → List ℕ
 use_of image held free d =
-  if list_any (λ f. f == d) free then codes "free"
-  else if is_class (image (info_word d)) then class_use (capacity_of image) (image (info_word d)) held d
-  else if is_large (image (info_word d)) then codes "large " ++ decimal (image (info_word d) / 256)
-  else inside_use (first_of (capacity_of image) d held)
+    if list_any (λ f. f == d) free then codes "free"
+    else if is_class (image (info_word d)) then class_use (capacity_of image) (image (info_word d)) held d
+    else if is_large (image (info_word d)) then codes "large " ++ decimal (image (info_word d) / 256)
+    else inside_use (first_of (capacity_of image) d held)
 
 -- the line of a superblock
 abbrev pub line_of : ℕ → List ℕ → List ℕ

@@ -2,4 +2,5 @@ pub mod Report
 pub mod Recovered
 pub mod Ranges
 pub mod HeapMap
+pub mod Laws
 pub mod Examples

@@ -1,6 +1,6 @@
 -- Ascending numbers, printed as their longest runs.
-use Rattle.std.specs.Prelude.{◌≡◌, ℕ, ◌+◌, ◌==◌, if◌then◌else◌, List, [], ◌∷◌, ◌++◌, codes, decimal}
-use Rattle.std.specs.List.{flat_map}
+use Rattle.std.specs.Prelude.{List, [], codes, decimal, if◌then◌else◌, ℕ, ◌++◌, ◌+◌, ◌-◌, ◌==◌, ◌∷◌, ◌≡◌, ◌≢◌, ◌≤◌}
+use Rattle.std.specs.List.{flat_map, range_with_len}
 
 -- a run of numbers that follow one another
 pub record Run : Type 0 where
@@ -24,3 +24,18 @@ run_text run = if run.first == run.last then codes " " ++ decimal run.first else
 -- the numbers as their longest runs
 abbrev pub ranges_of : List ℕ → List ℕ
 ranges_of ns = flat_map run_text (longest_runs ns)
+
+-- the numbers of a run
+abbrev pub numbers_of : Run → List ℕ
+numbers_of run = range_with_len run.first (run.last + 1 - run.first)
+
+-- each run has a number, and none goes on from the one before it
+pub data AreSeparate : List Run → Type 0 where
+  none : AreSeparate []
+  one : (run : Run) → run.first ≤ run.last → AreSeparate (run ∷ [])
+  more : (run next : Run) (runs : List Run) → run.first ≤ run.last → next.first ≢ run.last + 1 → AreSeparate (next ∷ runs) → AreSeparate (run ∷ next ∷ runs)
+
+-- the runs have these numbers, in this order, and no two of them could be one
+pub record AreLongestRuns (ns : List ℕ) (runs : List Run) : Type 0 where
+  pub numbers : flat_map numbers_of runs ≡ ns
+  pub separate : AreSeparate runs

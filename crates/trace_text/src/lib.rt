@@ -2,15 +2,16 @@
 #![tactic(auto)]
 
 mod class;
+mod laws;
 mod map;
 mod ranges;
 mod recovered;
 mod report;
 
+pub use laws::{each_held_block_is_told, runs_are_the_longest};
 pub use map::map_lines;
 pub use recovered::{map_text, report_text};
 pub use report::{heap_line, report_lines};
-
 
 #[cfg(test)]
 mod tests;

@@ -11,9 +11,7 @@ use crate::class::words_of;
 use crate::ranges::write_ranges;
 use region_header::Bytes;
 use std::alloc::{AllocError, Global};
-use super_block::{
-    Block, CAPACITY_WORD, Geometry, Info, Ready, SUPERBLOCK_WORDS, USED_WORD,
-};
+use super_block::{Block, CAPACITY_WORD, Geometry, Info, Ready, SUPERBLOCK_WORDS, USED_WORD};
 
 /// The map of a heap whose free superblocks are these: how many superblocks have been taken, are
 /// free and are fresh, and a line for each that has been taken.

@@ -5,12 +5,11 @@ ghost use Rattle.trace_text.specs.Report.{report_of};
 ghost use Rattle.trace_text.specs.HeapMap.{map_of};
 ghost use Rattle.trace_text.specs.Recovered.{is_clean};
 
+use crate::map::map_lines;
+use crate::report::report_lines;
 use heap_recover::{Recovered, Was};
 use region_header::Bytes;
 use std::alloc::{AllocError, Global};
-
-use crate::map::map_lines;
-use crate::report::report_lines;
 
 /// The report on a recovered heap: its capacity and whether it was closed, and how many blocks are
 /// held of each class and of each number of superblocks.

@@ -1,4 +1,4 @@
-use Rattle.std.proofs.Common.{◌≡◌, ℕ, ◌/◌, ap, ◌∙◌, arith}
+use Rattle.std.proofs.Common.{◌≡◌, ◌/◌, ap, ◌∙◌, arith}
 use Rattle.heap_model.specs.Sizes.{words_of_class}
 use Rattle.heap_model.proofs.SizeLemmas.{two_words}
 use Rattle.super_block.proofs.DivisionLemmas.{words_from_size}

@@ -1,9 +1,9 @@
-use Rattle.std.proofs.Common.{◌≡◌, ℕ, ◌++◌, slice_index, sym, ap, ◌∙◌, subst}
+use Rattle.std.proofs.Common.{◌++◌, slice_index, sym, ap, ◌∙◌, subst}
 use Rattle.std.proofs.lemmas.Result.{on_ok_weaker}
 use Rattle.std.specs.String.{string_bytes}
 use Rattle.super_block.specs.declared.info.Info.TheVariants.{Nothing}
 use Rattle.super_block.specs.Info.{Says}
-use Rattle.trace_text.specs.HeapMap.{use_of, inside_use, line_of, first_of}
+use Rattle.trace_text.specs.HeapMap.{inside_use, line_of, first_of}
 use Rattle.trace_text.proofs.MapLemmas.{use_of-inside}
 use Rattle.trace_text.proofs.map.write_superblock_line.Goals as goal
 

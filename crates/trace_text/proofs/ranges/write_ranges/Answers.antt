@@ -11,7 +11,7 @@ loop-number-preserved c =
     let last = c.loop-number.last in
     let number : ℕ = get_or others i 0 in
     elim c.if-not-is_next.branch [
-        then-not-is_next+in_ok-write_run w ↦
+      | then-not-is_next+in_ok-write_run w ↦
           let apart : number ≢ last + 1 = search rules in
           let step = apart_step first last number i others _ _ _ c.loop-number-test.true refl apart c.loop-number.invariant w.in_ok-write_run.ensures.ok in
           cc
