@@ -4,6 +4,7 @@
 mod answer;
 mod chains;
 mod fault;
+mod laws;
 mod lists;
 mod parts;
 mod passes;
@@ -14,4 +15,8 @@ mod surveys;
 
 pub use answer::{Recovered, Was};
 pub use fault::RecoverFault;
+pub use laws::reached_words_are_unchanged;
 pub use recovery::recover;
+
+#[cfg(test)]
+mod tests;
