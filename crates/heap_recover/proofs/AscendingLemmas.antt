@@ -42,11 +42,11 @@ all_pairs_append : {A : Type 0} (R : A → A → Type 0) (xs ys : List A) → Al
 all_pairs_append {A} R xs ys in_xs in_ys across i j d less below =
     let long = length-append xs ys in
     elim (cases_lt j (length xs)) as (λ _. R (get_or (xs ++ ys) i d) (get_or (xs ++ ys) j d)) [
-    | inl first ↦ rw (get_or-append xs ys d i (omega arith), get_or-append xs ys d j first) (in_xs i j d less first)
-    | inr past ↦ elim (cases_lt i (length xs)) as (λ _. R (get_or (xs ++ ys) i d) (get_or (xs ++ ys) j d)) [
-      | inl first ↦ rw (get_or-append xs ys d i first, get_or-append_right xs ys j d past)
-          (across (get_or xs i d) (get_or ys (j - length xs) d) (Contains-get_or xs i d first) (Contains-get_or ys (j - length xs) d (omega arith)))
-      | inr also ↦ rw (get_or-append_right xs ys i d also, get_or-append_right xs ys j d past) (in_ys (i - length xs) (j - length xs) d (omega arith) (omega arith))
+      | inl first ↦ rw (get_or-append xs ys d i (omega arith), get_or-append xs ys d j first) (in_xs i j d less first)
+      | inr past ↦ elim (cases_lt i (length xs)) as (λ _. R (get_or (xs ++ ys) i d) (get_or (xs ++ ys) j d)) [
+        | inl first ↦ rw (get_or-append xs ys d i first, get_or-append_right xs ys j d past)
+            (across (get_or xs i d) (get_or ys (j - length xs) d) (Contains-get_or xs i d first) (Contains-get_or ys (j - length xs) d (omega arith)))
+        | inr also ↦ rw (get_or-append_right xs ys i d also, get_or-append_right xs ys j d past) (in_ys (i - length xs) (j - length xs) d (omega arith) (omega arith))
       ]
     ]
 

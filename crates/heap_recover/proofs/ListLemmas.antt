@@ -23,7 +23,6 @@ pub record IsMemberAmong (roles : List Role) (list count d : ℕ) : Type 0 where
   pub among : d < count
 
 module _ (roles : List Role) (list : ℕ) where
-
   -- none yet
   pub members_none : AreAscending (λ d. d) (IsMemberAmong roles list 0) []
   members_none = ascending_none (λ d. d) (IsMemberAmong roles list 0) (λ d is. let among = is.among in omega arith)
@@ -76,9 +75,12 @@ number_past (d ∷ ds) (suc i) past = number_past ds i (omega arith)
 pub follows_from : (link : ℕ → ℕ) (capacity : ℕ) (ds : List ℕ) → All (λ d. d < capacity) ds → ((j : ℕ) → j < length ds → link (slice_index ds j) ≡ number_at ds (suc j))
     → Follows link capacity (first_number ds) ds
 follows_from link capacity [] below links = refl
-follows_from link capacity (d ∷ ds) below links =
-    (refl, below 0 0 (omega arith), subst (λ n. Follows link capacity n ds) (sym (links 0 (omega arith) ∙ first_of ds))
-        (follows_from link capacity ds (λ k x less. below (suc k) x (omega arith)) (λ j less. links (suc j) (omega arith))))
+follows_from link capacity (d ∷ ds) below links = (
+  refl,
+  below 0 0 (omega arith),
+  subst (λ n. Follows link capacity n ds) (sym (links 0 (omega arith) ∙ first_of ds))
+      (follows_from link capacity ds (λ k x less. below (suc k) x (omega arith)) (λ j less. links (suc j) (omega arith))),
+)
 
 -- the answer of a comparison with a list
 pub option_is : (o : Option ℕ) (n : ℕ) → option_eq nat_eq o (Some n) ≡ true → o ≡ Some n
@@ -103,9 +105,12 @@ one_list roles i j d in_i in_j = let same : Some i ≡ Some j = sym in_i.in_list
 -- links that agree lead along the same list
 pub follows_same : (link link' : ℕ → ℕ) (capacity from : ℕ) (ds : List ℕ) → ((d : ℕ) → Contains ds d → link' d ≡ link d) → Follows link capacity from ds → Follows link' capacity from ds
 follows_same link link' capacity from [] same follows = follows
-follows_same link link' capacity from (d ∷ ds) same follows =
-    (follows.0, follows.1, subst (λ n. Follows link' capacity n ds) (sym (same d (0, omega arith, refl)))
-        (follows_same link link' capacity (link d) ds (λ x has. same x (suc has.0, (let below = has.1 in omega arith), has.2)) follows.2))
+follows_same link link' capacity from (d ∷ ds) same follows = (
+  follows.0,
+  follows.1,
+  subst (λ n. Follows link' capacity n ds) (sym (same d (0, omega arith, refl)))
+      (follows_same link link' capacity (link d) ds (λ x has. same x (suc has.0, (let below = has.1 in omega arith), has.2)) follows.2),
+)
 
 -- links and head are written
 pub linked : (old mid : List ℕ) (capacity list : ℕ) (ds : List ℕ) → list < 21 → length old ≡ image_words capacity → All (λ d. d < capacity) ds
@@ -118,6 +123,7 @@ linked old mid capacity list ds few long inside written = record {
 } where
   new : List ℕ
   new = set mid (16 + list) (number_at ds 0)
+
   away : (word : ℕ) → word ≢ 16 + list → slice_index (set mid (16 + list) (number_at ds 0)) word ≡ slice_index mid word
   away word other = get_or-set_other mid (16 + list) word (number_at ds 0) 0 other
 
@@ -133,17 +139,19 @@ listed_more old mid new capacity roles list ds members first next few = record {
   kept j d less in_j = next.others (link_word d) (λ same. omega arith) (λ e has same.
       let is_e : d ≡ e = omega arith in
       let one : j ≡ list = one_list roles j list d in_j (subst (IsMember roles list) (sym is_e) (members.sound e has)) in omega arith)
+
   each : (j : ℕ) → j < list + 1 → IsList new capacity roles j
   each j below = elim (cases_lt j list) as (λ _. IsList new capacity roles j) [
     | inl less ↦ let was = first.each j less in record {
-        members = was.members;
-        are_members = was.are_members;
-        head = next.others (head_word j) (λ same. omega arith) (λ d has same. omega arith) ∙ was.head;
-        follows = follows_same (λ d. mid (link_word d)) (λ d. new (link_word d)) capacity (first_number was.members) was.members (λ d has. kept j d less (was.are_members.sound d has)) was.follows;
-      }
+      members = was.members;
+      are_members = was.are_members;
+      head = next.others (head_word j) (λ same. omega arith) (λ d has same. omega arith) ∙ was.head;
+      follows = follows_same (λ d. mid (link_word d)) (λ d. new (link_word d)) capacity (first_number was.members) was.members (λ d has. kept j d less (was.are_members.sound d has)) was.follows;
+    }
     | inr past ↦ let same : list ≡ j = omega arith in
         subst (λ i. IsList new capacity roles i) same (record { members = ds; are_members = members; head = next.head; follows = next.follows })
   ]
+
   others : (word : ℕ) → ((j : ℕ) → j < list + 1 → word ≢ head_word j) → ((d j : ℕ) → j < list + 1 → IsMember roles j d → word ≢ link_word d) → new word ≡ old word
   others word no_head no_link =
       next.others word (no_head list (omega arith)) (λ d has. no_link d list (omega arith) (members.sound d has))

@@ -23,7 +23,6 @@ pub by_index : (capacity class d j k : ℕ) (a b : Block) → IsClass class → 
 by_index capacity class d j k a b is is_a is_b less = omega (arith, is_a.at, is_b.at, block_step j k (words_of_class class) less, two_words class is)
 
 module _ (kept : Block → Type 0) (capacity class d : ℕ) (is : IsClass class) where
-
   -- a kept one among more is among fewer, or is the last
   kept_before : (count : ℕ) (b x : Block) → IsBlockOfClass capacity class d count b → IsKeptAmong kept capacity class d (count + 1) x → IsKeptAmong kept capacity class d count x ⊎ (x ≡ b)
   kept_before count b x is_b is_x = elim (cases_lt is_x.index count) as (λ _. IsKeptAmong kept capacity class d count x ⊎ (x ≡ b)) [

@@ -27,13 +27,15 @@ use Rattle.heap_recover.proofs.SuperblockLemmas.{walks_same, spares_inside}
 pub role_spares : (old : Image) (kept : Block → Type 0) (d : ℕ) (role : Role) (spares : List ℕ) → IsRole (layout_of old) kept d role spares
     → HasSpares (capacity_of old) d spares role × HasInfo (old (info_word d)) role
 role_spares old kept d _ _ (is_free free) = (refl, tt)
-role_spares old kept d _ _ (is_partial class spares is partial chained) =
-    (record {
-      is_class = is;
-      some = (let has = chained.complete partial.spare.0 partial.spare.1 in let below = has.1 in omega arith);
-      ascending = chained.ascending;
-      blocks = λ w has. let spare = chained.sound w has in (spare.index, record { below = spare.is_block.below; at = sym spare.first ∙ spare.is_block.at; size = refl });
-    }, partial.info_is)
+role_spares old kept d _ _ (is_partial class spares is partial chained) = (
+  record {
+    is_class = is;
+    some = (let has = chained.complete partial.spare.0 partial.spare.1 in let below = has.1 in omega arith);
+    ascending = chained.ascending;
+    blocks = λ w has. let spare = chained.sound w has in (spare.index, record { below = spare.is_block.below; at = sym spare.first ∙ spare.is_block.at; size = refl });
+  },
+  partial.info_is,
+)
 role_spares old kept d _ _ (is_full class is full) = (refl, tt)
 role_spares old kept d _ _ (is_large large) = (refl, tt)
 
@@ -59,9 +61,9 @@ one_owner capacity d e word in_d in_e (is_inside _ from until) (is_inside _ from
 -- where a kept word stands: before the descriptors, or behind the words of a descriptor that have a meaning
 pub kept_where : (capacity word : ℕ) → IsKeptWord capacity word → (word < 1064) ⊎ ((e : ℕ) × (at : ℕ) × (e < capacity) × (3 ≤ at) × (at < 8) × (word ≡ info_word e + at))
 kept_where capacity _ (header_kept word is) = inl (elim is as (λ _. word < 1064) [
-    | inl magic ↦ omega arith
-    | inr rest ↦ elim rest as (λ _. word < 1064) [ inl version ↦ omega arith | inr last ↦ elim last as (λ _. word < 1064) [ inl capacity_is ↦ omega arith | inr used ↦ omega arith ] ]
-  ])
+  | inl magic ↦ omega arith
+  | inr rest ↦ elim rest as (λ _. word < 1064) [ inl version ↦ omega arith | inr last ↦ elim last as (λ _. word < 1064) [ inl capacity_is ↦ omega arith | inr used ↦ omega arith ] ]
+])
 kept_where capacity _ (is_root i word below is) = inl (omega arith)
 kept_where capacity _ (is_reserved word (in_header _ low high used_not lists_not)) = inl (omega arith)
 kept_where capacity _ (is_reserved word (in_descriptor d at _ below low high is)) = inr (d, at, below, low, high, is)
@@ -69,9 +71,9 @@ kept_where capacity _ (is_reserved word (in_descriptor d at _ below low high is)
 -- a kept word is not the state
 pub kept_no_state : (capacity word : ℕ) → IsKeptWord capacity word → word ≡ state_word → ⊥
 kept_no_state capacity _ (header_kept word is) same = elim is as (λ _. ⊥) [
-    | inl magic ↦ omega arith
-    | inr rest ↦ elim rest as (λ _. ⊥) [ inl version ↦ omega arith | inr last ↦ elim last as (λ _. ⊥) [ inl capacity_is ↦ omega arith | inr used ↦ omega arith ] ]
-  ]
+  | inl magic ↦ omega arith
+  | inr rest ↦ elim rest as (λ _. ⊥) [ inl version ↦ omega arith | inr last ↦ elim last as (λ _. ⊥) [ inl capacity_is ↦ omega arith | inr used ↦ omega arith ] ]
+]
 kept_no_state capacity _ (is_root i word below is) same = omega arith
 kept_no_state capacity _ (is_reserved word (in_header _ low high used_not lists_not)) same = omega arith
 kept_no_state capacity _ (is_reserved word (in_descriptor d at _ below low high is)) same = omega arith
@@ -79,9 +81,9 @@ kept_no_state capacity _ (is_reserved word (in_descriptor d at _ below low high 
 -- nor a head
 pub kept_no_head : (capacity word : ℕ) → IsKeptWord capacity word → (j : ℕ) → j < 21 → word ≡ head_word j → ⊥
 kept_no_head capacity _ (header_kept word is) j few same = elim is as (λ _. ⊥) [
-    | inl magic ↦ omega arith
-    | inr rest ↦ elim rest as (λ _. ⊥) [ inl version ↦ omega arith | inr last ↦ elim last as (λ _. ⊥) [ inl capacity_is ↦ omega arith | inr used ↦ omega arith ] ]
-  ]
+  | inl magic ↦ omega arith
+  | inr rest ↦ elim rest as (λ _. ⊥) [ inl version ↦ omega arith | inr last ↦ elim last as (λ _. ⊥) [ inl capacity_is ↦ omega arith | inr used ↦ omega arith ] ]
+]
 kept_no_head capacity _ (is_root i word below is) j few same = omega arith
 kept_no_head capacity _ (is_reserved word (in_header _ low high used_not lists_not)) j few same = elim lists_not as (λ _. ⊥) [ inl before ↦ omega arith | inr behind ↦ omega arith ]
 kept_no_head capacity _ (is_reserved word (in_descriptor d at _ below low high is)) j few same = omega arith
@@ -96,14 +98,15 @@ no_lower capacity d e word less below from (is_inside _ from' until) = omega ari
 -- a kept word belongs to no superblock
 pub kept_apart : (capacity d word : ℕ) → d < capacity → IsKeptWord capacity word → IsOf capacity d word → ⊥
 kept_apart capacity d word below kept owned = elim (kept_where capacity word kept) as (λ _. ⊥) [
-    | inl header ↦ header_apart header owned
-    | inr descriptor ↦ descriptor_apart descriptor.0 descriptor.1 (descriptor.2, descriptor.3, descriptor.4, descriptor.5) owned
-  ] where
+  | inl header ↦ header_apart header owned
+  | inr descriptor ↦ descriptor_apart descriptor.0 descriptor.1 (descriptor.2, descriptor.3, descriptor.4, descriptor.5) owned
+] where
   header_apart : word < 1064 → IsOf capacity d word → ⊥
   header_apart low (is_info _ is) = omega arith
   header_apart low (is_anchor _ is) = omega arith
   header_apart low (is_link _ is) = omega arith
   header_apart low (is_inside _ from until) = omega arith
+
   descriptor_apart : (e at : ℕ) → (e < capacity) × (3 ≤ at) × (at < 8) × (word ≡ info_word e + at) → IsOf capacity d word → ⊥
   descriptor_apart e at where_ (is_info _ is) = let same = where_.3 in let low = where_.1 in let high = where_.2 in omega arith
   descriptor_apart e at where_ (is_anchor _ is) = let same = where_.3 in let low = where_.1 in let high = where_.2 in omega arith
@@ -185,12 +188,15 @@ done_next old mid new kept d held more roles role spares below first has_role in
 } where
   capacity : ℕ
   capacity = capacity_of old
+
   -- a word of this superblock is as it was
   fresh : (word : ℕ) → IsOf (capacity_of old) d word → mid word ≡ old word
   fresh word owned = first.others word (λ e less other. let same = one_owner (capacity_of old) e d word (omega arith) below other owned in omega arith)
+
   -- a word of a lower one stays
   stays : (e word : ℕ) → e < d → IsOf (capacity_of old) e word → new word ≡ mid word
   stays e word less owned = rebuilt.others word (λ other. let same = one_owner (capacity_of old) e d word (omega arith) below owned other in omega arith)
+
   here_done : IsDone old new kept d role
   here_done = record {
     spares = spares;
@@ -198,6 +204,7 @@ done_next old mid new kept d held more roles role spares below first has_role in
     described = described_from old mid new d spares role (fresh (info_word d) (is_info (info_word d) refl)) (first.others capacity_word (λ e less owned. kept_apart (capacity_of old) e capacity_word (omega arith) (header_kept capacity_word (inr (inr (inl refl)))) owned)) rebuilt.described;
     inside = record { each = λ word low high unlinked. rebuilt.inside.each word low high unlinked ∙ fresh word (is_inside word low high) };
   }
+
   each : (e : ℕ) → e < d + 1 → IsDone old new kept e (slice_index_or (roles ++ role ∷ []) e Large)
   each e less = elim (cases_lt e d) as (λ _. IsDone old new kept e (slice_index_or (roles ++ role ∷ []) e Large)) [
     | inl lower ↦ subst (λ r. IsDone old new kept e r) (sym (get_or-append roles (role ∷ []) Large e (let long = first.long in omega arith)))
@@ -210,6 +217,7 @@ done_next old mid new kept d held more roles role spares below first has_role in
         let seam : slice_index_or (roles ++ role ∷ []) e Large ≡ role = subst (λ i. slice_index_or (roles ++ role ∷ []) i Large ≡ role) (first.long ∙ same) (get_or-append_seam roles role [] Large) in
         subst (λ r. IsDone old new kept e r) (sym seam) (subst (λ i. IsDone old new kept i role) same here_done)
   ]
+
   links : (e : ℕ) → e < d + 1 → new (link_word e) ≡ 0
   links e less = elim (cases_lt e d) as (λ _. new (link_word e) ≡ 0) [
     | inl lower ↦ stays e (link_word e) lower (is_link (link_word e) refl) ∙ first.links e lower
@@ -230,26 +238,33 @@ pub cleared_next : (old mid new : Image) (capacity used d : ℕ) → used ≤ d 
 cleared_next old mid new capacity used d from below first rebuilt = record { each = each; links = links; inside = inside; others = others } where
   stays : (e word : ℕ) → e < d → IsOf capacity e word → new word ≡ mid word
   stays e word less owned = rebuilt.others word (λ other. let same = one_owner capacity e d word (omega arith) below owned other in omega arith)
+
   fresh : (word : ℕ) → IsOf capacity d word → mid word ≡ old word
   fresh word owned = first.others word (λ e low less other. let same = one_owner capacity e d word (omega arith) below other owned in omega arith)
+
   each : (e : ℕ) → used ≤ e → e < d + 1 → HasInfoAndAnchor new e 0 0
   each e low less = elim (cases_lt e d) as (λ _. HasInfoAndAnchor new e 0 0) [
     | inl lower ↦ let was = first.each e low lower in record {
-        info_is = stays e (info_word e) lower (is_info (info_word e) refl) ∙ was.info_is;
-        anchor_is = stays e (anchor_word e) lower (is_anchor (anchor_word e) refl) ∙ was.anchor_is;
-      }
+      info_is = stays e (info_word e) lower (is_info (info_word e) refl) ∙ was.info_is;
+      anchor_is = stays e (anchor_word e) lower (is_anchor (anchor_word e) refl) ∙ was.anchor_is;
+    }
     | inr past ↦ let same : d ≡ e = omega arith in subst (λ i. HasInfoAndAnchor new i 0 0) same rebuilt.described
   ]
+
   links : (e : ℕ) → used ≤ e → e < d + 1 → new (link_word e) ≡ 0
   links e low less = elim (cases_lt e d) as (λ _. new (link_word e) ≡ 0) [
     | inl lower ↦ stays e (link_word e) lower (is_link (link_word e) refl) ∙ first.links e low lower
     | inr past ↦ let same : d ≡ e = omega arith in subst (λ i. new (link_word i) ≡ 0) same rebuilt.link
   ]
+
   inside : (e : ℕ) → used ≤ e → e < d + 1 → KeepsInside old new capacity e []
-  inside e low less = record { each = λ word from until unlinked. elim (cases_lt e d) as (λ _. new word ≡ old word) [
-    | inl lower ↦ stays e word lower (is_inside word from until) ∙ (first.inside e low lower).each word from until unlinked
-    | inr past ↦ let same : e ≡ d = omega arith in rebuilt.inside.each word (omega arith) (omega arith) unlinked ∙ fresh word (is_inside word (omega arith) (omega arith))
-  ] }
+  inside e low less = record {
+    each = λ word from until unlinked. elim (cases_lt e d) as (λ _. new word ≡ old word) [
+      | inl lower ↦ stays e word lower (is_inside word from until) ∙ (first.inside e low lower).each word from until unlinked
+      | inr past ↦ let same : e ≡ d = omega arith in rebuilt.inside.each word (omega arith) (omega arith) unlinked ∙ fresh word (is_inside word (omega arith) (omega arith))
+    ];
+  }
+
   others : (word : ℕ) → ((e : ℕ) → used ≤ e → e < d + 1 → IsOf capacity e word → ⊥) → new word ≡ old word
   others word outside = rebuilt.others word (outside d from (omega arith)) ∙ first.others word (λ e low less. outside e low (omega arith))
 

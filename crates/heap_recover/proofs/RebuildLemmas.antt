@@ -36,7 +36,6 @@ module _ (old done cleared listed new : Image) (kept : Block → Type 0) (held :
     (are_listed : AreListed cleared listed (capacity_of old) roles 21)
     (state_is : new state_word ≡ dirty)
     (others : (word : ℕ) → word ≢ state_word → new word ≡ listed word) where
-
   -- a word that is no state, head or link of a listed superblock is as the second pass left it
   after_lists : (word : ℕ) → word ≢ state_word → ((j : ℕ) → j < 21 → word ≢ head_word j) → ((d j : ℕ) → j < 21 → IsMember roles j d → word ≢ link_word d) → new word ≡ cleared word
   after_lists word no_state no_head no_link = others word no_state ∙ are_listed.others word no_head no_link
@@ -108,7 +107,7 @@ module _ (old done cleared listed new : Image) (kept : Block → Type 0) (held :
   link_left : (d : ℕ) → d < capacity_of old → ((list : ℕ) → list < 21 → Contains (members_at list (cases_lt list 21)) d → ⊥) → new (link_word d) ≡ 0
   link_left d below away =
       after_lists (link_word d) (λ same. omega arith) (λ j few same. omega arith)
-          (λ e j few is same. let is_d : e ≡ d = omega arith in away j few (in_members j d few (cases_lt j 21) (subst (IsMember roles j) is_d is)))
+      (λ e j few is same. let is_d : e ≡ d = omega arith in away j few (in_members j d few (cases_lt j 21) (subst (IsMember roles j) is_d is)))
       ∙ elim (cases_lt d (used_of old)) as (λ _. cleared (link_word d) ≡ 0) [
         | inl taken ↦ taken_left d (link_word d) taken (is_link (link_word d) refl) ∙ are_done.links d taken
         | inr past ↦ are_cleared.links d past below
@@ -155,20 +154,20 @@ module _ (old done cleared listed new : Image) (kept : Block → Type 0) (held :
       let until = (superblock_of (capacity_of old) word low).2 in
       in_superblock d from until (cases_lt d (used_of old)) (λ class. away class d)
     where
-    in_superblock : (d : ℕ) → start_word (capacity_of old) d ≤ word → word < start_word (capacity_of old) (d + 1) → (which : (d < used_of old) ⊎ (used_of old ≤ d))
-        → ((class : ℕ) → IsClass class → IsPartial (layout_of old) kept class d → Contains (but_last (chain_at d which)) word → ⊥) → new word ≡ old word
-    in_superblock d from until (inl below) away' = let here = taken_done d below in here.inside.each word from until (unlinked_in d word (role_of d) here.spares here.has_role away')
-    in_superblock d from until (inr past) away' = inside_left word low ∙ elim (cases_lt d (capacity_of old)) as (λ _. cleared word ≡ old word) [
-      | inl below ↦ (are_cleared.inside d past below).each word from until (λ linked. none_of refl linked) ∙ untouched d past from
-      | inr beyond ↦ are_cleared.others word (λ e low less owned. no_lower (capacity_of old) d e word (omega arith) less from owned) ∙ untouched d past from
-    ] where
-      untouched : (d : ℕ) → used_of old ≤ d → start_word (capacity_of old) d ≤ word → done word ≡ old word
-      untouched d past from = are_done.others word (λ e taken owned. no_lower (capacity_of old) d e word (omega arith) (omega arith) from owned)
+      in_superblock : (d : ℕ) → start_word (capacity_of old) d ≤ word → word < start_word (capacity_of old) (d + 1) → (which : (d < used_of old) ⊎ (used_of old ≤ d))
+          → ((class : ℕ) → IsClass class → IsPartial (layout_of old) kept class d → Contains (but_last (chain_at d which)) word → ⊥) → new word ≡ old word
+      in_superblock d from until (inl below) away' = let here = taken_done d below in here.inside.each word from until (unlinked_in d word (role_of d) here.spares here.has_role away')
+      in_superblock d from until (inr past) away' = inside_left word low ∙ elim (cases_lt d (capacity_of old)) as (λ _. cleared word ≡ old word) [
+        | inl below ↦ (are_cleared.inside d past below).each word from until (λ linked. none_of refl linked) ∙ untouched d past from
+        | inr beyond ↦ are_cleared.others word (λ e low less owned. no_lower (capacity_of old) d e word (omega arith) less from owned) ∙ untouched d past from
+      ] where
+        untouched : (d : ℕ) → used_of old ≤ d → start_word (capacity_of old) d ≤ word → done word ≡ old word
+        untouched d past from = are_done.others word (λ e taken owned. no_lower (capacity_of old) d e word (omega arith) (omega arith) from owned)
 
   -- the words that recovery leaves alone
   kept_left : (word : ℕ) → IsKeptWord (capacity_of old) word → new word ≡ old word
   kept_left word is = after_lists word (kept_no_state (capacity_of old) word is) (kept_no_head (capacity_of old) word is)
-          (λ d j few member same. kept_apart (capacity_of old) d word (let below = member_below j d member in omega arith) is (is_link word same))
+      (λ d j few member same. kept_apart (capacity_of old) d word (let below = member_below j d member in omega arith) is (is_link word same))
       ∙ are_cleared.others word (λ e low below owned. kept_apart (capacity_of old) e word below is owned)
       ∙ are_done.others word (λ e below owned. kept_apart (capacity_of old) e word (omega arith) is owned)
 

@@ -13,7 +13,6 @@ use Rattle.heap_recover.specs.Roles.{IsRole, is_free, is_partial, is_full, is_la
 use Rattle.heap_recover.proofs.SurveyLemmas.{class_inside}
 
 module _ (l : Layout) (kept : Block → Type 0) (d : ℕ) where
-
   -- a superblock that holds a part of a kept block is not free
   pub not_free : HoldsKept l kept d → IsFreeSuperblock l kept d → ⊥
   not_free holds free = free.empty holds.block holds.is_kept holds.part

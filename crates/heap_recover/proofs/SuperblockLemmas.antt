@@ -68,13 +68,15 @@ first_spare capacity class d spares small below are =
     let at : slice_index spares 0 ≡ start_word capacity d + block.0 * words_of_class class = block.1.at in
     let rest : slice_index spares 0 - start_word capacity d ≡ block.0 * words_of_class class = omega arith in
     let last = ascending_index spares are.ascending (length spares - 1) (let some = are.some in omega arith) in
-    let inside = spares_inside capacity d spares (Partial class) are (slice_index spares (length spares - 1)) (Contains-get_or spares (length spares - 1) 0 (let some = are.some in omega arith)) in
-    (block.0, record {
-      below = block.1.below;
-      at = at;
-      quotient = ap (λ x. x / words_of_class class) rest ∙ mul-div_cancel block.0 (let two = two_words class are.is_class in omega arith);
-      few = omega (arith, inside.1);
-    })
+    let inside = spares_inside capacity d spares (Partial class) are (slice_index spares (length spares - 1)) (Contains-get_or spares (length spares - 1) 0 (let some = are.some in omega arith)) in (
+      block.0,
+      record {
+        below = block.1.below;
+        at = at;
+        quotient = ap (λ x. x / words_of_class class) rest ∙ mul-div_cancel block.0 (let two = two_words class are.is_class in omega arith);
+        few = omega (arith, inside.1);
+      },
+    )
 
 -- a walk on words that agree
 pub walks_same : (next next' : ℕ → ℕ) (bs : List ℕ) (from : ℕ) → ((b : ℕ) → Contains bs b → next' b ≡ next b) → Walks next from bs → Walks next' from bs
@@ -84,7 +86,6 @@ walks_same next next' (b ∷ bs) from same walks =
 
 -- the chain and the descriptor of a superblock are written
 module _ (old chained new : Image) (capacity d : ℕ) (spares : List ℕ) (anchor : ℕ) (below : d < capacity) (is_chained : IsChained old chained spares) where
-
   -- a word that is no first word of a chained block is as it was before the chain
   before_chain : (role : Role) → HasSpares capacity d spares role → (word : ℕ) → (IsOf capacity d word → ⊥) ⊎ (word < start_word capacity d) → chained word ≡ old word
   before_chain role has word away = is_chained.others word (λ linked.
@@ -112,8 +113,8 @@ module _ (old chained new : Image) (capacity d : ℕ) (spares : List ℕ) (ancho
     words = record { info_is = written.info ∙ before_chain (Partial class) are (info_word d) (inr (omega arith)) ∙ info; anchor_is = written.anchor_is ∙ counts.is };
     walks = subst (λ n. Walks new (start_word n d + counts.first * words_of_class class) spares) (sym same)
         (walks_same chained new spares (start_word capacity d + counts.first * words_of_class class)
-            (λ b has. inside_kept (Partial class) are written b (spares_inside capacity d spares (Partial class) are b has).0)
-            (is_chained.walks (start_word capacity d + counts.first * words_of_class class) (λ some. counts.begins)));
+        (λ b has. inside_kept (Partial class) are written b (spares_inside capacity d spares (Partial class) are b has).0)
+        (is_chained.walks (start_word capacity d + counts.first * words_of_class class) (λ some. counts.begins)));
   }
   described (Full class) same info none is written = record { info_is = written.info ∙ before_chain (Full class) none (info_word d) (inr (omega arith)); anchor_is = written.anchor_is ∙ is }
   described Large same info none is written = record { info_is = written.info ∙ before_chain Large none (info_word d) (inr (omega arith)); anchor_is = written.anchor_is ∙ is }

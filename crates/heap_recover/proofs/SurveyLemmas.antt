@@ -65,7 +65,6 @@ pub none_of : {A : Type 0} {x : A} {xs : List A} → xs ≡ [] → Contains xs x
 none_of {A} {x} {xs} empty has = let none = subst (λ ys. Contains ys x) empty has in let below = none.1 in omega arith
 
 module _ (l : Layout) (kept : Block → Type 0) (blocks : KeepsBlocks l kept) where
-
   -- the kept blocks go on no further than those of the next superblock do
   pub go_on : (d end : ℕ) → GoOnTo l kept d end → ((b : Block) → IsKeptIn l.capacity kept d b → b.first_word + b.words ≤ start_word l.capacity (d + 1)) → GoOnTo l kept (d + 1) end
   go_on d end old here = record {
@@ -91,7 +90,6 @@ module _ (l : Layout) (kept : Block → Type 0) (blocks : KeepsBlocks l kept) wh
   ends_here d end old info = elim (cases_lt d end) as (λ _. end ≤ d) [ inl before ↦ absurd (let none = (old.inside d (omega arith) before).no_info in omega arith) | inr past ↦ past ]
 
   module _ (d class : ℕ) (taken : d < l.used) (is : IsClass class) (info : l.info d ≡ class) where
-
     -- the kept blocks of a superblock of a class are those of its blocks that are kept
     pub kept_among : (b : Block) → IsKeptIn l.capacity kept d b → IsKeptAmong kept l.capacity class d (blocks_of class) b
     kept_among b is_b =
@@ -129,7 +127,7 @@ module _ (l : Layout) (kept : Block → Type 0) (blocks : KeepsBlocks l kept) wh
         → AreParted kept l.capacity class d (blocks_of class) held spares → RoleOfParts class held spares role chained → IsRole l kept d role chained
     class_role end held spares _ _ old parted (none_held empty) =
         is_free (free_superblock d end old taken (ends_here d end old (let some = is.some in omega arith))
-            (λ b is_b. none_of empty (parted.kept_in_order.complete b (kept_among b is_b))))
+        (λ b is_b. none_of empty (parted.kept_in_order.complete b (kept_among b is_b))))
     class_role end held spares _ _ old parted (none_spare some empty) =
         is_full class is (record {
           taken = taken;
@@ -142,13 +140,13 @@ module _ (l : Layout) (kept : Block → Type 0) (blocks : KeepsBlocks l kept) wh
     class_role end held spares _ _ old parted (some_of_both some_held some_spare) =
         let first : Block = get_or held 0 (record { first_word = 0; words = 0 }) in
         is_partial class spares is
-          (record {
-            taken = taken;
-            info_is = info;
-            holds = holds_among first (parted.kept_in_order.sound first (Contains-get_or held 0 (record { first_word = 0; words = 0 }) some_held));
-            spare = (get_or spares 0 0, spare_of (get_or spares 0 0) (parted.spares_in_order.sound (get_or spares 0 0) (Contains-get_or spares 0 0 some_spare)));
-          })
-          (ascending_same (λ w. w) (IsSpareAmong kept l.capacity class d (blocks_of class)) (IsSpare l kept class d) spares spare_of spare_among parted.spares_in_order)
+        (record {
+          taken = taken;
+          info_is = info;
+          holds = holds_among first (parted.kept_in_order.sound first (Contains-get_or held 0 (record { first_word = 0; words = 0 }) some_held));
+          spare = (get_or spares 0 0, spare_of (get_or spares 0 0) (parted.spares_in_order.sound (get_or spares 0 0) (Contains-get_or spares 0 0 some_spare)));
+        })
+        (ascending_same (λ w. w) (IsSpareAmong kept l.capacity class d (blocks_of class)) (IsSpare l kept class d) spares spare_of spare_among parted.spares_in_order)
 
   -- a superblock that begins no block holds none that is kept
   pub none_begun : (d : ℕ) → ((w m : ℕ) → Begins l d w m → ⊥) → (b : Block) → IsKeptIn l.capacity kept d b → ⊥
@@ -185,7 +183,6 @@ module _ (l : Layout) (kept : Block → Type 0) (blocks : KeepsBlocks l kept) wh
   }
 
   module _ (d count : ℕ) (taken : d < l.used) (some : 1 ≤ count) (info : l.info d ≡ large_info count) where
-
     -- what a superblock with the info of a large block begins
     large_begun : (b : Block) → IsKeptIn l.capacity kept d b → (b.first_word ≡ start_word l.capacity d) × (b.words ≡ superblock_words * count)
         × ((i : ℕ) → d < i → i < d + count → l.info i ≡ 0)
@@ -193,15 +190,15 @@ module _ (l : Layout) (kept : Block → Type 0) (blocks : KeepsBlocks l kept) wh
         let begun = begun_by l d b (blocks.each b is_b.is_kept) is_b.from is_b.until in
         parts begun.index begun.words begun.count begun.is_of begun.is_of.begins
       where
-      parts : (index w n : ℕ) → IsBlockOf l b d index w n → Begins l d w n → (b.first_word ≡ start_word l.capacity d) × (b.words ≡ superblock_words * count) × ((i : ℕ) → d < i → i < d + count → l.info i ≡ 0)
-      parts index w n is_of (of_class c e is) = absurd (let last = is.last in omega arith)
-      parts index w n is_of (as_large k some' e end zeros) =
-          let same : k ≡ count = omega arith in
-          let first : index ≡ zero = let below = is_of.below in omega arith in
-          let none : index * w ≡ 0 = subst (λ x. x * w ≡ 0) (sym first) (zero-mul w) in
-          let at = is_of.at in
-          let size = is_of.size in
-          (omega arith, omega arith, λ i low high. zeros i low (omega arith))
+        parts : (index w n : ℕ) → IsBlockOf l b d index w n → Begins l d w n → (b.first_word ≡ start_word l.capacity d) × (b.words ≡ superblock_words * count) × ((i : ℕ) → d < i → i < d + count → l.info i ≡ 0)
+        parts index w n is_of (of_class c e is) = absurd (let last = is.last in omega arith)
+        parts index w n is_of (as_large k some' e end zeros) =
+            let same : k ≡ count = omega arith in
+            let first : index ≡ zero = let below = is_of.below in omega arith in
+            let none : index * w ≡ 0 = subst (λ x. x * w ≡ 0) (sym first) (zero-mul w) in
+            let at = is_of.at in
+            let size = is_of.size in
+            (omega arith, omega arith, λ i low high. zeros i low (omega arith))
 
     -- no kept block, if that one is not kept
     pub large_unkept : (block : Block) → block.first_word ≡ start_word l.capacity d → block.words ≡ superblock_words * count → (kept block → ⊥) → (b : Block) → IsKeptIn l.capacity kept d b → ⊥
@@ -215,8 +212,8 @@ module _ (l : Layout) (kept : Block → Type 0) (blocks : KeepsBlocks l kept) wh
           (is_large (record { taken = taken; holds = holds d (omega arith) (omega arith); no_class = λ is. let last = is.last in omega arith })));
       in_order = subst (λ xs. AreAscending (λ (b : Block). b.first_word) (IsKeptIn l.capacity kept d) xs) (sym held)
           (ascending_push (λ (b : Block). b.first_word) (λ _. ⊥) (IsKeptIn l.capacity kept d) [] block
-            (ascending_none (λ (b : Block). b.first_word) (λ _. ⊥) (λ x none. none)) (λ y none. absurd none) (λ y none. absurd none)
-            here (λ b is_b. inr (same b is_b)));
+          (ascending_none (λ (b : Block). b.first_word) (λ _. ⊥) (λ x none. none)) (λ y none. absurd none) (λ y none. absurd none)
+          here (λ b is_b. inr (same b is_b)));
       goes_on = subst (λ e. GoOnTo l kept (d + 1) e) (sym ends) (record {
         inside = λ e low high. record { holds = holds e (omega arith) high; no_info = (large_begun block here).2 e (omega arith) high };
         ends = λ b e kept_b before low past. elim (cases_lt b.first_word (start_word l.capacity d)) as (λ _. b.first_word + b.words ≤ start_word l.capacity e) [
@@ -227,7 +224,9 @@ module _ (l : Layout) (kept : Block → Type 0) (blocks : KeepsBlocks l kept) wh
     } where
       here : IsKeptIn l.capacity kept d block
       here = record { is_kept = is_kept; from = omega arith; until = omega arith }
+
       same : (b : Block) → IsKeptIn l.capacity kept d b → b ≡ block
       same b is_b = same_fields b block ((large_begun b is_b).0 ∙ sym first) ((large_begun b is_b).1 ∙ sym words)
+
       holds : (e : ℕ) → d ≤ e → e < d + count → HoldsKept l kept e
       holds e low high = record { block = block; is_kept = is_kept; part = record { begins = omega arith; ends = omega arith } }

@@ -31,8 +31,8 @@ not_spare old kept b class d word is_b is_kept inside is partial spare =
     let some = block_words l spare.block is_spare in
     let first = spare.first in
     elim (never_overlap l b spare.block is_b is_spare) as (λ _. ⊥) [
-    | inl same ↦ spare.unkept (subst kept same is_kept)
-    | inr apart ↦ elim apart as (λ _. ⊥) [ inl before ↦ omega (arith, inside.until) | inr behind ↦ omega (arith, inside.from) ]
+      | inl same ↦ spare.unkept (subst kept same is_kept)
+      | inr apart ↦ elim apart as (λ _. ⊥) [ inl before ↦ omega (arith, inside.until) | inr behind ↦ omega (arith, inside.from) ]
     ]
 
 pub words_unchanged : (old new : Image) (kinds : ℕ → ℕ) (links : Links) → IsRecovered old new (IsReached old kinds links) → (b : Block) (word : ℕ) → IsReached old kinds links b → IsIn b word → new word ≡ old word
@@ -40,8 +40,8 @@ words_unchanged old new kinds links recovered b word reached inside =
     let is_b = reached_block old kinds links b reached.kind reached.reach in
     let lies = block_inside (layout_of old) b is_b in
     recovered.inside word (omega (arith, lies.0, inside.from)) (λ class d is partial linked.
-        not_spare old (IsReached old kinds links) b class d word is_b reached inside is partial
-        ((recovered.chained class d is partial).sound word (but_last_in (recovered.chains d) word linked)))
+    not_spare old (IsReached old kinds links) b class d word is_b reached inside is partial
+    ((recovered.chained class d is partial).sound word (but_last_in (recovered.chains d) word linked)))
 
 pub roots_unchanged : (old new : Image) (kinds : ℕ → ℕ) (links : Links) → IsRecovered old new (IsReached old kinds links) → (i : ℕ) → i < roots → new (root_word i) ≡ old (root_word i)
 roots_unchanged old new kinds links recovered i below = recovered.same (root_word i) (is_root i (root_word i) below refl)

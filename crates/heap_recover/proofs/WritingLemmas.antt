@@ -21,7 +21,7 @@ written_none at value old = record { long = refl; written = λ j below. absurd (
 pub written_more : (at value : ℕ → ℕ) (old new : List ℕ) (count : ℕ) → ((j : ℕ) → j < count → at j ≢ at count) → at count < length old
     → AreWritten at value old new count → AreWritten at value old (set new (at count) (value count)) (count + 1)
 written_more at value old new count apart inside first = record {
-  long = length-set' ;
+  long = length-set';
   written = λ j below. elim (cases_lt j count) as (λ _. slice_index (set new (at count) (value count)) (at j) ≡ value j) [
     | inl before ↦ get_or-set_other new (at count) (at j) (value count) 0 (apart j before) ∙ first.written j before
     | inr last ↦ let same : j ≡ count = omega arith in

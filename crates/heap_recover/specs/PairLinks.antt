@@ -15,7 +15,7 @@ pair_links kind words = cond (nat_eq kind 1) (one_link 2 words) (cond (nat_eq ki
 none_inside : (words : List ℕ) (at to : ℕ) → Contains {X = ℕ × ℕ} [] (at, to) → (at < length words) × (to < 3)
 none_inside words at to here = let none = here.1 in absurd (omega arith)
 
-one_inside : (test : Bool) (position : ℕ) (words : List ℕ) (at to : ℕ) → (test ≡ true → position < length words) → Contains (cond test ((position, 0) ∷ []) []) (at, to) → (at < length words) × (to < 3)
+one_inside : (test : Bool) (position : ℕ) (words : List ℕ) (at to : ℕ) → (test ≡ true → position < length words) → Contains {X = ℕ × ℕ} (cond test ((position, 0) ∷ []) []) (at, to) → (at < length words) × (to < 3)
 one_inside false position words at to fits here = none_inside words at to here
 one_inside true position words at to fits (zero, below, is) =
     let inside = fits (λ _. true) in
@@ -36,7 +36,7 @@ pair_links-inside = record {
 }
 
 -- there is at most one
-one_few : (test : Bool) (position : ℕ) → length (cond test ((position, 0) ∷ []) []) ≤ 1
+one_few : (test : Bool) (position : ℕ) → length {A = ℕ × ℕ} (cond test ((position, 0) ∷ []) []) ≤ 1
 one_few true position = omega arith
 one_few false position = omega arith
 

@@ -1,4 +1,4 @@
-//! Recovery: from any image to a heap at rest, in which exactly the blocks that the roots reach are held.
+//! Recovery: from any image to a heap at rest that holds exactly the blocks that its roots reach.
 #![tactic(auto)]
 
 mod answer;

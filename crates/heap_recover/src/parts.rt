@@ -3,11 +3,9 @@ ghost use Rattle.std.specs.Prelude.{◌<◌, IfOk};
 ghost use Rattle.heap_model.specs.Sizes.{IsClass, blocks_of};
 ghost use Rattle.heap_recover.specs.Marked.{IsMarked, AreParted};
 
-use std::alloc::{AllocError, Global};
-
-use super_block::{Block, Geometry, block_at};
-
 use filter_trace::Marks;
+use std::alloc::{AllocError, Global};
+use super_block::{Block, Geometry, block_at};
 
 /// The blocks of a superblock of a class.
 #[derive(Drop)]
@@ -28,7 +26,8 @@ pub fn part_blocks(
 ) -> Result<Parts, AllocError>
     requires superblock { d < geometry.now.capacity }
     requires class { IsClass class }
-    ensures ok { IfOk result (λ parts. AreParted (IsMarked marks.now) geometry.now.capacity class d (blocks_of class) parts.held.items parts.spares.items) }
+    ensures ok { IfOk result (λ parts. AreParted (IsMarked marks.now) geometry.now.capacity class d
+        (blocks_of class) parts.held.items parts.spares.items) }
 {
     let mut held = Vec::new(alloc);
     let mut spares = Vec::new(alloc);

@@ -7,15 +7,13 @@ ghost use Rattle.heap_model.specs.Recovery.{IsRecovered};
 ghost use Rattle.heap_recover.specs.Marked.{IsMarked, KeepsBlocks};
 ghost use Rattle.heap_recover.specs.Rebuilt.{AreDone, AreCleared, IsRebuild};
 
-use std::alloc::{AllocError, Global};
-
-use super_block::{Block, CAPACITY_WORD, DIRTY, Geometry, STATE_WORD, USED_WORD};
-
 use crate::lists::link_lists;
-use filter_trace::Marks;
 use crate::roles::Role;
 use crate::superblocks::rebuild_superblock;
 use crate::surveys::survey_superblock;
+use filter_trace::Marks;
+use std::alloc::{AllocError, Global};
+use super_block::{Block, CAPACITY_WORD, DIRTY, Geometry, STATE_WORD, USED_WORD};
 
 /// What recovery finds in the superblocks of an image.
 #[derive(Drop)]
@@ -27,11 +25,17 @@ pub struct Found {
 }
 
 /// Makes the copy `new` of the image `old` a heap at rest that keeps the marked blocks.
-pub fn rebuild(alloc: Global, old: &[u64], new: &mut [u64], marks: &Marks) -> Result<Found, AllocError>
+pub fn rebuild(
+    alloc: Global,
+    old: &[u64],
+    new: &mut [u64],
+    marks: &Marks,
+) -> Result<Found, AllocError>
     requires formed { IsWellFormed (8 * length old.now) (slice_index old.now) }
     requires copy { new.old ≡ old.now }
     requires keeps { KeepsBlocks (layout_of (slice_index old.now)) (IsMarked marks.now) }
-    ensures ok { IfOk result (λ found. IsRebuild (slice_index old.now) (slice_index new.new) (IsMarked marks.now) found.held.items found.roles.items) }
+    ensures ok { IfOk result (λ found. IsRebuild (slice_index old.now) (slice_index new.new)
+        (IsMarked marks.now) found.held.items found.roles.items) }
 {
     let geometry = Geometry::new(old[CAPACITY_WORD as usize]);
     let used = old[USED_WORD as usize];
@@ -54,7 +58,8 @@ fn rebuild_taken(
     requires capacity { geometry.now.capacity ≡ capacity_of (slice_index old.now) }
     requires copy { new.old ≡ old.now }
     requires keeps { KeepsBlocks (layout_of (slice_index old.now)) (IsMarked marks.now) }
-    ensures ok { IfOk result (λ found. AreDone (slice_index old.now) (slice_index new.new) (IsMarked marks.now) (used_of (slice_index old.now)) found.held.items found.roles.items) }
+    ensures ok { IfOk result (λ found. AreDone (slice_index old.now) (slice_index new.new)
+        (IsMarked marks.now) (used_of (slice_index old.now)) found.held.items found.roles.items) }
 {
     let mut held = Vec::new(alloc);
     let mut roles = Vec::new(alloc);
@@ -74,7 +79,8 @@ fn clear_rest(new: &mut [u64], geometry: &Geometry, used: u64)
     requires long { length new.old ≡ image_words geometry.now.capacity }
     requires capacity { capacity_of (slice_index new.old) ≡ geometry.now.capacity }
     requires used { used ≤ geometry.now.capacity }
-    ensures { AreCleared (slice_index new.old) (slice_index new.new) geometry.now.capacity used geometry.now.capacity }
+    ensures { AreCleared (slice_index new.old) (slice_index new.new) geometry.now.capacity used
+        geometry.now.capacity }
 {
     for d in used..geometry.capacity() {
         rebuild_superblock(new, geometry, d, Role::Free, &[]);

@@ -4,12 +4,11 @@ ghost use Rattle.heap_model.specs.Geometry.{image_words, info_word};
 ghost use Rattle.heap_model.specs.Header.{capacity_of};
 ghost use Rattle.heap_recover.specs.Rebuilt.{HasSpares, HasInfo, IsAnchorOf, IsWrittenAs, IsRebuilt};
 
+use crate::chains::link_chain;
+use crate::roles::Role;
 use anchor_word::{Anchor, State, pack};
 use size_table::size_of;
 use super_block::{Geometry, WORD_BYTES};
-
-use crate::chains::link_chain;
-use crate::roles::Role;
 
 /// Rebuilds superblock `d` in its role: info, anchor, link, and the chain of its `spares`, the
 /// first words of the blocks that are not kept.
@@ -25,10 +24,17 @@ pub fn rebuild_superblock(
     requires superblock { d < geometry.now.capacity }
     requires info { HasInfo (slice_index words.old (info_word d)) role }
     requires spares { HasSpares geometry.now.capacity d spares.now role }
-    ensures { IsRebuilt (slice_index words.old) (slice_index words.new) geometry.now.capacity d role spares.now }
+    ensures { IsRebuilt (slice_index words.old) (slice_index words.new)
+        geometry.now.capacity d role spares.now }
 {
     link_chain(words, spares);
-    write_descriptor(words, geometry, d, role, anchor_word_of(geometry, d, role, spares));
+    write_descriptor(
+        words,
+        geometry,
+        d,
+        role,
+        anchor_word_of(geometry, d, role, spares),
+    );
 }
 
 /// Writes the descriptor of superblock `d`. Only a free superblock loses its info.

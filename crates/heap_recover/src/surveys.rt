@@ -5,13 +5,11 @@ ghost use Rattle.heap_model.specs.Blocks.{layout_of};
 ghost use Rattle.heap_recover.specs.Marked.{IsMarked, KeepsBlocks, GoOnTo};
 ghost use Rattle.heap_recover.specs.Roles.{IsSurvey, RoleOfParts};
 
-use std::alloc::{AllocError, Global};
-
-use super_block::{Block, Geometry, Info, SUPERBLOCK_WORDS, USED_WORD};
-
-use filter_trace::Marks;
 use crate::parts::{Parts, part_blocks};
 use crate::roles::Role;
+use filter_trace::Marks;
+use std::alloc::{AllocError, Global};
+use super_block::{Block, Geometry, Info, SUPERBLOCK_WORDS, USED_WORD};
 
 /// What recovery finds in a superblock.
 #[derive(Drop)]
@@ -71,7 +69,8 @@ pub fn survey_superblock(
 
 /// The survey of a superblock of the class with these blocks.
 fn survey_parts(alloc: Global, class: u8, parts: Parts, end: u64) -> Survey
-    ensures role { RoleOfParts class parts.held.items parts.spares.items result.role result.spares.items }
+    ensures role { RoleOfParts class parts.held.items parts.spares.items
+        result.role result.spares.items }
     ensures held { result.held.items ≡ parts.held.items }
     ensures end { result.end ≡ end }
 {

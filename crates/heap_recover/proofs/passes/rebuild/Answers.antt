@@ -23,8 +23,10 @@ returns c =
     let words = c.link_lists.new.words in
     let are_cleared = subst (λ n. AreCleared done cleared n (used_of old) n) c.new-geometry.ensures c.clear_rest.ensures in
     let are_listed = subst (λ n. AreListed cleared (slice_index words) n found.roles.items 21) c.new-geometry.ensures
-        (subst (λ rs. AreListed cleared (slice_index words) c.new-geometry.result.capacity rs 21) c.deref.ensures.value c.in_ok-link_lists.ensures.ok) in
-    record { ok = rebuild old done cleared (slice_index words) (slice_index (set words 3 2)) (IsMarked c.args.marks.now) found.held.items found.roles.items
-        c.requires.keeps c.requires.formed.used c.in_ok-found.ensures.ok are_cleared are_listed
-        (get_or-set_same words 3 2 0 (let copied = ap length c.requires.copy in let long = c.requires.formed.length_is in omega arith))
-        (λ word other. get_or-set_other words 3 word 2 0 other) }
+    (subst (λ rs. AreListed cleared (slice_index words) c.new-geometry.result.capacity rs 21) c.deref.ensures.value c.in_ok-link_lists.ensures.ok) in
+    record {
+      ok = rebuild old done cleared (slice_index words) (slice_index (set words 3 2)) (IsMarked c.args.marks.now) found.held.items found.roles.items
+          c.requires.keeps c.requires.formed.used c.in_ok-found.ensures.ok are_cleared are_listed
+          (get_or-set_same words 3 2 0 (let copied = ap length c.requires.copy in let long = c.requires.formed.length_is in omega arith))
+          (λ word other. get_or-set_other words 3 word 2 0 other);
+    }

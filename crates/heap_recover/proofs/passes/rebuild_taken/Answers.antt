@@ -13,11 +13,12 @@ use Rattle.heap_recover.proofs.passes.rebuild_taken.Goals as goal
 pub loop-d-init : goal.loop-d-init
 loop-d-init c =
     let old = slice_index c.args.old.now in
-    let kept = IsMarked c.args.marks.now in
-    (subst (λ xs. AreDone old (slice_index c.args.new.now) kept 0 xs c.new-roles.result.items) (sym c.new-held.ensures.items)
-      (subst (λ rs. AreDone old (slice_index c.args.new.now) kept 0 [] rs) (sym c.new-roles.ensures.items)
-        (subst (λ words. AreDone old (slice_index words) kept 0 [] []) (sym c.requires.copy) (done_none old kept c.requires.keeps))),
-    goes_on_none (layout_of old) kept c.requires.keeps)
+    let kept = IsMarked c.args.marks.now in (
+      subst (λ xs. AreDone old (slice_index c.args.new.now) kept 0 xs c.new-roles.result.items) (sym c.new-held.ensures.items)
+          (subst (λ rs. AreDone old (slice_index c.args.new.now) kept 0 [] rs) (sym c.new-roles.ensures.items)
+          (subst (λ words. AreDone old (slice_index words) kept 0 [] []) (sym c.requires.copy) (done_none old kept c.requires.keeps))),
+      goes_on_none (layout_of old) kept c.requires.keeps,
+    )
 
 pub rebuild_superblock-requires-clause-capacity : goal.rebuild_superblock-requires-clause-capacity
 rebuild_superblock-requires-clause-capacity c =
@@ -40,7 +41,7 @@ rebuild_superblock-requires-clause-spares c =
     let survey = c.in_ok-survey.survey in
     subst (λ n. HasSpares n c.loop-d.d c.deref.result.now survey.role) (sym c.requires.capacity)
     (subst (λ xs. HasSpares (capacity_of old) c.loop-d.d xs survey.role) (sym c.deref.ensures.value)
-      (role_spares old kept c.loop-d.d survey.role survey.spares.items c.in_ok-survey.ensures.ok.role).0)
+    (role_spares old kept c.loop-d.d survey.role survey.spares.items c.in_ok-survey.ensures.ok.role).0)
 
 pub loop-d-preserved : goal.loop-d-preserved
 loop-d-preserved c =
@@ -51,10 +52,11 @@ loop-d-preserved c =
     let survey = c.in_ok-survey.survey in
     let found = c.in_ok-survey.ensures.ok in
     let rebuilt = subst (λ n. IsRebuilt mid new n c.loop-d.d survey.role survey.spares.items) c.requires.capacity
-        (subst (λ xs. IsRebuilt mid new c.args.geometry.now.capacity c.loop-d.d survey.role xs) c.deref.ensures.value c.rebuild_superblock.ensures) in
+    (subst (λ xs. IsRebuilt mid new c.args.geometry.now.capacity c.loop-d.d survey.role xs) c.deref.ensures.value c.rebuild_superblock.ensures) in
     let next = done_next old mid new kept c.loop-d.d c.loop-d.held.items survey.held.items c.loop-d.roles.items survey.role survey.spares.items
-        (let used = c.requires.formed.used in omega arith) c.loop-d.invariant.0 found.role found.in_order rebuilt in
-    let held = c.in_ok-extend_from_slice.ensures.items ∙ ap (λ xs. c.loop-d.held.items ++ xs) c.deref-in-loop-d.ensures.value in
-    (subst (λ xs. AreDone old new kept (c.loop-d.d + 1) xs c.push.new.self.items) (sym held)
-      (subst (λ rs. AreDone old new kept (c.loop-d.d + 1) (c.loop-d.held.items ++ survey.held.items) rs) (sym c.in_ok-push.ensures.items) next),
-    found.goes_on)
+    (let used = c.requires.formed.used in omega arith) c.loop-d.invariant.0 found.role found.in_order rebuilt in
+    let held = c.in_ok-extend_from_slice.ensures.items ∙ ap (λ xs. c.loop-d.held.items ++ xs) c.deref-in-loop-d.ensures.value in (
+      subst (λ xs. AreDone old new kept (c.loop-d.d + 1) xs c.push.new.self.items) (sym held)
+          (subst (λ rs. AreDone old new kept (c.loop-d.d + 1) (c.loop-d.held.items ++ survey.held.items) rs) (sym c.in_ok-push.ensures.items) next),
+      found.goes_on,
+    )

@@ -30,8 +30,8 @@ new-requires c =
     let kept = c.rebuild.auto.new in
     subst (λ ws. IsReady ws held) (sym (written_back words c.in_ok-new.new.items c.in_ok-new.new.len (all_words c)))
     (ready_left c.args.words.now words (IsMarked c.args.marks.now) held c.requires.formed
-        (let same = c.in_ok-new.ensures.items in omega (arith, ap length c.deref_mut.ensures.value, ap length same))
-        c.requires.keeps.each rebuilt.in_order rebuilt.recovered)
+    (let same = c.in_ok-new.ensures.items in omega (arith, ap length c.deref_mut.ensures.value, ap length same))
+    c.requires.keeps.each rebuilt.in_order rebuilt.recovered)
 
 pub returns : goal.returns
 returns c =
@@ -41,12 +41,14 @@ returns c =
     let all : c.in_ok-new.new.len ≡ length words = let long = c.in_ok-new.new.ok.0 in let kept = c.rebuild.auto.new in omega (arith, ap length c.deref_mut.ensures.value) in
     let same_length : length words ≡ length c.args.words.now = let kept = c.rebuild.auto.new in let same = c.in_ok-new.ensures.items in omega (arith, ap length c.deref_mut.ensures.value, ap length same) in
     let left = c.new.ensures.words ∙ written_back words c.in_ok-new.new.items c.in_ok-new.new.len all in
-    record { ok = record {
-      held = subst (λ hs. AreAscending (λ (b : Block). b.first_word) (IsMarked c.args.marks.now) hs) (sym c.new.ensures.held) rebuilt.in_order;
-      free = ascending_same (λ d. d) (IsMember c.in_ok-found.found.roles.items 0) (IsFreeSuperblock (layout_of old) (IsMarked c.args.marks.now)) c.in_ok-free.free.items
-          (λ d. (rebuilt.free d).0) (λ d. (rebuilt.free d).1)
-          (subst (λ rs. AreAscending (λ d. d) (IsMember rs 0) c.in_ok-free.free.items) c.deref.ensures.value c.in_ok-free.ensures.ok);
-      was = c.was.ensures;
-      long = ap length left ∙ same_length;
-      recovered = subst (λ ws. IsRecovered old (slice_index ws) (IsMarked c.args.marks.now)) (sym left) rebuilt.recovered;
-    } }
+    record {
+      ok = record {
+        held = subst (λ hs. AreAscending (λ (b : Block). b.first_word) (IsMarked c.args.marks.now) hs) (sym c.new.ensures.held) rebuilt.in_order;
+        free = ascending_same (λ d. d) (IsMember c.in_ok-found.found.roles.items 0) (IsFreeSuperblock (layout_of old) (IsMarked c.args.marks.now)) c.in_ok-free.free.items
+            (λ d. (rebuilt.free d).0) (λ d. (rebuilt.free d).1)
+            (subst (λ rs. AreAscending (λ d. d) (IsMember rs 0) c.in_ok-free.free.items) c.deref.ensures.value c.in_ok-free.ensures.ok);
+        was = c.was.ensures;
+        long = ap length left ∙ same_length;
+        recovered = subst (λ ws. IsRecovered old (slice_index ws) (IsMarked c.args.marks.now)) (sym left) rebuilt.recovered;
+      };
+    }
