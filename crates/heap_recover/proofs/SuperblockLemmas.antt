@@ -1,21 +1,18 @@
 -- The words of one superblock after its chain and its descriptor are written.
-use Rattle.std.proofs.Common.{◌≡◌, ◌≢◌, ℕ, zero, suc, ◌+◌, ◌-◌, ◌*◌, ◌/◌, ◌<◌, ◌≤◌, ◌^◌, ◌⊎◌, inl, inr, List, [], ◌∷◌, length, get_or, slice_index, All, refl, ap, sym, subst, ◌∙◌, arith}
+use Rattle.std.proofs.Common.{◌≡◌, ℕ, zero, suc, ◌+◌, ◌-◌, ◌*◌, ◌/◌, ◌<◌, ◌≤◌, ◌^◌, ◌⊎◌, inl, inr, List, [], ◌∷◌, length, get_or, slice_index, All, refl, ap, sym, subst, ◌∙◌, arith}
 use Rattle.std.specs.List.{Contains, AllPairs}
 use Rattle.std.proofs.Math.Nat.{mul-div_cancel}
 use Rattle.std.proofs.lemmas.List.Elements.{Contains-get_or}
-use Rattle.heap_model.specs.declared.block.Block.{Block}
-use Rattle.heap_model.specs.Geometry.{info_word, anchor_word, link_word, start_word, image_words}
+use Rattle.heap_model.specs.Geometry.{info_word, start_word, image_words}
 use Rattle.heap_model.specs.Header.{capacity_of}
 use Rattle.heap_model.specs.Image.{Image}
-use Rattle.heap_model.specs.Sizes.{IsClass, words_of_class, blocks_of}
-use Rattle.heap_model.specs.Words.{anchor_of, partial_state, full_anchor}
-use Rattle.heap_model.specs.Recovered.{IsBlockOfClass}
-use Rattle.heap_model.specs.Recovery.{HasInfoAndAnchor, IsRechained, but_last}
+use Rattle.heap_model.specs.Sizes.{words_of_class, blocks_of}
+use Rattle.heap_model.specs.Recovery.{but_last}
 use Rattle.heap_model.specs.Chains.{Walks}
 use Rattle.heap_model.proofs.SizeLemmas.{two_words, few_blocks}
 use Rattle.heap_recover.specs.declared.roles.Role.{Role}
 use Rattle.heap_recover.specs.declared.roles.Role.TheVariants.{Free, Partial, Full, Large}
-use Rattle.heap_recover.specs.Rebuilt.{IsChained, IsOf, is_info, is_anchor, is_link, is_inside, AreSpares, HasSpares, HasInfo, CountsSpares, IsAnchorOf, IsInfoAfter, IsWrittenAs, IsDescribed, KeepsInside, IsRebuilt}
+use Rattle.heap_recover.specs.Rebuilt.{IsChained, IsOf, is_info, is_anchor, is_link, is_inside, AreSpares, HasSpares, HasInfo, IsAnchorOf, IsWrittenAs, IsDescribed, IsRebuilt}
 use Rattle.heap_recover.proofs.SurveyLemmas.{class_inside, none_of}
 
 -- a member of all but the last is a member

@@ -1,13 +1,12 @@
 -- Recovery changes no word of a kept block, and no root.
-use Rattle.std.proofs.Common.{◌≡◌, ℕ, ◌+◌, ◌<◌, ◌≤◌, inl, inr, List, refl, sym, subst, ◌∙◌, arith}
-use Rattle.std.specs.List.{Contains}
+use Rattle.std.proofs.Common.{◌≡◌, ℕ, ◌<◌, inl, inr, refl, subst, arith}
 use Rattle.heap_model.specs.declared.block.Block.{Block}
 use Rattle.heap_model.specs.Geometry.{roots, root_word}
 use Rattle.heap_model.specs.Image.{Image}
 use Rattle.heap_model.specs.Sizes.{IsClass, words_of_class, blocks_of}
 use Rattle.heap_model.specs.Blocks.{layout_of, of_class, IsBlock, IsIn}
 use Rattle.heap_model.specs.Reach.{Links, IsReached}
-use Rattle.heap_model.specs.Recovery.{IsPartial, IsSpare, IsRecovered, but_last, is_root}
+use Rattle.heap_model.specs.Recovery.{IsPartial, IsSpare, IsRecovered, is_root}
 use Rattle.heap_model.proofs.BlockLemmas.{never_overlap, block_inside, block_words}
 use Rattle.heap_model.proofs.ReachLemmas.{reached_block}
 use Rattle.heap_recover.proofs.SuperblockLemmas.{but_last_in}

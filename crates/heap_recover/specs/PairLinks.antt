@@ -1,5 +1,5 @@
 -- The links of the tests' filter: a pair has a first link, in word 0 (kind 2), or a second, in word 2 (kind 1); both lead to blocks without links (kind 0).
-use Rattle.std.specs.Prelude.{◌≡◌, ℕ, zero, suc, ◌<◌, ◌≤◌, ◌+◌, ◌^◌, List, [], ◌∷◌, Bool, true, false, cond, nat_eq, nat_lt, length, Contains}
+use Rattle.std.specs.Prelude.{◌≡◌, ℕ, zero, suc, ◌<◌, ◌≤◌, ◌^◌, List, [], ◌∷◌, Bool, true, false, cond, nat_eq, nat_lt, length, Contains}
 use Rattle.std.proofs.Common.{arith, ap}
 use Rattle.std.proofs.lemmas.Bool.{ltb-true}
 use Rattle.heap_model.specs.Reach.{Links, AreInside}

@@ -1,4 +1,4 @@
-use Rattle.std.proofs.Common.{◌≡◌, ◌-◌, ◌/◌, slice_index, arith, ap, sym, subst, ◌∙◌}
+use Rattle.std.proofs.Common.{◌-◌, ◌/◌, slice_index, arith, ap, sym, subst, ◌∙◌}
 use Rattle.super_block.proofs.DivisionLemmas.{words_from_size}
 use Rattle.heap_model.proofs.SizeLemmas.{two_words}
 use Rattle.heap_recover.specs.declared.roles.Role.{Role}
