@@ -18,7 +18,8 @@ use Rattle.heap_model.specs.Pointers.{LeadsOutside}
 use Rattle.heap_model.specs.Reach.{Links, Reach, IsOutside, by_root, by_link, words_in, AreInside, IsTraced, is_root, is_linked}
 use Rattle.filter_trace.specs.declared.fault.TraceFault.{TraceFault}
 use Rattle.filter_trace.specs.declared.fault.TraceFault.TheVariants.{Outside, Memory}
-use Rattle.filter_trace.specs.Trace.{Follows, IsSettled, Each, IsExtended, IsRooted, FollowsRoots, FollowsLinks, TellsOfWord, TellsOfRoots, TellsOutside, HasSettled, IsWork, AreReached}
+use Rattle.filter_trace.specs.Reached.{TellsOutside, AreReached}
+use Rattle.filter_trace.specs.Trace.{Follows, IsSettled, Each, IsExtended, IsRooted, FollowsRoots, FollowsLinks, TellsOfWord, TellsOfRoots, HasSettled, IsWork}
 use Rattle.filter_trace.specs.Pairs.{mark_of, HasRoom, AreMarked}
 use Rattle.filter_trace.proofs.PairLemmas.{pair_cases}
 use Rattle.filter_trace.proofs.StepLemmas.{follow_marked, follow_each, follow_grows, follow_settles, follow_long, still_settled, more_and_more, block_within}

@@ -1,5 +1,7 @@
 pub mod Bits
 pub mod Pairs
 pub mod Tables
+pub mod Reached
 pub mod Trace
+pub mod Steps
 pub mod MarksInside

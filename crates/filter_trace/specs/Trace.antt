@@ -1,32 +1,23 @@
--- What a trace tells, and what it knows on the way.
-use Rattle.std.specs.Prelude.{◌≡◌, ℕ, ◌+◌, ◌<◌, ◌≤◌, Bool, List, ◌++◌, length, take, Contains, ◌↔◌}
+-- What the steps of a trace tell and leave, in terms of lists.
+use Rattle.std.specs.Prelude.{◌≡◌, ℕ, ◌+◌, ◌<◌, ◌≤◌, Bool, List, ◌++◌, length, take, Contains}
 use Rattle.heap_model.specs.declared.block.Block.{Block}
 use Rattle.heap_model.specs.Geometry.{roots, root_word}
 use Rattle.heap_model.specs.Image.{Image}
 use Rattle.heap_model.specs.Blocks.{layout_of}
 use Rattle.heap_model.specs.Pointers.{Leads, LeadsOutside}
-use Rattle.heap_model.specs.Reach.{Links, Reach, words_in, IsOutside}
+use Rattle.heap_model.specs.Reach.{Links, Reach, words_in}
 use Rattle.filter_trace.specs.declared.fault.TraceFault.{TraceFault}
 use Rattle.filter_trace.specs.declared.fault.TraceFault.TheVariants.{Outside, Memory}
 use Rattle.filter_trace.specs.declared.scan.Target.{Target}
 use Rattle.filter_trace.specs.declared.scan.Target.TheVariants.{Null, To, Nowhere}
 use Rattle.filter_trace.specs.Pairs.{AreMarked, Inserts}
 
--- the pairs are exactly those that are reached
-pub record AreReached (image : Image) (kinds : ℕ → ℕ) (links : Links) (pairs : List (Block × ℕ)) : Type 0 where
-  pub each : (b : Block) (kind : ℕ) → Contains pairs (b, kind) ↔ Reach image kinds links b kind
-
--- the fault tells a word that is outside, and its value; of want of memory nothing is said
-abbrev pub TellsOutside : Image → (ℕ → ℕ) → Links → TraceFault → Type 0
-TellsOutside image kinds links (Outside at value) = IsOutside image kinds links at × (value ≡ image at)
-TellsOutside image kinds links Memory = Unit {0}
-
--- the same, of one word
+-- the fault tells this word, which is outside
 abbrev pub TellsOfWord : Image → ℕ → TraceFault → Type 0
 TellsOfWord image word (Outside at value) = (at ≡ word) × LeadsOutside image (image word) × (value ≡ image word)
 TellsOfWord image word Memory = Unit {0}
 
--- the same, of the roots
+-- the fault tells a root that is outside
 abbrev pub TellsOfRoots : Image → TraceFault → Type 0
 TellsOfRoots image (Outside at value) = (i : ℕ) × (i < roots) × (at ≡ root_word i) × LeadsOutside image (image at) × (value ≡ image at)
 TellsOfRoots image Memory = Unit {0}

@@ -55,7 +55,8 @@ impl Marks {
 /// Whether the image that the directory describes has the block.
 fn is_block(directory: &Directory, block: Block) -> bool
     ensures yes { (l : Layout) → Describes directory.now l → IsTrue result → IsBlock l block }
-    ensures no { (l : Layout) → Describes directory.now l → block.first_word < 2 ^ 32 → IsBlock l block → IsTrue result }
+    ensures no { (l : Layout) → Describes directory.now l → block.first_word < 2 ^ 32
+        → IsBlock l block → IsTrue result }
 {
     let Some(offset) = block.first_word.checked_mul(WORD_BYTES) else {
         return false;

@@ -1,7 +1,7 @@
 //! A growing set of pairs of a block and a kind, each with a mark bit by which it is found again.
 ghost use Rattle.std.specs.Prelude.{◌≡◌, ◌+◌, ◌*◌, ℕ, ◌<◌, ◌≤◌, ◌^◌, [], true, false, IsTrue, length, slice_index_or, IfOk, OnOk};
 ghost use Rattle.std.specs.List.{All};
-ghost use Rattle.filter_trace.specs.Pairs.{mark_of, HasRoom, Inserts};
+ghost use Rattle.filter_trace.specs.Pairs.{mark_of, HasRoom};
 
 use crate::bits::Bits;
 use heap_model::Block;
@@ -19,6 +19,8 @@ pub struct PairSet {
 }
 
 impl PairSet {
+    ghost use Rattle.filter_trace.specs.Steps.{Adds, IsMarked};
+
     /// The empty set, for the blocks of an image of so many words.
     pub fn new(alloc: Global, words: usize, kinds: u32) -> Result<Self, AllocError>
         requires { words < 2 ^ 31 }
@@ -39,7 +41,7 @@ impl PairSet {
         requires here { mark_of self.old.kinds block kind < length self.old.marks }
         requires short { length self.old.marks < 2 ^ 64 }
         ensures kinds { self.new.kinds ≡ self.old.kinds }
-        ensures ok { OnOk result (Inserts self.old.kinds block kind self.old.pairs.items self.new.pairs.items self.old.marks self.new.marks) }
+        ensures ok { OnOk result (Adds block kind self.old self.new) }
     {
         let mark = self.mark_of(block, kind);
         if self.marks.get(mark) {
@@ -63,8 +65,8 @@ impl PairSet {
     pub fn holds(&self, block: Block) -> bool
         requires here { block.first_word * self.now.kinds + self.now.kinds ≤ length self.now.marks }
         requires short { length self.now.marks < 2 ^ 64 }
-        ensures some { IsTrue result → (kind : ℕ) × (kind < self.now.kinds) × (slice_index_or self.now.marks (mark_of self.now.kinds block kind) false ≡ true) }
-        ensures each { (kind : ℕ) → kind < self.now.kinds → slice_index_or self.now.marks (mark_of self.now.kinds block kind) false ≡ true → IsTrue result }
+        ensures some { IsTrue result → (kind : ℕ) × (kind < self.now.kinds) × IsMarked self.now block kind }
+        ensures each { (kind : ℕ) → kind < self.now.kinds → IsMarked self.now block kind → IsTrue result }
     {
         for kind in 0..self.kinds {
             if self.has(block, kind) {

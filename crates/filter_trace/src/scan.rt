@@ -3,12 +3,12 @@ ghost use Rattle.std.specs.Prelude.{◌≡◌, ℕ, ◌+◌, ◌*◌, ◌<◌, �
 ghost use Rattle.std.specs.List.{All};
 ghost use Rattle.heap_model.specs.declared.block.Block.{Block};
 ghost use Rattle.heap_model.specs.Geometry.{roots};
-ghost use Rattle.heap_model.specs.Header.{IsWellFormed};
 ghost use Rattle.heap_model.specs.Blocks.{layout_of, IsBlock};
 ghost use Rattle.heap_model.specs.Reach.{Reach, words_in};
 ghost use Rattle.super_block.specs.Division.{Describes};
-ghost use Rattle.filter_trace.specs.Pairs.{AreMarked};
-ghost use Rattle.filter_trace.specs.Trace.{LeadsTo, Follows, TellsOfWord, TellsOfRoots, TellsOutside, FollowsRoots, FollowsLinks, IsFound};
+ghost use Rattle.filter_trace.specs.Steps.{IsImage, IsSetOf, FollowsWord, FollowsAllRoots, HasFound, FollowsAllLinks};
+ghost use Rattle.filter_trace.specs.Reached.{TellsOutside};
+ghost use Rattle.filter_trace.specs.Trace.{LeadsTo, TellsOfWord, TellsOfRoots};
 
 use crate::fault::TraceFault;
 use crate::filter::Filter;
@@ -53,7 +53,7 @@ impl Scan<'_> {
 
     /// The words of the block.
     fn words_of(&self, block: Block) -> &[u64]
-        requires formed { IsWellFormed (8 * length self.now.words.now) (slice_index self.now.words.now) }
+        requires formed { IsImage self.now.words.now }
         requires block { IsBlock (layout_of (slice_index self.now.words.now)) block }
         ensures words { result.now ≡ words_in (slice_index self.now.words.now) block }
         ensures within { block.first_word + length result.now ≤ length self.now.words.now }
@@ -68,9 +68,9 @@ impl Scan<'_> {
         requires at { at < length self.now.words.now }
         requires described { Describes self.now.directory.now (layout_of (slice_index self.now.words.now)) }
         requires kind { kind < found.old.kinds }
-        requires marked { AreMarked (layout_of (slice_index self.now.words.now)) found.old.kinds found.old.pairs.items found.old.marks }
+        requires marked { IsSetOf self.now.words.now found.old }
         ensures kinds { found.new.kinds ≡ found.old.kinds }
-        ensures ok { OnOk result (Follows (slice_index self.now.words.now) found.old.kinds at kind found.old.pairs.items found.new.pairs.items found.old.marks found.new.marks) }
+        ensures ok { OnOk result (FollowsWord self.now.words.now at kind found.old found.new) }
         ensures err { IfErr result (TellsOfWord (slice_index self.now.words.now) at) }
     {
         let value = self.words[at];
@@ -89,14 +89,14 @@ impl Scan<'_> {
 
     /// Adds what the roots lead to, each as one of the root's kind, to the empty set.
     pub fn follow_roots(&self, kinds: &[u32], found: &mut PairSet) -> Result<(), TraceFault>
-        requires formed { IsWellFormed (8 * length self.now.words.now) (slice_index self.now.words.now) }
+        requires formed { IsImage self.now.words.now }
         requires described { Describes self.now.directory.now (layout_of (slice_index self.now.words.now)) }
         requires roots { length kinds.now ≡ roots }
         requires kinds { All (λ kind. kind < found.old.kinds) kinds.now }
         requires empty { length found.old.pairs.items ≡ 0 }
-        requires marked { AreMarked (layout_of (slice_index self.now.words.now)) found.old.kinds found.old.pairs.items found.old.marks }
+        requires marked { IsSetOf self.now.words.now found.old }
         ensures kinds { found.new.kinds ≡ found.old.kinds }
-        ensures ok { OnOk result (FollowsRoots (slice_index self.now.words.now) (slice_index kinds.now) found.old.kinds roots found.new.pairs.items found.new.marks) }
+        ensures ok { OnOk result (FollowsAllRoots self.now.words.now kinds.now found.old.kinds found.new) }
         ensures err { IfErr result (TellsOfRoots (slice_index self.now.words.now)) }
     {
         for (root, kind) in kinds.iter().enumerate() {
@@ -114,13 +114,13 @@ impl Scan<'_> {
         kind: u32,
         found: &mut PairSet,
     ) -> Result<(), TraceFault>
-        requires formed { IsWellFormed (8 * length self.now.words.now) (slice_index self.now.words.now) }
+        requires formed { IsImage self.now.words.now }
         requires described { Describes self.now.directory.now (layout_of (slice_index self.now.words.now)) }
         requires kinds { found.old.kinds ≡ F.KINDS }
         requires reached { Reach (slice_index self.now.words.now) (slice_index kinds.now) (F.links_of filter.now) block kind }
-        requires found { IsFound (slice_index self.now.words.now) (slice_index kinds.now) (F.links_of filter.now) F.KINDS found.old.pairs.items found.old.marks }
+        requires found { HasFound self.now.words.now kinds.now (F.links_of filter.now) F.KINDS found.old }
         ensures kinds { found.new.kinds ≡ found.old.kinds }
-        ensures ok { OnOk result (FollowsLinks (slice_index self.now.words.now) (slice_index kinds.now) (F.links_of filter.now) F.KINDS block (F.links_of filter.now kind (words_in (slice_index self.now.words.now) block)) found.old.pairs.items found.new.pairs.items found.old.marks found.new.marks) }
+        ensures ok { OnOk result (FollowsAllLinks self.now.words.now kinds.now (F.links_of filter.now) F.KINDS block kind found.old found.new) }
         ensures err { IfErr result (TellsOutside (slice_index self.now.words.now) (slice_index kinds.now) (F.links_of filter.now)) }
     {
         let first = block.first_word as usize;

@@ -4,7 +4,7 @@ ghost use Rattle.std.specs.List.{All};
 ghost use Rattle.heap_model.specs.Geometry.{roots};
 ghost use Rattle.heap_model.specs.Header.{IsWellFormed};
 ghost use Rattle.heap_model.specs.Reach.{IsOutside};
-ghost use Rattle.filter_trace.specs.Trace.{AreReached, TellsOutside};
+ghost use Rattle.filter_trace.specs.Reached.{AreReached, TellsOutside};
 
 use crate::fault::TraceFault;
 use crate::filter::Filter;

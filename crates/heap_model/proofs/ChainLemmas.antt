@@ -13,7 +13,7 @@ use Rattle.heap_model.specs.Chains.{Walks}
 use Rattle.heap_model.specs.Recovery.{IsSpare, IsPartial}
 use Rattle.heap_model.proofs.SizeLemmas.{two_words, few_blocks}
 use Rattle.heap_model.proofs.BlockLemmas.{block_step}
-use Rattle.heap_model.proofs.CountingLemmas.{in_head, in_rest, order_head, order_rest}
+use Rattle.heap_model.proofs.MemberLemmas.{in_head, in_rest, order_head, order_rest}
 use Rattle.heap_model.proofs.PartLemmas.{cases_of_part, same_start}
 
 -- the parts of a partial anchor

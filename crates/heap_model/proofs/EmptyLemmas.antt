@@ -5,7 +5,8 @@ use Rattle.std.proofs.lemmas.List.{length-replicate, get_or-replicate, get_or_pa
 use Rattle.heap_model.specs.Geometry.{magic, version, clean, largest_capacity, image_words, info_word, anchor_word, link_word}
 use Rattle.heap_model.specs.Header.{empty_words, IsWellFormed, used_of}
 use Rattle.heap_model.specs.Rest.{IsShaped, IsReady}
-use Rattle.heap_model.proofs.CountingLemmas.{in_none, one_if_false}
+use Rattle.heap_model.proofs.MemberLemmas.{in_none}
+use Rattle.heap_model.proofs.CountingLemmas.{one_if_false}
 
 -- all words but the first four are 0
 pub empty_word : (capacity word : ℕ) → 4 ≤ word → slice_index (empty_words capacity) word ≡ 0

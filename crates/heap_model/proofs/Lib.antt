@@ -3,6 +3,7 @@ pub mod BlockLemmas
 pub mod ImageLemmas
 pub mod ReachLemmas
 pub mod HeaderLemmas
+pub mod MemberLemmas
 pub mod CountingLemmas
 pub mod PartLemmas
 pub mod StandingLemmas
@@ -12,4 +13,5 @@ pub mod PlaceLemmas
 pub mod RecoveredLemmas
 pub mod ReadyLemmas
 pub mod EmptyLemmas
+pub mod CutLemmas
 mod ExampleLemmas

@@ -9,7 +9,7 @@ use Rattle.heap_model.specs.Blocks.{Layout, Begins, of_class, as_large, IsBlock}
 use Rattle.heap_model.specs.Recovered.{HasPartIn, IsBlockOfClass}
 use Rattle.heap_model.proofs.SizeLemmas.{blocks_fit, few_words}
 use Rattle.heap_model.proofs.BlockLemmas.{block_step, block_inside}
-use Rattle.heap_model.proofs.CountingLemmas.{in_none, in_head, in_rest, head_or_rest}
+use Rattle.heap_model.proofs.MemberLemmas.{in_none, in_head, in_rest, head_or_rest}
 
 -- blocks of equal fields are one
 pub same_fields : (a b : Block) → a.first_word ≡ b.first_word → a.words ≡ b.words → a ≡ b

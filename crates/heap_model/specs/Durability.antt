@@ -26,6 +26,6 @@ pub record IsClosedImage (volatile image : Image) : Type 0 where
   pub state : image state_word ≡ clean
   pub others : (word : ℕ) → word ≢ state_word → image word ≡ volatile word
 
--- each mixed image names each held block at its place, with its size
+-- each mixed image names each held block at its first word, with its size
 pub record NamesAreDurable (volatile durable : Image) (held : Block → Type 0) : Type 0 where
   pub each : (image : Image) → Mixes volatile durable image → (b : Block) → held b → Names image (8 * b.first_word) b

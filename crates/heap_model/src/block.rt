@@ -1,4 +1,4 @@
-//! A block of the heap, as its place and size.
+//! A block of the heap, by its first word and its size.
 
 /// A block: `words` words of 8 bytes from word `first_word` of the image on.
 #[derive(Clone, Copy, PartialEq, Eq, Debug)]

@@ -1,18 +1,22 @@
 //! A store of images in files: a name is a path.
-ghost use Rattle.std.specs.Prelude.{◌≡◌, ◌<◌, None, false, IfOk, IfSome, OnOk, IsErrOf, take};
+ghost use Rattle.std.specs.Prelude.{◌≡◌, ◌<◌, ◌≤◌, ◌+◌, None, false, length, IfOk, IfSome, OnOk, IsErrOf, take};
 ghost use Rattle.std.specs.Io.KnownBytes.{IsAtEnd};
 ghost use Rattle.heap_tool.specs.Reading.{ReadsOn};
 
 use std::alloc::Global;
-use std::fs::OpenFile;
+use std::fs::{File, OpenFile};
 use std::io::{ErrorKind, Read, Write};
 use std::rt::Files;
 use std::{fs, io};
 use tool_ports::{FaultCount, GetFault, ImageStore, PutImageFault};
 
-/// A `put` writes a file of this ending beside the named one before it takes its place.
+/// A `put` writes a file of this ending and a number beside the named one before it takes its place.
 const TEMPORARY: &str = ".new";
 
+/// How many numbers it tries for a name that is free.
+const TRIES: u32 = 1000;
+
+/// How many bytes are read at once.
 const PIECE: usize = 4096;
 
 /// Images in files. It tells nothing of their content.
@@ -23,6 +27,7 @@ pub struct FileStore<'a, R: Files> {
 }
 
 impl<'a, R: Files> FileStore<'a, R> {
+    /// The files that the runtime reaches, and no failure yet.
     pub fn new(rt: &'a R) -> Self
         ensures { result.faults.count ≡ 0 }
     {
@@ -49,23 +54,17 @@ impl<'a, R: Files> ImageStore for FileStore<'a, R> {
     }
 
     fn put(&mut self, alloc: Global, name: &str, bytes: &[u8]) -> Result<(), PutImageFault> {
-        let temporary = format!(in alloc; "{name}{TEMPORARY}")?;
-        if replace_file(self.rt, temporary.as_str(), name, bytes).is_ok() {
-            return Ok(());
+        let result = put_image(self.rt, alloc, name, bytes);
+        if let Err(PutImageFault::Failed) = &result {
+            self.faults.rise();
         }
-        // Where it can't be removed either, a later put writes over it.
-        let _ = fs::remove_file(self.rt, temporary.as_str());
-        self.faults.rise();
-        Err(PutImageFault::Failed)
+        result
     }
 }
 
-fn read_image<R: Files>(
-    rt: &R,
-    alloc: Global,
-    name: &str,
-    most: usize,
-) -> Result<Vec<u8>, GetFault> {
+fn read_image<R: Files>(rt: &R, alloc: Global, name: &str, most: usize) -> Result<Vec<u8>, GetFault>
+    ensures short { IfOk result (λ v. length v.items ≤ most) }
+{
     match fs::open(rt, name) {
         Ok(mut file) => read_first(alloc, &mut file, most),
         Err(e) if e.kind() == ErrorKind::NotFound => Err(GetFault::Absent),
@@ -77,6 +76,7 @@ fn read_image<R: Files>(
 fn read_first<F: Read>(alloc: Global, file: &mut F, most: usize) -> Result<Vec<u8>, GetFault>
     ensures ok { IfOk result (λ v.
         IfSome (F.remaining file.old) (λ left. v.items ≡ take most left)) }
+    ensures short { IfOk result (λ v. length v.items ≤ most) }
     ensures none { IsErrOf result GetFault.Absent → ⊥ }
 {
     let mut image = Vec::new(alloc);
@@ -94,6 +94,7 @@ fn read_piece<F: Read>(file: &mut F, image: &mut Vec<u8>, room: usize) -> Result
     requires { 0 < room }
     ensures ok { OnOk result (ReadsOn room (F.remaining file.old) (F.remaining file.new)
         image.old.items image.new.items) }
+    ensures short { OnOk result (length image.new.items ≤ length image.old.items + room) }
     ensures end { result ≡ Ok false → IsAtEnd (F.remaining file.new) }
     ensures none { IsErrOf result GetFault.Absent → ⊥ }
 {
@@ -108,12 +109,42 @@ fn read_piece<F: Read>(file: &mut F, image: &mut Vec<u8>, room: usize) -> Result
     Ok(count > 0)
 }
 
+// Writes a file of its own first, under a name that is free: no other file is touched.
+fn put_image<R: Files>(
+    rt: &R,
+    alloc: Global,
+    name: &str,
+    bytes: &[u8],
+) -> Result<(), PutImageFault> {
+    for number in 0..TRIES {
+        let temporary = format!(in alloc; "{name}{TEMPORARY}{number}")?;
+        match File::create_new(rt, temporary.as_str()) {
+            Ok(file) => return replace_file(rt, file, temporary.as_str(), name, bytes),
+            Err(e) if e.kind() == ErrorKind::AlreadyExists => {}
+            Err(_) => return Err(PutImageFault::Failed),
+        }
+    }
+    Err(PutImageFault::Failed)
+}
+
 // The old file stays whole until the new one is, and is on the disk.
-fn replace_file<R: Files>(rt: &R, temporary: &str, name: &str, bytes: &[u8]) -> io::Result<()> {
-    let mut file = fs::create(rt, temporary)?;
+fn replace_file<R: Files>(
+    rt: &R,
+    file: R::File,
+    temporary: &str,
+    name: &str,
+    bytes: &[u8],
+) -> Result<(), PutImageFault> {
+    if write_file(file, bytes).is_ok() && fs::rename(rt, temporary, name).is_ok() {
+        return Ok(());
+    }
+    let _ = fs::remove_file(rt, temporary);
+    Err(PutImageFault::Failed)
+}
+
+fn write_file<F: OpenFile + Write + Drop>(mut file: F, bytes: &[u8]) -> io::Result<()> {
     file.write_all(bytes)?;
-    file.sync_all()?;
-    fs::rename(rt, temporary, name)
+    file.sync_all()
 }
 
 #[cfg(test)]

@@ -6,7 +6,9 @@ use std::marker::Model;
 /// what a crash would have left.
 #[derive(Drop)]
 pub struct Closed {
+    /// What loads saw.
     pub now: Vec<u64>,
+    /// What a crash would have left.
     pub kept: Vec<u64>,
 }
 

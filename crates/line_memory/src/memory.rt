@@ -1,5 +1,5 @@
 //! What every memory of lines promises.
-ghost use Rattle.std.specs.Prelude.{◌≡◌, ◌≢◌, ℕ, ◌<◌, ◌⊎◌, Some, OnOk, IfOk, IfErr, ⊤};
+ghost use Rattle.std.specs.Prelude.{◌≡◌, ◌≢◌, ℕ, ◌+◌, ◌<◌, ◌≤◌, ◌⊎◌, Some, OnOk, IfOk, IfErr, ⊤};
 ghost use Rattle.line_memory.specs.View.{View, IsSound, word_count, HasLine, volatile_at, durable_at};
 ghost use Rattle.line_memory.specs.Crash.{AddsNothing, OnlyWritesBack, MayStore};
 ghost use Rattle.line_memory.specs.Steps.{Takes, Refuses, IsLoad, IsStore, IsWriteBack, IsFence};
@@ -10,6 +10,7 @@ pub const LINE: u64 = 8;
 /// The budget is used up: the step with this ticket was refused, and each later step is.
 #[derive(Clone, Copy, Debug, PartialEq, Eq)]
 pub struct Stopped {
+    /// The ticket that was refused.
     pub step: u64,
 }
 
@@ -52,6 +53,8 @@ pub fn persist<M: LineMemory>(memory: &mut M, word: u64, value: u64) -> Result<(
     ensures ok { OnOk result (volatile_at (M.view memory.new) word ≡ value) }
     ensures durable { OnOk result (durable_at (M.view memory.new) word ≡ value) }
     ensures stopped { IfErr result (λ e. (M.view memory.new).stopped ≡ Some e.step) }
+    ensures drawn { (M.view memory.new).drawn ≤ (M.view memory.old).drawn + 3 }
+    ensures budget { (M.view memory.new).budget ≡ (M.view memory.old).budget }
 
     // At every exit a crash leaves what it could before, or the value in the word.
     ensures crash { MayStore word value (M.view memory.old) (M.view memory.new) }

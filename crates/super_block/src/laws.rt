@@ -1,11 +1,13 @@
 //! What ties the numbers of `layout` to the definitions, as a function with nothing to run.
-ghost use Rattle.std.specs.Prelude.{◌≡◌, ℕ, ◌+◌, ◌*◌};
-ghost use Rattle.heap_model.specs.Geometry.{magic, version, largest_capacity, clean, dirty, magic_word, version_word, capacity_word, state_word, used_word, head_word, roots, root_word, fixed_words, info_word, anchor_word, link_word, superblock_words, start_word};
+ghost use Rattle.std.specs.Prelude.{◌≡◌, ◌↔◌, ℕ, ◌+◌, ◌*◌, ◌≤◌};
+ghost use Rattle.heap_model.specs.Sizes.{IsClass};
+ghost use Rattle.heap_model.specs.Words.{large_info};
+ghost use Rattle.heap_model.specs.Geometry.{magic, version, largest_capacity, clean, dirty, magic_word, version_word, capacity_word, state_word, used_word, head_word, roots, root_word, lists, line_words, fixed_words, info_word, anchor_word, link_word, superblock_words, start_word};
 
 use crate::layout::{
     ANCHOR_OFFSET, CAPACITY_WORD, CLEAN, DESCRIPTOR_WORDS, DIRTY, FIXED_WORDS, HEAD_WORD,
-    LARGEST_CAPACITY, LINK_OFFSET, MAGIC, MAGIC_WORD, ROOT_WORD, ROOTS, STATE_WORD,
-    SUPERBLOCK_WORDS, USED_WORD, VERSION, VERSION_WORD,
+    LARGE_INFO, LARGE_STEP, LARGEST_CAPACITY, LAST_CLASS, LINE_WORDS, LINK_OFFSET, LISTS, MAGIC,
+    MAGIC_WORD, ROOT_WORD, ROOTS, STATE_WORD, SUPERBLOCK_WORDS, USED_WORD, VERSION, VERSION_WORD,
 };
 
 /// The constants of this crate are the numbers that the definitions of the image speak of.
@@ -17,6 +19,8 @@ pub fn constants_agree()
     ensures clean { CLEAN ≡ clean }
     ensures dirty { DIRTY ≡ dirty }
     ensures roots { ROOTS ≡ roots }
+    ensures lists { LISTS ≡ lists }
+    ensures line_words { LINE_WORDS ≡ line_words }
 
     // word indices
     ensures magic_word { MAGIC_WORD ≡ magic_word }
@@ -33,5 +37,7 @@ pub fn constants_agree()
     ensures anchor { (d : ℕ) → info_word d + ANCHOR_OFFSET ≡ anchor_word d }
     ensures link { (d : ℕ) → info_word d + LINK_OFFSET ≡ link_word d }
     ensures superblock { SUPERBLOCK_WORDS ≡ superblock_words }
+    ensures large_info { (count : ℕ) → LARGE_INFO + LARGE_STEP * count ≡ large_info count }
+    ensures last_class { (class : ℕ) → IsClass class ↔ ((1 ≤ class) × (class ≤ LAST_CLASS)) }
     ensures start { (capacity d : ℕ) → info_word capacity + SUPERBLOCK_WORDS * d ≡ start_word capacity d }
 {}

@@ -90,6 +90,10 @@ pub const LINK_OFFSET: u64 = 2;
 /// The words of a superblock.
 pub const SUPERBLOCK_WORDS: u64 = 8192;
 
+/// The bytes of the longest image.
+pub const LONGEST_IMAGE: u64 = WORD_BYTES
+    * (FIXED_WORDS + (DESCRIPTOR_WORDS + SUPERBLOCK_WORDS) * LARGEST_CAPACITY);
+
 /// The last class: an info of 1 to `LAST_CLASS` is a class.
 pub const LAST_CLASS: u64 = 20;
 

@@ -1,10 +1,10 @@
 //! The count of failures that each port keeps.
-ghost use Rattle.std.specs.Prelude.{◌≡◌, ◌^◌, ◌<◌, ⊤};
-ghost use Rattle.tool_ports.specs.Causes.{HasCause};
+ghost use Rattle.std.specs.Prelude.{◌≡◌, ◌+◌, ◌-◌, ◌^◌, ◌<◌, min};
 
 /// How many calls of a port have failed by the outside. It stops at its last value.
 #[derive(Drop)]
 pub struct FaultCount {
+    /// How many calls have failed.
     pub count: u64,
     pub ghost fits: { count < 2 ^ 64 },
 }
@@ -19,7 +19,7 @@ impl FaultCount {
 
     /// Counts one failure.
     pub fn rise(&mut self)
-        ensures { HasCause self.old.count self.new.count ⊤ }
+        ensures { self.new.count ≡ min (self.old.count + 1) (2 ^ 64 - 1) }
     {
         self.count = self.count.saturating_add(1);
     }

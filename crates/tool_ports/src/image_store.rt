@@ -1,5 +1,5 @@
 //! A store of heap images under names, as the tool sees it.
-ghost use Rattle.std.specs.Prelude.{◌≡◌, ◌^◌, ◌<◌, ℕ, List, Option, IfOk, OnOk, OnErr, IsErrOf};
+ghost use Rattle.std.specs.Prelude.{◌≡◌, ◌^◌, ◌<◌, ◌≤◌, ℕ, List, Option, length, IfOk, OnOk, OnErr, IsErrOf};
 ghost use Rattle.tool_ports.specs.Causes.{HasCause};
 ghost use Rattle.tool_ports.specs.Contents.{HoldsFirst, Lacks, Holds, HoldsOldOrNew, KeepsOthers};
 ghost use Rattle.tool_ports.specs.declared.image_store.GetFault.TheVariants.{Memory as GetMemory, Failed as GetFailed};
@@ -39,6 +39,7 @@ pub trait ImageStore {
     /// The image's first `most` bytes, or all if it has fewer.
     fn get(&mut self, alloc: Global, name: &str, most: usize) -> Result<Vec<u8>, GetFault>
         ensures ok { IfOk result (λ v. HoldsFirst (contents self.old) name.now most v.items) }
+        ensures short { IfOk result (λ v. length v.items ≤ most) }
         ensures none { IsErrOf result GetFault.Absent → Lacks (contents self.old) name.now }
         ensures unchanged { contents self.new ≡ contents self.old }
         ensures cause { HasCause (faults self.old) (faults self.new)

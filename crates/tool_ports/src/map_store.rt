@@ -10,7 +10,9 @@ use std::collections::BTreeMap;
 /// What a `put` that is to fail leaves under its name: a store may do either.
 #[derive(Clone, Copy, Debug, PartialEq, Eq)]
 pub enum FailedPut {
+    /// What was there before.
     LeavesOld,
+    /// What was to be put.
     LeavesNew,
 }
 

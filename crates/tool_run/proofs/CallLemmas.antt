@@ -1,13 +1,13 @@
 -- From the contracts of the two steps of a command to the command, and to the status of the call.
-use Rattle.std.proofs.Common.{◌≡◌, ◌≢◌, ◌⊎◌, ℕ, ◌+◌, ◌-◌, ◌^◌, ◌≤◌, min, List, Option, Result, Ok, Err, IfOk, IfErr, OnOk, inl, inr, refl, sym, ap, ◌∙◌, subst, arith}
+use Rattle.std.proofs.Common.{◌≡◌, ℕ, ◌≤◌, List, Option, Result, Ok, Err, IfErr, inr, subst, arith}
 use Rattle.tool_ports.specs.Causes.{Rose}
 use Rattle.tool_ports.specs.Contents.{Contents}
 use Rattle.tool_run.specs.Command.{Command, image_name}
 use Rattle.tool_run.specs.declared.fault.Fault.{Fault}
 use Rattle.tool_run.specs.declared.fault.Fault.TheVariants.{Usage, Memory, ReadFault, WriteFault, Absent, Malformed}
-use Rattle.tool_run.specs.Inside.{Refuses, DeliveryFails, IsUntouched, IsStopped}
+use Rattle.tool_run.specs.Inside.{DeliveryFails, IsStopped}
 use Rattle.tool_run.specs.Making.{Makes}
-use Rattle.tool_run.specs.Outcome.{Puts, IsCutOff, while_putting, while_printing}
+use Rattle.tool_run.specs.Outcome.{IsCutOff, while_putting, while_printing}
 
 -- a count that rose after an earlier moment rose since then, and before a later one too
 pub rose_since : (before mid now later : ℕ) → before ≤ mid → now ≤ later → Rose mid now → Rose before later
@@ -38,8 +38,15 @@ stops_at_delivery command name text image old mid new first second third print_f
     subst (λ (n : List ℕ). DeliveryFails n image text mid new (Rose second third) print_failed taken taken' fault) named why in
     let there : DeliveryFails (image_name command) image text old new (Rose second third) print_failed taken taken' fault =
     subst (λ (m : Contents). DeliveryFails (image_name command) image text m new (Rose second third) print_failed taken taken' fault) same here in
-    record { cause = inr (image, text, made, wider_failure (image_name command) text old new (Rose second third) (Rose first third) print_failed taken taken' image
-        (rose_since first second third third low (omega arith)) fault there) }
+    record {
+      cause = inr (
+        image,
+        text,
+        made,
+        wider_failure (image_name command) text old new (Rose second third) (Rose first third) print_failed taken taken' image
+            (rose_since first second third third low (omega arith)) fault there,
+      );
+    }
 
 -- what follows at an error, of its cause
 pub if_error : {T E : Type 0} (P Q : E → Type 0) (result : Result T E) → IfErr result P → ((e : E) → P e → Q e) → IfErr result Q

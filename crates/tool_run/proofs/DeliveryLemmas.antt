@@ -1,11 +1,11 @@
 -- Why a result was not delivered, from why it was not put or not printed.
-use Rattle.std.proofs.Common.{◌≡◌, ℕ, List, Option, Some, None, Result, Ok, Err, IfErr, IsErr, IsErrAnd, refl, sym, subst}
-use Rattle.tool_ports.specs.Contents.{Contents, HoldsOldOrNew, KeepsOthers}
-use Rattle.tool_ports.specs.Taken.{taken_with, TakesPart}
+use Rattle.std.proofs.Common.{◌≡◌, ℕ, List, Option, Result, Ok, Err, IfErr, IsErr, IsErrAnd, refl, sym, subst}
+use Rattle.tool_ports.specs.Contents.{Contents}
+use Rattle.tool_ports.specs.Taken.{TakesPart}
 use Rattle.tool_run.specs.declared.fault.Fault.{Fault}
 use Rattle.tool_run.specs.declared.fault.Fault.TheVariants.{Usage, Memory, ReadFault, WriteFault, Absent, Malformed}
-use Rattle.tool_run.specs.Inside.{PutFails, IsHalfPut, DeliveryFails}
-use Rattle.tool_run.specs.Outcome.{Puts, IsCutOff, while_putting, while_printing}
+use Rattle.tool_run.specs.Inside.{PutFails, DeliveryFails}
+use Rattle.tool_run.specs.Outcome.{Puts, while_putting, while_printing}
 
 -- what was not put is not delivered
 not_put_at : (name : List ℕ) (image : Option (List ℕ)) (text : List ℕ) (old new : Contents) (put_failed print_failed : Type 0) (taken : Option (List ℕ)) (fault : Fault)
@@ -22,7 +22,7 @@ pub not_put : (name : List ℕ) (image : Option (List ℕ)) (text : List ℕ) (o
     → fault ≡ cause → PutFails name image old new put_failed cause → DeliveryFails name image text old new put_failed print_failed taken taken fault
 not_put name image text old new put_failed print_failed taken fault cause is why =
     subst (λ (f : Fault). DeliveryFails name image text old new put_failed print_failed taken taken f) (sym is)
-        (not_put_at name image text old new put_failed print_failed taken cause why)
+    (not_put_at name image text old new put_failed print_failed taken cause why)
 
 -- what follows from the cause of an error
 pub at_cause : {T E : Type 0} {P : E → Type 0} (Q : E → Type 0) (result : Result T E) → IsErr result × IsErrAnd result P → ((e : E) → P e → Q e) → IfErr result Q
@@ -34,4 +34,4 @@ pub not_printed : (name : List ℕ) (image : Option (List ℕ)) (text bytes : Li
     → fault ≡ WriteFault → print_failed → Puts name image old new → bytes ≡ text → TakesPart bytes taken taken' → DeliveryFails name image text old new put_failed print_failed taken taken' fault
 not_printed name image text bytes old new put_failed print_failed taken taken' fault is failed put same part =
     subst (λ (f : Fault). DeliveryFails name image text old new put_failed print_failed taken taken' f) (sym is)
-        (while_printing failed put (subst (λ (l : List ℕ). TakesPart l taken taken') same part))
+    (while_printing failed put (subst (λ (l : List ℕ). TakesPart l taken taken') same part))

@@ -1,6 +1,6 @@
 -- What the first bytes of an image tell of it, where they are more than the longest image has.
-use Rattle.std.proofs.Common.{◌≡◌, ◌↔◌, ℕ, ◌+◌, ◌-◌, ◌*◌, ◌<◌, ◌≤◌, Bool, true, false, not, ◌||◌, nat_eq, nat_lt, List, length, take, drop, Option, Some, None, IsTrue, IsSomeAnd, refl, sym, ap, ◌∙◌, subst, inl, inr, arith}
-use Rattle.std.proofs.lemmas.Bool.{cases_lt, le-ltb, ltb-false, ne_eqb, eq-eqb, not_from_true, or_parts}
+use Rattle.std.proofs.Common.{◌≡◌, ◌↔◌, ℕ, ◌+◌, ◌-◌, ◌*◌, ◌≤◌, Bool, true, false, ◌||◌, nat_eq, nat_lt, List, length, take, drop, Option, Some, None, IsTrue, IsSomeAnd, refl, sym, ap, ◌∙◌, subst, inl, inr, arith}
+use Rattle.std.proofs.lemmas.Bool.{cases_lt, le-ltb, ltb-false, ne_eqb, eq-eqb, or_parts}
 use Rattle.std.proofs.lemmas.List.{drop-take, take_all, length-take-le}
 use Rattle.byteorder.specs.Endian.{little_number}
 use Rattle.byteorder.specs.Numbers.{little_from-take}
@@ -17,7 +17,7 @@ use Rattle.tool_run.specs.declared.fault.Fault.{Fault}
 use Rattle.tool_run.specs.declared.fault.Fault.TheVariants.{Malformed}
 use Rattle.tool_run.specs.Command.{show_image}
 use Rattle.tool_run.specs.Inside.{Refuses}
-use Rattle.tool_run.specs.Making.{fault_of, heap_line, Shows, IsMalformed}
+use Rattle.tool_run.specs.Making.{fault_of, Shows, IsMalformed}
 
 -- one more byte than the longest image has
 abbrev most : ℕ
@@ -39,15 +39,20 @@ long_fault m n image true long longer is =
 long_fault m n image false long longer is =
     let range = or_parts (nat_eq (image 2) 0) (nat_lt 256 (image 2)) is in
     let small = ltb-false 256 (image 2) range.1 in
-    rw (le-ltb m 8512 (omega arith), le-ltb n 8512 (omega arith), is,
-      ne_eqb m (8 * image_words (image 2)) (λ e. omega (arith, small)), ne_eqb n (8 * image_words (image 2)) (λ e. omega (arith, small))) refl
+    rw (
+      le-ltb m 8512 (omega arith),
+      le-ltb n 8512 (omega arith),
+      is,
+      ne_eqb m (8 * image_words (image 2)) (λ e. omega (arith, small)),
+      ne_eqb n (8 * image_words (image 2)) (λ e. omega (arith, small)),
+    ) refl
 
 -- the first bytes have the fault that all have
 first_fault : (bytes : List ℕ) → fault_of (take most bytes) ≡ fault_of bytes
 first_fault bytes = elim (cases_lt (length bytes) most) [
   | inl short ↦ ap fault_of (take_all most bytes (omega arith))
   | inr long ↦
-    same_fault (length (take most bytes)) (image_of_bytes (take most bytes)) (image_of_bytes bytes) (first_words bytes)
+      same_fault (length (take most bytes)) (image_of_bytes (take most bytes)) (image_of_bytes bytes) (first_words bytes)
       ∙ long_fault (length (take most bytes)) (length bytes) (image_of_bytes bytes) _ (omega (arith, length-take-le most bytes long)) long refl
 ]
 

@@ -23,10 +23,12 @@ part_of_first text rest old new part =
 pub part_of_next : (text rest : List ℕ) (old mid new : Option (List ℕ)) → mid ≡ taken_with old text → TakesPart rest mid new → TakesPart (text ++ rest) old new
 part_of_next text rest old mid new first part =
     let short : part.0 < length rest = part.1 in
-    let whole = length-append text rest in
-    (length text + part.0, omega (arith, whole, short),
+    let whole = length-append text rest in (
+      length text + part.0,
+      omega (arith, whole, short),
       both_taken text (take part.0 rest) old mid new first part.2
-        ∙ ap (λ (l : List ℕ). taken_with old l) (sym (take-append-add text rest part.0)))
+          ∙ ap (λ (l : List ℕ). taken_with old l) (sym (take-append-add text rest part.0)),
+    )
 
 -- what holds at every answer holds at an error
 pub at_every : {T E P : Type 0} (result : Result T E) → P → OnErr result P

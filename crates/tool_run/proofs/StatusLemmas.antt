@@ -1,5 +1,5 @@
 -- From why a command stopped, and the line that was printed then, to what its status says.
-use Rattle.std.proofs.Common.{◌≡◌, ◌⊎◌, ℕ, ◌≤◌, List, Option, Contains, inl, inr, refl, sym, ap, ◌∙◌, subst, arith, lit<}
+use Rattle.std.proofs.Common.{◌≡◌, ℕ, ◌≤◌, List, Option, Contains, inl, inr, refl, subst, arith, lit<}
 use Rattle.tool_ports.specs.Causes.{Rose}
 use Rattle.tool_ports.specs.Contents.{Contents}
 use Rattle.tool_ports.specs.Taken.{TakesPart}
@@ -29,7 +29,6 @@ tells_since line first second third taken mid new low same (inr (rose, part)) =
 
 module _ (words : List (List ℕ)) (command : Command) (old new : Contents) (store_failed : Type 0) (first second third : ℕ) (taken mid final : Option (List ℕ))
     (status : ℕ) (asked : Asks words command) (low : first ≤ second) (high : second ≤ third) where
-
   -- the outside failed while something was read
   pub is_read_fault : (fault : Fault) → IsStopped command old new store_failed (Rose first second) taken mid fault → status ≡ status_of fault
       → status ≡ read_fault → ((name : List ℕ) × AsksToGet words name) × store_failed

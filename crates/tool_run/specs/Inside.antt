@@ -1,6 +1,5 @@
 -- What the functions of this crate say of each other's answers.
 use Rattle.std.specs.Prelude.{◌≡◌, ◌⊎◌, ℕ, List, Option, Some}
-use Rattle.heap_model.specs.declared.header.BadHeader.{BadHeader}
 use Rattle.tool_ports.specs.Contents.{Contents, Lacks, HoldsOldOrNew, KeepsOthers}
 use Rattle.tool_ports.specs.declared.image_store.GetFault.{GetFault}
 use Rattle.tool_ports.specs.declared.image_store.GetFault.TheVariants.{Absent as NoSuchImage, Failed as GetFailed, Memory as GetMemory}
@@ -78,7 +77,7 @@ pub record IsCarriedOut (command : Command) (old new : Contents) (taken taken' :
 -- nothing was made for a command, or not all of it was put and printed
 pub record IsStopped (command : Command) (old new : Contents) (store_failed sink_failed : Type 0) (taken taken' : Option (List ℕ)) (fault : Fault) : Type 0 where
   pub cause : Refuses command old store_failed fault × IsUntouched old new taken taken'
-    ⊎ ((image : Option (List ℕ)) × (text : List ℕ) × Makes command old image text × DeliveryFails (image_name command) image text old new store_failed sink_failed taken taken' fault)
+      ⊎ ((image : Option (List ℕ)) × (text : List ℕ) × Makes command old image text × DeliveryFails (image_name command) image text old new store_failed sink_failed taken taken' fault)
 
 -- a failed `get`, as a fault of the tool
 abbrev pub fault_of_get : GetFault → Fault

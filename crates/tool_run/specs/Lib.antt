@@ -4,3 +4,4 @@ pub mod Lines
 pub mod Making
 pub mod Outcome
 pub mod Inside
+pub mod Examples

@@ -1,5 +1,5 @@
 -- The lines that tell why there is no result.
-use Rattle.std.specs.Prelude.{◌≡◌, ◌⊎◌, ℕ, List, [], ◌∷◌, ◌++◌, codes, Option, Some, None, slice_index_or}
+use Rattle.std.specs.Prelude.{◌≡◌, ◌⊎◌, ℕ, List, ◌++◌, codes, Option}
 use Rattle.tool_ports.specs.Causes.{Rose}
 use Rattle.tool_ports.specs.Taken.{taken_with, TakesPart}
 use Rattle.heap_model.specs.declared.header.BadHeader.{BadHeader}

@@ -9,12 +9,16 @@ use crate::command::Invocation;
 use crate::fault::Fault;
 use region_header::{Bytes, check_bytes, format, words_to_bytes};
 use std::alloc::{AllocError, Global};
-use super_block::{Geometry, WORD_BYTES};
+use super_block::{
+    DESCRIPTOR_WORDS, FIXED_WORDS, Geometry, LARGEST_CAPACITY, SUPERBLOCK_WORDS, WORD_BYTES,
+};
 use tool_ports::ImageStore;
 use trace_text::heap_line;
 
 /// How many bytes of an image are asked for: one more than the longest image has.
-const MOST_BYTES: usize = 16_802_113;
+const MOST_BYTES: usize = (WORD_BYTES
+    * (FIXED_WORDS + (DESCRIPTOR_WORDS + SUPERBLOCK_WORDS) * LARGEST_CAPACITY)
+    + 1) as usize;
 
 /// What a command has made: the image that is to be put, if any, and the text that is to be printed.
 #[derive(Drop)]

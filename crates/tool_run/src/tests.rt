@@ -1,0 +1,198 @@
+use crate::run_tool;
+use region_header::{format, words_to_bytes};
+use std::alloc::{AllocError, Global};
+use std::test::Fail;
+use tool_ports::{FailedPut, ImageStore, MapStore, VecSink};
+
+// A call with the words of a line, over a sink of which some calls fail: its status, and the sink.
+fn call(
+    alloc: Global,
+    line: &str,
+    images: &mut MapStore,
+    failing: &[u64],
+) -> Result<(u8, VecSink), AllocError> {
+    let mut words = Vec::new(alloc);
+    for word in line.split(' ') {
+        words.push(String::from_str(alloc, word)?)?;
+    }
+    let mut out = VecSink::new(alloc, Vec::from_slice(alloc, failing)?, 8);
+    let status = run_tool(&(), alloc, &words, images, &mut out);
+    Ok((status.code(), out))
+}
+
+// An empty image of one superblock with other values in some words, cut or filled up to a length.
+fn image_of(alloc: Global, changes: &[(usize, u64)], length: usize) -> Result<Vec<u8>, AllocError> {
+    let mut words = format(alloc, 1)?;
+    for (at, value) in changes {
+        if let Some(word) = words.get_mut(*at) {
+            *word = *value;
+        }
+    }
+    let mut bytes = words_to_bytes(alloc, &words)?.into_vec();
+    bytes.resize(length, 0)?;
+    Ok(bytes)
+}
+
+#[test]
+fn an_image_is_made_and_shown(rt: HostRuntime) -> Result<(), Fail> {
+    let alloc = rt.alloc();
+    let mut images = MapStore::new(alloc, Vec::new(alloc), FailedPut::LeavesOld);
+    for (line, bytes, text) in [
+        ("format h 1", 74_112, "formatted 1 bytes 74112\n"),
+        ("show h", 74_112, "heap 1 clean\n"),
+        ("format h 2", 139_712, "formatted 2 bytes 139712\n"),
+        ("format h 004", 270_912, "formatted 4 bytes 270912\n"),
+        ("show h", 270_912, "heap 4 clean\n"),
+        ("format h 256", 16_802_112, "formatted 256 bytes 16802112\n"),
+        ("show h", 16_802_112, "heap 256 clean\n"),
+    ] {
+        let (status, out) = call(alloc, line, &mut images, &[])?;
+        assert_eq!(rt; status, 0, "{line}");
+        assert_eq!(rt; out.bytes(), text.as_bytes(), "{line}");
+        assert_eq!(rt;
+            images.image("h").map_or(0, |image| image.len()),
+            bytes,
+            "{line}"
+        );
+    }
+    Ok(())
+}
+
+#[test]
+fn words_of_another_form_are_usage(rt: HostRuntime) -> Result<(), Fail> {
+    let alloc = rt.alloc();
+    let mut images = MapStore::new(alloc, Vec::new(alloc), FailedPut::LeavesOld);
+    for line in [
+        "",
+        "run h --workers 9",
+        "format h",
+        "format h 0",
+        "format h 257",
+        "format h 18446744073709551617",
+        "format h +1",
+        "format h 1x",
+        "format h 1 1",
+        "format  1",
+        "format -h 1",
+        "Format h 1",
+        "show",
+        "show -h",
+        "show h h",
+    ] {
+        let (status, out) = call(alloc, line, &mut images, &[])?;
+        assert_eq!(rt; status, 2, "{line}");
+        assert_eq!(rt; out.bytes(), b"usage\n".as_slice(), "{line}");
+    }
+    assert_eq!(rt; images.image("h"), None);
+    Ok(())
+}
+
+#[test]
+fn an_image_that_is_not_there_is_named(rt: HostRuntime) -> Result<(), Fail> {
+    let alloc = rt.alloc();
+    let mut images = MapStore::new(alloc, Vec::new(alloc), FailedPut::LeavesOld);
+    for (failing, text) in [
+        (9, "no image none.img\n"),
+        (3, "no image none.img"),
+        (2, "no image "),
+        (1, "no image"),
+        (0, ""),
+    ] {
+        let (status, out) = call(alloc, "show none.img", &mut images, &[failing])?;
+        assert_eq!(rt; status, 6, "write {failing} fails");
+        assert_eq!(rt; out.bytes(), text.as_bytes(), "write {failing} fails");
+    }
+    Ok(())
+}
+
+#[test]
+fn a_malformed_image_is_told_by_its_first_cause(rt: HostRuntime) -> Result<(), Fail> {
+    let alloc = rt.alloc();
+    let mut images = MapStore::new(alloc, Vec::new(alloc), FailedPut::LeavesOld);
+    for (state, used, length, status, text) in [
+        (1, 0, 0, 7, "bad header short\n"),
+        (1, 0, 8_511, 7, "bad header short\n"),
+        (1, 0, 8_512, 7, "bad header length\n"),
+        (1, 0, 74_111, 7, "bad header length\n"),
+        (1, 0, 74_120, 7, "bad header length\n"),
+        (1, 0, 16_802_200, 7, "bad header length\n"),
+        (0, 2, 74_112, 7, "bad header state\n"),
+        (1, 2, 74_112, 7, "bad header used\n"),
+        (2, 1, 74_112, 0, "heap 1 dirty\n"),
+    ] {
+        let image = image_of(alloc, &[(3, state), (8, used)], length)?;
+        assert!(rt; images.put(alloc, "h", &image).is_ok());
+        let (code, out) = call(alloc, "show h", &mut images, &[])?;
+        assert_eq!(rt; code, status, "{text} of {length} bytes");
+        assert_eq!(rt; out.bytes(), text.as_bytes(), "{text} of {length} bytes");
+        assert_eq!(rt; images.image("h"), Some(image.as_slice()));
+    }
+    Ok(())
+}
+
+#[test]
+fn a_failing_store_is_told_and_has_the_old_bytes_or_the_new(rt: HostRuntime) -> Result<(), Fail> {
+    let alloc = rt.alloc();
+    for (failing, line, failed_put, status, text, length) in [
+        (1, "show h", FailedPut::LeavesOld, 4, "read fault\n", 3),
+        (1, "format h 1", FailedPut::LeavesOld, 5, "write fault\n", 3),
+        (
+            1,
+            "format h 1",
+            FailedPut::LeavesNew,
+            5,
+            "write fault\n",
+            74_112,
+        ),
+        (
+            2,
+            "format h 1",
+            FailedPut::LeavesOld,
+            0,
+            "formatted 1 bytes 74112\n",
+            74_112,
+        ),
+    ] {
+        let mut images = MapStore::new(alloc, vec![in alloc; failing]?, failed_put);
+        assert!(rt; images.put(alloc, "h", b"old").is_ok());
+        let (code, out) = call(alloc, line, &mut images, &[])?;
+        assert_eq!(rt; code, status, "{line}");
+        assert_eq!(rt; out.bytes(), text.as_bytes(), "{line}");
+        assert_eq!(rt;
+            images.image("h").map_or(0, |image| image.len()),
+            length,
+            "{line}"
+        );
+    }
+    Ok(())
+}
+
+#[test]
+fn a_failing_sink_is_told_behind_what_it_took(rt: HostRuntime) -> Result<(), Fail> {
+    let alloc = rt.alloc();
+    let mut images = MapStore::new(alloc, Vec::new(alloc), FailedPut::LeavesOld);
+    for (line, first, second, status, text) in [
+        ("format h 1", 0, 9, 5, "write fault\n"),
+        ("format h 1", 1, 9, 5, "formattewrite fault\n"),
+        ("format h 1", 2, 9, 5, "formatted 1 bytewrite fault\n"),
+        ("format h 1", 2, 4, 5, "formatted 1 bytewrite fa"),
+        ("format h 1", 3, 9, 0, "formatted 1 bytes 74112\n"),
+        ("show h", 0, 1, 5, ""),
+        ("show h", 1, 9, 5, "heap 1 cwrite fault\n"),
+        ("show h", 2, 9, 0, "heap 1 clean\n"),
+    ] {
+        let (code, out) = call(alloc, line, &mut images, &[first, second])?;
+        assert_eq!(rt; code, status, "{line}, writes {first} and {second} fail");
+        assert_eq!(rt;
+            out.bytes(),
+            text.as_bytes(),
+            "{line}, writes {first} and {second} fail"
+        );
+        assert_eq!(rt;
+            images.image("h").map_or(0, |image| image.len()),
+            74_112,
+            "{line}"
+        );
+    }
+    Ok(())
+}

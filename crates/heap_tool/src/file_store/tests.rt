@@ -26,8 +26,19 @@ fn an_image_is_put_in_a_file_and_got_back(rt: HostRuntime) -> Result<(), Fail> {
         let image = get(&mut store, alloc, "image").ok();
         assert!(rt; image.is_some_and(|got| got.as_slice() == bytes));
     }
-    assert_eq!(rt; fs::exists(&rt, "image.new")?, false);
+    assert_eq!(rt; fs::exists(&rt, "image.new0")?, false);
     assert_eq!(rt; store.faults.count, 0);
+    Ok(())
+}
+
+#[test]
+fn a_put_touches_no_other_file(rt: HostRuntime) -> Result<(), Fail> {
+    let alloc = rt.alloc();
+    let mut store = FileStore::new(&rt);
+    assert_eq!(rt; put(&mut store, alloc, "mine.new0", b"other"), Ok(()));
+    assert_eq!(rt; put(&mut store, alloc, "mine", b"first"), Ok(()));
+    let other = get(&mut store, alloc, "mine.new0").ok();
+    assert!(rt; other.is_some_and(|got| got.as_slice() == b"other".as_slice()));
     Ok(())
 }
 
@@ -54,7 +65,7 @@ fn what_is_not_there_is_absent_and_all_else_has_failed(rt: HostRuntime) -> Resul
         Err(PutImageFault::Failed)
     );
     assert_eq!(rt; store.faults.count, 3);
-    assert_eq!(rt; fs::exists(&rt, "folder.new")?, false);
+    assert_eq!(rt; fs::exists(&rt, "folder.new0")?, false);
     Ok(())
 }
 

@@ -7,14 +7,14 @@ returns-in-Err-clause-known g c = has_status c.in-Err.fault _ c.tell-in-Err.ensu
 pub returns-in-Err-clause-read_fault : goal.returns-in-Err-clause-read_fault
 returns-in-Err-clause-read_fault g c =
     is_read_fault _ _ _ _ _ _ _ _ _ _ (g.O.Sink.taken c.tell-in-Err.new.out) _ c.in-Some.ensures.some c.carry_out.ensures.later_sink c.tell-in-Err.ensures.later
-        c.in-Err.fault c.in-Err.ensures.err c.tell-in-Err.ensures.status
+    c.in-Err.fault c.in-Err.ensures.err c.tell-in-Err.ensures.status
 
 pub returns-in-Err-clause-write_fault : goal.returns-in-Err-clause-write_fault
 returns-in-Err-clause-write_fault g c =
     is_write_fault _ _ _ _ _ _ _ _ _ _ _ _ c.in-Some.ensures.some c.carry_out.ensures.later_sink c.tell-in-Err.ensures.later
-        c.in-Err.fault _ c.in-Err.ensures.err c.tell-in-Err.ensures.status c.tell-in-Err.ensures.told
+    c.in-Err.fault _ c.in-Err.ensures.err c.tell-in-Err.ensures.status c.tell-in-Err.ensures.told
 
 pub returns-in-Err-clause-cause : goal.returns-in-Err-clause-cause
 returns-in-Err-clause-cause g c =
     is_bad_header _ _ _ _ _ _ _ _ _ _ _ _ c.in-Some.ensures.some c.carry_out.ensures.later_sink c.tell-in-Err.ensures.later
-        c.in-Err.fault _ c.in-Err.ensures.err c.tell-in-Err.ensures.status c.tell-in-Err.ensures.told
+    c.in-Err.fault _ c.in-Err.ensures.err c.tell-in-Err.ensures.status c.tell-in-Err.ensures.told

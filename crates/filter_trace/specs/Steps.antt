@@ -1,0 +1,43 @@
+-- What the steps of a trace ask and leave, said of an image's words and of a set of pairs.
+use Rattle.std.specs.Prelude.{ℕ, ◌*◌, ◌≡◌, List, slice_index, slice_index_or, length, true, false}
+use Rattle.heap_model.specs.declared.block.Block.{Block}
+use Rattle.heap_model.specs.Geometry.{roots}
+use Rattle.heap_model.specs.Header.{IsWellFormed}
+use Rattle.heap_model.specs.Blocks.{layout_of}
+use Rattle.heap_model.specs.Reach.{Links, words_in}
+use Rattle.filter_trace.specs.declared.pairs.PairSet.{PairSet}
+use Rattle.filter_trace.specs.Pairs.{mark_of, Inserts, AreMarked}
+use Rattle.filter_trace.specs.Trace.{Follows, FollowsRoots, FollowsLinks, IsFound}
+
+-- the words are those of an image with a good header
+abbrev pub IsImage : List ℕ → Type 0
+IsImage words = IsWellFormed (8 * length words) (slice_index words)
+
+-- the pair is marked
+abbrev pub IsMarked : PairSet → Block → ℕ → Type 0
+IsMarked set b kind = slice_index_or set.marks (mark_of set.kinds b kind) false ≡ true
+
+-- inserting the pair leaves this
+abbrev pub Adds : Block → ℕ → PairSet → PairSet → Type 0
+Adds b kind old new = Inserts old.kinds b kind old.pairs.items new.pairs.items old.marks new.marks
+
+-- the pairs are of blocks of the image, and the marks tell them
+abbrev pub IsSetOf : List ℕ → PairSet → Type 0
+IsSetOf words set = AreMarked (layout_of (slice_index words)) set.kinds set.pairs.items set.marks
+
+-- following the word at the index leaves this
+abbrev pub FollowsWord : List ℕ → ℕ → ℕ → PairSet → PairSet → Type 0
+FollowsWord words at kind old new = Follows (slice_index words) old.kinds at kind old.pairs.items new.pairs.items old.marks new.marks
+
+-- following all roots leaves this
+abbrev pub FollowsAllRoots : List ℕ → List ℕ → ℕ → PairSet → Type 0
+FollowsAllRoots words kinds count new = FollowsRoots (slice_index words) (slice_index kinds) count roots new.pairs.items new.marks
+
+-- the pairs have been reached, and are marked
+abbrev pub HasFound : List ℕ → List ℕ → Links → ℕ → PairSet → Type 0
+HasFound words kinds links count set = IsFound (slice_index words) (slice_index kinds) links count set.pairs.items set.marks
+
+-- following all links of a block leaves this
+abbrev pub FollowsAllLinks : List ℕ → List ℕ → Links → ℕ → Block → ℕ → PairSet → PairSet → Type 0
+FollowsAllLinks words kinds links count b kind old new =
+    FollowsLinks (slice_index words) (slice_index kinds) links count b (links kind (words_in (slice_index words) b)) old.pairs.items new.pairs.items old.marks new.marks

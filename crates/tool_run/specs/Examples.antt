@@ -1,0 +1,65 @@
+-- Worked examples: words and what they ask for, and the lines that are printed.
+use Rattle.std.specs.Prelude.{◌≡◌, List, [], ◌∷◌, ◌++◌, codes, Some, None, refl}
+use Rattle.std.specs.Fmt.{digits}
+use Rattle.std.specs.Str.Parse.{digits_value}
+use Rattle.std.proofs.Common.{ℕ, length, slice_index_or, sym, ap, ◌∙◌, arith, lit<, lit≤}
+use Rattle.heap_model.specs.declared.header.BadHeader.TheVariants.{Length}
+use Rattle.trace_text.specs.Report.{line_feed}
+use Rattle.tool_run.specs.Command.{Command, Asks, IsUsage, format_image, show_image, IsImageName, IsNumber}
+use Rattle.tool_run.specs.Lines.{no_image_line, bad_header_line}
+use Rattle.tool_run.specs.Making.{formatted_line}
+use Rattle.tool_run.specs.Status.{own_line, usage, done, bad_header}
+
+formatted_one : formatted_line 1 ≡ codes "formatted 1 bytes 74112" ++ line_feed
+unfolding digits
+formatted_one = refl
+
+formatted_most : formatted_line 256 ≡ codes "formatted 256 bytes 16802112" ++ line_feed
+unfolding digits
+formatted_most = refl
+
+absent_line : no_image_line (codes "none.img") ≡ codes "no image none.img" ++ line_feed
+absent_line = refl
+
+length_line : bad_header_line Length ≡ codes "bad header length" ++ line_feed
+length_line = refl
+
+lines : (own_line usage ≡ Some (codes "usage" ++ line_feed)) × (own_line done ≡ None) × (own_line bad_header ≡ None)
+lines = (refl, refl, refl)
+
+-- a leading zero changes nothing
+number_one : IsNumber (codes "01") 1
+number_one = record { digits = (lit< tt, (lit< tt, (lit< tt, tt))); value = refl }
+
+name_h : IsImageName (codes "h")
+name_h = record { some = lit< tt; no_option = λ e. omega (arith, e) }
+
+format_one : Asks (codes "format" ∷ codes "h" ∷ codes "01" ∷ []) (format_image (codes "h") 1)
+format_one = record { number = codes "01"; words_are = refl; named = name_h; counted = number_one; least = lit≤ tt; most = lit≤ tt }
+
+show_one : Asks (codes "show" ∷ codes "h" ∷ []) (show_image (codes "h"))
+show_one = record { words_are = refl; named = name_h }
+
+no_words : IsUsage []
+no_words (format_image image capacity) asks = omega (arith, ap length asks.words_are)
+no_words (show_image image) asks = omega (arith, ap length asks.words_are)
+
+-- word i of the words
+word_at : ℕ → List (List ℕ) → List ℕ
+word_at i words = slice_index_or words i []
+
+-- words ask for one command at most
+one_command : (words : List (List ℕ)) (a b : Command) → Asks words a → Asks words b → a ≡ b
+unfolding word_at
+one_command words (format_image image capacity) (format_image other count) asks also =
+    let same : asks.number ≡ also.number = sym (ap (word_at 2) asks.words_are) ∙ ap (word_at 2) also.words_are in
+    let named : image ≡ other = sym (ap (word_at 1) asks.words_are) ∙ ap (word_at 1) also.words_are in
+    let counted : capacity ≡ count = sym asks.counted.value ∙ ap (digits_value 10) same ∙ also.counted.value in
+    cc
+one_command words (show_image image) (show_image other) asks also =
+    let named : image ≡ other = sym (ap (word_at 1) asks.words_are) ∙ ap (word_at 1) also.words_are in
+    cc
+one_command words (format_image image capacity) (show_image other) asks also =
+    absurd (omega (arith, ap length asks.words_are, ap length also.words_are))
+one_command words (show_image image) (format_image other count) asks also =
+    absurd (omega (arith, ap length asks.words_are, ap length also.words_are))
