@@ -1,12 +1,10 @@
 -- What recovery makes of an image depends only on which blocks are kept.
-use Rattle.std.proofs.Common.{◌≡◌, ℕ, zero, suc, ◌+◌, ◌<◌, List, ◌++◌, length, take, drop, ap, subst, sym, ◌∙◌}
+use Rattle.std.proofs.Common.{◌≡◌, ℕ, zero, suc, List, ◌++◌, length, take, drop, ap, ◌∙◌}
 use Rattle.std.proofs.Math.Seq.{take-append_seam}
-use Rattle.std.specs.List.{Contains}
 use Rattle.heap_model.specs.declared.block.Block.{Block}
 use Rattle.heap_model.specs.Image.{Image}
-use Rattle.heap_model.specs.Header.{capacity_of}
 use Rattle.heap_model.specs.Blocks.{Layout, layout_of}
-use Rattle.heap_model.specs.Recovered.{IsFreeSuperblock, AreAscending}
+use Rattle.heap_model.specs.Recovered.{IsFreeSuperblock}
 use Rattle.heap_model.specs.Recovery.{HoldsKept, IsSpare, IsPartial, IsFullyKept, IsInLarge, IsListed, IsRecovered}
 use Rattle.heap_model.specs.Reach.{Links, IsReached}
 use Rattle.heap_model.proofs.ReachLemmas.{reached_block}

@@ -8,3 +8,4 @@ pub mod PassLemmas
 pub mod RoleLemmas
 pub mod RebuildLemmas
 pub mod KeptLemmas
+pub mod UnchangedLemmas

@@ -1,26 +1,24 @@
 -- The pass over the superblocks: what is done stays done while the next one is rebuilt.
-use Rattle.std.proofs.Common.{◌≡◌, ◌≢◌, ℕ, zero, suc, ◌+◌, ◌*◌, ◌<◌, ◌≤◌, ◌⊎◌, inl, inr, List, [], ◌∷◌, ◌++◌, length, get_or, slice_index, slice_index_or, refl, ap, sym, subst, ◌∙◌, arith, length-append}
-use Rattle.std.specs.List.{Contains}
+use Rattle.std.proofs.Common.{◌≡◌, ℕ, ◌+◌, ◌*◌, ◌<◌, ◌≤◌, ◌⊎◌, inl, inr, List, [], ◌∷◌, ◌++◌, slice_index_or, refl, ap, sym, subst, ◌∙◌, arith, length-append}
 use Rattle.std.proofs.Math.ListN.{get_or-append}
 use Rattle.std.proofs.Math.Seq.{get_or-append_seam}
 use Rattle.std.proofs.lemmas.Bool.{cases_lt}
 use Rattle.heap_model.specs.declared.block.Block.{Block}
-use Rattle.heap_model.specs.Geometry.{info_word, anchor_word, link_word, head_word, start_word, state_word, capacity_word, IsReserved, in_header, in_descriptor}
-use Rattle.heap_model.specs.Header.{capacity_of, used_of}
+use Rattle.heap_model.specs.Geometry.{info_word, anchor_word, link_word, head_word, start_word, state_word, capacity_word, in_header, in_descriptor}
+use Rattle.heap_model.specs.Header.{capacity_of}
 use Rattle.heap_model.specs.Image.{Image}
-use Rattle.heap_model.specs.Sizes.{IsClass, words_of_class}
-use Rattle.heap_model.specs.Blocks.{Layout, layout_of, IsBlock}
+use Rattle.heap_model.specs.Sizes.{words_of_class}
+use Rattle.heap_model.specs.Blocks.{Layout, layout_of}
 use Rattle.heap_model.specs.Recovered.{AreAscending}
-use Rattle.heap_model.specs.Recovery.{HasInfoAndAnchor, IsRechained, IsSpare, IsPartial, IsKeptWord, in_header as header_kept, is_root, is_reserved, but_last}
+use Rattle.heap_model.specs.Recovery.{HasInfoAndAnchor, IsKeptWord, in_header as header_kept, is_root, is_reserved}
 use Rattle.heap_model.specs.Chains.{Walks}
 use Rattle.heap_model.proofs.BlockLemmas.{block_inside}
 use Rattle.heap_recover.specs.declared.roles.Role.{Role}
 use Rattle.heap_recover.specs.declared.roles.Role.TheVariants.{Free, Partial, Full, Large}
 use Rattle.heap_recover.specs.Marked.{KeepsBlocks, IsKeptIn, IsKeptBelow, GoOnTo}
 use Rattle.heap_recover.specs.Roles.{IsRole, is_free, is_partial, is_full, is_large}
-use Rattle.heap_recover.specs.Rebuilt.{IsOf, is_info, is_anchor, is_link, is_inside, AreSpares, HasSpares, HasInfo, IsDescribed, KeepsInside, IsRebuilt, IsDone, AreDone, AreCleared}
+use Rattle.heap_recover.specs.Rebuilt.{IsOf, is_info, is_anchor, is_link, is_inside, HasSpares, HasInfo, IsDescribed, KeepsInside, IsRebuilt, IsDone, AreDone, AreCleared}
 use Rattle.heap_recover.proofs.AscendingLemmas.{ascending_none, ascending_append}
-use Rattle.heap_recover.proofs.SurveyLemmas.{none_of, class_inside}
 use Rattle.heap_recover.proofs.SuperblockLemmas.{walks_same, spares_inside}
 
 -- a superblock of the role has spares that can be chained

@@ -1,5 +1,5 @@
 -- What the passes leave: every word of the image, from the kept blocks.
-use Rattle.std.proofs.Common.{◌≡◌, ◌≢◌, ◌↔◌, ℕ, zero, suc, ◌+◌, ◌-◌, ◌*◌, ◌/◌, ◌%◌, ◌<◌, ◌≤◌, ◌⊎◌, inl, inr, Option, Some, None, List, [], ◌∷◌, length, slice_index_or, refl, ap, sym, subst, ◌∙◌, arith}
+use Rattle.std.proofs.Common.{◌≡◌, ◌≢◌, ℕ, ◌+◌, ◌-◌, ◌/◌, ◌<◌, ◌≤◌, ◌⊎◌, inl, inr, List, [], slice_index_or, refl, subst, ◌∙◌, arith}
 use Rattle.std.specs.List.{Contains}
 use Rattle.std.proofs.lemmas.Bool.{cases_lt}
 use Rattle.heap_model.specs.declared.block.Block.{Block}
@@ -8,20 +8,20 @@ use Rattle.heap_model.specs.Header.{capacity_of, used_of}
 use Rattle.heap_model.specs.Image.{Image}
 use Rattle.heap_model.specs.Sizes.{IsClass}
 use Rattle.heap_model.specs.Words.{full_anchor}
-use Rattle.heap_model.specs.Blocks.{layout_of, IsBlock}
+use Rattle.heap_model.specs.Blocks.{layout_of}
 use Rattle.heap_model.specs.Recovered.{IsFreeSuperblock, AreAscending}
 use Rattle.heap_model.specs.Recovery.{IsPartial, IsFullyKept, IsInLarge, IsSpare, IsListed, first_number, but_last, IsKeptWord, HasInfoAndAnchor, IsRechained, IsRecovered}
 use Rattle.heap_model.specs.Chains.{Follows}
 use Rattle.heap_model.proofs.BlockLemmas.{block_inside, block_words}
 use Rattle.heap_recover.specs.declared.roles.Role.{Role}
-use Rattle.heap_recover.specs.declared.roles.Role.TheVariants.{Free, Partial, Full, Large}
+use Rattle.heap_recover.specs.declared.roles.Role.TheVariants.{Large}
 use Rattle.heap_recover.specs.Marked.{KeepsBlocks, IsKeptBelow}
-use Rattle.heap_recover.specs.Roles.{IsRole, is_free, is_partial, is_full, is_large, list_of, IsMember}
-use Rattle.heap_recover.specs.Rebuilt.{IsOf, is_info, is_anchor, is_link, is_inside, IsDescribed, KeepsInside, IsDone, AreDone, AreCleared, IsList, AreListed, IsRebuild}
+use Rattle.heap_recover.specs.Roles.{IsRole, is_free, is_partial, is_full, is_large, IsMember}
+use Rattle.heap_recover.specs.Rebuilt.{IsOf, is_info, is_anchor, is_link, is_inside, IsDescribed, IsDone, AreDone, AreCleared, AreListed, IsRebuild}
 use Rattle.heap_recover.proofs.AscendingLemmas.{ascending_same}
 use Rattle.heap_recover.proofs.ListLemmas.{follows_same}
 use Rattle.heap_recover.proofs.SurveyLemmas.{none_of}
-use Rattle.heap_recover.proofs.PassLemmas.{SameIn, done_same, one_owner, no_lower, kept_no_state, kept_no_head, kept_apart}
+use Rattle.heap_recover.proofs.PassLemmas.{done_same, one_owner, no_lower, kept_no_state, kept_no_head, kept_apart}
 use Rattle.heap_recover.proofs.RoleLemmas.{free_role, partial_role, full_role, large_role, role_listed, listed_role, listed_taken}
 
 -- in which superblock a word lies

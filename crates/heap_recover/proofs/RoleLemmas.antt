@@ -1,10 +1,10 @@
 -- A superblock has one role, and the role tells its list.
-use Rattle.std.proofs.Common.{◌≡◌, ℕ, zero, suc, ◌+◌, ◌*◌, ◌<◌, ◌≤◌, Option, Some, None, List, [], length, refl, ap, sym, subst, ◌∙◌, arith}
+use Rattle.std.proofs.Common.{◌≡◌, ℕ, zero, suc, ◌+◌, ◌*◌, ◌<◌, Some, List, refl, ap, sym, subst, ◌∙◌, arith}
 use Rattle.heap_model.specs.declared.block.Block.{Block}
 use Rattle.heap_model.specs.Geometry.{start_word}
-use Rattle.heap_model.specs.Sizes.{IsClass, words_of_class, blocks_of}
+use Rattle.heap_model.specs.Sizes.{IsClass, words_of_class}
 use Rattle.heap_model.specs.Blocks.{Layout}
-use Rattle.heap_model.specs.Recovered.{HasPartIn, IsFreeSuperblock, IsBlockOfClass, AreAscending}
+use Rattle.heap_model.specs.Recovered.{IsFreeSuperblock, IsBlockOfClass, AreAscending}
 use Rattle.heap_model.specs.Recovery.{HoldsKept, IsSpare, IsPartial, IsFullyKept, IsInLarge, IsListed}
 use Rattle.heap_model.proofs.SizeLemmas.{four_blocks}
 use Rattle.heap_recover.specs.declared.roles.Role.{Role}

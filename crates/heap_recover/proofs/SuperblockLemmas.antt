@@ -1,21 +1,18 @@
 -- The words of one superblock after its chain and its descriptor are written.
-use Rattle.std.proofs.Common.{◌≡◌, ◌≢◌, ℕ, zero, suc, ◌+◌, ◌-◌, ◌*◌, ◌/◌, ◌<◌, ◌≤◌, ◌^◌, ◌⊎◌, inl, inr, List, [], ◌∷◌, length, get_or, slice_index, All, refl, ap, sym, subst, ◌∙◌, arith}
+use Rattle.std.proofs.Common.{◌≡◌, ℕ, zero, suc, ◌+◌, ◌-◌, ◌*◌, ◌/◌, ◌<◌, ◌≤◌, ◌^◌, ◌⊎◌, inl, inr, List, [], ◌∷◌, length, get_or, slice_index, All, refl, ap, sym, subst, ◌∙◌, arith}
 use Rattle.std.specs.List.{Contains, AllPairs}
 use Rattle.std.proofs.Math.Nat.{mul-div_cancel}
 use Rattle.std.proofs.lemmas.List.Elements.{Contains-get_or}
-use Rattle.heap_model.specs.declared.block.Block.{Block}
-use Rattle.heap_model.specs.Geometry.{info_word, anchor_word, link_word, start_word, image_words}
+use Rattle.heap_model.specs.Geometry.{info_word, start_word, image_words}
 use Rattle.heap_model.specs.Header.{capacity_of}
 use Rattle.heap_model.specs.Image.{Image}
-use Rattle.heap_model.specs.Sizes.{IsClass, words_of_class, blocks_of}
-use Rattle.heap_model.specs.Words.{anchor_of, partial_state, full_anchor}
-use Rattle.heap_model.specs.Recovered.{IsBlockOfClass}
-use Rattle.heap_model.specs.Recovery.{HasInfoAndAnchor, IsRechained, but_last}
+use Rattle.heap_model.specs.Sizes.{words_of_class, blocks_of}
+use Rattle.heap_model.specs.Recovery.{but_last}
 use Rattle.heap_model.specs.Chains.{Walks}
-use Rattle.heap_model.proofs.SizeLemmas.{two_words}
+use Rattle.heap_model.proofs.SizeLemmas.{two_words, few_blocks}
 use Rattle.heap_recover.specs.declared.roles.Role.{Role}
 use Rattle.heap_recover.specs.declared.roles.Role.TheVariants.{Free, Partial, Full, Large}
-use Rattle.heap_recover.specs.Rebuilt.{IsChained, IsOf, is_info, is_anchor, is_link, is_inside, AreSpares, HasSpares, HasInfo, CountsSpares, IsAnchorOf, IsInfoAfter, IsWrittenAs, IsDescribed, KeepsInside, IsRebuilt}
+use Rattle.heap_recover.specs.Rebuilt.{IsChained, IsOf, is_info, is_anchor, is_link, is_inside, AreSpares, HasSpares, HasInfo, IsAnchorOf, IsWrittenAs, IsDescribed, IsRebuilt}
 use Rattle.heap_recover.proofs.SurveyLemmas.{class_inside, none_of}
 
 -- a member of all but the last is a member
@@ -77,6 +74,30 @@ first_spare capacity class d spares small below are =
         few = omega (arith, inside.1);
       },
     )
+
+-- the spares of a partial superblock
+pub of_partial : (capacity d class : ℕ) (spares : List ℕ) (role : Role) → role ≡ Partial class → HasSpares capacity d spares role → AreSpares capacity class d spares
+of_partial capacity d class spares role is has = subst (λ (r : Role). HasSpares capacity d spares r) is has
+
+-- its first spare block, as the code finds it
+pub record IsFoundFirst (capacity class d : ℕ) (spares : List ℕ) (start words : ℕ) : Type 0 where
+  pub below : (slice_index spares 0 - start) / words < 2 ^ 31
+  pub begins : start_word capacity d + (slice_index spares 0 - start) / words * words_of_class class ≡ slice_index spares 0
+  pub few : length spares < 2 ^ 31
+
+pub found_first : (capacity class d : ℕ) (spares : List ℕ) (start words : ℕ) → capacity ≤ 256 → d < capacity → AreSpares capacity class d spares
+    → start ≡ start_word capacity d → words ≡ words_of_class class → IsFoundFirst capacity class d spares start words
+found_first capacity class d spares start words small below are start_is words_is =
+    let first = first_spare capacity class d spares small below are in
+    let two = two_words class are.is_class in
+    let at = first.1.at in
+    let quotient : (slice_index spares 0 - start) / words ≡ first.0 =
+    ap (λ x. (slice_index spares 0 - x) / words) start_is ∙ ap (λ w. (slice_index spares 0 - start_word capacity d) / w) words_is ∙ first.1.quotient in
+    record {
+      below = subst (λ x. x < 2 ^ 31) (sym quotient) (let index = first.1.below in let few = few_blocks class are.is_class in omega arith);
+      begins = ap (λ i. start_word capacity d + i * words_of_class class) quotient ∙ sym at;
+      few = first.1.few;
+    }
 
 -- a walk on words that agree
 pub walks_same : (next next' : ℕ → ℕ) (bs : List ℕ) (from : ℕ) → ((b : ℕ) → Contains bs b → next' b ≡ next b) → Walks next from bs → Walks next' from bs

@@ -1,5 +1,5 @@
 -- What the blocks that a superblock begins tell of its role, and of the superblocks behind it.
-use Rattle.std.proofs.Common.{◌≡◌, ℕ, zero, ◌+◌, ◌*◌, ◌<◌, ◌≤◌, ◌⊎◌, inl, inr, List, [], ◌∷◌, length, get_or, refl, ap, sym, subst, ◌∙◌, arith}
+use Rattle.std.proofs.Common.{◌≡◌, ℕ, zero, ◌+◌, ◌*◌, ◌<◌, ◌≤◌, inl, inr, List, [], ◌∷◌, get_or, ap, sym, subst, ◌∙◌, arith}
 use Rattle.std.specs.List.{Contains}
 use Rattle.std.proofs.Math.Nat.{zero-mul}
 use Rattle.std.proofs.lemmas.Bool.{cases_lt}
@@ -9,8 +9,8 @@ use Rattle.heap_model.specs.Geometry.{start_word, superblock_words}
 use Rattle.heap_model.specs.Sizes.{IsClass, words_of_class, blocks_of}
 use Rattle.heap_model.specs.Words.{large_info}
 use Rattle.heap_model.specs.Blocks.{Layout, Begins, of_class, as_large, IsBlock, IsBlockOf}
-use Rattle.heap_model.specs.Recovered.{HasPartIn, IsFreeSuperblock, IsBlockOfClass, AreAscending}
-use Rattle.heap_model.specs.Recovery.{HoldsKept, IsSpare, IsPartial, IsFullyKept, IsInLarge}
+use Rattle.heap_model.specs.Recovered.{IsFreeSuperblock, IsBlockOfClass, AreAscending}
+use Rattle.heap_model.specs.Recovery.{HoldsKept, IsSpare}
 use Rattle.heap_model.proofs.BlockLemmas.{same_begins, block_begins, block_step}
 use Rattle.heap_model.proofs.SizeLemmas.{two_words, blocks_fit}
 use Rattle.heap_recover.specs.Marked.{KeepsBlocks, IsKeptAmong, IsSpareAmong, AreParted, IsKeptIn, GoOnTo}

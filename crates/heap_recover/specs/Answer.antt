@@ -4,7 +4,6 @@ use Rattle.heap_model.specs.declared.block.Block.{Block}
 use Rattle.heap_model.specs.Blocks.{layout_of}
 use Rattle.heap_model.specs.Recovered.{IsFreeSuperblock, AreAscending}
 use Rattle.heap_model.specs.Recovery.{IsRecovered}
-use Rattle.heap_recover.specs.declared.answer.Was.{Was}
 use Rattle.heap_recover.specs.declared.answer.Was.TheVariants.{Clean}
 use Rattle.heap_recover.specs.declared.answer.Recovered.{Recovered}
 

@@ -12,7 +12,7 @@ use Rattle.heap_model.specs.Recovery.{HasInfoAndAnchor, IsRechained, IsRecovered
 use Rattle.heap_model.specs.Chains.{Follows, Walks}
 use Rattle.heap_recover.specs.declared.roles.Role.{Role}
 use Rattle.heap_recover.specs.declared.roles.Role.TheVariants.{Free, Partial, Full, Large}
-use Rattle.heap_recover.specs.Marked.{IsKeptBelow, GoOnTo}
+use Rattle.heap_recover.specs.Marked.{IsKeptBelow}
 use Rattle.heap_recover.specs.Roles.{IsRole, IsMember}
 
 -- the words lead along the chain, and no other word changes

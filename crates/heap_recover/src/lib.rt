@@ -1,9 +1,10 @@
-//! Recovery: from any image to a heap at rest, in which exactly the blocks that the roots reach are held.
+//! Recovery: from any image to a heap at rest that holds exactly the blocks that its roots reach.
 #![tactic(auto)]
 
 mod answer;
 mod chains;
 mod fault;
+mod laws;
 mod lists;
 mod parts;
 mod passes;
@@ -14,4 +15,8 @@ mod surveys;
 
 pub use answer::{Recovered, Was};
 pub use fault::RecoverFault;
+pub use laws::reached_words_are_unchanged;
 pub use recovery::recover;
+
+#[cfg(test)]
+mod tests;

@@ -18,7 +18,8 @@ pub fn link_lists(
 ) -> Result<(), AllocError>
     requires long { length words.old ≡ image_words geometry.now.capacity }
     requires few { length roles.now ≤ geometry.now.capacity }
-    ensures ok { OnOk result (AreListed (slice_index words.old) (slice_index words.new) geometry.now.capacity roles.now lists) }
+    ensures ok { OnOk result (AreListed (slice_index words.old) (slice_index words.new)
+        geometry.now.capacity roles.now lists) }
 {
     for list in 0..LISTS as u8 {
         let members = members(alloc, roles, list)?;
@@ -47,7 +48,8 @@ fn link_list(words: &mut [u64], geometry: &Geometry, list: u8, ds: &[u32])
     requires list { list < lists }
     requires inside { All (λ d. d < geometry.now.capacity) ds.now }
     requires ascending { AllPairs (λ d e. d < e) ds.now }
-    ensures { IsLinked (slice_index words.old) (slice_index words.new) geometry.now.capacity list ds.now }
+    ensures { IsLinked (slice_index words.old) (slice_index words.new) geometry.now.capacity list
+        ds.now }
 {
     for i in 0..ds.len() {
         words[geometry.link(ds[i] as u64) as usize] = number_at(ds, i + 1);

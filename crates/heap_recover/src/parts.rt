@@ -26,7 +26,8 @@ pub fn part_blocks(
 ) -> Result<Parts, AllocError>
     requires superblock { d < geometry.now.capacity }
     requires class { IsClass class }
-    ensures ok { IfOk result (λ parts. AreParted (IsMarked marks.now) geometry.now.capacity class d (blocks_of class) parts.held.items parts.spares.items) }
+    ensures ok { IfOk result (λ parts. AreParted (IsMarked marks.now) geometry.now.capacity class d
+        (blocks_of class) parts.held.items parts.spares.items) }
 {
     let mut held = Vec::new(alloc);
     let mut spares = Vec::new(alloc);

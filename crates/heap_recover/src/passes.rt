@@ -34,7 +34,8 @@ pub fn rebuild(
     requires formed { IsWellFormed (8 * length old.now) (slice_index old.now) }
     requires copy { new.old ≡ old.now }
     requires keeps { KeepsBlocks (layout_of (slice_index old.now)) (IsMarked marks.now) }
-    ensures ok { IfOk result (λ found. IsRebuild (slice_index old.now) (slice_index new.new) (IsMarked marks.now) found.held.items found.roles.items) }
+    ensures ok { IfOk result (λ found. IsRebuild (slice_index old.now) (slice_index new.new)
+        (IsMarked marks.now) found.held.items found.roles.items) }
 {
     let geometry = Geometry::new(old[CAPACITY_WORD as usize]);
     let used = old[USED_WORD as usize];
@@ -57,7 +58,8 @@ fn rebuild_taken(
     requires capacity { geometry.now.capacity ≡ capacity_of (slice_index old.now) }
     requires copy { new.old ≡ old.now }
     requires keeps { KeepsBlocks (layout_of (slice_index old.now)) (IsMarked marks.now) }
-    ensures ok { IfOk result (λ found. AreDone (slice_index old.now) (slice_index new.new) (IsMarked marks.now) (used_of (slice_index old.now)) found.held.items found.roles.items) }
+    ensures ok { IfOk result (λ found. AreDone (slice_index old.now) (slice_index new.new)
+        (IsMarked marks.now) (used_of (slice_index old.now)) found.held.items found.roles.items) }
 {
     let mut held = Vec::new(alloc);
     let mut roles = Vec::new(alloc);
@@ -77,7 +79,8 @@ fn clear_rest(new: &mut [u64], geometry: &Geometry, used: u64)
     requires long { length new.old ≡ image_words geometry.now.capacity }
     requires capacity { capacity_of (slice_index new.old) ≡ geometry.now.capacity }
     requires used { used ≤ geometry.now.capacity }
-    ensures { AreCleared (slice_index new.old) (slice_index new.new) geometry.now.capacity used geometry.now.capacity }
+    ensures { AreCleared (slice_index new.old) (slice_index new.new) geometry.now.capacity used
+        geometry.now.capacity }
 {
     for d in used..geometry.capacity() {
         rebuild_superblock(new, geometry, d, Role::Free, &[]);

@@ -35,19 +35,27 @@ pub fn recover<F: Filter>(
 
     // the answer
     ensures held { IfOk result (λ answer. AreAscending (λ (b : Block). b.first_word)
-        (IsReached (slice_index words.now) (slice_index kinds.now) (F.links_of filter.now)) answer.heap.held) }
-    ensures free { IfOk result (λ answer. AreAscending (λ d. d) (IsFreeSuperblock (layout_of (slice_index words.now))
-        (IsReached (slice_index words.now) (slice_index kinds.now) (F.links_of filter.now))) answer.free.items) }
-    ensures was { IfOk result (λ answer. (answer.was ≡ Was.Clean) ↔ (state_of (slice_index words.now) ≡ clean)) }
+        (IsReached (slice_index words.now) (slice_index kinds.now) (F.links_of filter.now))
+        answer.heap.held) }
+    ensures free { IfOk result (λ answer. AreAscending (λ d. d)
+        (IsFreeSuperblock (layout_of (slice_index words.now))
+        (IsReached (slice_index words.now) (slice_index kinds.now) (F.links_of filter.now)))
+        answer.free.items) }
+    ensures was { IfOk result (λ answer.
+        (answer.was ≡ Was.Clean) ↔ (state_of (slice_index words.now) ≡ clean)) }
     ensures long { IfOk result (λ answer. length answer.heap.words ≡ length words.now) }
-    ensures words { IfOk result (λ answer. IsRecovered (slice_index words.now) (slice_index answer.heap.words)
+    ensures words { IfOk result (λ answer. IsRecovered (slice_index words.now)
+        (slice_index answer.heap.words)
         (IsReached (slice_index words.now) (slice_index kinds.now) (F.links_of filter.now))) }
 
     // when it comes, and what comes else
     ensures formed { OnOk result (IsWellFormed (8 * length words.now) (slice_index words.now)) }
-    ensures none { OnOk result ((at : ℕ) → IsOutside (slice_index words.now) (slice_index kinds.now) (F.links_of filter.now) at → ⊥) }
-    ensures cause { IfErr result (TellsFault (8 * length words.now) (slice_index words.now) (slice_index kinds.now) (F.links_of filter.now)) }
-    ensures header { (cause : BadHeader) → header_fault (8 * length words.now) (slice_index words.now) ≡ Some cause
+    ensures none { OnOk result ((at : ℕ) → IsOutside (slice_index words.now)
+        (slice_index kinds.now) (F.links_of filter.now) at → ⊥) }
+    ensures cause { IfErr result (TellsFault (8 * length words.now) (slice_index words.now)
+        (slice_index kinds.now) (F.links_of filter.now)) }
+    ensures header { (cause : BadHeader)
+        → header_fault (8 * length words.now) (slice_index words.now) ≡ Some cause
         → result ≡ Err (RecoverFault.Header cause) }
 {
     let header = read_header(words)?;

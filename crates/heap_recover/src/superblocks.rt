@@ -24,7 +24,8 @@ pub fn rebuild_superblock(
     requires superblock { d < geometry.now.capacity }
     requires info { HasInfo (slice_index words.old (info_word d)) role }
     requires spares { HasSpares geometry.now.capacity d spares.now role }
-    ensures { IsRebuilt (slice_index words.old) (slice_index words.new) geometry.now.capacity d role spares.now }
+    ensures { IsRebuilt (slice_index words.old) (slice_index words.new)
+        geometry.now.capacity d role spares.now }
 {
     link_chain(words, spares);
     write_descriptor(

@@ -69,7 +69,8 @@ pub fn survey_superblock(
 
 /// The survey of a superblock of the class with these blocks.
 fn survey_parts(alloc: Global, class: u8, parts: Parts, end: u64) -> Survey
-    ensures role { RoleOfParts class parts.held.items parts.spares.items result.role result.spares.items }
+    ensures role { RoleOfParts class parts.held.items parts.spares.items
+        result.role result.spares.items }
     ensures held { result.held.items ≡ parts.held.items }
     ensures end { result.end ≡ end }
 {

@@ -1,4 +1,4 @@
-use Rattle.std.proofs.Common.{◌≡◌, ◌<◌, List, ℕ, All, AllPairs, slice_index, sym, subst, arith}
+use Rattle.std.proofs.Common.{◌<◌, All, AllPairs, slice_index, sym, subst, arith}
 use Rattle.heap_model.specs.Recovered.{AreAscending}
 use Rattle.heap_recover.specs.Roles.{IsMember}
 use Rattle.heap_recover.proofs.ListLemmas.{listed_more, members_inside}

@@ -1,4 +1,4 @@
-use Rattle.std.proofs.Common.{◌≡◌, ◌+◌, ◌++◌, List, [], ◌∷◌, Some, ap, sym, subst, ◌∙◌}
+use Rattle.std.proofs.Common.{◌+◌, ap, sym, subst, ◌∙◌}
 use Rattle.heap_model.specs.Recovered.{AreAscending}
 use Rattle.heap_recover.proofs.ListLemmas.{IsMemberAmong, members_push, members_skip, members_all, option_is, option_not, member_here, no_member}
 use Rattle.heap_recover.proofs.lists.members.Goals as goal

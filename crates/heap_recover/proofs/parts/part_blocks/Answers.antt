@@ -1,4 +1,4 @@
-use Rattle.std.proofs.Common.{◌≡◌, ◌+◌, ◌++◌, List, [], ◌∷◌, subst, sym, ap, ◌∙◌}
+use Rattle.std.proofs.Common.{◌+◌, ◌++◌, [], ◌∷◌, subst, sym, ap, ◌∙◌}
 use Rattle.heap_recover.specs.Marked.{IsMarked, AreParted}
 use Rattle.heap_recover.proofs.PartLemmas.{parted_held, parted_spare, marked_if, unmarked_if}
 use Rattle.heap_recover.proofs.parts.part_blocks.Goals as goal

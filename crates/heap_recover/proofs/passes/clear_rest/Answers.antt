@@ -1,6 +1,6 @@
 use Rattle.std.proofs.Common.{◌≡◌, slice_index, subst, arith}
 use Rattle.heap_recover.specs.Rebuilt.{AreCleared}
-use Rattle.heap_recover.proofs.PassLemmas.{cleared_none, cleared_next}
+use Rattle.heap_recover.proofs.PassLemmas.{cleared_next}
 use Rattle.heap_recover.proofs.passes.clear_rest.Goals as goal
 
 pub loop-d-preserved : goal.loop-d-preserved

@@ -1,4 +1,4 @@
-use Rattle.std.proofs.Common.{◌≡◌, slice_index}
+use Rattle.std.proofs.Common.{slice_index}
 use Rattle.heap_recover.specs.Rebuilt.{AreCleared}
 use Rattle.heap_recover.proofs.passes.clear_rest.Given as goal
 

@@ -1,6 +1,6 @@
-use Rattle.std.proofs.Common.{◌≡◌, ◌≢◌, ◌<◌, ℕ, set, length, slice_index, ap, sym, subst, ◌∙◌, arith}
+use Rattle.std.proofs.Common.{set, length, slice_index, ap, sym, subst, ◌∙◌, arith}
 use Rattle.std.proofs.lemmas.List.{get_or-set_same, get_or-set_other}
-use Rattle.heap_model.specs.Header.{capacity_of, used_of}
+use Rattle.heap_model.specs.Header.{used_of}
 use Rattle.heap_recover.specs.Marked.{IsMarked}
 use Rattle.heap_recover.specs.Rebuilt.{AreCleared, AreListed}
 use Rattle.heap_recover.proofs.PassLemmas.{done_capacity}

@@ -1,11 +1,7 @@
-use Rattle.std.proofs.Common.{◌≡◌, ◌≤◌, ◌<◌, ◌+◌, ◌++◌, List, [], ◌∷◌, ℕ, slice_index, ap, sym, subst, ◌∙◌, arith}
-use Rattle.heap_model.specs.declared.block.Block.{Block}
-use Rattle.heap_model.specs.Geometry.{info_word}
-use Rattle.heap_model.specs.Header.{capacity_of, used_of}
+use Rattle.std.proofs.Common.{◌+◌, ◌++◌, [], slice_index, ap, sym, subst, ◌∙◌, arith}
+use Rattle.heap_model.specs.Header.{capacity_of}
 use Rattle.heap_model.specs.Blocks.{layout_of}
-use Rattle.heap_recover.specs.declared.roles.Role.{Role}
 use Rattle.heap_recover.specs.Marked.{IsMarked}
-use Rattle.heap_recover.specs.Roles.{IsRole}
 use Rattle.heap_recover.specs.Rebuilt.{HasInfo, HasSpares, IsRebuilt, AreDone}
 use Rattle.heap_recover.proofs.PassLemmas.{done_none, goes_on_none, done_next, done_capacity, done_info, role_spares}
 use Rattle.heap_recover.proofs.passes.rebuild_taken.Goals as goal

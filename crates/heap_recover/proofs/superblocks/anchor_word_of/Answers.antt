@@ -1,44 +1,34 @@
-use Rattle.std.proofs.Common.{◌≡◌, ◌<◌, ◌≤◌, ◌+◌, ◌-◌, ◌*◌, ◌/◌, ◌^◌, slice_index, arith, ap, sym, subst, ◌∙◌}
-use Rattle.heap_model.specs.Geometry.{start_word}
-use Rattle.heap_model.specs.Sizes.{words_of_class}
-use Rattle.heap_model.proofs.SizeLemmas.{two_words, few_blocks}
+use Rattle.std.proofs.Common.{◌-◌, ◌/◌, slice_index, arith, ap, sym, subst, ◌∙◌}
 use Rattle.super_block.proofs.DivisionLemmas.{words_from_size}
+use Rattle.heap_model.proofs.SizeLemmas.{two_words}
 use Rattle.heap_recover.specs.declared.roles.Role.{Role}
-use Rattle.heap_recover.specs.Rebuilt.{HasSpares, IsAnchorOf, AreSpares}
-use Rattle.heap_recover.proofs.SuperblockLemmas.{first_spare}
+use Rattle.heap_recover.specs.Rebuilt.{IsAnchorOf}
+use Rattle.heap_recover.proofs.SuperblockLemmas.{of_partial, first_spare, found_first}
 use Rattle.heap_recover.proofs.superblocks.anchor_word_of.Goals as goal
 
 pub overflow_sub-spares : goal.overflow_sub-spares
 overflow_sub-spares c =
-    let are : AreSpares c.args.geometry.now.capacity c.in-Partial.class c.args.d c.args.spares.now = subst (λ (r : Role). HasSpares c.args.geometry.now.capacity c.args.d c.args.spares.now r) c.in-Partial.is c.requires.spares in
+    let are = of_partial c.args.geometry.now.capacity c.args.d c.in-Partial.class c.args.spares.now c.args.role c.in-Partial.is c.requires.spares in
     let first = first_spare c.args.geometry.now.capacity c.in-Partial.class c.args.d c.args.spares.now (omega arith) (omega arith) are in
     omega (arith, first.1.at, c.start.ensures)
 
 pub nonzero_div-spares : goal.nonzero_div-spares
 nonzero_div-spares c =
-    let are : AreSpares c.args.geometry.now.capacity c.in-Partial.class c.args.d c.args.spares.now = subst (λ (r : Role). HasSpares c.args.geometry.now.capacity c.args.d c.args.spares.now r) c.in-Partial.is c.requires.spares in
-    let words : c.size_of.result / 8 ≡ words_of_class c.in-Partial.class = ap (λ x. x / 8) c.size_of.ensures ∙ words_from_size c.in-Partial.class are.is_class in
+    let are = of_partial c.args.geometry.now.capacity c.args.d c.in-Partial.class c.args.spares.now c.args.role c.in-Partial.is c.requires.spares in
+    let words = ap (λ x. x / 8) c.size_of.ensures ∙ words_from_size c.in-Partial.class are.is_class in
     omega (arith, words, two_words c.in-Partial.class are.is_class)
 
 pub pack-requires-in-Partial : goal.pack-requires-in-Partial
 pack-requires-in-Partial c =
-    let are : AreSpares c.args.geometry.now.capacity c.in-Partial.class c.args.d c.args.spares.now = subst (λ (r : Role). HasSpares c.args.geometry.now.capacity c.args.d c.args.spares.now r) c.in-Partial.is c.requires.spares in
-    let first = first_spare c.args.geometry.now.capacity c.in-Partial.class c.args.d c.args.spares.now (omega arith) (omega arith) are in
-    let words : c.size_of.result / 8 ≡ words_of_class c.in-Partial.class = ap (λ x. x / 8) c.size_of.ensures ∙ words_from_size c.in-Partial.class are.is_class in
-    let quotient : (slice_index c.args.spares.now 0 - c.start.result) / (c.size_of.result / 8) ≡ first.0 =
-    ap (λ x. (slice_index c.args.spares.now 0 - x) / (c.size_of.result / 8)) c.start.ensures ∙ ap (λ w. (slice_index c.args.spares.now 0 - start_word c.args.geometry.now.capacity c.args.d) / w) words ∙ first.1.quotient in
-    record { first = subst (λ x. x < 2 ^ 31) (sym quotient) (omega (arith, first.1.below, few_blocks c.in-Partial.class are.is_class)); count = first.1.few }
+    let are = of_partial c.args.geometry.now.capacity c.args.d c.in-Partial.class c.args.spares.now c.args.role c.in-Partial.is c.requires.spares in
+    let words = ap (λ x. x / 8) c.size_of.ensures ∙ words_from_size c.in-Partial.class are.is_class in
+    let first = found_first c.args.geometry.now.capacity c.in-Partial.class c.args.d c.args.spares.now c.start.result (c.size_of.result / 8) (omega arith) (omega arith) are c.start.ensures words in
+    record { first = first.below; count = first.few }
 
 pub returns-in-Partial : goal.returns-in-Partial
 returns-in-Partial c =
-    let are : AreSpares c.args.geometry.now.capacity c.in-Partial.class c.args.d c.args.spares.now = subst (λ (r : Role). HasSpares c.args.geometry.now.capacity c.args.d c.args.spares.now r) c.in-Partial.is c.requires.spares in
-    let first = first_spare c.args.geometry.now.capacity c.in-Partial.class c.args.d c.args.spares.now (omega arith) (omega arith) are in
-    let words : c.size_of.result / 8 ≡ words_of_class c.in-Partial.class = ap (λ x. x / 8) c.size_of.ensures ∙ words_from_size c.in-Partial.class are.is_class in
-    let quotient : (slice_index c.args.spares.now 0 - c.start.result) / (c.size_of.result / 8) ≡ first.0 =
-    ap (λ x. (slice_index c.args.spares.now 0 - x) / (c.size_of.result / 8)) c.start.ensures ∙ ap (λ w. (slice_index c.args.spares.now 0 - start_word c.args.geometry.now.capacity c.args.d) / w) words ∙ first.1.quotient in
+    let are = of_partial c.args.geometry.now.capacity c.args.d c.in-Partial.class c.args.spares.now c.args.role c.in-Partial.is c.requires.spares in
+    let words = ap (λ x. x / 8) c.size_of.ensures ∙ words_from_size c.in-Partial.class are.is_class in
+    let first = found_first c.args.geometry.now.capacity c.in-Partial.class c.args.d c.args.spares.now c.start.result (c.size_of.result / 8) (omega arith) (omega arith) are c.start.ensures words in
     subst (λ (r : Role). IsAnchorOf c.args.geometry.now.capacity c.args.d c.args.spares.now c.pack-in-Partial.result r) (sym c.in-Partial.is)
-    (record {
-      first = (slice_index c.args.spares.now 0 - c.start.result) / (c.size_of.result / 8);
-      is = c.pack-in-Partial.ensures;
-      begins = ap (λ i. start_word c.args.geometry.now.capacity c.args.d + i * words_of_class c.in-Partial.class) quotient ∙ sym first.1.at;
-    })
+    (record { first = (slice_index c.args.spares.now 0 - c.start.result) / (c.size_of.result / 8); is = c.pack-in-Partial.ensures; begins = first.begins })

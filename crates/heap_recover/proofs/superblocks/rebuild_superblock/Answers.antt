@@ -1,4 +1,4 @@
-use Rattle.std.proofs.Common.{◌≡◌, ◌<◌, length, slice_index, All, subst, sym}
+use Rattle.std.proofs.Common.{◌<◌, slice_index, All, subst, sym}
 use Rattle.heap_recover.proofs.SuperblockLemmas.{described, rebuilt, spares_fit, spares_ascend}
 use Rattle.heap_recover.proofs.superblocks.rebuild_superblock.Goals as goal
 

@@ -1,5 +1,5 @@
-use Rattle.std.proofs.Common.{◌≡◌, ◌≤◌, ◌+◌, ◌*◌, ℕ, slice_index, arith, ap, sym, subst, ◌∙◌}
-use Rattle.heap_model.specs.Geometry.{info_word, start_word}
+use Rattle.std.proofs.Common.{◌≤◌, ◌+◌, ◌*◌, slice_index, arith, ap, sym, subst, ◌∙◌}
+use Rattle.heap_model.specs.Geometry.{start_word}
 use Rattle.heap_model.specs.Sizes.{IsClass, blocks_of}
 use Rattle.heap_model.specs.Blocks.{layout_of}
 use Rattle.super_block.proofs.DivisionLemmas.{nothing_begins, past_the_end}

@@ -1,0 +1,305 @@
+ghost use Rattle.std.specs.Prelude.{◌≡◌, ◌<◌, length, slice_get, IfOk};
+ghost use Rattle.std.specs.List.{All};
+ghost use Rattle.heap_model.specs.Geometry.{roots};
+ghost use Rattle.heap_recover.specs.PairLinks.{one_link};
+
+use super::*;
+use filter_trace::Filter;
+use heap_model::BadHeader;
+use std::alloc::{AllocError, Global};
+use std::test::Fail;
+use super_block::{Block, CLEAN, MAGIC, VERSION};
+
+/// Pairs, whose first link is in word 0 (kind 2), or second in word 2 (kind 1).
+struct Pairs;
+
+impl Filter for Pairs {
+    const KINDS: u32 = 3;
+
+    ghost use Rattle.heap_recover.specs.PairLinks.{pair_links, pair_links-inside, pair_links-few};
+
+    ghost KINDS = { 3 };
+
+    ghost links_of = { λ _. pair_links };
+
+    fn links(&self, kind: u32, block: &[u64], at: usize) -> Option<(usize, u32)> {
+        match kind {
+            1 => link_in(2, block, at),
+            2 => link_in(0, block, at),
+            _ => None,
+        }
+    }
+
+    ghost inside = { λ _. pair_links-inside };
+
+    ghost few = { λ _. pair_links-few };
+}
+
+/// The one link, in that word of the block.
+fn link_in(word: usize, block: &[u64], at: usize) -> Option<(usize, u32)>
+    ensures { result ≡ slice_get (one_link word block.now) at }
+{
+    if at == 0 && word < block.len() {
+        Some((word, 0))
+    } else {
+        None
+    }
+}
+
+/// The kinds of the roots: a pair for its first link, and for its second; 0 for the others.
+fn kinds(alloc: Global) -> Result<Vec<u32>, AllocError>
+    ensures long { IfOk result (λ kinds. length kinds.items ≡ roots) }
+    ensures below { IfOk result (λ kinds. All (λ kind. kind < 3) kinds.items) }
+{
+    let mut kinds = vec![in alloc; 0; 1_024]?;
+    kinds[0] = 2;
+    kinds[1] = 1;
+    Ok(kinds)
+}
+
+/// Recovers a clean image of so many superblocks, all of them taken, with these words.
+fn recovered(
+    alloc: Global,
+    capacity: usize,
+    words: &[(usize, u64)],
+) -> Result<Recovered, RecoverFault>
+    requires { capacity < 3 }
+{
+    let mut image = vec![in alloc; 0; 1_064 + 8_200 * capacity]?;
+    let header = [
+        (0, MAGIC),
+        (1, VERSION),
+        (2, capacity as u64),
+        (3, CLEAN),
+        (8, capacity as u64),
+    ];
+    write(&mut image, &header);
+    write(&mut image, words);
+    let kinds = kinds(alloc)?;
+    recover(alloc, &image, &kinds, &Pairs)
+}
+
+/// Writes words into an image.
+fn write(image: &mut [u64], words: &[(usize, u64)]) {
+    for (at, value) in words {
+        if *at < image.len() {
+            image[*at] = *value;
+        }
+    }
+}
+
+/// Whether the heap has these words.
+fn has_words(heap: &Recovered, words: &[(usize, u64)]) -> bool {
+    for (at, value) in words {
+        if heap.heap.words().get(*at) != Some(value) {
+            return false;
+        }
+    }
+    true
+}
+
+// Root 8, and pointers to the first superblock's blocks 0 to 3 of class 20, whose first words are
+// 1072, 2864, 4656 and 6448.
+const CLASS_20: (usize, u64) = (1_064, 20);
+
+const FIRST: (usize, u64) = (48, 0x5250_0000_0000_2180);
+
+const SECOND: (usize, u64) = (49, 0x5250_0000_0000_5980);
+
+const THIRD: (usize, u64) = (50, 0x5250_0000_0000_9180);
+
+const FOURTH: (usize, u64) = (51, 0x5250_0000_0000_c980);
+
+#[test]
+fn blocks_reached_with_two_kinds_are_held_once(rt: HostRuntime) -> Result<(), Fail> {
+    let words = [
+        (1_064, 2),
+        (40, 0x5250_0000_0000_2180),
+        (41, 0x5250_0000_0000_2180),
+        (1_072, 0x5250_0000_0000_21a0),
+        (1_074, 0x5250_0000_0000_21c0),
+    ];
+    let found = recovered(rt.alloc(), 1, &words)?;
+    let held = [1_072, 1_076, 1_080].map(|first_word| Block {
+        first_word,
+        words: 4,
+    });
+    assert_eq!(rt; found.heap.held(), held.as_slice());
+    assert!(rt; has_words(&found, &[(1_065, 17_566_416_240_653)]));
+    assert!(rt; found.free.is_empty());
+    assert_eq!(rt; found.was, Was::Clean);
+    Ok(())
+}
+
+#[test]
+fn a_block_kept_of_a_partial_superblock_leaves_the_others_chained(
+    rt: HostRuntime,
+) -> Result<(), Fail> {
+    let words = [(8, 1), (1_064, 4), (48, 0x5250_0000_0000_21c0)];
+    let found = recovered(rt.alloc(), 2, &words)?;
+    let left = [
+        (3, 2),
+        (8, 1),
+        (20, 1),
+        (1_064, 4),
+        (1_065, 8_787_503_087_621),
+        (1_066, 0),
+        (1_088, 1_096),
+    ];
+    assert!(rt; has_words(&found, &left));
+    Ok(())
+}
+
+#[test]
+fn a_superblock_is_chained_around_its_kept_blocks(rt: HostRuntime) -> Result<(), Fail> {
+    let marked = |root| [
+        CLASS_20,
+        (2_864, 7),
+        (4_656, 7),
+        (6_448, 7),
+        (1_065, 9),
+        root,
+    ];
+    for (root, left) in [
+        (
+            FIRST,
+            [
+                (1_065, 25_769_803_781),
+                (36, 1),
+                (2_864, 4_656),
+                (4_656, 6_448),
+                (6_448, 7),
+            ],
+        ),
+        (
+            SECOND,
+            [
+                (1_065, 25_769_803_777),
+                (36, 1),
+                (1_072, 4_656),
+                (4_656, 6_448),
+                (6_448, 7),
+            ],
+        ),
+        (
+            FOURTH,
+            [
+                (1_065, 25_769_803_777),
+                (36, 1),
+                (1_072, 2_864),
+                (2_864, 4_656),
+                (4_656, 7),
+            ],
+        ),
+        (
+            (52, 0),
+            [(1_064, 0), (1_065, 0), (16, 1), (36, 0), (2_864, 7)],
+        ),
+    ] {
+        let found = recovered(rt.alloc(), 1, &marked(root))?;
+        assert!(rt; has_words(&found, &left), "{root:?}");
+    }
+    Ok(())
+}
+
+#[test]
+fn a_superblock_that_is_all_kept_is_in_no_list(rt: HostRuntime) -> Result<(), Fail> {
+    let words = [
+        CLASS_20,
+        FIRST,
+        SECOND,
+        THIRD,
+        FOURTH,
+        (36, 1),
+        (1_066, 2),
+        (1_072, 5),
+    ];
+    let found = recovered(rt.alloc(), 1, &words)?;
+    let left = [
+        (16, 0),
+        (36, 0),
+        (1_064, 20),
+        (1_065, 2),
+        (1_066, 0),
+        (1_072, 5),
+    ];
+    assert!(rt; has_words(&found, &left));
+    assert_eq!(rt; found.heap.held().len(), 4);
+    Ok(())
+}
+
+#[test]
+fn superblocks_of_a_class_are_listed_from_the_lowest(rt: HostRuntime) -> Result<(), Fail> {
+    // Of two superblocks of class 20, the first blocks are kept, which begin at 1080 and 9272.
+    let words = [
+        CLASS_20,
+        (1_072, 20),
+        (48, 0x5250_0000_0000_21c0),
+        (49, 0x5250_0000_0001_21c0),
+    ];
+    let found = recovered(rt.alloc(), 2, &words)?;
+    assert!(rt; has_words(&found, &[(36, 1), (1_066, 2), (1_074, 0)]));
+    Ok(())
+}
+
+#[test]
+fn a_large_block_is_kept_beside_one_that_is_freed(rt: HostRuntime) -> Result<(), Fail> {
+    let words = [(1_064, 511), (1_072, 511), (48, 0x5250_0000_0001_21c0)];
+    let found = recovered(rt.alloc(), 2, &words)?;
+    let left = [
+        (16, 1),
+        (1_064, 0),
+        (1_065, 0),
+        (1_066, 0),
+        (1_072, 511),
+        (1_073, 2),
+    ];
+    assert!(rt; has_words(&found, &left));
+    assert_eq!(rt; found.free.as_slice(), [0].as_slice());
+    Ok(())
+}
+
+#[test]
+fn a_large_block_of_two_superblocks_is_kept_whole(rt: HostRuntime) -> Result<(), Fail> {
+    let root = (48, 0x5250_0000_0000_21c0);
+    let outside = recovered(rt.alloc(), 2, &[(1_064, 767), (1_072, 4), root]).err();
+    let fault = RecoverFault::Outside {
+        at: 48,
+        value: 0x5250_0000_0000_21c0,
+    };
+    assert_eq!(rt; outside, Some(fault));
+    let found = recovered(rt.alloc(), 2, &[(1_064, 767), root])?;
+    let block = Block {
+        first_word: 1_080,
+        words: 16_384,
+    };
+    assert_eq!(rt; found.heap.held(), [block].as_slice());
+    assert!(rt;
+        has_words(
+            &found,
+            &[(16, 0), (1_064, 767), (1_065, 2), (1_072, 0), (1_073, 2)]
+        )
+    );
+    Ok(())
+}
+
+#[test]
+fn the_first_cause_of_a_bad_header_is_told(rt: HostRuntime) {
+    // A root that leads outside does not matter then.
+    for (words, cause) in [
+        ([(0, 1), (3, 0)], BadHeader::Magic),
+        ([(2, 2), (3, 0)], BadHeader::Length),
+        ([(3, 0), (8, 2)], BadHeader::State),
+        ([(8, 2), (40, 7)], BadHeader::Used),
+    ] {
+        let fault = recovered(rt.alloc(), 1, &words).err();
+        assert_eq!(rt; fault, Some(RecoverFault::Header(cause)), "{words:?}");
+    }
+}
+
+#[test]
+fn an_image_left_open_is_told(rt: HostRuntime) -> Result<(), Fail> {
+    assert_eq!(rt; recovered(rt.alloc(), 1, &[(3, 2)])?.was, Was::Dirty);
+    assert_eq!(rt; recovered(rt.alloc(), 1, &[(3, 1)])?.was, Was::Clean);
+    Ok(())
+}
