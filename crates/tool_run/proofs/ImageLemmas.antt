@@ -123,7 +123,7 @@ is_refused contents name got shown with_map get_failed (OutsideFound at value) f
     let here : PointsOutside (image_of_bytes got) at = subst (λ (l : List ℕ). PointsOutside (image_of_bytes l) at) are why.0 in
     let there : value ≡ image_of_bytes got at = why.1 ∙ ap (λ (l : List ℕ). image_of_bytes l at) are in
     subst (λ (f : Fault). Refuses (show_image name with_map) contents get_failed f) (sym is)
-        (tt, record { bytes = got; is_there = whole.is_there; good = whole.good; points = here; value_is = there })
+    (tt, record { bytes = got; is_there = whole.is_there; good = whole.good; points = here; value_is = there })
 
 -- a test that holds exactly where two numbers are equal
 same_test : (was : Was) (m n : ℕ) → (was ≡ Clean) ↔ (m ≡ n) → is_clean was ≡ nat_eq m n

@@ -63,7 +63,7 @@ module _ (p d q v h w lf : List ℕ) (old mid late new : Option (List ℕ)) (num
   in_second_pair first part =
       let started : mid ≡ taken_with old (p ++ d) = first ∙ ap (λ (l : List ℕ). taken_with old (p ++ l)) number_is in
       same_part ((p ++ d) ++ ((v ++ h) ++ lf)) _ old new whole_line
-          (part_of_next (p ++ d) ((v ++ h) ++ lf) old mid new started (part_of_first (v ++ h) lf mid new (same_part (v ++ w) (v ++ h) mid new (ap (λ (l : List ℕ). v ++ l) word_is) part)))
+      (part_of_next (p ++ d) ((v ++ h) ++ lf) old mid new started (part_of_first (v ++ h) lf mid new (same_part (v ++ w) (v ++ h) mid new (ap (λ (l : List ℕ). v ++ l) word_is) part)))
 
   -- where the end was
   pub in_end : mid ≡ taken_with old (p ++ q) → late ≡ taken_with mid (v ++ w) → TakesPart lf late new → TakesPart (p ++ d ++ v ++ h ++ lf) old new
@@ -71,7 +71,7 @@ module _ (p d q v h w lf : List ℕ) (old mid late new : Option (List ℕ)) (num
       let started : mid ≡ taken_with old (p ++ d) = first ∙ ap (λ (l : List ℕ). taken_with old (p ++ l)) number_is in
       let followed : late ≡ taken_with mid (v ++ h) = second ∙ ap (λ (l : List ℕ). taken_with mid (v ++ l)) word_is in
       same_part ((p ++ d) ++ ((v ++ h) ++ lf)) _ old new whole_line
-          (part_of_next (p ++ d) ((v ++ h) ++ lf) old mid new started (part_of_next (v ++ h) lf mid late new followed part))
+      (part_of_next (p ++ d) ((v ++ h) ++ lf) old mid new started (part_of_next (v ++ h) lf mid late new followed part))
 
   -- where all was written
   pub all_taken : mid ≡ taken_with old (p ++ q) → late ≡ taken_with mid (v ++ w) → new ≡ taken_with late lf → new ≡ taken_with old (p ++ d ++ v ++ h ++ lf)

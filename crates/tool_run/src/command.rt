@@ -31,9 +31,7 @@ pub fn parse(words: &[String]) -> Option<Invocation<'_>>
     ensures none { IfNone result (IsUsage (texts words.now)) }
 {
     match words {
-        [command, image, last] => {
-            parse_three(command.as_str(), image.as_str(), last.as_str())
-        }
+        [command, image, last] => { parse_three(command.as_str(), image.as_str(), last.as_str()) }
         [command, image] => parse_show(command.as_str(), image.as_str()),
         _ => None,
     }
@@ -56,7 +54,10 @@ fn parse_show_map<'a>(image: &'a str, option: &str) -> Option<Invocation<'a>>
     ensures none { IfNone result (IsUsage (codes "show" ∷ image.now ∷ option.now ∷ [])) }
 {
     if option == "--map" && is_image_name(image) {
-        Some(Invocation::Show { image, with_map: true })
+        Some(Invocation::Show {
+            image,
+            with_map: true,
+        })
     } else {
         None
     }
@@ -82,7 +83,10 @@ fn parse_show<'a>(command: &str, image: &'a str) -> Option<Invocation<'a>>
     ensures none { IfNone result (IsUsage (command.now ∷ image.now ∷ [])) }
 {
     if command == "show" && is_image_name(image) {
-        Some(Invocation::Show { image, with_map: false })
+        Some(Invocation::Show {
+            image,
+            with_map: false,
+        })
     } else {
         None
     }

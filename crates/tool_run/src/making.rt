@@ -96,11 +96,7 @@ fn recover_bytes(alloc: Global, bytes: &[u8]) -> Result<Recovered, RecoverFault>
 }
 
 // The report on a recovered heap, and its map where that is asked for.
-fn recovered_text(
-    alloc: Global,
-    recovered: &Recovered,
-    with_map: bool,
-) -> Result<Bytes, AllocError>
+fn recovered_text(alloc: Global, recovered: &Recovered, with_map: bool) -> Result<Bytes, AllocError>
     ensures ok { IfOk result (λ text. text ≡ text_of recovered.now with_map) }
 {
     let report = report_text(alloc, recovered)?;

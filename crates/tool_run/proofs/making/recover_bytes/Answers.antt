@@ -9,7 +9,7 @@ recover-requires-clause-kinds c = small_kinds c.root_kinds.result c.root_kinds.e
 pub returns-clause-ok : goal.returns-clause-ok
 returns-clause-ok c =
     recovery_of c.deref.result.now c.root_kinds.result c.args.bytes.now c.root_kinds.ensures (subst (λ (l : List ℕ). AreWordsOf l c.args.bytes.now) (sym c.deref.ensures.value) c.in_ok-words.ensures.ok) c.recover.result
-        c.recover.ensures.held c.recover.ensures.free c.recover.ensures.words c.recover.ensures.was
+    c.recover.ensures.held c.recover.ensures.free c.recover.ensures.words c.recover.ensures.was
 
 pub returns-clause-none : goal.returns-clause-none
 returns-clause-none c = none_outside c.deref.result.now c.root_kinds.result c.args.bytes.now c.root_kinds.ensures (subst (λ (l : List ℕ). AreWordsOf l c.args.bytes.now) (sym c.deref.ensures.value) c.in_ok-words.ensures.ok) c.recover.result c.recover.ensures.none
