@@ -1,6 +1,8 @@
--- What a superblock is used for that is not free and whose info says nothing.
-use Rattle.std.proofs.Common.{◌≡◌, ℕ, ◌+◌, ◌*◌, ◌/◌, ◌%◌, ◌≤◌, Bool, true, false, nat_eq, nat_le, ◌&&◌, List, refl, arith, leb-true, eqb-true}
+-- What a superblock is used for, by whether it is free and by its info.
+use Rattle.std.proofs.Common.{◌≡◌, ℕ, ◌+◌, ◌*◌, ◌/◌, ◌%◌, ◌≤◌, Bool, true, false, nat_eq, nat_le, ◌&&◌, List, codes, refl, ap, arith, leb-true, eqb-true}
+use Rattle.std.proofs.lemmas.Bool.{le-leb, eq-eqb}
 use Rattle.std.specs.List.{list_any}
+use Rattle.trace_text.proofs.OrderLemmas.{both}
 use Rattle.heap_model.specs.declared.block.Block.{Block}
 use Rattle.heap_model.specs.Geometry.{info_word}
 use Rattle.heap_model.specs.Header.{capacity_of}
@@ -8,7 +10,7 @@ use Rattle.heap_model.specs.Image.{Image}
 use Rattle.heap_model.specs.Sizes.{IsClass}
 use Rattle.super_block.specs.declared.info.Info.TheVariants.{Nothing}
 use Rattle.super_block.specs.Info.{Says}
-use Rattle.trace_text.specs.HeapMap.{is_class, is_large, use_of, inside_use, first_of}
+use Rattle.trace_text.specs.HeapMap.{is_class, is_large, use_of, class_use, large_use, inside_use, first_of}
 
 first_holds : (s t : Bool) → (s && t) ≡ true → s ≡ true
 first_holds true t h = refl
@@ -22,7 +24,7 @@ not_true : (t : Bool) → (t ≡ true → ⊥) → t ≡ false
 not_true true never = absurd (never refl)
 not_true false never = refl
 
-no_class : (w : ℕ) → (IsClass w → ⊥) → is_class w ≡ false
+pub no_class : (w : ℕ) → (IsClass w → ⊥) → is_class w ≡ false
 no_class w none = not_true (is_class w) (λ h.
     none (record {
       some = leb-true 1 w (first_holds (nat_le 1 w) (nat_le w 20) h);
@@ -40,3 +42,24 @@ pub use_of-inside : (image : Image) (held : List Block) (free : List ℕ) (d : �
     → Says (image (info_word d)) Nothing → use_of image held free d ≡ inside_use (first_of (capacity_of image) d held)
 use_of-inside image held free d taken says =
     rw (taken, no_class (image (info_word d)) says.0, not_large (image (info_word d)) says.1) refl
+
+-- the other uses
+pub use_of-free : (image : Image) (held : List Block) (free : List ℕ) (d : ℕ) → list_any (λ f. nat_eq f d) free ≡ true → use_of image held free d ≡ codes "free"
+use_of-free image held free d listed = rw listed refl
+
+pub use_of-class : (image : Image) (held : List Block) (free : List ℕ) (d : ℕ) → list_any (λ f. nat_eq f d) free ≡ false
+    → IsClass (image (info_word d)) → use_of image held free d ≡ class_use (capacity_of image) (image (info_word d)) held d
+use_of-class image held free d taken is =
+    let test : is_class (image (info_word d)) ≡ true =
+    both (nat_le 1 (image (info_word d))) (nat_le (image (info_word d)) 20) (le-leb _ _ is.some) (le-leb _ _ is.last) in
+    rw (taken, test) refl
+
+pub use_of-large : (image : Image) (held : List Block) (free : List ℕ) (d superblocks : ℕ) → list_any (λ f. nat_eq f d) free ≡ false
+    → 1 ≤ superblocks → image (info_word d) ≡ 255 + 256 * superblocks → use_of image held free d ≡ large_use superblocks
+use_of-large image held free d superblocks taken some info =
+    let other : is_class (image (info_word d)) ≡ false = no_class (image (info_word d)) (λ is. let last = is.last in omega arith) in
+    let rest : image (info_word d) % 256 ≡ 255 = omega arith in
+    let count : image (info_word d) / 256 ≡ superblocks = omega arith in
+    let test : is_large (image (info_word d)) ≡ true =
+    both (nat_le 511 (image (info_word d))) (nat_eq (image (info_word d) % 256) 255) (le-leb 511 _ (omega arith)) (eq-eqb _ 255 rest) in
+    rw (taken, other, test) (ap large_use count)

@@ -49,7 +49,11 @@ is_large info = nat_le 511 info && (info % 256 == 255)
 abbrev pub class_use : ℕ → ℕ → List Block → ℕ → List ℕ
 class_use capacity class held d = codes "class " ++ decimal class ++ codes " held" ++ ranges_of (held_indexes capacity class d held)
 
--- the same of one of a large block that is not its first
+-- the same of the first of a large block of so many superblocks
+abbrev pub large_use : ℕ → List ℕ
+large_use superblocks = codes "large " ++ decimal superblocks
+
+-- and of one behind the first
 abbrev pub inside_use : ℕ → List ℕ
 inside_use first = codes "inside " ++ decimal first
 
@@ -58,7 +62,7 @@ abbrev pub use_of : Image → List Block → List ℕ → ℕ → List ℕ
 use_of image held free d =
     if list_any (λ f. f == d) free then codes "free"
     else if is_class (image (info_word d)) then class_use (capacity_of image) (image (info_word d)) held d
-    else if is_large (image (info_word d)) then codes "large " ++ decimal (image (info_word d) / 256)
+    else if is_large (image (info_word d)) then large_use (image (info_word d) / 256)
     else inside_use (first_of (capacity_of image) d held)
 
 -- the line of a superblock

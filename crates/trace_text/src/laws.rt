@@ -1,14 +1,15 @@
 //! What the texts tell of a heap at rest, as functions with nothing to run.
 ghost use Rattle.std.specs.Prelude.{◌≡◌, ◌<◌, ◌+◌, ◌-◌, ◌*◌, ◌/◌, ℕ, List, true, Contains, slice_index};
 ghost use Rattle.heap_model.specs.declared.block.Block.{Block};
+ghost use Rattle.heap_model.specs.Blocks.{layout_of};
 ghost use Rattle.heap_model.specs.Geometry.{start_word, superblock_words};
-ghost use Rattle.heap_model.specs.Header.{capacity_of};
-ghost use Rattle.heap_model.specs.Recovered.{IsBlockOfClass};
+ghost use Rattle.heap_model.specs.Header.{capacity_of, used_of};
+ghost use Rattle.heap_model.specs.Recovered.{AreAscending, IsBlockOfClass, IsFreeSuperblock};
 ghost use Rattle.heap_model.specs.Rest.{IsReady};
 ghost use Rattle.heap_model.specs.Sizes.{IsClass, words_of_class};
-ghost use Rattle.trace_text.specs.HeapMap.{begins_in, index_of, first_of};
+ghost use Rattle.trace_text.specs.HeapMap.{begins_in, index_of, first_of, use_of};
 ghost use Rattle.trace_text.specs.Ranges.{longest_runs, AreLongestRuns};
-ghost use Rattle.trace_text.specs.Laws.{IsCounted};
+ghost use Rattle.trace_text.specs.Laws.{IsCounted, IsUse};
 
 /// The texts tell of each held block.
 pub fn each_held_block_is_told()
@@ -28,6 +29,15 @@ pub fn each_held_block_is_told()
         → b.first_word ≡ start_word (capacity_of (slice_index words)) first
         → b.words ≡ superblock_words * superblocks → first < d → d < first + superblocks
         → first_of (capacity_of (slice_index words)) d held ≡ first }
+{}
+
+/// The map tells how each superblock that has been taken is used, where the list is that of the
+/// free ones.
+pub fn each_use_is_told()
+    ensures { (words : List ℕ) (held : List Block) (free : List ℕ) (d : ℕ) → IsReady words held
+        → AreAscending (λ e. e) (IsFreeSuperblock (layout_of (slice_index words)) (Contains held)) free
+        → d < used_of (slice_index words)
+        → IsUse (slice_index words) held d (use_of (slice_index words) held free d) }
 {}
 
 /// The runs that are printed are the longest.

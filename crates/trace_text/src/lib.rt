@@ -8,7 +8,7 @@ mod ranges;
 mod recovered;
 mod report;
 
-pub use laws::{each_held_block_is_told, runs_are_the_longest};
+pub use laws::{each_held_block_is_told, each_use_is_told, runs_are_the_longest};
 pub use map::map_lines;
 pub use recovered::{map_text, report_text};
 pub use report::{heap_line, report_lines};
