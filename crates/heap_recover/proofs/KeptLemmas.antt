@@ -8,7 +8,7 @@ use Rattle.heap_model.specs.Recovered.{IsFreeSuperblock}
 use Rattle.heap_model.specs.Recovery.{HoldsKept, IsSpare, IsPartial, IsFullyKept, IsInLarge, IsListed, IsRecovered}
 use Rattle.heap_model.specs.Reach.{Links, IsReached}
 use Rattle.heap_model.proofs.ReachLemmas.{reached_block}
-use Rattle.filter_trace.specs.Trace.{AreReached}
+use Rattle.filter_trace.specs.Reached.{AreReached}
 use Rattle.heap_recover.specs.Marked.{IsMarked, KeepsBlocks}
 use Rattle.heap_recover.proofs.AscendingLemmas.{ascending_same}
 
