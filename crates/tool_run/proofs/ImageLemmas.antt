@@ -1,23 +1,32 @@
 -- What the first bytes of an image tell of it, where they are more than the longest image has.
-use Rattle.std.proofs.Common.{◌≡◌, ◌↔◌, ℕ, ◌+◌, ◌-◌, ◌*◌, ◌≤◌, Bool, true, false, ◌||◌, nat_eq, nat_lt, List, length, take, drop, Option, Some, None, IsTrue, IsSomeAnd, refl, sym, ap, ◌∙◌, subst, inl, inr, arith}
+use Rattle.std.proofs.Common.{◌≡◌, ◌↔◌, ℕ, ◌+◌, ◌-◌, ◌*◌, ◌<◌, ◌≤◌, Bool, true, false, ◌||◌, nat_eq, nat_lt, List, [], ◌++◌, length, take, drop, slice_index, Option, Some, None, IsSomeAnd, refl, sym, ap, ◌∙◌, subst, inl, inr, arith}
+use Rattle.std.specs.Prelude.{if◌then◌else◌}
 use Rattle.std.proofs.lemmas.Bool.{cases_lt, le-ltb, ltb-false, ne_eqb, eq-eqb, or_parts}
 use Rattle.std.proofs.lemmas.List.{drop-take, take_all, length-take-le}
 use Rattle.byteorder.specs.Endian.{little_number}
 use Rattle.byteorder.specs.Numbers.{little_from-take}
 use Rattle.heap_model.specs.declared.header.BadHeader.{BadHeader}
 use Rattle.heap_model.specs.Image.{Image, image_of_bytes}
-use Rattle.heap_model.specs.Header.{header_fault, has_fault, capacity_of, state_of}
-use Rattle.heap_model.specs.Geometry.{image_words, clean}
+use Rattle.heap_model.specs.Header.{header_fault, has_fault, IsWellFormed, capacity_of, state_of}
+use Rattle.heap_model.specs.Geometry.{image_words, clean, capacity_word}
+use Rattle.heap_model.specs.Recovery.{in_header}
+use Rattle.heap_model.proofs.HeaderLemmas.{no_fault}
+use Rattle.heap_recover.specs.declared.answer.Recovered.{Recovered}
+use Rattle.heap_recover.specs.declared.answer.Was.{Was}
+use Rattle.heap_recover.specs.declared.answer.Was.TheVariants.{Clean, Dirty}
+use Rattle.heap_recover.specs.declared.fault.RecoverFault.{RecoverFault}
+use Rattle.heap_recover.specs.declared.fault.RecoverFault.TheVariants.{Header, Outside as OutsideFound, Memory as RecoverMemory}
 use Rattle.region_header.proofs.SameHeader.{SameHeader, same_fault}
-use Rattle.region_header.specs.Header.{IsHeaderOf}
-use Rattle.region_header.specs.declared.check.Header.{Header}
 use Rattle.tool_ports.specs.Contents.{Contents, Holds, HoldsFirst}
-use Rattle.trace_text.specs.Report.{heap_line_of}
+use Rattle.trace_text.specs.Report.{report_of}
+use Rattle.trace_text.specs.HeapMap.{map_of}
+use Rattle.trace_text.specs.Recovered.{is_clean}
 use Rattle.tool_run.specs.declared.fault.Fault.{Fault}
 use Rattle.tool_run.specs.declared.fault.Fault.TheVariants.{Malformed}
 use Rattle.tool_run.specs.Command.{show_image}
-use Rattle.tool_run.specs.Inside.{Refuses}
-use Rattle.tool_run.specs.Making.{fault_of, Shows, IsMalformed}
+use Rattle.tool_run.specs.Inside.{Refuses, fault_of_recovery}
+use Rattle.tool_run.specs.Making.{fault_of, Shows, IsMalformed, PointsOutside, shown_text}
+use Rattle.tool_run.specs.Recovering.{IsRecoveryOf, IsRecoveryFault, text_of}
 
 -- one more byte than the longest image has
 abbrev most : ℕ
@@ -79,30 +88,80 @@ got_image (Some image_of) name got first =
       same = subst (λ (l : List ℕ). SameHeader (image_of_bytes l) (image_of_bytes at.0)) (sym at.2) (first_words at.0);
     }
 
--- a test that holds exactly where two numbers are equal
-same_test : (test : Bool) (m n : ℕ) → IsTrue test ↔ (m ≡ n) → test ≡ nat_eq m n
-same_test true m n is = sym (eq-eqb m n (is.0 refl))
-same_test false m n is = sym (ne_eqb m n (λ e. let yes = is.1 e in absurd (cc)))
+-- the bytes that a store gave, where their header is good, are those of an image that it has, where it tells
+short_whole : (bytes : List ℕ) → length (take most bytes) < most → length bytes ≤ most
+short_whole bytes short = elim (cases_lt (length bytes) most) as (λ _. length bytes ≤ most) [
+  | inl below ↦ omega arith
+  | inr long ↦ let cut = length-take-le most bytes long in omega (arith, cut)
+]
 
--- the report on a good image, by its header
-pub shows : (contents : Contents) (name got shown text : List ℕ) (header : Header) → HoldsFirst contents name most got → shown ≡ got
-    → None ≡ fault_of shown → IsHeaderOf header (image_of_bytes shown) → text ≡ heap_line_of header.capacity header.clean → Shows contents name text
-shows contents name got shown text header first are good is text_is =
-    let image : IsGot contents name got = got_image contents name got first in
-    let capacity : header.capacity ≡ capacity_of (image_of_bytes image.bytes) = is.capacity_is ∙ ap (λ (l : List ℕ). image_of_bytes l 2) are ∙ image.same 2 (omega arith) in
-    let state : state_of (image_of_bytes shown) ≡ state_of (image_of_bytes image.bytes) = ap (λ (l : List ℕ). image_of_bytes l 3) are ∙ image.same 3 (omega arith) in
-    let state_is : header.clean ≡ nat_eq (state_of (image_of_bytes image.bytes)) clean = same_test header.clean _ clean is.clean_is ∙ ap (λ n. nat_eq n clean) state in
+pub record IsWhole (contents : Contents) (name got : List ℕ) : Type 0 where
+  pub is_there : Holds contents name got
+  pub good : fault_of got ≡ None
+
+pub whole_image : (contents : Contents) (name got : List ℕ) → HoldsFirst contents name most got → IsWellFormed (length got) (image_of_bytes got) → IsWhole contents name got
+whole_image None name got first good = record { is_there = tt; good = no_fault (length got) (image_of_bytes got) good }
+whole_image (Some image_of) name got first good =
+    let at = held_image (image_of name) got first in
+    let short : length got < most = let length_is = good.length_is in let small = good.small in omega arith in
+    let cut : length (take most at.0) < most = subst (λ (l : List ℕ). length l < most) at.2 short in
+    let whole : got ≡ at.0 = at.2 ∙ take_all most at.0 (short_whole at.0 cut) in
+    record { is_there = at.1 ∙ ap (λ (l : List ℕ). Some l) (sym whole); good = no_fault (length got) (image_of_bytes got) good }
+
+-- the same, where the header of other bytes that are these was looked at
+pub whole_shown : (contents : Contents) (name got shown : List ℕ) → HoldsFirst contents name most got → shown ≡ got → IsWellFormed (length shown) (image_of_bytes shown) → IsWhole contents name got
+whole_shown contents name got shown first are good = whole_image contents name got first (subst (λ (l : List ℕ). IsWellFormed (length l) (image_of_bytes l)) are good)
+
+-- what the tool tells of a recovery that failed
+pub is_refused : (contents : Contents) (name got shown : List ℕ) (with_map : Bool) (get_failed : Type 0) (cause : RecoverFault) (fault : Fault)
+    → fault ≡ fault_of_recovery cause → IsWhole contents name got → shown ≡ got → IsRecoveryFault (image_of_bytes shown) cause
+    → Refuses (show_image name with_map) contents get_failed fault
+is_refused contents name got shown with_map get_failed (Header cause) fault is whole are why = absurd why
+is_refused contents name got shown with_map get_failed RecoverMemory fault is whole are why =
+    subst (λ (f : Fault). Refuses (show_image name with_map) contents get_failed f) (sym is) tt
+is_refused contents name got shown with_map get_failed (OutsideFound at value) fault is whole are why =
+    let here : PointsOutside (image_of_bytes got) at = subst (λ (l : List ℕ). PointsOutside (image_of_bytes l) at) are why.0 in
+    let there : value ≡ image_of_bytes got at = why.1 ∙ ap (λ (l : List ℕ). image_of_bytes l at) are in
+    subst (λ (f : Fault). Refuses (show_image name with_map) contents get_failed f) (sym is)
+    (tt, record { bytes = got; is_there = whole.is_there; good = whole.good; points = here; value_is = there })
+
+-- a test that holds exactly where two numbers are equal
+same_test : (was : Was) (m n : ℕ) → (was ≡ Clean) ↔ (m ≡ n) → is_clean was ≡ nat_eq m n
+same_test Clean m n is = sym (eq-eqb m n (is.0 refl))
+same_test Dirty m n is = sym (ne_eqb m n (λ e. let yes : Dirty ≡ Clean = is.1 e in absurd (cc)))
+
+-- the text on a recovered heap is that on the image
+same_text : (image : Image) (recovered : Recovered) (with_map : Bool) → IsRecoveryOf image recovered
+    → text_of recovered with_map ≡ shown_text image with_map recovered.heap.held recovered.free.items (slice_index recovered.heap.words)
+same_text image recovered with_map is =
+    let capacity : slice_index recovered.heap.words capacity_word ≡ image capacity_word = is.recovers.words_are.same capacity_word (in_header capacity_word (inr (inr (inl refl)))) in
+    let state : is_clean recovered.was ≡ nat_eq (state_of image) clean = same_test recovered.was (state_of image) clean is.was in
+    ap (λ n. report_of n (is_clean recovered.was) recovered.heap.held ++ (if with_map then map_of (slice_index recovered.heap.words) recovered.heap.held recovered.free.items else [])) capacity
+    ∙ ap (λ b. report_of (capacity_of image) b recovered.heap.held ++ (if with_map then map_of (slice_index recovered.heap.words) recovered.heap.held recovered.free.items else [])) state
+
+-- the report on an image that was recovered
+pub shows : (contents : Contents) (name got shown text : List ℕ) (with_map : Bool) (recovered : Recovered) → IsWhole contents name got → shown ≡ got
+    → IsRecoveryOf (image_of_bytes shown) recovered → ((at : ℕ) → PointsOutside (image_of_bytes shown) at → ⊥)
+    → text ≡ text_of recovered with_map → Shows contents name with_map text
+shows contents name got shown text with_map recovered whole are is inside text_is =
+    let here : IsRecoveryOf (image_of_bytes got) recovered = subst (λ (l : List ℕ). IsRecoveryOf (image_of_bytes l) recovered) are is in
+    let clear : (at : ℕ) → PointsOutside (image_of_bytes got) at → ⊥ = subst (λ (l : List ℕ). (at : ℕ) → PointsOutside (image_of_bytes l) at → ⊥) are inside in
     record {
-      bytes = image.bytes;
-      held = image.held;
-      good = sym image.fault_is ∙ ap fault_of (sym are) ∙ sym good;
-      text_is = text_is ∙ ap (λ n. heap_line_of n header.clean) capacity ∙ ap (heap_line_of (capacity_of (image_of_bytes image.bytes))) state_is;
+      bytes = got;
+      is_there = whole.is_there;
+      good = whole.good;
+      inside = clear;
+      held = recovered.heap.held;
+      free = recovered.free.items;
+      words = slice_index recovered.heap.words;
+      recovered = here.recovers;
+      text_is = text_is ∙ same_text (image_of_bytes got) recovered with_map here;
     }
 
 -- the cause of a bad header
-pub is_malformed : (contents : Contents) (name got shown : List ℕ) (get_failed : Type 0) (cause : BadHeader) (fault : Fault) → fault ≡ Malformed cause
-    → HoldsFirst contents name most got → shown ≡ got → Some cause ≡ fault_of shown → Refuses (show_image name) contents get_failed fault
-is_malformed contents name got shown get_failed cause fault is first are at =
+pub is_malformed : (contents : Contents) (name got shown : List ℕ) (with_map : Bool) (get_failed : Type 0) (cause : BadHeader) (fault : Fault) → fault ≡ Malformed cause
+    → HoldsFirst contents name most got → shown ≡ got → Some cause ≡ fault_of shown → Refuses (show_image name with_map) contents get_failed fault
+is_malformed contents name got shown with_map get_failed cause fault is first are at =
     let image : IsGot contents name got = got_image contents name got first in
     let bad : IsMalformed contents name cause = record { bytes = image.bytes; held = image.held; fault = sym image.fault_is ∙ ap fault_of (sym are) ∙ sym at } in
-    subst (λ (f : Fault). Refuses (show_image name) contents get_failed f) (sym is) (tt, bad)
+    subst (λ (f : Fault). Refuses (show_image name with_map) contents get_failed f) (sym is) (tt, bad)

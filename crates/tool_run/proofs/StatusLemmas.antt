@@ -5,11 +5,11 @@ use Rattle.tool_ports.specs.Contents.{Contents}
 use Rattle.tool_ports.specs.Taken.{TakesPart}
 use Rattle.tool_run.specs.Command.{Command, image_name, Asks}
 use Rattle.tool_run.specs.declared.fault.Fault.{Fault}
-use Rattle.tool_run.specs.declared.fault.Fault.TheVariants.{Usage, Memory, ReadFault, WriteFault, Absent, Malformed}
+use Rattle.tool_run.specs.declared.fault.Fault.TheVariants.{Usage, Memory, ReadFault, WriteFault, Absent, Malformed, Outside}
 use Rattle.tool_run.specs.Inside.{IsStopped, status_of, line_of}
 use Rattle.tool_run.specs.Lines.{Tells, write_line}
-use Rattle.tool_run.specs.Outcome.{AsksToGet, IsWriteFault, IsBadHeader}
-use Rattle.tool_run.specs.Status.{statuses, read_fault, write_fault, bad_header}
+use Rattle.tool_run.specs.Outcome.{AsksToGet, IsWriteFault, IsBadHeader, IsOutsideAt}
+use Rattle.tool_run.specs.Status.{statuses, read_fault, write_fault, bad_header, outside}
 use Rattle.tool_run.proofs.CallLemmas.{rose_since, wider_cut}
 
 -- a fault has a status
@@ -20,6 +20,7 @@ has_status ReadFault status is = rw is (3, lit< tt, refl)
 has_status WriteFault status is = rw is (4, lit< tt, refl)
 has_status Absent status is = rw is (5, lit< tt, refl)
 has_status (Malformed cause) status is = rw is (6, lit< tt, refl)
+has_status (Outside at value) status is = rw is (7, lit< tt, refl)
 
 -- a line that tells, where the count is compared with an earlier one and what was taken goes by another name
 pub tells_since : (line : List ℕ) (first second third : ℕ) (taken mid new : Option (List ℕ)) → first ≤ second → mid ≡ taken → Tells line second third mid new → Tells line first third taken new
@@ -41,6 +42,7 @@ module _ (words : List (List ℕ)) (command : Command) (old new : Contents) (sto
   is_read_fault WriteFault stopped is four = absurd (omega arith)
   is_read_fault Absent stopped is four = absurd (omega arith)
   is_read_fault (Malformed cause) stopped is four = absurd (omega arith)
+  is_read_fault (Outside at value) stopped is four = absurd (omega arith)
 
   -- the result was cut off
   pub is_write_fault : (fault : Fault) (name : List ℕ) → IsStopped command old new store_failed (Rose first second) taken mid fault → status ≡ status_of fault
@@ -65,6 +67,7 @@ module _ (words : List (List ℕ)) (command : Command) (old new : Contents) (sto
   is_write_fault ReadFault name stopped is told five = absurd (omega arith)
   is_write_fault Absent name stopped is told five = absurd (omega arith)
   is_write_fault (Malformed cause) name stopped is told five = absurd (omega arith)
+  is_write_fault (Outside at value) name stopped is told five = absurd (omega arith)
 
   -- the image has a malformed header
   pub is_bad_header : (fault : Fault) (name : List ℕ) → IsStopped command old new store_failed (Rose first second) taken mid fault → status ≡ status_of fault
@@ -85,3 +88,26 @@ module _ (words : List (List ℕ)) (command : Command) (old new : Contents) (sto
   is_bad_header ReadFault name stopped is told seven = absurd (omega arith)
   is_bad_header WriteFault name stopped is told seven = absurd (omega arith)
   is_bad_header Absent name stopped is told seven = absurd (omega arith)
+  is_bad_header (Outside at value) name stopped is told seven = absurd (omega arith)
+
+  -- a word of the image points outside
+  pub is_outside : (fault : Fault) (name : List ℕ) → IsStopped command old new store_failed (Rose first second) taken mid fault → status ≡ status_of fault
+      → Tells (line_of fault name) second third mid final
+      → status ≡ outside → IsOutsideAt words old (λ line. Tells line first third taken final)
+  is_outside (Outside at value) name stopped is told eight = elim stopped.cause [
+    | inl (why, same) ↦ record {
+      name = image_name command;
+      asks = record { command = command; asked = asked; gets = why.0; is_named = refl };
+      at = at;
+      value = value;
+      has = why.1;
+      told = tells_since (line_of (Outside at value) name) first second third taken mid final low same.sink told;
+    }
+    | inr (image, text, made, why) ↦ absurd why
+  ]
+  is_outside Usage name stopped is told eight = absurd (omega arith)
+  is_outside Memory name stopped is told eight = absurd (omega arith)
+  is_outside ReadFault name stopped is told eight = absurd (omega arith)
+  is_outside WriteFault name stopped is told eight = absurd (omega arith)
+  is_outside Absent name stopped is told eight = absurd (omega arith)
+  is_outside (Malformed cause) name stopped is told eight = absurd (omega arith)

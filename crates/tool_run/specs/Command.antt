@@ -1,5 +1,5 @@
 -- The words of the command line, and the command that they ask for.
-use Rattle.std.specs.Prelude.{◌≡◌, ◌≢◌, ℕ, ◌<◌, ◌≤◌, List, [], ◌∷◌, length, slice_index, map, codes, String, string_bytes}
+use Rattle.std.specs.Prelude.{◌≡◌, ◌≢◌, ℕ, ◌<◌, ◌≤◌, Bool, true, false, List, [], ◌∷◌, length, slice_index, map, codes, String, string_bytes}
 use Rattle.std.specs.declared.alloc.Global.{Global}
 use Rattle.std.specs.Str.Parse.{IsNumeral, digits_value}
 use Rattle.heap_model.specs.Geometry.{largest_capacity}
@@ -7,12 +7,12 @@ use Rattle.heap_model.specs.Geometry.{largest_capacity}
 -- what the tool can be asked for, each with the name of an image
 pub data Command : Type 0 where
   format_image : (image : List ℕ) → (capacity : ℕ) → Command
-  show_image : (image : List ℕ) → Command
+  show_image : (image : List ℕ) → (with_map : Bool) → Command
 
 -- the image that a command is about
 abbrev pub image_name : Command → List ℕ
 image_name (format_image image capacity) = image
-image_name (show_image image) = image
+image_name (show_image image with_map) = image
 
 -- the bytes of each word
 abbrev pub texts : List (String Global) → List (List ℕ)
@@ -41,15 +41,20 @@ pub record AsksToFormat (words : List (List ℕ)) (image : List ℕ) (capacity :
   pub least : 1 ≤ capacity
   pub most : capacity ≤ largest_capacity
 
--- the words 'show IMAGE'
-pub record AsksToShow (words : List (List ℕ)) (image : List ℕ) : Type 0 where
-  pub words_are : words ≡ codes "show" ∷ image ∷ []
+-- the word that asks for a map too
+abbrev pub map_option : Bool → List (List ℕ)
+map_option true = codes "--map" ∷ []
+map_option false = []
+
+-- the words 'show IMAGE' or 'show IMAGE --map'
+pub record AsksToShow (words : List (List ℕ)) (image : List ℕ) (with_map : Bool) : Type 0 where
+  pub words_are : words ≡ codes "show" ∷ image ∷ map_option with_map
   pub named : IsImageName image
 
 -- the words ask for this command
 abbrev pub Asks : List (List ℕ) → Command → Type 0
 Asks words (format_image image capacity) = AsksToFormat words image capacity
-Asks words (show_image image) = AsksToShow words image
+Asks words (show_image image with_map) = AsksToShow words image with_map
 
 -- the words ask for no command
 abbrev pub IsUsage : List (List ℕ) → Type 0

@@ -1,5 +1,5 @@
 -- Worked examples: words and what they ask for, and the lines that are printed.
-use Rattle.std.specs.Prelude.{◌≡◌, List, [], ◌∷◌, ◌++◌, codes, Some, None, refl}
+use Rattle.std.specs.Prelude.{◌≡◌, List, [], ◌∷◌, ◌++◌, codes, Some, None, Bool, true, false, refl}
 use Rattle.std.specs.Fmt.{digits}
 use Rattle.std.specs.Str.Parse.{digits_value}
 use Rattle.std.proofs.Common.{ℕ, length, slice_index_or, sym, ap, ◌∙◌, arith, lit<, lit≤}
@@ -24,8 +24,11 @@ absent_line = refl
 length_line : bad_header_line Length ≡ codes "bad header length" ++ line_feed
 length_line = refl
 
-lines : (own_line usage ≡ Some (codes "usage" ++ line_feed)) × (own_line done ≡ None) × (own_line bad_header ≡ None)
-lines = (refl, refl, refl)
+line_of_usage : own_line usage ≡ Some (codes "usage" ++ line_feed)
+line_of_usage = refl
+
+no_own_line : (own_line done ≡ None) × (own_line bad_header ≡ None)
+no_own_line = (refl, refl)
 
 -- a leading zero changes nothing
 number_one : IsNumber (codes "01") 1
@@ -35,14 +38,25 @@ name_h : IsImageName (codes "h")
 name_h = record { some = lit< tt; no_option = λ e. omega (arith, e) }
 
 format_one : Asks (codes "format" ∷ codes "h" ∷ codes "01" ∷ []) (format_image (codes "h") 1)
-format_one = record { number = codes "01"; words_are = refl; named = name_h; counted = number_one; least = lit≤ tt; most = lit≤ tt }
+format_one = record {
+  number = codes "01";
+  words_are = refl;
+  named = name_h;
+  counted = number_one;
+  least = lit≤ tt;
+  most = lit≤ tt;
+}
 
-show_one : Asks (codes "show" ∷ codes "h" ∷ []) (show_image (codes "h"))
+show_one : Asks (codes "show" ∷ codes "h" ∷ []) (show_image (codes "h") false)
 show_one = record { words_are = refl; named = name_h }
 
 no_words : IsUsage []
 no_words (format_image image capacity) asks = omega (arith, ap length asks.words_are)
-no_words (show_image image) asks = omega (arith, ap length asks.words_are)
+no_words (show_image image true) asks = omega (arith, ap length asks.words_are)
+no_words (show_image image false) asks = omega (arith, ap length asks.words_are)
+
+show_map : Asks (codes "show" ∷ codes "h" ∷ codes "--map" ∷ []) (show_image (codes "h") true)
+show_map = record { words_are = refl; named = name_h }
 
 -- word i of the words
 word_at : ℕ → List (List ℕ) → List ℕ
@@ -52,14 +66,24 @@ word_at i words = slice_index_or words i []
 one_command : (words : List (List ℕ)) (a b : Command) → Asks words a → Asks words b → a ≡ b
 unfolding word_at
 one_command words (format_image image capacity) (format_image other count) asks also =
-    let same : asks.number ≡ also.number = sym (ap (word_at 2) asks.words_are) ∙ ap (word_at 2) also.words_are in
-    let named : image ≡ other = sym (ap (word_at 1) asks.words_are) ∙ ap (word_at 1) also.words_are in
-    let counted : capacity ≡ count = sym asks.counted.value ∙ ap (digits_value 10) same ∙ also.counted.value in
+    let same : asks.number ≡ also.number =
+    sym (ap (word_at 2) asks.words_are) ∙ ap (word_at 2) also.words_are in
+    let named : image ≡ other =
+    sym (ap (word_at 1) asks.words_are) ∙ ap (word_at 1) also.words_are in
+    let counted : capacity ≡ count =
+    sym asks.counted.value ∙ ap (digits_value 10) same ∙ also.counted.value in
     cc
-one_command words (show_image image) (show_image other) asks also =
+one_command words (show_image image true) (show_image other true) asks also =
     let named : image ≡ other = sym (ap (word_at 1) asks.words_are) ∙ ap (word_at 1) also.words_are in
     cc
-one_command words (format_image image capacity) (show_image other) asks also =
+one_command words (show_image image false) (show_image other false) asks also =
+    let named : image ≡ other = sym (ap (word_at 1) asks.words_are) ∙ ap (word_at 1) also.words_are in
+    cc
+one_command words (show_image image true) (show_image other false) asks also =
     absurd (omega (arith, ap length asks.words_are, ap length also.words_are))
-one_command words (show_image image) (format_image other count) asks also =
+one_command words (show_image image false) (show_image other true) asks also =
     absurd (omega (arith, ap length asks.words_are, ap length also.words_are))
+one_command words (format_image image capacity) (show_image other with_map) asks also =
+    absurd (omega (arith, ap (λ ws. length (word_at 0 ws)) asks.words_are, ap (λ ws. length (word_at 0 ws)) also.words_are))
+one_command words (show_image image with_map) (format_image other count) asks also =
+    absurd (omega (arith, ap (λ ws. length (word_at 0 ws)) asks.words_are, ap (λ ws. length (word_at 0 ws)) also.words_are))

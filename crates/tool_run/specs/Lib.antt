@@ -2,6 +2,7 @@ pub mod Command
 pub mod Status
 pub mod Lines
 pub mod Making
+pub mod Recovering
 pub mod Outcome
 pub mod Inside
 pub mod Examples

@@ -1,5 +1,7 @@
 -- The lines that tell why there is no result.
-use Rattle.std.specs.Prelude.{◌≡◌, ◌⊎◌, ℕ, List, ◌++◌, codes, Option}
+use Rattle.std.specs.Prelude.{◌≡◌, ◌⊎◌, ℕ, List, ◌++◌, codes, decimal, Option}
+use Rattle.std.specs.Int.{w64, to_be_bytes}
+use Rattle.hex.specs.Hex.{encode_lower}
 use Rattle.tool_ports.specs.Causes.{Rose}
 use Rattle.tool_ports.specs.Taken.{taken_with, TakesPart}
 use Rattle.heap_model.specs.declared.header.BadHeader.{BadHeader}
@@ -37,6 +39,11 @@ cause_name Used = codes "used"
 abbrev pub bad_header_line : BadHeader → List ℕ
 bad_header_line cause = codes "bad header " ++ cause_name cause ++ line_feed
 
+-- the line on a pointer to no block: the index of its word, and the word in sixteen digits
+abbrev pub outside_line : ℕ → ℕ → List ℕ
+outside_line at value = codes "pointer outside at " ++ decimal at ++ codes " value " ++ encode_lower (to_be_bytes w64 value) ++ line_feed
+
 -- A sink took the line or, only where the count of its failures rose, a first part of it.
 abbrev pub Tells : List ℕ → ℕ → ℕ → Option (List ℕ) → Option (List ℕ) → Type 0
-Tells line faults faults' taken taken' = (taken' ≡ taken_with taken line) ⊎ (Rose faults faults' × TakesPart line taken taken')
+Tells line faults faults' taken taken' =
+    (taken' ≡ taken_with taken line) ⊎ (Rose faults faults' × TakesPart line taken taken')

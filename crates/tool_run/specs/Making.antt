@@ -1,36 +1,64 @@
 -- What a command is to put and to print.
-use Rattle.std.specs.Prelude.{◌≡◌, ℕ, ◌*◌, List, ◌++◌, length, nat_eq, Option, Some, None, codes, decimal}
+use Rattle.std.specs.Prelude.{◌≡◌, ℕ, ◌*◌, Bool, List, [], ◌++◌, length, nat_eq, if◌then◌else◌, Option, Some, None, codes, decimal, slice_index}
 use Rattle.heap_model.specs.declared.header.BadHeader.{BadHeader}
+use Rattle.heap_model.specs.declared.block.Block.{Block}
+use Rattle.heap_model.specs.Blocks.{layout_of}
+use Rattle.heap_model.specs.Reach.{IsReached, IsOutside}
+use Rattle.heap_model.specs.Recovered.{IsFreeSuperblock, AreAscending}
+use Rattle.heap_model.specs.Recovery.{IsRecovered}
+use Rattle.dictionary.specs.DictLinks.{dict_links, root_kinds}
 use Rattle.heap_model.specs.Geometry.{clean, image_words}
-use Rattle.heap_model.specs.Image.{image_of_bytes, bytes_of_words}
+use Rattle.heap_model.specs.Image.{Image, image_of_bytes, bytes_of_words}
 use Rattle.heap_model.specs.Header.{capacity_of, state_of, header_fault, empty_words}
 use Rattle.tool_ports.specs.Contents.{Contents, Holds}
-use Rattle.trace_text.specs.Report.{line_feed, heap_line_of}
+use Rattle.trace_text.specs.Report.{line_feed, report_of}
+use Rattle.trace_text.specs.HeapMap.{map_of}
 use Rattle.tool_run.specs.Command.{Command, format_image, show_image}
 
 -- what `format` prints: the capacity, and the length of the image in bytes
 abbrev pub formatted_line : ℕ → List ℕ
-formatted_line capacity = codes "formatted " ++ decimal capacity ++ codes " bytes " ++ decimal (8 * image_words capacity) ++ line_feed
+formatted_line capacity = codes "formatted " ++ decimal capacity
+    ++ codes " bytes " ++ decimal (8 * image_words capacity) ++ line_feed
 
 -- the first cause for which an image of these bytes is malformed
 abbrev pub fault_of : List ℕ → Option BadHeader
 fault_of bytes = header_fault (length bytes) (image_of_bytes bytes)
 
--- the first line of the report on an image of these bytes
-abbrev pub heap_line : List ℕ → List ℕ
-heap_line bytes = heap_line_of (capacity_of (image_of_bytes bytes)) (nat_eq (state_of (image_of_bytes bytes)) clean)
+-- what the tool's filter reaches in an image: the dictionary's tables and nodes, and what the other roots lead to
+abbrev pub IsKept : Image → Block → Type 0
+IsKept image = IsReached image (slice_index root_kinds) dict_links
+
+-- a root or linked word that points to no block
+abbrev pub PointsOutside : Image → ℕ → Type 0
+PointsOutside image at = IsOutside image (slice_index root_kinds) dict_links at
+
+-- recovery of the image keeps exactly these blocks, frees these superblocks, and leaves these words
+pub record Recovers (image : Image) (held : List Block) (free : List ℕ) (words : Image) : Type 0 where
+  pub held_are : AreAscending (λ (b : Block). b.first_word) (IsKept image) held
+  pub free_are : AreAscending (λ d. d) (IsFreeSuperblock (layout_of image) (IsKept image)) free
+  pub words_are : IsRecovered image words (IsKept image)
+
+-- the report on a recovered image, and its map where that is asked for
+abbrev pub shown_text : Image → Bool → List Block → List ℕ → Image → List ℕ
+shown_text image with_map held free words =
+    report_of (capacity_of image) (nat_eq (state_of image) clean) held ++ (if with_map then map_of words held free else [])
 
 -- an empty image, and the line that tells of it
 pub record IsFormatted (capacity : ℕ) (put : Option (List ℕ)) (text : List ℕ) : Type 0 where
   pub image_is : put ≡ Some (bytes_of_words (empty_words capacity))
   pub text_is : text ≡ formatted_line capacity
 
--- a report on the bytes of a named image, whose header is good
-pub record Shows (contents : Contents) (name text : List ℕ) : Type 0 where
+-- the text on a named image that can be recovered
+pub record Shows (contents : Contents) (name : List ℕ) (with_map : Bool) (text : List ℕ) : Type 0 where
   pub bytes : List ℕ
-  pub held : Holds contents name bytes
+  pub is_there : Holds contents name bytes
   pub good : fault_of bytes ≡ None
-  pub text_is : text ≡ heap_line bytes
+  pub inside : (at : ℕ) → PointsOutside (image_of_bytes bytes) at → ⊥
+  pub held : List Block
+  pub free : List ℕ
+  pub words : Image
+  pub recovered : Recovers (image_of_bytes bytes) held free words
+  pub text_is : text ≡ shown_text (image_of_bytes bytes) with_map held free words
 
 -- the bytes of a named image, whose header has this cause first
 pub record IsMalformed (contents : Contents) (name : List ℕ) (cause : BadHeader) : Type 0 where
@@ -38,12 +66,20 @@ pub record IsMalformed (contents : Contents) (name : List ℕ) (cause : BadHeade
   pub held : Holds contents name bytes
   pub fault : fault_of bytes ≡ Some cause
 
+-- a word of a named image with a good header, which points outside
+pub record HasOutside (contents : Contents) (name : List ℕ) (at value : ℕ) : Type 0 where
+  pub bytes : List ℕ
+  pub is_there : Holds contents name bytes
+  pub good : fault_of bytes ≡ None
+  pub points : PointsOutside (image_of_bytes bytes) at
+  pub value_is : value ≡ image_of_bytes bytes at
+
 -- where the store holds this, the command is to put these bytes, if any, and to print this text
 abbrev pub Makes : Command → Contents → Option (List ℕ) → List ℕ → Type 0
 Makes (format_image image capacity) contents put text = IsFormatted capacity put text
-Makes (show_image image) contents put text = (put ≡ None) × Shows contents image text
+Makes (show_image image with_map) contents put text = (put ≡ None) × Shows contents image with_map text
 
 -- the command gets the image that it names
 abbrev pub Gets : Command → Type 0
 Gets (format_image image capacity) = ⊥
-Gets (show_image image) = Unit {0}
+Gets (show_image image with_map) = Unit {0}

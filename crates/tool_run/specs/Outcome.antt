@@ -1,11 +1,13 @@
--- What a call of the tool has done, by its status. `old` is what the store held before it and `new` what it holds after it; `taken` and `taken'` are what the sink had taken.
+-- What a call of the tool has done, by its status. `old` is what the store held before it, `new` what
+-- it holds after it; `taken` and `taken'` are what the sink had taken.
 use Rattle.std.specs.Prelude.{◌≡◌, ℕ, List, Option, Some, None}
 use Rattle.heap_model.specs.declared.header.BadHeader.{BadHeader}
 use Rattle.tool_ports.specs.Contents.{Contents, Holds, HoldsOldOrNew, KeepsOthers, Lacks, told_of}
 use Rattle.tool_ports.specs.Taken.{taken_with, TakesPart}
 use Rattle.tool_run.specs.Command.{Command, format_image, show_image, image_name, Asks}
-use Rattle.tool_run.specs.Lines.{no_image_line, bad_header_line}
-use Rattle.tool_run.specs.Making.{Makes, Gets, IsMalformed, fault_of}
+use Rattle.tool_run.specs.Lines.{no_image_line, bad_header_line, outside_line}
+use Rattle.tool_run.specs.Making.{Makes, Gets, IsMalformed, HasOutside, PointsOutside, fault_of}
+use Rattle.heap_model.specs.Image.{image_of_bytes}
 
 -- The image, if there is one, is under the name, and every other name has what it had.
 abbrev pub Puts : List ℕ → Option (List ℕ) → Contents → Contents → Type 0
@@ -13,7 +15,8 @@ Puts name None old new = new ≡ old
 Puts name (Some image) old new = Holds new name image × KeepsOthers name old new
 
 -- the words ask for a command, and it was carried out in full
-pub record IsDone (words : List (List ℕ)) (old new : Contents) (taken taken' : Option (List ℕ)) : Type 0 where
+pub record IsDone (words : List (List ℕ)) (old new : Contents) (taken taken' : Option (List ℕ))
+    : Type 0 where
   pub command : Command
   pub asked : Asks words command
   pub image : Option (List ℕ)
@@ -23,16 +26,19 @@ pub record IsDone (words : List (List ℕ)) (old new : Contents) (taken taken' :
   pub printed : taken' ≡ taken_with taken text
 
 -- what is left of a result that wasn't put and printed in full
-pub data IsCutOff (name : List ℕ) (image : Option (List ℕ)) (text : List ℕ) (old new : Contents) (store_failed sink_failed : Type 0) (taken taken' : Option (List ℕ)) : Type 0 where
+pub data IsCutOff (name : List ℕ) (image : Option (List ℕ)) (text : List ℕ) (old new : Contents)
+    (store_failed sink_failed : Type 0) (taken taken' : Option (List ℕ)) : Type 0 where
   -- The store failed: the name has its old bytes or the new, and nothing is printed.
-  while_putting : (bytes : List ℕ) → image ≡ Some bytes → store_failed → HoldsOldOrNew name bytes old new → KeepsOthers name old new → taken' ≡ taken
+  while_putting : (bytes : List ℕ) → image ≡ Some bytes → store_failed
+      → HoldsOldOrNew name bytes old new → KeepsOthers name old new → taken' ≡ taken
       → IsCutOff name image text old new store_failed sink_failed taken taken'
   -- The sink failed: the image is put, and a first part of the text is printed.
   while_printing : sink_failed → Puts name image old new → TakesPart text taken taken'
       → IsCutOff name image text old new store_failed sink_failed taken taken'
 
 -- the words ask for a command, and its result was cut off; `Told` is what was printed after that
-pub record IsWriteFault (words : List (List ℕ)) (old new : Contents) (store_failed sink_failed : Type 0) (taken : Option (List ℕ)) (Told : Option (List ℕ) → Type 0) : Type 0 where
+pub record IsWriteFault (words : List (List ℕ)) (old new : Contents) (store_failed sink_failed : Type 0)
+    (taken : Option (List ℕ)) (Told : Option (List ℕ) → Type 0) : Type 0 where
   pub command : Command
   pub asked : Asks words command
   pub image : Option (List ℕ)
@@ -49,20 +55,31 @@ pub record AsksToGet (words : List (List ℕ)) (name : List ℕ) : Type 0 where
   pub gets : Gets command
   pub is_named : image_name command ≡ name
 
--- the words name an image that isn't there, where the store tells; `Told` is the line that was printed
-pub record IsAbsent (words : List (List ℕ)) (contents : Contents) (Told : List ℕ → Type 0) : Type 0 where
+-- the words name an image that isn't there, where the store tells; `Told` says which line was told
+pub record IsAbsent (words : List (List ℕ)) (contents : Contents) (Told : List ℕ → Type 0)
+    : Type 0 where
   pub name : List ℕ
   pub asks : AsksToGet words name
   pub lacks : Lacks contents name
   pub told : Told (no_image_line name)
 
 -- the words name an image with a malformed header
-pub record IsBadHeader (words : List (List ℕ)) (contents : Contents) (Told : List ℕ → Type 0) : Type 0 where
+pub record IsBadHeader (words : List (List ℕ)) (contents : Contents) (Told : List ℕ → Type 0)
+    : Type 0 where
   pub name : List ℕ
   pub asks : AsksToGet words name
   pub cause : BadHeader
   pub malformed : IsMalformed contents name cause
   pub told : Told (bad_header_line cause)
+
+-- the words name an image in which a word points outside
+pub record IsOutsideAt (words : List (List ℕ)) (contents : Contents) (Told : List ℕ → Type 0) : Type 0 where
+  pub name : List ℕ
+  pub asks : AsksToGet words name
+  pub at : ℕ
+  pub value : ℕ
+  pub has : HasOutside contents name at value
+  pub told : Told (outside_line at value)
 
 -- the store tells that it has a malformed image of this name
 pub record HoldsMalformed (contents : Contents) (name : List ℕ) : Type 0 where
@@ -71,13 +88,21 @@ pub record HoldsMalformed (contents : Contents) (name : List ℕ) : Type 0 where
   pub cause : BadHeader
   pub fault : fault_of bytes ≡ Some cause
 
--- the store tells that it has a good image of this name
+-- the store tells that it has an image of this name with a good header, in which the word points outside
+pub record HoldsOutside (contents : Contents) (name : List ℕ) (at : ℕ) : Type 0 where
+  pub bytes : List ℕ
+  pub held : told_of contents name ≡ Some (Some bytes)
+  pub good : fault_of bytes ≡ None
+  pub points : PointsOutside (image_of_bytes bytes) at
+
+-- the store tells that it has an image of this name that can be recovered
 pub record HoldsGood (contents : Contents) (name : List ℕ) : Type 0 where
   pub bytes : List ℕ
   pub held : told_of contents name ≡ Some (Some bytes)
   pub good : fault_of bytes ≡ None
+  pub inside : (at : ℕ) → PointsOutside (image_of_bytes bytes) at → ⊥
 
 -- nothing in the store stands against the command
 abbrev pub CanBeDone : Command → Contents → Type 0
 CanBeDone (format_image image capacity) contents = Unit {0}
-CanBeDone (show_image image) contents = HoldsGood contents image
+CanBeDone (show_image image with_map) contents = HoldsGood contents image

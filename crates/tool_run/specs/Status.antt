@@ -30,14 +30,21 @@ no_image = 6
 abbrev pub bad_header : ℕ
 bad_header = 7
 
+-- a root or a linked word points to no block
+abbrev pub outside : ℕ
+outside = 8
+
 abbrev pub statuses : List ℕ
-statuses = done ∷ usage ∷ out_of_memory ∷ read_fault ∷ write_fault ∷ no_image ∷ bad_header ∷ []
+statuses = done ∷ usage ∷ out_of_memory ∷ read_fault ∷ write_fault ∷ no_image ∷ bad_header ∷ outside ∷ []
 
 -- a status after which the store is as it was, whatever the command
 pub record LeavesStore (status : ℕ) : Type 0 where
   pub refused : status ≢ done
   pub not_put : status ≢ write_fault
 
--- the line of each status that has one line alone
+-- for the statuses from 0 on, the line of each that has one line alone
+abbrev pub own_lines : List (Option (List ℕ))
+own_lines = None ∷ None ∷ Some usage_line ∷ Some memory_line ∷ Some read_line ∷ []
+
 abbrev pub own_line : ℕ → Option (List ℕ)
-own_line status = slice_index_or (None ∷ None ∷ Some usage_line ∷ Some memory_line ∷ Some read_line ∷ []) status None
+own_line status = slice_index_or own_lines status None

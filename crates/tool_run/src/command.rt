@@ -1,5 +1,5 @@
 //! The words of the command line, read by hand.
-ghost use Rattle.std.specs.Prelude.{◌≡◌, ℕ, ◌≤◌, ◌∷◌, [], codes, IsTrue, ◌↔◌, IfSome, IfNone};
+ghost use Rattle.std.specs.Prelude.{◌≡◌, ◌≢◌, ℕ, ◌≤◌, ◌∷◌, [], codes, IsTrue, ◌↔◌, IfSome, IfNone};
 ghost use Rattle.heap_model.specs.Geometry.{largest_capacity};
 ghost use Rattle.tool_run.specs.Command.{Asks, IsUsage, IsImageName, IsNumber, texts, image_name};
 ghost use Rattle.tool_run.specs.Inside.{command_of};
@@ -10,7 +10,7 @@ use super_block::{Geometry, LARGEST_CAPACITY};
 #[derive(Clone, Copy)]
 pub enum Invocation<'a> {
     Format { image: &'a str, layout: Geometry },
-    Show { image: &'a str },
+    Show { image: &'a str, with_map: bool },
 }
 
 impl<'a> Invocation<'a> {
@@ -20,7 +20,7 @@ impl<'a> Invocation<'a> {
     {
         match self {
             Invocation::Format { image, layout: _ } => image,
-            Invocation::Show { image } => image,
+            Invocation::Show { image, with_map: _ } => image,
         }
     }
 }
@@ -31,16 +31,42 @@ pub fn parse(words: &[String]) -> Option<Invocation<'_>>
     ensures none { IfNone result (IsUsage (texts words.now)) }
 {
     match words {
-        [command, image, number] => parse_format(command.as_str(), image.as_str(), number.as_str()),
+        [command, image, last] => { parse_three(command.as_str(), image.as_str(), last.as_str()) }
         [command, image] => parse_show(command.as_str(), image.as_str()),
         _ => None,
+    }
+}
+
+fn parse_three<'a>(command: &str, image: &'a str, last: &str) -> Option<Invocation<'a>>
+    ensures some { IfSome result
+        (λ invocation. Asks (command.now ∷ image.now ∷ last.now ∷ []) (command_of invocation)) }
+    ensures none { IfNone result (IsUsage (command.now ∷ image.now ∷ last.now ∷ [])) }
+{
+    if command == "show" {
+        return parse_show_map(image, last);
+    }
+    parse_format(command, image, last)
+}
+
+fn parse_show_map<'a>(image: &'a str, option: &str) -> Option<Invocation<'a>>
+    ensures some { IfSome result
+        (λ invocation. Asks (codes "show" ∷ image.now ∷ option.now ∷ []) (command_of invocation)) }
+    ensures none { IfNone result (IsUsage (codes "show" ∷ image.now ∷ option.now ∷ [])) }
+{
+    if option == "--map" && is_image_name(image) {
+        Some(Invocation::Show {
+            image,
+            with_map: true,
+        })
+    } else {
+        None
     }
 }
 
 fn parse_format<'a>(command: &str, image: &'a str, number: &str) -> Option<Invocation<'a>>
     ensures some { IfSome result
         (λ invocation. Asks (command.now ∷ image.now ∷ number.now ∷ []) (command_of invocation)) }
-    ensures none { IfNone result (IsUsage (command.now ∷ image.now ∷ number.now ∷ [])) }
+    ensures none { command.now ≢ codes "show" → IfNone result (IsUsage (command.now ∷ image.now ∷ number.now ∷ [])) }
 {
     let capacity = parse_capacity(number)?;
     if command == "format" && is_image_name(image) {
@@ -57,7 +83,10 @@ fn parse_show<'a>(command: &str, image: &'a str) -> Option<Invocation<'a>>
     ensures none { IfNone result (IsUsage (command.now ∷ image.now ∷ [])) }
 {
     if command == "show" && is_image_name(image) {
-        Some(Invocation::Show { image })
+        Some(Invocation::Show {
+            image,
+            with_map: false,
+        })
     } else {
         None
     }

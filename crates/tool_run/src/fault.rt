@@ -2,13 +2,17 @@
 ghost use Rattle.std.specs.Prelude.{◌≡◌, ◌++◌, ◌≤◌, List, ℕ, OnOk, OnErr, IsErr};
 ghost use Rattle.tool_ports.specs.Causes.{HasCause};
 ghost use Rattle.tool_ports.specs.Taken.{taken_with, TakesPart};
-ghost use Rattle.tool_run.specs.Inside.{status_of, line_of, fault_of_get, fault_of_put};
-ghost use Rattle.tool_run.specs.Lines.{Tells, cause_name};
+ghost use Rattle.tool_run.specs.Inside.{status_of, line_of, IsPlain, fault_of_get, fault_of_put, fault_of_recovery};
+ghost use Rattle.tool_run.specs.Lines.{Tells, cause_name, outside_line};
 ghost use Rattle.tool_run.specs.declared.fault.Fault.TheVariants.{Memory, WriteFault, Malformed};
 ghost use Rattle.trace_text.specs.Report.{line_feed};
+ghost use Rattle.std.specs.Int.{w64, to_be_bytes};
+ghost use Rattle.hex.specs.Hex.{encode_lower};
 
 use crate::status::Status;
 use heap_model::BadHeader;
+use heap_recover::RecoverFault;
+use itoa::Buffer;
 use std::alloc::AllocError;
 use tool_ports::{Failed, GetFault, PutImageFault, Sink, write_all};
 
@@ -21,6 +25,7 @@ pub enum Fault {
     WriteFault,
     Absent,
     Malformed(BadHeader),
+    Outside { at: u64, value: u64 },
 }
 
 impl Fault {
@@ -34,11 +39,13 @@ impl Fault {
             Fault::WriteFault => 5,
             Fault::Absent => 6,
             Fault::Malformed(_) => 7,
+            Fault::Outside { at: _, value: _ } => 8,
         })
     }
 
-    // The two parts of the line. No memory is needed for them.
+    // The two parts of a line without numbers. No memory is needed for them.
     fn line<'a>(self, image: &'a str) -> (&'static str, &'a str)
+        requires { IsPlain self }
         ensures { result.0.now ++ result.1.now ++ line_feed ≡ line_of self image.now }
     {
         match self {
@@ -48,7 +55,23 @@ impl Fault {
             Fault::WriteFault => ("write fault", ""),
             Fault::Absent => ("no image ", image),
             Fault::Malformed(cause) => ("bad header ", name_of_cause(cause)),
+            Fault::Outside { at: _, value: _ } => ("", ""),
         }
+    }
+
+    // Prints the line of the fault.
+    fn write<O: Sink>(self, image: &str, out: &mut O) -> Result<(), Failed>
+        ensures ok { OnOk result
+            (O.taken out.new ≡ taken_with (O.taken out.old) (line_of self image.now)) }
+        ensures err { OnErr result
+            (TakesPart (line_of self image.now) (O.taken out.old) (O.taken out.new)) }
+        ensures cause { HasCause (O.faults out.old) (O.faults out.new) (IsErr result) }
+    {
+        if let Fault::Outside { at, value } = self {
+            return write_outside(out, at, value);
+        }
+        let (text, detail) = self.line(image);
+        write_line(out, text, detail)
     }
 
     /// Prints the line of the fault, and gives its status. A line that the sink refuses is lost.
@@ -58,8 +81,7 @@ impl Fault {
             (O.taken out.old) (O.taken out.new) }
         ensures later { O.faults out.old ≤ O.faults out.new }
     {
-        let (text, detail) = self.line(image);
-        let _ = write_line(out, text, detail);
+        let _ = self.write(image, out);
         self.status()
     }
 }
@@ -85,9 +107,42 @@ fn write_line<O: Sink>(out: &mut O, text: &str, detail: &str) -> Result<(), Fail
         (TakesPart (text.now ++ detail.now ++ line_feed) (O.taken out.old) (O.taken out.new)) }
     ensures cause { HasCause (O.faults out.old) (O.faults out.new) (IsErr result) }
 {
-    write_all(out, text.as_bytes())?;
-    write_all(out, detail.as_bytes())?;
+    write_two(out, text.as_bytes(), detail.as_bytes())?;
     write_all(out, b"\n")
+}
+
+fn write_outside<O: Sink>(out: &mut O, at: u64, value: u64) -> Result<(), Failed>
+    ensures ok { OnOk result
+        (O.taken out.new ≡ taken_with (O.taken out.old) (outside_line at value)) }
+    ensures err { OnErr result
+        (TakesPart (outside_line at value) (O.taken out.old) (O.taken out.new)) }
+    ensures cause { HasCause (O.faults out.old) (O.faults out.new) (IsErr result) }
+{
+    let mut number = Buffer::new();
+    write_two(out, b"pointer outside at ", number.format(at).as_bytes())?;
+    write_two(out, b" value ", &word_digits(value))?;
+    write_all(out, b"\n")
+}
+
+// A word in sixteen hexadecimal digits.
+fn word_digits(word: u64) -> [u8; 16]
+    ensures { result ≡ encode_lower (to_be_bytes w64 word) }
+{
+    let mut digits = [0; 16];
+    let _ = hex::encode_to_slice(word.to_be_bytes().as_slice(), &mut digits);
+    digits
+}
+
+// One text after the other.
+fn write_two<O: Sink>(out: &mut O, first: &[u8], second: &[u8]) -> Result<(), Failed>
+    ensures ok { OnOk result
+        (O.taken out.new ≡ taken_with (O.taken out.old) (first.now ++ second.now)) }
+    ensures err { OnErr result
+        (TakesPart (first.now ++ second.now) (O.taken out.old) (O.taken out.new)) }
+    ensures cause { HasCause (O.faults out.old) (O.faults out.new) (IsErr result) }
+{
+    write_all(out, first)?;
+    write_all(out, second)
 }
 
 impl From<AllocError> for Fault {
@@ -134,5 +189,17 @@ impl From<BadHeader> for Fault {
 
     fn from(cause: BadHeader) -> Self {
         Fault::Malformed(cause)
+    }
+}
+
+impl From<RecoverFault> for Fault {
+    ghost from_gives = { λ cause fault. fault ≡ fault_of_recovery cause };
+
+    fn from(cause: RecoverFault) -> Self {
+        match cause {
+            RecoverFault::Header(cause) => Fault::Malformed(cause),
+            RecoverFault::Outside { at, value } => Fault::Outside { at, value },
+            RecoverFault::Memory => Fault::Memory,
+        }
     }
 }

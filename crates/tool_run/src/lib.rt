@@ -1,4 +1,4 @@
-//! The tool's top call: the words of a command line, a store of heap images and a sink, to a status.
+//! The tool's top call: does what the words of a command line ask for, and answers a status.
 #![tactic(auto)]
 
 mod command;

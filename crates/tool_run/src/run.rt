@@ -5,8 +5,8 @@ ghost use Rattle.tool_ports.specs.Contents.{told_of};
 ghost use Rattle.tool_run.specs.Command.{Command, Asks, IsUsage, texts};
 ghost use Rattle.tool_run.specs.Inside.{command_of, IsCarriedOut, IsStopped};
 ghost use Rattle.tool_run.specs.Lines.{Tells, write_line};
-ghost use Rattle.tool_run.specs.Outcome.{IsDone, IsWriteFault, AsksToGet, IsAbsent, IsBadHeader, HoldsMalformed, CanBeDone};
-ghost use Rattle.tool_run.specs.Status.{done, usage, out_of_memory, read_fault, write_fault, no_image, bad_header, statuses, LeavesStore, own_line};
+ghost use Rattle.tool_run.specs.Outcome.{IsDone, IsWriteFault, AsksToGet, IsAbsent, IsBadHeader, IsOutsideAt, HoldsMalformed, HoldsOutside, CanBeDone};
+ghost use Rattle.tool_run.specs.Status.{done, usage, out_of_memory, read_fault, write_fault, no_image, bad_header, outside, statuses, LeavesStore, own_line};
 
 use crate::command::{Invocation, parse};
 use crate::delivery::deliver;
@@ -17,7 +17,8 @@ use std::alloc::Global;
 use tool_ports::{ImageStore, Sink};
 
 /// Does what the words ask for. They are those after the program's name: `format IMAGE S` puts an
-/// empty image of S superblocks, `show IMAGE` prints a report on an image. Where there is no result,
+/// empty image of S superblocks, `show IMAGE` recovers an image and prints a report on it, and
+/// `show IMAGE --map` prints a map too. Where there is no result,
 /// a line tells why; one that the sink refuses is lost.
 pub fn run_tool<R, I: ImageStore, O: Sink>(
     _rt: &R,
@@ -40,11 +41,15 @@ pub fn run_tool<R, I: ImageStore, O: Sink>(
         (Rose (O.faults out.old) (O.faults out.new)) (O.taken out.old)
         (λ taken. Tells write_line (O.faults out.old) (O.faults out.new) taken (O.taken out.new)) }
     ensures absent { result ≡ no_image → IsAbsent (texts words.now) (I.contents images.old)
-        (λ line. Tells line (O.faults out.old) (O.faults out.new) (O.taken out.old) (O.taken out.new)) }
+        (λ line. Tells line (O.faults out.old) (O.faults out.new)
+        (O.taken out.old) (O.taken out.new)) }
     ensures cause { result ≡ bad_header → IsBadHeader (texts words.now) (I.contents images.old)
         (λ line. Tells line (O.faults out.old) (O.faults out.new) (O.taken out.old) (O.taken out.new)) }
-    ensures line { IfSome (own_line result)
+    ensures outside { result ≡ outside → IsOutsideAt (texts words.now) (I.contents images.old)
         (λ line. Tells line (O.faults out.old) (O.faults out.new) (O.taken out.old) (O.taken out.new)) }
+    ensures line { IfSome (own_line result)
+        (λ line. Tells line (O.faults out.old) (O.faults out.new)
+        (O.taken out.old) (O.taken out.new)) }
     ensures unchanged { LeavesStore result → I.contents images.new ≡ I.contents images.old }
 
     // When a status comes: nothing else does, but want of memory or a failure before it.
@@ -54,6 +59,9 @@ pub fn run_tool<R, I: ImageStore, O: Sink>(
     ensures always_cause { (name : List ℕ) → AsksToGet (texts words.now) name
         → HoldsMalformed (I.contents images.old) name
         → (result ≡ bad_header) ⊎ (result ≡ out_of_memory) ⊎ (result ≡ read_fault) }
+    ensures always_outside { (name : List ℕ) (at : ℕ) → AsksToGet (texts words.now) name
+        → HoldsOutside (I.contents images.old) name at
+        → (result ≡ outside) ⊎ (result ≡ out_of_memory) ⊎ (result ≡ read_fault) }
     ensures complete { (command : Command) → Asks (texts words.now) command
         → CanBeDone command (I.contents images.old)
         → ¬ (Rose (I.faults images.old) (I.faults images.new))

@@ -1,6 +1,7 @@
 use crate::run_tool;
 use region_header::{format, words_to_bytes};
 use std::alloc::{AllocError, Global};
+use std::process::Abort;
 use std::test::Fail;
 use tool_ports::{FailedPut, ImageStore, MapStore, VecSink};
 
@@ -20,17 +21,50 @@ fn call(
     Ok((status.code(), out))
 }
 
-// An empty image of one superblock with other values in some words, cut or filled up to a length.
-fn image_of(alloc: Global, changes: &[(usize, u64)], length: usize) -> Result<Vec<u8>, AllocError> {
-    let mut words = format(alloc, 1)?;
+// The words of an image with other values in some of them, as bytes.
+fn changed(
+    alloc: Global,
+    mut words: Vec<u64>,
+    changes: &[(usize, u64)],
+) -> Result<Vec<u8>, AllocError> {
     for (at, value) in changes {
         if let Some(word) = words.get_mut(*at) {
             *word = *value;
         }
     }
-    let mut bytes = words_to_bytes(alloc, &words)?.into_vec();
+    Ok(words_to_bytes(alloc, &words)?.into_vec())
+}
+
+// An empty image of one superblock with other values in some words, cut or filled up to a length.
+fn image_of(alloc: Global, changes: &[(usize, u64)], length: usize) -> Result<Vec<u8>, AllocError> {
+    let mut bytes = changed(alloc, format(alloc, 1)?, changes)?;
     bytes.resize(length, 0)?;
     Ok(bytes)
+}
+
+// Shows an image of one superblock, or of two, with these words changed, and compares.
+fn shows(
+    rt: &(impl Abort + AllocGlobal),
+    two: bool,
+    changes: &[(usize, u64)],
+    line: &str,
+    status: u8,
+    text: &str,
+) -> Result<(), Fail> {
+    let alloc = rt.alloc();
+    let mut images = MapStore::new(alloc, Vec::new(alloc), FailedPut::LeavesOld);
+    let words = if two {
+        format(alloc, 2)?
+    } else {
+        format(alloc, 1)?
+    };
+    let image = changed(alloc, words, changes)?;
+    assert!(rt; images.put(alloc, "h", &image).is_ok());
+    let (code, out) = call(alloc, line, &mut images, &[])?;
+    assert_eq!(rt; code, status, "{text} at {changes:?}");
+    assert_eq!(rt; out.bytes(), text.as_bytes(), "{text} at {changes:?}");
+    assert_eq!(rt; images.image("h"), Some(image.as_slice()));
+    Ok(())
 }
 
 #[test]
@@ -78,6 +112,9 @@ fn words_of_another_form_are_usage(rt: HostRuntime) -> Result<(), Fail> {
         "show",
         "show -h",
         "show h h",
+        "show h --mapp",
+        "show --map h",
+        "show h --map 1",
     ] {
         let (status, out) = call(alloc, line, &mut images, &[])?;
         assert_eq!(rt; status, 2, "{line}");
@@ -195,4 +232,111 @@ fn a_failing_sink_is_told_behind_what_it_took(rt: HostRuntime) -> Result<(), Fai
         );
     }
     Ok(())
+}
+
+// A table in block 0 of superblock 0, to which root 0 points.
+const TABLE: [(usize, u64); 3] = [(8, 1), (1_064, 12), (40, 0x5250_0000_0000_2180)];
+
+#[test]
+fn what_the_roots_reach_is_shown(rt: HostRuntime) -> Result<(), Fail> {
+    let node = (1_072, 0x5250_0000_0000_2980);
+    let [used, info, root] = TABLE;
+    let map = "heap 1 clean\nheld 1024 2\nused 1 free 0 fresh 0\nsb 0 class 12 held 0 2\n";
+    for (changes, line, text) in [
+        (
+            [(3, 1); 5],
+            "show h --map",
+            "heap 1 clean\nused 0 free 0 fresh 1\n",
+        ),
+        (
+            [used, info, root, (3, 2), (3, 2)],
+            "show h",
+            "heap 1 dirty\nheld 1024 1\n",
+        ),
+        ([used, info, root, node, (3, 1)], "show h --map", map),
+        (
+            [used, info, root, node, (1_328, 0x5250_0000_0000_2980)],
+            "show h --map",
+            map,
+        ),
+        (
+            [used, info, (48, 0x5250_0000_0000_2180), (1_075, 5), (3, 1)],
+            "show h",
+            "heap 1 clean\nheld 1024 1\n",
+        ),
+        (
+            [used, info, (3, 1), (3, 1), (3, 1)],
+            "show h --map",
+            "heap 1 clean\nused 1 free 1 fresh 0\nsb 0 free\n",
+        ),
+    ] {
+        shows(&rt, false, &changes, line, 0, text)?;
+    }
+    Ok(())
+}
+
+#[test]
+fn a_pointer_outside_is_told_with_its_word(rt: HostRuntime) -> Result<(), Fail> {
+    let [used, info, root] = TABLE;
+    for (changes, text) in [
+        (
+            [used, info, (40, 0x5250_0000_0000_2188)],
+            "pointer outside at 40 value 5250000000002188\n",
+        ),
+        (
+            [(8, 0), info, root],
+            "pointer outside at 40 value 5250000000002180\n",
+        ),
+        (
+            [used, info, (40, 0x5251_0000_0000_2180)],
+            "pointer outside at 40 value 5251000000002180\n",
+        ),
+        (
+            [used, info, (1_063, 1)],
+            "pointer outside at 1063 value 0000000000000001\n",
+        ),
+    ] {
+        shows(&rt, false, &changes, "show h --map", 8, text)?;
+    }
+    let deep = [used, info, root, (1_072, 0x5250_0000_0000_2980), (1_328, 7)];
+    shows(
+        &rt,
+        false,
+        &deep,
+        "show h",
+        8,
+        "pointer outside at 1328 value 0000000000000007\n",
+    )
+}
+
+// A table in superblock 0 of two, and in its bucket 0 a node of superblock 1.
+const TABLE_AND_NODE: [(usize, u64); 5] = [
+    (8, 2),
+    (1_064, 12),
+    (1_072, 2),
+    (40, 0x5250_0000_0000_21c0),
+    (1_080, 0x5250_0000_0001_21c0),
+];
+
+#[test]
+fn superblocks_of_two_kinds_are_shown(rt: HostRuntime) -> Result<(), Fail> {
+    let [used, table, _, root, bucket] = TABLE_AND_NODE;
+    let base = "heap 2 clean\nheld 32 1\nheld 1024 1\n";
+    let outside = "pointer outside at 1080 value 52500000000121c0\n";
+    shows(&rt, true, &TABLE_AND_NODE, "show h", 0, base)?;
+    for (second, status, text) in [
+        (21, 8, outside),
+        (255, 8, outside),
+        (767, 8, outside),
+        (511, 0, "heap 2 clean\nheld 1024 1\nheld large 1 1\n"),
+    ] {
+        let changes = [used, table, (1_072, second), root, bucket];
+        shows(&rt, true, &changes, "show h", status, text)?;
+    }
+    let large = [used, (1_064, 767), (1_072, 0), (48, 0x5250_0000_0000_21c0)];
+    let map = "heap 2 clean\nheld large 2 1\nused 2 free 0 fresh 0\nsb 0 large 2\nsb 1 inside 0\n";
+    shows(&rt, true, &large, "show h --map", 0, map)?;
+    let small = [(8, 1), (1_064, 4), (48, 0x5250_0000_0000_21c0)];
+    let map = "heap 2 clean\nheld 64 1\nused 1 free 0 fresh 1\nsb 0 class 4 held 0\n";
+    shows(&rt, true, &small, "show h --map", 0, map)
 }

@@ -1,1 +1,6 @@
 pub mod Report
+pub mod Recovered
+pub mod Ranges
+pub mod HeapMap
+pub mod Laws
+pub mod Examples

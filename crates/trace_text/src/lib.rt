@@ -1,9 +1,17 @@
 //! The texts that the tool prints of a heap, as bytes.
 #![tactic(auto)]
 
+mod class;
+mod laws;
+mod map;
+mod ranges;
+mod recovered;
 mod report;
 
-pub use report::heap_line;
+pub use laws::{each_held_block_is_told, runs_are_the_longest};
+pub use map::map_lines;
+pub use recovered::{map_text, report_text};
+pub use report::{heap_line, report_lines};
 
 #[cfg(test)]
 mod tests;

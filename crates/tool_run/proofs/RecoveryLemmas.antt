@@ -1,0 +1,88 @@
+-- What recovery of an image's words says of its bytes.
+use Rattle.std.proofs.Common.{◌≡◌, ◌↔◌, ℕ, ◌+◌, ◌-◌, ◌*◌, ◌<◌, ◌≤◌, List, ◌++◌, length, slice_index, slice_index_or, replicate, Result, Ok, Err, Some, None, IfOk, IfErr, OnOk, inl, inr, refl, sym, ap, ◌∙◌, subst, arith}
+use Rattle.std.proofs.lemmas.Bool.{cases_lt}
+use Rattle.std.proofs.Math.ListN.{get_or-append, get_or-replicate}
+use Rattle.std.proofs.Math.Seq.{get_or-append_right}
+use Rattle.heap_model.specs.declared.block.Block.{Block}
+use Rattle.heap_model.specs.Geometry.{clean}
+use Rattle.heap_model.specs.Image.{Image, image_of_bytes}
+use Rattle.heap_model.specs.Header.{IsWellFormed, header_fault, state_of}
+use Rattle.heap_model.specs.Blocks.{layout_of}
+use Rattle.heap_model.specs.Reach.{IsReached, IsOutside}
+use Rattle.heap_model.specs.Recovered.{IsFreeSuperblock, AreAscending}
+use Rattle.heap_model.specs.Recovery.{IsRecovered}
+use Rattle.heap_model.proofs.HeaderLemmas.{no_fault}
+use Rattle.dictionary.specs.DictLinks.{dict_links, root_kinds}
+use Rattle.region_header.specs.Words.{AreWordsOf}
+use Rattle.heap_recover.specs.Fault.{TellsFault}
+use Rattle.heap_recover.specs.declared.answer.Recovered.{Recovered}
+use Rattle.heap_recover.specs.declared.answer.Was.TheVariants.{Clean}
+use Rattle.heap_recover.specs.declared.fault.RecoverFault.{RecoverFault}
+use Rattle.heap_recover.specs.declared.fault.RecoverFault.TheVariants.{Header, Outside, Memory}
+use Rattle.tool_run.specs.Making.{PointsOutside}
+use Rattle.tool_run.specs.Recovering.{IsRecoveryOf, IsRecoveryFault}
+
+-- each kind of a root is one of three
+small_kind : (k d : ℕ) → k < length root_kinds → slice_index_or root_kinds k d < 3
+unfolding root_kinds
+small_kind k d below = elim (cases_lt k 8) as (λ _. slice_index_or root_kinds k d < 3) [
+  | inl low ↦ rw (get_or-append (replicate 8 1) (replicate 1016 0) d k low, get_or-replicate 8 k 1 d low) (omega arith)
+  | inr high ↦ rw (get_or-append_right (replicate 8 1) (replicate 1016 0) k d high, get_or-replicate 1016 (k - 8) 0 d (omega arith)) (omega arith)
+]
+
+pub small_kinds : (kinds : List ℕ) → kinds ≡ root_kinds → (k d : ℕ) → k < length kinds → slice_index_or kinds k d < 3
+small_kinds kinds are = subst (λ (ks : List ℕ). (k d : ℕ) → k < length ks → slice_index_or ks k d < 3) (sym are) small_kind
+
+-- the words of an image are those of its bytes, at each index
+words_are : (words bytes : List ℕ) → AreWordsOf words bytes → slice_index words ≡ image_of_bytes bytes
+words_are words bytes of = λ i at. of.word at i
+
+-- an image recovered with the kinds of roots
+RecoversWith : Image → (ℕ → ℕ) → Recovered → Type 0
+RecoversWith image kinds answer =
+    AreAscending (λ (b : Block). b.first_word) (IsReached image kinds dict_links) answer.heap.held
+    × AreAscending (λ d. d) (IsFreeSuperblock (layout_of image) (IsReached image kinds dict_links)) answer.free.items
+    × IsRecovered image (slice_index answer.heap.words) (IsReached image kinds dict_links)
+    × ((answer.was ≡ Clean) ↔ (state_of image ≡ clean))
+
+module _ (words kinds bytes : List ℕ) (kinds_are : kinds ≡ root_kinds) (of : AreWordsOf words bytes) where
+  -- the heap is what recovery of the bytes gives
+  pub recovery_of : (result : Result Recovered RecoverFault)
+      → IfOk result (λ answer. AreAscending (λ (b : Block). b.first_word) (IsReached (slice_index words) (slice_index kinds) dict_links) answer.heap.held)
+      → IfOk result (λ answer. AreAscending (λ d. d) (IsFreeSuperblock (layout_of (slice_index words)) (IsReached (slice_index words) (slice_index kinds) dict_links)) answer.free.items)
+      → IfOk result (λ answer. IsRecovered (slice_index words) (slice_index answer.heap.words) (IsReached (slice_index words) (slice_index kinds) dict_links))
+      → IfOk result (λ answer. (answer.was ≡ Clean) ↔ (state_of (slice_index words) ≡ clean))
+      → IfOk result (IsRecoveryOf (image_of_bytes bytes))
+  unfolding RecoversWith
+  recovery_of (Err e) held free left was = tt
+  recovery_of (Ok answer) held free left was =
+      let here : RecoversWith (slice_index words) (slice_index kinds) answer = (held, free, left, was) in
+      let kinds_same : RecoversWith (slice_index words) (slice_index root_kinds) answer = subst (λ (ks : List ℕ). RecoversWith (slice_index words) (slice_index ks) answer) kinds_are here in
+      let there : RecoversWith (image_of_bytes bytes) (slice_index root_kinds) answer = subst (λ (image : Image). RecoversWith image (slice_index root_kinds) answer) (words_are words bytes of) kinds_same in
+      record { recovers = record { held_are = there.0; free_are = there.1; words_are = there.2 }; was = there.3 }
+
+  -- what points outside in the bytes does so in the words
+  outside_words : (at : ℕ) → PointsOutside (image_of_bytes bytes) at → IsOutside (slice_index words) (slice_index kinds) dict_links at
+  outside_words at points =
+      let kinds_same : IsOutside (image_of_bytes bytes) (slice_index kinds) dict_links at = subst (λ (ks : List ℕ). IsOutside (image_of_bytes bytes) (slice_index ks) dict_links at) (sym kinds_are) points in
+      subst (λ (image : Image). IsOutside image (slice_index kinds) dict_links at) (sym (words_are words bytes of)) kinds_same
+
+  pub none_outside : (result : Result Recovered RecoverFault) → OnOk result ((at : ℕ) → IsOutside (slice_index words) (slice_index kinds) dict_links at → ⊥)
+      → OnOk result ((at : ℕ) → PointsOutside (image_of_bytes bytes) at → ⊥)
+  none_outside (Err e) none = tt
+  none_outside (Ok answer) none = λ at points. none at (outside_words at points)
+
+  -- why the bytes are not recovered
+  pub recovery_fault : (result : Result Recovered RecoverFault) → IsWellFormed (length bytes) (image_of_bytes bytes)
+      → IfErr result (TellsFault (8 * length words) (slice_index words) (slice_index kinds) dict_links) → IfErr result (IsRecoveryFault (image_of_bytes bytes))
+  recovery_fault (Ok answer) good why = tt
+  recovery_fault (Err Memory) good why = tt
+  recovery_fault (Err (Header cause)) good why =
+      let none : header_fault (length bytes) (image_of_bytes bytes) ≡ None = no_fault (length bytes) (image_of_bytes bytes) good in
+      let some : header_fault (8 * length words) (image_of_bytes bytes) ≡ Some cause = subst (λ (image : Image). header_fault (8 * length words) image ≡ Some cause) (words_are words bytes of) why in
+      let same : header_fault (length bytes) (image_of_bytes bytes) ≡ Some cause = subst (λ n. header_fault n (image_of_bytes bytes) ≡ Some cause) of.count some in
+      absurd (cc)
+  recovery_fault (Err (Outside at value)) good why =
+      let kinds_same : IsOutside (slice_index words) (slice_index root_kinds) dict_links at = subst (λ (ks : List ℕ). IsOutside (slice_index words) (slice_index ks) dict_links at) kinds_are why.1 in
+      let there : PointsOutside (image_of_bytes bytes) at = subst (λ (image : Image). IsOutside image (slice_index root_kinds) dict_links at) (words_are words bytes of) kinds_same in
+      (there, why.2 ∙ of.word at)

@@ -1,0 +1,6 @@
+pub mod TextLemmas
+pub mod RunLemmas
+pub mod OrderLemmas
+pub mod MapLemmas
+pub mod LawLemmas
+pub mod LongestLemmas

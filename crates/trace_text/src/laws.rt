@@ -1,0 +1,36 @@
+//! What the texts tell of a heap at rest, as functions with nothing to run.
+ghost use Rattle.std.specs.Prelude.{◌≡◌, ◌<◌, ◌+◌, ◌-◌, ◌*◌, ◌/◌, ℕ, List, true, Contains, slice_index};
+ghost use Rattle.heap_model.specs.declared.block.Block.{Block};
+ghost use Rattle.heap_model.specs.Geometry.{start_word, superblock_words};
+ghost use Rattle.heap_model.specs.Header.{capacity_of};
+ghost use Rattle.heap_model.specs.Recovered.{IsBlockOfClass};
+ghost use Rattle.heap_model.specs.Rest.{IsReady};
+ghost use Rattle.heap_model.specs.Sizes.{IsClass, words_of_class};
+ghost use Rattle.trace_text.specs.HeapMap.{begins_in, index_of, first_of};
+ghost use Rattle.trace_text.specs.Ranges.{longest_runs, AreLongestRuns};
+ghost use Rattle.trace_text.specs.Laws.{IsCounted};
+
+/// The texts tell of each held block.
+pub fn each_held_block_is_told()
+    // The report counts it.
+    ensures counted { (words : List ℕ) (held : List Block) (b : Block) → IsReady words held
+        → Contains held b → IsCounted (capacity_of (slice_index words)) b }
+
+    // In the line of its superblock a block of a class stands under its index.
+    ensures begins { (capacity class d index : ℕ) (b : Block) → IsClass class
+        → IsBlockOfClass capacity class d index b → begins_in capacity d b ≡ true }
+    ensures index { (capacity class d index : ℕ) (b : Block) → IsClass class
+        → IsBlockOfClass capacity class d index b → index_of capacity class d b ≡ index }
+
+    // A superblock behind the first of a large block is told with that first one.
+    ensures inside { (words : List ℕ) (held : List Block) (b : Block) (first superblocks d : ℕ)
+        → IsReady words held → Contains held b
+        → b.first_word ≡ start_word (capacity_of (slice_index words)) first
+        → b.words ≡ superblock_words * superblocks → first < d → d < first + superblocks
+        → first_of (capacity_of (slice_index words)) d held ≡ first }
+{}
+
+/// The runs that are printed are the longest.
+pub fn runs_are_the_longest()
+    ensures { (ns : List ℕ) → AreLongestRuns ns (longest_runs ns) }
+{}
