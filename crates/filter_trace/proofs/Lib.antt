@@ -3,3 +3,4 @@ mod PairLemmas
 mod StepLemmas
 mod TraceLemmas
 mod MarksLemmas
+mod TestLemmas

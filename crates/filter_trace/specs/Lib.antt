@@ -1,4 +1,5 @@
 pub mod Bits
 pub mod Pairs
+pub mod Tables
 pub mod Trace
 pub mod MarksInside

@@ -13,3 +13,6 @@ pub use fault::TraceFault;
 pub use filter::Filter;
 pub use marks::Marks;
 pub use worklist::trace;
+
+#[cfg(test)]
+mod tests;

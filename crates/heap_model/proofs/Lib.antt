@@ -3,4 +3,15 @@ pub mod BlockLemmas
 pub mod ImageLemmas
 pub mod ReachLemmas
 pub mod HeaderLemmas
+pub mod MemberLemmas
+pub mod CountingLemmas
+pub mod PartLemmas
+pub mod StandingLemmas
+pub mod ChainLemmas
+pub mod LeftLemmas
+pub mod PlaceLemmas
+pub mod RecoveredLemmas
+pub mod ReadyLemmas
+pub mod EmptyLemmas
+pub mod CutLemmas
 mod ExampleLemmas

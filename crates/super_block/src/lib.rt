@@ -8,6 +8,7 @@ mod info;
 mod laws;
 mod layout;
 mod naming;
+mod ready;
 
 pub use directory::Directory;
 pub use division::Division;
@@ -22,3 +23,4 @@ pub use layout::{
     WORD_BYTES,
 };
 pub use naming::{block_at, name};
+pub use ready::{Ready, an_empty_heap_is_ready, what_recovery_leaves_is_ready};

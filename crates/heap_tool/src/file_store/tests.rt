@@ -1,4 +1,5 @@
-//! The store over real files, and its loop of reads over a reader that fails in the middle.
+//! The store over real files, and its loop of reads over a reader that fails in the middle. All
+//! tests run in one folder, so each has names of its own.
 use super::*;
 use std::test::Fail;
 
@@ -21,11 +22,11 @@ fn an_image_is_put_in_a_file_and_got_back(rt: HostRuntime) -> Result<(), Fail> {
     let mut store = FileStore::new(&rt);
     let long = vec![in alloc; 7; 9_999]?;
     for bytes in [long.as_slice(), b"second", b""] {
-        assert_eq!(rt; put(&mut store, alloc, "heap", bytes), Ok(()));
-        let image = get(&mut store, alloc, "heap").ok();
+        assert_eq!(rt; put(&mut store, alloc, "image", bytes), Ok(()));
+        let image = get(&mut store, alloc, "image").ok();
         assert!(rt; image.is_some_and(|got| got.as_slice() == bytes));
     }
-    assert_eq!(rt; fs::exists(&rt, "heap.new")?, false);
+    assert_eq!(rt; fs::exists(&rt, "image.new")?, false);
     assert_eq!(rt; store.faults.count, 0);
     Ok(())
 }
@@ -36,7 +37,7 @@ fn what_is_not_there_is_absent_and_all_else_has_failed(rt: HostRuntime) -> Resul
     let mut store = FileStore::new(&rt);
     fs::create_dir(&rt, "folder")?;
     assert_eq!(rt;
-        get(&mut store, alloc, "heap").err(),
+        get(&mut store, alloc, "missing").err(),
         Some(GetFault::Absent)
     );
     assert_eq!(rt; store.faults.count, 0);
@@ -45,7 +46,7 @@ fn what_is_not_there_is_absent_and_all_else_has_failed(rt: HostRuntime) -> Resul
         Some(GetFault::Failed)
     );
     assert_eq!(rt;
-        put(&mut store, alloc, "missing/heap", b"a"),
+        put(&mut store, alloc, "missing/image", b"a"),
         Err(PutImageFault::Failed)
     );
     assert_eq!(rt;

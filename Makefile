@@ -1,0 +1,22 @@
+# make         builds the proved heap_tool and says where it lies
+# make check   every check: the gate
+# make bench   times the program beside the system's tools
+# make clean   removes what these made
+.PHONY: all check bench clean
+
+all: bin/heap_tool
+
+bin/heap_tool: crates.txt $(wildcard crates/*/src/*.rt crates/*/specs/*.antt crates/*/proofs/*.antt)
+	cd crates/heap_tool && rt run
+	mkdir -p bin
+	cp crates/heap_tool/out/heap_tool bin/heap_tool
+	@echo "the program is bin/heap_tool"
+
+check:
+	.ci/run
+
+bench: bin/heap_tool
+	bench/run
+
+clean:
+	rm -rf bin crates/*/out

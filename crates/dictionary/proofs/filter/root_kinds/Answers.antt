@@ -1,0 +1,7 @@
+use Rattle.std.proofs.Common.{◌≡◌, ◌-◌, ◌++◌, replicate, ◌∙◌, ap, ℕ, arith}
+use Rattle.dictionary.specs.DictLinks.{root_kinds}
+use Rattle.dictionary.proofs.filter.root_kinds.Goals as goal
+
+pub returns : goal.returns
+unfolding root_kinds
+returns c = let eight : c.loop-i.i ≡ 8 = omega arith in c.loop-i.invariant ∙ ap (λ (i : ℕ). replicate i 1 ++ replicate (1024 - i) 0) eight

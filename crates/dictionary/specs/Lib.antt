@@ -1,0 +1,2 @@
+pub mod DictLinks
+pub mod Laws

@@ -1,0 +1,113 @@
+//! Where the blocks of the dictionary hold pointers.
+
+ghost use Rattle.std.specs.Prelude.{◌≡◌, length, slice_get};
+ghost use Rattle.dictionary.specs.DictLinks.{all_to_nodes, first_to_node, dict_links, root_kinds};
+
+use filter_trace::Filter;
+use super_block::ROOTS;
+
+/// The kind of a block without links: what a root that is not the dictionary's leads to.
+pub const OTHER: u32 = 0;
+
+/// The kind of a table: each of its words leads to the first node of a bucket.
+pub const TABLE: u32 = 1;
+
+/// The kind of a node: its first word leads to the next node of its bucket.
+pub const NODE: u32 = 2;
+
+/// How many roots lead to the dictionary's tables, one for each shard.
+pub const SHARDS: usize = 8;
+
+/// The kind of each root: the first eight lead to tables, and the others to blocks without links.
+pub fn root_kinds() -> [u32; ROOTS as usize]
+    ensures { result ≡ root_kinds }
+{
+    let mut kinds = [OTHER; ROOTS as usize];
+    for i in 0..SHARDS {
+        kinds[i] = TABLE;
+    }
+    kinds
+}
+
+/// The filter of the dictionary's tables and nodes.
+#[derive(Clone, Copy, PartialEq, Eq, Debug)]
+pub struct DictFilter;
+
+impl Filter for DictFilter {
+    ghost use Rattle.dictionary.specs.DictLinks.{dict_links};
+    ghost use Rattle.dictionary.specs.Laws.{are_inside, are_few};
+
+    const KINDS: u32 = 3;
+
+    ghost KINDS = { 3 };
+
+    ghost links_of = { λ _. dict_links };
+
+    fn links(&self, kind: u32, block: &[u64], at: usize) -> Option<(usize, u32)> {
+        match kind {
+            TABLE => bucket(block, at),
+            NODE => next(block, at),
+            _ => None,
+        }
+    }
+
+    ghost inside = { λ _. are_inside };
+
+    ghost few = { λ _ kind block. are_few kind block };
+}
+
+/// The link number `at` of a table: its word `at`.
+fn bucket(block: &[u64], at: usize) -> Option<(usize, u32)>
+    ensures { result ≡ slice_get (all_to_nodes 0 block.now) at }
+{
+    if at < block.len() {
+        Some((at, NODE))
+    } else {
+        None
+    }
+}
+
+/// The link number `at` of a node: its first word.
+fn next(block: &[u64], at: usize) -> Option<(usize, u32)>
+    ensures { result ≡ slice_get (first_to_node block.now) at }
+{
+    (at == 0 && !block.is_empty()).then_some((0, NODE))
+}
+
+#[cfg(test)]
+mod tests {
+    use super::*;
+
+    /// The links of a block, as far as there are five.
+    fn first_links<F: Filter>(filter: &F, kind: u32, block: &[u64]) -> [Option<(usize, u32)>; 5] {
+        [0, 1, 2, 3, 4].map(|at| filter.links(kind, block, at))
+    }
+
+    #[test]
+    fn a_table_links_each_word_and_a_node_its_first(rt: HostRuntime) {
+        let words = [5, 0, 7, 9];
+        let all = [Some((0, 2)), Some((1, 2)), Some((2, 2)), Some((3, 2)), None];
+        let first = [Some((0, 2)), None, None, None, None];
+        for (kind, links) in [
+            (TABLE, all),
+            (NODE, first),
+            (OTHER, [None; 5]),
+            (3, [None; 5]),
+        ] {
+            assert_eq!(rt;
+                first_links(&DictFilter, kind, &words),
+                links,
+                "of kind {kind}"
+            );
+        }
+    }
+
+    #[test]
+    fn the_first_eight_roots_lead_to_tables(rt: HostRuntime) {
+        let kinds = root_kinds();
+        assert_eq!(rt;
+            (kinds[0], kinds[7], kinds[8], kinds[1023]),
+            (TABLE, TABLE, OTHER, OTHER)
+        );
+    }
+}

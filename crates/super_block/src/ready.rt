@@ -1,0 +1,127 @@
+//! A heap at rest, which is what recovery leaves and what an allocator begins with.
+
+ghost use Rattle.std.specs.Prelude.{◌≡◌, ◌<◌, ◌≤◌, ◌*◌, ℕ, List, [], length, slice_index, Contains, AllPairs, IfOk};
+ghost use Rattle.heap_model.specs.declared.block.Block.{Block};
+ghost use Rattle.heap_model.specs.Geometry.{largest_capacity};
+ghost use Rattle.heap_model.specs.Header.{IsWellFormed, capacity_of, empty_words};
+ghost use Rattle.heap_model.specs.Blocks.{IsBlock, layout_of};
+ghost use Rattle.heap_model.specs.Recovery.{IsRecovered};
+ghost use Rattle.heap_model.specs.Rest.{IsReady};
+
+use crate::geometry::Geometry;
+use crate::layout::CAPACITY_WORD;
+use heap_model::Block;
+use std::marker::Model;
+
+/// A heap at rest: its words, and the blocks that are held, in order of offset. Every other block
+/// is free: it stands in its superblock's chain, or its superblock in the list of the free ones.
+#[derive(Drop)]
+pub struct Ready {
+    words: Vec<u64>,
+    held: Vec<Block>,
+}
+
+impl Model for Ready {
+    ghost use Rattle.heap_model.specs.Rest.{IsReady};
+    ghost use Rattle.super_block.specs.Contents.{Contents};
+
+    ghost Value = { Contents };
+
+    ghost view = { λ a. record { words = a.words.items; held = a.held.items } };
+
+    ghost invariant = { λ a. IsReady a.words.items a.held.items };
+}
+
+impl Ready {
+    /// The heap of these words and held blocks.
+    pub fn new(words: Vec<u64>, held: Vec<Block>) -> Ready
+        requires { IsReady words.items held.items }
+        ensures words { result.words ≡ words.items }
+        ensures held { result.held ≡ held.items }
+    {
+        Ready { words, held }
+    }
+
+    /// The words of the image.
+    pub fn words(&self) -> &[u64]
+        ensures words { result.now ≡ self.now.words }
+        ensures ready { IsReady self.now.words self.now.held }
+    {
+        &self.words
+    }
+
+    /// The held blocks, in order of offset.
+    pub fn held(&self) -> &[Block]
+        ensures held { result.now ≡ self.now.held }
+        ensures ready { IsReady self.now.words self.now.held }
+    {
+        &self.held
+    }
+
+    /// The layout of the image.
+    pub fn geometry(&self) -> Geometry
+        ensures { result.capacity ≡ capacity_of (slice_index self.now.words) }
+    {
+        Geometry::new(self.words[CAPACITY_WORD as usize])
+    }
+
+    /// The words and the held blocks, which are the caller's from now on.
+    pub fn into_parts(self) -> (Vec<u64>, Vec<Block>)
+        ensures words { result.0.items ≡ self.words }
+        ensures held { result.1.items ≡ self.held }
+        ensures ready { IsReady self.words self.held }
+    {
+        (self.words, self.held)
+    }
+}
+
+/// What recovery leaves is a heap at rest: of an image with a good header, where the held blocks
+/// are blocks of it in order of offset.
+pub fn what_recovery_leaves_is_ready()
+    ensures { (old new : List ℕ) (held : List Block)
+        → IsWellFormed (8 * length old) (slice_index old)
+        → length new ≡ length old
+        → ((b : Block) → Contains held b → IsBlock (layout_of (slice_index old)) b)
+        → AllPairs (λ (a b : Block). a.first_word < b.first_word) held
+        → IsRecovered (slice_index old) (slice_index new) (Contains held)
+        → IsReady new held }
+{}
+
+/// An empty heap is at rest, with no block held.
+pub fn an_empty_heap_is_ready()
+    ensures { (capacity : ℕ) → 1 ≤ capacity → capacity ≤ largest_capacity
+        → IsReady (empty_words capacity) [] }
+{}
+
+#[cfg(test)]
+mod tests {
+    use super::*;
+    use crate::layout::{CLEAN, MAGIC, MAGIC_WORD, STATE_WORD, VERSION, VERSION_WORD};
+    use std::alloc::{AllocError, Global};
+    use std::test::Fail;
+
+    /// The words of an empty heap of one superblock.
+    fn empty_words(alloc: Global) -> Result<Vec<u64>, AllocError>
+        ensures { IfOk result (λ words. IsReady words.items []) }
+    {
+        let mut words = vec![in alloc; 0; 9_264]?;
+        words[MAGIC_WORD as usize] = MAGIC;
+        words[VERSION_WORD as usize] = VERSION;
+        words[CAPACITY_WORD as usize] = 1;
+        words[STATE_WORD as usize] = CLEAN;
+        Ok(words)
+    }
+
+    #[test]
+    fn an_empty_heap_is_made_and_taken_apart(rt: HostRuntime) -> Result<(), Fail> {
+        let words = empty_words(rt.alloc())?;
+        let heap = Ready::new(words, Vec::new(rt.alloc()));
+        assert_eq!(rt; heap.geometry().capacity(), 1);
+        assert_eq!(rt; heap.words().len(), 9_264);
+        assert!(rt; heap.held().is_empty());
+        let (words, held) = heap.into_parts();
+        assert_eq!(rt; words.len(), 9_264);
+        assert!(rt; held.is_empty());
+        Ok(())
+    }
+}
