@@ -1,7 +1,10 @@
 pub mod Alloc
 pub mod Calls
 pub mod Free
+pub mod Links
 pub mod Looks
+pub mod Medium
+pub mod MediumView
 pub mod Sound
 pub mod Tickets
 pub mod View

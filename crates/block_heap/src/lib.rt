@@ -4,12 +4,18 @@
 
 mod durable;
 mod fault;
+mod head;
+mod lists;
+mod look;
+mod medium;
 mod seat;
 mod spot;
+mod superblocks;
 
 pub use durable::{keep_first, persist};
 pub use fault::{AllocFault, Looks};
 pub use heap_model::Block;
-pub use line_memory::Stopped;
+pub use line_memory::{Chance, Closed, Stopped};
+pub use look::Look;
 pub use seat::HeapSeat;
 pub use spot::Spot;
