@@ -187,3 +187,15 @@ fence_is gives v w takes =
             ];
         pending = λ word out p. inr (done.durable word p ∙ sym (ap (λ (xs : List ℕ). get_or xs word 0) volatile));
       })
+
+-- no step at all
+pub stores_nothing : (to : ℕ → Type 0) (v : View) → StoresOnly to v v
+stores_nothing to v =
+    record {
+      words = refl;
+      budget = refl;
+      drawn = omega arith;
+      volatile = λ word out. refl;
+      durable = λ word out. inl refl;
+      pending = λ word out p. inl p;
+    }

@@ -1,6 +1,8 @@
 pub mod Alloc
 pub mod Calls
+pub mod Divide
 pub mod Free
+pub mod Held
 pub mod Links
 pub mod Looks
 pub mod Medium

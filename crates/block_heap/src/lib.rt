@@ -2,9 +2,11 @@
 //! stores and makes durable.
 #![tactic(auto)]
 
+mod divide;
 mod durable;
 mod fault;
 mod head;
+mod held;
 mod lists;
 mod look;
 mod medium;
