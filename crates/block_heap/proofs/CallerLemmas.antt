@@ -1,0 +1,126 @@
+-- How what one call leaves and what the next one leaves go together, for callers of a seat.
+use Rattle.std.proofs.Common.{◌≡◌, ◌≢◌, ℕ, ◌+◌, ◌≤◌, List, Contains, refl, sym, ◌∙◌, subst, arith, inl, inr, None, Some, Option}
+use Rattle.heap_model.specs.declared.block.Block.{Block}
+use Rattle.heap_model.specs.Blocks.{IsIn, AreOneOrApart}
+use Rattle.heap_model.specs.Geometry.{root_word}
+use Rattle.block_heap.specs.declared.spot.Spot.{Spot}
+use Rattle.block_heap.specs.declared.spot.Spot.TheVariants.{InBlock, Root}
+use Rattle.block_heap.specs.View.{View, word_of}
+use Rattle.block_heap.specs.Words.{IsOwn, in_block, in_root, IsOwnSpot, MayBe, MayRead, KeepsWord, KeepsOwn, MayStore}
+use Rattle.block_heap.specs.Calls.{IsWrittenWith}
+
+-- own words are the same where blocks and roots are
+pub own_same : (v w : View) (word : ℕ) → w.held ≡ v.held → w.roots ≡ v.roots → IsOwn v.held v.roots word → IsOwn w.held w.roots word
+own_same v w word h r own =
+    let one : IsOwn w.held v.roots word = subst (λ (held : List Block). IsOwn held v.roots word) (sym h) own in
+    subst (λ (roots : List ℕ). IsOwn w.held roots word) (sym r) one
+
+-- what may be read of a known value that stays
+known_stays : (known kept : Option ℕ) (value : ℕ) → ((x : ℕ) → known ≡ Some x → kept ≡ Some x) → MayBe kept value → MayBe known value
+known_stays None kept value stays may = tt
+known_stays (Some x) None value stays may = let e : None ≡ Some x = stays x refl in absurd (cc)
+known_stays (Some x) (Some y) value stays may = let e : Some y ≡ Some x = stays x refl in cc
+
+-- what may be read of a word that keeps its value could be read before
+pub read_before : (v w : View) (word value : ℕ) → KeepsWord v w word → MayRead w word value → MayRead v word value
+read_before v w word value keeps may =
+    elim may [
+      | inl loaded ↦ inl (known_stays (v.volatile word) (w.volatile word) value keeps.volatile loaded)
+      | inr left ↦ keeps.durable value left
+    ]
+
+pub keeps_word_then : (v u w : View) (word : ℕ) → KeepsWord v u word → KeepsWord u w word → KeepsWord v w word
+keeps_word_then v u w word a b =
+    record {
+      volatile = λ value e. b.volatile value (a.volatile value e);
+      durable = λ value may. read_before v u word value a (b.durable value may);
+    }
+
+pub keeps_own_then : (v u w : View) → KeepsOwn v u → KeepsOwn u w → KeepsOwn v w
+keeps_own_then v u w a b =
+    record {
+      held = b.held ∙ a.held;
+      roots = b.roots ∙ a.roots;
+      words = λ word own. keeps_word_then v u w word (a.words word own) (b.words word (own_same v u word a.held a.roots own));
+    }
+
+-- a store, and then a call that stores nothing
+pub store_then : (word value : ℕ) (v u w : View) → IsOwn v.held v.roots word → MayStore word value v u → KeepsOwn u w → MayStore word value v w
+store_then word value v u w owns a b =
+    record {
+      held = b.held ∙ a.held;
+      roots = b.roots ∙ a.roots;
+      others = λ other own differs. keeps_word_then v u w other (a.others other own differs) (b.words other (own_same v u other a.held a.roots own));
+      stored = λ read may. a.stored read (read_before u w word read (b.words word (own_same v u word a.held a.roots owns)) may);
+    }
+
+-- a call that stores nothing, and then a store
+pub then_store : (word value : ℕ) (v u w : View) → IsOwn v.held v.roots word → KeepsOwn v u → MayStore word value u w → MayStore word value v w
+then_store word value v u w owns a b =
+    record {
+      held = b.held ∙ a.held;
+      roots = b.roots ∙ a.roots;
+      others = λ other own differs. keeps_word_then v u w other (a.words other own) (b.others other (own_same v u other a.held a.roots own) differs);
+      stored = λ read may.
+          elim (b.stored read may) [
+            | inl e ↦ inl e
+            | inr before ↦ inr (read_before v u word read (a.words word owns) before)
+          ];
+    }
+
+-- a held block is held in a view that holds the same
+pub held_in : (v w : View) (b : Block) → w.held ≡ v.held → Contains v.held b → Contains w.held b
+held_in v w b e h = subst (λ (held : List Block). Contains held b) (sym e) h
+
+-- the word of a spot is own
+pub own_spot : (v : View) (s : Spot) → IsOwnSpot v s → IsOwn v.held v.roots (word_of s)
+own_spot v (InBlock b index) h = in_block b (b.first_word + index) h.0 (record { from = omega arith; until = omega (arith, h.1) })
+own_spot v (Root i) h = in_root i (root_word i) h refl
+
+-- a write-back of a spot makes its word pending
+pub spot_written : (v : View) (s : Spot) → IsOwnSpot v s → IsWrittenWith s (word_of s)
+spot_written v (InBlock b index) h = (record { from = omega arith; until = omega (arith, h.1) }, refl)
+spot_written v (Root i) h = refl
+
+-- what loads see stays
+pub seen_then : (v w : View) (word value : ℕ) → IsOwn v.held v.roots word → KeepsOwn v w → v.volatile word ≡ Some value → w.volatile word ≡ Some value
+seen_then v w word value owns keeps seen = (keeps.words word owns).volatile value seen
+
+-- no two numbers are one
+two_numbers : (x : ℕ) → 0 ≡ x → 1 ≡ x → ⊥
+two_numbers x a b = omega arith
+
+-- a word with one value, whatever is read, is known
+one_value : (known : Option ℕ) (x : ℕ) → ((value : ℕ) → MayBe known value → value ≡ x) → known ≡ Some x
+one_value None x all = absurd (two_numbers x (all 0 tt) (all 1 tt))
+one_value (Some y) x all = let e = all y refl in cc
+
+-- what may be read of a word that is known
+may_be_known : (known : Option ℕ) (x value : ℕ) → known ≡ Some x → MayBe known value → value ≡ x
+may_be_known None x value e may = absurd (cc)
+may_be_known (Some y) x value e may = let s : y ≡ x = cc in may ∙ s
+
+-- a durable value that isn't stored to stays durable
+pub stays_durable : (v w : View) (word x : ℕ) → KeepsWord v w word → v.volatile word ≡ Some x → v.durable word ≡ Some x → w.durable word ≡ Some x
+stays_durable v w word x keeps seen left =
+    one_value (w.durable word) x
+    (λ value may.
+    elim (keeps.durable value may) [
+      | inl m ↦ may_be_known (v.volatile word) x value seen m
+      | inr m ↦ may_be_known (v.durable word) x value left m
+    ])
+
+-- the first word of one held block is no word of another
+pub first_outside : (a b : Block) → 1 ≤ a.words → AreOneOrApart a b → a ≢ b → IsIn b a.first_word → ⊥
+first_outside a b some apart differ inside =
+    elim apart [
+      | inl e ↦ differ e
+      | inr far ↦
+          let from = inside.from in
+          let until = inside.until in
+          elim far [ inl l ↦ omega arith | inr l ↦ omega arith ]
+    ]
+
+-- a block that is held isn't one that isn't
+pub not_new : (v : View) (a b : Block) → Contains v.held a → (Contains v.held b → ⊥) → a ≢ b
+not_new v a b has new e = new (subst (λ (x : Block). Contains v.held x) e has)

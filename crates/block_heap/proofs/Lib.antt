@@ -1,0 +1,4 @@
+pub mod CallerLemmas
+pub mod DivideLemmas
+pub mod HeldLemmas
+pub mod MediumLemmas

@@ -1,0 +1,201 @@
+-- What each step on the words of an open heap leaves, and how rows of steps go together.
+use Rattle.std.proofs.Common.{◌≡◌, ℕ, ◌+◌, ◌<◌, ◌≤◌, ◌⊎◌, List, length, get_or, set, refl, sym, ◌∙◌, ap, subst, arith, inl, inr, None, Some, length-set, get_or-set_same, get_or-set_other}
+use Rattle.std.proofs.lemmas.Bool.{cases_eq}
+use Rattle.line_memory.specs.View.{View, word_count, volatile_at, durable_at, IsPending, IsSound, line_of}
+use Rattle.line_memory.specs.Crash.{IsValueOf, AddsNothing, OnlyWritesBack}
+use Rattle.line_memory.specs.Steps.{TakesBy, RefusesBy, HadStopped, StopsBy, SameTickets, IsLoad, IsStore, IsWriteBack, IsFence, after_draw, stopped_at}
+use Rattle.line_memory.proofs.CallerLemmas.{draw_adds, contains_or_not}
+use Rattle.block_heap.specs.Medium.{StoresOnly, Goes, Halts, IsLoaded, IsStored, IsWritten, IsFenced, IsPersisted}
+
+-- a draw leaves all but the durable words
+pub draw_stores : (r : ℕ) (v w : View) → w ≡ after_draw r v → StoresOnly (λ _. ⊥) v w
+draw_stores r v w e =
+    subst (λ (x : View). StoresOnly (λ _. ⊥) v x) (sym e)
+    (record {
+        words = refl;
+        budget = refl;
+        drawn = omega arith;
+        volatile = λ word out. refl;
+        durable = λ word out. (draw_adds r v).durable word;
+        pending = λ word out p. inl p;
+      })
+
+-- two rows of steps
+pub stores_then : (to : ℕ → Type 0) (v u w : View) → StoresOnly to v u → StoresOnly to u w → StoresOnly to v w
+stores_then to v u w a b =
+    record {
+      words = b.words ∙ a.words;
+      budget = b.budget ∙ a.budget;
+      drawn = let p = a.drawn in let q = b.drawn in omega arith;
+      volatile = λ word out. b.volatile word out ∙ a.volatile word out;
+      durable = λ word out.
+          elim (b.durable word out) as (λ _. IsValueOf v word (durable_at w word)) [
+            | inl e ↦ subst (λ (x : ℕ). IsValueOf v word x) (sym e) (a.durable word out)
+            | inr e ↦ inr (e ∙ a.volatile word out)
+          ];
+      pending = λ word out p.
+          elim (a.pending word out p) as (λ _. IsPending w word ⊎ (durable_at w word ≡ volatile_at w word)) [
+            | inl q ↦ b.pending word out q
+            | inr done ↦
+                elim (b.durable word out) as (λ _. IsPending w word ⊎ (durable_at w word ≡ volatile_at w word)) [
+                  | inl e ↦ inr (e ∙ done ∙ sym (b.volatile word out))
+                  | inr e ↦ inr (e ∙ sym (b.volatile word out))
+                ]
+          ];
+    }
+
+-- steps that store to fewer words
+pub stores_more : (to more : ℕ → Type 0) (v w : View) → ((word : ℕ) → to word → more word) → StoresOnly to v w → StoresOnly more v w
+stores_more to more v w wider a =
+    record {
+      words = a.words;
+      budget = a.budget;
+      drawn = a.drawn;
+      volatile = λ word out. a.volatile word (λ t. out (wider word t));
+      durable = λ word out. a.durable word (λ t. out (wider word t));
+      pending = λ word out. a.pending word (λ t. out (wider word t));
+    }
+
+-- steps that store to no word
+pub stores_none : (to : ℕ → Type 0) (v w : View) → StoresOnly (λ _. ⊥) v w → StoresOnly to v w
+stores_none to v w a = stores_more (λ _. ⊥) to v w (λ word t. absurd t) a
+
+-- a refused step
+pub refused_stores : (gives : ℕ → Type 0) (ticket : ℕ) (v w : View) → RefusesBy gives ticket v w → StoresOnly (λ _. ⊥) v w
+refused_stores gives ticket v w refused =
+    elim refused [
+      | inl had ↦ subst (λ (x : View). StoresOnly (λ _. ⊥) v x) (sym had.unchanged)
+            (record {
+                words = refl;
+                budget = refl;
+                drawn = omega arith;
+                volatile = λ word out. refl;
+                durable = λ word out. inl refl;
+                pending = λ word out p. inl p;
+              })
+      | inr stops ↦ subst (λ (x : View). StoresOnly (λ _. ⊥) v x) (sym stops.done)
+            (let drawn = draw_stores stops.number v (after_draw stops.number v) refl in
+            record {
+                words = drawn.words;
+                budget = drawn.budget;
+                drawn = drawn.drawn;
+                volatile = drawn.volatile;
+                durable = drawn.durable;
+                pending = drawn.pending;
+              })
+    ]
+
+pub refused_halts : (gives : ℕ → Type 0) (ticket : ℕ) (v w : View) → v.stopped ≡ None → RefusesBy gives ticket v w → Halts ticket 1 v w
+refused_halts gives ticket v w running refused =
+    elim refused [
+      | inl had ↦ let e = had.stopped in absurd (cc)
+      | inr stops ↦
+          let is_ticket : ticket ≡ v.drawn = stops.is_ticket in
+          let above = stops.above in
+          subst (λ (x : View). Halts ticket 1 v x) (sym stops.done)
+          (record {
+              stopped = refl;
+              above = omega arith;
+              from = omega arith;
+              until = omega arith;
+              few = omega arith;
+            })
+    ]
+
+-- tickets of a step that was done
+same_goes : (r : ℕ) (v w : View) → v.stopped ≡ None → v.drawn < v.budget → SameTickets (after_draw r v) w → Goes 1 v w
+same_goes r v w running allowed same =
+    let drawn : w.drawn ≡ v.drawn + 1 = same.drawn in
+    let budget : w.budget ≡ v.budget = same.budget in
+    record { running = same.stopped ∙ running; drew = omega arith; few = omega arith; below = omega arith }
+
+pub load_is : (gives : ℕ → Type 0) (word value : ℕ) (v w : View) → TakesBy gives (IsLoad word value) v w → IsLoaded word value v w × StoresOnly (λ _. ⊥) v w
+load_is gives word value v w takes =
+    let done = takes.done in
+    let same : SameTickets (after_draw takes.number v) w = subst (λ (x : View). SameTickets (after_draw takes.number v) x) (sym done.unchanged) (record { drawn = refl; budget = refl; stopped = refl }) in
+    (record {
+        goes = same_goes takes.number v w takes.running takes.allowed same;
+        seen = done.seen;
+        volatile = ap (λ (x : View). x.volatile) done.unchanged;
+      }, draw_stores takes.number v w done.unchanged)
+
+pub store_is : (gives : ℕ → Type 0) (word value : ℕ) (v w : View) → TakesBy gives (IsStore word value) v w → IsStored word value v w × StoresOnly (λ other. other ≡ word) v w
+store_is gives word value v w takes =
+    let done = takes.done in
+    let drawn = draw_stores takes.number v (after_draw takes.number v) refl in
+    let volatile : w.volatile ≡ set v.volatile word value = done.volatile in
+    let durable : w.durable ≡ (after_draw takes.number v).durable = done.durable in
+    let tickets : w.drawn ≡ v.drawn + 1 = done.tickets.drawn in
+    (record {
+        goes = same_goes takes.number v w takes.running takes.allowed done.tickets;
+        volatile = volatile;
+      },
+      record {
+        words = ap (λ (xs : List ℕ). length xs) volatile ∙ length-set v.volatile word value;
+        budget = done.tickets.budget;
+        drawn = omega arith;
+        volatile = λ other out. ap (λ (xs : List ℕ). get_or xs other 0) volatile ∙ get_or-set_other v.volatile word other value 0 out;
+        durable = λ other out. subst (λ (xs : List ℕ). IsValueOf v other (get_or xs other 0)) (sym durable) (drawn.durable other (λ f. f));
+        pending = λ other out p. inl ((done.pending other out).1 p);
+      })
+
+pub write_back_is : (gives : ℕ → Type 0) (line word : ℕ) (v w : View) → IsSound v → line ≡ line_of word → TakesBy gives (IsWriteBack line) v w → IsWritten word v w × StoresOnly (λ _. ⊥) v w
+write_back_is gives line word v w sound at takes =
+    let done = takes.done in
+    let drawn = draw_stores takes.number v (after_draw takes.number v) refl in
+    let volatile : w.volatile ≡ v.volatile = done.volatile in
+    let durable : w.durable ≡ (after_draw takes.number v).durable = done.durable in
+    let tickets : w.drawn ≡ v.drawn + 1 = done.tickets.drawn in
+    (record {
+        goes = same_goes takes.number v w takes.running takes.allowed done.tickets;
+        volatile = volatile;
+        line = λ other within same. done.in_line other within (same ∙ sym at);
+      },
+      record {
+        words = ap (λ (xs : List ℕ). length xs) volatile;
+        budget = done.tickets.budget;
+        drawn = omega arith;
+        volatile = λ other out. ap (λ (xs : List ℕ). get_or xs other 0) volatile;
+        durable = λ other out. subst (λ (xs : List ℕ). IsValueOf v other (get_or xs other 0)) (sym durable) (drawn.durable other (λ f. f));
+        pending = λ other out p.
+            elim (cases_eq (line_of other) line) as (λ _. IsPending w other ⊎ (durable_at w other ≡ volatile_at w other)) [
+              | inl same ↦ inl (done.in_line other (sound.pending_within other p) same)
+              | inr differs ↦ inl ((done.pending other differs).1 p)
+            ];
+      })
+
+pub fence_is : (gives : ℕ → Type 0) (v w : View) → TakesBy gives IsFence v w → IsFenced v w × StoresOnly (λ _. ⊥) v w
+fence_is gives v w takes =
+    let done = takes.done in
+    let drawn = draw_stores takes.number v (after_draw takes.number v) refl in
+    let volatile : w.volatile ≡ v.volatile = done.volatile in
+    let tickets : w.drawn ≡ v.drawn + 1 = done.tickets.drawn in
+    (record {
+        goes = same_goes takes.number v w takes.running takes.allowed done.tickets;
+        volatile = volatile;
+        durable = λ word p. done.durable word p ∙ sym (ap (λ (xs : List ℕ). get_or xs word 0) volatile);
+      },
+      record {
+        words = ap (λ (xs : List ℕ). length xs) volatile;
+        budget = done.tickets.budget;
+        drawn = omega arith;
+        volatile = λ word out. ap (λ (xs : List ℕ). get_or xs word 0) volatile;
+        durable = λ word out.
+            elim (contains_or_not v.pending word) as (λ _. IsValueOf v word (durable_at w word)) [
+              | inl p ↦ inr (done.durable word p)
+              | inr none ↦ subst (λ (x : ℕ). IsValueOf v word x) (sym (done.others word none)) (drawn.durable word (λ f. f))
+            ];
+        pending = λ word out p. inr (done.durable word p ∙ sym (ap (λ (xs : List ℕ). get_or xs word 0) volatile));
+      })
+
+-- no step at all
+pub stores_nothing : (to : ℕ → Type 0) (v : View) → StoresOnly to v v
+stores_nothing to v =
+    record {
+      words = refl;
+      budget = refl;
+      drawn = omega arith;
+      volatile = λ word out. refl;
+      durable = λ word out. inl refl;
+      pending = λ word out p. inl p;
+    }

@@ -1,0 +1,14 @@
+use Rattle.std.proofs.Common.{subst}
+use Rattle.heap_model.specs.declared.block.Block.{Block}
+use Rattle.block_heap.specs.Held.{AddsTo, held_of, block_of_mark, marked_blocks}
+use Rattle.std.proofs.Common.{set, true}
+use Rattle.block_heap.proofs.HeldLemmas.{adds, mark_block}
+use Rattle.block_heap.proofs.held.HeldBlocks.add.Goals as goal
+
+pub returns-clause-held : goal.returns-clause-held
+returns-clause-held c =
+    let h = c.args.self.now in
+    let m = c.mark_of-mark.result in
+    subst (λ (b : Block). AddsTo b (held_of h) (marked_blocks h.start h.words.items (set h.marks.items m true)))
+    (mark_block h.start h.words.items m c.args.first_word c.mark_of-mark.ensures.at)
+    (adds (block_of_mark h.start h.words.items) h.marks.items m c.mark_of-mark.ensures.within)

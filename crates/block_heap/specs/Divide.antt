@@ -1,0 +1,37 @@
+-- How a superblock is divided into the blocks of a class.
+use Rattle.std.specs.Prelude.{◌≡◌, ℕ, ◌+◌, ◌*◌, ◌<◌, ◌≤◌, ◌⊎◌}
+use Rattle.heap_model.specs.Geometry.{start_word, info_word, anchor_word, superblock_words}
+use Rattle.heap_model.specs.Sizes.{words_of_class, blocks_of}
+use Rattle.heap_model.specs.Words.{full_anchor}
+use Rattle.line_memory.specs.View.{View, volatile_at, durable_at}
+use Rattle.block_heap.specs.Medium.{Goes, StoresOnly}
+use Rattle.block_heap.specs.Links.{IsOpen}
+
+-- a word of superblock d
+pub record IsInSuperblock (capacity d word : ℕ) : Type 0 where
+  pub from : start_word capacity d ≤ word
+  pub until : word < start_word capacity d + superblock_words
+
+-- a word that dividing superblock d changes
+abbrev pub IsDivideWord : ℕ → ℕ → ℕ → Type 0
+IsDivideWord capacity d word = IsInSuperblock capacity d word ⊎ ((word ≡ info_word d) ⊎ (word ≡ anchor_word d))
+
+-- each of the first `count` blocks of superblock d begins with the word index of the next, but the last of them
+abbrev pub AreLinked : ℕ → ℕ → ℕ → ℕ → View → Type 0
+AreLinked capacity class d count w = (k : ℕ) → k + 1 < count
+    → volatile_at w (start_word capacity d + k * words_of_class class) ≡ start_word capacity d + (k + 1) * words_of_class class
+
+-- so many blocks of the superblock were chained, one step for each but the last
+pub record IsChained (capacity class d count : ℕ) (v w : View) : Type 0 where
+  pub open_still : IsOpen capacity w
+  pub drawn : w.drawn + 1 ≡ v.drawn + count
+  pub stores : StoresOnly (IsInSuperblock capacity d) v w
+  pub linked : AreLinked capacity class d count w
+
+-- the superblock has the class, durably, and its blocks are in one chain that belongs to nobody
+pub record IsDivided (capacity class d : ℕ) (v w : View) : Type 0 where
+  pub goes : Goes 4200 v w
+  pub info : volatile_at w (info_word d) ≡ class
+  pub info_durable : durable_at w (info_word d) ≡ class
+  pub anchor : volatile_at w (anchor_word d) ≡ full_anchor
+  pub linked : AreLinked capacity class d (blocks_of class) w

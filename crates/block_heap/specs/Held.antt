@@ -1,0 +1,38 @@
+-- The held blocks, as marks where they begin.
+use Rattle.std.specs.Prelude.{◌≡◌, ◌≢◌, ℕ, ◌+◌, ◌-◌, ◌*◌, ◌/◌, ◌%◌, ◌<◌, ◌≤◌, ◌⊎◌, Bool, List, map, length, slice_index, Contains}
+use Rattle.heap_model.specs.declared.block.Block.{Block}
+use Rattle.line_memory.specs.Marks.{marked_words}
+use Rattle.block_heap.specs.declared.held.HeldBlocks.{HeldBlocks}
+
+-- the block of a mark: there is a mark for every two words, and 4096 of them for each superblock
+abbrev pub block_of_mark : ℕ → List ℕ → ℕ → Block
+block_of_mark start words mark = record { first_word = start + 2 * mark; words = slice_index words (mark / 4096) }
+
+-- the blocks whose marks are set
+abbrev pub marked_blocks : ℕ → List ℕ → List Bool → List Block
+marked_blocks start words marks = map (block_of_mark start words) (marked_words marks)
+
+abbrev pub held_of : HeldBlocks → List Block
+held_of h = marked_blocks h.start h.words.items h.marks.items
+
+-- the word has a mark
+pub record HasMark (h : HeldBlocks) (word : ℕ) : Type 0 where
+  pub from : h.start ≤ word
+  pub until : word < h.start + 8192 * length h.words.items
+  pub even : (word - h.start) % 2 ≡ 0
+
+-- the block that begins at the word, if one does
+abbrev pub at_mark : HeldBlocks → ℕ → Block
+at_mark h word = record { first_word = word; words = slice_index h.words.items ((word - h.start) / 8192) }
+
+-- the blocks are those from before, and this one
+pub record AddsTo (b : Block) (old new : List Block) : Type 0 where
+  pub has : Contains new b
+  pub keeps : (a : Block) → Contains old a → Contains new a
+  pub only : (a : Block) → Contains new a → (a ≡ b) ⊎ Contains old a
+
+-- the blocks are those from before, without this one
+pub record TakesFrom (b : Block) (old new : List Block) : Type 0 where
+  pub gone : Contains new b → ⊥
+  pub keeps : (a : Block) → Contains old a → a ≢ b → Contains new a
+  pub only : (a : Block) → Contains new a → Contains old a

@@ -1,0 +1,13 @@
+pub mod Alloc
+pub mod Calls
+pub mod Divide
+pub mod Free
+pub mod Held
+pub mod Links
+pub mod Looks
+pub mod Medium
+pub mod MediumView
+pub mod Sound
+pub mod Tickets
+pub mod View
+pub mod Words

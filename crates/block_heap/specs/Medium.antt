@@ -1,0 +1,56 @@
+-- What steps on the words of an open heap do, and what a row of steps leaves alone.
+use Rattle.std.specs.Prelude.{◌≡◌, ℕ, ◌+◌, ◌<◌, ◌≤◌, ◌⊎◌, None, Some, slice_set}
+use Rattle.line_memory.specs.View.{View, word_count, volatile_at, durable_at, IsPending, line_of}
+use Rattle.line_memory.specs.Crash.{IsValueOf}
+
+-- a word that is pending still is, or a fence came in between
+abbrev pub StaysPending : View → View → ℕ → Type 0
+StaysPending v w word = IsPending v word → IsPending w word ⊎ (durable_at w word ≡ volatile_at w word)
+
+-- no word but such a one is stored to
+pub record StoresOnly (to : ℕ → Type 0) (v w : View) : Type 0 where
+  pub words : word_count w ≡ word_count v
+  pub budget : w.budget ≡ v.budget
+  pub drawn : v.drawn ≤ w.drawn
+  pub volatile : (word : ℕ) → (to word → ⊥) → volatile_at w word ≡ volatile_at v word
+  pub durable : (word : ℕ) → (to word → ⊥) → IsValueOf v word (durable_at w word)
+  pub pending : (word : ℕ) → (to word → ⊥) → StaysPending v w word
+
+-- the steps were done: they drew at least one ticket and at most so many, all below the budget
+pub record Goes (most : ℕ) (v w : View) : Type 0 where
+  pub running : w.stopped ≡ None
+  pub drew : v.drawn < w.drawn
+  pub few : w.drawn ≤ v.drawn + most
+  pub below : w.drawn ≤ w.budget
+
+-- the steps stopped at this ticket, which they drew
+pub record Halts (ticket most : ℕ) (v w : View) : Type 0 where
+  pub stopped : w.stopped ≡ Some ticket
+  pub above : w.budget ≤ ticket
+  pub from : v.drawn ≤ ticket
+  pub until : ticket < w.drawn
+  pub few : w.drawn ≤ v.drawn + most
+
+pub record IsLoaded (word value : ℕ) (v w : View) : Type 0 where
+  pub goes : Goes 1 v w
+  pub seen : value ≡ volatile_at v word
+  pub volatile : w.volatile ≡ v.volatile
+
+pub record IsStored (word value : ℕ) (v w : View) : Type 0 where
+  pub goes : Goes 1 v w
+  pub volatile : w.volatile ≡ slice_set v.volatile word value
+
+pub record IsWritten (word : ℕ) (v w : View) : Type 0 where
+  pub goes : Goes 1 v w
+  pub volatile : w.volatile ≡ v.volatile
+  pub line : (other : ℕ) → other < word_count v → line_of other ≡ line_of word → IsPending w other
+
+pub record IsFenced (v w : View) : Type 0 where
+  pub goes : Goes 1 v w
+  pub volatile : w.volatile ≡ v.volatile
+  pub durable : (word : ℕ) → IsPending v word → durable_at w word ≡ volatile_at w word
+
+pub record IsPersisted (word value : ℕ) (v w : View) : Type 0 where
+  pub goes : Goes 3 v w
+  pub volatile : w.volatile ≡ slice_set v.volatile word value
+  pub durable : durable_at w word ≡ value

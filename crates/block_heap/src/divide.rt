@@ -1,0 +1,55 @@
+//! How a superblock is divided into the blocks of a class.
+use crate::medium::Medium;
+use anchor_word::{Anchor, State, pack};
+use line_memory::{Chance, Stopped};
+use size_table::blocks_of;
+use super_block::{Geometry, block_at};
+
+/// The anchor of a superblock with no free block.
+const FULL: Anchor = Anchor {
+    state: State::Full,
+    first: 0,
+    count: 0,
+};
+
+impl<C: Chance> Medium<C> {
+    ghost use Rattle.std.specs.Prelude.{◌≡◌, ◌<◌, ◌≤◌, OnOk, IfErr};
+    ghost use Rattle.heap_model.specs.Sizes.{IsClass, blocks_of};
+    ghost use Rattle.block_heap.specs.MediumView.{medium_view};
+    ghost use Rattle.block_heap.specs.Medium.{StoresOnly, Halts};
+    ghost use Rattle.block_heap.specs.Links.{IsOpen};
+    ghost use Rattle.block_heap.specs.Divide.{IsInSuperblock, IsDivideWord, IsChained, IsDivided};
+
+    /// Divides superblock `d` into blocks of the class, all in one chain in ascending order.
+    pub(crate) fn divide(&mut self, geometry: Geometry, d: u64, class: u8) -> Result<(), Stopped>
+        requires open { IsOpen geometry.capacity (medium_view self.old) }
+        requires superblock { d < geometry.capacity }
+        requires class { IsClass class }
+        ensures ok { OnOk result (IsDivided geometry.capacity class d (medium_view self.old) (medium_view self.new)) }
+        ensures stopped { IfErr result (λ e. Halts e.step 4200 (medium_view self.old) (medium_view self.new)) }
+        ensures others { StoresOnly (IsDivideWord geometry.capacity d) (medium_view self.old) (medium_view self.new) }
+    {
+        // Durable before a block is handed out: a crash must not leave a root that leads to a block
+        // of the class while the superblock has another info.
+        self.persist(geometry.info(d), class as u64)?;
+        self.chain(geometry, d, class)?;
+        self.store(geometry.anchor(d), pack(&FULL))
+    }
+
+    /// Stores in the first word of each block but the last where the next one begins.
+    fn chain(&mut self, geometry: Geometry, d: u64, class: u8) -> Result<(), Stopped>
+        requires open { IsOpen geometry.capacity (medium_view self.old) }
+        requires superblock { d < geometry.capacity }
+        requires class { IsClass class }
+        ensures ok { OnOk result (IsChained geometry.capacity class d (blocks_of class) (medium_view self.old) (medium_view self.new)) }
+        ensures stopped { IfErr result (λ e. Halts e.step 4100 (medium_view self.old) (medium_view self.new)) }
+        ensures others { StoresOnly (IsInSuperblock geometry.capacity d) (medium_view self.old) (medium_view self.new) }
+    {
+        for index in 1..blocks_of(class) {
+            let before = block_at(&geometry, d, index - 1, class);
+            let block = block_at(&geometry, d, index, class);
+            self.store(before.first_word, block.first_word)?;
+        }
+        Ok(())
+    }
+}

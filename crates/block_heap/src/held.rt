@@ -1,0 +1,103 @@
+//! Which blocks are held, in room that is taken once: one mark for every two words.
+ghost use Rattle.std.specs.Prelude.{◌≡◌, ◌+◌, ◌*◌, ◌<◌, ◌^◌, length, IfOk, replicate, false};
+
+use heap_model::Block;
+use std::alloc::{AllocError, Global};
+use super_block::{Geometry, SUPERBLOCK_WORDS};
+
+/// No block is smaller, and each begins at a multiple of it from the first superblock on.
+const SMALLEST_WORDS: u64 = 2;
+
+/// The held blocks: a mark where one begins, and how many words the blocks of each superblock have.
+#[derive(Drop)]
+pub(crate) struct HeldBlocks {
+    start: u64,
+    marks: Vec<bool>,
+    words: Vec<u64>,
+    ghost long: { length marks.items ≡ 4096 * length words.items },
+    ghost short: { start + 8192 * length words.items < 2 ^ 48 },
+}
+
+impl HeldBlocks {
+    ghost use Rattle.std.specs.Prelude.{◌≡◌, ◌≢◌, ◌≤◌, ◌<◌, ◌+◌, ◌*◌, ◌/◌, ◌-◌, ◌%◌, ℕ, [], IfOk, length, slice_index, slice_set, Contains};
+    ghost use Rattle.heap_model.specs.Geometry.{start_word};
+    ghost use Rattle.heap_model.specs.declared.block.Block.{Block};
+    ghost use Rattle.line_memory.specs.Marks.{IsMarked};
+    ghost use Rattle.block_heap.specs.Held.{held_of, HasMark, at_mark, AddsTo, TakesFrom};
+
+    /// No block, in a heap of this layout.
+    pub(crate) fn new(alloc: Global, geometry: Geometry) -> Result<HeldBlocks, AllocError>
+        ensures held { IfOk result (λ h. held_of h ≡ []) }
+        ensures start { IfOk result (λ h. h.start ≡ start_word geometry.capacity 0) }
+        ensures words { IfOk result (λ h. length h.words.items ≡ geometry.capacity) }
+    {
+        let capacity = geometry.capacity();
+        let marks = capacity * (SUPERBLOCK_WORDS / SMALLEST_WORDS);
+        Ok(HeldBlocks {
+            start: geometry.start(0),
+            marks: clear_marks(alloc, marks as usize)?,
+            words: vec![in alloc; 0; capacity as usize]?,
+        })
+    }
+
+    /// From now on the blocks of superblock `d`, of which none is held, have so many words.
+    pub(crate) fn divide(&mut self, d: u64, words: u64)
+        requires superblock { d < length self.old.words.items }
+        requires none { (mark : ℕ) → IsMarked self.old.marks.items mark → mark / 4096 ≢ d }
+        ensures held { held_of self.new ≡ held_of self.old }
+        ensures words { self.new.words.items ≡ slice_set self.old.words.items d words }
+        ensures start { self.new.start ≡ self.old.start }
+    {
+        self.words[d as usize] = words;
+    }
+
+    /// Holds the block that begins at the word.
+    pub(crate) fn add(&mut self, first_word: u64)
+        requires { HasMark self.old first_word }
+        ensures held { AddsTo (at_mark self.old first_word) (held_of self.old) (held_of self.new) }
+        ensures words { self.new.words.items ≡ self.old.words.items }
+        ensures start { self.new.start ≡ self.old.start }
+    {
+        let mark = self.mark_of(first_word);
+        self.marks[mark] = true;
+    }
+
+    /// Holds the block that begins at the word no more.
+    pub(crate) fn remove(&mut self, first_word: u64)
+        requires { HasMark self.old first_word }
+        ensures held { TakesFrom (at_mark self.old first_word) (held_of self.old) (held_of self.new) }
+        ensures words { self.new.words.items ≡ self.old.words.items }
+        ensures start { self.new.start ≡ self.old.start }
+    {
+        let mark = self.mark_of(first_word);
+        self.marks[mark] = false;
+    }
+
+    /// The block that begins at the word.
+    pub(crate) fn at(&self, first_word: u64) -> Block
+        requires { HasMark self.now first_word }
+        ensures { result ≡ at_mark self.now first_word }
+    {
+        let d = (first_word - self.start) / SUPERBLOCK_WORDS;
+        Block {
+            first_word,
+            words: self.words[d as usize],
+        }
+    }
+
+    /// The number of the word's mark.
+    fn mark_of(&self, first_word: u64) -> usize
+        requires { HasMark self.now first_word }
+        ensures within { result < length self.now.marks.items }
+        ensures at { self.now.start + 2 * result ≡ first_word }
+    {
+        ((first_word - self.start) / SMALLEST_WORDS) as usize
+    }
+}
+
+/// So many marks that are not set.
+fn clear_marks(alloc: Global, count: usize) -> Result<Vec<bool>, AllocError>
+    ensures { IfOk result (λ marks. marks.items ≡ replicate count false) }
+{
+    vec![in alloc; false; count]
+}

@@ -1,0 +1,12 @@
+//! What a thread read last of a word that it shares with others.
+
+/// A shared word as it was read last.
+#[derive(Clone, Copy, PartialEq, Eq, Debug)]
+pub struct Look {
+    /// What it held.
+    pub seen: u64,
+    /// The ticket of that step; none if it was read as the heap was opened.
+    pub ticket: Option<u64>,
+    /// How many superblocks the thread had taken by then.
+    pub taken: u64,
+}
