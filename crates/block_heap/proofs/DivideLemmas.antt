@@ -37,7 +37,7 @@ module _ (capacity class d i : ℕ) (v u w : View) (before next : ℕ) (is : IsC
       let within : before < length u.volatile = omega arith in
       let now : get_or w.volatile before 0 ≡ next = ap (λ (xs : List ℕ). get_or xs before 0) stored.volatile ∙ get_or-set_same u.volatile before next 0 within in
       let there : volatile_at w (start_word capacity d + i * words_of_class class) ≡ start_word capacity d + (i + 1) * words_of_class class =
-          subst (λ (word : ℕ). volatile_at w word ≡ start_word capacity d + (i + 1) * words_of_class class) at (now ∙ next_at) in
+      subst (λ (word : ℕ). volatile_at w word ≡ start_word capacity d + (i + 1) * words_of_class class) at (now ∙ next_at) in
       subst (λ (j : ℕ). volatile_at w (start_word capacity d + j * words_of_class class) ≡ start_word capacity d + (j + 1) * words_of_class class) (sym e) there
   linked_at stored k less (inr ne) =
       let step = block_step k i (words_of_class class) (omega arith) in

@@ -46,4 +46,4 @@ pub record IsFresh (capacity count : ℕ) (fresh : Fresh) (v w : View) : Type 0 
   pub used : fresh.used ≡ volatile_at v used_word
   pub words : MatchOption fresh.first ((w.volatile ≡ v.volatile) × (capacity < fresh.used + count))
       (λ d. (d ≡ fresh.used) × (fresh.used + count ≤ capacity)
-        × (w.volatile ≡ slice_set v.volatile used_word (fresh.used + count)) × (durable_at w used_word ≡ fresh.used + count))
+      × (w.volatile ≡ slice_set v.volatile used_word (fresh.used + count)) × (durable_at w used_word ≡ fresh.used + count))
