@@ -44,10 +44,10 @@ module _ (f : ℕ → Block) (marks : List Bool) (m : ℕ) (within : m < length 
             let found = only_map f (marked_words marks) a p in
             let marked : IsMarked marks found.0 = marked_words-only marks found.0 found.1 in
             let still : IsMarked (set marks m true) found.0 =
-                elim (cases_eq found.0 m) as (λ _. IsMarked (set marks m true) found.0) [
-                  | inl e ↦ subst (λ (k : ℕ). IsMarked (set marks m true) k) (sym e) (get_or-set_same marks m true false within)
-                  | inr ne ↦ get_or-set_other marks m found.0 true false ne ∙ marked
-                ] in
+            elim (cases_eq found.0 m) as (λ _. IsMarked (set marks m true) found.0) [
+              | inl e ↦ subst (λ (k : ℕ). IsMarked (set marks m true) k) (sym e) (get_or-set_same marks m true false within)
+              | inr ne ↦ get_or-set_other marks m found.0 true false ne ∙ marked
+            ] in
             subst (λ (b : Block). Contains (map f (marked_words (set marks m true))) b) found.2 (has_map f (marked_words (set marks m true)) found.0 (marked_words-has (set marks m true) found.0 still));
         only = λ a p.
             let found = only_map f (marked_words (set marks m true)) a p in
@@ -81,9 +81,9 @@ module _ (f : ℕ → Block) (marks : List Bool) (m : ℕ) (within : m < length 
             let found = only_map f (marked_words (set marks m false)) a p in
             let marked : IsMarked (set marks m false) found.0 = marked_words-only (set marks m false) found.0 found.1 in
             let other : found.0 ≢ m = λ e.
-                let here : get_or (set marks m false) m false ≡ true = subst (λ (k : ℕ). IsMarked (set marks m false) k) e marked in
-                let clear : get_or (set marks m false) m false ≡ false = get_or-set_same marks m false false within in
-                cc in
+            let here : get_or (set marks m false) m false ≡ true = subst (λ (k : ℕ). IsMarked (set marks m false) k) e marked in
+            let clear : get_or (set marks m false) m false ≡ false = get_or-set_same marks m false false within in
+            cc in
             let before : IsMarked marks found.0 = sym (get_or-set_other marks m found.0 false false other) ∙ marked in
             subst (λ (b : Block). Contains (map f (marked_words marks)) b) found.2 (has_map f (marked_words marks) found.0 (marked_words-has marks found.0 before));
       }
@@ -105,7 +105,7 @@ pub same_blocks : (start : ℕ) (words : List ℕ) (marks : List Bool) (d new : 
 same_blocks start words marks d new none =
     map_same (block_of_mark start (set words d new)) (block_of_mark start words) (marked_words marks)
     (λ mark p. same_fields (block_of_mark start (set words d new) mark) (block_of_mark start words mark) refl
-        (get_or-set_other words d (mark / 4096) new 0 (none mark (marked_words-only marks mark p))))
+    (get_or-set_other words d (mark / 4096) new 0 (none mark (marked_words-only marks mark p))))
 
 -- marks that are all clear
 clear_at : (n k : ℕ) → get_or (replicate n false) k false ≡ false

@@ -1,24 +1,24 @@
 -- What each step on the words of an open heap leaves, and how rows of steps go together.
-use Rattle.std.proofs.Common.{◌≡◌, ℕ, ◌+◌, ◌<◌, ◌≤◌, ◌⊎◌, List, length, get_or, set, refl, sym, ◌∙◌, ap, subst, arith, inl, inr, None, Some, length-set, get_or-set_same, get_or-set_other}
+use Rattle.std.proofs.Common.{◌≡◌, ℕ, ◌+◌, ◌<◌, ◌⊎◌, List, length, get_or, set, refl, sym, ◌∙◌, ap, subst, arith, inl, inr, None, length-set, get_or-set_other}
 use Rattle.std.proofs.lemmas.Bool.{cases_eq}
-use Rattle.line_memory.specs.View.{View, word_count, volatile_at, durable_at, IsPending, IsSound, line_of}
-use Rattle.line_memory.specs.Crash.{IsValueOf, AddsNothing, OnlyWritesBack}
-use Rattle.line_memory.specs.Steps.{TakesBy, RefusesBy, HadStopped, StopsBy, SameTickets, IsLoad, IsStore, IsWriteBack, IsFence, after_draw, stopped_at}
+use Rattle.line_memory.specs.View.{View, volatile_at, durable_at, IsPending, IsSound, line_of}
+use Rattle.line_memory.specs.Crash.{IsValueOf}
+use Rattle.line_memory.specs.Steps.{TakesBy, RefusesBy, SameTickets, IsLoad, IsStore, IsWriteBack, IsFence, after_draw}
 use Rattle.line_memory.proofs.CallerLemmas.{draw_adds, contains_or_not}
-use Rattle.block_heap.specs.Medium.{StoresOnly, Goes, Halts, IsLoaded, IsStored, IsWritten, IsFenced, IsPersisted}
+use Rattle.block_heap.specs.Medium.{StoresOnly, Goes, Halts, IsLoaded, IsStored, IsWritten, IsFenced}
 
 -- a draw leaves all but the durable words
 pub draw_stores : (r : ℕ) (v w : View) → w ≡ after_draw r v → StoresOnly (λ _. ⊥) v w
 draw_stores r v w e =
     subst (λ (x : View). StoresOnly (λ _. ⊥) v x) (sym e)
     (record {
-        words = refl;
-        budget = refl;
-        drawn = omega arith;
-        volatile = λ word out. refl;
-        durable = λ word out. (draw_adds r v).durable word;
-        pending = λ word out p. inl p;
-      })
+      words = refl;
+      budget = refl;
+      drawn = omega arith;
+      volatile = λ word out. refl;
+      durable = λ word out. (draw_adds r v).durable word;
+      pending = λ word out p. inl p;
+    })
 
 -- two rows of steps
 pub stores_then : (to : ℕ → Type 0) (v u w : View) → StoresOnly to v u → StoresOnly to u w → StoresOnly to v w
@@ -65,24 +65,24 @@ pub refused_stores : (gives : ℕ → Type 0) (ticket : ℕ) (v w : View) → Re
 refused_stores gives ticket v w refused =
     elim refused [
       | inl had ↦ subst (λ (x : View). StoresOnly (λ _. ⊥) v x) (sym had.unchanged)
-            (record {
-                words = refl;
-                budget = refl;
-                drawn = omega arith;
-                volatile = λ word out. refl;
-                durable = λ word out. inl refl;
-                pending = λ word out p. inl p;
-              })
+          (record {
+            words = refl;
+            budget = refl;
+            drawn = omega arith;
+            volatile = λ word out. refl;
+            durable = λ word out. inl refl;
+            pending = λ word out p. inl p;
+          })
       | inr stops ↦ subst (λ (x : View). StoresOnly (λ _. ⊥) v x) (sym stops.done)
-            (let drawn = draw_stores stops.number v (after_draw stops.number v) refl in
-            record {
-                words = drawn.words;
-                budget = drawn.budget;
-                drawn = drawn.drawn;
-                volatile = drawn.volatile;
-                durable = drawn.durable;
-                pending = drawn.pending;
-              })
+          (let drawn = draw_stores stops.number v (after_draw stops.number v) refl in
+          record {
+            words = drawn.words;
+            budget = drawn.budget;
+            drawn = drawn.drawn;
+            volatile = drawn.volatile;
+            durable = drawn.durable;
+            pending = drawn.pending;
+          })
     ]
 
 pub refused_halts : (gives : ℕ → Type 0) (ticket : ℕ) (v w : View) → v.stopped ≡ None → RefusesBy gives ticket v w → Halts ticket 1 v w
@@ -94,12 +94,12 @@ refused_halts gives ticket v w running refused =
           let above = stops.above in
           subst (λ (x : View). Halts ticket 1 v x) (sym stops.done)
           (record {
-              stopped = refl;
-              above = omega arith;
-              from = omega arith;
-              until = omega arith;
-              few = omega arith;
-            })
+            stopped = refl;
+            above = omega arith;
+            from = omega arith;
+            until = omega arith;
+            few = omega arith;
+          })
     ]
 
 -- tickets of a step that was done
@@ -112,12 +112,14 @@ same_goes r v w running allowed same =
 pub load_is : (gives : ℕ → Type 0) (word value : ℕ) (v w : View) → TakesBy gives (IsLoad word value) v w → IsLoaded word value v w × StoresOnly (λ _. ⊥) v w
 load_is gives word value v w takes =
     let done = takes.done in
-    let same : SameTickets (after_draw takes.number v) w = subst (λ (x : View). SameTickets (after_draw takes.number v) x) (sym done.unchanged) (record { drawn = refl; budget = refl; stopped = refl }) in
-    (record {
+    let same : SameTickets (after_draw takes.number v) w = subst (λ (x : View). SameTickets (after_draw takes.number v) x) (sym done.unchanged) (record { drawn = refl; budget = refl; stopped = refl }) in (
+      record {
         goes = same_goes takes.number v w takes.running takes.allowed same;
         seen = done.seen;
         volatile = ap (λ (x : View). x.volatile) done.unchanged;
-      }, draw_stores takes.number v w done.unchanged)
+      },
+      draw_stores takes.number v w done.unchanged,
+    )
 
 pub store_is : (gives : ℕ → Type 0) (word value : ℕ) (v w : View) → TakesBy gives (IsStore word value) v w → IsStored word value v w × StoresOnly (λ other. other ≡ word) v w
 store_is gives word value v w takes =
@@ -125,8 +127,8 @@ store_is gives word value v w takes =
     let drawn = draw_stores takes.number v (after_draw takes.number v) refl in
     let volatile : w.volatile ≡ set v.volatile word value = done.volatile in
     let durable : w.durable ≡ (after_draw takes.number v).durable = done.durable in
-    let tickets : w.drawn ≡ v.drawn + 1 = done.tickets.drawn in
-    (record {
+    let tickets : w.drawn ≡ v.drawn + 1 = done.tickets.drawn in (
+      record {
         goes = same_goes takes.number v w takes.running takes.allowed done.tickets;
         volatile = volatile;
       },
@@ -137,7 +139,8 @@ store_is gives word value v w takes =
         volatile = λ other out. ap (λ (xs : List ℕ). get_or xs other 0) volatile ∙ get_or-set_other v.volatile word other value 0 out;
         durable = λ other out. subst (λ (xs : List ℕ). IsValueOf v other (get_or xs other 0)) (sym durable) (drawn.durable other (λ f. f));
         pending = λ other out p. inl ((done.pending other out).1 p);
-      })
+      },
+    )
 
 pub write_back_is : (gives : ℕ → Type 0) (line word : ℕ) (v w : View) → IsSound v → line ≡ line_of word → TakesBy gives (IsWriteBack line) v w → IsWritten word v w × StoresOnly (λ _. ⊥) v w
 write_back_is gives line word v w sound at takes =
@@ -145,8 +148,8 @@ write_back_is gives line word v w sound at takes =
     let drawn = draw_stores takes.number v (after_draw takes.number v) refl in
     let volatile : w.volatile ≡ v.volatile = done.volatile in
     let durable : w.durable ≡ (after_draw takes.number v).durable = done.durable in
-    let tickets : w.drawn ≡ v.drawn + 1 = done.tickets.drawn in
-    (record {
+    let tickets : w.drawn ≡ v.drawn + 1 = done.tickets.drawn in (
+      record {
         goes = same_goes takes.number v w takes.running takes.allowed done.tickets;
         volatile = volatile;
         line = λ other within same. done.in_line other within (same ∙ sym at);
@@ -162,15 +165,16 @@ write_back_is gives line word v w sound at takes =
               | inl same ↦ inl (done.in_line other (sound.pending_within other p) same)
               | inr differs ↦ inl ((done.pending other differs).1 p)
             ];
-      })
+      },
+    )
 
 pub fence_is : (gives : ℕ → Type 0) (v w : View) → TakesBy gives IsFence v w → IsFenced v w × StoresOnly (λ _. ⊥) v w
 fence_is gives v w takes =
     let done = takes.done in
     let drawn = draw_stores takes.number v (after_draw takes.number v) refl in
     let volatile : w.volatile ≡ v.volatile = done.volatile in
-    let tickets : w.drawn ≡ v.drawn + 1 = done.tickets.drawn in
-    (record {
+    let tickets : w.drawn ≡ v.drawn + 1 = done.tickets.drawn in (
+      record {
         goes = same_goes takes.number v w takes.running takes.allowed done.tickets;
         volatile = volatile;
         durable = λ word p. done.durable word p ∙ sym (ap (λ (xs : List ℕ). get_or xs word 0) volatile);
@@ -186,7 +190,8 @@ fence_is gives v w takes =
               | inr none ↦ subst (λ (x : ℕ). IsValueOf v word x) (sym (done.others word none)) (drawn.durable word (λ f. f))
             ];
         pending = λ word out p. inr (done.durable word p ∙ sym (ap (λ (xs : List ℕ). get_or xs word 0) volatile));
-      })
+      },
+    )
 
 -- no step at all
 pub stores_nothing : (to : ℕ → Type 0) (v : View) → StoresOnly to v v

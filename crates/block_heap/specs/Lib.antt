@@ -1,4 +1,5 @@
 pub mod Alloc
+pub mod Anchors
 pub mod Calls
 pub mod Divide
 pub mod Free

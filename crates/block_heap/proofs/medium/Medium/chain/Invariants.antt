@@ -8,5 +8,5 @@ abbrev pub invariant-loop-index : goal.invariant-loop-index
 invariant-loop-index g l = record {
   ends : l.index-end ≡ blocks_of l.class;
   few : l.index-end ≤ 4096;
-  chained : IsChained l.geometry.capacity l.class l.d l.index (medium_view l.initial.self) (medium_view l.self)
+  chained : IsChained l.geometry.capacity l.class l.d l.index (medium_view l.initial.self) (medium_view l.self);
 }
