@@ -1,16 +1,15 @@
 -- How a superblock's blocks are chained, one after the other.
-use Rattle.std.proofs.Common.{◌≡◌, ◌≢◌, ℕ, ◌+◌, ◌-◌, ◌*◌, ◌<◌, ◌≤◌, ◌⊎◌, List, get_or, set, length, refl, sym, ◌∙◌, ap, subst, arith, inl, inr, None, get_or-set_same, get_or-set_other}
+use Rattle.std.proofs.Common.{◌≡◌, ◌≢◌, ℕ, ◌+◌, ◌-◌, ◌*◌, ◌<◌, ◌≤◌, ◌⊎◌, List, get_or, length, refl, sym, ◌∙◌, ap, subst, arith, inl, inr, get_or-set_same}
 use Rattle.std.proofs.lemmas.Bool.{cases_eq}
-use Rattle.std.proofs.Math.Nat.{mul-le-mul_right, suc-mul}
 use Rattle.heap_model.specs.Geometry.{start_word, image_words, info_word, anchor_word}
 use Rattle.heap_model.specs.Sizes.{IsClass, words_of_class, blocks_of}
 use Rattle.heap_model.specs.Words.{full_anchor}
 use Rattle.heap_model.proofs.SizeLemmas.{blocks_fit, two_words, few_blocks, four_blocks}
 use Rattle.heap_model.proofs.BlockLemmas.{block_step}
-use Rattle.line_memory.specs.View.{View, word_count, volatile_at, durable_at}
-use Rattle.block_heap.specs.Medium.{Goes, Halts, StoresOnly, IsStored, IsPersisted}
+use Rattle.line_memory.specs.View.{View, volatile_at, durable_at}
+use Rattle.block_heap.specs.Medium.{Halts, StoresOnly, IsStored, IsPersisted}
 use Rattle.block_heap.specs.Links.{IsOpen}
-use Rattle.block_heap.specs.Divide.{IsInSuperblock, AreLinked, IsChained, IsDivided}
+use Rattle.block_heap.specs.Divide.{IsInSuperblock, IsChained, IsDivided}
 use Rattle.block_heap.proofs.MediumLemmas.{stores_then, stores_more}
 
 -- a block's first word lies in its superblock, and that in the image

@@ -1,3 +1,4 @@
+pub mod AnchorLemmas
 pub mod CallerLemmas
 pub mod DivideLemmas
 pub mod HeldLemmas

@@ -1,11 +1,11 @@
 -- What each step on the words of an open heap leaves, and how rows of steps go together.
-use Rattle.std.proofs.Common.{◌≡◌, ℕ, ◌+◌, ◌<◌, ◌≤◌, ◌⊎◌, List, length, get_or, set, refl, sym, ◌∙◌, ap, subst, arith, inl, inr, None, Some, length-set, get_or-set_same, get_or-set_other}
+use Rattle.std.proofs.Common.{◌≡◌, ℕ, ◌+◌, ◌<◌, ◌⊎◌, List, length, get_or, set, refl, sym, ◌∙◌, ap, subst, arith, inl, inr, None, length-set, get_or-set_other}
 use Rattle.std.proofs.lemmas.Bool.{cases_eq}
-use Rattle.line_memory.specs.View.{View, word_count, volatile_at, durable_at, IsPending, IsSound, line_of}
-use Rattle.line_memory.specs.Crash.{IsValueOf, AddsNothing, OnlyWritesBack}
-use Rattle.line_memory.specs.Steps.{TakesBy, RefusesBy, HadStopped, StopsBy, SameTickets, IsLoad, IsStore, IsWriteBack, IsFence, after_draw, stopped_at}
+use Rattle.line_memory.specs.View.{View, volatile_at, durable_at, IsPending, IsSound, line_of}
+use Rattle.line_memory.specs.Crash.{IsValueOf}
+use Rattle.line_memory.specs.Steps.{TakesBy, RefusesBy, SameTickets, IsLoad, IsStore, IsWriteBack, IsFence, after_draw}
 use Rattle.line_memory.proofs.CallerLemmas.{draw_adds, contains_or_not}
-use Rattle.block_heap.specs.Medium.{StoresOnly, Goes, Halts, IsLoaded, IsStored, IsWritten, IsFenced, IsPersisted}
+use Rattle.block_heap.specs.Medium.{StoresOnly, Goes, Halts, IsLoaded, IsStored, IsWritten, IsFenced}
 
 -- a draw leaves all but the durable words
 pub draw_stores : (r : ℕ) (v w : View) → w ≡ after_draw r v → StoresOnly (λ _. ⊥) v w

@@ -1,4 +1,6 @@
 pub mod Alloc
+pub mod Anchors
+pub mod Batches
 pub mod Calls
 pub mod Divide
 pub mod Free

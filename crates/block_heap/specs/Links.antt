@@ -1,6 +1,6 @@
 -- Links to descriptors, and what pops and pushes do.
 use Rattle.std.specs.Prelude.{◌≡◌, ℕ, ◌+◌, ◌<◌, ◌≤◌, ◌⊎◌, ◌^◌, Option, None, Some, MatchOption, slice_set}
-use Rattle.heap_model.specs.Geometry.{lists, head_word, link_word, used_word, image_words}
+use Rattle.heap_model.specs.Geometry.{head_word, link_word, used_word, image_words}
 use Rattle.heap_model.specs.Words.{head_of, head_first, head_pops}
 use Rattle.line_memory.specs.View.{View, word_count, volatile_at, durable_at}
 use Rattle.block_heap.specs.declared.lists.Popped.{Popped}

@@ -3,7 +3,8 @@ use Rattle.std.specs.Prelude.{◌≡◌, ℕ, ◌+◌, ◌<◌, ◌≤◌, Some}
 use Rattle.heap_model.specs.Words.{head_first}
 use Rattle.heap_model.specs.Sizes.{IsLeastClassFor, largest_small, span_of}
 use Rattle.block_heap.specs.declared.fault.Looks.{Looks}
-use Rattle.block_heap.specs.View.{View, Look}
+use Rattle.block_heap.specs.declared.look.Look.{Look}
+use Rattle.block_heap.specs.View.{View}
 use Rattle.block_heap.specs.Tickets.{IsDrawn}
 
 -- the last look gave this word, by a ticket of this call, and no superblock was taken since

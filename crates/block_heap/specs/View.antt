@@ -3,14 +3,9 @@ use Rattle.std.specs.Prelude.{ℕ, ◌+◌, ◌-◌, List, Option}
 use Rattle.heap_model.specs.declared.block.Block.{Block}
 use Rattle.heap_model.specs.Geometry.{root_word}
 use Rattle.block_heap.specs.declared.fault.Looks.{Looks}
+use Rattle.block_heap.specs.declared.look.Look.{Look}
 use Rattle.block_heap.specs.declared.spot.Spot.{Spot}
 use Rattle.block_heap.specs.declared.spot.Spot.TheVariants.{InBlock, Root}
-
--- a shared word as the seat read it last: its value, the ticket of that step (none if it was read as the heap was opened), and how many superblocks the seat had taken by then
-pub record Look : Type 0 where
-  pub seen : ℕ
-  pub ticket : Option ℕ
-  pub taken : ℕ
 
 pub record View : Type 0 where
   -- the blocks that are allocated, and the numbers of the roots that belong to the seat

@@ -25,9 +25,12 @@ impl<C: Chance> Medium<C> {
         requires open { IsOpen geometry.capacity (medium_view self.old) }
         requires superblock { d < geometry.capacity }
         requires class { IsClass class }
-        ensures ok { OnOk result (IsDivided geometry.capacity class d (medium_view self.old) (medium_view self.new)) }
-        ensures stopped { IfErr result (λ e. Halts e.step 4200 (medium_view self.old) (medium_view self.new)) }
-        ensures others { StoresOnly (IsDivideWord geometry.capacity d) (medium_view self.old) (medium_view self.new) }
+        ensures ok { OnOk result (IsDivided geometry.capacity class d
+            (medium_view self.old) (medium_view self.new)) }
+        ensures stopped { IfErr result (λ e. Halts e.step 4200
+            (medium_view self.old) (medium_view self.new)) }
+        ensures others { StoresOnly (IsDivideWord geometry.capacity d)
+            (medium_view self.old) (medium_view self.new) }
     {
         // Durable before a block is handed out: a crash must not leave a root that leads to a block
         // of the class while the superblock has another info.
@@ -41,9 +44,12 @@ impl<C: Chance> Medium<C> {
         requires open { IsOpen geometry.capacity (medium_view self.old) }
         requires superblock { d < geometry.capacity }
         requires class { IsClass class }
-        ensures ok { OnOk result (IsChained geometry.capacity class d (blocks_of class) (medium_view self.old) (medium_view self.new)) }
-        ensures stopped { IfErr result (λ e. Halts e.step 4100 (medium_view self.old) (medium_view self.new)) }
-        ensures others { StoresOnly (IsInSuperblock geometry.capacity d) (medium_view self.old) (medium_view self.new) }
+        ensures ok { OnOk result (IsChained geometry.capacity class d (blocks_of class)
+            (medium_view self.old) (medium_view self.new)) }
+        ensures stopped { IfErr result (λ e. Halts e.step 4100
+            (medium_view self.old) (medium_view self.new)) }
+        ensures others { StoresOnly (IsInSuperblock geometry.capacity d)
+            (medium_view self.old) (medium_view self.new) }
     {
         for index in 1..blocks_of(class) {
             let before = block_at(&geometry, d, index - 1, class);

@@ -34,7 +34,8 @@ pub fn keep_first<H: HeapSeat>(
 ) -> Result<(Block, Block), AllocFault>
     ensures ok { IfOk result (λ pair. Contains (H.view heap.new).held pair.0) }
     ensures freed { IfOk result (λ pair. Contains (H.view heap.new).held pair.1 → ⊥) }
-    ensures durable { IfOk result (λ pair. (H.view heap.new).durable pair.0.first_word ≡ Some value) }
+    ensures durable { IfOk result (λ pair. (H.view heap.new).durable
+        pair.0.first_word ≡ Some value) }
     ensures unchanged { (b : Block) → Contains (H.view heap.old).held b
         → Contains (H.view heap.new).held b }
 {

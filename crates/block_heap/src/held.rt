@@ -65,7 +65,8 @@ impl HeldBlocks {
     /// Holds the block that begins at the word no more.
     pub(crate) fn remove(&mut self, first_word: u64)
         requires { HasMark self.old first_word }
-        ensures held { TakesFrom (at_mark self.old first_word) (held_of self.old) (held_of self.new) }
+        ensures held { TakesFrom (at_mark self.old first_word)
+            (held_of self.old) (held_of self.new) }
         ensures words { self.new.words.items ≡ self.old.words.items }
         ensures start { self.new.start ≡ self.old.start }
     {

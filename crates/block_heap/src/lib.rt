@@ -2,6 +2,8 @@
 //! stores and makes durable.
 #![tactic(auto)]
 
+mod anchors;
+mod cache;
 mod divide;
 mod durable;
 mod fault;

@@ -23,10 +23,14 @@ impl<C: Chance> Medium<C> {
     pub(crate) fn pop(&mut self, geometry: Geometry, list: u64) -> Result<Popped, Stopped>
         requires open { IsOpen geometry.capacity (medium_view self.old) }
         requires list { list < lists }
-        requires head { IsHead geometry.capacity (volatile_at (medium_view self.old) (head_word list)) }
-        ensures ok { IfOk result (λ popped. IsPopped list popped (medium_view self.old) (medium_view self.new)) }
-        ensures stopped { IfErr result (λ e. Halts e.step 3 (medium_view self.old) (medium_view self.new)) }
-        ensures others { StoresOnly (λ word. word ≡ head_word list) (medium_view self.old) (medium_view self.new) }
+        requires head { IsHead geometry.capacity
+            (volatile_at (medium_view self.old) (head_word list)) }
+        ensures ok { IfOk result (λ popped. IsPopped list popped
+            (medium_view self.old) (medium_view self.new)) }
+        ensures stopped { IfErr result (λ e. Halts e.step 3
+            (medium_view self.old) (medium_view self.new)) }
+        ensures others { StoresOnly (λ word. word ≡ head_word list)
+            (medium_view self.old) (medium_view self.new) }
     {
         let word = self.load(HEAD_WORD + list)?;
         let head = Head::unpack(word);
@@ -50,8 +54,10 @@ impl<C: Chance> Medium<C> {
         requires list { list < lists }
         requires descriptor { d < geometry.capacity }
         ensures ok { OnOk result (IsPushed list d (medium_view self.old) (medium_view self.new)) }
-        ensures stopped { IfErr result (λ e. Halts e.step 3 (medium_view self.old) (medium_view self.new)) }
-        ensures others { StoresOnly (IsPushWord list d) (medium_view self.old) (medium_view self.new) }
+        ensures stopped { IfErr result (λ e. Halts e.step 3
+            (medium_view self.old) (medium_view self.new)) }
+        ensures others { StoresOnly (IsPushWord list d)
+            (medium_view self.old) (medium_view self.new) }
     {
         let head = Head::unpack(self.load(HEAD_WORD + list)?);
         self.store(geometry.link(d), head.link())?;

@@ -56,8 +56,10 @@ impl<C: Chance> Medium<C> {
     pub(crate) fn load(&mut self, word: u64) -> Result<u64, Stopped>
         requires running { (medium_view self.old).stopped ≡ None }
         requires within { word < word_count (medium_view self.old) }
-        ensures ok { IfOk result (λ value. IsLoaded word value (medium_view self.old) (medium_view self.new)) }
-        ensures stopped { IfErr result (λ e. Halts e.step 1 (medium_view self.old) (medium_view self.new)) }
+        ensures ok { IfOk result (λ value. IsLoaded word value
+            (medium_view self.old) (medium_view self.new)) }
+        ensures stopped { IfErr result (λ e. Halts e.step 1
+            (medium_view self.old) (medium_view self.new)) }
         ensures unchanged { StoresOnly (λ _. ⊥) (medium_view self.old) (medium_view self.new) }
     {
         let value = self.memory.load(word)?;
@@ -69,9 +71,12 @@ impl<C: Chance> Medium<C> {
     pub(crate) fn store(&mut self, word: u64, value: u64) -> Result<(), Stopped>
         requires running { (medium_view self.old).stopped ≡ None }
         requires within { word < word_count (medium_view self.old) }
-        ensures ok { OnOk result (IsStored word value (medium_view self.old) (medium_view self.new)) }
-        ensures stopped { IfErr result (λ e. Halts e.step 1 (medium_view self.old) (medium_view self.new)) }
-        ensures others { StoresOnly (λ other. other ≡ word) (medium_view self.old) (medium_view self.new) }
+        ensures ok { OnOk result (IsStored word value
+            (medium_view self.old) (medium_view self.new)) }
+        ensures stopped { IfErr result (λ e. Halts e.step 1
+            (medium_view self.old) (medium_view self.new)) }
+        ensures others { StoresOnly (λ other. other ≡ word)
+            (medium_view self.old) (medium_view self.new) }
     {
         self.memory.store(word, value)?;
         self.next += 1;
@@ -83,7 +88,8 @@ impl<C: Chance> Medium<C> {
         requires running { (medium_view self.old).stopped ≡ None }
         requires within { word < word_count (medium_view self.old) }
         ensures ok { OnOk result (IsWritten word (medium_view self.old) (medium_view self.new)) }
-        ensures stopped { IfErr result (λ e. Halts e.step 1 (medium_view self.old) (medium_view self.new)) }
+        ensures stopped { IfErr result (λ e. Halts e.step 1
+            (medium_view self.old) (medium_view self.new)) }
         ensures unchanged { StoresOnly (λ _. ⊥) (medium_view self.old) (medium_view self.new) }
     {
         self.memory.write_back(word / LINE_WORDS)?;
@@ -95,7 +101,8 @@ impl<C: Chance> Medium<C> {
     pub(crate) fn fence(&mut self) -> Result<(), Stopped>
         requires running { (medium_view self.old).stopped ≡ None }
         ensures ok { OnOk result (IsFenced (medium_view self.old) (medium_view self.new)) }
-        ensures stopped { IfErr result (λ e. Halts e.step 1 (medium_view self.old) (medium_view self.new)) }
+        ensures stopped { IfErr result (λ e. Halts e.step 1
+            (medium_view self.old) (medium_view self.new)) }
         ensures unchanged { StoresOnly (λ _. ⊥) (medium_view self.old) (medium_view self.new) }
     {
         self.memory.fence()?;
@@ -107,9 +114,12 @@ impl<C: Chance> Medium<C> {
     pub(crate) fn persist(&mut self, word: u64, value: u64) -> Result<(), Stopped>
         requires running { (medium_view self.old).stopped ≡ None }
         requires within { word < word_count (medium_view self.old) }
-        ensures ok { OnOk result (IsPersisted word value (medium_view self.old) (medium_view self.new)) }
-        ensures stopped { IfErr result (λ e. Halts e.step 3 (medium_view self.old) (medium_view self.new)) }
-        ensures others { StoresOnly (λ other. other ≡ word) (medium_view self.old) (medium_view self.new) }
+        ensures ok { OnOk result (IsPersisted word value
+            (medium_view self.old) (medium_view self.new)) }
+        ensures stopped { IfErr result (λ e. Halts e.step 3
+            (medium_view self.old) (medium_view self.new)) }
+        ensures others { StoresOnly (λ other. other ≡ word)
+            (medium_view self.old) (medium_view self.new) }
     {
         self.store(word, value)?;
         self.write_back(word)?;

@@ -30,7 +30,8 @@ pub trait HeapSeat {
     /// A block of at least so many bytes. What its words hold is not known.
     fn alloc(&mut self, bytes: u64) -> Result<Block, AllocFault>
         ensures ok { IfOk result (λ b. Allocates bytes b (view self.old) (view self.new)) }
-        ensures cause { IfErr result (λ fault. FailsBy bytes fault (view self.old) (view self.new)) }
+        ensures cause { IfErr result (λ fault. FailsBy bytes fault
+            (view self.old) (view self.new)) }
         ensures unchanged { OnErr result (KeepsOwn (view self.old) (view self.new)) }
         ensures counted { IsLargeCall (span_of bytes) (view self.old) (view self.new) };
 
@@ -45,7 +46,8 @@ pub trait HeapSeat {
     /// The word at the spot.
     fn load(&mut self, s: Spot) -> Result<u64, Stopped>
         requires { IsOwnSpot (view self.old) s }
-        ensures ok { IfOk result (λ value. Loads (word_of s) value (view self.old) (view self.new)) }
+        ensures ok { IfOk result (λ value. Loads (word_of s) value
+            (view self.old) (view self.new)) }
         ensures stopped { IfErr result (λ e. Stops e.step (view self.old) (view self.new)) }
         ensures unchanged { KeepsOwn (view self.old) (view self.new) }
         ensures counted { IsSmallCall (view self.old) (view self.new) };

@@ -26,8 +26,10 @@ impl<C: Chance> Medium<C> {
         requires used { volatile_at (medium_view self.old) used_word ≤ geometry.capacity }
         ensures ok { IfOk result (λ fresh.
             IsFresh geometry.capacity count fresh (medium_view self.old) (medium_view self.new)) }
-        ensures stopped { IfErr result (λ e. Halts e.step 4 (medium_view self.old) (medium_view self.new)) }
-        ensures others { StoresOnly (λ word. word ≡ used_word) (medium_view self.old) (medium_view self.new) }
+        ensures stopped { IfErr result (λ e. Halts e.step 4
+            (medium_view self.old) (medium_view self.new)) }
+        ensures others { StoresOnly (λ word. word ≡ used_word)
+            (medium_view self.old) (medium_view self.new) }
     {
         let used = self.load(USED_WORD)?;
         if count > geometry.capacity() - used {
@@ -47,9 +49,12 @@ impl<C: Chance> Medium<C> {
         requires open { IsOpen geometry.capacity (medium_view self.old) }
         requires superblock { d < geometry.capacity }
         requires count { count ≤ largest_capacity }
-        ensures ok { OnOk result (IsPersisted (info_word d) (large_info count) (medium_view self.old) (medium_view self.new)) }
-        ensures stopped { IfErr result (λ e. Halts e.step 3 (medium_view self.old) (medium_view self.new)) }
-        ensures others { StoresOnly (λ word. word ≡ info_word d) (medium_view self.old) (medium_view self.new) }
+        ensures ok { OnOk result (IsPersisted (info_word d) (large_info count)
+            (medium_view self.old) (medium_view self.new)) }
+        ensures stopped { IfErr result (λ e. Halts e.step 3
+            (medium_view self.old) (medium_view self.new)) }
+        ensures others { StoresOnly (λ word. word ≡ info_word d)
+            (medium_view self.old) (medium_view self.new) }
     {
         // Durable before the block is handed out: a crash must not leave a root that leads to it
         // while its first superblock has another info.
