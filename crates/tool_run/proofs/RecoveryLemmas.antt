@@ -1,5 +1,5 @@
 -- What recovery of an image's words says of its bytes.
-use Rattle.std.proofs.Common.{◌≡◌, ◌↔◌, ℕ, ◌+◌, ◌-◌, ◌*◌, ◌<◌, ◌≤◌, List, ◌++◌, length, slice_index, slice_index_or, replicate, Result, Ok, Err, Some, None, IfOk, IfErr, OnOk, inl, inr, refl, sym, ap, ◌∙◌, subst, arith}
+use Rattle.std.proofs.Common.{◌≡◌, ◌↔◌, ℕ, ◌-◌, ◌*◌, ◌<◌, List, length, slice_index, slice_index_or, replicate, Result, Ok, Err, Some, None, IfOk, IfErr, OnOk, inl, inr, sym, ◌∙◌, subst, arith}
 use Rattle.std.proofs.lemmas.Bool.{cases_lt}
 use Rattle.std.proofs.Math.ListN.{get_or-append, get_or-replicate}
 use Rattle.std.proofs.Math.Seq.{get_or-append_right}

@@ -1,5 +1,5 @@
 -- What recovery of an image gives the tool, and the text on it.
-use Rattle.std.specs.Prelude.{◌≡◌, ◌↔◌, ℕ, Bool, List, [], ◌++◌, length, slice_index, if◌then◌else◌}
+use Rattle.std.specs.Prelude.{◌≡◌, ◌↔◌, ℕ, Bool, List, [], ◌++◌, slice_index, if◌then◌else◌}
 use Rattle.heap_model.specs.Geometry.{clean}
 use Rattle.heap_model.specs.Image.{Image}
 use Rattle.heap_model.specs.Header.{capacity_of, state_of}
