@@ -7,8 +7,9 @@
 all: bin/heap_tool
 
 bin/heap_tool: crates.txt $(wildcard crates/*/src/*.rt crates/*/specs/*.antt crates/*/proofs/*.antt)
-	cd crates/heap_tool && rt run
 	mkdir -p bin
+	# (what is proved is built, and then run once: it makes an example)
+	cd crates/heap_tool && rt run -- format ../../bin/example.img 1
 	cp crates/heap_tool/out/heap_tool bin/heap_tool
 	@echo "the program is bin/heap_tool"
 
