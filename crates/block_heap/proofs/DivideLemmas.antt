@@ -9,7 +9,8 @@ use Rattle.heap_model.proofs.BlockLemmas.{block_step}
 use Rattle.line_memory.specs.View.{View, volatile_at, durable_at}
 use Rattle.block_heap.specs.Medium.{Halts, StoresOnly, IsStored, IsPersisted}
 use Rattle.block_heap.specs.Links.{IsOpen}
-use Rattle.block_heap.specs.Divide.{IsInSuperblock, IsChained, IsDivided}
+use Rattle.block_heap.specs.Divide.{IsChained, IsDivided}
+use Rattle.heap_shape.specs.Effects.{IsInSuperblock}
 use Rattle.block_heap.proofs.MediumLemmas.{stores_then, stores_more}
 
 -- a block's first word lies in its superblock, and that in the image

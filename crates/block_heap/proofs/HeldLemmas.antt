@@ -6,7 +6,8 @@ use Rattle.heap_model.proofs.PartLemmas.{same_fields}
 use Rattle.heap_model.proofs.MemberLemmas.{in_none, in_head, in_rest, head_or_rest}
 use Rattle.line_memory.specs.Marks.{marked_words, IsMarked}
 use Rattle.line_memory.specs.Marked.{marked_words-has, marked_words-only, marked_words-none}
-use Rattle.block_heap.specs.Held.{AddsTo, TakesFrom, block_of_mark, marked_blocks}
+use Rattle.block_heap.specs.Held.{block_of_mark, marked_blocks}
+use Rattle.heap_shape.specs.Moves.{AddsTo, TakesFrom}
 
 -- the block of a member is a member
 pub has_map : (f : ℕ → Block) (xs : List ℕ) (x : ℕ) → Contains xs x → Contains (map f xs) (f x)

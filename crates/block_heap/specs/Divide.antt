@@ -5,12 +5,8 @@ use Rattle.heap_model.specs.Sizes.{words_of_class, blocks_of}
 use Rattle.heap_model.specs.Words.{full_anchor}
 use Rattle.line_memory.specs.View.{View, volatile_at, durable_at}
 use Rattle.block_heap.specs.Medium.{Goes, StoresOnly}
+use Rattle.heap_shape.specs.Effects.{IsInSuperblock}
 use Rattle.block_heap.specs.Links.{IsOpen}
-
--- a word of superblock d
-pub record IsInSuperblock (capacity d word : ℕ) : Type 0 where
-  pub from : start_word capacity d ≤ word
-  pub until : word < start_word capacity d + superblock_words
 
 -- a word that dividing superblock d changes
 abbrev pub IsDivideWord : ℕ → ℕ → ℕ → Type 0

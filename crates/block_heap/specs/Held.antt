@@ -24,15 +24,3 @@ pub record HasMark (h : HeldBlocks) (word : ℕ) : Type 0 where
 -- the block that begins at the word, if one does
 abbrev pub at_mark : HeldBlocks → ℕ → Block
 at_mark h word = record { first_word = word; words = slice_index h.words.items ((word - h.start) / 8192) }
-
--- the blocks are those from before, and this one
-pub record AddsTo (b : Block) (old new : List Block) : Type 0 where
-  pub has : Contains new b
-  pub keeps : (a : Block) → Contains old a → Contains new a
-  pub only : (a : Block) → Contains new a → (a ≡ b) ⊎ Contains old a
-
--- the blocks are those from before, without this one
-pub record TakesFrom (b : Block) (old new : List Block) : Type 0 where
-  pub gone : Contains new b → ⊥
-  pub keeps : (a : Block) → Contains old a → a ≢ b → Contains new a
-  pub only : (a : Block) → Contains new a → Contains old a

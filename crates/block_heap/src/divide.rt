@@ -18,7 +18,8 @@ impl<C: Chance> Medium<C> {
     ghost use Rattle.block_heap.specs.MediumView.{medium_view};
     ghost use Rattle.block_heap.specs.Medium.{StoresOnly, Halts};
     ghost use Rattle.block_heap.specs.Links.{IsOpen};
-    ghost use Rattle.block_heap.specs.Divide.{IsInSuperblock, IsDivideWord, IsChained, IsDivided};
+    ghost use Rattle.block_heap.specs.Divide.{IsDivideWord, IsChained, IsDivided};
+    ghost use Rattle.heap_shape.specs.Effects.{IsInSuperblock};
 
     /// Divides superblock `d` into blocks of the class, all in one chain in ascending order.
     pub(crate) fn divide(&mut self, geometry: Geometry, d: u64, class: u8) -> Result<(), Stopped>

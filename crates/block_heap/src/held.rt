@@ -23,7 +23,8 @@ impl HeldBlocks {
     ghost use Rattle.heap_model.specs.Geometry.{start_word};
     ghost use Rattle.heap_model.specs.declared.block.Block.{Block};
     ghost use Rattle.line_memory.specs.Marks.{IsMarked};
-    ghost use Rattle.block_heap.specs.Held.{held_of, HasMark, at_mark, AddsTo, TakesFrom};
+    ghost use Rattle.block_heap.specs.Held.{held_of, HasMark, at_mark};
+    ghost use Rattle.heap_shape.specs.Moves.{AddsTo, TakesFrom};
 
     /// No block, in a heap of this layout.
     pub(crate) fn new(alloc: Global, geometry: Geometry) -> Result<HeldBlocks, AllocError>

@@ -1,6 +1,7 @@
 use Rattle.std.proofs.Common.{subst}
 use Rattle.heap_model.specs.declared.block.Block.{Block}
-use Rattle.block_heap.specs.Held.{AddsTo, held_of, block_of_mark, marked_blocks}
+use Rattle.block_heap.specs.Held.{held_of, block_of_mark, marked_blocks}
+use Rattle.heap_shape.specs.Moves.{AddsTo}
 use Rattle.std.proofs.Common.{set, true}
 use Rattle.block_heap.proofs.HeldLemmas.{adds, mark_block}
 use Rattle.block_heap.proofs.held.HeldBlocks.add.Goals as goal

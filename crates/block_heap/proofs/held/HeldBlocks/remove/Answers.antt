@@ -1,6 +1,7 @@
 use Rattle.std.proofs.Common.{subst, set, false}
 use Rattle.heap_model.specs.declared.block.Block.{Block}
-use Rattle.block_heap.specs.Held.{TakesFrom, held_of, block_of_mark, marked_blocks}
+use Rattle.block_heap.specs.Held.{held_of, block_of_mark, marked_blocks}
+use Rattle.heap_shape.specs.Moves.{TakesFrom}
 use Rattle.block_heap.proofs.HeldLemmas.{takes, mark_block, one_mark}
 use Rattle.block_heap.proofs.held.HeldBlocks.remove.Goals as goal
 

@@ -2,7 +2,8 @@ use Rattle.std.proofs.Common.{◌≡◌, ℕ, ◌-◌, arith, subst}
 use Rattle.heap_model.specs.Sizes.{blocks_of}
 use Rattle.heap_model.proofs.SizeLemmas.{few_blocks, four_blocks}
 use Rattle.block_heap.specs.MediumView.{medium_view}
-use Rattle.block_heap.specs.Divide.{IsInSuperblock, IsChained}
+use Rattle.block_heap.specs.Divide.{IsChained}
+use Rattle.heap_shape.specs.Effects.{IsInSuperblock}
 use Rattle.block_heap.proofs.MediumLemmas.{stores_nothing}
 use Rattle.block_heap.proofs.DivideLemmas.{first_inside, more_stores, chain_more, chain_begins}
 use Rattle.block_heap.proofs.medium.Medium.chain.Goals as goal

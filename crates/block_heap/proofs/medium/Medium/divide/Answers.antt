@@ -1,7 +1,8 @@
 use Rattle.std.proofs.Common.{◌≡◌, ℕ, ◌∙◌, inl, inr}
 use Rattle.std.proofs.lemmas.Result.{on_ok_weaker, IfErr-weaker}
 use Rattle.block_heap.specs.MediumView.{medium_view}
-use Rattle.block_heap.specs.Divide.{IsInSuperblock, IsDivideWord}
+use Rattle.block_heap.specs.Divide.{IsDivideWord}
+use Rattle.heap_shape.specs.Effects.{IsInSuperblock}
 use Rattle.block_heap.proofs.MediumLemmas.{stores_then, stores_more}
 use Rattle.block_heap.proofs.DivideLemmas.{divided, divide_halts}
 use Rattle.block_heap.proofs.medium.Medium.divide.Goals as goal

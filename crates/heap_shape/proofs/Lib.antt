@@ -1,0 +1,9 @@
+pub mod BasicLemmas
+pub mod FrameLemmas
+pub mod CountLemmas
+pub mod OpenLemmas
+pub mod RecycleLemmas
+pub mod RefillLemmas
+pub mod HandLemmas
+pub mod GiveLemmas
+pub mod LargeLemmas

@@ -1,0 +1,5 @@
+pub mod Shape
+pub mod Standing
+pub mod Whole
+pub mod Effects
+pub mod Moves
