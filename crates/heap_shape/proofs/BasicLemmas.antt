@@ -1,71 +1,149 @@
 -- What follows at once from the shape of a heap, and how lists and walks stay.
-use Rattle.std.proofs.Common.{◌≡◌, ◌≢◌, ℕ, zero, suc, ◌+◌, ◌*◌, ◌<◌, ◌≤◌, ◌⊎◌, inl, inr, Bool, true, false, cond, nat_eq, List, [], ◌∷◌, ◌++◌, length, slice_index, Contains, refl, ap, sym, subst, ◌∙◌, arith}
+use Rattle.std.proofs.Common.{◌≡◌, ◌≢◌, ℕ, zero, suc, ◌+◌, ◌<◌, ◌≤◌, inl, inr, Bool, true, false, nat_eq, List, [], ◌∷◌, ◌++◌, Contains, refl, ap, sym, subst, arith}
+use Rattle.std.proofs.lemmas.Bool.{cases_order, eqb-true, eq-eqb, ne_eqb, cond-true, cond-false}
 use Rattle.heap_model.specs.declared.block.Block.{Block}
-use Rattle.heap_model.specs.Geometry.{lists, head_word, info_word, anchor_word, link_word, used_word, start_word, superblock_words}
+use Rattle.heap_model.specs.Geometry.{lists, head_word, link_word}
 use Rattle.heap_model.specs.Image.{Image}
-use Rattle.heap_model.specs.Header.{capacity_of}
 use Rattle.heap_model.specs.Sizes.{IsClass, blocks_of, words_of_class}
-use Rattle.heap_model.specs.Words.{anchor_state, anchor_first, anchor_count, empty_state, partial_state, full_anchor, large_info, head_first}
-use Rattle.heap_model.specs.Blocks.{IsBlock, IsIn}
+use Rattle.heap_model.specs.Words.{head_first}
 use Rattle.heap_model.specs.Chains.{Follows, Walks}
-use Rattle.heap_model.specs.Counting.{times}
-use Rattle.heap_model.specs.Rest.{IsReady}
+use Rattle.heap_model.specs.Counting.{times, one_if}
+use Rattle.heap_model.proofs.SizeLemmas.{two_words, blocks_fit}
+use Rattle.heap_model.proofs.BlockLemmas.{block_step}
+use Rattle.heap_model.proofs.MemberLemmas.{in_none, in_head, in_rest, head_or_rest}
+use Rattle.heap_model.proofs.CountingLemmas.{one_if_true, one_if_false, one_if_some}
 use Rattle.heap_shape.specs.Shape.{Place, in_list, is_full, in_large, is_new, Shape, stands_in, with_at}
-use Rattle.heap_shape.specs.Standing.{first_of, IsFirstOf, HoldsAt, HasOneOwner, IsOfClass, IsListed, IsFull, HasNoHeld, IsFree, IsInLarge, IsNew, IsAs}
-use Rattle.heap_shape.specs.Whole.{layout_at, IsCachedIn, IsShape}
-use Rattle.heap_shape.specs.Effects.{IsSet, IsPoppedOf, IsPushedOn, IsInSuperblock, IsCut, IsGivenBack, all_firsts}
-use Rattle.heap_shape.specs.Moves.{after_take, after_recycle, after_cut, after_fresh, after_join, with_cache, after_give, after_give_full, after_give_all, after_split, AddsTo, TakesFrom}
+use Rattle.heap_shape.specs.Standing.{first_of, IsFirstOf, IsOfClass, IsListed, IsFull, IsFree, IsAs}
+use Rattle.heap_shape.specs.Whole.{IsShape}
+use Rattle.heap_shape.specs.Effects.{IsInSuperblock}
 
 -- a function with another value at one number
 pub with_at_same : {A : Type 0} (f : ℕ → A) (at : ℕ) (value : A) → with_at f at value at ≡ value
-with_at_same f at value = ?
+with_at_same f at value = cond-true (nat_eq at at) value (f at) (eq-eqb at at refl)
 
 pub with_at_other : {A : Type 0} (f : ℕ → A) (at : ℕ) (value : A) (n : ℕ) → n ≢ at → with_at f at value n ≡ f n
-with_at_other f at value n other = ?
+with_at_other f at value n other = cond-false (nat_eq n at) value (f n) (ne_eqb n at other)
 
 -- a walk reads its members alone
 pub walks_same : (image new : ℕ → ℕ) (from : ℕ) (ws : List ℕ) → ((w : ℕ) → Contains ws w → new w ≡ image w) → Walks image from ws → Walks new from ws
-walks_same image new from ws same walks = ?
+walks_same image new from [] same walks = tt
+walks_same image new from (w ∷ ws) same walks =
+    (walks.0, subst (λ x. Walks new x ws) (sym (same w (in_head w ws))) (walks_same image new (image w) ws (λ v p. same v (in_rest w v ws p)) walks.1))
 
 -- a list reads the links of its members alone
 pub follows_same : (link new : ℕ → ℕ) (capacity from : ℕ) (ds : List ℕ) → ((d : ℕ) → Contains ds d → new d ≡ link d) → Follows link capacity from ds → Follows new capacity from ds
-follows_same link new capacity from ds same follows = ?
+follows_same link new capacity from [] same follows = follows
+follows_same link new capacity from (d ∷ ds) same follows = (follows.0, follows.1,
+    subst (λ x. Follows new capacity x ds) (sym (same d (in_head d ds))) (follows_same link new capacity (link d) ds (λ e p. same e (in_rest d e ds p)) follows.2))
 
 -- the members of a list are superblocks
 pub follows_below : (link : ℕ → ℕ) (capacity from : ℕ) (ds : List ℕ) (d : ℕ) → Follows link capacity from ds → Contains ds d → d < capacity
-follows_below link capacity from ds d follows p = ?
+follows_below link capacity from [] d follows p = absurd (in_none d p)
+follows_below link capacity from (e ∷ ds) d follows p = elim (head_or_rest e d ds p) [
+  | inl same ↦ subst (λ x. x < capacity) same follows.1
+  | inr later ↦ follows_below link capacity (link e) ds d follows.2 later
+]
 
 -- a place that is a list
 pub place_is : (p : Place) (list : ℕ) → 0 < stands_in p list → p ≡ in_list list
-place_is p list stands = ?
+place_is (in_list at) list stands = ap in_list (eqb-true at list (one_if_some (nat_eq at list) stands))
+place_is is_full list stands = absurd (omega arith)
+place_is in_large list stands = absurd (omega arith)
+place_is is_new list stands = absurd (omega arith)
+
+-- no place is a list twice
+pub stands_once : (p : Place) (list : ℕ) → stands_in p list ≤ 1
+stands_once (in_list at) list = by_test (nat_eq at list) where
+  by_test : (test : Bool) → one_if test ≤ 1
+  by_test true = omega arith
+  by_test false = omega arith
+stands_once is_full list = omega arith
+stands_once in_large list = omega arith
+stands_once is_new list = omega arith
 
 -- how often a number stands in two lists together
 pub times_append : (n : ℕ) (xs ys : List ℕ) → times n (xs ++ ys) ≡ times n xs + times n ys
-times_append n xs ys = ?
+times_append n [] ys = omega arith
+times_append n (x ∷ xs) ys = let rest = times_append n xs ys in omega arith
+
+-- how often a number stands in a list behind itself, or behind another
+pub times_here : (n : ℕ) (xs : List ℕ) → times n (n ∷ xs) ≡ 1 + times n xs
+times_here n xs = let here = one_if_true (nat_eq n n) (eq-eqb n n refl) in omega arith
+
+pub times_past : (x n : ℕ) (xs : List ℕ) → x ≢ n → times n (x ∷ xs) ≡ times n xs
+times_past x n xs other = let here = one_if_false (nat_eq x n) (λ e. other (eqb-true x n e)) in omega arith
+
+-- a member stands in the list
+pub times_of : (n : ℕ) (xs : List ℕ) → Contains xs n → 0 < times n xs
+times_of n [] p = absurd (in_none n p)
+times_of n (x ∷ xs) p = elim (head_or_rest x n xs p) as (λ _. 0 < times n (x ∷ xs)) [
+  | inl same ↦ let here = one_if_true (nat_eq x n) (eq-eqb x n same) in omega arith
+  | inr later ↦ let rest = times_of n xs later in omega arith
+]
 
 -- a first word is a word of its superblock, and of no other
 pub first_inside : (capacity class d word : ℕ) → IsClass class → IsFirstOf capacity class d word → IsInSuperblock capacity d word
-first_inside capacity class d word is first = ?
+first_inside capacity class d word is first =
+    let step = block_step first.index (blocks_of class) (words_of_class class) first.below in
+    let fit = blocks_fit class is in
+    let two = two_words class is in
+    let at = first.at in
+    record { from = omega arith; until = omega arith }
 
 pub inside_one : (capacity d e word : ℕ) → IsInSuperblock capacity d word → IsInSuperblock capacity e word → d ≡ e
-inside_one capacity d e word in_d in_e = ?
+inside_one capacity d e word in_d in_e =
+    let from_d = in_d.from in
+    let until_d = in_d.until in
+    let from_e = in_e.from in
+    let until_e = in_e.until in
+    omega arith
 
 -- blocks of one class and superblock with one first word have one index
 pub first_injective : (capacity class d i j : ℕ) → IsClass class → first_of capacity class d i ≡ first_of capacity class d j → i ≡ j
-first_injective capacity class d i j is same = ?
+first_injective capacity class d i j is same =
+    let two = two_words class is in
+    elim (cases_order i j) as (λ _. i ≡ j) [
+      | inl one ↦ one
+      | inr other ↦ absurd (elim other as (λ _. ⊥) [
+        | inl less ↦ let step = block_step i j (words_of_class class) less in omega arith
+        | inr more ↦ let step = block_step j i (words_of_class class) more in omega arith
+      ])
+    ]
 
 module _ (capacity : ℕ) (image : Image) (held : List Block) (s : Shape) (shape : IsShape capacity image held s) where
   -- the first of a list stands there, once, and in no other
   pub first_place : (list d : ℕ) (ds : List ℕ) → list < lists → s.listed list ≡ d ∷ ds → (s.place d ≡ in_list list) × (d < capacity) × (times d ds ≡ 0)
-  first_place list d ds below is = ?
+  first_place list d ds below is =
+      let count : times d (d ∷ ds) ≡ stands_in (s.place d) list = subst (λ xs. times d xs ≡ stands_in (s.place d) list) is (shape.listed list d below) in
+      let here = times_here d ds in
+      let once = stands_once (s.place d) list in
+      let follows : Follows (λ e. image (link_word e)) capacity (head_first (image (head_word list))) (d ∷ ds) =
+        subst (λ xs. Follows (λ e. image (link_word e)) capacity (head_first (image (head_word list))) xs) is (shape.follows list below) in
+      (place_is (s.place d) list (omega arith), follows.1, omega arith)
+
+  -- a member of a list stands there
+  pub member_place : (list d : ℕ) → list < lists → Contains (s.listed list) d → (s.place d ≡ in_list list) × (d < capacity)
+  member_place list d below p =
+      let count = shape.listed list d below in
+      let some = times_of d (s.listed list) p in
+      (place_is (s.place d) list (omega arith), follows_below (λ e. image (link_word e)) capacity (head_first (image (head_word list))) (s.listed list) d (shape.follows list below) p)
 
   -- a superblock in the list of a class has free blocks of it
   pub in_class_list : (class d : ℕ) → IsClass class → d < capacity → s.place d ≡ in_list class → IsListed capacity image s held class d
-  in_class_list class d is within place = ?
+  in_class_list zero d is within place = absurd (let some = is.some in omega arith)
+  in_class_list (suc c) d is within place = subst (IsAs capacity image s held d) place (shape.places d within)
 
   pub in_free_list : (d : ℕ) → d < capacity → s.place d ≡ in_list 0 → IsFree capacity image held d
-  in_free_list d within place = ?
+  in_free_list d within place = subst (IsAs capacity image s held d) place (shape.places d within)
+
+  -- one that is full has none of its class
+  pub in_full : (d : ℕ) → d < capacity → s.place d ≡ is_full → IsFull capacity image s held d
+  in_full d within place = subst (IsAs capacity image s held d) place (shape.places d within)
 
   -- the superblock of a cached block is cut for the class
-  pub cached_of_class : (class word : ℕ) → IsClass class → (p : Contains (s.cached class) word) → IsOfClass capacity image s held class (shape.cached class word is p).superblock
-  cached_of_class class word is p = ?
+  pub cached_of_class : (class word : ℕ) (is : IsClass class) (p : Contains (s.cached class) word) → IsOfClass capacity image s held class (shape.cached class word is p).superblock
+  cached_of_class class word is p = let cached = shape.cached class word is p in
+      elim cached.place as (λ _. IsOfClass capacity image s held class cached.superblock) [
+        | inl listed ↦ (in_class_list class cached.superblock is cached.within listed).of_class
+        | inr full ↦ subst (λ c. IsOfClass capacity image s held c cached.superblock) full.1 (in_full cached.superblock cached.within full.0).of_class
+      ]
