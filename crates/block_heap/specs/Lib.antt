@@ -9,7 +9,11 @@ pub mod Links
 pub mod Looks
 pub mod Medium
 pub mod MediumView
+pub mod Parts
+pub mod Running
+pub mod SeqState
 pub mod Sound
 pub mod Tickets
 pub mod View
 pub mod Words
+pub mod Works

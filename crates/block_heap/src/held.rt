@@ -3,7 +3,8 @@ ghost use Rattle.std.specs.Prelude.{◌≡◌, ◌+◌, ◌*◌, ◌<◌, ◌^�
 
 use heap_model::Block;
 use std::alloc::{AllocError, Global};
-use super_block::{Geometry, SUPERBLOCK_WORDS};
+use size_table::size_of;
+use super_block::{Geometry, Info, LARGEST_CAPACITY, Ready, SUPERBLOCK_WORDS, WORD_BYTES};
 
 /// No block is smaller, and each begins at a multiple of it from the first superblock on.
 const SMALLEST_WORDS: u64 = 2;
@@ -39,6 +40,20 @@ impl HeldBlocks {
             marks: clear_marks(alloc, marks as usize)?,
             words: vec![in alloc; 0; capacity as usize]?,
         })
+    }
+
+    /// The held blocks of a heap at rest.
+    pub(crate) fn of(alloc: Global, ready: &Ready) -> Result<HeldBlocks, AllocError> {
+        let geometry = ready.geometry();
+        let mut blocks = HeldBlocks::new(alloc, geometry)?;
+        for d in 0..geometry.capacity() {
+            let info = ready.words()[geometry.info(d) as usize];
+            blocks.divide(d, words_begun(info));
+        }
+        for b in ready.held() {
+            blocks.add(b.first_word);
+        }
+        Ok(blocks)
     }
 
     /// From now on the blocks of superblock `d`, of which none is held, have so many words.
@@ -102,4 +117,13 @@ fn clear_marks(alloc: Global, count: usize) -> Result<Vec<bool>, AllocError>
     ensures { IfOk result (λ marks. marks.items ≡ replicate count false) }
 {
     vec![in alloc; false; count]
+}
+
+/// How many words the blocks of a superblock of this info have; 0 where it says nothing.
+fn words_begun(info: u64) -> u64 {
+    match Info::unpack(info) {
+        Info::Class(class) => size_of(class) / WORD_BYTES,
+        Info::Large(count) if count <= LARGEST_CAPACITY => SUPERBLOCK_WORDS * count,
+        _ => 0,
+    }
 }

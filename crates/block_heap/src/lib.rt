@@ -2,17 +2,24 @@
 //! stores and makes durable.
 #![tactic(auto)]
 
+mod alloc;
 mod anchors;
+mod arena;
 mod cache;
 mod divide;
 mod durable;
 mod fault;
 mod head;
 mod held;
+mod large;
 mod lists;
 mod look;
 mod medium;
+mod refill;
 mod seat;
+mod seq_heap;
+mod seq_seat;
+mod small;
 mod spot;
 mod superblocks;
 
@@ -22,4 +29,8 @@ pub use heap_model::Block;
 pub use line_memory::{Chance, Closed, Stopped};
 pub use look::Look;
 pub use seat::HeapSeat;
+pub use seq_heap::{DrainFault, SeqHeap};
 pub use spot::Spot;
+
+#[cfg(test)]
+mod tests;

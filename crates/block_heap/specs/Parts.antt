@@ -1,0 +1,44 @@
+-- What contracts see of the parts of an open heap.
+use Rattle.std.specs.Prelude.{ℕ, List, slice_index_or}
+use Rattle.heap_model.specs.declared.block.Block.{Block}
+use Rattle.heap_model.specs.Image.{Image}
+use Rattle.line_memory.specs.View.{View, volatile_at}
+use Rattle.block_heap.specs.declared.arena.Arena.{Arena}
+use Rattle.block_heap.specs.declared.cache.Cache.{Cache}
+use Rattle.block_heap.specs.declared.held.HeldBlocks.{HeldBlocks}
+use Rattle.block_heap.specs.declared.look.Look.{Look}
+use Rattle.block_heap.specs.Held.{held_of}
+use Rattle.block_heap.specs.MediumView.{medium_view}
+
+pub record Parts : Type 0 where
+  pub words : View
+  pub capacity : ℕ
+  -- by class
+  pub caches : List Cache
+  pub blocks : HeldBlocks
+  -- how many superblocks were taken since the heap was opened, and what was read last of `used` and of each head
+  pub taken : ℕ
+  pub used_look : Look
+  pub head_looks : List Look
+
+abbrev pub parts_of : {C : Type 0} → Arena C → Parts
+parts_of a = record {
+  words = medium_view a.medium;
+  capacity = a.geometry.capacity;
+  caches = a.caches.items;
+  blocks = a.held;
+  taken = a.taken;
+  used_look = a.used_look;
+  head_looks = a.head_looks.items;
+}
+
+-- what loads see of each word
+abbrev pub image_of : Parts → Image
+image_of p word = volatile_at p.words word
+
+abbrev pub held_in : Parts → List Block
+held_in p = held_of p.blocks
+
+-- the cache of a class
+abbrev pub cache_at : List Cache → ℕ → Cache
+cache_at caches class = slice_index_or caches class (record { first = 0; count = 0 })

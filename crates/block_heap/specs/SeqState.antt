@@ -1,0 +1,60 @@
+-- What contracts see of a heap for one thread.
+use Rattle.std.specs.Prelude.{◌≡◌, ℕ, ◌+◌, ◌<◌, ◌≤◌, ◌^◌, ◌⊎◌, List, Option, None, Some, slice_index_or}
+use Rattle.heap_model.specs.Geometry.{roots, state_word}
+use Rattle.heap_model.specs.Image.{Image, words_from}
+use Rattle.heap_model.specs.Durability.{IsTransient}
+use Rattle.line_memory.specs.View.{volatile_at, durable_at}
+use Rattle.line_memory.specs.Crash.{IsValueOf}
+use Rattle.block_heap.specs.declared.fault.Looks.{Looks}
+use Rattle.block_heap.specs.declared.look.Look.{Look}
+use Rattle.block_heap.specs.View.{View}
+use Rattle.block_heap.specs.Parts.{Parts, held_in}
+use Rattle.block_heap.specs.Running.{IsRunning, AreShort}
+use Rattle.block_heap.specs.Works.{IsStable}
+
+pub record SeqState : Type 0 where
+  pub parts : Parts
+  pub stopped : Option ℕ
+  pub small_calls : ℕ
+  pub large_calls : ℕ
+  pub refusals : ℕ
+  pub refused_bytes : ℕ
+  pub refused_looks : Looks
+
+-- one thread owns every root
+abbrev pub all_roots : List ℕ
+all_roots = words_from (λ i. i) 0 roots
+
+abbrev pub seat_of : SeqState → View
+seat_of s = record {
+  held = held_in s.parts;
+  roots = all_roots;
+  volatile = λ word. Some (volatile_at s.parts.words word);
+  durable = λ word. Some (durable_at s.parts.words word);
+  pending = s.parts.words.pending;
+  capacity = s.parts.capacity;
+  budget = s.parts.words.budget;
+  next = s.parts.words.drawn;
+  stopped = s.stopped;
+  small_calls = s.small_calls;
+  large_calls = s.large_calls;
+  taken = s.parts.taken;
+  refusals = s.refusals;
+  refused_bytes = s.refused_bytes;
+  refused_looks = s.refused_looks;
+  used_look = s.parts.used_look;
+  head_look = λ list. slice_index_or s.parts.head_looks list (record { seen = 0; ticket = None; taken = 0 });
+}
+
+-- each word but transient ones and the state has its volatile or its durable value
+pub record MayLeave (s : SeqState) (image : Image) : Type 0 where
+  pub others : (word : ℕ) → (word ≡ state_word → ⊥) → (IsTransient s.parts.capacity word → ⊥) → IsValueOf s.parts.words word (image word)
+
+-- a heap for one thread: its held blocks are stable, and until it stops its parts are right
+pub record IsSeqHeap (s : SeqState) : Type 0 where
+  pub stable : IsStable s.parts.capacity s.parts.words (held_in s.parts)
+  pub running : s.stopped ≡ None → IsRunning s.parts × AreShort s.parts 0
+  pub stopping : (ticket : ℕ) → s.stopped ≡ Some ticket → s.parts.words.budget ≤ ticket
+  pub calls : s.small_calls + s.large_calls ≤ s.parts.words.drawn
+  pub refused : s.refusals ≤ s.large_calls
+  pub short : s.parts.words.drawn ≤ 2 ^ 40

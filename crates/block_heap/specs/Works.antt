@@ -1,0 +1,42 @@
+-- What an allocator may store to, and what stays of the held blocks whatever it does.
+use Rattle.std.specs.Prelude.{◌≡◌, ℕ, ◌+◌, ◌<◌, ◌≤◌, List, Contains}
+use Rattle.heap_model.specs.declared.block.Block.{Block}
+use Rattle.heap_model.specs.Geometry.{lists, head_word, info_word, anchor_word, link_word, used_word, capacity_word, start_word}
+use Rattle.heap_model.specs.Blocks.{IsBlock, IsIn}
+use Rattle.heap_model.specs.Recovered.{HasPartIn}
+use Rattle.heap_shape.specs.Standing.{HasNoHeld}
+use Rattle.line_memory.specs.View.{View, volatile_at, durable_at}
+use Rattle.block_heap.specs.Medium.{StoresOnly}
+use Rattle.block_heap.specs.Parts.{Parts}
+
+-- a word that an allocator may store to while these blocks are held: `used`, heads and descriptors, but no info of a superblock that a held block has a part in; and words of superblocks that no held block has
+pub data IsAllocatorWord (capacity : ℕ) (held : List Block) (word : ℕ) : Type 0 where
+  is_used : word ≡ used_word → IsAllocatorWord capacity held word
+  is_head : (list : ℕ) → list < lists → word ≡ head_word list → IsAllocatorWord capacity held word
+  is_info : (d : ℕ) → d < capacity → HasNoHeld capacity held d → word ≡ info_word d → IsAllocatorWord capacity held word
+  is_anchor : (d : ℕ) → d < capacity → word ≡ anchor_word d → IsAllocatorWord capacity held word
+  is_link : (d : ℕ) → d < capacity → word ≡ link_word d → IsAllocatorWord capacity held word
+  is_inside : start_word capacity 0 ≤ word → ((b : Block) → Contains held b → IsIn b word → ⊥) → IsAllocatorWord capacity held word
+
+-- it stores to no other word, and `used` rises, of what loads see and of what is durable
+pub record Works (capacity : ℕ) (held : List Block) (v w : View) : Type 0 where
+  pub stores : StoresOnly (IsAllocatorWord capacity held) v w
+  pub used : volatile_at v used_word ≤ volatile_at w used_word
+  pub used_durable : durable_at v used_word ≤ durable_at w used_word
+
+-- each held block is named whichever of its two values each word has: its infos are durable, and it ends below both values of `used`
+pub record IsStable (capacity : ℕ) (v : View) (held : List Block) : Type 0 where
+  pub capacity_is : volatile_at v capacity_word ≡ capacity
+  pub capacity_durable : durable_at v capacity_word ≡ capacity
+  pub low : ℕ
+  pub used : low ≤ volatile_at v used_word
+  pub used_durable : low ≤ durable_at v used_word
+  pub named : (b : Block) → Contains held b → IsBlock (record { capacity = capacity; used = low; info = λ d. volatile_at v (info_word d) }) b
+  pub settled : (b : Block) (d : ℕ) → Contains held b → HasPartIn capacity b d → durable_at v (info_word d) ≡ volatile_at v (info_word d)
+
+-- the parts work while these blocks are held, and what is known of `used` stays
+pub record Serves (held : List Block) (p q : Parts) : Type 0 where
+  pub capacity : q.capacity ≡ p.capacity
+  pub works : Works p.capacity held p.words q.words
+  pub knows : p.used_look.seen + q.used_look.taken ≡ q.used_look.seen + p.used_look.taken
+  pub taken : p.taken ≤ q.taken

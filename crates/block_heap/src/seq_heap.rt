@@ -1,0 +1,108 @@
+//! An open heap for one thread.
+use crate::arena::Arena;
+use crate::fault::{AllocFault, Looks};
+use crate::seat::HeapSeat;
+use line_memory::{Chance, Closed, Stopped};
+use size_table::{blocks_of, size_of};
+use std::alloc::{AllocError, Global};
+use std::marker::Model;
+use super_block::{Ready, WORD_BYTES};
+
+/// A heap for one thread over a `PlainMemory`.
+#[derive(Drop)]
+pub struct SeqHeap<C> {
+    pub(crate) arena: Arena<C>,
+    pub(crate) stopped: Option<u64>,
+    pub(crate) small_calls: u64,
+    pub(crate) large_calls: u64,
+    pub(crate) refusals: u64,
+    pub(crate) refused_bytes: u64,
+    pub(crate) refused_looks: Looks,
+}
+
+/// Why a class was not drained.
+#[derive(Clone, Copy, PartialEq, Eq, Debug)]
+pub enum DrainFault {
+    /// The budget of steps is used up.
+    Stopped(Stopped),
+    /// Memory ran out.
+    Memory,
+}
+
+impl<C> Model for SeqHeap<C> {
+    ghost use Rattle.block_heap.specs.Parts.{parts_of};
+    ghost use Rattle.block_heap.specs.SeqState.{SeqState, IsSeqHeap};
+
+    ghost Value = { SeqState };
+
+    ghost view = { λ s. record {
+        parts = parts_of s.arena;
+        stopped = s.stopped;
+        small_calls = s.small_calls;
+        large_calls = s.large_calls;
+        refusals = s.refusals;
+        refused_bytes = s.refused_bytes;
+        refused_looks = s.refused_looks
+    } };
+
+    ghost invariant = { λ s. IsSeqHeap (record {
+        parts = parts_of s.arena;
+        stopped = s.stopped;
+        small_calls = s.small_calls;
+        large_calls = s.large_calls;
+        refusals = s.refusals;
+        refused_bytes = s.refused_bytes;
+        refused_looks = s.refused_looks
+    }) };
+}
+
+impl From<AllocError> for DrainFault {
+    fn from(_error: AllocError) -> DrainFault {
+        DrainFault::Memory
+    }
+}
+
+impl<C: Chance> SeqHeap<C> {
+    /// Opens the heap with a budget of so many steps.
+    pub fn new(
+        alloc: Global,
+        heap: Ready,
+        budget: u64,
+        chance: C,
+    ) -> Result<SeqHeap<C>, AllocError> {
+        Ok(SeqHeap {
+            arena: Arena::new(alloc, heap, budget, chance)?,
+            stopped: None,
+            small_calls: 0,
+            large_calls: 0,
+            refusals: 0,
+            refused_bytes: 0,
+            refused_looks: Looks {
+                class_head: 0,
+                free_head: 0,
+                used: 0,
+            },
+        })
+    }
+
+    /// Closes the heap, and gives what loads saw and what a crash would have left.
+    pub fn finish(self) -> Closed {
+        self.arena.medium.finish()
+    }
+
+    /// Allocates in the class until there is no room, and gives the byte offsets of the blocks.
+    pub fn drain(&mut self, alloc: Global, class: u8) -> Result<Vec<u64>, DrainFault> {
+        let most = self.arena.geometry.capacity() * blocks_of(class);
+        let mut offsets = Vec::with_capacity(alloc, most as usize)?;
+        loop {
+            match self.alloc(size_of(class)) {
+                Ok(b) => match offsets.push(WORD_BYTES * b.first_word) {
+                    Ok(()) => {}
+                    Err(e) => return Err(AllocError::from(e).into()),
+                },
+                Err(AllocFault::Full(_)) => return Ok(offsets),
+                Err(AllocFault::Stopped(stopped)) => return Err(DrainFault::Stopped(stopped)),
+            }
+        }
+    }
+}
