@@ -19,7 +19,7 @@ use Rattle.heap_shape.proofs.BasicLemmas.{with_at_same, with_at_other, walks_sam
 use Rattle.heap_shape.proofs.FrameLemmas.{SameThere, frame}
 use Rattle.heap_shape.proofs.CountLemmas.{all_given}
 
-
+-- it is taken off its class list and put in front of the free list: the heap keeps a shape
 pub recycle : (capacity class d : ℕ) (image middle new : Image) (held : List Block) (s : Shape) (ds : List ℕ) → IsClass class → IsShape capacity image held s → s.listed class ≡ d ∷ ds
     → anchor_state (image (anchor_word d)) ≢ partial_state → IsPoppedOf image middle class d → IsPushedOn middle new 0 d → IsShape capacity new held (after_recycle s class d ds)
 recycle capacity class d image middle new held s ds is shape list state popped pushed = record {
