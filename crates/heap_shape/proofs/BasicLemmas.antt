@@ -1,6 +1,6 @@
 -- What follows at once from the shape of a heap, and how lists and walks stay.
 use Rattle.std.proofs.Common.{◌≡◌, ◌≢◌, ℕ, zero, suc, ◌+◌, ◌<◌, ◌≤◌, inl, inr, Bool, true, false, nat_eq, List, [], ◌∷◌, ◌++◌, Contains, refl, ap, sym, subst, arith}
-use Rattle.std.proofs.lemmas.Bool.{cases_order, eqb-true, eq-eqb, ne_eqb, cond-true, cond-false}
+use Rattle.std.proofs.lemmas.Bool.{cases_eq, cases_order, eqb-true, eq-eqb, ne_eqb, cond-true, cond-false}
 use Rattle.heap_model.specs.declared.block.Block.{Block}
 use Rattle.heap_model.specs.Geometry.{lists, head_word, link_word}
 use Rattle.heap_model.specs.Image.{Image}
@@ -44,6 +44,11 @@ follows_below link capacity from (e ∷ ds) d follows p = elim (head_or_rest e d
   | inr later ↦ follows_below link capacity (link e) ds d follows.2 later
 ]
 
+-- what leads to a list is no more than the count of superblocks
+pub follows_from : (link : ℕ → ℕ) (capacity from : ℕ) (ds : List ℕ) → Follows link capacity from ds → from ≤ capacity
+follows_from link capacity from [] follows = let last : from ≡ 0 = follows in omega arith
+follows_from link capacity from (d ∷ ds) follows = let first : from ≡ d + 1 = follows.0 in let within = follows.1 in omega arith
+
 -- a place that is a list
 pub place_is : (p : Place) (list : ℕ) → 0 < stands_in p list → p ≡ in_list list
 place_is (in_list at) list stands = ap in_list (eqb-true at list (one_if_some (nat_eq at list) stands))
@@ -60,6 +65,20 @@ stands_once (in_list at) list = by_test (nat_eq at list) where
 stands_once is_full list = omega arith
 stands_once in_large list = omega arith
 stands_once is_new list = omega arith
+
+-- a list is no other list
+pub stands_not : (at list : ℕ) → at ≢ list → stands_in (in_list at) list ≡ 0
+stands_not at list other = one_if_false (nat_eq at list) (λ same. other (eqb-true at list same))
+
+pub one_list : (at list : ℕ) → in_list at ≡ in_list list → at ≡ list
+one_list at list same = elim (cases_eq at list) as (λ _. at ≡ list) [
+  | inl one ↦ one
+  | inr other ↦
+      let none = stands_not at list other in
+      let here = one_if_true (nat_eq list list) (eq-eqb list list refl) in
+      let moved : stands_in (in_list at) list ≡ one_if (nat_eq list list) = ap (λ p. stands_in p list) same in
+      absurd (omega arith)
+]
 
 -- how often a number stands in two lists together
 pub times_append : (n : ℕ) (xs ys : List ℕ) → times n (xs ++ ys) ≡ times n xs + times n ys
