@@ -1,0 +1,1 @@
+-- Superblocks that were never taken become a large block.
