@@ -3,6 +3,8 @@ pub mod FrameLemmas
 pub mod CountLemmas
 pub mod OpenLemmas
 pub mod RecycleLemmas
+pub mod CutLemmas
+pub mod JoinLemmas
 pub mod RefillLemmas
 pub mod HandLemmas
 pub mod GiveLemmas
