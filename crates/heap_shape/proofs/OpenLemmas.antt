@@ -43,7 +43,7 @@ total_two of (y ∷ xs) a b in_a in_b differ = elim (head_or_rest y a xs in_a) a
 ]
 
 -- a member stands somewhere
-times_in : (n : ℕ) (xs : List ℕ) → Contains xs n → 0 < times n xs
+pub times_in : (n : ℕ) (xs : List ℕ) → Contains xs n → 0 < times n xs
 times_in n [] p = absurd (in_none n p)
 times_in n (x ∷ xs) p = elim (head_or_rest x n xs p) as (λ _. 0 < one_if (nat_eq x n) + times n xs) [
   | inl same ↦ let here : one_if (nat_eq x n) ≡ 1 = one_if_true (nat_eq x n) (eq-eqb x n same) in omega arith
