@@ -1,22 +1,21 @@
 -- A large block is held no more, and its superblocks go to the free list.
-use Rattle.std.proofs.Common.{◌≡◌, ◌≢◌, ℕ, zero, suc, ◌+◌, ◌*◌, ◌<◌, ◌≤◌, ◌⊎◌, inl, inr, nat_eq, List, ◌∷◌, Contains, refl, ap, sym, subst, ◌∙◌, arith}
-use Rattle.std.proofs.lemmas.Bool.{cases_eq, cases_lt, eqb-true, eq-eqb}
+use Rattle.std.proofs.Common.{◌≡◌, ◌≢◌, ℕ, zero, suc, ◌+◌, ◌*◌, ◌<◌, ◌≤◌, inl, inr, nat_eq, List, ◌∷◌, Contains, refl, ap, sym, subst, ◌∙◌, arith}
+use Rattle.std.proofs.lemmas.Bool.{cases_eq, eqb-true, eq-eqb}
 use Rattle.heap_model.specs.declared.block.Block.{Block}
 use Rattle.heap_model.specs.Geometry.{lists, head_word, info_word, anchor_word, link_word, used_word, start_word, superblock_words}
 use Rattle.heap_model.specs.Image.{Image}
 use Rattle.heap_model.specs.Sizes.{IsClass}
 use Rattle.heap_model.specs.Words.{anchor_state, head_first}
-use Rattle.heap_model.specs.Blocks.{Layout, IsBlock}
+use Rattle.heap_model.specs.Blocks.{Layout}
 use Rattle.heap_model.specs.Recovered.{HasPartIn}
-use Rattle.heap_model.specs.Chains.{Follows, Walks}
+use Rattle.heap_model.specs.Chains.{Follows}
 use Rattle.heap_model.specs.Counting.{times, one_if}
 use Rattle.heap_model.proofs.BlockLemmas.{never_overlap}
 use Rattle.heap_model.proofs.CountingLemmas.{one_if_true, one_if_false}
-use Rattle.heap_model.proofs.MemberLemmas.{in_none, head_or_rest}
-use Rattle.heap_model.proofs.PartLemmas.{TakesAll, part_taken, long_takes}
+use Rattle.heap_model.proofs.PartLemmas.{part_taken, long_takes}
 use Rattle.heap_model.proofs.PlaceLemmas.{same_there}
 use Rattle.heap_shape.specs.Shape.{Place, in_list, is_full, in_large, is_new, Shape, stands_in, with_at}
-use Rattle.heap_shape.specs.Standing.{HoldsAt, HasNoHeld, IsInLarge, IsAs}
+use Rattle.heap_shape.specs.Standing.{HasNoHeld, IsInLarge, IsAs}
 use Rattle.heap_shape.specs.Whole.{layout_at, IsCachedIn, IsShape}
 use Rattle.heap_shape.specs.Effects.{IsSet, IsPushedOn, IsInSuperblock}
 use Rattle.heap_shape.specs.Moves.{after_split, TakesFrom}

@@ -1,23 +1,22 @@
 -- A heap at rest has a shape, with empty caches.
-use Rattle.std.proofs.Common.{◌≡◌, ◌≢◌, ℕ, zero, suc, ◌+◌, ◌*◌, ◌<◌, ◌≤◌, ◌⊎◌, inl, inr, nat_eq, List, [], ◌∷◌, map, length, slice_index, Contains, refl, ap, sym, subst, ◌∙◌, arith}
+use Rattle.std.proofs.Common.{◌≡◌, ◌≢◌, ℕ, zero, suc, ◌+◌, ◌<◌, ◌≤◌, inl, inr, nat_eq, List, [], ◌∷◌, map, length, slice_index, Contains, refl, ap, sym, subst, ◌∙◌, arith}
 use Rattle.std.proofs.lemmas.Bool.{cases_eq, cases_lt, eqb-true, eq-eqb, lt-ltb, ltb-true}
 use Rattle.heap_model.specs.declared.block.Block.{Block}
-use Rattle.heap_model.specs.Geometry.{lists, head_word, info_word, anchor_word, link_word, used_word}
+use Rattle.heap_model.specs.Geometry.{lists, head_word, info_word, anchor_word, link_word}
 use Rattle.heap_model.specs.Image.{Image}
 use Rattle.heap_model.specs.Header.{capacity_of, used_of}
 use Rattle.heap_model.specs.Sizes.{IsClass, blocks_of, words_of_class}
-use Rattle.heap_model.specs.Words.{anchor_state, anchor_first, anchor_count, empty_state, partial_state, head_first}
+use Rattle.heap_model.specs.Words.{anchor_first, anchor_count, head_first}
 use Rattle.heap_model.specs.Blocks.{layout_of, IsBlock}
-use Rattle.heap_model.specs.Recovered.{IsBlockOfClass}
 use Rattle.heap_model.specs.Chains.{Follows, Walks}
 use Rattle.heap_model.specs.Counting.{times, total, below, one_if}
 use Rattle.heap_model.specs.Rest.{IsReady, IsShaped, list_numbers, large_part}
-use Rattle.heap_model.proofs.MemberLemmas.{in_none, in_head, in_rest, head_or_rest, in_map, map_in}
+use Rattle.heap_model.proofs.MemberLemmas.{in_none, head_or_rest, in_map, map_in}
 use Rattle.heap_model.proofs.CountingLemmas.{total_some, one_if_true, one_if_false, times_some, is_number, number_below}
 use Rattle.heap_model.proofs.PartLemmas.{long_takes}
 use Rattle.heap_model.proofs.LeftLemmas.{counts_large}
 use Rattle.heap_shape.specs.Shape.{Place, in_list, is_full, in_large, is_new, Shape, stands_in}
-use Rattle.heap_shape.specs.Standing.{first_of, IsFirstOf, HoldsAt, HasOneOwner, a_free, a_held, IsOfClass, IsListed, IsFull, IsFree, IsInLarge, IsNew, IsAs}
+use Rattle.heap_shape.specs.Standing.{first_of, IsFirstOf, HasOneOwner, a_free, a_held, IsListed, IsFull, IsAs}
 use Rattle.heap_shape.specs.Whole.{IsShape}
 use Rattle.heap_shape.proofs.CountLemmas.{few_members}
 
@@ -58,12 +57,23 @@ head_at_rest link capacity head (d ∷ ds) small follows =
     let within : d < capacity = follows.1 in
     (omega arith, within, follows.2)
 
+-- the first words of blocks
+abbrev firsts_of : List Block → List ℕ
+firsts_of held = map (λ (h : Block). h.first_word) held
+
+-- how often a superblock stands in lists, and how often it counts
+abbrev in_lists : {image : Image} {held : List Block} → IsShaped image held → ℕ → ℕ
+in_lists shaped d = total (λ list. times d (shaped.descriptors list)) list_numbers
+
+abbrev in_blocks : Image → List Block → ℕ → ℕ
+in_blocks image held d = total (large_part (capacity_of image) d) held
+
 -- where a superblock of a heap at rest is
 data RestsAt (image : Image) (held : List Block) (shaped : IsShaped image held) (d : ℕ) : Type 0 where
   untaken : used_of image ≤ d → RestsAt image held shaped d
   listed : (list : ℕ) → list < lists → 0 < times d (shaped.descriptors list) → RestsAt image held shaped d
   full : 0 < shaped.full d → RestsAt image held shaped d
-  large : 0 < total (large_part (capacity_of image) d) held → RestsAt image held shaped d
+  large : 0 < in_blocks image held d → RestsAt image held shaped d
 
 abbrev place_of : {image : Image} {held : List Block} {shaped : IsShaped image held} {d : ℕ} → RestsAt image held shaped d → Place
 place_of (untaken past) = is_new
@@ -73,13 +83,13 @@ place_of (large some) = in_large
 
 module _ (image : Image) (held : List Block) (shaped : IsShaped image held) (d : ℕ) where
   -- each superblock is somewhere, and counts once
-  within_one : total (λ list. times d (shaped.descriptors list)) list_numbers + shaped.full d + total (large_part (capacity_of image) d) held ≤ 1
-  within_one = let one = shaped.one_place d in elim (cases_lt d (used_of image)) as (λ _. total (λ list. times d (shaped.descriptors list)) list_numbers + shaped.full d + total (large_part (capacity_of image) d) held ≤ 1) [
+  within_one : in_lists shaped d + shaped.full d + in_blocks image held d ≤ 1
+  within_one = let one = shaped.one_place d in elim (cases_lt d (used_of image)) as (λ _. in_lists shaped d + shaped.full d + in_blocks image held d ≤ 1) [
     | inl taken ↦ let is : below d (used_of image) ≡ 1 = one_if_true _ (lt-ltb d (used_of image) taken) in omega arith
     | inr past ↦ let is : below d (used_of image) ≡ 0 = one_if_false _ (λ test. let less = ltb-true d (used_of image) test in omega arith) in omega arith
   ]
 
-  is_taken : 0 < total (λ list. times d (shaped.descriptors list)) list_numbers + shaped.full d + total (large_part (capacity_of image) d) held → d < used_of image
+  is_taken : 0 < in_lists shaped d + shaped.full d + in_blocks image held d → d < used_of image
   is_taken some = let one = shaped.one_place d in elim (cases_lt d (used_of image)) as (λ _. d < used_of image) [
     | inl taken ↦ taken
     | inr past ↦ absurd (let is : below d (used_of image) ≡ 0 = one_if_false _ (λ test. let less = ltb-true d (used_of image) test in omega arith) in omega arith)
@@ -91,7 +101,7 @@ module _ (image : Image) (held : List Block) (shaped : IsShaped image held) (d :
     | inl taken ↦ let is : below d (used_of image) ≡ 1 = one_if_true _ (lt-ltb d (used_of image) taken) in
         elim (cases_lt 0 (shaped.full d)) as (λ _. RestsAt image held shaped d) [
           | inl some ↦ full some
-          | inr not_full ↦ elim (cases_lt 0 (total (large_part (capacity_of image) d) held)) as (λ _. RestsAt image held shaped d) [
+          | inr not_full ↦ elim (cases_lt 0 (in_blocks image held d)) as (λ _. RestsAt image held shaped d) [
             | inl some ↦ large some
             | inr not_large ↦ let found = total_some (λ list. times d (shaped.descriptors list)) list_numbers (omega arith) in listed found.0 (number_below found.0 found.1) found.2
           ]
@@ -99,7 +109,7 @@ module _ (image : Image) (held : List Block) (shaped : IsShaped image held) (d :
   ]
 
   -- what stands in one list is all that stands in lists
-  times_within : (list : ℕ) → list < lists → times d (shaped.descriptors list) ≤ total (λ list'. times d (shaped.descriptors list')) list_numbers
+  times_within : (list : ℕ) → list < lists → times d (shaped.descriptors list) ≤ in_lists shaped d
   times_within list less = total_member (λ list'. times d (shaped.descriptors list')) list_numbers list (is_number list less)
 
   -- it stands in the list that its place says, and in no other
@@ -142,15 +152,15 @@ module _ (image : Image) (held : List Block) (shaped : IsShaped image held) (nam
       → HasOneOwner (shape_of image held shaped) held class d (first_of (capacity_of image) class d index)
   owned_at_rest class index is some info less =
       let word = first_of (capacity_of image) class d index in
-      let one : times word (shaped.chains d) + times word (map (λ (h : Block). h.first_word) held) ≡ 1 =
+      let one : times word (shaped.chains d) + times word (firsts_of held) ≡ 1 =
           shaped.one_owner class d index (record { first_word = word; words = words_of_class class }) is some info (record { below = less; at = refl; size = refl }) in
-      elim (cases_lt 0 (times word (map (λ (h : Block). h.first_word) held))) as (λ _. HasOneOwner (shape_of image held shaped) held class d word) [
+      elim (cases_lt 0 (times word (firsts_of held))) as (λ _. HasOneOwner (shape_of image held shaped) held class d word) [
         | inl holds ↦
-            let found = in_map (λ (h : Block). h.first_word) held word (times_some word (map (λ (h : Block). h.first_word) held) holds) in
+            let found = in_map (λ (h : Block). h.first_word) held word (times_some word (firsts_of held) holds) in
             a_held (omega arith) (record { block = found.0; holds = found.1; at = found.2 })
         | inr none ↦ a_free (omega arith) (λ at.
-            let within : Contains (map (λ (h : Block). h.first_word) held) word = subst (λ w. Contains (map (λ (h : Block). h.first_word) held) w) at.at (map_in (λ (h : Block). h.first_word) held at.block at.holds) in
-            let counts = times_in word (map (λ (h : Block). h.first_word) held) within in omega arith)
+            let within : Contains (firsts_of held) word = subst (λ w. Contains (firsts_of held) w) at.at (map_in (λ (h : Block). h.first_word) held at.block at.holds) in
+            let counts = times_in word (firsts_of held) within in omega arith)
       ]
 
   -- a superblock in the list of a class
