@@ -15,7 +15,7 @@ use Rattle.heap_model.proofs.CountingLemmas.{one_if_true, one_if_false}
 use Rattle.heap_model.proofs.PartLemmas.{part_taken, long_takes}
 use Rattle.heap_model.proofs.PlaceLemmas.{same_there}
 use Rattle.heap_shape.specs.Shape.{Place, in_list, is_full, in_large, is_new, Shape, stands_in, with_at}
-use Rattle.heap_shape.specs.Standing.{HasNoHeld, IsInLarge, IsAs}
+use Rattle.heap_shape.specs.Standing.{HasNoHeld, IsFree, IsInLarge, IsAs}
 use Rattle.heap_shape.specs.Whole.{layout_at, IsCachedIn, IsShape}
 use Rattle.heap_shape.specs.Effects.{IsSet, IsPushedOn, IsInSuperblock}
 use Rattle.heap_shape.specs.Moves.{after_split, TakesFrom}
@@ -23,7 +23,7 @@ use Rattle.heap_shape.proofs.BasicLemmas.{with_at_same, with_at_other, walks_sam
 use Rattle.heap_shape.proofs.FrameLemmas.{SameThere, frame}
 use Rattle.heap_shape.proofs.OpenLemmas.{times_in}
 
--- each superblock of a held large block has that place, and no other held block has a part in it
+-- each superblock of a held large block has that place
 pub large_places : (capacity d : ℕ) (image : Image) (held : List Block) (s : Shape) (b : Block) → IsShape capacity image held s → Contains held b → superblock_words ≤ b.words
     → b.first_word ≤ start_word capacity d → start_word capacity d < b.first_word + b.words → (d < capacity) × (s.place d ≡ in_large)
 large_places capacity d image held s b shape holds long from until = (within, by_place (s.place d) (shape.places d within)) where
@@ -83,7 +83,9 @@ drop_large capacity image held now s b shape holds long takes = (is_shape, none_
   by_place d (in_list (suc c)) is =
       let apart = no_part d (subst IsClass (sym is.of_class.info) is.of_class.is_class) in
       frame capacity d image image s s held now (in_list (suc c)) (same_where d apart) (omega arith) (λ same. absurd (cc)) is
-  by_place d is_full is = frame capacity d image image s s held now is_full (same_where d (no_part d is.of_class.is_class)) (omega arith) (λ same. absurd (cc)) is
+  by_place d is_full is =
+      let apart = no_part d is.of_class.is_class in
+      frame capacity d image image s s held now is_full (same_where d apart) (omega arith) (λ same. absurd (cc)) is
   by_place d in_large is = is
   by_place d is_new is = is
 
@@ -117,9 +119,14 @@ list_not_large list same = cc
 full_not_large : is_full ≡ in_large → ⊥
 full_not_large same = cc
 
+-- the links lead along the superblocks
+abbrev Leads : Image → ℕ → ℕ → List ℕ → Type 0
+Leads image = Follows (λ e. image (link_word e))
+
 -- one of them goes to the free list
-module _ (capacity d : ℕ) (image middle new : Image) (held : List Block) (s : Shape) (shape : IsShape capacity image held s) (within : d < capacity) (place : s.place d ≡ in_large)
-    (set : IsSet image middle (anchor_word d) 0) (pushed : IsPushedOn middle new 0 d) where
+module _ (capacity d : ℕ) (image middle new : Image) (held : List Block) (s : Shape) (shape : IsShape capacity image held s)
+    (within : d < capacity) (place : s.place d ≡ in_large) (set : IsSet image middle (anchor_word d) 0) (pushed : IsPushedOn middle new 0 d) where
+  -- the superblock is taken
   large : IsInLarge image d
   large = subst (λ p. IsAs capacity image s held d p) place (shape.places d within)
 
@@ -143,23 +150,30 @@ module _ (capacity d : ℕ) (image middle new : Image) (held : List Block) (s : 
   not_listed : (list : ℕ) → list < lists → times d (s.listed list) ≡ 0
   not_listed list less = shape.listed list d less ∙ ap (λ p. stands_in p list) place
 
-  links_same : (list from : ℕ) → list < lists → Follows (λ e. image (link_word e)) capacity from (s.listed list) → Follows (λ e. new (link_word e)) capacity from (s.listed list)
-  links_same list from less follows = follows_same (λ e. image (link_word e)) (λ e. new (link_word e)) capacity from (s.listed list)
-      (λ e p. same_link e (λ same. let some = times_in e (s.listed list) p in let none = not_listed list less in let moved : times e (s.listed list) ≡ times d (s.listed list) = ap (λ x. times x (s.listed list)) same in omega arith)) follows
+  -- so lists lead as they did
+  links_same : (list from : ℕ) → list < lists → Leads image capacity from (s.listed list) → Leads new capacity from (s.listed list)
+  links_same list from less follows = follows_same (λ e. image (link_word e)) (λ e. new (link_word e)) capacity from (s.listed list) (λ e p.
+      same_link e (λ same.
+      let some = times_in e (s.listed list) p in
+      let none = not_listed list less in
+      let moved : times e (s.listed list) ≡ times d (s.listed list) = ap (λ x. times x (s.listed list)) same in
+      omega arith)) follows
 
   -- it is the first of the free list now
-  follows_free : Follows (λ e. new (link_word e)) capacity (head_first (new (head_word 0))) (d ∷ s.listed 0)
+  follows_free : Leads new capacity (head_first (new (head_word 0))) (d ∷ s.listed 0)
   follows_free =
       let small = shape.small in
       let head : new (head_word 0) ≡ d + 1 + 16777216 * pushed.pops = pushed.head.at in
       let link : new (link_word d) ≡ head_first (image (head_word 0)) =
           pushed.head.others (link_word d) (λ q. omega arith) ∙ pushed.link.at ∙ ap head_first (set.others (head_word 0) (λ q. omega arith)) in
-      (omega arith, within, subst (λ from. Follows (λ e. new (link_word e)) capacity from (s.listed 0)) (sym link) (links_same 0 (head_first (image (head_word 0))) (omega arith) (shape.follows 0 (omega arith))))
+      let rest = links_same 0 (head_first (image (head_word 0))) (omega arith) (shape.follows 0 (omega arith)) in
+      (omega arith, within, subst (λ from. Leads new capacity from (s.listed 0)) (sym link) rest)
 
-  follows_other : (list : ℕ) → list < lists → list ≢ 0 → Follows (λ e. new (link_word e)) capacity (head_first (new (head_word list))) (s.listed list)
+  follows_other : (list : ℕ) → list < lists → list ≢ 0 → Leads new capacity (head_first (new (head_word list))) (s.listed list)
   follows_other list less other =
-      let head : new (head_word list) ≡ image (head_word list) = same_word (head_word list) (λ q. omega arith) (λ q. omega arith) (λ q. other (omega arith)) in
-      subst (λ h. Follows (λ e. new (link_word e)) capacity (head_first h) (s.listed list)) (sym head) (links_same list (head_first (image (head_word list))) less (shape.follows list less))
+      let head = same_word (head_word list) (λ q. omega arith) (λ q. omega arith) (λ q. other (omega arith)) in
+      let leads = links_same list (head_first (image (head_word list))) less (shape.follows list less) in
+      subst (λ h. Leads new capacity (head_first h) (s.listed list)) (sym head) leads
 
   listed_free : (e : ℕ) → times e (d ∷ s.listed 0) ≡ stands_in (with_at s.place d (in_list 0) e) 0
   listed_free e = elim (cases_eq e d) as (λ _. times e (d ∷ s.listed 0) ≡ stands_in (with_at s.place d (in_list 0) e) 0) [
@@ -171,7 +185,8 @@ module _ (capacity d : ℕ) (image middle new : Image) (held : List Block) (s : 
     | inr other ↦
         let here : one_if (nat_eq d e) ≡ 0 = one_if_false (nat_eq d e) (λ test. other (sym (eqb-true d e test))) in
         let rest = shape.listed 0 e (omega arith) in
-        let there : stands_in (with_at s.place d (in_list 0) e) 0 ≡ stands_in (s.place e) 0 = ap (λ p. stands_in p 0) (with_at_other s.place d (in_list 0) e other) in
+        let there : stands_in (with_at s.place d (in_list 0) e) 0 ≡ stands_in (s.place e) 0 =
+            ap (λ p. stands_in p 0) (with_at_other s.place d (in_list 0) e other) in
         omega arith
   ]
 
@@ -179,7 +194,8 @@ module _ (capacity d : ℕ) (image middle new : Image) (held : List Block) (s : 
   listed_other list e less more = elim (cases_eq e d) as (λ _. times e (s.listed list) ≡ stands_in (with_at s.place d (in_list 0) e) list) [
     | inl same ↦ subst (λ x. times x (s.listed list) ≡ stands_in (with_at s.place d (in_list 0) x) list) (sym same) (
         let rest = not_listed list less in
-        let there : stands_in (with_at s.place d (in_list 0) d) list ≡ one_if (nat_eq 0 list) = ap (λ p. stands_in p list) (with_at_same s.place d (in_list 0)) in
+        let there : stands_in (with_at s.place d (in_list 0) d) list ≡ one_if (nat_eq 0 list) =
+            ap (λ p. stands_in p list) (with_at_same s.place d (in_list 0)) in
         let is : one_if (nat_eq 0 list) ≡ 0 = one_if_false (nat_eq 0 list) (λ test. more (sym (eqb-true 0 list test))) in
         omega arith)
     | inr other ↦ shape.listed list e less ∙ ap (λ p. stands_in p list) (sym (with_at_other s.place d (in_list 0) e other))
@@ -199,9 +215,11 @@ module _ (capacity d : ℕ) (image middle new : Image) (held : List Block) (s : 
   }
 
   place_other : (e : ℕ) → e < capacity → e ≢ d → IsAs capacity new (after_split s d) held e (s.place e)
-  place_other e below other = frame capacity e image new s (after_split s d) held held (s.place e) (same_other e other) (let same = same_used in omega arith)
-      (λ is. let fresh = subst (λ p. IsAs capacity image s held e p) is (shape.places e below) in
-      let past = fresh.past in let same = same_used in (omega arith, same_link e other)) (shape.places e below)
+  place_other e below other =
+      let same = same_used in
+      frame capacity e image new s (after_split s d) held held (s.place e) (same_other e other) (omega arith)
+          (λ is. let fresh = subst (λ p. IsAs capacity image s held e p) is (shape.places e below) in let past = fresh.past in (omega arith, same_link e other))
+          (shape.places e below)
 
   -- a cached block is in none that was in a large block
   cached_other : (class word : ℕ) → IsClass class → Contains (s.cached class) word → IsCachedIn capacity new (after_split s d) class word
@@ -220,32 +238,52 @@ module _ (capacity d : ℕ) (image middle new : Image) (held : List Block) (s : 
         ];
       }
 
+  -- list by list, and superblock by superblock
+  follows_now : (list : ℕ) → list < lists → Leads new capacity (head_first (new (head_word list))) ((after_split s d).listed list)
+  follows_now list less = elim (cases_eq list 0) as (λ _. Leads new capacity (head_first (new (head_word list))) ((after_split s d).listed list)) [
+    | inl is_free ↦ subst (λ x. Leads new capacity (head_first (new (head_word x))) ((after_split s d).listed x)) (sym is_free) follows_free
+    | inr other ↦
+        subst (λ ds. Leads new capacity (head_first (new (head_word list))) ds) (sym (with_at_other s.listed 0 (d ∷ s.listed 0) list other))
+            (follows_other list less other)
+  ]
+
+  listed_now : (list e : ℕ) → list < lists → times e ((after_split s d).listed list) ≡ stands_in ((after_split s d).place e) list
+  listed_now list e less = elim (cases_eq list 0) as (λ _. times e ((after_split s d).listed list) ≡ stands_in ((after_split s d).place e) list) [
+    | inl is_free ↦ subst (λ x. times e ((after_split s d).listed x) ≡ stands_in ((after_split s d).place e) x) (sym is_free) (listed_free e)
+    | inr other ↦ ap (times e) (with_at_other s.listed 0 (d ∷ s.listed 0) list other) ∙ listed_other list e less other
+  ]
+
+  free_now : HasNoHeld capacity held d → IsFree capacity new held d
+  free_now none =
+      let taken = large.taken in
+      let same = same_used in
+      let anchor = pushed.head.others (anchor_word d) (λ q. omega arith) ∙ pushed.link.others (anchor_word d) (λ q. omega arith) ∙ set.at in
+      record { taken = omega arith; state = ap anchor_state anchor; none = none }
+
+  place_now : HasNoHeld capacity held d → (e : ℕ) → e < capacity → IsAs capacity new (after_split s d) held e ((after_split s d).place e)
+  place_now none e below = elim (cases_eq e d) as (λ _. IsAs capacity new (after_split s d) held e ((after_split s d).place e)) [
+    | inl same ↦
+        let here = subst (λ p. IsAs capacity new (after_split s d) held d p) (sym (with_at_same s.place d (in_list 0))) (free_now none) in
+        subst (λ x. IsAs capacity new (after_split s d) held x ((after_split s d).place x)) (sym same) here
+    | inr other ↦
+        subst (λ p. IsAs capacity new (after_split s d) held e p) (sym (with_at_other s.place d (in_list 0) e other)) (place_other e below other)
+  ]
+
   split_kept : HasNoHeld capacity held d → IsShape capacity new held (after_split s d)
   split_kept none = record {
     small = shape.small;
     used = let used = shape.used in let same = same_used in omega arith;
     named = λ b holds. same_there (layout_at capacity image) (layout_at capacity new) b refl same_used (λ e part. same_info e) (shape.named b holds);
-    follows = λ list less. elim (cases_eq list 0) as (λ _. Follows (λ e. new (link_word e)) capacity (head_first (new (head_word list))) (with_at s.listed 0 (d ∷ s.listed 0) list)) [
-      | inl is_free ↦ subst (λ x. Follows (λ e. new (link_word e)) capacity (head_first (new (head_word x))) (with_at s.listed 0 (d ∷ s.listed 0) x)) (sym is_free) follows_free
-      | inr other ↦ subst (λ ds. Follows (λ e. new (link_word e)) capacity (head_first (new (head_word list))) ds) (sym (with_at_other s.listed 0 (d ∷ s.listed 0) list other)) (follows_other list less other)
-    ];
-    listed = λ list e less. elim (cases_eq list 0) as (λ _. times e (with_at s.listed 0 (d ∷ s.listed 0) list) ≡ stands_in (with_at s.place d (in_list 0) e) list) [
-      | inl is_free ↦ subst (λ x. times e (with_at s.listed 0 (d ∷ s.listed 0) x) ≡ stands_in (with_at s.place d (in_list 0) e) x) (sym is_free) (listed_free e)
-      | inr other ↦ ap (times e) (with_at_other s.listed 0 (d ∷ s.listed 0) list other) ∙ listed_other list e less other
-    ];
-    places = λ e below. elim (cases_eq e d) as (λ _. IsAs capacity new (after_split s d) held e (with_at s.place d (in_list 0) e)) [
-      | inl same ↦ subst (λ x. IsAs capacity new (after_split s d) held x (with_at s.place d (in_list 0) x)) (sym same)
-          (subst (λ p. IsAs capacity new (after_split s d) held d p) (sym (with_at_same s.place d (in_list 0))) (record { taken = let taken = large.taken in let same = same_used in omega arith; state = cleared; none = none }))
-      | inr other ↦ subst (λ p. IsAs capacity new (after_split s d) held e p) (sym (with_at_other s.place d (in_list 0) e other)) (place_other e below other)
-    ];
+    follows = follows_now;
+    listed = listed_now;
+    places = place_now none;
     cached = cached_other;
     walks = λ class is. walks_same image new (s.start class) (s.cached class) (λ w p.
         let cached = shape.cached class w is p in
         same_inside cached.superblock w (first_inside capacity class cached.superblock w is cached.is_first)) (shape.walks class is);
-  } where
-    cleared : anchor_state (new (anchor_word d)) ≡ 0
-    cleared = ap anchor_state (pushed.head.others (anchor_word d) (λ q. omega arith) ∙ pushed.link.others (anchor_word d) (λ q. omega arith) ∙ set.at)
+  }
 
 pub split_one : (capacity d : ℕ) (image middle new : Image) (held : List Block) (s : Shape) → IsShape capacity image held s → d < capacity → s.place d ≡ in_large → HasNoHeld capacity held d
     → IsSet image middle (anchor_word d) 0 → IsPushedOn middle new 0 d → IsShape capacity new held (after_split s d)
-split_one capacity d image middle new held s shape within place none set pushed = split_kept capacity d image middle new held s shape within place set pushed none
+split_one capacity d image middle new held s shape within place none set pushed =
+    split_kept capacity d image middle new held s shape within place set pushed none
