@@ -123,7 +123,7 @@ full_not_large same = cc
 abbrev Leads : Image → ℕ → ℕ → List ℕ → Type 0
 Leads image = Follows (λ e. image (link_word e))
 
--- one of them goes to the free list
+-- The step of split_one, in parts.
 module _ (capacity d : ℕ) (image middle new : Image) (held : List Block) (s : Shape) (shape : IsShape capacity image held s)
     (within : d < capacity) (place : s.place d ≡ in_large) (set : IsSet image middle (anchor_word d) 0) (pushed : IsPushedOn middle new 0 d) where
   -- the superblock is taken
@@ -134,6 +134,7 @@ module _ (capacity d : ℕ) (image middle new : Image) (held : List Block) (s : 
   same_word : (word : ℕ) → word ≢ anchor_word d → word ≢ link_word d → word ≢ head_word 0 → new word ≡ image word
   same_word word no_anchor no_link no_head = pushed.head.others word no_head ∙ pushed.link.others word no_link ∙ set.others word no_anchor
 
+  -- so `used`, infos, the links and anchors of others, and superblocks stay
   same_used : new used_word ≡ image used_word
   same_used = same_word used_word (λ e. omega arith) (λ e. omega arith) (λ e. omega arith)
 
@@ -175,6 +176,7 @@ module _ (capacity d : ℕ) (image middle new : Image) (held : List Block) (s : 
       let leads = links_same list (head_first (image (head_word list))) less (shape.follows list less) in
       subst (λ h. Leads new capacity (head_first h) (s.listed list)) (sym head) leads
 
+  -- it stands there, and in no other list
   listed_free : (e : ℕ) → times e (d ∷ s.listed 0) ≡ stands_in (with_at s.place d (in_list 0) e) 0
   listed_free e = elim (cases_eq e d) as (λ _. times e (d ∷ s.listed 0) ≡ stands_in (with_at s.place d (in_list 0) e) 0) [
     | inl same ↦ subst (λ x. times x (d ∷ s.listed 0) ≡ stands_in (with_at s.place d (in_list 0) x) 0) (sym same) (
@@ -253,6 +255,7 @@ module _ (capacity d : ℕ) (image middle new : Image) (held : List Block) (s : 
     | inr other ↦ ap (times e) (with_at_other s.listed 0 (d ∷ s.listed 0) list other) ∙ listed_other list e less other
   ]
 
+  -- it is free
   free_now : HasNoHeld capacity held d → IsFree capacity new held d
   free_now none =
       let taken = large.taken in
@@ -269,6 +272,7 @@ module _ (capacity d : ℕ) (image middle new : Image) (held : List Block) (s : 
         subst (λ p. IsAs capacity new (after_split s d) held e p) (sym (with_at_other s.place d (in_list 0) e other)) (place_other e below other)
   ]
 
+  -- all together
   split_kept : HasNoHeld capacity held d → IsShape capacity new held (after_split s d)
   split_kept none = record {
     small = shape.small;
@@ -283,6 +287,7 @@ module _ (capacity d : ℕ) (image middle new : Image) (held : List Block) (s : 
         same_inside cached.superblock w (first_inside capacity class cached.superblock w is cached.is_first)) (shape.walks class is);
   }
 
+-- one of them goes to the free list
 pub split_one : (capacity d : ℕ) (image middle new : Image) (held : List Block) (s : Shape) → IsShape capacity image held s → d < capacity → s.place d ≡ in_large → HasNoHeld capacity held d
     → IsSet image middle (anchor_word d) 0 → IsPushedOn middle new 0 d → IsShape capacity new held (after_split s d)
 split_one capacity d image middle new held s shape within place none set pushed =

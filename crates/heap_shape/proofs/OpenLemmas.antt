@@ -20,7 +20,7 @@ use Rattle.heap_shape.specs.Standing.{first_of, IsFirstOf, HasOneOwner, a_free, 
 use Rattle.heap_shape.specs.Whole.{IsShape}
 use Rattle.heap_shape.proofs.CountLemmas.{few_members}
 
--- a member counts in a sum, and two members count together
+-- a member counts in a sum
 total_member : {X : Type 0} (of : X → ℕ) (xs : List X) (x : X) → Contains xs x → of x ≤ total of xs
 total_member of [] x p = absurd (in_none x p)
 total_member of (y ∷ xs) x p = elim (head_or_rest y x xs p) as (λ _. of x ≤ of y + total of xs) [
@@ -28,6 +28,7 @@ total_member of (y ∷ xs) x p = elim (head_or_rest y x xs p) as (λ _. of x ≤
   | inr later ↦ let rest = total_member of xs x later in omega arith
 ]
 
+-- and two members count together
 total_two : {X : Type 0} (of : X → ℕ) (xs : List X) (a b : X) → Contains xs a → Contains xs b → a ≢ b → of a + of b ≤ total of xs
 total_two of [] a b in_a in_b differ = absurd (in_none a in_a)
 total_two of (y ∷ xs) a b in_a in_b differ = elim (head_or_rest y a xs in_a) as (λ _. of a + of b ≤ of y + total of xs) [
@@ -49,7 +50,7 @@ times_in n (x ∷ xs) p = elim (head_or_rest x n xs p) as (λ _. 0 < one_if (nat
   | inr later ↦ let rest = times_in n xs later in omega arith
 ]
 
--- the head of a list whose head is the number of its first descriptor
+-- a head that was never popped is the number of its list's first descriptor
 head_at_rest : (link : ℕ → ℕ) (capacity head : ℕ) (ds : List ℕ) → capacity ≤ 256 → Follows link capacity head ds
     → Follows link capacity (head_first head) ds
 head_at_rest link capacity head [] small follows = let none : head ≡ 0 = follows in omega arith
@@ -76,6 +77,7 @@ data RestsAt (image : Image) (held : List Block) (shaped : IsShaped image held) 
   full : 0 < shaped.full d → RestsAt image held shaped d
   large : 0 < in_blocks image held d → RestsAt image held shaped d
 
+-- and the place that this is
 abbrev place_of : {image : Image} {held : List Block} {shaped : IsShaped image held} {d : ℕ} → RestsAt image held shaped d → Place
 place_of (untaken past) = is_new
 place_of (listed list less some) = in_list list
@@ -83,10 +85,11 @@ place_of (full some) = is_full
 place_of (large some) = in_large
 
 module _ (image : Image) (held : List Block) (shaped : IsShaped image held) (d : ℕ) where
+  -- a superblock that was never taken doesn't count
   is_past : used_of image ≤ d → below d (used_of image) ≡ 0
   is_past past = one_if_false _ (λ test. let less = ltb-true d (used_of image) test in omega arith)
 
-  -- each superblock is somewhere, and counts once
+  -- each counts once at most, and only if it is taken
   within_one : in_lists shaped d + shaped.full d + in_blocks image held d ≤ 1
   within_one = let one = shaped.one_place d in elim (cases_lt d (used_of image)) as (λ _. in_lists shaped d + shaped.full d + in_blocks image held d ≤ 1) [
     | inl taken ↦ let is : below d (used_of image) ≡ 1 = one_if_true _ (lt-ltb d (used_of image) taken) in omega arith
@@ -99,6 +102,7 @@ module _ (image : Image) (held : List Block) (shaped : IsShaped image held) (d :
     | inr past ↦ absurd (let is = is_past past in omega arith)
   ]
 
+  -- each is somewhere
   rests_at : RestsAt image held shaped d
   rests_at = let one = shaped.one_place d in elim (cases_lt d (used_of image)) as (λ _. RestsAt image held shaped d) [
     | inr past ↦ untaken past
@@ -114,7 +118,7 @@ module _ (image : Image) (held : List Block) (shaped : IsShaped image held) (d :
         ]
   ]
 
-  -- what stands in one list is all that stands in lists
+  -- what stands in one list counts in lists
   times_within : (list : ℕ) → list < lists → times d (shaped.descriptors list) ≤ in_lists shaped d
   times_within list less = total_member (λ list'. times d (shaped.descriptors list')) list_numbers list (is_number list less)
 
@@ -262,6 +266,7 @@ rest_is_shape image held bytes shaped formed named = record {
   walks = λ class is. tt;
 }
 
+-- with the words of an image
 pub opens : (words : List ℕ) (held : List Block) → IsReady words held → (s : Shape) × IsShape (capacity_of (slice_index words)) (slice_index words) held s × ((class : ℕ) → s.cached class ≡ [])
 opens words held ready = (
   shape_of (slice_index words) held ready.shaped,
