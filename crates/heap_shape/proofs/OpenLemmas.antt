@@ -1,27 +1,26 @@
 -- A heap at rest has a shape, with empty caches.
-use Rattle.std.proofs.Common.{◌≡◌, ◌≢◌, ℕ, zero, suc, ◌+◌, ◌*◌, ◌<◌, ◌≤◌, ◌⊎◌, inl, inr, nat_eq, List, [], ◌∷◌, map, length, slice_index, Contains, refl, ap, sym, subst, ◌∙◌, arith}
+use Rattle.std.proofs.Common.{◌≡◌, ◌≢◌, ℕ, zero, suc, ◌+◌, ◌*◌, ◌<◌, ◌≤◌, inl, inr, nat_eq, List, [], ◌∷◌, map, length, slice_index, Contains, refl, ap, sym, subst, ◌∙◌, arith}
 use Rattle.std.proofs.lemmas.Bool.{cases_eq, cases_lt, eqb-true, eq-eqb, lt-ltb, ltb-true}
 use Rattle.heap_model.specs.declared.block.Block.{Block}
-use Rattle.heap_model.specs.Geometry.{lists, head_word, info_word, anchor_word, link_word, used_word}
+use Rattle.heap_model.specs.Geometry.{lists, head_word, info_word, anchor_word, link_word}
 use Rattle.heap_model.specs.Image.{Image}
-use Rattle.heap_model.specs.Header.{capacity_of, used_of}
+use Rattle.heap_model.specs.Header.{IsWellFormed, capacity_of, used_of}
 use Rattle.heap_model.specs.Sizes.{IsClass, blocks_of, words_of_class}
-use Rattle.heap_model.specs.Words.{anchor_state, anchor_first, anchor_count, empty_state, partial_state, head_first}
+use Rattle.heap_model.specs.Words.{anchor_first, anchor_count, head_first}
 use Rattle.heap_model.specs.Blocks.{layout_of, IsBlock}
-use Rattle.heap_model.specs.Recovered.{IsBlockOfClass}
 use Rattle.heap_model.specs.Chains.{Follows, Walks}
 use Rattle.heap_model.specs.Counting.{times, total, below, one_if}
 use Rattle.heap_model.specs.Rest.{IsReady, IsShaped, list_numbers, large_part}
-use Rattle.heap_model.proofs.MemberLemmas.{in_none, in_head, in_rest, head_or_rest, in_map, map_in}
+use Rattle.heap_model.proofs.MemberLemmas.{in_none, head_or_rest, in_map, map_in}
 use Rattle.heap_model.proofs.CountingLemmas.{total_some, one_if_true, one_if_false, times_some, is_number, number_below}
 use Rattle.heap_model.proofs.PartLemmas.{long_takes}
 use Rattle.heap_model.proofs.LeftLemmas.{counts_large}
 use Rattle.heap_shape.specs.Shape.{Place, in_list, is_full, in_large, is_new, Shape, stands_in}
-use Rattle.heap_shape.specs.Standing.{first_of, IsFirstOf, HoldsAt, HasOneOwner, a_free, a_held, IsOfClass, IsListed, IsFull, IsFree, IsInLarge, IsNew, IsAs}
+use Rattle.heap_shape.specs.Standing.{first_of, IsFirstOf, HasOneOwner, a_free, a_held, IsListed, IsFull, IsAs}
 use Rattle.heap_shape.specs.Whole.{IsShape}
 use Rattle.heap_shape.proofs.CountLemmas.{few_members}
 
--- a member counts in a sum, and two members count together
+-- a member counts in a sum
 total_member : {X : Type 0} (of : X → ℕ) (xs : List X) (x : X) → Contains xs x → of x ≤ total of xs
 total_member of [] x p = absurd (in_none x p)
 total_member of (y ∷ xs) x p = elim (head_or_rest y x xs p) as (λ _. of x ≤ of y + total of xs) [
@@ -29,6 +28,7 @@ total_member of (y ∷ xs) x p = elim (head_or_rest y x xs p) as (λ _. of x ≤
   | inr later ↦ let rest = total_member of xs x later in omega arith
 ]
 
+-- and two members count together
 total_two : {X : Type 0} (of : X → ℕ) (xs : List X) (a b : X) → Contains xs a → Contains xs b → a ≢ b → of a + of b ≤ total of xs
 total_two of [] a b in_a in_b differ = absurd (in_none a in_a)
 total_two of (y ∷ xs) a b in_a in_b differ = elim (head_or_rest y a xs in_a) as (λ _. of a + of b ≤ of y + total of xs) [
@@ -43,28 +43,41 @@ total_two of (y ∷ xs) a b in_a in_b differ = elim (head_or_rest y a xs in_a) a
 ]
 
 -- a member stands somewhere
-times_in : (n : ℕ) (xs : List ℕ) → Contains xs n → 0 < times n xs
+pub times_in : (n : ℕ) (xs : List ℕ) → Contains xs n → 0 < times n xs
 times_in n [] p = absurd (in_none n p)
 times_in n (x ∷ xs) p = elim (head_or_rest x n xs p) as (λ _. 0 < one_if (nat_eq x n) + times n xs) [
   | inl same ↦ let here : one_if (nat_eq x n) ≡ 1 = one_if_true (nat_eq x n) (eq-eqb x n same) in omega arith
   | inr later ↦ let rest = times_in n xs later in omega arith
 ]
 
--- the head of a list whose head is the number of its first descriptor
-head_at_rest : (link : ℕ → ℕ) (capacity head : ℕ) (ds : List ℕ) → capacity ≤ 256 → Follows link capacity head ds → Follows link capacity (head_first head) ds
+-- a head that was never popped is the number of its list's first descriptor
+head_at_rest : (link : ℕ → ℕ) (capacity head : ℕ) (ds : List ℕ) → capacity ≤ 256 → Follows link capacity head ds
+    → Follows link capacity (head_first head) ds
 head_at_rest link capacity head [] small follows = let none : head ≡ 0 = follows in omega arith
 head_at_rest link capacity head (d ∷ ds) small follows =
     let first : head ≡ d + 1 = follows.0 in
     let within : d < capacity = follows.1 in
     (omega arith, within, follows.2)
 
+-- the first words of blocks
+abbrev firsts_of : List Block → List ℕ
+firsts_of held = map (λ (h : Block). h.first_word) held
+
+-- how often a superblock stands in lists, and how often it counts
+abbrev in_lists : {image : Image} {held : List Block} → IsShaped image held → ℕ → ℕ
+in_lists shaped d = total (λ list. times d (shaped.descriptors list)) list_numbers
+
+abbrev in_blocks : Image → List Block → ℕ → ℕ
+in_blocks image held d = total (large_part (capacity_of image) d) held
+
 -- where a superblock of a heap at rest is
 data RestsAt (image : Image) (held : List Block) (shaped : IsShaped image held) (d : ℕ) : Type 0 where
   untaken : used_of image ≤ d → RestsAt image held shaped d
   listed : (list : ℕ) → list < lists → 0 < times d (shaped.descriptors list) → RestsAt image held shaped d
   full : 0 < shaped.full d → RestsAt image held shaped d
-  large : 0 < total (large_part (capacity_of image) d) held → RestsAt image held shaped d
+  large : 0 < in_blocks image held d → RestsAt image held shaped d
 
+-- and the place that this is
 abbrev place_of : {image : Image} {held : List Block} {shaped : IsShaped image held} {d : ℕ} → RestsAt image held shaped d → Place
 place_of (untaken past) = is_new
 place_of (listed list less some) = in_list list
@@ -72,34 +85,41 @@ place_of (full some) = is_full
 place_of (large some) = in_large
 
 module _ (image : Image) (held : List Block) (shaped : IsShaped image held) (d : ℕ) where
-  -- each superblock is somewhere, and counts once
-  within_one : total (λ list. times d (shaped.descriptors list)) list_numbers + shaped.full d + total (large_part (capacity_of image) d) held ≤ 1
-  within_one = let one = shaped.one_place d in elim (cases_lt d (used_of image)) as (λ _. total (λ list. times d (shaped.descriptors list)) list_numbers + shaped.full d + total (large_part (capacity_of image) d) held ≤ 1) [
+  -- a superblock that was never taken doesn't count
+  is_past : used_of image ≤ d → below d (used_of image) ≡ 0
+  is_past past = one_if_false _ (λ test. let less = ltb-true d (used_of image) test in omega arith)
+
+  -- each counts once at most, and only if it is taken
+  within_one : in_lists shaped d + shaped.full d + in_blocks image held d ≤ 1
+  within_one = let one = shaped.one_place d in elim (cases_lt d (used_of image)) as (λ _. in_lists shaped d + shaped.full d + in_blocks image held d ≤ 1) [
     | inl taken ↦ let is : below d (used_of image) ≡ 1 = one_if_true _ (lt-ltb d (used_of image) taken) in omega arith
-    | inr past ↦ let is : below d (used_of image) ≡ 0 = one_if_false _ (λ test. let less = ltb-true d (used_of image) test in omega arith) in omega arith
+    | inr past ↦ let is = is_past past in omega arith
   ]
 
-  is_taken : 0 < total (λ list. times d (shaped.descriptors list)) list_numbers + shaped.full d + total (large_part (capacity_of image) d) held → d < used_of image
+  is_taken : 0 < in_lists shaped d + shaped.full d + in_blocks image held d → d < used_of image
   is_taken some = let one = shaped.one_place d in elim (cases_lt d (used_of image)) as (λ _. d < used_of image) [
     | inl taken ↦ taken
-    | inr past ↦ absurd (let is : below d (used_of image) ≡ 0 = one_if_false _ (λ test. let less = ltb-true d (used_of image) test in omega arith) in omega arith)
+    | inr past ↦ absurd (let is = is_past past in omega arith)
   ]
 
+  -- each is somewhere
   rests_at : RestsAt image held shaped d
   rests_at = let one = shaped.one_place d in elim (cases_lt d (used_of image)) as (λ _. RestsAt image held shaped d) [
     | inr past ↦ untaken past
     | inl taken ↦ let is : below d (used_of image) ≡ 1 = one_if_true _ (lt-ltb d (used_of image) taken) in
         elim (cases_lt 0 (shaped.full d)) as (λ _. RestsAt image held shaped d) [
           | inl some ↦ full some
-          | inr not_full ↦ elim (cases_lt 0 (total (large_part (capacity_of image) d) held)) as (λ _. RestsAt image held shaped d) [
+          | inr not_full ↦ elim (cases_lt 0 (in_blocks image held d)) as (λ _. RestsAt image held shaped d) [
             | inl some ↦ large some
-            | inr not_large ↦ let found = total_some (λ list. times d (shaped.descriptors list)) list_numbers (omega arith) in listed found.0 (number_below found.0 found.1) found.2
+            | inr not_large ↦
+                let found = total_some (λ list. times d (shaped.descriptors list)) list_numbers (omega arith) in
+                listed found.0 (number_below found.0 found.1) found.2
           ]
         ]
   ]
 
-  -- what stands in one list is all that stands in lists
-  times_within : (list : ℕ) → list < lists → times d (shaped.descriptors list) ≤ total (λ list'. times d (shaped.descriptors list')) list_numbers
+  -- what stands in one list counts in lists
+  times_within : (list : ℕ) → list < lists → times d (shaped.descriptors list) ≤ in_lists shaped d
   times_within list less = total_member (λ list'. times d (shaped.descriptors list')) list_numbers list (is_number list less)
 
   -- it stands in the list that its place says, and in no other
@@ -136,25 +156,34 @@ shape_of image held shaped = record {
   start = λ class. 0;
 }
 
-module _ (image : Image) (held : List Block) (shaped : IsShaped image held) (named : (b : Block) → Contains held b → IsBlock (layout_of image) b) (d : ℕ) where
+module _ (image : Image) (held : List Block) (shaped : IsShaped image held) (named : (b : Block) → Contains held b → IsBlock (layout_of image) b)
+    (d : ℕ) where
   -- each block of a superblock of a class is in its chain, or held
-  owned_at_rest : (class index : ℕ) → IsClass class → 0 < times d (shaped.descriptors class) + shaped.full d → image (info_word d) ≡ class → index < blocks_of class
-      → HasOneOwner (shape_of image held shaped) held class d (first_of (capacity_of image) class d index)
+  one_at_rest : (class index : ℕ) → IsClass class → 0 < times d (shaped.descriptors class) + shaped.full d → image (info_word d) ≡ class
+      → index < blocks_of class
+      → times (first_of (capacity_of image) class d index) (shaped.chains d) + times (first_of (capacity_of image) class d index) (firsts_of held) ≡ 1
+  one_at_rest class index is some info less =
+      let b : Block = record { first_word = first_of (capacity_of image) class d index; words = words_of_class class } in
+      shaped.one_owner class d index b is some info (record { below = less; at = refl; size = refl })
+
+  owned_at_rest : (class index : ℕ) → IsClass class → 0 < times d (shaped.descriptors class) + shaped.full d → image (info_word d) ≡ class
+      → index < blocks_of class → HasOneOwner (shape_of image held shaped) held class d (first_of (capacity_of image) class d index)
   owned_at_rest class index is some info less =
       let word = first_of (capacity_of image) class d index in
-      let one : times word (shaped.chains d) + times word (map (λ (h : Block). h.first_word) held) ≡ 1 =
-          shaped.one_owner class d index (record { first_word = word; words = words_of_class class }) is some info (record { below = less; at = refl; size = refl }) in
-      elim (cases_lt 0 (times word (map (λ (h : Block). h.first_word) held))) as (λ _. HasOneOwner (shape_of image held shaped) held class d word) [
+      let one = one_at_rest class index is some info less in
+      elim (cases_lt 0 (times word (firsts_of held))) as (λ _. HasOneOwner (shape_of image held shaped) held class d word) [
         | inl holds ↦
-            let found = in_map (λ (h : Block). h.first_word) held word (times_some word (map (λ (h : Block). h.first_word) held) holds) in
+            let found = in_map (λ (h : Block). h.first_word) held word (times_some word (firsts_of held) holds) in
             a_held (omega arith) (record { block = found.0; holds = found.1; at = found.2 })
         | inr none ↦ a_free (omega arith) (λ at.
-            let within : Contains (map (λ (h : Block). h.first_word) held) word = subst (λ w. Contains (map (λ (h : Block). h.first_word) held) w) at.at (map_in (λ (h : Block). h.first_word) held at.block at.holds) in
-            let counts = times_in word (map (λ (h : Block). h.first_word) held) within in omega arith)
+            let within : Contains (firsts_of held) word =
+                subst (λ w. Contains (firsts_of held) w) at.at (map_in (λ (h : Block). h.first_word) held at.block at.holds) in
+            let counts = times_in word (firsts_of held) within in omega arith)
       ]
 
   -- a superblock in the list of a class
-  listed_at_rest : (class : ℕ) → IsClass class → 0 < times d (shaped.descriptors class) → d < used_of image → IsListed (capacity_of image) image (shape_of image held shaped) held class d
+  listed_at_rest : (class : ℕ) → IsClass class → 0 < times d (shaped.descriptors class) → d < used_of image
+      → IsListed (capacity_of image) image (shape_of image held shaped) held class d
   listed_at_rest class is some taken =
       let of = shaped.in_class class d is some in
       let anchored = of.2 in
@@ -164,11 +193,21 @@ module _ (image : Image) (held : List Block) (shaped : IsShaped image held) (nam
       let few : length (shaped.chains d) ≤ blocks_of class = few_members (λ k. first_of (capacity_of image) class d k) (blocks_of class) (shaped.chains d)
           (λ x p. let first = firsts x p in (first.index, first.below, first.at))
           (λ k less.
-          let one = shaped.one_owner class d k (record { first_word = first_of (capacity_of image) class d k; words = words_of_class class }) is (omega arith) of.0 (record { below = less; at = refl; size = refl }) in
-          omega arith) in
+          let one = one_at_rest class k is (omega arith) of.0 less in omega arith) in
       record {
-        of_class = record { is_class = is; taken = taken; info = of.0; owned = owned; blocks = firsts; walks = anchored.linked.walks; count = anchored.count };
-        some = elim (cases_lt 0 (length (shaped.chains d))) as (λ _. 1 ≤ length (shaped.chains d)) [ inl more ↦ more | inr none ↦ absurd (of.1 (anchored.full.1 (omega arith))) ];
+        of_class = record {
+          is_class = is;
+          taken = taken;
+          info = of.0;
+          owned = owned;
+          blocks = firsts;
+          walks = anchored.linked.walks;
+          count = anchored.count;
+        };
+        some = elim (cases_lt 0 (length (shaped.chains d))) as (λ _. 1 ≤ length (shaped.chains d)) [
+          | inl more ↦ more
+          | inr none ↦ absurd (of.1 (anchored.full.1 (omega arith)))
+        ];
         state = elim (cases_eq (length (shaped.chains d)) (blocks_of class)) [
           | inl all ↦ inl (anchored.empty.1 all, all)
           | inr not_all ↦ inr (anchored.partial (λ none. of.1 (anchored.full.1 none)) not_all, omega arith)
@@ -212,16 +251,25 @@ module _ (image : Image) (held : List Block) (shaped : IsShaped image held) (nam
       let takes = long_takes (layout_of image) found.0 d (named found.0 found.1) counts.1 counts.0 in
       record { taken = is_taken image held shaped d (omega arith); no_class = takes.no_class }
 
+-- a heap at rest has a shape
+rest_is_shape : (image : Image) (held : List Block) (bytes : ℕ) (shaped : IsShaped image held) → IsWellFormed bytes image
+    → ((b : Block) → Contains held b → IsBlock (layout_of image) b) → IsShape (capacity_of image) image held (shape_of image held shaped)
+rest_is_shape image held bytes shaped formed named = record {
+  small = formed.small;
+  used = formed.used;
+  named = named;
+  follows = λ list less.
+      head_at_rest (λ d. image (link_word d)) (capacity_of image) (image (head_word list)) (shaped.descriptors list) formed.small (shaped.follows list less);
+  listed = λ list d less. stands_at image held shaped d (rests_at image held shaped d) list less;
+  places = λ d within. as_at_rest image held shaped named d (rests_at image held shaped d) within;
+  cached = λ class word is p. absurd (in_none word p);
+  walks = λ class is. tt;
+}
+
+-- with the words of an image
 pub opens : (words : List ℕ) (held : List Block) → IsReady words held → (s : Shape) × IsShape (capacity_of (slice_index words)) (slice_index words) held s × ((class : ℕ) → s.cached class ≡ [])
-opens words held ready = (shape_of (slice_index words) held ready.shaped, is_shape, λ class. refl) where
-  is_shape : IsShape (capacity_of (slice_index words)) (slice_index words) held (shape_of (slice_index words) held ready.shaped)
-  is_shape = record {
-    small = ready.formed.small;
-    used = ready.formed.used;
-    named = ready.blocks;
-    follows = λ list less. head_at_rest (λ d. slice_index words (link_word d)) (capacity_of (slice_index words)) (slice_index words (head_word list)) (ready.shaped.descriptors list) ready.formed.small (ready.shaped.follows list less);
-    listed = λ list d less. stands_at (slice_index words) held ready.shaped d (rests_at (slice_index words) held ready.shaped d) list less;
-    places = λ d within. as_at_rest (slice_index words) held ready.shaped ready.blocks d (rests_at (slice_index words) held ready.shaped d) within;
-    cached = λ class word is p. absurd (in_none word p);
-    walks = λ class is. tt;
-  }
+opens words held ready = (
+  shape_of (slice_index words) held ready.shaped,
+  rest_is_shape (slice_index words) held (8 * length words) ready.shaped ready.formed ready.blocks,
+  λ class. refl,
+)
