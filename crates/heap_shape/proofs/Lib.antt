@@ -9,3 +9,5 @@ pub mod RefillLemmas
 pub mod HandLemmas
 pub mod GiveLemmas
 pub mod LargeLemmas
+pub mod OwnLemmas
+pub mod DrainLemmas

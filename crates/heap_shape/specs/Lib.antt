@@ -3,3 +3,4 @@ pub mod Standing
 pub mod Whole
 pub mod Effects
 pub mod Moves
+pub mod Draining

@@ -1,0 +1,36 @@
+-- What draining a class needs of a heap, and what stays of what it is to give.
+use Rattle.std.specs.Prelude.{◌≡◌, ℕ, ◌<◌, ◌⊎◌, List, Contains}
+use Rattle.heap_model.specs.declared.block.Block.{Block}
+use Rattle.heap_model.specs.Geometry.{info_word, link_word, head_word, used_word}
+use Rattle.heap_model.specs.Image.{Image}
+use Rattle.heap_model.specs.Words.{head_first}
+use Rattle.heap_model.specs.Chains.{Follows}
+use Rattle.heap_model.specs.Recovered.{IsDrained}
+use Rattle.heap_shape.specs.Standing.{HasNoHeld}
+use Rattle.heap_shape.specs.Whole.{layout_at}
+
+-- the superblock is in the free list
+abbrev pub IsInFreeList : ℕ → Image → ℕ → Type 0
+IsInFreeList capacity image d = (ds : List ℕ) → Follows (λ e. image (link_word e)) capacity (head_first (image (head_word 0))) ds → Contains ds d
+
+-- each taken superblock that no held block has a part in is in the free list, or is cut for the class
+pub record IsTidy (capacity : ℕ) (image : Image) (held : List Block) (class : ℕ) : Type 0 where
+  pub each : (d : ℕ) → d < image used_word → HasNoHeld capacity held d → (image (info_word d) ≡ class) ⊎ IsInFreeList capacity image d
+
+-- what draining the class must give
+abbrev pub IsToDrain : ℕ → Image → List Block → ℕ → Block → Type 0
+IsToDrain capacity image held class = IsDrained (layout_at capacity image) (Contains held) class
+
+-- the same blocks are to be given, and the heap stays tidy
+pub record DrainsSame (capacity class : ℕ) (held : List Block) (image new : Image) : Type 0 where
+  pub has : (b : Block) → IsToDrain capacity image held class b → IsToDrain capacity new held class b
+  pub only : (b : Block) → IsToDrain capacity new held class b → IsToDrain capacity image held class b
+  pub tidy : IsTidy capacity image held class → IsTidy capacity new held class
+
+-- a block of those to be given is held now, and the others are still to be given
+pub record DrainsOne (capacity class : ℕ) (image : Image) (held now : List Block) (b : Block) : Type 0 where
+  pub was : IsToDrain capacity image held class b
+  pub rest : (a : Block) → IsToDrain capacity image held class a → (a ≡ b) ⊎ IsToDrain capacity image now class a
+  pub only : (a : Block) → IsToDrain capacity image now class a → IsToDrain capacity image held class a
+  pub gone : IsToDrain capacity image now class b → ⊥
+  pub tidy : IsTidy capacity image held class → IsTidy capacity image now class
