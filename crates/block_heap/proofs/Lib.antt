@@ -3,3 +3,4 @@ pub mod CallerLemmas
 pub mod DivideLemmas
 pub mod HeldLemmas
 pub mod MediumLemmas
+pub mod StableLemmas

@@ -8,7 +8,9 @@ use Rattle.heap_shape.specs.Whole.{IsShape}
 use Rattle.line_memory.specs.View.{View, volatile_at, durable_at}
 use Rattle.block_heap.specs.declared.cache.Cache.{Cache}
 use Rattle.block_heap.specs.declared.held.HeldBlocks.{HeldBlocks}
+use Rattle.heap_model.specs.declared.block.Block.{Block}
 use Rattle.block_heap.specs.Links.{IsOpen}
+use Rattle.block_heap.specs.Works.{Works}
 use Rattle.block_heap.specs.Parts.{Parts, image_of, held_in, cache_at}
 
 -- the cache is that of the shape, and has no more blocks than a superblock
@@ -44,3 +46,10 @@ pub record IsRunning (p : Parts) : Type 0 where
 -- no cache has as many blocks as a superblock, but perhaps that of this class
 pub record AreShort (p : Parts) (but : ℕ) : Type 0 where
   pub each : (class : ℕ) → IsClass class → class ≢ but → (cache_at p.caches class).count < blocks_of class
+
+-- the parts work while these blocks are held, and what is known of `used` stays
+pub record Serves (held : List Block) (p q : Parts) : Type 0 where
+  pub capacity : q.capacity ≡ p.capacity
+  pub works : Works p.capacity held p.words q.words
+  pub knows : p.used_look.seen + q.used_look.taken ≡ q.used_look.seen + p.used_look.taken
+  pub taken : p.taken ≤ q.taken

@@ -7,7 +7,6 @@ use Rattle.heap_model.specs.Recovered.{HasPartIn}
 use Rattle.heap_shape.specs.Standing.{HasNoHeld}
 use Rattle.line_memory.specs.View.{View, volatile_at, durable_at}
 use Rattle.block_heap.specs.Medium.{StoresOnly}
-use Rattle.block_heap.specs.Parts.{Parts}
 
 -- a word that an allocator may store to while these blocks are held: `used`, heads and descriptors, but no info of a superblock that a held block has a part in; and words of superblocks that no held block has
 pub data IsAllocatorWord (capacity : ℕ) (held : List Block) (word : ℕ) : Type 0 where
@@ -33,10 +32,3 @@ pub record IsStable (capacity : ℕ) (v : View) (held : List Block) : Type 0 whe
   pub used_durable : low ≤ durable_at v used_word
   pub named : (b : Block) → Contains held b → IsBlock (record { capacity = capacity; used = low; info = λ d. volatile_at v (info_word d) }) b
   pub settled : (b : Block) (d : ℕ) → Contains held b → HasPartIn capacity b d → durable_at v (info_word d) ≡ volatile_at v (info_word d)
-
--- the parts work while these blocks are held, and what is known of `used` stays
-pub record Serves (held : List Block) (p q : Parts) : Type 0 where
-  pub capacity : q.capacity ≡ p.capacity
-  pub works : Works p.capacity held p.words q.words
-  pub knows : p.used_look.seen + q.used_look.taken ≡ q.used_look.seen + p.used_look.taken
-  pub taken : p.taken ≤ q.taken
