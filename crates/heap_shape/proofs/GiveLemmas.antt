@@ -16,7 +16,7 @@ use Rattle.heap_model.proofs.CountingLemmas.{times_none, one_if_true, one_if_fal
 use Rattle.heap_model.proofs.PartLemmas.{part_taken}
 use Rattle.heap_model.proofs.PlaceLemmas.{same_there}
 use Rattle.heap_shape.specs.Shape.{Place, in_list, is_full, is_new, Shape, stands_in, with_at}
-use Rattle.heap_shape.specs.Standing.{first_of, IsFirstOf, HasOneOwner, times_free, IsOfClass, IsListed, IsAs}
+use Rattle.heap_shape.specs.Standing.{first_of, IsFirstOf, HasOneOwner, times_free, IsOfClass, IsListed, IsFree, IsAs}
 use Rattle.heap_shape.specs.Whole.{layout_at, IsShape}
 use Rattle.heap_shape.specs.Effects.{IsPushedOn, IsInSuperblock, IsGivenBack}
 use Rattle.heap_shape.specs.Moves.{after_give, after_give_full, after_give_all}
@@ -373,6 +373,27 @@ module _ (capacity class d : ℕ) (image new final : Image) (held : List Block) 
       links : (e : ℕ) → e < capacity → e ≢ d → final (link_word e) ≡ image (link_word e)
       links e e_within apart = let high = last_high in given_word (link_word e) (omega arith) (omega arith) (λ same. apart (omega arith)) (omega arith)
 
+  -- it is in its class list then where it got some of its blocks
+  pushed_some : list ≡ class → state ≡ partial_state → length (before ++ last ∷ []) < blocks_of class → IsShape capacity final held pushed_shape
+  pushed_some same partial some =
+      let none : length (s.chain d) ≡ 0 = ap length full_none in
+      pushed_whole (subst (λ l. IsAs capacity final pushed_shape held d (in_list l)) (sym same)
+      (listed_as capacity final pushed_shape held class d is
+      (given_listed capacity class d image final held s before rest last is shape within cache firsts full_of_class list state below few pushed_gives
+      (before ++ last ∷ []) chain_is (with_at s.place d (in_list list)) (with_at s.listed list (d ∷ s.listed list)) (inr (partial, omega arith)))))
+      (inr (ap in_list same))
+
+  -- and in the free list where it got all
+  pushed_all : list ≡ 0 → state ≡ empty_state → length (before ++ last ∷ []) ≡ blocks_of class → IsShape capacity final held pushed_shape
+  pushed_all same empty all =
+      let none : length (s.chain d) ≡ 0 = ap length full_none in
+      let free = all_given capacity image held s shape class d (before ++ last ∷ []) rest full_of_class cache firsts (omega arith) in
+      let taken = full_of_class.taken in
+      let used = same_used capacity class d image final held s before rest last is shape within cache firsts full_of_class list state below few pushed_gives in
+      let anchor = parts capacity class d image final held s before rest last is shape within cache firsts full_of_class list state below few pushed_gives in
+      let is_free : IsFree capacity final held d = record { taken = omega arith; state = anchor.0 ∙ empty; none = free.0 } in
+      pushed_whole (subst (λ l. IsAs capacity final pushed_shape held d (in_list l)) (sym same) is_free) (inl free.1)
+
 module _ (capacity class d : ℕ) (image new : Image) (held : List Block) (s : Shape) (before rest : List ℕ) (last : ℕ) (is : IsClass class) (shape : IsShape capacity image held s) (within : d < capacity)
     (cache : s.cached class ≡ (before ++ last ∷ []) ++ rest) (firsts : (w : ℕ) → Contains (before ++ last ∷ []) w → IsFirstOf capacity class d w) where
   give_some : (state : ℕ) → s.place d ≡ in_list class → ((state ≡ empty_state) × (length (before ++ last ∷ []) + length (s.chain d) ≡ blocks_of class))
@@ -428,32 +449,10 @@ module _ (capacity class d : ℕ) (image new : Image) (held : List Block) (s : S
       → IsPushedOn new final class d → IsShape capacity final held (after_give_full s class d (before ++ last ∷ []) rest (image last))
   give_full final place info some given pushed =
       let last_class = is.last in
-      let below : class < lists = omega arith in
-      let of = full_of_class capacity class d image new final held s before rest last is shape within cache firsts class partial_state below (omega arith) place info given pushed in
-      let gives = pushed_gives capacity class d image new final held s before rest last is shape within cache firsts class partial_state below (omega arith) place info given pushed in
-      let chain = chain_is capacity class d image new final held s before rest last is shape within cache firsts class partial_state below (omega arith) place info given pushed in
-      let none : length (s.chain d) ≡ 0 = ap length (in_full capacity image held s shape d within place).none in
-      pushed_whole capacity class d image new final held s before rest last is shape within cache firsts class partial_state below (omega arith) place info given pushed
-      (listed_as capacity final (after_give_full s class d (before ++ last ∷ []) rest (image last)) held class d is
-      (given_listed capacity class d image final held s before rest last is shape within cache firsts of class partial_state below (omega arith) gives
-      (before ++ last ∷ []) chain (with_at s.place d (in_list class)) (with_at s.listed class (d ∷ s.listed class)) (inr (refl, omega arith))))
-      (inr refl)
+      pushed_some capacity class d image new final held s before rest last is shape within cache firsts class partial_state (omega arith) (omega arith) place info given pushed refl refl some
 
   -- of a full one, which gets all its blocks and goes to the free list
   pub give_all : (final : Image) → s.place d ≡ is_full → image (info_word d) ≡ class → length (before ++ last ∷ []) ≡ blocks_of class → IsGivenBack capacity image new s class d before last empty_state
       → IsPushedOn new final 0 d → IsShape capacity final held (after_give_all s class d (before ++ last ∷ []) rest (image last))
   give_all final place info all given pushed =
-      let below : 0 < lists = omega arith in
-      let of = full_of_class capacity class d image new final held s before rest last is shape within cache firsts 0 empty_state below (omega arith) place info given pushed in
-      let gives = pushed_gives capacity class d image new final held s before rest last is shape within cache firsts 0 empty_state below (omega arith) place info given pushed in
-      let none : length (s.chain d) ≡ 0 = ap length (in_full capacity image held s shape d within place).none in
-      let free = all_given capacity image held s shape class d (before ++ last ∷ []) rest of cache firsts (omega arith) in
-      let taken = of.taken in
-      let used = same_used capacity class d image final held s before rest last is shape within cache firsts of 0 empty_state below (omega arith) gives in
-      pushed_whole capacity class d image new final held s before rest last is shape within cache firsts 0 empty_state below (omega arith) place info given pushed
-      (record {
-        taken = omega arith;
-        state = (parts capacity class d image final held s before rest last is shape within cache firsts of 0 empty_state below (omega arith) gives).0;
-        none = free.0;
-      })
-      (inl free.1)
+      pushed_all capacity class d image new final held s before rest last is shape within cache firsts 0 empty_state (omega arith) (omega arith) place info given pushed refl refl all

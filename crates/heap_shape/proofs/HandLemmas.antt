@@ -42,7 +42,7 @@ free_once s held class d word (a_free once out) = omega arith
 free_once s held class d word (a_held none in_hand) = omega arith
 
 -- a held one is not free, and a free one is not held
-pub held_not_free : (s : Shape) (held : List Block) (class d word : ℕ) → HoldsAt held word → HasOneOwner s held class d word → times_free s class d word ≡ 0
+held_not_free : (s : Shape) (held : List Block) (class d word : ℕ) → HoldsAt held word → HasOneOwner s held class d word → times_free s class d word ≡ 0
 held_not_free s held class d word holds (a_free once out) = absurd (out holds)
 held_not_free s held class d word holds (a_held none in_hand) = none
 
@@ -53,7 +53,7 @@ owner_stays s t held now class d word same after before (a_free once out) = a_fr
 owner_stays s t held now class d word same after before (a_held none in_hand) = a_held (same ∙ none) (after in_hand)
 
 -- a block of a class has a part in its superblock alone
-pub part_one : (capacity class d e index : ℕ) (b : Block) → IsClass class → IsBlockOfClass capacity class e index b → HasPartIn capacity b d → d ≡ e
+part_one : (capacity class d e index : ℕ) (b : Block) → IsClass class → IsBlockOfClass capacity class e index b → HasPartIn capacity b d → d ≡ e
 part_one capacity class d e index b is of part =
     let step = block_step index (blocks_of class) (words_of_class class) of.below in
     let fit = blocks_fit class is in
