@@ -1,5 +1,5 @@
 -- A superblock becomes full, and its free blocks fill the empty cache of its class.
-use Rattle.std.proofs.Common.{◌≡◌, ◌≢◌, ℕ, zero, suc, ◌+◌, ◌*◌, ◌<◌, ◌≤◌, ◌⊎◌, inl, inr, nat_eq, List, [], ◌∷◌, length, Contains, refl, ap, sym, subst, ◌∙◌, arith}
+use Rattle.std.proofs.Common.{◌≡◌, ◌≢◌, ℕ, zero, suc, ◌+◌, ◌<◌, ◌≤◌, ◌⊎◌, inl, inr, nat_eq, List, [], ◌∷◌, length, Contains, refl, ap, sym, subst, ◌∙◌, arith}
 use Rattle.std.proofs.lemmas.Bool.{cases_eq, eqb-true, eq-eqb}
 use Rattle.heap_model.specs.declared.block.Block.{Block}
 use Rattle.heap_model.specs.Geometry.{lists, head_word, info_word, anchor_word, link_word, used_word}
@@ -11,15 +11,15 @@ use Rattle.heap_model.specs.Recovered.{HasPartIn}
 use Rattle.heap_model.specs.Chains.{Follows, Walks}
 use Rattle.heap_model.specs.Counting.{times, one_if}
 use Rattle.heap_model.proofs.CountingLemmas.{times_none, one_if_true, one_if_false}
-use Rattle.heap_model.proofs.MemberLemmas.{in_none, in_head, in_rest, head_or_rest}
+use Rattle.heap_model.proofs.MemberLemmas.{in_none, head_or_rest}
 use Rattle.heap_model.proofs.PartLemmas.{part_taken}
 use Rattle.heap_model.proofs.PlaceLemmas.{same_there}
 use Rattle.heap_shape.specs.Shape.{Place, in_list, is_full, in_large, is_new, Shape, stands_in, with_at}
-use Rattle.heap_shape.specs.Standing.{first_of, IsFirstOf, HoldsAt, HasOneOwner, a_free, a_held, IsOfClass, IsFull, IsNew, IsAs}
+use Rattle.heap_shape.specs.Standing.{first_of, IsFirstOf, HoldsAt, HasOneOwner, a_free, a_held, IsOfClass, IsFull, IsAs}
 use Rattle.heap_shape.specs.Whole.{layout_at, IsCachedIn, IsShape}
 use Rattle.heap_shape.specs.Effects.{IsPoppedOf, IsInSuperblock, firsts_from}
 use Rattle.heap_shape.proofs.BasicLemmas.{with_at_same, with_at_other, walks_same, follows_same, follows_below, first_inside, inside_one, first_injective, first_place}
-use Rattle.heap_shape.proofs.FrameLemmas.{SameThere, frame}
+use Rattle.heap_shape.proofs.FrameLemmas.{frame}
 
 -- a block stays one where more superblocks are taken
 begins_raised : (l : Layout) (used d w n : ℕ) → l.used ≤ used → Begins l d w n → Begins (record { capacity = l.capacity; used = used; info = l.info }) d w n
@@ -42,14 +42,16 @@ block_raised l used b raised is = record {
 }
 
 -- and where the infos of its superblocks stay
-pub block_same : (capacity : ℕ) (image new : Image) (b : Block) → image used_word ≤ new used_word → ((e : ℕ) → HasPartIn capacity b e → new (info_word e) ≡ image (info_word e))
+pub block_same : (capacity : ℕ) (image new : Image) (b : Block) → image used_word ≤ new used_word
+    → ((e : ℕ) → HasPartIn capacity b e → new (info_word e) ≡ image (info_word e))
     → IsBlock (layout_at capacity image) b → IsBlock (layout_at capacity new) b
 block_same capacity image new b raised infos is =
     same_there (record { capacity = capacity; used = new used_word; info = λ d. image (info_word d) }) (layout_at capacity new) b refl refl infos
     (block_raised (layout_at capacity image) (new used_word) b raised is)
 
 -- a superblock that was never taken has that place
-pub past_is_new : (capacity : ℕ) (image : Image) (s : Shape) (held : List Block) (d : ℕ) (p : Place) → image used_word ≤ d → IsAs capacity image s held d p → p ≡ is_new
+pub past_is_new : (capacity : ℕ) (image : Image) (s : Shape) (held : List Block) (d : ℕ) (p : Place) → image used_word ≤ d → IsAs capacity image s held d p
+    → p ≡ is_new
 past_is_new capacity image s held d (in_list zero) past is = absurd (let taken = is.taken in omega arith)
 past_is_new capacity image s held d (in_list (suc c)) past is = absurd (let taken = is.of_class.taken in omega arith)
 past_is_new capacity image s held d is_full past is = absurd (let taken = is.of_class.taken in omega arith)
@@ -63,17 +65,20 @@ follows_small link capacity from (d ∷ ds) follows = omega (arith, follows.0, f
 
 module _ (capacity : ℕ) (image : Image) (held : List Block) (s : Shape) (shape : IsShape capacity image held s) where
   -- the lists where the first of one was taken off
-  pub follows_popped : (middle new : Image) (list d : ℕ) (ds : List ℕ) → list < lists → s.listed list ≡ d ∷ ds → IsPoppedOf image middle list d → ((other : ℕ) → other < lists → new (head_word other) ≡ middle (head_word other))
+  pub follows_popped : (middle new : Image) (list d : ℕ) (ds : List ℕ) → list < lists → s.listed list ≡ d ∷ ds → IsPoppedOf image middle list d
+      → ((other : ℕ) → other < lists → new (head_word other) ≡ middle (head_word other))
       → ((e : ℕ) → e < capacity → new (link_word e) ≡ image (link_word e)) → (other : ℕ) → other < lists
       → Follows (λ e. new (link_word e)) capacity (head_first (new (head_word other))) (with_at s.listed list ds other)
-  follows_popped middle new list d ds below is popped heads links other less = elim (cases_eq other list) as (λ _. Follows (λ e. new (link_word e)) capacity (head_first (new (head_word other))) (with_at s.listed list ds other)) [
+  follows_popped middle new list d ds below is popped heads links other less =
+      elim (cases_eq other list) as (λ _. Follows (λ e. new (link_word e)) capacity (head_first (new (head_word other))) (with_at s.listed list ds other)) [
     | inl one ↦ subst (λ k. Follows (λ e. new (link_word e)) capacity (head_first (new (head_word k))) (with_at s.listed list ds k)) (sym one)
         (subst (λ xs. Follows (λ e. new (link_word e)) capacity (head_first (new (head_word list))) xs) (sym (with_at_same s.listed list ds))
         (subst (λ from. Follows (λ e. new (link_word e)) capacity from ds) (sym from_is) (kept (image (link_word d)) ds rest)))
     | inr apart ↦
         let head : new (head_word other) ≡ image (head_word other) = heads other less ∙ popped.set.others (head_word other) (λ same. apart (omega arith)) in
         subst (λ xs. Follows (λ e. new (link_word e)) capacity (head_first (new (head_word other))) xs) (sym (with_at_other s.listed list ds other apart))
-        (subst (λ h. Follows (λ e. new (link_word e)) capacity (head_first h) (s.listed other)) (sym head) (kept (head_first (image (head_word other))) (s.listed other) (shape.follows other less)))
+        (subst (λ h. Follows (λ e. new (link_word e)) capacity (head_first h) (s.listed other)) (sym head)
+            (kept (head_first (image (head_word other))) (s.listed other) (shape.follows other less)))
   ] where
     kept : (from : ℕ) (xs : List ℕ) → Follows (λ e. image (link_word e)) capacity from xs → Follows (λ e. new (link_word e)) capacity from xs
     kept from xs follows = follows_same (λ e. image (link_word e)) (λ e. new (link_word e)) capacity from xs
@@ -91,8 +96,10 @@ module _ (capacity : ℕ) (image : Image) (held : List Block) (s : Shape) (shape
   -- and where its place is in no list now
   pub listed_popped : (list d : ℕ) (ds : List ℕ) → list < lists → s.listed list ≡ d ∷ ds → (other e : ℕ) → other < lists
       → times e (with_at s.listed list ds other) ≡ stands_in (with_at s.place d is_full e) other
-  listed_popped list d ds below is other e less = elim (cases_eq e d) as (λ _. times e (with_at s.listed list ds other) ≡ stands_in (with_at s.place d is_full e) other) [
-    | inl here ↦ subst (λ k. times k (with_at s.listed list ds other) ≡ stands_in (with_at s.place d is_full k) other) (sym here) (gone ∙ sym (ap (λ p. stands_in p other) (with_at_same s.place d is_full)))
+  listed_popped list d ds below is other e less =
+      elim (cases_eq e d) as (λ _. times e (with_at s.listed list ds other) ≡ stands_in (with_at s.place d is_full e) other) [
+    | inl here ↦ subst (λ k. times k (with_at s.listed list ds other) ≡ stands_in (with_at s.place d is_full k) other) (sym here)
+          (gone ∙ sym (ap (λ p. stands_in p other) (with_at_same s.place d is_full)))
     | inr apart ↦ stays apart ∙ shape.listed other e less ∙ sym (ap (λ p. stands_in p other) (with_at_other s.place d is_full e apart))
   ] where
     first : (s.place d ≡ in_list list) × (d < capacity) × (times d ds ≡ 0)
@@ -110,7 +117,8 @@ module _ (capacity : ℕ) (image : Image) (held : List Block) (s : Shape) (shape
       | inl one ↦
           let none : one_if (nat_eq d e) ≡ 0 = one_if_false (nat_eq d e) (λ same. apart (sym (eqb-true d e same))) in
           let old : times e (s.listed other) ≡ one_if (nat_eq d e) + times e ds = ap (times e) (ap (λ k. s.listed k) one ∙ is) in
-          let new : times e (with_at s.listed list ds other) ≡ times e ds = ap (λ k. times e (with_at s.listed list ds k)) one ∙ ap (times e) (with_at_same s.listed list ds) in
+          let new : times e (with_at s.listed list ds other) ≡ times e ds = ap (λ k. times e (with_at s.listed list ds k)) one
+              ∙ ap (times e) (with_at_same s.listed list ds) in
           omega arith
       | inr not_one ↦ ap (times e) (with_at_other s.listed list ds other not_one)
     ]
@@ -174,8 +182,10 @@ module _ (capacity class d : ℕ) (image new : Image) (held : List Block) (s : S
   cached_there : (e c word : ℕ) → IsClass c → e ≢ d → IsInSuperblock capacity e word → times word (with_at s.cached class words c) ≡ times word (s.cached c)
   cached_there e c word is_c apart inside = elim (cases_eq c class) as (λ _. times word (with_at s.cached class words c) ≡ times word (s.cached c)) [
     | inl one ↦
-        let none : times word words ≡ 0 = times_none word words (λ p. apart (inside_one capacity e d word inside (first_inside capacity class d word is (re.firsts word p)))) in
-        let now : times word (with_at s.cached class words c) ≡ times word words = ap (λ k. times word (with_at s.cached class words k)) one ∙ ap (times word) (with_at_same s.cached class words) in
+        let none : times word words ≡ 0 = times_none word words
+            (λ p. apart (inside_one capacity e d word inside (first_inside capacity class d word is (re.firsts word p)))) in
+        let now : times word (with_at s.cached class words c) ≡ times word words = ap (λ k. times word (with_at s.cached class words k)) one
+            ∙ ap (times word) (with_at_same s.cached class words) in
         let old : times word (s.cached c) ≡ 0 = ap (times word) (ap (λ k. s.cached k) one ∙ re.empty) in
         omega arith
     | inr other ↦ ap (times word) (with_at_other s.cached class words c other)
@@ -225,7 +235,8 @@ module _ (capacity class d : ℕ) (image new : Image) (held : List Block) (s : S
         ]
 
   -- each cached block is one of a superblock that is cut for its class
-  cached_now : (c word : ℕ) → IsClass c → Contains (with_at s.cached class words c) word → IsCachedIn capacity new (refilled s class d listed words first) c word
+  cached_now : (c word : ℕ) → IsClass c → Contains (with_at s.cached class words c) word
+      → IsCachedIn capacity new (refilled s class d listed words first) c word
   cached_now c word is_c p = elim (cases_eq c class) as (λ _. IsCachedIn capacity new (refilled s class d listed words first) c word) [
     | inl one ↦ subst (λ k. IsCachedIn capacity new (refilled s class d listed words first) k word) (sym one) (record {
         superblock = d;
@@ -245,7 +256,8 @@ module _ (capacity class d : ℕ) (image new : Image) (held : List Block) (s : S
           superblock = at.superblock;
           within = at.within;
           is_first = at.is_first;
-          place = elim at.place as (λ _. (with_at s.place d is_full at.superblock ≡ in_list c) ⊎ ((with_at s.place d is_full at.superblock ≡ is_full) × (new (info_word at.superblock) ≡ c))) [
+          place = elim at.place as (λ _. (with_at s.place d is_full at.superblock ≡ in_list c)
+              ⊎ ((with_at s.place d is_full at.superblock ≡ is_full) × (new (info_word at.superblock) ≡ c))) [
             | inl in_class ↦ inl (place ∙ in_class)
             | inr is_one ↦ inr (place ∙ is_one.0, re.other_info at.superblock at.within apart ∙ is_one.1)
           ];
@@ -265,7 +277,8 @@ module _ (capacity class d : ℕ) (image new : Image) (held : List Block) (s : S
     places = λ e within. elim (cases_eq e d) as (λ _. IsAs capacity new (refilled s class d listed words first) held e (with_at s.place d is_full e)) [
       | inl same ↦ subst (λ k. IsAs capacity new (refilled s class d listed words first) held k (with_at s.place d is_full k)) (sym same)
           (subst (λ p. IsAs capacity new (refilled s class d listed words first) held d p) (sym (with_at_same s.place d is_full)) full)
-      | inr other ↦ subst (λ p. IsAs capacity new (refilled s class d listed words first) held e p) (sym (with_at_other s.place d is_full e other)) (stays e within other)
+      | inr other ↦ subst (λ p. IsAs capacity new (refilled s class d listed words first) held e p) (sym (with_at_other s.place d is_full e other))
+            (stays e within other)
     ];
     cached = cached_now;
     walks = λ c is_c. elim (cases_eq c class) as (λ _. Walks new (with_at s.start class first c) (with_at s.cached class words c)) [
@@ -279,18 +292,22 @@ module _ (capacity class d : ℕ) (image new : Image) (held : List Block) (s : S
   }
 
 -- a first word that is not below another index is not among the blocks from there on
-firsts_none : (capacity class d i index count : ℕ) → IsClass class → i < index → times (first_of capacity class d i) (firsts_from capacity class d index count) ≡ 0
+firsts_none : (capacity class d i index count : ℕ) → IsClass class → i < index
+    → times (first_of capacity class d i) (firsts_from capacity class d index count) ≡ 0
 firsts_none capacity class d i index zero is before = refl
 firsts_none capacity class d i index (suc count) is before =
     let none : one_if (nat_eq (first_of capacity class d index) (first_of capacity class d i)) ≡ 0 = one_if_false _
-        (λ same. let one : index ≡ i = first_injective capacity class d index i is (eqb-true (first_of capacity class d index) (first_of capacity class d i) same) in omega arith) in
+        (λ same. let one : index ≡ i = first_injective capacity class d index i is
+            (eqb-true (first_of capacity class d index) (first_of capacity class d i) same) in omega arith) in
     let rest = firsts_none capacity class d i (index + 1) count is (omega arith) in
     omega arith
 
 -- each of the blocks stands among them once
-pub firsts_once : (capacity class d i index count : ℕ) → IsClass class → index ≤ i → i < index + count → times (first_of capacity class d i) (firsts_from capacity class d index count) ≡ 1
+pub firsts_once : (capacity class d i index count : ℕ) → IsClass class → index ≤ i → i < index + count
+    → times (first_of capacity class d i) (firsts_from capacity class d index count) ≡ 1
 firsts_once capacity class d i index zero is from until = absurd (omega arith)
-firsts_once capacity class d i index (suc count) is from until = elim (cases_eq i index) as (λ _. times (first_of capacity class d i) (firsts_from capacity class d index (suc count)) ≡ 1) [
+firsts_once capacity class d i index (suc count) is from until =
+    elim (cases_eq i index) as (λ _. times (first_of capacity class d i) (firsts_from capacity class d index (suc count)) ≡ 1) [
   | inl one ↦
       let here : one_if (nat_eq (first_of capacity class d index) (first_of capacity class d i)) ≡ 1 = one_if_true _
           (eq-eqb (first_of capacity class d index) (first_of capacity class d i) (ap (first_of capacity class d) (sym one))) in
@@ -304,7 +321,8 @@ firsts_once capacity class d i index (suc count) is from until = elim (cases_eq 
 ]
 
 -- and nothing else does
-pub firsts_are : (capacity class d index count w : ℕ) → index + count ≤ blocks_of class → Contains (firsts_from capacity class d index count) w → IsFirstOf capacity class d w
+pub firsts_are : (capacity class d index count w : ℕ) → index + count ≤ blocks_of class → Contains (firsts_from capacity class d index count) w
+    → IsFirstOf capacity class d w
 firsts_are capacity class d index zero w within p = absurd (in_none w p)
 firsts_are capacity class d index (suc count) w within p =
     elim (head_or_rest (first_of capacity class d index) w (firsts_from capacity class d (index + 1) count) p) as (λ _. IsFirstOf capacity class d w) [
@@ -313,7 +331,8 @@ firsts_are capacity class d index (suc count) w within p =
     ]
 
 -- where each leads to the next, they are walked along
-pub firsts_walk : (capacity class d : ℕ) (new : Image) (index count : ℕ) → ((k : ℕ) → k + 1 < blocks_of class → new (first_of capacity class d k) ≡ first_of capacity class d (k + 1))
+pub firsts_walk : (capacity class d : ℕ) (new : Image) (index count : ℕ)
+    → ((k : ℕ) → k + 1 < blocks_of class → new (first_of capacity class d k) ≡ first_of capacity class d (k + 1))
     → index + count ≤ blocks_of class → Walks new (first_of capacity class d index) (firsts_from capacity class d index count)
 firsts_walk capacity class d new index zero linked within = tt
 firsts_walk capacity class d new index (suc zero) linked within = (refl, tt)

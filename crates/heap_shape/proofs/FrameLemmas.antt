@@ -1,5 +1,5 @@
 -- A superblock that a row of steps leaves alone stays as its place says.
-use Rattle.std.proofs.Common.{◌≡◌, ℕ, zero, suc, ◌+◌, ◌<◌, ◌≤◌, ◌⊎◌, inl, inr, List, [], length, Contains, refl, ap, sym, subst, ◌∙◌, arith}
+use Rattle.std.proofs.Common.{◌≡◌, ℕ, zero, suc, ◌<◌, ◌≤◌, ◌⊎◌, inl, inr, List, length, Contains, refl, ap, sym, subst, ◌∙◌, arith}
 use Rattle.heap_model.specs.declared.block.Block.{Block}
 use Rattle.heap_model.specs.Geometry.{info_word, anchor_word, link_word, used_word}
 use Rattle.heap_model.specs.Image.{Image}
@@ -8,7 +8,7 @@ use Rattle.heap_model.specs.Words.{anchor_state, anchor_first, anchor_count, emp
 use Rattle.heap_model.specs.Chains.{Walks}
 use Rattle.heap_model.specs.Counting.{times}
 use Rattle.heap_shape.specs.Shape.{Place, in_list, is_full, in_large, is_new, Shape}
-use Rattle.heap_shape.specs.Standing.{first_of, IsFirstOf, HoldsAt, HasOneOwner, a_free, a_held, times_free, IsOfClass, IsListed, HasNoHeld, IsAs}
+use Rattle.heap_shape.specs.Standing.{first_of, HoldsAt, HasOneOwner, a_free, a_held, times_free, IsOfClass, HasNoHeld, IsAs}
 use Rattle.heap_shape.specs.Effects.{IsInSuperblock}
 use Rattle.heap_shape.proofs.BasicLemmas.{walks_same, first_inside}
 
@@ -24,7 +24,8 @@ pub record SameThere (capacity d : ℕ) (image new : Image) (s t : Shape) (held 
   pub none : HasNoHeld capacity held d → HasNoHeld capacity now d
 
 -- a block keeps its owner where it is counted alike and held alike
-pub owner_same : (s t : Shape) (held now : List Block) (class d word : ℕ) → times_free t class d word ≡ times_free s class d word → (HoldsAt held word → HoldsAt now word) → (HoldsAt now word → HoldsAt held word)
+pub owner_same : (s t : Shape) (held now : List Block) (class d word : ℕ) → times_free t class d word ≡ times_free s class d word
+    → (HoldsAt held word → HoldsAt now word) → (HoldsAt now word → HoldsAt held word)
     → HasOneOwner s held class d word → HasOneOwner t now class d word
 owner_same s t held now class d word same holds before (a_free one unheld) = a_free (same ∙ one) (λ at. unheld (before at))
 owner_same s t held now class d word same holds before (a_held none at) = a_held (same ∙ none) (holds at)
@@ -38,13 +39,15 @@ of_class_same capacity d image new s t held now class same raised is = record {
   info = same.info ∙ is.info;
   owned = λ index below.
       let inside = first_inside capacity class d (first_of capacity class d index) is.is_class (record { index = index; below = below; at = refl }) in
-      let chain : times (first_of capacity class d index) (t.chain d) ≡ times (first_of capacity class d index) (s.chain d) = ap (times (first_of capacity class d index)) same.chain in
+      let chain : times (first_of capacity class d index) (t.chain d) ≡ times (first_of capacity class d index) (s.chain d) =
+          ap (times (first_of capacity class d index)) same.chain in
       let cached = same.cached class (first_of capacity class d index) is.is_class inside in
       owner_same s t held now class d (first_of capacity class d index) (omega arith) (same.holds _ inside) (same.held_before _ inside) (is.owned index below);
   blocks = λ word p. is.blocks word (subst (λ ws. Contains ws word) same.chain p);
   walks = subst (λ ws. Walks new (first_of capacity class d (anchor_first (new (anchor_word d)))) ws) (sym same.chain)
       (subst (λ a. Walks new (first_of capacity class d (anchor_first a)) (s.chain d)) (sym same.anchor)
-      (walks_same image new (first_of capacity class d (anchor_first (image (anchor_word d)))) (s.chain d) (λ w p. same.inside w (first_inside capacity class d w is.is_class (is.blocks w p))) is.walks));
+      (walks_same image new (first_of capacity class d (anchor_first (image (anchor_word d)))) (s.chain d)
+          (λ w p. same.inside w (first_inside capacity class d w is.is_class (is.blocks w p))) is.walks));
   count = ap anchor_count same.anchor ∙ is.count ∙ ap length (sym same.chain);
 }
 
@@ -67,7 +70,8 @@ frame capacity d image new s t held now (in_list (suc c)) same raised untaken is
       ];
     }
 frame capacity d image new s t held now is_full same raised untaken is = record {
-  of_class = subst (λ c. IsOfClass capacity new t now c d) (sym same.info) (of_class_same capacity d image new s t held now (image (info_word d)) same raised is.of_class);
+  of_class = subst (λ c. IsOfClass capacity new t now c d) (sym same.info)
+      (of_class_same capacity d image new s t held now (image (info_word d)) same raised is.of_class);
   none = same.chain ∙ is.none;
   anchor = same.anchor ∙ is.anchor;
 }

@@ -1,30 +1,30 @@
 -- Superblocks that were never taken become a large block.
-use Rattle.std.proofs.Common.{◌≡◌, ◌≢◌, ℕ, suc, ◌+◌, ◌*◌, ◌<◌, ◌≤◌, ◌⊎◌, ◌&&◌, inl, inr, Bool, true, false, cond, nat_lt, nat_le, List, Contains, refl, ap, sym, subst, ◌∙◌, arith}
+use Rattle.std.proofs.Common.{◌≡◌, ◌≢◌, ℕ, suc, ◌+◌, ◌*◌, ◌<◌, ◌≤◌, ◌⊎◌, ◌&&◌, inl, inr, true, cond, nat_lt, List, Contains, refl, ap, sym, subst, ◌∙◌, arith}
 use Rattle.std.proofs.Math.Nat.{zero-mul}
 use Rattle.std.proofs.lemmas.Bool.{cases_eq, cases_lt, le-leb, lt-leb, lt-ltb}
 use Rattle.heap_model.specs.declared.block.Block.{Block}
-use Rattle.heap_model.specs.Geometry.{lists, head_word, info_word, anchor_word, link_word, used_word, start_word, superblock_words}
+use Rattle.heap_model.specs.Geometry.{head_word, info_word, anchor_word, link_word, used_word, start_word, superblock_words}
 use Rattle.heap_model.specs.Image.{Image}
 use Rattle.heap_model.specs.Sizes.{IsClass}
 use Rattle.heap_model.specs.Words.{large_info, head_first}
 use Rattle.heap_model.specs.Blocks.{as_large, IsBlock}
 use Rattle.heap_model.specs.Recovered.{HasPartIn}
 use Rattle.heap_model.specs.Chains.{Follows}
-use Rattle.heap_model.specs.Counting.{times}
 use Rattle.heap_model.proofs.BlockLemmas.{block_inside}
 use Rattle.heap_model.proofs.PartLemmas.{part_taken}
-use Rattle.heap_shape.specs.Shape.{Place, in_list, is_full, in_large, is_new, Shape, stands_in}
+use Rattle.heap_shape.specs.Shape.{in_list, is_full, in_large, is_new, Shape, stands_in}
 use Rattle.heap_shape.specs.Standing.{HoldsAt, IsInLarge, IsNew, IsAs}
 use Rattle.heap_shape.specs.Whole.{layout_at, IsCachedIn, IsShape}
 use Rattle.heap_shape.specs.Effects.{IsSet, IsInSuperblock}
 use Rattle.heap_shape.specs.Moves.{after_join, AddsTo}
-use Rattle.heap_shape.proofs.BasicLemmas.{walks_same, follows_same, first_inside, inside_one}
+use Rattle.heap_shape.proofs.BasicLemmas.{walks_same, follows_same, first_inside}
 use Rattle.heap_shape.proofs.FrameLemmas.{frame}
 use Rattle.heap_shape.proofs.CutLemmas.{block_same, past_is_new}
 
 -- the place of one of the n superblocks from d on, and of another
 joined_place : (s : Shape) (d n e : ℕ) → d ≤ e → e < d + n → (after_join s d n).place e ≡ in_large
-joined_place s d n e from until = ap (λ b. cond (b && nat_lt e (d + n)) in_large (s.place e)) (le-leb d e from) ∙ ap (λ b. cond (true && b) in_large (s.place e)) (lt-ltb e (d + n) until)
+joined_place s d n e from until = ap (λ b. cond (b && nat_lt e (d + n)) in_large (s.place e)) (le-leb d e from)
+    ∙ ap (λ b. cond (true && b) in_large (s.place e)) (lt-ltb e (d + n) until)
 
 other_place : (s : Shape) (d n e : ℕ) → (e < d) ⊎ (d + n ≤ e) → (after_join s d n).place e ≡ s.place e
 other_place s d n e (inl before) = ap (λ b. cond (b && nat_lt e (d + n)) in_large (s.place e)) (lt-leb d e before)
@@ -35,7 +35,10 @@ other_place s d n e (inr behind) = ap (λ b. cond (b && nat_lt e (d + n)) in_lar
 cases_joined : (d n e : ℕ) → ((d ≤ e) × (e < d + n)) ⊎ ((e < d) ⊎ (d + n ≤ e))
 cases_joined d n e = elim (cases_lt e d) as (λ _. ((d ≤ e) × (e < d + n)) ⊎ ((e < d) ⊎ (d + n ≤ e))) [
   | inl before ↦ inr (inl before)
-  | inr from ↦ elim (cases_lt e (d + n)) as (λ _. ((d ≤ e) × (e < d + n)) ⊎ ((e < d) ⊎ (d + n ≤ e))) [ inl until ↦ inl (from, until) | inr behind ↦ inr (inr behind) ]
+  | inr from ↦ elim (cases_lt e (d + n)) as (λ _. ((d ≤ e) × (e < d + n)) ⊎ ((e < d) ⊎ (d + n ≤ e))) [
+    | inl until ↦ inl (from, until)
+    | inr behind ↦ inr (inr behind)
+  ]
 ]
 
 -- the block that they become
@@ -43,12 +46,16 @@ abbrev large_block : ℕ → ℕ → ℕ → Block
 large_block capacity d n = record { first_word = start_word capacity d; words = superblock_words * n }
 
 -- superblocks that were never taken become a large block, which is held
-pub join : (capacity n d : ℕ) (image middle new : Image) (held now : List Block) (s : Shape) → IsShape capacity image held s → image used_word ≡ d → 1 ≤ n → d + n ≤ capacity
-    → IsSet image middle used_word (d + n) → IsSet middle new (info_word d) (large_info n) → AddsTo (record { first_word = start_word capacity d; words = superblock_words * n }) held now
+pub join : (capacity n d : ℕ) (image middle new : Image) (held now : List Block) (s : Shape) → IsShape capacity image held s → image used_word ≡ d → 1 ≤ n
+    → d + n ≤ capacity
+    → IsSet image middle used_word (d + n) → IsSet middle new (info_word d) (large_info n)
+    → AddsTo (record { first_word = start_word capacity d; words = superblock_words * n }) held now
     → IsShape capacity new now (after_join s d n) × (Contains held (record { first_word = start_word capacity d; words = superblock_words * n }) → ⊥)
 join capacity n d image middle new held now s shape past some within set info adds = (joined, unheld) where
   unheld : Contains held (large_block capacity d n) → ⊥
-  unheld p = let inside = block_inside (layout_at capacity image) (large_block capacity d n) (shape.named (large_block capacity d n) p) in let end = inside.1 in omega arith
+  unheld p =
+      let inside = block_inside (layout_at capacity image) (large_block capacity d n) (shape.named (large_block capacity d n) p) in
+      let end = inside.1 in omega arith
 
   -- the words but two are as before
   same : (word : ℕ) → word ≢ info_word d → word ≢ used_word → new word ≡ image word
@@ -146,20 +153,23 @@ join capacity n d image middle new held now s shape past some within set info ad
     taken = let raised = used in omega arith;
     no_class = λ is. let last = is.last in let least = is.some in elim (cases_eq e d) as (λ _. ⊥) [
       | inl one ↦ let here : new (info_word e) ≡ large_info n = ap (λ k. new (info_word k)) one ∙ info.at in omega arith
-      | inr differs ↦ let none : new (info_word e) ≡ 0 = same (info_word e) (λ at. differs (omega arith)) (λ at. omega arith) ∙ (was_new e from until).info in omega arith
+      | inr differs ↦ let none : new (info_word e) ≡ 0 = same (info_word e) (λ at. differs (omega arith)) (λ at. omega arith)
+            ∙ (was_new e from until).info in omega arith
     ];
   }
 
   cached : (c word : ℕ) → IsClass c → Contains (s.cached c) word → IsCachedIn capacity new (after_join s d n) c word
   cached c word is_c p =
       let at = shape.cached c word is_c p in
-      let not_one : (at.superblock < d) ⊎ (d + n ≤ at.superblock) = other at.superblock (λ new_place. elim at.place as (λ _. ⊥) [ inl in_class ↦ (cc) | inr full ↦ let is_one = full.0 in (cc) ]) in
+      let not_one : (at.superblock < d) ⊎ (d + n ≤ at.superblock) =
+          other at.superblock (λ new_place. elim at.place as (λ _. ⊥) [ inl in_class ↦ (cc) | inr full ↦ let is_one = full.0 in (cc) ]) in
       let stays_there = other_place s d n at.superblock not_one in
       record {
         superblock = at.superblock;
         within = at.within;
         is_first = at.is_first;
-        place = elim at.place as (λ _. ((after_join s d n).place at.superblock ≡ in_list c) ⊎ (((after_join s d n).place at.superblock ≡ is_full) × (new (info_word at.superblock) ≡ c))) [
+        place = elim at.place as (λ _. ((after_join s d n).place at.superblock ≡ in_list c)
+            ⊎ (((after_join s d n).place at.superblock ≡ is_full) × (new (info_word at.superblock) ≡ c))) [
           | inl in_class ↦ inl (stays_there ∙ in_class)
           | inr full ↦ inr (stays_there ∙ full.0, infos at.superblock not_one ∙ full.1)
         ];
@@ -170,9 +180,12 @@ join capacity n d image middle new held now s shape past some within set info ad
     small = shape.small;
     used = let raised = used in omega arith;
     named = named;
-    follows = λ list less. subst (λ h. Follows (λ e. new (link_word e)) capacity (head_first h) (s.listed list)) (sym (same (head_word list) (λ at. omega arith) (λ at. omega arith)))
-        (follows_same (λ e. image (link_word e)) (λ e. new (link_word e)) capacity (head_first (image (head_word list))) (s.listed list) (λ e p. link e) (shape.follows list less));
-    listed = λ list e less. shape.listed list e less ∙ (elim (cases_joined d n e) as (λ _. stands_in (s.place e) list ≡ stands_in ((after_join s d n).place e) list) [
+    follows = λ list less. subst (λ h. Follows (λ e. new (link_word e)) capacity (head_first h) (s.listed list))
+        (sym (same (head_word list) (λ at. omega arith) (λ at. omega arith)))
+        (follows_same (λ e. image (link_word e)) (λ e. new (link_word e)) capacity (head_first (image (head_word list))) (s.listed list)
+        (λ e p. link e) (shape.follows list less));
+    listed = λ list e less. shape.listed list e less
+        ∙ (elim (cases_joined d n e) as (λ _. stands_in (s.place e) list ≡ stands_in ((after_join s d n).place e) list) [
       | inl one ↦ ap (λ p. stands_in p list) (place e one.0 one.1) ∙ sym (ap (λ p. stands_in p list) (joined_place s d n e one.0 one.1))
       | inr not_one ↦ sym (ap (λ p. stands_in p list) (other_place s d n e not_one))
     ]);

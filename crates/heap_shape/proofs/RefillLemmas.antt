@@ -1,17 +1,17 @@
 -- How an empty cache is filled.
-use Rattle.std.proofs.Common.{◌≡◌, ◌≢◌, ℕ, zero, suc, ◌+◌, ◌*◌, ◌<◌, ◌≤◌, ◌⊎◌, inl, inr, List, [], ◌∷◌, length, Contains, refl, ap, sym, subst, ◌∙◌, arith}
+use Rattle.std.proofs.Common.{◌≡◌, ◌≢◌, ℕ, ◌+◌, ◌<◌, ◌≤◌, ◌⊎◌, inl, inr, List, [], ◌∷◌, refl, ap, sym, subst, ◌∙◌, arith}
 use Rattle.std.proofs.lemmas.Bool.{cases_eq}
 use Rattle.heap_model.specs.declared.block.Block.{Block}
 use Rattle.heap_model.specs.Geometry.{lists, head_word, info_word, anchor_word, link_word, used_word, start_word}
 use Rattle.heap_model.specs.Image.{Image}
 use Rattle.heap_model.specs.Sizes.{IsClass, blocks_of}
 use Rattle.heap_model.specs.Words.{anchor_first, full_anchor, head_first}
-use Rattle.heap_model.specs.Chains.{Follows, Walks}
+use Rattle.heap_model.specs.Chains.{Follows}
 use Rattle.heap_model.specs.Counting.{times}
 use Rattle.heap_model.proofs.BlockLemmas.{block_words}
 use Rattle.heap_model.proofs.PartLemmas.{part_taken}
 use Rattle.heap_shape.specs.Shape.{in_list, is_full, is_new, Shape, stands_in, with_at}
-use Rattle.heap_shape.specs.Standing.{first_of, IsFirstOf, HoldsAt, HasOneOwner, a_free, a_held, IsOfClass, HasNoHeld, IsFree, IsNew, IsAs}
+use Rattle.heap_shape.specs.Standing.{first_of, HoldsAt, HasOneOwner, a_free, a_held, IsOfClass, HasNoHeld, IsFree, IsNew, IsAs}
 use Rattle.heap_shape.specs.Whole.{layout_at, IsShape}
 use Rattle.heap_shape.specs.Effects.{IsSet, IsPoppedOf, IsInSuperblock, IsCut, all_firsts}
 use Rattle.heap_shape.specs.Moves.{after_take, after_cut, after_fresh}
@@ -19,11 +19,13 @@ use Rattle.heap_shape.proofs.BasicLemmas.{with_at_same, with_at_other, walks_sam
 use Rattle.heap_shape.proofs.CutLemmas.{refilled, IsRefilled, refill, follows_popped, listed_popped, past_is_new, firsts_once, firsts_are, firsts_walk}
 
 -- the chain of the first superblock of the class list is taken
-pub take : (capacity class d : ℕ) (image middle new : Image) (held : List Block) (s : Shape) (ds : List ℕ) → IsClass class → IsShape capacity image held s → s.listed class ≡ d ∷ ds → s.cached class ≡ []
+pub take : (capacity class d : ℕ) (image middle new : Image) (held : List Block) (s : Shape) (ds : List ℕ) → IsClass class → IsShape capacity image held s
+    → s.listed class ≡ d ∷ ds → s.cached class ≡ []
     → IsPoppedOf image middle class d → IsSet middle new (anchor_word d) full_anchor
     → IsShape capacity new held (after_take s class d ds (first_of capacity class d (anchor_first (image (anchor_word d)))))
 take capacity class d image middle new held s ds is shape list empty popped set =
-    refill capacity class d image new held s (with_at s.listed class ds) (s.chain d) (first_of capacity class d (anchor_first (image (anchor_word d)))) is shape taken where
+    refill capacity class d image new held s (with_at s.listed class ds) (s.chain d)
+        (first_of capacity class d (anchor_first (image (anchor_word d)))) is shape taken where
   below : class < lists
   below = let last = is.last in omega arith
 
@@ -59,7 +61,8 @@ take capacity class d image middle new held s ds is shape list empty popped set 
     used = let most = shape.used in omega arith;
     raised = omega arith;
     taken = let less = of.taken in omega arith;
-    untaken = λ e within apart place. let is_now : IsNew image e = subst (λ p. IsAs capacity image s held e p) place (shape.places e within) in let past = is_now.past in omega arith;
+    untaken = λ e within apart place. let is_now : IsNew image e = subst (λ p. IsAs capacity image s held e p) place (shape.places e within) in
+        let past = is_now.past in omega arith;
     info = same (info_word d) (λ e. omega arith) (λ e. omega arith) ∙ of.info;
     anchor = set.at;
     other_info = λ e within apart. same (info_word e) (λ e. omega arith) (λ e. omega arith);
@@ -93,12 +96,15 @@ record IsCuttable (capacity class d : ℕ) (image middle new : Image) (held : Li
   pub in_lists : (list e : ℕ) → list < lists → times e (listed list) ≡ stands_in (with_at s.place d is_full e) list
 
 -- the words outside superblocks but two are as before
-cut_before : (capacity class d : ℕ) (middle new : Image) (word : ℕ) → IsCut capacity middle new class d → word < start_word capacity 0 → word ≢ info_word d → word ≢ anchor_word d → new word ≡ middle word
+cut_before : (capacity class d : ℕ) (middle new : Image) (word : ℕ) → IsCut capacity middle new class d → word < start_word capacity 0 → word ≢ info_word d
+    → word ≢ anchor_word d → new word ≡ middle word
 cut_before capacity class d middle new word cut less not_info not_anchor = cut.others word (λ inside. let from = inside.from in omega arith) not_info not_anchor
 
 -- a superblock is cut for the class, and all its blocks go into the cache
-cut_any : (capacity class d : ℕ) (image middle new : Image) (held : List Block) (s : Shape) (listed : ℕ → List ℕ) → IsClass class → IsShape capacity image held s
-    → IsCuttable capacity class d image middle new held s listed → IsShape capacity new held (refilled s class d listed (all_firsts capacity class d) (first_of capacity class d 0))
+cut_any : (capacity class d : ℕ) (image middle new : Image) (held : List Block) (s : Shape) (listed : ℕ → List ℕ) → IsClass class
+    → IsShape capacity image held s
+    → IsCuttable capacity class d image middle new held s listed
+    → IsShape capacity new held (refilled s class d listed (all_firsts capacity class d) (first_of capacity class d 0))
 cut_any capacity class d image middle new held s listed is shape able =
     refill capacity class d image new held s listed (all_firsts capacity class d) (first_of capacity class d 0) is shape cut where
   unheld : (index : ℕ) → index < blocks_of class → HoldsAt held (first_of capacity class d index) → ⊥
@@ -125,9 +131,12 @@ cut_any capacity class d image middle new held s listed is shape able =
     untaken = λ e within apart place. let same = used in let past = able.untaken e within apart place in omega arith;
     info = able.cut.info;
     anchor = able.cut.anchor;
-    other_info = λ e within apart. cut_before capacity class d middle new (info_word e) able.cut (omega arith) (λ at. apart (omega arith)) (λ at. omega arith) ∙ able.kept (info_word e) (omega arith);
-    other_anchor = λ e within apart. cut_before capacity class d middle new (anchor_word e) able.cut (omega arith) (λ at. omega arith) (λ at. apart (omega arith)) ∙ able.kept (anchor_word e) (omega arith);
-    links = λ e within. cut_before capacity class d middle new (link_word e) able.cut (omega arith) (λ at. omega arith) (λ at. omega arith) ∙ able.kept (link_word e) (omega arith);
+    other_info = λ e within apart. cut_before capacity class d middle new (info_word e) able.cut (omega arith) (λ at. apart (omega arith)) (λ at. omega arith)
+        ∙ able.kept (info_word e) (omega arith);
+    other_anchor = λ e within apart. cut_before capacity class d middle new (anchor_word e) able.cut (omega arith) (λ at. omega arith) (λ at. apart (omega arith))
+        ∙ able.kept (anchor_word e) (omega arith);
+    links = λ e within. cut_before capacity class d middle new (link_word e) able.cut (omega arith) (λ at. omega arith) (λ at. omega arith)
+        ∙ able.kept (link_word e) (omega arith);
     others = λ e word within apart inside.
         let from = inside.from in
         let less = able.within in
@@ -141,9 +150,11 @@ cut_any capacity class d image middle new held s listed is shape able =
   }
 
 -- the first superblock of the free list is cut
-pub cut_free : (capacity class d : ℕ) (image middle new : Image) (held : List Block) (s : Shape) (ds : List ℕ) → IsClass class → IsShape capacity image held s → s.listed 0 ≡ d ∷ ds → s.cached class ≡ []
+pub cut_free : (capacity class d : ℕ) (image middle new : Image) (held : List Block) (s : Shape) (ds : List ℕ) → IsClass class → IsShape capacity image held s
+    → s.listed 0 ≡ d ∷ ds → s.cached class ≡ []
     → IsPoppedOf image middle 0 d → IsCut capacity middle new class d → IsShape capacity new held (after_cut s capacity class d ds)
-cut_free capacity class d image middle new held s ds is shape list empty popped cut = cut_any capacity class d image middle new held s (with_at s.listed 0 ds) is shape able where
+cut_free capacity class d image middle new held s ds is shape list empty popped cut =
+    cut_any capacity class d image middle new held s (with_at s.listed 0 ds) is shape able where
   first : (s.place d ≡ in_list 0) × (d < capacity) × (times d ds ≡ 0)
   first = first_place capacity image held s shape 0 d ds (omega arith) list
 
@@ -164,16 +175,19 @@ cut_free capacity class d image middle new held s ds is shape list empty popped 
     used = let most = shape.used in omega arith;
     raised = omega arith;
     taken = let less = free.taken in omega arith;
-    untaken = λ e within apart place. let is_now : IsNew image e = subst (λ p. IsAs capacity image s held e p) place (shape.places e within) in let past = is_now.past in omega arith;
+    untaken = λ e within apart place. let is_now : IsNew image e = subst (λ p. IsAs capacity image s held e p) place (shape.places e within) in
+        let past = is_now.past in omega arith;
     cut = cut;
     follows = follows_popped capacity image held s shape middle new 0 d ds (omega arith) list popped
         (λ other less. cut_before capacity class d middle new (head_word other) cut (omega arith) (λ e. omega arith) (λ e. omega arith))
-        (λ e within. cut_before capacity class d middle new (link_word e) cut (omega arith) (λ at. omega arith) (λ at. omega arith) ∙ popped.set.others (link_word e) (λ at. omega arith));
+        (λ e within. cut_before capacity class d middle new (link_word e) cut (omega arith) (λ at. omega arith) (λ at. omega arith)
+            ∙ popped.set.others (link_word e) (λ at. omega arith));
     in_lists = λ other e less. listed_popped capacity image held s shape 0 d ds (omega arith) list other e less;
   }
 
 -- a superblock that was never taken is cut
-pub cut_fresh : (capacity class d : ℕ) (image middle new : Image) (held : List Block) (s : Shape) → IsClass class → IsShape capacity image held s → image used_word ≡ d → d < capacity → s.cached class ≡ []
+pub cut_fresh : (capacity class d : ℕ) (image middle new : Image) (held : List Block) (s : Shape) → IsClass class → IsShape capacity image held s
+    → image used_word ≡ d → d < capacity → s.cached class ≡ []
     → IsSet image middle used_word (d + 1) → IsCut capacity middle new class d → IsShape capacity new held (after_fresh s capacity class d)
 cut_fresh capacity class d image middle new held s is shape past within empty set cut = cut_any capacity class d image middle new held s s.listed is shape able where
   place : s.place d ≡ is_new
@@ -183,10 +197,12 @@ cut_fresh capacity class d image middle new held s is shape past within empty se
   used = set.at
 
   link : (e : ℕ) → e < capacity → new (link_word e) ≡ image (link_word e)
-  link e less = cut_before capacity class d middle new (link_word e) cut (omega arith) (λ at. omega arith) (λ at. omega arith) ∙ set.others (link_word e) (λ at. omega arith)
+  link e less = cut_before capacity class d middle new (link_word e) cut (omega arith) (λ at. omega arith) (λ at. omega arith)
+      ∙ set.others (link_word e) (λ at. omega arith)
 
   head : (list : ℕ) → list < lists → new (head_word list) ≡ image (head_word list)
-  head list less = cut_before capacity class d middle new (head_word list) cut (omega arith) (λ e. omega arith) (λ e. omega arith) ∙ set.others (head_word list) (λ e. omega arith)
+  head list less = cut_before capacity class d middle new (head_word list) cut (omega arith) (λ e. omega arith) (λ e. omega arith)
+      ∙ set.others (head_word list) (λ e. omega arith)
 
   able : IsCuttable capacity class d image middle new held s s.listed
   able = record {
@@ -199,11 +215,13 @@ cut_fresh capacity class d image middle new held s is shape past within empty se
     used = omega arith;
     raised = omega arith;
     taken = omega arith;
-    untaken = λ e less apart at. let is_now : IsNew image e = subst (λ p. IsAs capacity image s held e p) at (shape.places e less) in let not_before = is_now.past in omega arith;
+    untaken = λ e less apart at. let is_now : IsNew image e = subst (λ p. IsAs capacity image s held e p) at (shape.places e less) in
+        let not_before = is_now.past in omega arith;
     cut = cut;
     follows = λ list less. subst (λ h. Follows (λ e. new (link_word e)) capacity (head_first h) (s.listed list)) (sym (head list less))
         (follows_same (λ e. image (link_word e)) (λ e. new (link_word e)) capacity (head_first (image (head_word list))) (s.listed list)
-        (λ e p. link e (follows_below (λ k. image (link_word k)) capacity (head_first (image (head_word list))) (s.listed list) e (shape.follows list less) p)) (shape.follows list less));
+        (λ e p. link e (follows_below (λ k. image (link_word k)) capacity (head_first (image (head_word list))) (s.listed list) e (shape.follows list less) p))
+        (shape.follows list less));
     in_lists = λ list e less. elim (cases_eq e d) as (λ _. times e (s.listed list) ≡ stands_in (with_at s.place d is_full e) list) [
       | inl same ↦ subst (λ k. times k (s.listed list) ≡ stands_in (with_at s.place d is_full k) list) (sym same)
           (shape.listed list d less ∙ ap (λ p. stands_in p list) place ∙ sym (ap (λ p. stands_in p list) (with_at_same s.place d is_full)))
