@@ -1,29 +1,130 @@
 -- What is to be drained stays the same while caches are filled, loses each block that is handed out, and is nothing in the end.
 use Rattle.std.proofs.Common.{◌≡◌, ◌≢◌, ℕ, zero, suc, ◌+◌, ◌*◌, ◌<◌, ◌≤◌, ◌⊎◌, inl, inr, List, [], ◌∷◌, length, slice_index, Contains, refl, ap, sym, subst, ◌∙◌, arith}
+use Rattle.std.proofs.lemmas.Bool.{cases_eq, cases_lt}
 use Rattle.heap_model.specs.declared.block.Block.{Block}
 use Rattle.heap_model.specs.Geometry.{lists, roots, head_word, root_word, info_word, anchor_word, link_word, used_word, start_word, superblock_words}
 use Rattle.heap_model.specs.Image.{Image}
 use Rattle.heap_model.specs.Sizes.{IsClass, blocks_of, words_of_class}
 use Rattle.heap_model.specs.Words.{anchor_first, full_anchor, head_first}
 use Rattle.heap_model.specs.Blocks.{IsBlock, IsIn}
-use Rattle.heap_model.specs.Recovered.{HasPartIn}
+use Rattle.heap_model.specs.Recovered.{HasPartIn, IsDrained, beside, freed, fresh}
 use Rattle.heap_model.specs.Chains.{Follows, Walks}
+use Rattle.heap_model.specs.Counting.{times}
+use Rattle.heap_model.proofs.MemberLemmas.{in_none, in_rest, head_or_rest}
+use Rattle.heap_model.proofs.PartLemmas.{cases_parts, part_taken}
 use Rattle.heap_shape.specs.Shape.{Place, in_list, is_full, in_large, is_new, Shape}
 use Rattle.heap_shape.specs.Standing.{first_of, IsFirstOf, HoldsAt, IsOfClass, HasNoHeld}
 use Rattle.heap_shape.specs.Whole.{layout_at, IsShape}
 use Rattle.heap_shape.specs.Effects.{IsSet, IsPoppedOf, IsPushedOn, IsInSuperblock, IsCut}
 use Rattle.heap_shape.specs.Moves.{after_take, after_recycle, after_cut, after_fresh, with_cache, AddsTo}
 use Rattle.heap_shape.specs.Draining.{IsInFreeList, IsTidy, IsToDrain, DrainsSame, DrainsOne}
+use Rattle.heap_shape.proofs.BasicLemmas.{follows_same, follows_below, one_list, first_place, member_place, in_class_list, in_free_list, in_full, cached_of_class}
+use Rattle.heap_shape.proofs.OwnLemmas.{one_following, none_past}
+
+-- what is to be drained is the same where `used` grows, and where the info of each superblock with a part of a held block stays
+module _ (capacity class : ℕ) (image new : Image) (held : List Block) (s : Shape) (shape : IsShape capacity image held s) (raised : image used_word ≤ new used_word) (most : new used_word ≤ capacity)
+    (infos : (b : Block) (d : ℕ) → Contains held b → HasPartIn capacity b d → new (info_word d) ≡ image (info_word d)) where
+  still_drained : (b : Block) → IsToDrain capacity image held class b → IsToDrain capacity new held class b
+  still_drained b (beside _ d index is taken info of unkept not_free) = elim (cases_parts capacity held d) as (λ _. IsToDrain capacity new held class b) [
+    | inl some ↦ beside b d index is (omega arith) (infos some.0 d some.1 some.2 ∙ info) of unkept (λ free. free.empty some.0 some.1 some.2)
+    | inr none ↦ absurd (not_free (record { taken = taken; empty = none }))
+  ]
+  still_drained b (freed _ d index is free of) = let taken = free.taken in freed b d index is (record { taken = omega arith; empty = free.empty }) of
+  still_drained b (fresh _ d index is past within of) = elim (cases_lt d (new used_word)) as (λ _. IsToDrain capacity new held class b) [
+    | inl taken ↦ freed b d index is (record { taken = taken; empty = none_past capacity d image held s shape past }) of
+    | inr still ↦ fresh b d index is still within of
+  ]
+
+  drained_before : (b : Block) → IsToDrain capacity new held class b → IsToDrain capacity image held class b
+  drained_before b (beside _ d index is taken info of unkept not_free) = elim (cases_parts capacity held d) as (λ _. IsToDrain capacity image held class b) [
+    | inl some ↦ beside b d index is (part_taken (layout_at capacity image) some.0 d (shape.named some.0 some.1) some.2) (sym (infos some.0 d some.1 some.2) ∙ info) of unkept
+        (λ free. free.empty some.0 some.1 some.2)
+    | inr none ↦ absurd (not_free (record { taken = taken; empty = none }))
+  ]
+  drained_before b (freed _ d index is free of) = elim (cases_lt d (image used_word)) as (λ _. IsToDrain capacity image held class b) [
+    | inl taken ↦ freed b d index is (record { taken = taken; empty = free.empty }) of
+    | inr past ↦ let taken = free.taken in fresh b d index is past (omega arith) of
+  ]
+  drained_before b (fresh _ d index is past within of) = fresh b d index is (omega arith) within of
+
+  -- and the heap stays tidy where a superblock gets the class, or keeps its info and stays in the free list
+  drains_same : (free : List ℕ) → Follows (λ e. new (link_word e)) capacity (head_first (new (head_word 0))) free
+      → ((e : ℕ) → e < new used_word → (new (info_word e) ≡ class) ⊎ ((e < image used_word) × (new (info_word e) ≡ image (info_word e)) × (Contains (s.listed 0) e → Contains free e)))
+      → DrainsSame capacity class held image new
+  drains_same free follows each = record { has = still_drained; only = drained_before; tidy = λ tidy. record { each = λ e taken none. still_tidy tidy e none (each e taken) } } where
+    still_tidy : IsTidy capacity image held class → (e : ℕ) → HasNoHeld capacity held e
+        → (new (info_word e) ≡ class) ⊎ ((e < image used_word) × (new (info_word e) ≡ image (info_word e)) × (Contains (s.listed 0) e → Contains free e))
+        → (new (info_word e) ≡ class) ⊎ IsInFreeList capacity new e
+    still_tidy tidy e none (inl cut) = inl cut
+    still_tidy tidy e none (inr stays) = elim (tidy.each e stays.0 none) as (λ _. (new (info_word e) ≡ class) ⊎ IsInFreeList capacity new e) [
+      | inl info ↦ inl (stays.1 ∙ info)
+      | inr in_free ↦ inr (λ ds leads.
+          subst (λ xs. Contains xs e) (one_following (λ k. new (link_word k)) capacity (head_first (new (head_word 0))) free ds follows leads)
+              (stays.2 (in_free (s.listed 0) (shape.follows 0 (omega arith)))))
+    ]
 
 -- the cache was filled from a partial superblock
 pub take_drains : (capacity class d : ℕ) (image middle new : Image) (held : List Block) (s : Shape) (ds : List ℕ) → IsClass class → IsShape capacity image held s → s.listed class ≡ d ∷ ds
     → IsPoppedOf image middle class d → IsSet middle new (anchor_word d) full_anchor → DrainsSame capacity class held image new
-take_drains capacity class d image middle new held s ds is shape list popped set = ?
+take_drains capacity class d image middle new held s ds is shape list popped set = drains_same capacity class image new held s shape (omega (arith, used)) (omega (arith, used, shape.used)) (λ b e holds part. info e) (s.listed 0) leads
+    (λ e taken. inr (omega (arith, used), info e, λ p. p)) where
+  -- the words but two are as before
+  same : (word : ℕ) → word ≢ anchor_word d → word ≢ head_word class → new word ≡ image word
+  same word not_anchor not_head = set.others word not_anchor ∙ popped.set.others word not_head
+
+  used : new used_word ≡ image used_word
+  used = same used_word (λ e. omega arith) (λ e. omega arith)
+
+  info : (e : ℕ) → new (info_word e) ≡ image (info_word e)
+  info e = let last = is.last in same (info_word e) (λ q. omega arith) (λ q. omega arith)
+
+  head : new (head_word 0) ≡ image (head_word 0)
+  head = let some = is.some in same (head_word 0) (λ q. omega arith) (λ q. omega arith)
+
+  leads : Follows (λ e. new (link_word e)) capacity (head_first (new (head_word 0))) (s.listed 0)
+  leads = let last = is.last in
+      subst (λ h. Follows (λ e. new (link_word e)) capacity (head_first h) (s.listed 0)) (sym head)
+      (follows_same (λ e. image (link_word e)) (λ e. new (link_word e)) capacity (head_first (image (head_word 0))) (s.listed 0)
+      (λ e p. same (link_word e) (λ q. omega arith) (λ q. omega arith)) (shape.follows 0 (omega arith)))
 
 -- a superblock with no block in use went to the free list
 pub recycle_drains : (capacity class d : ℕ) (image middle new : Image) (held : List Block) (s : Shape) (ds : List ℕ) → IsClass class → IsShape capacity image held s → s.listed class ≡ d ∷ ds
     → IsPoppedOf image middle class d → IsPushedOn middle new 0 d → DrainsSame capacity class held image new
-recycle_drains capacity class d image middle new held s ds is shape list popped pushed = ?
+recycle_drains capacity class d image middle new held s ds is shape list popped pushed = drains_same capacity class image new held s shape (omega (arith, used)) (omega (arith, used, shape.used)) (λ b e holds part. info e) (d ∷ s.listed 0) leads
+    (λ e taken. inr (omega (arith, used), info e, in_rest d e (s.listed 0))) where
+  -- the words but three are as before
+  same : (word : ℕ) → word ≢ head_word class → word ≢ link_word d → word ≢ head_word 0 → new word ≡ image word
+  same word no_class_head no_link no_head = pushed.head.others word no_head ∙ pushed.link.others word no_link ∙ popped.set.others word no_class_head
+
+  used : new used_word ≡ image used_word
+  used = same used_word (λ q. omega arith) (λ q. omega arith) (λ q. omega arith)
+
+  info : (e : ℕ) → new (info_word e) ≡ image (info_word e)
+  info e = let last = is.last in same (info_word e) (λ q. omega arith) (λ q. omega arith) (λ q. omega arith)
+
+  first : (s.place d ≡ in_list class) × (d < capacity) × (times d ds ≡ 0)
+  first = let last = is.last in first_place capacity image held s shape class d ds (omega arith) list
+
+  -- the superblock was not in the free list
+  apart : (e : ℕ) → Contains (s.listed 0) e → e ≢ d
+  apart e p one =
+      let some = is.some in
+      let place : s.place d ≡ in_list 0 = subst (λ x. s.place x ≡ in_list 0) one (member_place capacity image held s shape 0 e (omega arith) p).0 in
+      let same_list : class ≡ 0 = one_list class 0 (sym first.0 ∙ place) in
+      omega arith
+
+  leads : Follows (λ e. new (link_word e)) capacity (head_first (new (head_word 0))) (d ∷ s.listed 0)
+  leads =
+      let some = is.some in
+      let last = is.last in
+      let within = first.1 in
+      let small = shape.small in
+      let set = pushed.head.at in
+      let head : middle (head_word 0) ≡ image (head_word 0) = popped.set.others (head_word 0) (λ q. omega arith) in
+      let link : new (link_word d) ≡ head_first (image (head_word 0)) = pushed.head.others (link_word d) (λ q. omega arith) ∙ pushed.link.at ∙ ap head_first head in
+      (omega arith, within, subst (λ x. Follows (λ e. new (link_word e)) capacity x (s.listed 0)) (sym link)
+      (follows_same (λ e. image (link_word e)) (λ e. new (link_word e)) capacity (head_first (image (head_word 0))) (s.listed 0)
+      (λ e p. let other = apart e p in same (link_word e) (λ q. omega arith) (λ q. other (omega arith)) (λ q. omega arith)) (shape.follows 0 (omega arith))))
 
 -- a superblock was cut
 pub cut_free_drains : (capacity class d : ℕ) (image middle new : Image) (held : List Block) (s : Shape) (ds : List ℕ) → IsClass class → IsShape capacity image held s → s.listed 0 ≡ d ∷ ds
