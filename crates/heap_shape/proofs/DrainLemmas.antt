@@ -13,12 +13,13 @@ use Rattle.heap_model.specs.Counting.{times}
 use Rattle.heap_model.proofs.MemberLemmas.{in_none, in_rest, head_or_rest}
 use Rattle.heap_model.proofs.PartLemmas.{cases_parts, part_taken}
 use Rattle.heap_shape.specs.Shape.{Place, in_list, is_full, in_large, is_new, Shape}
-use Rattle.heap_shape.specs.Standing.{first_of, IsFirstOf, HoldsAt, IsOfClass, HasNoHeld}
+use Rattle.heap_shape.specs.Standing.{first_of, IsFirstOf, HoldsAt, HasOneOwner, a_free, a_held, IsOfClass, HasNoHeld, IsFree, IsAs}
 use Rattle.heap_shape.specs.Whole.{layout_at, IsShape}
 use Rattle.heap_shape.specs.Effects.{IsSet, IsPoppedOf, IsPushedOn, IsInSuperblock, IsCut}
 use Rattle.heap_shape.specs.Moves.{after_take, after_recycle, after_cut, after_fresh, with_cache, AddsTo}
 use Rattle.heap_shape.specs.Draining.{IsInFreeList, IsTidy, IsToDrain, DrainsSame, DrainsOne}
 use Rattle.heap_shape.proofs.BasicLemmas.{follows_same, follows_below, one_list, first_place, member_place, in_class_list, in_free_list, in_full, cached_of_class}
+use Rattle.heap_shape.proofs.CutLemmas.{follows_popped}
 use Rattle.heap_shape.proofs.OwnLemmas.{one_following, none_past}
 
 -- what is to be drained is the same where `used` grows, and where the info of each superblock with a part of a held block stays
@@ -126,14 +127,75 @@ recycle_drains capacity class d image middle new held s ds is shape list popped 
       (follows_same (λ e. image (link_word e)) (λ e. new (link_word e)) capacity (head_first (image (head_word 0))) (s.listed 0)
       (λ e p. let other = apart e p in same (link_word e) (λ q. omega arith) (λ q. other (omega arith)) (λ q. omega arith)) (shape.follows 0 (omega arith))))
 
+-- the words outside superblocks but two are as before the cut
+cut_keeps : (capacity class d : ℕ) (middle new : Image) (word : ℕ) → IsCut capacity middle new class d → word < start_word capacity 0 → word ≢ info_word d → word ≢ anchor_word d → new word ≡ middle word
+cut_keeps capacity class d middle new word cut less not_info not_anchor = cut.others word (λ inside. let from = inside.from in omega arith) not_info not_anchor
+
 -- a superblock was cut
 pub cut_free_drains : (capacity class d : ℕ) (image middle new : Image) (held : List Block) (s : Shape) (ds : List ℕ) → IsClass class → IsShape capacity image held s → s.listed 0 ≡ d ∷ ds
     → IsPoppedOf image middle 0 d → IsCut capacity middle new class d → DrainsSame capacity class held image new
-cut_free_drains capacity class d image middle new held s ds is shape list popped cut = ?
+cut_free_drains capacity class d image middle new held s ds is shape list popped cut = drains_same capacity class image new held s shape (omega (arith, used)) (omega (arith, used, shape.used)) held_info ds
+    (follows_popped capacity image held s shape middle new 0 d ds (omega arith) list popped
+    (λ other less. cut_keeps capacity class d middle new (head_word other) cut (omega arith) (λ e. omega arith) (λ e. omega arith))
+    (λ e within. cut_keeps capacity class d middle new (link_word e) cut (omega arith) (λ at. omega arith) (λ at. omega arith) ∙ popped.set.others (link_word e) (λ at. omega arith)) 0 (omega arith))
+    each where
+  first : (s.place d ≡ in_list 0) × (d < capacity) × (times d ds ≡ 0)
+  first = first_place capacity image held s shape 0 d ds (omega arith) list
+
+  free : IsFree capacity image held d
+  free = in_free_list capacity image held s shape d first.1 first.0
+
+  used : new used_word ≡ image used_word
+  used = cut_keeps capacity class d middle new used_word cut (omega arith) (λ e. omega arith) (λ e. omega arith) ∙ popped.set.others used_word (λ e. omega arith)
+
+  info : (e : ℕ) → e < capacity → e ≢ d → new (info_word e) ≡ image (info_word e)
+  info e within apart = cut_keeps capacity class d middle new (info_word e) cut (omega arith) (λ at. apart (omega arith)) (λ at. omega arith) ∙ popped.set.others (info_word e) (λ at. omega arith)
+
+  held_info : (b : Block) (e : ℕ) → Contains held b → HasPartIn capacity b e → new (info_word e) ≡ image (info_word e)
+  held_info b e holds part =
+      let taken = part_taken (layout_at capacity image) b e (shape.named b holds) part in
+      let most = shape.used in
+      info e (omega arith) (λ same. free.none b holds (subst (HasPartIn capacity b) same part))
+
+  each : (e : ℕ) → e < new used_word → (new (info_word e) ≡ class) ⊎ ((e < image used_word) × (new (info_word e) ≡ image (info_word e)) × (Contains (s.listed 0) e → Contains ds e))
+  each e taken = elim (cases_eq e d) as (λ _. (new (info_word e) ≡ class) ⊎ ((e < image used_word) × (new (info_word e) ≡ image (info_word e)) × (Contains (s.listed 0) e → Contains ds e))) [
+    | inl same ↦ inl (subst (λ x. new (info_word x) ≡ class) (sym same) cut.info)
+    | inr apart ↦ let most = shape.used in let keeps = used in
+        inr (omega arith, info e (omega arith) apart, λ p. elim (head_or_rest d e ds (subst (λ xs. Contains xs e) list p)) as (λ _. Contains ds e) [
+          | inl same ↦ absurd (apart (sym same))
+          | inr later ↦ later
+        ])
+  ]
 
 pub cut_fresh_drains : (capacity class d : ℕ) (image middle new : Image) (held : List Block) (s : Shape) → IsClass class → IsShape capacity image held s → image used_word ≡ d → d < capacity
     → IsSet image middle used_word (d + 1) → IsCut capacity middle new class d → DrainsSame capacity class held image new
-cut_fresh_drains capacity class d image middle new held s is shape past within set cut = ?
+cut_fresh_drains capacity class d image middle new held s is shape past within set cut = drains_same capacity class image new held s shape (omega (arith, used)) (omega (arith, used)) held_info (s.listed 0) leads each where
+  -- the words outside superblocks but three are as before
+  same : (word : ℕ) → word < start_word capacity 0 → word ≢ info_word d → word ≢ anchor_word d → word ≢ used_word → new word ≡ image word
+  same word less not_info not_anchor not_used = cut_keeps capacity class d middle new word cut less not_info not_anchor ∙ set.others word not_used
+
+  used : new used_word ≡ d + 1
+  used = cut_keeps capacity class d middle new used_word cut (omega arith) (λ e. omega arith) (λ e. omega arith) ∙ set.at
+
+  info : (e : ℕ) → e < d → new (info_word e) ≡ image (info_word e)
+  info e below = same (info_word e) (omega arith) (λ at. omega arith) (λ at. omega arith) (λ at. omega arith)
+
+  held_info : (b : Block) (e : ℕ) → Contains held b → HasPartIn capacity b e → new (info_word e) ≡ image (info_word e)
+  held_info b e holds part = let taken = part_taken (layout_at capacity image) b e (shape.named b holds) part in info e (omega arith)
+
+  leads : Follows (λ e. new (link_word e)) capacity (head_first (new (head_word 0))) (s.listed 0)
+  leads =
+      let head = same (head_word 0) (omega arith) (λ e. omega arith) (λ e. omega arith) (λ e. omega arith) in
+      subst (λ h. Follows (λ e. new (link_word e)) capacity (head_first h) (s.listed 0)) (sym head)
+      (follows_same (λ e. image (link_word e)) (λ e. new (link_word e)) capacity (head_first (image (head_word 0))) (s.listed 0)
+      (λ e p. let less = (member_place capacity image held s shape 0 e (omega arith) p).1 in
+        same (link_word e) (omega arith) (λ at. omega arith) (λ at. omega arith) (λ at. omega arith)) (shape.follows 0 (omega arith)))
+
+  each : (e : ℕ) → e < new used_word → (new (info_word e) ≡ class) ⊎ ((e < image used_word) × (new (info_word e) ≡ image (info_word e)) × (Contains (s.listed 0) e → Contains (s.listed 0) e))
+  each e taken = elim (cases_eq e d) as (λ _. (new (info_word e) ≡ class) ⊎ ((e < image used_word) × (new (info_word e) ≡ image (info_word e)) × (Contains (s.listed 0) e → Contains (s.listed 0) e))) [
+    | inl one ↦ inl (subst (λ x. new (info_word x) ≡ class) (sym one) cut.info)
+    | inr apart ↦ let raised = used in let below : e < d = omega arith in inr (omega arith, info e below, λ p. p)
+  ]
 
 -- a cached block was handed out
 pub hand_out_drains : (capacity class w : ℕ) (image : Image) (held now : List Block) (s : Shape) (ws : List ℕ) → IsClass class → IsShape capacity image held s → s.cached class ≡ w ∷ ws
