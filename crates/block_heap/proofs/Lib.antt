@@ -4,3 +4,4 @@ pub mod DivideLemmas
 pub mod HeldLemmas
 pub mod MediumLemmas
 pub mod StableLemmas
+pub mod RunningLemmas

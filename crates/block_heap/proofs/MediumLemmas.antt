@@ -2,7 +2,7 @@
 use Rattle.std.proofs.Common.{◌≡◌, ℕ, ◌+◌, ◌<◌, ◌⊎◌, List, length, get_or, set, refl, sym, ◌∙◌, ap, subst, arith, inl, inr, None, length-set, get_or-set_other}
 use Rattle.std.proofs.lemmas.Bool.{cases_eq}
 use Rattle.line_memory.specs.View.{View, volatile_at, durable_at, IsPending, IsSound, line_of}
-use Rattle.line_memory.specs.Crash.{IsValueOf}
+use Rattle.line_memory.specs.Crash.{IsValueOf, MayStore}
 use Rattle.line_memory.specs.Steps.{TakesBy, RefusesBy, SameTickets, IsLoad, IsStore, IsWriteBack, IsFence, after_draw}
 use Rattle.line_memory.proofs.CallerLemmas.{draw_adds, contains_or_not}
 use Rattle.block_heap.specs.Medium.{StoresOnly, Goes, Halts, IsLoaded, IsStored, IsWritten, IsFenced}
@@ -203,4 +203,51 @@ stores_nothing to v =
       volatile = λ word out. refl;
       durable = λ word out. inl refl;
       pending = λ word out p. inl p;
+    }
+
+-- a store, and then steps that store to no word
+pub may_then : (word value : ℕ) (v u w : View) → MayStore word value v u → StoresOnly (λ _. ⊥) u w → MayStore word value v w
+may_then word value v u w may none =
+    record {
+      words = none.words ∙ may.words;
+      others = λ other differs. none.volatile other (λ f. f) ∙ may.others other differs;
+      others_durable = λ other differs.
+          elim (none.durable other (λ f. f)) as (λ _. IsValueOf v other (durable_at w other)) [
+            | inl e ↦ subst (λ x. IsValueOf v other x) (sym e) (may.others_durable other differs)
+            | inr e ↦ inr (e ∙ may.others other differs)
+          ];
+      seen = subst (λ x. (x ≡ value) ⊎ (x ≡ volatile_at v word)) (sym (none.volatile word (λ f. f))) may.seen;
+      left =
+          elim (none.durable word (λ f. f)) as (λ _. (durable_at w word ≡ value) ⊎ IsValueOf v word (durable_at w word)) [
+            | inl e ↦ subst (λ x. (x ≡ value) ⊎ IsValueOf v word x) (sym e) may.left
+            | inr e ↦ subst (λ x. (x ≡ value) ⊎ IsValueOf v word x) (sym e) (elim may.seen as (λ _. (volatile_at u word ≡ value) ⊎ IsValueOf v word (volatile_at u word)) [ inl new ↦ inl new | inr old ↦ inr (inr old) ])
+          ];
+    }
+
+-- steps that store to no word, and then a store
+pub none_then : (word value : ℕ) (v u w : View) → StoresOnly (λ _. ⊥) v u → MayStore word value u w → MayStore word value v w
+none_then word value v u w none may =
+    record {
+      words = may.words ∙ none.words;
+      others = λ other differs. may.others other differs ∙ none.volatile other (λ f. f);
+      others_durable = λ other differs. before other (durable_at w other) (may.others_durable other differs);
+      seen = subst (λ x. (volatile_at w word ≡ value) ⊎ (volatile_at w word ≡ x)) (none.volatile word (λ f. f)) may.seen;
+      left = elim may.left as (λ _. (durable_at w word ≡ value) ⊎ IsValueOf v word (durable_at w word)) [
+        | inl new ↦ inl new
+        | inr old ↦ inr (before word (durable_at w word) old)
+      ];
+    } where
+  before : (other x : ℕ) → IsValueOf u other x → IsValueOf v other x
+  before other x (inl e) = subst (λ y. IsValueOf v other y) (sym e) (none.durable other (λ f. f))
+  before other x (inr e) = inr (e ∙ none.volatile other (λ f. f))
+
+-- no step stores to a word
+pub none_may : (word value : ℕ) (v w : View) → StoresOnly (λ _. ⊥) v w → MayStore word value v w
+none_may word value v w none =
+    record {
+      words = none.words;
+      others = λ other differs. none.volatile other (λ f. f);
+      others_durable = λ other differs. none.durable other (λ f. f);
+      seen = inr (none.volatile word (λ f. f));
+      left = inr (none.durable word (λ f. f));
     }

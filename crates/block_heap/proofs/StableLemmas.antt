@@ -1,71 +1,308 @@
 -- What an allocator stores to leaves held blocks, roots and reserved words alone, so that every image left names the held blocks.
-use Rattle.std.proofs.Common.{◌≡◌, ◌≢◌, ℕ, zero, suc, ◌+◌, ◌*◌, ◌<◌, ◌≤◌, ◌⊎◌, inl, inr, List, Contains, refl, ap, sym, subst, ◌∙◌, arith}
+use Rattle.std.proofs.Common.{◌≡◌, ℕ, zero, suc, ◌+◌, ◌<◌, ◌≤◌, ◌⊎◌, inl, inr, List, ◌∷◌, Contains, refl, sym, subst, ◌∙◌, arith}
+use Rattle.std.proofs.lemmas.Bool.{cases_eq}
 use Rattle.heap_model.specs.declared.block.Block.{Block}
-use Rattle.heap_model.specs.Geometry.{lists, roots, largest_capacity, head_word, root_word, info_word, anchor_word, link_word, used_word, capacity_word, state_word, start_word, IsReserved}
+use Rattle.heap_model.specs.Geometry.{roots, largest_capacity, root_word, info_word, used_word, capacity_word, state_word, start_word, IsReserved, in_header, in_descriptor}
 use Rattle.heap_model.specs.Image.{Image, words_from}
-use Rattle.heap_model.specs.Blocks.{IsBlock, IsIn, AreOneOrApart}
-use Rattle.heap_model.specs.Durability.{IsTransient}
+use Rattle.heap_model.specs.Blocks.{Layout, layout_of, Begins, of_class, as_large, IsBlock, IsIn, AreOneOrApart}
+use Rattle.heap_model.specs.Durability.{IsTransient, is_head as head_lost, is_anchor as anchor_lost, is_link as link_lost}
+use Rattle.heap_model.specs.Recovered.{HasPartIn}
+use Rattle.heap_model.proofs.BlockLemmas.{never_overlap, block_words, block_inside}
+use Rattle.heap_model.proofs.MemberLemmas.{in_none, in_head, in_rest, head_or_rest}
+use Rattle.heap_model.proofs.PartLemmas.{part_taken}
+use Rattle.heap_model.proofs.PlaceLemmas.{same_there}
 use Rattle.line_memory.specs.View.{View, volatile_at, durable_at}
 use Rattle.line_memory.specs.Crash.{IsValueOf, MayStore}
 use Rattle.block_heap.specs.Medium.{StoresOnly}
-use Rattle.block_heap.specs.Words.{IsOwn, NamesAll}
+use Rattle.block_heap.specs.Words.{IsOwn, in_block, in_root, NamesAll}
 use Rattle.block_heap.specs.Sound.{IsPlaced}
-use Rattle.block_heap.specs.Works.{IsAllocatorWord, Works, IsStable}
+use Rattle.block_heap.specs.Works.{IsAllocatorWord, is_used, is_head, is_info, is_anchor, is_link, is_inside, Works, IsStable}
+use Rattle.block_heap.proofs.MediumLemmas.{stores_then, stores_more, stores_nothing}
+
+-- the `count` numbers from a number on: each stands among them, and no other does
+in_numbers : (from count i : ℕ) → from ≤ i → i < from + count → Contains (words_from (λ n. n) from count) i
+in_numbers from zero i low high = absurd (omega arith)
+in_numbers from (suc count) i low high = elim (cases_eq from i) as (λ _. Contains (words_from (λ n. n) from (suc count)) i) [
+  | inl same ↦ subst (λ x. Contains (from ∷ words_from (λ n. n) (from + 1) count) x) same (in_head from (words_from (λ n. n) (from + 1) count))
+  | inr other ↦ in_rest from i (words_from (λ n. n) (from + 1) count) (in_numbers (from + 1) count i (omega arith) (omega arith))
+]
+
+numbers_below : (from count i : ℕ) → Contains (words_from (λ n. n) from count) i → i < from + count
+numbers_below from zero i p = absurd (in_none i p)
+numbers_below from (suc count) i p = elim (head_or_rest from i (words_from (λ n. n) (from + 1) count) p) as (λ _. i < from + suc count) [
+  | inl same ↦ omega arith
+  | inr later ↦ omega (arith, numbers_below (from + 1) count i later)
+]
 
 -- the numbers of the roots
 pub is_root : (i : ℕ) → i < roots → Contains (words_from (λ n. n) 0 roots) i
-is_root i below = ?
+is_root i below = in_numbers 0 roots i (omega arith) (omega arith)
 
 pub root_below : (i : ℕ) → Contains (words_from (λ n. n) 0 roots) i → i < roots
-root_below i p = ?
+root_below i p = omega (arith, numbers_below 0 roots i p)
+
+-- a block stays one where more superblocks are taken
+begins_more : (l : Layout) (used d w n : ℕ) → l.used ≤ used → Begins l d w n → Begins (record { capacity = l.capacity; used = used; info = l.info }) d w n
+begins_more l used d w n more (of_class c info is) = of_class c info is
+begins_more l used d w n more (as_large k some info end zeros) = as_large k some info (omega arith) zeros
+
+taken_more : (l : Layout) (used : ℕ) (b : Block) → l.used ≤ used → IsBlock l b → IsBlock (record { capacity = l.capacity; used = used; info = l.info }) b
+taken_more l used b more is = record {
+  superblock = is.superblock;
+  index = is.index;
+  words = is.words;
+  count = is.count;
+  is_of = record {
+    taken = let taken = is.is_of.taken in omega arith;
+    begins = begins_more l used is.superblock is.words is.count more is.is_of.begins;
+    below = is.is_of.below;
+    at = is.is_of.at;
+    size = is.is_of.size;
+  };
+}
+
+-- and where the infos of its superblocks stay
+block_more : (l m : Layout) (b : Block) → m.capacity ≡ l.capacity → l.used ≤ m.used → ((d : ℕ) → HasPartIn l.capacity b d → m.info d ≡ l.info d)
+    → IsBlock l b → IsBlock m b
+block_more l m b capacity more infos is =
+    same_there (record { capacity = l.capacity; used = m.used; info = l.info }) m b capacity refl infos (taken_more l m.used b more is)
 
 module _ (capacity : ℕ) (held : List Block) where
+  -- the layout that tells held blocks
+  abbrev low_layout : View → ℕ → Layout
+  low_layout v low = record { capacity = capacity; used = low; info = λ d. volatile_at v (info_word d) }
+
   -- no step at all, two rows of steps, and steps while more blocks are held
   pub works_none : (v : View) → Works capacity held v v
-  works_none v = ?
+  works_none v = record {
+    stores = stores_nothing (IsAllocatorWord capacity held) v;
+    used = omega arith;
+    used_durable = omega arith;
+  }
 
   pub works_then : (v u w : View) → Works capacity held v u → Works capacity held u w → Works capacity held v w
-  works_then v u w a b = ?
+  works_then v u w a b = record {
+    stores = stores_then (IsAllocatorWord capacity held) v u w a.stores b.stores;
+    used = let p = a.used in let q = b.used in omega arith;
+    used_durable = let p = a.used_durable in let q = b.used_durable in omega arith;
+  }
+
+  fewer_word : (fewer : List Block) (word : ℕ) → ((b : Block) → Contains fewer b → Contains held b)
+      → IsAllocatorWord capacity held word → IsAllocatorWord capacity fewer word
+  fewer_word fewer word are (is_used e) = is_used e
+  fewer_word fewer word are (is_head list below e) = is_head list below e
+  fewer_word fewer word are (is_info d below none e) = is_info d below (λ b p part. none b (are b p) part) e
+  fewer_word fewer word are (is_anchor d below e) = is_anchor d below e
+  fewer_word fewer word are (is_link d below e) = is_link d below e
+  fewer_word fewer word are (is_inside from none) = is_inside from (λ b p in_b. none b (are b p) in_b)
 
   pub works_fewer : (fewer : List Block) (v w : View) → ((b : Block) → Contains fewer b → Contains held b) → Works capacity held v w → Works capacity fewer v w
-  works_fewer fewer v w are works = ?
+  works_fewer fewer v w are works = record {
+    stores = stores_more (IsAllocatorWord capacity held) (IsAllocatorWord capacity fewer) v w (λ word may. fewer_word fewer word are may) works.stores;
+    used = works.used;
+    used_durable = works.used_durable;
+  }
 
   -- steps that store to such words, but not to `used`, which is durable as loads see it
   pub works_of : (to : ℕ → Type 0) (v w : View) → ((word : ℕ) → to word → IsAllocatorWord capacity held word) → (to used_word → ⊥) → StoresOnly to v w → durable_at v used_word ≡ volatile_at v used_word
       → Works capacity held v w × (durable_at w used_word ≡ volatile_at w used_word) × (volatile_at w used_word ≡ volatile_at v used_word)
-  works_of to v w are not_used stores settled = ?
+  works_of to v w are not_used stores settled =
+      let same : volatile_at w used_word ≡ volatile_at v used_word = stores.volatile used_word not_used in
+      let durable : durable_at w used_word ≡ volatile_at v used_word =
+      elim (stores.durable used_word not_used) as (λ _. durable_at w used_word ≡ volatile_at v used_word) [ inl e ↦ e ∙ settled | inr e ↦ e ] in (
+        record { stores = stores_more to (IsAllocatorWord capacity held) v w are stores; used = omega arith; used_durable = omega arith },
+        durable ∙ sym same,
+        same,
+      )
 
   -- steps that raise `used`
   pub works_raised : (value : ℕ) (v w : View) → StoresOnly (λ word. word ≡ used_word) v w → MayStore used_word value v w → durable_at v used_word ≡ volatile_at v used_word → volatile_at v used_word ≤ value
       → Works capacity held v w
-  works_raised value v w stores may settled more = ?
+  works_raised value v w stores may settled more = record {
+    stores = stores_more (λ word. word ≡ used_word) (IsAllocatorWord capacity held) v w (λ word e. is_used e) stores;
+    used = elim may.seen as (λ _. volatile_at v used_word ≤ volatile_at w used_word) [ inl e ↦ omega arith | inr e ↦ omega arith ];
+    used_durable = elim may.left as (λ _. durable_at v used_word ≤ durable_at w used_word) [
+      | inl e ↦ omega arith
+      | inr old ↦ elim old as (λ _. durable_at v used_word ≤ durable_at w used_word) [ inl e ↦ omega arith | inr e ↦ omega arith ]
+    ];
+  }
+
+  -- where a held block lies, and an own word
+  lies : (v : View) (b : Block) (stable : IsStable capacity v held) → Contains held b
+      → (start_word capacity 0 ≤ b.first_word) × (b.first_word + b.words ≤ start_word capacity stable.low)
+  lies v b stable holds = block_inside (low_layout v stable.low) b (stable.named b holds)
+
+  own_where : (v : View) (word : ℕ) → IsStable capacity v held → IsOwn held (words_from (λ n. n) 0 roots) word
+      → ((root_word 0 ≤ word) × (word < info_word 0)) ⊎ (start_word capacity 0 ≤ word)
+  own_where v _ stable (in_block b word holds in_b) =
+      let inside = lies v b stable holds in let from = in_b.from in inr (omega (arith, inside.0))
+  own_where v _ stable (in_root i word p same) = let below = root_below i p in inl (omega arith, omega arith)
 
   -- an allocator stores to no own word of the seat
   pub not_own : (v : View) (word : ℕ) → capacity ≤ largest_capacity → IsStable capacity v held → IsAllocatorWord capacity held word → IsOwn held (words_from (λ n. n) 0 roots) word → ⊥
-  not_own v word small stable may own = ?
+  not_own v word small stable may own = by_word may own where
+    fixed_apart : (((root_word 0 ≤ word) × (word < info_word 0)) ⊎ (start_word capacity 0 ≤ word))
+        → (word < root_word 0) ⊎ ((info_word 0 ≤ word) × (word < start_word capacity 0)) → ⊥
+    fixed_apart (inl at_root) (inl before) = omega (arith, at_root.0)
+    fixed_apart (inl at_root) (inr behind) = omega (arith, at_root.1, behind.0)
+    fixed_apart (inr inside) (inl before) = omega arith
+    fixed_apart (inr inside) (inr behind) = omega (arith, behind.1)
+
+    inside_apart : (other : ℕ) → start_word capacity 0 ≤ other → ((b : Block) → Contains held b → IsIn b other → ⊥)
+        → IsOwn held (words_from (λ n. n) 0 roots) other → ⊥
+    inside_apart _ from none (in_block b other holds in_b) = none b holds in_b
+    inside_apart _ from none (in_root i other p same) = let below = root_below i p in omega arith
+
+    by_word : IsAllocatorWord capacity held word → IsOwn held (words_from (λ n. n) 0 roots) word → ⊥
+    by_word (is_used e) own = fixed_apart (own_where v word stable own) (inl (omega arith))
+    by_word (is_head list below e) own = fixed_apart (own_where v word stable own) (inl (omega arith))
+    by_word (is_info d below none e) own = fixed_apart (own_where v word stable own) (inr (omega arith, omega arith))
+    by_word (is_anchor d below e) own = fixed_apart (own_where v word stable own) (inr (omega arith, omega arith))
+    by_word (is_link d below e) own = fixed_apart (own_where v word stable own) (inr (omega arith, omega arith))
+    by_word (is_inside from none) own = inside_apart word from none own
 
   -- nor to the first four words of the header or to a word without a meaning
-  pub not_fixed : (v : View) (word : ℕ) → IsStable capacity v held → IsAllocatorWord capacity held word → (word < 4) ⊎ IsReserved capacity word → ⊥
-  not_fixed v word stable may fixed = ?
+  not_first : (word : ℕ) → IsAllocatorWord capacity held word → word < 4 → ⊥
+  not_first word (is_used e) few = omega arith
+  not_first word (is_head list below e) few = omega arith
+  not_first word (is_info d below none e) few = omega arith
+  not_first word (is_anchor d below e) few = omega arith
+  not_first word (is_link d below e) few = omega arith
+  not_first word (is_inside from none) few = omega arith
 
-  -- held blocks stay named
+  not_reserved : (word : ℕ) → IsReserved capacity word → IsAllocatorWord capacity held word → ⊥
+  not_reserved _ (in_header word low high used_not lists_not) (is_used e) = used_not e
+  not_reserved _ (in_header word low high used_not lists_not) (is_head list below e) =
+      elim lists_not as (λ _. ⊥) [ inl before ↦ omega arith | inr behind ↦ omega arith ]
+  not_reserved _ (in_header word low high used_not lists_not) (is_info d below none e) = omega arith
+  not_reserved _ (in_header word low high used_not lists_not) (is_anchor d below e) = omega arith
+  not_reserved _ (in_header word low high used_not lists_not) (is_link d below e) = omega arith
+  not_reserved _ (in_header word low high used_not lists_not) (is_inside from none) = omega arith
+  not_reserved _ (in_descriptor d at word below low high is) (is_used e) = omega arith
+  not_reserved _ (in_descriptor d at word below low high is) (is_head list few e) = omega arith
+  not_reserved _ (in_descriptor d at word below low high is) (is_info c less none e) = omega arith
+  not_reserved _ (in_descriptor d at word below low high is) (is_anchor c less e) = omega arith
+  not_reserved _ (in_descriptor d at word below low high is) (is_link c less e) = omega arith
+  not_reserved _ (in_descriptor d at word below low high is) (is_inside from none) = omega arith
+
+  pub not_fixed : (v : View) (word : ℕ) → IsStable capacity v held → IsAllocatorWord capacity held word → (word < 4) ⊎ IsReserved capacity word → ⊥
+  not_fixed v word stable may fixed = elim fixed as (λ _. ⊥) [ inl few ↦ not_first word may few | inr reserved ↦ not_reserved word reserved may ]
+
+  -- held blocks stay named where neither the capacity nor an info of theirs is stored to, and both values of `used` stay above them
+  stable_by : (to : ℕ → Type 0) (v w : View) (stable : IsStable capacity v held) → StoresOnly to v w → (to capacity_word → ⊥)
+      → stable.low ≤ volatile_at w used_word → stable.low ≤ durable_at w used_word
+      → ((b : Block) (d : ℕ) → Contains held b → HasPartIn capacity b d → to (info_word d) → ⊥) → IsStable capacity w held
+  stable_by to v w stable stores no_capacity used used_durable no_info = record {
+    capacity_is = stores.volatile capacity_word no_capacity ∙ stable.capacity_is;
+    capacity_durable = elim (stores.durable capacity_word no_capacity) as (λ _. durable_at w capacity_word ≡ capacity) [
+      | inl e ↦ e ∙ stable.capacity_durable
+      | inr e ↦ e ∙ stable.capacity_is
+    ];
+    low = stable.low;
+    fits = stable.fits;
+    used = used;
+    used_durable = used_durable;
+    named = λ b holds. block_more (low_layout v stable.low) (low_layout w stable.low) b refl (omega arith)
+        (λ d part. stores.volatile (info_word d) (no_info b d holds part)) (stable.named b holds);
+    settled = λ b d holds part.
+        let same : volatile_at w (info_word d) ≡ volatile_at v (info_word d) = stores.volatile (info_word d) (no_info b d holds part) in
+        elim (stores.durable (info_word d) (no_info b d holds part)) as (λ _. durable_at w (info_word d) ≡ volatile_at w (info_word d)) [
+          | inl e ↦ e ∙ stable.settled b d holds part ∙ sym same
+          | inr e ↦ e ∙ sym same
+        ];
+  }
+
+  -- an allocator stores to no info of a superblock that a held block has a part in
+  not_info : (b : Block) (d word : ℕ) → Contains held b → HasPartIn capacity b d → d < capacity → word ≡ info_word d → IsAllocatorWord capacity held word → ⊥
+  not_info b d word holds part below at (is_used e) = omega arith
+  not_info b d word holds part below at (is_head list few e) = omega arith
+  not_info b d word holds part below at (is_info c less none e) =
+      let same : d ≡ c = omega arith in none b holds (subst (λ x. HasPartIn capacity b x) same part)
+  not_info b d word holds part below at (is_anchor c less e) = omega arith
+  not_info b d word holds part below at (is_link c less e) = omega arith
+  not_info b d word holds part below at (is_inside from none) = omega arith
+
+  -- held blocks stay named: their infos lie before the superblocks, where an allocator may store
   pub stable_kept : (v w : View) → IsStable capacity v held → Works capacity held v w → IsStable capacity w held
-  stable_kept v w stable works = ?
+  stable_kept v w stable works =
+      let fits = stable.fits in
+      stable_by (IsAllocatorWord capacity held) v w stable works.stores (λ may. not_first capacity_word may (omega arith))
+      (let p = stable.used in let q = works.used in omega arith) (let p = stable.used_durable in let q = works.used_durable in omega arith)
+      (λ b d holds part may.
+      let taken = part_taken (low_layout v stable.low) b d (stable.named b holds) part in
+      not_info b d (info_word d) holds part (omega arith) refl may)
 
   -- also over a store to an own word, or over none
-  pub stable_own : (to : ℕ → Type 0) (v w : View) → capacity ≤ largest_capacity → ((word : ℕ) → to word → IsOwn held (words_from (λ n. n) 0 roots) word) → IsStable capacity v held → StoresOnly to v w → IsStable capacity w held
-  stable_own to v w small own stable stores = ?
+  pub stable_own : (to : ℕ → Type 0) (v w : View) → capacity ≤ largest_capacity → ((word : ℕ) → to word → IsOwn held (words_from (λ n. n) 0 roots) word)
+      → IsStable capacity v held → StoresOnly to v w → IsStable capacity w held
+  stable_own to v w small own stable stores =
+      let fits = stable.fits in
+      let p = stable.used in
+      let q = stable.used_durable in
+      let same : volatile_at w used_word ≡ volatile_at v used_word = stores.volatile used_word not_used in
+      stable_by to v w stable stores (λ t. header_apart capacity_word t (omega arith)) (omega arith)
+      (elim (stores.durable used_word not_used) as (λ _. stable.low ≤ durable_at w used_word) [ inl e ↦ omega arith | inr e ↦ omega arith ])
+      (λ b d holds part t.
+      let taken = part_taken (low_layout v stable.low) b d (stable.named b holds) part in
+      elim (own_where v (info_word d) stable (own (info_word d) t)) as (λ _. ⊥) [ inl at_root ↦ omega (arith, at_root.1) | inr inside ↦ omega arith ])
+    where
+      header_apart : (word : ℕ) → to word → word < 16 → ⊥
+      header_apart word t few = elim (own_where v word stable (own word t)) as (λ _. ⊥) [ inl at_root ↦ omega (arith, at_root.0) | inr inside ↦ omega arith ]
+
+      not_used : to used_word → ⊥
+      not_used t = header_apart used_word t (omega arith)
 
   pub stable_fewer : (fewer : List Block) (v : View) → ((b : Block) → Contains fewer b → Contains held b) → IsStable capacity v held → IsStable capacity v fewer
-  stable_fewer fewer v are stable = ?
+  stable_fewer fewer v are stable = record {
+    capacity_is = stable.capacity_is;
+    capacity_durable = stable.capacity_durable;
+    low = stable.low;
+    fits = stable.fits;
+    used = stable.used;
+    used_durable = stable.used_durable;
+    named = λ b p. stable.named b (are b p);
+    settled = λ b d p part. stable.settled b d (are b p) part;
+  }
 
   -- where held blocks lie
-  pub stable_placed : (v : View) (b : Block) → 1 ≤ capacity → capacity ≤ largest_capacity → (stable : IsStable capacity v held) → stable.low ≤ capacity → Contains held b → IsPlaced b
-  stable_placed v b some small stable fits holds = ?
+  pub stable_placed : (v : View) (b : Block) → 1 ≤ capacity → capacity ≤ largest_capacity → IsStable capacity v held → Contains held b → IsPlaced b
+  stable_placed v b some small stable holds =
+      let fits = stable.fits in
+      let inside = lies v b stable holds in
+      let words = block_words (low_layout v stable.low) b (stable.named b holds) in
+      record { behind = omega (arith, inside.0); some = omega arith; short = omega (arith, inside.1) }
 
   pub stable_apart : (v : View) (a b : Block) → IsStable capacity v held → Contains held a → Contains held b → AreOneOrApart a b
-  stable_apart v a b stable in_a in_b = ?
+  stable_apart v a b stable in_a in_b = never_overlap (low_layout v stable.low) a b (stable.named a in_a) (stable.named b in_b)
+
+  -- neither the first words of the header nor an info is transient
+  not_transient : (word : ℕ) → (word < 16) ⊎ ((d : ℕ) × (word ≡ info_word d)) → IsTransient capacity word → ⊥
+  not_transient _ (inl few) (head_lost list word below e) = omega arith
+  not_transient _ (inl few) (anchor_lost d word below e) = omega arith
+  not_transient _ (inl few) (link_lost d word below e) = omega arith
+  not_transient _ (inr info) (head_lost list word below e) = let at = info.1 in omega arith
+  not_transient _ (inr info) (anchor_lost d word below e) = let at = info.1 in omega arith
+  not_transient _ (inr info) (link_lost d word below e) = let at = info.1 in omega arith
 
   -- each image that may be left names them
   pub stable_names : (v : View) (image : Image) → IsStable capacity v held → ((word : ℕ) → (word ≡ state_word → ⊥) → (IsTransient capacity word → ⊥) → IsValueOf v word (image word)) → NamesAll image held
-  stable_names v image stable left = ?
+  stable_names v image stable left = λ b holds. record {
+    begins_at = refl;
+    block = block_more (low_layout v stable.low) (layout_of image) b capacity_is used_is (infos b holds) (stable.named b holds);
+  } where
+    capacity_is : image capacity_word ≡ capacity
+    capacity_is = elim (left capacity_word (λ e. omega (arith, e)) (not_transient capacity_word (inl (omega arith)))) as (λ _. image capacity_word ≡ capacity) [
+      | inl e ↦ e ∙ stable.capacity_durable
+      | inr e ↦ e ∙ stable.capacity_is
+    ]
+
+    used_is : stable.low ≤ image used_word
+    used_is = elim (left used_word (λ e. omega (arith, e)) (not_transient used_word (inl (omega arith)))) as (λ _. stable.low ≤ image used_word) [
+      | inl e ↦ let p = stable.used_durable in omega arith
+      | inr e ↦ let p = stable.used in omega arith
+    ]
+
+    infos : (b : Block) → Contains held b → (d : ℕ) → HasPartIn capacity b d → image (info_word d) ≡ volatile_at v (info_word d)
+    infos b holds d part =
+        let value = left (info_word d) (λ e. omega (arith, e)) (not_transient (info_word d) (inr (d, refl))) in
+        elim value as (λ _. image (info_word d) ≡ volatile_at v (info_word d)) [ inl e ↦ e ∙ stable.settled b d holds part | inr e ↦ e ]

@@ -1,5 +1,5 @@
 -- When the parts of an open heap are right, with nothing in hand.
-use Rattle.std.specs.Prelude.{◌≡◌, ◌≢◌, ℕ, ◌+◌, ◌*◌, ◌<◌, ◌≤◌, ◌⊎◌, List, length, slice_index}
+use Rattle.std.specs.Prelude.{◌≡◌, ◌≢◌, ℕ, ◌+◌, ◌*◌, ◌<◌, ◌≤◌, ◌⊎◌, ◌^◌, List, length, slice_index}
 use Rattle.heap_model.specs.Geometry.{lists, head_word, info_word, used_word, start_word}
 use Rattle.heap_model.specs.Sizes.{IsClass, blocks_of, words_of_class}
 use Rattle.heap_model.specs.Words.{head_pops}
@@ -32,7 +32,9 @@ pub record IsSettled (capacity : ℕ) (v : View) : Type 0 where
   pub used : durable_at v used_word ≡ volatile_at v used_word
 
 pub record IsRunning (p : Parts) : Type 0 where
-  pub open : IsOpen p.capacity p.words
+  pub words_open : IsOpen p.capacity p.words
+  pub below : p.words.drawn ≤ p.words.budget
+  pub bounded : p.words.budget < 2 ^ 40
   pub caches_long : length p.caches ≡ lists
   pub looks_long : length p.head_looks ≡ lists
   pub shape : Shape

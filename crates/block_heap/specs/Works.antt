@@ -28,6 +28,7 @@ pub record IsStable (capacity : ℕ) (v : View) (held : List Block) : Type 0 whe
   pub capacity_is : volatile_at v capacity_word ≡ capacity
   pub capacity_durable : durable_at v capacity_word ≡ capacity
   pub low : ℕ
+  pub fits : low ≤ capacity
   pub used : low ≤ volatile_at v used_word
   pub used_durable : low ≤ durable_at v used_word
   pub named : (b : Block) → Contains held b → IsBlock (record { capacity = capacity; used = low; info = λ d. volatile_at v (info_word d) }) b

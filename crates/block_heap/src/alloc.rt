@@ -3,19 +3,62 @@ use crate::arena::Arena;
 use crate::fault::Looks;
 use heap_model::Block;
 use line_memory::{Chance, Stopped};
-use size_table::{class_of, size_of, span_of};
+use size_table::{class_of, span_of};
 use super_block::WORD_BYTES;
 
 impl<C: Chance> Arena<C> {
+    ghost use Rattle.std.specs.Prelude.{◌≡◌, ◌<◌, ◌≤◌, ◌+◌, ℕ, Contains, Some, length, IfOk, OnOk, IfErr, OnErr};
+    ghost use Rattle.heap_model.specs.Sizes.{IsClass, IsLeastClassFor, size_of, span_of};
+    ghost use Rattle.heap_shape.specs.Moves.{TakesFrom};
+    ghost use Rattle.block_heap.specs.Medium.{Goes, Halts};
+    ghost use Rattle.block_heap.specs.Parts.{parts_of, held_in};
+    ghost use Rattle.block_heap.specs.Running.{IsRunning, AreShort, Serves};
+    ghost use Rattle.block_heap.specs.Serving.{Answers, AnswersInClass, DrainsAs, IsLooksOf};
+
     /// A block of at least so many bytes, if there is room.
-    pub(crate) fn alloc(&mut self, bytes: u64) -> Result<Option<Block>, Stopped> {
+    pub(crate) fn alloc(&mut self, bytes: u64) -> Result<Option<Block>, Stopped>
+        requires running { IsRunning (parts_of self.old) }
+        requires short { AreShort (parts_of self.old) 0 }
+        ensures ok { IfOk result (λ answer. Answers bytes answer
+            (parts_of self.old) (parts_of self.new)) }
+        ensures drains { (class : ℕ) → IsClass class → bytes ≡ size_of class
+            → IfOk result (λ answer. DrainsAs class answer
+            (parts_of self.old) (parts_of self.new)) }
+        ensures goes { OnOk result (Goes 10001
+            (parts_of self.old).words (parts_of self.new).words) }
+        ensures stopped { IfErr result (λ e. Halts e.step 10001
+            (parts_of self.old).words (parts_of self.new).words) }
+        ensures serves { Serves (held_in (parts_of self.old))
+            (parts_of self.old) (parts_of self.new) }
+        ensures held { OnErr result
+            (held_in (parts_of self.new) ≡ held_in (parts_of self.old)) }
+        ensures few { (parts_of self.new).taken ≤ (parts_of self.old).taken + span_of bytes }
+    {
         match class_of(bytes) {
             Some(class) => self.alloc_small(class),
             None => self.alloc_large(span_of(bytes)),
         }
     }
 
-    fn alloc_small(&mut self, class: u8) -> Result<Option<Block>, Stopped> {
+    /// A block of the class, if there is room.
+    fn alloc_small(&mut self, class: u8) -> Result<Option<Block>, Stopped>
+        requires class { IsClass class }
+        requires running { IsRunning (parts_of self.old) }
+        requires short { AreShort (parts_of self.old) 0 }
+        ensures ok { IfOk result (λ answer. AnswersInClass class answer
+            (parts_of self.old) (parts_of self.new)) }
+        ensures drains { IfOk result (λ answer. DrainsAs class answer
+            (parts_of self.old) (parts_of self.new)) }
+        ensures goes { OnOk result (Goes 10001
+            (parts_of self.old).words (parts_of self.new).words) }
+        ensures stopped { IfErr result (λ e. Halts e.step 10001
+            (parts_of self.old).words (parts_of self.new).words) }
+        ensures serves { Serves (held_in (parts_of self.old))
+            (parts_of self.old) (parts_of self.new) }
+        ensures held { OnErr result
+            (held_in (parts_of self.new) ≡ held_in (parts_of self.old)) }
+        ensures few { (parts_of self.new).taken ≤ (parts_of self.old).taken + 1 }
+    {
         if self.caches[class as usize].count == 0 && !self.refill(class)? {
             return Ok(None);
         }
@@ -23,7 +66,21 @@ impl<C: Chance> Arena<C> {
     }
 
     /// Frees a held block.
-    pub(crate) fn free(&mut self, b: Block) -> Result<(), Stopped> {
+    pub(crate) fn free(&mut self, b: Block) -> Result<(), Stopped>
+        requires running { IsRunning (parts_of self.old) }
+        requires short { AreShort (parts_of self.old) 0 }
+        requires holds { Contains (held_in (parts_of self.old)) b }
+        ensures running { OnOk result (IsRunning (parts_of self.new)) }
+        ensures short { OnOk result (AreShort (parts_of self.new) 0) }
+        ensures goes { OnOk result (Goes 40000
+            (parts_of self.old).words (parts_of self.new).words) }
+        ensures stopped { IfErr result (λ e. Halts e.step 40000
+            (parts_of self.old).words (parts_of self.new).words) }
+        ensures freed { TakesFrom b (held_in (parts_of self.old)) (held_in (parts_of self.new)) }
+        ensures serves { Serves (held_in (parts_of self.new))
+            (parts_of self.old) (parts_of self.new) }
+        ensures taken { (parts_of self.new).taken ≡ (parts_of self.old).taken }
+    {
         match class_of(WORD_BYTES * b.words) {
             Some(class) => self.free_small(b, class),
             None => self.free_large(b),
@@ -31,7 +88,10 @@ impl<C: Chance> Arena<C> {
     }
 
     /// What a request of so many bytes read last, which found no room.
-    pub(crate) fn looks(&self, bytes: u64) -> Looks {
+    pub(crate) fn looks(&self, bytes: u64) -> Looks
+        requires { length (parts_of self.now).head_looks ≡ 21 }
+        ensures { IsLooksOf bytes result (parts_of self.now) }
+    {
         match class_of(bytes) {
             Some(class) => Looks {
                 class_head: self.head_looks[class as usize].seen,

@@ -1,10 +1,12 @@
 //! The parts of a heap for one thread: words, caches and held blocks, and what was read last of the
 //! words that threads share.
+ghost use Rattle.std.specs.Prelude.{◌≡◌};
+
 use crate::cache::Cache;
 use crate::held::HeldBlocks;
 use crate::look::Look;
 use crate::medium::Medium;
-use line_memory::{Chance, Stopped};
+use line_memory::Chance;
 use std::alloc::{AllocError, Global};
 use super_block::{Geometry, HEAD_WORD, LISTS, Ready, USED_WORD};
 
@@ -25,13 +27,20 @@ pub(crate) struct Arena<C> {
 }
 
 impl<C: Chance> Arena<C> {
+    ghost use Rattle.std.specs.Prelude.{◌<◌, ◌^◌, IfOk};
+    ghost use Rattle.block_heap.specs.Parts.{parts_of};
+    ghost use Rattle.block_heap.specs.Opening.{Opens};
+
     /// Opens a heap at rest.
     pub(crate) fn new(
         alloc: Global,
         ready: Ready,
         budget: u64,
         chance: C,
-    ) -> Result<Arena<C>, AllocError> {
+    ) -> Result<Arena<C>, AllocError>
+        requires { budget < 2 ^ 40 }
+        ensures { IfOk result (λ a. Opens ready.words ready.held budget (parts_of a)) }
+    {
         let geometry = ready.geometry();
         let held = HeldBlocks::of(alloc, &ready)?;
         let (words, _) = ready.into_parts();
@@ -51,37 +60,13 @@ impl<C: Chance> Arena<C> {
             head_looks,
         })
     }
-
-    /// Takes the first descriptor off the list, and notes what its head was.
-    pub(crate) fn pop(&mut self, list: u64) -> Result<Option<u64>, Stopped> {
-        let ticket = self.medium.next_ticket();
-        let popped = self.medium.pop(self.geometry, list)?;
-        self.head_looks[list as usize] = Look {
-            seen: popped.head,
-            ticket: Some(ticket),
-            taken: self.taken,
-        };
-        Ok(popped.first)
-    }
-
-    /// Takes so many superblocks that were never taken, and notes how many had been.
-    pub(crate) fn take_fresh(&mut self, count: u64) -> Result<Option<u64>, Stopped> {
-        let ticket = self.medium.next_ticket();
-        let fresh = self.medium.take_fresh(self.geometry, count)?;
-        self.used_look = Look {
-            seen: fresh.used,
-            ticket: Some(ticket),
-            taken: self.taken,
-        };
-        if fresh.first.is_some() {
-            self.taken += count;
-        }
-        Ok(fresh.first)
-    }
 }
 
 /// A shared word as it was when the heap was opened.
-fn opening_look(seen: u64) -> Look {
+fn opening_look(seen: u64) -> Look
+    ensures seen { result.seen ≡ seen }
+    ensures taken { result.taken ≡ 0 }
+{
     Look {
         seen,
         ticket: None,

@@ -1,5 +1,6 @@
 //! Which blocks are held, in room that is taken once: one mark for every two words.
 ghost use Rattle.std.specs.Prelude.{◌≡◌, ◌+◌, ◌*◌, ◌<◌, ◌^◌, length, IfOk, replicate, false};
+ghost use Rattle.block_heap.specs.Begun.{IsBegun};
 
 use heap_model::Block;
 use std::alloc::{AllocError, Global};
@@ -24,6 +25,7 @@ impl HeldBlocks {
     ghost use Rattle.heap_model.specs.Geometry.{start_word};
     ghost use Rattle.heap_model.specs.declared.block.Block.{Block};
     ghost use Rattle.line_memory.specs.Marks.{IsMarked};
+    ghost use Rattle.block_heap.specs.Opening.{IsHeldOf};
     ghost use Rattle.block_heap.specs.Held.{held_of, HasMark, at_mark};
     ghost use Rattle.heap_shape.specs.Moves.{AddsTo, TakesFrom};
 
@@ -43,7 +45,9 @@ impl HeldBlocks {
     }
 
     /// The held blocks of a heap at rest.
-    pub(crate) fn of(alloc: Global, ready: &Ready) -> Result<HeldBlocks, AllocError> {
+    pub(crate) fn of(alloc: Global, ready: &Ready) -> Result<HeldBlocks, AllocError>
+        ensures { IfOk result (λ h. IsHeldOf ready.now.words ready.now.held h) }
+    {
         let geometry = ready.geometry();
         let mut blocks = HeldBlocks::new(alloc, geometry)?;
         for d in 0..geometry.capacity() {
@@ -120,7 +124,9 @@ fn clear_marks(alloc: Global, count: usize) -> Result<Vec<bool>, AllocError>
 }
 
 /// How many words the blocks of a superblock of this info have; 0 where it says nothing.
-fn words_begun(info: u64) -> u64 {
+fn words_begun(info: u64) -> u64
+    ensures { IsBegun info result }
+{
     match Info::unpack(info) {
         Info::Class(class) => size_of(class) / WORD_BYTES,
         Info::Large(count) if count <= LARGEST_CAPACITY => SUPERBLOCK_WORDS * count,

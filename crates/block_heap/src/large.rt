@@ -1,15 +1,45 @@
 //! Blocks that take superblocks of their own.
 use crate::arena::Arena;
+use crate::look::Look;
 use heap_model::Block;
 use line_memory::{Chance, Stopped};
 use super_block::SUPERBLOCK_WORDS;
 
 impl<C: Chance> Arena<C> {
+    ghost use Rattle.std.specs.Prelude.{◌≡◌, ◌≢◌, ℕ, ◌+◌, ◌*◌, ◌<◌, ◌≤◌, Contains, IfOk, OnOk, IfErr, OnErr};
+    ghost use Rattle.heap_model.specs.Geometry.{superblock_words, start_word};
+    ghost use Rattle.heap_model.specs.Sizes.{IsClass, words_of_class};
+    ghost use Rattle.heap_shape.specs.Moves.{TakesFrom};
+    ghost use Rattle.block_heap.specs.Medium.{Goes, Halts};
+    ghost use Rattle.block_heap.specs.Parts.{parts_of, held_in};
+    ghost use Rattle.block_heap.specs.Running.{IsRunning, AreShort, Serves};
+    ghost use Rattle.block_heap.specs.Large.{JoinsAs, IsDropped};
+
     /// A block of so many superblocks, if as many were never taken.
-    pub(crate) fn alloc_large(&mut self, count: u64) -> Result<Option<Block>, Stopped> {
-        let Some(d) = self.take_fresh(count)? else {
+    pub(crate) fn alloc_large(&mut self, count: u64) -> Result<Option<Block>, Stopped>
+        requires some { 1 ≤ count }
+        requires running { IsRunning (parts_of self.old) }
+        ensures ok { IfOk result (λ answer. JoinsAs count answer
+            (parts_of self.old) (parts_of self.new)) }
+        ensures running { OnOk result (IsRunning (parts_of self.new)) }
+        ensures goes { OnOk result (Goes 7
+            (parts_of self.old).words (parts_of self.new).words) }
+        ensures stopped { IfErr result (λ e. Halts e.step 7
+            (parts_of self.old).words (parts_of self.new).words) }
+        ensures serves { Serves (held_in (parts_of self.old))
+            (parts_of self.old) (parts_of self.new) }
+        ensures held { OnErr result
+            (held_in (parts_of self.new) ≡ held_in (parts_of self.old)) }
+        ensures caches { (parts_of self.new).caches ≡ (parts_of self.old).caches }
+        ensures few { (parts_of self.new).taken ≤ (parts_of self.old).taken + count }
+    {
+        let ticket = self.medium.next_ticket();
+        let fresh = self.medium.take_fresh(self.geometry, count)?;
+        self.used_look = Look::by(fresh.used, ticket, self.taken);
+        let Some(d) = fresh.first else {
             return Ok(None);
         };
+        self.taken += count;
         self.medium.join(self.geometry, d, count)?;
         self.held.divide(d, SUPERBLOCK_WORDS * count);
         let first_word = self.geometry.start(d);
@@ -18,7 +48,21 @@ impl<C: Chance> Arena<C> {
     }
 
     /// Frees a held large block: each of its superblocks is free then.
-    pub(crate) fn free_large(&mut self, b: Block) -> Result<(), Stopped> {
+    pub(crate) fn free_large(&mut self, b: Block) -> Result<(), Stopped>
+        requires running { IsRunning (parts_of self.old) }
+        requires holds { Contains (held_in (parts_of self.old)) b }
+        requires large { (class : ℕ) → IsClass class → b.words ≢ words_of_class class }
+        ensures running { OnOk result (IsRunning (parts_of self.new)) }
+        ensures goes { OnOk result (Goes 1024
+            (parts_of self.old).words (parts_of self.new).words) }
+        ensures stopped { IfErr result (λ e. Halts e.step 1024
+            (parts_of self.old).words (parts_of self.new).words) }
+        ensures freed { TakesFrom b (held_in (parts_of self.old)) (held_in (parts_of self.new)) }
+        ensures serves { Serves (held_in (parts_of self.new))
+            (parts_of self.old) (parts_of self.new) }
+        ensures caches { (parts_of self.new).caches ≡ (parts_of self.old).caches }
+        ensures taken { (parts_of self.new).taken ≡ (parts_of self.old).taken }
+    {
         self.held.remove(b.first_word);
         let first = self.superblock_of(b.first_word);
         for d in first..first + b.words / SUPERBLOCK_WORDS {
@@ -29,7 +73,23 @@ impl<C: Chance> Arena<C> {
 
     /// A superblock of a large block that is held no more goes to the free list. Its info stays
     /// until it is cut: it names no block then that overlaps another.
-    fn split(&mut self, d: u64) -> Result<(), Stopped> {
+    fn split(&mut self, d: u64) -> Result<(), Stopped>
+        requires running { IsRunning (parts_of self.old) }
+        requires within { d < (parts_of self.old).capacity }
+        requires dropped { IsDropped (parts_of self.old) d }
+        ensures running { OnOk result (IsRunning (parts_of self.new)) }
+        ensures others { OnOk result ((e : ℕ) → e ≢ d → IsDropped (parts_of self.old) e
+            → IsDropped (parts_of self.new) e) }
+        ensures goes { OnOk result (Goes 4
+            (parts_of self.old).words (parts_of self.new).words) }
+        ensures stopped { IfErr result (λ e. Halts e.step 4
+            (parts_of self.old).words (parts_of self.new).words) }
+        ensures held { (parts_of self.new).blocks ≡ (parts_of self.old).blocks }
+        ensures serves { Serves (held_in (parts_of self.old))
+            (parts_of self.old) (parts_of self.new) }
+        ensures caches { (parts_of self.new).caches ≡ (parts_of self.old).caches }
+        ensures taken { (parts_of self.new).taken ≡ (parts_of self.old).taken }
+    {
         self.medium.store(self.geometry.anchor(d), 0)?;
         self.medium.push(self.geometry, 0, d)
     }

@@ -1,13 +1,53 @@
 //! Where a request of a class finds blocks when its cache is empty.
 use crate::arena::Arena;
 use crate::cache::Cache;
+use crate::look::Look;
 use line_memory::{Chance, Stopped};
 use size_table::{blocks_of, size_of};
-use super_block::{WORD_BYTES};
+use super_block::WORD_BYTES;
+
+/// What was found first in the list of a class.
+#[derive(Clone, Copy, Debug, PartialEq, Eq)]
+pub(crate) enum Found {
+    /// A superblock with blocks in use, whose free blocks are in the cache now.
+    Blocks,
+    /// A superblock with none in use, which is in the free list now.
+    Recycled,
+    /// The list is empty.
+    Nothing,
+}
 
 impl<C: Chance> Arena<C> {
+    ghost use Rattle.std.specs.Prelude.{◌≡◌, ◌≢◌, ℕ, ◌+◌, ◌/◌, ◌<◌, ◌≤◌, IfOk, OnOk, OnErr, IfErr, if◌then◌else◌, length};
+    ghost use Rattle.heap_model.specs.Geometry.{used_word};
+    ghost use Rattle.heap_model.specs.Sizes.{IsClass};
+    ghost use Rattle.heap_shape.specs.Standing.{HasNoHeld};
+    ghost use Rattle.line_memory.specs.Marks.{IsMarked};
+    ghost use Rattle.block_heap.specs.Medium.{StoresOnly, Goes, Halts};
+    ghost use Rattle.block_heap.specs.Divide.{IsDivideWord};
+    ghost use Rattle.block_heap.specs.Links.{IsOpen};
+    ghost use Rattle.block_heap.specs.Parts.{parts_of, held_in, image_of, cache_at};
+    ghost use Rattle.block_heap.specs.Running.{IsRunning, Serves};
+    ghost use Rattle.block_heap.specs.Steps.{Fills, FindsFirst, IsEmptyList};
+    ghost use Rattle.block_heap.specs.Refill.{Cuts, SameBut, FindsFree, FindsFresh, FindsPartial, Refills};
+
     /// Fills the empty cache of the class; `false` where there is no room.
-    pub(crate) fn refill(&mut self, class: u8) -> Result<bool, Stopped> {
+    pub(crate) fn refill(&mut self, class: u8) -> Result<bool, Stopped>
+        requires class { IsClass class }
+        requires running { IsRunning (parts_of self.old) }
+        requires empty { (cache_at (parts_of self.old).caches class).count ≡ 0 }
+        ensures ok { IfOk result (λ some. Refills class some
+            (parts_of self.old) (parts_of self.new)) }
+        ensures fills { OnOk result (Fills class (parts_of self.old) (parts_of self.new)) }
+        ensures goes { OnOk result (Goes 10000
+            (parts_of self.old).words (parts_of self.new).words) }
+        ensures stopped { IfErr result (λ e. Halts e.step 10000
+            (parts_of self.old).words (parts_of self.new).words) }
+        ensures serves { Serves (held_in (parts_of self.old))
+            (parts_of self.old) (parts_of self.new) }
+        ensures held { held_in (parts_of self.new) ≡ held_in (parts_of self.old) }
+        ensures few { (parts_of self.new).taken ≤ (parts_of self.old).taken + 1 }
+    {
         if self.take_partial(class)? || self.cut_free(class)? {
             return Ok(true);
         }
@@ -16,41 +56,134 @@ impl<C: Chance> Arena<C> {
 
     /// Takes the free blocks of the first superblock in the list of the class that has some in use.
     /// Those before it, with none in use, go to the free list.
-    fn take_partial(&mut self, class: u8) -> Result<bool, Stopped> {
-        while let Some(d) = self.pop(class as u64)? {
-            if let Some(cache) = self.medium.take_blocks(self.geometry, d, class)? {
-                self.caches[class as usize] = cache;
-                return Ok(true);
+    fn take_partial(&mut self, class: u8) -> Result<bool, Stopped>
+        requires class { IsClass class }
+        requires running { IsRunning (parts_of self.old) }
+        requires empty { (cache_at (parts_of self.old).caches class).count ≡ 0 }
+        ensures ok { IfOk result (λ some. FindsPartial class some
+            (parts_of self.old) (parts_of self.new)) }
+        ensures fills { OnOk result (Fills class (parts_of self.old) (parts_of self.new)) }
+        ensures goes { OnOk result (Goes 2056
+            (parts_of self.old).words (parts_of self.new).words) }
+        ensures stopped { IfErr result (λ e. Halts e.step 2056
+            (parts_of self.old).words (parts_of self.new).words) }
+        ensures serves { Serves (held_in (parts_of self.old))
+            (parts_of self.old) (parts_of self.new) }
+        ensures held { held_in (parts_of self.new) ≡ held_in (parts_of self.old) }
+        ensures taken { (parts_of self.new).taken ≡ (parts_of self.old).taken }
+    {
+        loop {
+            match self.take_first(class)? {
+                Found::Blocks => return Ok(true),
+                Found::Recycled => {}
+                Found::Nothing => return Ok(false),
             }
-            self.medium.push(self.geometry, 0, d)?;
         }
-        Ok(false)
     }
 
-    /// Cuts the first free superblock.
-    fn cut_free(&mut self, class: u8) -> Result<bool, Stopped> {
-        match self.pop(0)? {
-            Some(d) => {
-                self.cut(d, class)?;
-                Ok(true)
-            }
-            None => Ok(false),
+    /// Takes the first superblock off the list of the class, and its free blocks into the cache, or
+    /// puts it into the free list if none of its blocks is in use.
+    fn take_first(&mut self, class: u8) -> Result<Found, Stopped>
+        requires class { IsClass class }
+        requires running { IsRunning (parts_of self.old) }
+        requires empty { (cache_at (parts_of self.old).caches class).count ≡ 0 }
+        ensures ok { IfOk result (λ found. FindsFirst class found
+            (parts_of self.old) (parts_of self.new)) }
+        ensures fills { OnOk result (Fills class (parts_of self.old) (parts_of self.new)) }
+        ensures goes { OnOk result (Goes 8
+            (parts_of self.old).words (parts_of self.new).words) }
+        ensures stopped { IfErr result (λ e. Halts e.step 8
+            (parts_of self.old).words (parts_of self.new).words) }
+        ensures serves { Serves (held_in (parts_of self.old))
+            (parts_of self.old) (parts_of self.new) }
+        ensures held { held_in (parts_of self.new) ≡ held_in (parts_of self.old) }
+        ensures taken { (parts_of self.new).taken ≡ (parts_of self.old).taken }
+    {
+        let ticket = self.medium.next_ticket();
+        let popped = self.medium.pop(self.geometry, class as u64)?;
+        self.head_looks[class as usize] = Look::by(popped.head, ticket, self.taken);
+        let Some(d) = popped.first else {
+            return Ok(Found::Nothing);
+        };
+        if let Some(cache) = self.medium.take_blocks(self.geometry, d, class)? {
+            self.caches[class as usize] = cache;
+            return Ok(Found::Blocks);
         }
+        self.medium.push(self.geometry, 0, d)?;
+        Ok(Found::Recycled)
     }
 
-    /// Cuts a superblock that was never taken.
-    fn cut_fresh(&mut self, class: u8) -> Result<bool, Stopped> {
-        match self.take_fresh(1)? {
-            Some(d) => {
-                self.cut(d, class)?;
-                Ok(true)
-            }
-            None => Ok(false),
-        }
+    /// Cuts the first free superblock for the class.
+    fn cut_free(&mut self, class: u8) -> Result<bool, Stopped>
+        requires class { IsClass class }
+        requires running { IsRunning (parts_of self.old) }
+        requires empty { (cache_at (parts_of self.old).caches class).count ≡ 0 }
+        ensures ok { IfOk result (λ some. FindsFree class some
+            (parts_of self.old) (parts_of self.new)) }
+        ensures fills { OnOk result (Fills class (parts_of self.old) (parts_of self.new)) }
+        ensures goes { OnOk result (Goes 4203
+            (parts_of self.old).words (parts_of self.new).words) }
+        ensures stopped { IfErr result (λ e. Halts e.step 4203
+            (parts_of self.old).words (parts_of self.new).words) }
+        ensures serves { Serves (held_in (parts_of self.old))
+            (parts_of self.old) (parts_of self.new) }
+        ensures held { held_in (parts_of self.new) ≡ held_in (parts_of self.old) }
+        ensures taken { (parts_of self.new).taken ≡ (parts_of self.old).taken }
+    {
+        let ticket = self.medium.next_ticket();
+        let popped = self.medium.pop(self.geometry, 0)?;
+        self.head_looks[0] = Look::by(popped.head, ticket, self.taken);
+        let Some(d) = popped.first else {
+            return Ok(false);
+        };
+        self.cut(d, class)?;
+        Ok(true)
+    }
+
+    /// Cuts a superblock that was never taken for the class.
+    fn cut_fresh(&mut self, class: u8) -> Result<bool, Stopped>
+        requires class { IsClass class }
+        requires running { IsRunning (parts_of self.old) }
+        requires empty { (cache_at (parts_of self.old).caches class).count ≡ 0 }
+        ensures ok { IfOk result (λ some. FindsFresh class some
+            (parts_of self.old) (parts_of self.new)) }
+        ensures fills { OnOk result (Fills class (parts_of self.old) (parts_of self.new)) }
+        ensures goes { OnOk result (Goes 4204
+            (parts_of self.old).words (parts_of self.new).words) }
+        ensures stopped { IfErr result (λ e. Halts e.step 4204
+            (parts_of self.old).words (parts_of self.new).words) }
+        ensures serves { Serves (held_in (parts_of self.old))
+            (parts_of self.old) (parts_of self.new) }
+        ensures held { held_in (parts_of self.new) ≡ held_in (parts_of self.old) }
+        ensures few { (parts_of self.new).taken ≤ (parts_of self.old).taken + 1 }
+    {
+        let ticket = self.medium.next_ticket();
+        let fresh = self.medium.take_fresh(self.geometry, 1)?;
+        self.used_look = Look::by(fresh.used, ticket, self.taken);
+        let Some(d) = fresh.first else {
+            return Ok(false);
+        };
+        self.taken += 1;
+        self.cut(d, class)?;
+        Ok(true)
     }
 
     /// Cuts superblock `d` into blocks of the class, which are all cached.
-    fn cut(&mut self, d: u64, class: u8) -> Result<(), Stopped> {
+    fn cut(&mut self, d: u64, class: u8) -> Result<(), Stopped>
+        requires class { IsClass class }
+        requires open { IsOpen (parts_of self.old).capacity (parts_of self.old).words }
+        requires superblock { d < (parts_of self.old).capacity }
+        requires caches { length (parts_of self.old).caches ≡ 21 }
+        requires sizes { length (parts_of self.old).blocks.words.items ≡ (parts_of self.old).capacity }
+        requires none { (mark : ℕ) → IsMarked (parts_of self.old).blocks.marks.items mark
+            → mark / 4096 ≢ d }
+        ensures ok { OnOk result (Cuts class d (parts_of self.old) (parts_of self.new)) }
+        ensures stopped { IfErr result (λ e. Halts e.step 4200
+            (parts_of self.old).words (parts_of self.new).words) }
+        ensures others { StoresOnly (IsDivideWord (parts_of self.old).capacity d)
+            (parts_of self.old).words (parts_of self.new).words }
+        ensures same { SameBut (parts_of self.old) (parts_of self.new) }
+    {
         self.medium.divide(self.geometry, d, class)?;
         self.held.divide(d, size_of(class) / WORD_BYTES);
         self.caches[class as usize] = Cache {

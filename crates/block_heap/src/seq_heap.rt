@@ -63,13 +63,19 @@ impl From<AllocError> for DrainFault {
 }
 
 impl<C: Chance> SeqHeap<C> {
+    ghost use Rattle.std.specs.Prelude.{◌<◌, ◌^◌, IfOk};
+    ghost use Rattle.block_heap.specs.Closing.{IsOpened};
+
     /// Opens the heap with a budget of so many steps.
     pub fn new(
         alloc: Global,
         heap: Ready,
         budget: u64,
         chance: C,
-    ) -> Result<SeqHeap<C>, AllocError> {
+    ) -> Result<SeqHeap<C>, AllocError>
+        requires { budget < 2 ^ 40 }
+        ensures { IfOk result (λ s. IsOpened heap.words heap.held budget s) }
+    {
         Ok(SeqHeap {
             arena: Arena::new(alloc, heap, budget, chance)?,
             stopped: None,

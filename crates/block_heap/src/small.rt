@@ -9,17 +9,44 @@ use line_memory::{Chance, Stopped};
 use size_table::{blocks_of, size_of};
 use super_block::{SUPERBLOCK_WORDS, WORD_BYTES};
 
-/// Blocks at the front of a cache that lie in one superblock, and the cache behind them.
+/// Blocks at the front of a cache that lie in superblock `d`, and the cache behind them.
 #[derive(Clone, Copy, Debug, PartialEq, Eq)]
-struct Front {
-    d: u64,
-    batch: Batch,
-    rest: Cache,
+pub(crate) struct Front {
+    pub(crate) d: u64,
+    pub(crate) batch: Batch,
+    pub(crate) rest: Cache,
 }
 
 impl<C: Chance> Arena<C> {
+    ghost use Rattle.std.specs.Prelude.{◌≡◌, ◌<◌, ◌≤◌, ◌+◌, ◌-◌, ◌*◌, ◌/◌, Contains, IfOk, OnOk, IfErr, OnErr};
+    ghost use Rattle.heap_model.specs.Geometry.{start_word};
+    ghost use Rattle.heap_model.specs.Sizes.{IsClass, words_of_class, blocks_of};
+    ghost use Rattle.heap_shape.specs.Moves.{TakesFrom};
+    ghost use Rattle.block_heap.specs.Medium.{Goes, Halts};
+    ghost use Rattle.block_heap.specs.Parts.{parts_of, held_in, cache_at};
+    ghost use Rattle.block_heap.specs.Running.{IsRunning, AreShort, Serves};
+    ghost use Rattle.block_heap.specs.Steps.{HandsOut};
+    ghost use Rattle.block_heap.specs.Flush.{IsFront, KeepsAll, GivesBack};
+
     /// Hands out the first block of the cache, which has one.
-    pub(crate) fn hand_out(&mut self, class: u8) -> Result<Block, Stopped> {
+    pub(crate) fn hand_out(&mut self, class: u8) -> Result<Block, Stopped>
+        requires class { IsClass class }
+        requires running { IsRunning (parts_of self.old) }
+        requires some { 1 ≤ (cache_at (parts_of self.old).caches class).count }
+        ensures ok { IfOk result (λ b. HandsOut class b
+            (parts_of self.old) (parts_of self.new)) }
+        ensures goes { OnOk result (Goes 1
+            (parts_of self.old).words (parts_of self.new).words) }
+        ensures stopped { IfErr result (λ e. Halts e.step 1
+            (parts_of self.old).words (parts_of self.new).words) }
+        ensures serves { Serves (held_in (parts_of self.old))
+            (parts_of self.old) (parts_of self.new) }
+        ensures held { OnErr result
+            (held_in (parts_of self.new) ≡ held_in (parts_of self.old)) }
+        ensures taken { (parts_of self.new).taken ≡ (parts_of self.old).taken }
+        ensures looks { ((parts_of self.new).used_look ≡ (parts_of self.old).used_look)
+            × ((parts_of self.new).head_looks ≡ (parts_of self.old).head_looks) }
+    {
         let cache = self.caches[class as usize];
         let next = self.medium.load(cache.first)?;
         self.caches[class as usize] = Cache {
@@ -31,7 +58,23 @@ impl<C: Chance> Arena<C> {
     }
 
     /// Frees a held block of the class.
-    pub(crate) fn free_small(&mut self, b: Block, class: u8) -> Result<(), Stopped> {
+    pub(crate) fn free_small(&mut self, b: Block, class: u8) -> Result<(), Stopped>
+        requires class { IsClass class }
+        requires running { IsRunning (parts_of self.old) }
+        requires short { AreShort (parts_of self.old) 0 }
+        requires holds { Contains (held_in (parts_of self.old)) b }
+        requires size { b.words ≡ words_of_class class }
+        ensures running { OnOk result (IsRunning (parts_of self.new)) }
+        ensures short { OnOk result (AreShort (parts_of self.new) 0) }
+        ensures goes { OnOk result (Goes 40000
+            (parts_of self.old).words (parts_of self.new).words) }
+        ensures stopped { IfErr result (λ e. Halts e.step 40000
+            (parts_of self.old).words (parts_of self.new).words) }
+        ensures freed { TakesFrom b (held_in (parts_of self.old)) (held_in (parts_of self.new)) }
+        ensures serves { Serves (held_in (parts_of self.new))
+            (parts_of self.old) (parts_of self.new) }
+        ensures taken { (parts_of self.new).taken ≡ (parts_of self.old).taken }
+    {
         let cache = self.caches[class as usize];
         self.held.remove(b.first_word);
         self.medium.store(b.first_word, cache.first)?;
@@ -46,7 +89,24 @@ impl<C: Chance> Arena<C> {
     }
 
     /// Gives all blocks of the cache back to their superblocks.
-    fn flush(&mut self, class: u8) -> Result<(), Stopped> {
+    fn flush(&mut self, class: u8) -> Result<(), Stopped>
+        requires class { IsClass class }
+        requires running { IsRunning (parts_of self.old) }
+        ensures running { OnOk result (IsRunning (parts_of self.new)) }
+        ensures empty { OnOk result ((cache_at (parts_of self.new).caches class).count ≡ 0) }
+        ensures keeps { OnOk result (KeepsAll class (parts_of self.old) (parts_of self.new)) }
+        ensures few { (parts_of self.new).words.drawn
+            ≤ (parts_of self.old).words.drawn
+            + 9 * (cache_at (parts_of self.old).caches class).count }
+        ensures below { OnOk result ((parts_of self.new).words.drawn
+            ≤ (parts_of self.new).words.budget) }
+        ensures stopped { IfErr result (λ e. Halts e.step 36864
+            (parts_of self.old).words (parts_of self.new).words) }
+        ensures held { held_in (parts_of self.new) ≡ held_in (parts_of self.old) }
+        ensures serves { Serves (held_in (parts_of self.old))
+            (parts_of self.old) (parts_of self.new) }
+        ensures taken { (parts_of self.new).taken ≡ (parts_of self.old).taken }
+    {
         while self.caches[class as usize].count > 0 {
             let front = self.front(class)?;
             self.give(class, front)?;
@@ -55,7 +115,24 @@ impl<C: Chance> Arena<C> {
     }
 
     /// The longest front of the cache, which is not empty, that lies in one superblock.
-    fn front(&mut self, class: u8) -> Result<Front, Stopped> {
+    fn front(&mut self, class: u8) -> Result<Front, Stopped>
+        requires class { IsClass class }
+        requires running { IsRunning (parts_of self.old) }
+        requires some { 1 ≤ (cache_at (parts_of self.old).caches class).count }
+        ensures ok { IfOk result (λ front. IsFront class front (parts_of self.new)) }
+        ensures running { OnOk result (IsRunning (parts_of self.new)) }
+        ensures keeps { OnOk result (KeepsAll class (parts_of self.old) (parts_of self.new)) }
+        ensures caches { (parts_of self.new).caches ≡ (parts_of self.old).caches }
+        ensures goes { IfOk result (λ front. Goes front.batch.count
+            (parts_of self.old).words (parts_of self.new).words) }
+        ensures stopped { IfErr result (λ e.
+            Halts e.step (cache_at (parts_of self.old).caches class).count
+            (parts_of self.old).words (parts_of self.new).words) }
+        ensures held { held_in (parts_of self.new) ≡ held_in (parts_of self.old) }
+        ensures serves { Serves (held_in (parts_of self.old))
+            (parts_of self.old) (parts_of self.new) }
+        ensures taken { (parts_of self.new).taken ≡ (parts_of self.old).taken }
+    {
         let cache = self.caches[class as usize];
         let d = self.superblock_of(cache.first);
         let mut last = cache.first;
@@ -83,7 +160,22 @@ impl<C: Chance> Arena<C> {
 
     /// Gives the front of the cache back. A superblock that was full goes to a list: that of the
     /// free ones if all its blocks are given, else that of the class.
-    fn give(&mut self, class: u8, front: Front) -> Result<(), Stopped> {
+    fn give(&mut self, class: u8, front: Front) -> Result<(), Stopped>
+        requires class { IsClass class }
+        requires running { IsRunning (parts_of self.old) }
+        requires front { IsFront class front (parts_of self.old) }
+        ensures running { OnOk result (IsRunning (parts_of self.new)) }
+        ensures gives { OnOk result (GivesBack class front
+            (parts_of self.old) (parts_of self.new)) }
+        ensures goes { OnOk result (Goes 6
+            (parts_of self.old).words (parts_of self.new).words) }
+        ensures stopped { IfErr result (λ e. Halts e.step 6
+            (parts_of self.old).words (parts_of self.new).words) }
+        ensures held { held_in (parts_of self.new) ≡ held_in (parts_of self.old) }
+        ensures serves { Serves (held_in (parts_of self.old))
+            (parts_of self.old) (parts_of self.new) }
+        ensures taken { (parts_of self.new).taken ≡ (parts_of self.old).taken }
+    {
         let anchor = self.medium.give_blocks(self.geometry, front.d, class, front.batch)?;
         self.caches[class as usize] = front.rest;
         if anchor.state == State::Full {
@@ -95,7 +187,10 @@ impl<C: Chance> Arena<C> {
     }
 
     /// The superblock that has the word.
-    pub(crate) fn superblock_of(&self, word: u64) -> u64 {
+    pub(crate) fn superblock_of(&self, word: u64) -> u64
+        requires { start_word (parts_of self.now).capacity 0 ≤ word }
+        ensures { result ≡ (word - start_word (parts_of self.now).capacity 0) / 8192 }
+    {
         (word - self.geometry.start(0)) / SUPERBLOCK_WORDS
     }
 }

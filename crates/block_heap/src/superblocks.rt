@@ -12,10 +12,11 @@ pub(crate) struct Fresh {
 }
 
 impl<C: Chance> Medium<C> {
-    ghost use Rattle.std.specs.Prelude.{◌≡◌, ◌<◌, ◌≤◌, IfOk, OnOk, IfErr};
+    ghost use Rattle.std.specs.Prelude.{◌≡◌, ◌<◌, ◌≤◌, ◌+◌, IfOk, OnOk, IfErr};
     ghost use Rattle.heap_model.specs.Geometry.{used_word, info_word, largest_capacity};
     ghost use Rattle.heap_model.specs.Words.{large_info};
     ghost use Rattle.line_memory.specs.View.{volatile_at};
+    ghost use Rattle.line_memory.specs.Crash.{MayStore};
     ghost use Rattle.block_heap.specs.MediumView.{medium_view};
     ghost use Rattle.block_heap.specs.Medium.{StoresOnly, Halts, IsPersisted};
     ghost use Rattle.block_heap.specs.Links.{IsOpen, IsFresh};
@@ -29,6 +30,8 @@ impl<C: Chance> Medium<C> {
         ensures stopped { IfErr result (λ e. Halts e.step 4
             (medium_view self.old) (medium_view self.new)) }
         ensures others { StoresOnly (λ word. word ≡ used_word)
+            (medium_view self.old) (medium_view self.new) }
+        ensures crash { MayStore used_word (volatile_at (medium_view self.old) used_word + count)
             (medium_view self.old) (medium_view self.new) }
     {
         let used = self.load(USED_WORD)?;

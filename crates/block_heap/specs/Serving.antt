@@ -1,0 +1,112 @@
+-- What requests make of the parts of a heap.
+use Rattle.std.specs.Prelude.{◌≡◌, ◌≢◌, ℕ, ◌+◌, ◌*◌, ◌<◌, ◌≤◌, ◌⊎◌, Option, None, Some, MatchOption, Contains}
+use Rattle.heap_model.specs.declared.block.Block.{Block}
+use Rattle.heap_model.specs.Geometry.{used_word}
+use Rattle.heap_model.specs.Sizes.{IsLeastClassFor, largest_small, span_of, words_of_class}
+use Rattle.heap_model.specs.Words.{head_first}
+use Rattle.heap_shape.specs.Moves.{AddsTo, TakesFrom}
+use Rattle.heap_shape.specs.Draining.{IsToDrain, IsTidy, DrainsOne}
+use Rattle.block_heap.specs.declared.fault.Looks.{Looks}
+use Rattle.block_heap.specs.declared.look.Look.{Look}
+use Rattle.block_heap.specs.Alloc.{IsSizeFor}
+use Rattle.block_heap.specs.Parts.{Parts, image_of, held_in, cache_at}
+use Rattle.block_heap.specs.Running.{IsRunning, AreShort}
+use Rattle.block_heap.specs.Steps.{head_at, IsEmptyList, look_at, IsLook}
+
+-- a request of a class finds blocks: in the cache, in a list, or where none were taken yet
+pub data HasRoom (p : Parts) (class : ℕ) : Type 0 where
+  in_cache : 1 ≤ (cache_at p.caches class).count → HasRoom p class
+  in_class_list : (IsEmptyList p class → ⊥) → HasRoom p class
+  in_free_list : (IsEmptyList p 0 → ⊥) → HasRoom p class
+  in_fresh : image_of p used_word + 1 ≤ p.capacity → HasRoom p class
+
+-- a request finds room: one of a class as above, a large one where enough superblocks were never taken
+pub data HasRoomFor (p : Parts) (bytes : ℕ) : Type 0 where
+  for_class : (class : ℕ) → IsLeastClassFor bytes class → HasRoom p class → HasRoomFor p bytes
+  for_large : largest_small < bytes → image_of p used_word + span_of bytes ≤ p.capacity → HasRoomFor p bytes
+
+-- what a refused request of a class read: both lists were empty, and every superblock was taken
+pub record LookedInClass (class : ℕ) (from : ℕ) (q : Parts) : Type 0 where
+  pub class_look : IsLook from q (look_at q class) (head_at q class)
+  pub class_empty : IsEmptyList q class
+  pub free_look : IsLook from q (look_at q 0) (head_at q 0)
+  pub free_empty : IsEmptyList q 0
+  pub used_look : IsLook from q q.used_look (image_of q used_word)
+  pub past : q.capacity < image_of q used_word + 1
+
+-- and what a large one read
+pub record LookedAtUsed (count : ℕ) (from : ℕ) (q : Parts) : Type 0 where
+  pub used_look : IsLook from q q.used_look (image_of q used_word)
+  pub past : q.capacity < image_of q used_word + count
+
+-- a request of a class found no room
+pub record FindsNone (class : ℕ) (p q : Parts) : Type 0 where
+  pub looked : LookedInClass class p.words.drawn q
+  pub none : HasRoom p class → ⊥
+  pub empty : (cache_at q.caches class).count ≡ 0
+  pub taken : q.taken ≡ p.taken
+
+-- the request got the block
+pub record Gets (bytes : ℕ) (b : Block) (p q : Parts) : Type 0 where
+  pub running : IsRunning q
+  pub short : AreShort q 0
+  pub size : IsSizeFor bytes (8 * b.words)
+  pub adds : AddsTo b (held_in p) (held_in q)
+  pub new : Contains (held_in p) b → ⊥
+  pub room : HasRoomFor p bytes
+
+-- a block of the class that draining it was to give
+abbrev pub DrainsTo : ℕ → Block → Parts → Parts → Type 0
+DrainsTo class b p q = IsTidy p.capacity (image_of p) (held_in p) class
+    → IsTidy p.capacity (image_of q) (held_in q) class × IsToDrain p.capacity (image_of p) (held_in p) class b
+    × (IsToDrain p.capacity (image_of q) (held_in q) class b → ⊥)
+    × ((a : Block) → IsToDrain p.capacity (image_of p) (held_in p) class a → (a ≡ b) ⊎ IsToDrain p.capacity (image_of q) (held_in q) class a)
+    × ((a : Block) → IsToDrain p.capacity (image_of q) (held_in q) class a → IsToDrain p.capacity (image_of p) (held_in p) class a)
+
+-- what a request of a class answers: of a block, all that a drain needs too
+pub record MissesInClass (class : ℕ) (p q : Parts) : Type 0 where
+  pub running : IsRunning q
+  pub short : AreShort q 0
+  pub held : held_in q ≡ held_in p
+  pub taken : q.taken ≡ p.taken
+  pub none : HasRoom p class → ⊥
+  pub looked : LookedInClass class p.words.drawn q
+
+pub record GetsInClass (class : ℕ) (b : Block) (p q : Parts) : Type 0 where
+  pub running : IsRunning q
+  pub short : AreShort q 0
+  pub size : b.words ≡ words_of_class class
+  pub adds : AddsTo b (held_in p) (held_in q)
+  pub new : Contains (held_in p) b → ⊥
+  pub room : HasRoom p class
+
+abbrev pub AnswersInClass : ℕ → Option Block → Parts → Parts → Type 0
+AnswersInClass class answer p q = MatchOption answer (MissesInClass class p q) (λ b. GetsInClass class b p q)
+
+-- a drained heap has nothing more to give
+abbrev pub DrainsNone : ℕ → Parts → Type 0
+DrainsNone class p = IsTidy p.capacity (image_of p) (held_in p) class → (b : Block) → IsToDrain p.capacity (image_of p) (held_in p) class b → ⊥
+
+abbrev pub DrainsAs : ℕ → Option Block → Parts → Parts → Type 0
+DrainsAs class answer p q = MatchOption answer (DrainsNone class p) (λ b. DrainsTo class b p q)
+
+-- the request found no room: what it read last was read by it
+pub record Misses (bytes : ℕ) (p q : Parts) : Type 0 where
+  pub running : IsRunning q
+  pub short : AreShort q 0
+  pub held : held_in q ≡ held_in p
+  pub taken : q.taken ≡ p.taken
+  pub none : HasRoomFor p bytes → ⊥
+  pub in_class : (class : ℕ) → IsLeastClassFor bytes class → LookedInClass class p.words.drawn q
+  pub at_used : largest_small < bytes → LookedAtUsed (span_of bytes) p.words.drawn q
+
+-- the answer to a request
+abbrev pub Answers : ℕ → Option Block → Parts → Parts → Type 0
+Answers bytes answer p q = MatchOption answer (Misses bytes p q) (λ b. Gets bytes b p q)
+
+-- the last looks that the answer to a request has
+pub record IsLooksOf (bytes : ℕ) (looks : Looks) (p : Parts) : Type 0 where
+  pub used : looks.used ≡ p.used_look.seen
+  pub class : (class : ℕ) → IsLeastClassFor bytes class → looks.class_head ≡ (look_at p class).seen
+  pub free : bytes ≤ largest_small → looks.free_head ≡ (look_at p 0).seen
+  pub large : largest_small < bytes → (looks.class_head ≡ 0) × (looks.free_head ≡ 0)

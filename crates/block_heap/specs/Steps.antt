@@ -1,0 +1,77 @@
+-- What the parts of a heap are after rows of steps that are done.
+use Rattle.std.specs.Prelude.{◌≡◌, ◌≢◌, ℕ, ◌+◌, ◌*◌, ◌<◌, ◌≤◌, ◌⊎◌, List, ◌∷◌, Option, None, Some, Contains, slice_index_or}
+use Rattle.heap_model.specs.declared.block.Block.{Block}
+use Rattle.heap_model.specs.Geometry.{head_word, link_word, used_word}
+use Rattle.heap_model.specs.Sizes.{IsClass, words_of_class}
+use Rattle.heap_model.specs.Words.{head_first}
+use Rattle.heap_model.specs.Chains.{Follows}
+use Rattle.heap_shape.specs.Moves.{AddsTo}
+use Rattle.heap_shape.specs.Draining.{DrainsSame, DrainsOne}
+use Rattle.block_heap.specs.declared.look.Look.{Look}
+use Rattle.block_heap.specs.declared.refill.Found.{Found}
+use Rattle.block_heap.specs.declared.refill.Found.TheVariants.{Blocks, Recycled, Nothing}
+use Rattle.block_heap.specs.Medium.{Goes}
+use Rattle.block_heap.specs.Parts.{Parts, image_of, held_in, cache_at}
+use Rattle.block_heap.specs.Running.{IsRunning}
+
+abbrev pub head_at : Parts → ℕ → ℕ
+head_at p list = image_of p (head_word list)
+
+-- the list has no descriptor
+abbrev pub IsEmptyList : Parts → ℕ → Type 0
+IsEmptyList p list = head_first (head_at p list) ≡ 0
+
+-- the head leads along these descriptors
+abbrev pub LeadsAlong : Parts → ℕ → List ℕ → Type 0
+LeadsAlong p list ds = Follows (λ d. image_of p (link_word d)) p.capacity (head_first (head_at p list)) ds
+
+abbrev pub look_at : Parts → ℕ → Look
+look_at p list = slice_index_or p.head_looks list (record { seen = 0; ticket = None; taken = 0 })
+
+-- the look was by a ticket from `from` on, saw this word, and no superblock was taken since
+pub record IsLook (from : ℕ) (q : Parts) (look : Look) (seen : ℕ) : Type 0 where
+  pub seen_is : look.seen ≡ seen
+  pub ticket : ℕ
+  pub by : look.ticket ≡ Some ticket
+  pub since : from ≤ ticket
+  pub until : ticket < q.words.drawn
+  pub taken_is : look.taken ≡ q.taken
+
+-- on the way to fill the cache of the class: the parts are right again, and held blocks, what is to be drained and the other caches are as before
+pub record Fills (class : ℕ) (p q : Parts) : Type 0 where
+  pub running : IsRunning q
+  pub held : held_in q ≡ held_in p
+  pub caches : (c : ℕ) → IsClass c → c ≢ class → cache_at q.caches c ≡ cache_at p.caches c
+  pub drains : DrainsSame p.capacity class (held_in p) (image_of p) (image_of q)
+
+-- the list was found empty, and nothing was stored
+pub record FindsEmpty (list : ℕ) (p q : Parts) : Type 0 where
+  pub empty : IsEmptyList p list
+  pub volatile : q.words.volatile ≡ p.words.volatile
+  pub look : IsLook p.words.drawn q (look_at q list) (head_at q list)
+  pub others : (other : ℕ) → other ≢ list → look_at q other ≡ look_at p other
+
+-- its first superblock, with no block in use, went to the free list
+pub record Recycles (class : ℕ) (p q : Parts) : Type 0 where
+  pub some : IsEmptyList p class → ⊥
+  pub now : IsEmptyList q 0 → ⊥
+  pub used : image_of q used_word ≡ image_of p used_word
+  pub shorter : (ds : List ℕ) → LeadsAlong q class ds → (d : ℕ) × LeadsAlong p class (d ∷ ds)
+
+-- what was found first in the list of the class
+abbrev pub FindsFirst : ℕ → Found → Parts → Parts → Type 0
+FindsFirst class Blocks p q = (1 ≤ (cache_at q.caches class).count) × (IsEmptyList p class → ⊥)
+FindsFirst class Recycled p q = ((cache_at q.caches class).count ≡ 0) × Recycles class p q × (q.taken ≡ p.taken)
+FindsFirst class Nothing p q = ((cache_at q.caches class).count ≡ 0) × FindsEmpty class p q × (q.taken ≡ p.taken)
+
+-- a block left the cache of the class and is held
+pub record HandsOut (class : ℕ) (b : Block) (p q : Parts) : Type 0 where
+  pub running : IsRunning q
+  pub size : b.words ≡ words_of_class class
+  pub adds : AddsTo b (held_in p) (held_in q)
+  pub new : Contains (held_in p) b → ⊥
+  pub count : (cache_at q.caches class).count + 1 ≡ (cache_at p.caches class).count
+  pub caches : (c : ℕ) → IsClass c → c ≢ class → cache_at q.caches c ≡ cache_at p.caches c
+  pub drains : DrainsOne p.capacity class (image_of p) (held_in p) (held_in q) b
+  pub volatile : q.words.volatile ≡ p.words.volatile
+  pub taken : q.taken ≡ p.taken
