@@ -29,7 +29,9 @@ def build(room):
     crates = (clone / "crates.txt").read_text()
     below = re.search(r"^tool_run: (.*)$", crates, re.M)[1]
     (clone / "crates.txt").write_text(re.sub(r"^heap_tool: .*$", "heap_tool: tool_run " + below, crates, flags=re.M))
-    subprocess.run(["rt", "run", "--", "trace", room / "full", "1"], cwd=crate, check=True, stdout=subprocess.DEVNULL)
+    made = subprocess.run(["rt", "run", "--", "trace", room / "full", "1"], cwd=crate, capture_output=True, text=True)
+    if made.returncode != 0:
+        sys.exit(made.stdout + made.stderr)
     return crate / "out" / "heap_tool"
 
 
