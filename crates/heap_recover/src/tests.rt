@@ -408,20 +408,21 @@ fn images_of_every_size_are_left_at_rest(rt: HostRuntime) -> Result<(), Fail> {
 #[test]
 fn words_that_nothing_names_do_not_count(rt: HostRuntime) -> Result<(), Fail> {
     let mut words = Vec::new(rt.alloc());
-    for at in (4..40).chain(1_064..17_464) {
+    for at in (4..40).chain(1_064..25_664) {
         words.push((at, u64::MAX))?;
     }
     let named = [
+        // Of three superblocks, the last has not been taken.
         (8, 2),
         (1_064, 12),
         (1_072, 2),
-        (40, 0x5250_0000_0000_21c0),
-        (1_080, 0x5250_0000_0001_21c0),
-        // The second leads to itself.
-        (9_272, 0x5250_0000_0001_21c0),
+        (40, 0x5250_0000_0000_2200),
+        (1_088, 0x5250_0000_0001_2200),
+        // The second block leads to itself.
+        (9_280, 0x5250_0000_0001_2200),
     ];
     words.extend_from_slice(&named)?;
-    let found = at_rest(&rt, 2, &words)?;
+    let found = at_rest(&rt, 3, &words)?;
     assert_eq!(rt; found.heap.held().len(), 2);
     Ok(())
 }
