@@ -1,4 +1,8 @@
 //! An open heap for one thread.
+ghost use Rattle.block_heap.specs.Held.{held_of};
+ghost use Rattle.block_heap.specs.MediumView.{medium_view};
+ghost use Rattle.block_heap.specs.Works.{IsLasting};
+
 use crate::arena::Arena;
 use crate::fault::{AllocFault, Looks};
 use crate::seat::HeapSeat;
@@ -18,6 +22,8 @@ pub struct SeqHeap<C> {
     pub(crate) refusals: u64,
     pub(crate) refused_bytes: u64,
     pub(crate) refused_looks: Looks,
+    ghost lasts: { ∥ IsLasting arena.geometry.capacity (medium_view arena.medium)
+        (held_of arena.held) stopped ∥₁ },
 }
 
 /// Why a class was not drained.
@@ -42,7 +48,8 @@ impl<C> Model for SeqHeap<C> {
         large_calls = s.large_calls;
         refusals = s.refusals;
         refused_bytes = s.refused_bytes;
-        refused_looks = s.refused_looks
+        refused_looks = s.refused_looks;
+        lasts = s.lasts
     } };
 
     ghost invariant = { λ s. IsSeqHeap (record {
@@ -52,7 +59,8 @@ impl<C> Model for SeqHeap<C> {
         large_calls = s.large_calls;
         refusals = s.refusals;
         refused_bytes = s.refused_bytes;
-        refused_looks = s.refused_looks
+        refused_looks = s.refused_looks;
+        lasts = s.lasts
     }) };
 }
 
