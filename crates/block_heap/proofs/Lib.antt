@@ -3,5 +3,6 @@ pub mod CallerLemmas
 pub mod DivideLemmas
 pub mod HeldLemmas
 pub mod MediumLemmas
+pub mod OpeningLemmas
 pub mod StableLemmas
 pub mod RunningLemmas
