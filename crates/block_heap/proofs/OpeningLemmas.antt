@@ -176,3 +176,23 @@ all_held words held h knows holds = record {
     λ p. holds.has b (record { number = p.0; below = p.1; within = p.1; at = p.2 })
   );
 }
+
+-- The next block of a heap at rest: it has a mark, by which it is found, and then one more is held.
+module _ (words : List ℕ) (held : List Block) (count : ℕ) (none : Block) (h : HeldBlocks) (ready : IsReady words held) (within : count < length held)
+    (knows : KnowsFirst words h (capacity_of (slice_index words))) where
+  abbrev next : Block
+  next = get_or held count none
+
+  next_at : get_or held count next ≡ next
+  next_at = get_or_default held count next none within
+
+  next_is : IsBlock (layout_of (slice_index words)) next
+  next_is = ready.blocks next (count, within, next_at)
+
+  pub next_marked : HasMark h next.first_word
+  next_marked = has_mark words h next ready.formed.small ready.formed.used knows next_is
+
+  pub next_held : (new : HeldBlocks) → HoldsFirst held count h → AddsTo (at_mark h next.first_word) (held_of h) (held_of new) → HoldsFirst held (count + 1) new
+  next_held new holds adds =
+      let finds = mark_finds words h next ready.formed.small ready.formed.used knows next_is in
+      holds_more held count h new next holds within next_at (subst (λ b. AddsTo b (held_of h) (held_of new)) finds adds)
