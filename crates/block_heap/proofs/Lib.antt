@@ -4,5 +4,6 @@ pub mod DivideLemmas
 pub mod HeldLemmas
 pub mod MediumLemmas
 pub mod OpeningLemmas
+pub mod OpenedLemmas
 pub mod StableLemmas
 pub mod RunningLemmas
