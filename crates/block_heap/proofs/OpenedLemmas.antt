@@ -1,9 +1,9 @@
 -- A heap that was opened at rest runs.
-use Rattle.std.proofs.Common.{◌≡◌, ℕ, ◌+◌, ◌*◌, ◌<◌, ◌≤◌, ◌^◌, List, [], ◌∷◌, length, get_or, replicate, Contains, refl, ap, sym, subst, ◌∙◌, arith, inl, inr}
+use Rattle.std.proofs.Common.{◌≡◌, ℕ, ◌+◌, ◌*◌, ◌<◌, ◌≤◌, ◌^◌, List, [], ◌∷◌, length, get_or, replicate, refl, ap, sym, subst, ◌∙◌, arith}
 use Rattle.std.specs.Prelude.{slice_index}
 use Rattle.std.proofs.lemmas.List.{get_or_default, length-replicate, get_or-replicate}
 use Rattle.heap_model.specs.declared.block.Block.{Block}
-use Rattle.heap_model.specs.Geometry.{lists, head_word, link_word, info_word, used_word}
+use Rattle.heap_model.specs.Geometry.{lists, head_word, link_word, used_word}
 use Rattle.heap_model.specs.Image.{Image}
 use Rattle.heap_model.specs.Header.{capacity_of}
 use Rattle.heap_model.specs.Sizes.{IsClass}
@@ -21,10 +21,9 @@ use Rattle.block_heap.specs.declared.cache.Cache.{Cache}
 use Rattle.block_heap.specs.declared.held.HeldBlocks.{HeldBlocks}
 use Rattle.block_heap.specs.declared.look.Look.{Look}
 use Rattle.block_heap.specs.Held.{held_of}
-use Rattle.block_heap.specs.Links.{IsOpen}
 use Rattle.block_heap.specs.Opening.{IsHeldOf, Opens}
 use Rattle.block_heap.specs.Parts.{Parts, cache_at}
-use Rattle.block_heap.specs.Running.{IsCacheOf, KnowsSizes, IsRunning}
+use Rattle.block_heap.specs.Running.{IsCacheOf, IsRunning}
 
 -- caches that are empty may begin anywhere
 begins_anywhere : (capacity : ℕ) (image : Image) (held : List Block) (s : Shape) → ((class : ℕ) → s.cached class ≡ []) → IsShape capacity image held s
@@ -141,9 +140,7 @@ module _ (words : List ℕ) (held : List Block) (budget : ℕ) (h : HeldBlocks) 
 
   -- with words and capacity that are told by equations
   pub opens_with : (v : View) (capacity : ℕ) → v ≡ opened words budget → capacity ≡ capacity_of (slice_index words)
-      → Opens words held budget (record { words = v; capacity = capacity; caches = caches; blocks = h; taken = 0; used_look = look; head_looks = looks })
+      → Opens words held budget (record parts { words = v; capacity = capacity })
   opens_with v capacity words_are capacity_is =
-      subst (λ v. Opens words held budget (record { words = v; capacity = capacity; caches = caches; blocks = h; taken = 0; used_look = look; head_looks = looks }))
-          (sym words_are)
-      (subst (λ n. Opens words held budget (record { words = opened words budget; capacity = n; caches = caches; blocks = h; taken = 0; used_look = look; head_looks = looks }))
-          (sym capacity_is) opens_parts)
+      subst (λ v. Opens words held budget (record parts { words = v; capacity = capacity })) (sym words_are)
+      (subst (λ n. Opens words held budget (record parts { capacity = n })) (sym capacity_is) opens_parts)

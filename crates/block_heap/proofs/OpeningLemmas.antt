@@ -1,6 +1,6 @@
--- How a heap at rest is opened: the size of blocks by superblock, held blocks by marks, and that it runs.
-use Rattle.std.proofs.Common.{◌≡◌, ◌≢◌, ℕ, zero, suc, ◌+◌, ◌-◌, ◌*◌, ◌/◌, ◌%◌, ◌<◌, ◌≤◌, ◌⊎◌, inl, inr, nat_eq, List, [], ◌∷◌, length, length-set, get_or, set, Contains, refl, ap, sym, subst, ◌∙◌, arith, get_or-set_same, get_or-set_other}
-use Rattle.std.specs.Prelude.{slice_index, ◌↔◌}
+-- How a heap at rest is opened: the size of blocks by superblock, and held blocks by marks.
+use Rattle.std.proofs.Common.{◌≡◌, ℕ, zero, suc, ◌+◌, ◌-◌, ◌*◌, ◌/◌, ◌%◌, ◌<◌, ◌≤◌, inl, inr, nat_eq, List, [], length, length-set, get_or, set, Contains, refl, ap, sym, subst, ◌∙◌, arith, get_or-set_same, get_or-set_other}
+use Rattle.std.specs.Prelude.{slice_index}
 use Rattle.std.proofs.Math.Nat.{zero-mul}
 use Rattle.std.proofs.lemmas.List.{get_or_default}
 use Rattle.std.proofs.lemmas.Bool.{cases_eq, eqb-true}
@@ -9,7 +9,7 @@ use Rattle.heap_model.specs.Geometry.{info_word, start_word, superblock_words}
 use Rattle.heap_model.specs.Header.{capacity_of, used_of}
 use Rattle.heap_model.specs.Sizes.{IsClass, class_sizes, size_of, words_of_class}
 use Rattle.heap_model.specs.Words.{large_info}
-use Rattle.heap_model.specs.Blocks.{Layout, Begins, of_class, as_large, IsBlock, layout_of}
+use Rattle.heap_model.specs.Blocks.{Begins, of_class, as_large, IsBlock, layout_of}
 use Rattle.heap_model.specs.Rest.{IsReady}
 use Rattle.heap_model.proofs.SizeLemmas.{at_class}
 use Rattle.heap_model.proofs.PartLemmas.{same_fields}
@@ -73,13 +73,15 @@ knows_more words h new d size knows within begun start sizes = record {
         subst (λ x. IsBegun (slice_index words (info_word x)) (slice_index new.words.items x)) (sym same)
             (subst (λ s. IsBegun (slice_index words (info_word d)) s) (sym here) begun)
     | inr other ↦
-        let there : slice_index new.words.items e ≡ slice_index h.words.items e = ap (λ xs. get_or xs e 0) sizes ∙ get_or-set_other h.words.items d e size 0 other in
+        let there : slice_index new.words.items e ≡ slice_index h.words.items e =
+            ap (λ xs. get_or xs e 0) sizes ∙ get_or-set_other h.words.items d e size 0 other in
         subst (λ s. IsBegun (slice_index words (info_word e)) s) (sym there) (knows.sizes e (omega arith))
   ];
 }
 
 -- held blocks with the same sizes know as much
-pub knows_same : (words : List ℕ) (h new : HeldBlocks) (count : ℕ) → new.start ≡ h.start → new.words.items ≡ h.words.items → KnowsFirst words h count → KnowsFirst words new count
+pub knows_same : (words : List ℕ) (h new : HeldBlocks) (count : ℕ) → new.start ≡ h.start → new.words.items ≡ h.words.items → KnowsFirst words h count
+    → KnowsFirst words new count
 knows_same words h new count start sizes knows = record {
   start = start ∙ knows.start;
   long = ap length sizes ∙ knows.long;
@@ -87,7 +89,8 @@ knows_same words h new count start sizes knows = record {
 }
 
 -- A block of the image, whose superblock's sizes are known.
-module _ (words : List ℕ) (h : HeldBlocks) (b : Block) (small : capacity_of (slice_index words) ≤ 256) (used : used_of (slice_index words) ≤ capacity_of (slice_index words))
+module _ (words : List ℕ) (h : HeldBlocks) (b : Block)
+    (small : capacity_of (slice_index words) ≤ 256) (used : used_of (slice_index words) ≤ capacity_of (slice_index words))
     (knows : KnowsFirst words h (capacity_of (slice_index words))) (is : IsBlock (layout_of (slice_index words)) b) where
   abbrev capacity : ℕ
   capacity = capacity_of (slice_index words)
@@ -96,14 +99,16 @@ module _ (words : List ℕ) (h : HeldBlocks) (b : Block) (small : capacity_of (s
   begins = block_begins (layout_of (slice_index words)) b is.superblock is.index is.words is.count is.is_of
 
   -- it begins an even number of words behind the superblock's first one, and the size is known
-  by_begins : (d w n k : ℕ) → Begins (layout_of (slice_index words)) d w n → d < used_of (slice_index words) → k < n → ((k * w) % 2 ≡ 0) × (slice_index h.words.items d ≡ w)
+  by_begins : (d w n k : ℕ) → Begins (layout_of (slice_index words)) d w n → d < used_of (slice_index words) → k < n
+      → ((k * w) % 2 ≡ 0) × (slice_index h.words.items d ≡ w)
   by_begins d w n k (of_class c info is_class) taken below =
       let begun : IsBegun c (slice_index h.words.items d) = subst (λ i. IsBegun i (slice_index h.words.items d)) info (knows.sizes d (omega arith)) in
       (even_product k w (even_words c is_class), begun.of_class is_class)
   by_begins d w n k (as_large m some info end zeros) taken below =
       let first : k ≡ 0 = omega arith in
       let begun = knows.sizes d (omega arith) in
-      (subst (λ x. (x * (superblock_words * m)) % 2 ≡ 0) (sym first) (even_product 0 (superblock_words * m) (omega arith)), begun.as_large m some (omega arith) info)
+      let none = even_product 0 (superblock_words * m) (omega arith) in
+      (subst (λ x. (x * (superblock_words * m)) % 2 ≡ 0) (sym first) none, begun.as_large m some (omega arith) info)
 
   sized : ((is.index * is.words) % 2 ≡ 0) × (slice_index h.words.items is.superblock ≡ is.words)
   sized = by_begins is.superblock is.words is.count is.index is.is_of.begins is.is_of.taken is.is_of.below

@@ -1,9 +1,7 @@
-use Rattle.std.proofs.Common.{◌≡◌, ◌∙◌, List, length, get_or, replicate, ap, arith}
+use Rattle.std.proofs.Common.{◌≡◌, ◌∙◌, length, get_or, replicate, ap, arith}
 use Rattle.std.specs.Prelude.{slice_index}
 use Rattle.heap_model.specs.Geometry.{lists, used_word}
-use Rattle.line_memory.specs.View.{View, opened}
-use Rattle.block_heap.specs.declared.cache.Cache.{Cache}
-use Rattle.block_heap.specs.declared.look.Look.{Look}
+use Rattle.line_memory.specs.View.{opened}
 use Rattle.block_heap.specs.MediumView.{medium_view}
 use Rattle.block_heap.specs.Opening.{IsHeldOf}
 use Rattle.block_heap.proofs.OpenedLemmas.{no_cache, used_there, opens_with}
