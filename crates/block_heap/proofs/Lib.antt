@@ -3,6 +3,8 @@ pub mod CallerLemmas
 pub mod DivideLemmas
 pub mod HeldLemmas
 pub mod MediumLemmas
+pub mod OpeningLemmas
+pub mod OpenedLemmas
 pub mod StableLemmas
 pub mod RunningLemmas
 pub mod SeatLemmas
