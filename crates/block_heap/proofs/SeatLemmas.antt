@@ -1,7 +1,7 @@
 -- What the small calls of a heap for one thread leave.
 use Rattle.std.proofs.Common.{◌≡◌, ◌≢◌, ℕ, ◌+◌, ◌*◌, ◌<◌, ◌≤◌, ◌⊎◌, inl, inr, Option, None, Some, Result, Ok, Err, OnOk, IfOk, IfErr, List, length, get_or, get_or-set_same, Contains, refl, ap, sym, subst, ◌∙◌, arith}
 use Rattle.heap_model.specs.Geometry.{info_word, used_word, image_words}
-use Rattle.line_memory.specs.View.{View, word_count, volatile_at, durable_at}
+use Rattle.line_memory.specs.View.{View, word_count, volatile_at, durable_at, line_of}
 use Rattle.line_memory.specs.declared.memory.Stopped.{Stopped}
 use Rattle.block_heap.specs.Medium.{StoresOnly, Goes, Halts, IsLoaded, IsStored, IsWritten}
 use Rattle.block_heap.specs.Parts.{Parts, held_in}
@@ -10,8 +10,9 @@ use Rattle.block_heap.specs.Works.{IsLasting}
 use Rattle.block_heap.specs.SeqState.{SeqState, IsSeqHeap, all_roots, seat_of}
 use Rattle.block_heap.specs.Words.{IsOwn, in_block, in_root, IsOwnSpot}
 use Rattle.block_heap.specs.declared.spot.Spot.{Spot}
-use Rattle.block_heap.specs.View.{word_of}
-use Rattle.block_heap.specs.Calls.{Loads, Stores, WritesBack}
+use Rattle.block_heap.specs.declared.spot.Spot.TheVariants.{InBlock, Root}
+use Rattle.block_heap.specs.View.{View as SeatView, word_of}
+use Rattle.block_heap.specs.Calls.{Loads, Stores, WritesBack, IsWrittenWith}
 use Rattle.block_heap.specs.Tickets.{Runs}
 use Rattle.block_heap.specs.Stable.{root_below, lies}
 use Rattle.block_heap.proofs.CallerLemmas.{own_spot}
@@ -88,31 +89,63 @@ own_within s spot heap ran own =
     let long : word_count s.parts.words ≡ image_words s.parts.capacity = (heap.running ran).0.words_open.long in
     omega arith
 
--- the heap after a small call
-abbrev pub after_small : (s : SeqState) (w : View) (o : Option ℕ) → ∥ IsLasting s.parts.capacity w (held_in s.parts) o ∥₁ → SeqState
-after_small s w o l = record { parts = record s.parts { words = w }; stopped = o; small_calls = s.small_calls + 1; large_calls = s.large_calls; refusals = s.refusals; refused_bytes = s.refused_bytes; refused_looks = s.refused_looks; lasts = l }
+-- what contracts see after a small call
+abbrev pub small_view : SeqState → View → Option ℕ → SeatView
+small_view s w o = record (seat_of s) {
+  volatile = λ word. Some (volatile_at w word);
+  durable = λ word. Some (durable_at w word);
+  pending = w.pending;
+  budget = w.budget;
+  next = w.drawn;
+  stopped = o;
+  small_calls = s.small_calls + 1;
+}
 
 -- a call that was done
-runs_of : (s : SeqState) (w : View) (o : Option ℕ) (l : ∥ IsLasting s.parts.capacity w (held_in s.parts) o ∥₁) → s.stopped ≡ None → o ≡ None → Goes 1 s.parts.words w → Runs (seat_of s) (seat_of (after_small s w o l))
-runs_of s w o l ran runs goes = record { ran = ran; running = runs; drew = goes.drew; below = goes.below }
+runs_of : (s : SeqState) (w : View) (o : Option ℕ) → s.stopped ≡ None → o ≡ None → Goes 1 s.parts.words w → Runs (seat_of s) (small_view s w o)
+runs_of s w o ran runs goes = record { ran = ran; running = runs; drew = goes.drew; below = goes.below }
 
-pub load_ok : (r : Result ℕ Stopped) (s : SeqState) (w : View) (o : Option ℕ) (l : ∥ IsLasting s.parts.capacity w (held_in s.parts) o ∥₁) (word : ℕ) → IsSeqHeap s → s.stopped ≡ None → OnOk r (o ≡ None)
-    → IfOk r (λ value. IsLoaded word value s.parts.words w) → IfOk r (λ value. Loads word value (seat_of s) (seat_of (after_small s w o l)))
-load_ok (Ok value) s w o l word heap ran runs loaded = record {
-  runs = runs_of s w o l ran runs loaded.goes;
+pub load_ok : (r : Result ℕ Stopped) (s seen : SeqState) (w : View) (o : Option ℕ) (word : ℕ) → IsSeqHeap s → s ≡ seen → seen.stopped ≡ None → OnOk r (o ≡ None)
+    → IfOk r (λ value. IsLoaded word value s.parts.words w) → IfOk r (λ value. Loads word value (seat_of seen) (small_view s w o))
+load_ok (Ok value) s seen w o word heap same ran runs loaded = subst (λ t. Loads word value (seat_of t) (small_view s w o)) same (record {
+  runs = runs_of s w o (ap (λ (t : SeqState). t.stopped) same ∙ ran) runs loaded.goes;
   seen = ap Some (ap (λ xs. get_or xs word 0) loaded.volatile ∙ sym loaded.seen);
   pending = λ other p. subst (λ xs. Contains xs other) (sym loaded.pending) p;
-}
-load_ok (Err e) s w o l word heap ran runs loaded = tt
+})
+load_ok (Err e) s seen w o word heap same ran runs loaded = tt
 
-pub store_ok : (r : Result Unit Stopped) (s : SeqState) (w : View) (o : Option ℕ) (l : ∥ IsLasting s.parts.capacity w (held_in s.parts) o ∥₁) (word value : ℕ) → IsSeqHeap s → word < word_count s.parts.words → s.stopped ≡ None → OnOk r (o ≡ None)
-    → OnOk r (IsStored word value s.parts.words w) → OnOk r (Stores word value (seat_of s) (seat_of (after_small s w o l)))
-store_ok (Ok t) s w o l word value heap within ran runs stored = record {
-  runs = runs_of s w o l ran runs stored.goes;
+pub store_ok : (r : Result Unit Stopped) (s seen : SeqState) (w : View) (o : Option ℕ) (word value : ℕ) → IsSeqHeap s → s ≡ seen → word < word_count s.parts.words → seen.stopped ≡ None → OnOk r (o ≡ None)
+    → OnOk r (IsStored word value s.parts.words w) → OnOk r (Stores word value (seat_of seen) (small_view s w o))
+store_ok (Ok t) s seen w o word value heap same within ran runs stored = subst (λ t. Stores word value (seat_of t) (small_view s w o)) same (record {
+  runs = runs_of s w o (ap (λ (t : SeqState). t.stopped) same ∙ ran) runs stored.goes;
   seen = ap Some (ap (λ xs. get_or xs word 0) stored.volatile ∙ get_or-set_same s.parts.words.volatile word value 0 within);
   pending = stored.pending;
-}
-store_ok (Err e) s w o l word value heap within ran runs stored = tt
+})
+store_ok (Err e) s seen w o word value heap same within ran runs stored = tt
+
+pub write_back_ok : (r : Result Unit Stopped) (s seen : SeqState) (w : View) (o : Option ℕ) (spot : Spot) → IsSeqHeap s → s ≡ seen → seen.stopped ≡ None → IsOwnSpot (seat_of seen) spot
+    → OnOk r (o ≡ None) → OnOk r (IsWritten (word_of spot) s.parts.words w) → OnOk r (WritesBack spot (seat_of seen) (small_view s w o))
+write_back_ok (Ok t) s seen w o spot heap same ran own runs written = subst (λ t. WritesBack spot (seat_of t) (small_view s w o)) same (record {
+  runs = runs_of s w o ran_before runs written.goes;
+  line = λ word p. in_line word (spot_words spot own_before word p);
+  pending = written.pending;
+}) where
+  ran_before : s.stopped ≡ None
+  ran_before = ap (λ (t : SeqState). t.stopped) same ∙ ran
+
+  own_before : IsOwnSpot (seat_of s) spot
+  own_before = subst (λ t. IsOwnSpot (seat_of t) spot) (sym same) own
+
+  spot_words : (at : Spot) → IsOwnSpot (seat_of s) at → (word : ℕ) → IsWrittenWith at word → IsOwn (held_in s.parts) all_roots word × (line_of word ≡ line_of (word_of at))
+  spot_words (InBlock b index) own word p = (in_block b word own.0 p.0, p.1)
+  spot_words (Root i) own word p = (in_root i word own p, ap line_of p)
+
+  in_line : (word : ℕ) → IsOwn (held_in s.parts) all_roots word × (line_of word ≡ line_of (word_of spot)) → Contains w.pending word
+  in_line word p =
+      let below = own_below s word heap.lasts p.0 in
+      let long : word_count s.parts.words ≡ image_words s.parts.capacity = (heap.running ran_before).0.words_open.long in
+      written.line word (omega arith) p.1
+write_back_ok (Err e) s seen w o spot heap same ran own runs written = tt
 
 -- of a load that was done
 pub loaded_goes : (r : Result ℕ Stopped) (word : ℕ) (v w : View) → IfOk r (λ value. IsLoaded word value v w) → OnOk r (Goes 1 v w)

@@ -19,11 +19,7 @@ impl<C: Chance> HeapSeat for SeqHeap<C> {
     ghost images = { MayLeave };
 
     fn alloc(&mut self, bytes: u64) -> Result<Block, AllocFault> {
-        self.running()?;
-        let answer = self.arena.alloc(bytes);
-        self.large_calls += 1;
-        self.stopped = stop_of(&answer);
-        match answer? {
+        match self.request(bytes)? {
             Some(block) => Ok(block),
             None => {
                 self.refusals += 1;
@@ -108,6 +104,33 @@ fn stop_of<T>(answer: &Result<T, Stopped>) -> Option<u64>
 }
 
 impl<C: Chance> SeqHeap<C> {
+    ghost use Rattle.std.specs.Prelude.{ℕ, IfOk, OnErr};
+    ghost use Rattle.heap_model.specs.Sizes.{IsClass, size_of, span_of};
+    ghost use Rattle.block_heap.specs.Calls.{IsLargeCall};
+    ghost use Rattle.block_heap.specs.Parts.{held_in};
+    ghost use Rattle.block_heap.specs.Requests.{KeepsWords};
+    ghost use Rattle.block_heap.specs.Serving.{Answers, DrainsAs};
+    ghost use Rattle.block_heap.specs.SeqState.{seat_of};
+    ghost use Rattle.block_heap.specs.Tickets.{Runs, Stops};
+
+    /// A block of at least so many bytes, if there is room. A refusal is not counted.
+    pub(crate) fn request(&mut self, bytes: u64) -> Result<Option<Block>, Stopped>
+        ensures ok { IfOk result (λ answer. Answers bytes answer self.old.parts self.new.parts) }
+        ensures drains { (class : ℕ) → IsClass class → bytes ≡ size_of class
+            → IfOk result (λ answer. DrainsAs class answer self.old.parts self.new.parts) }
+        ensures runs { OnOk result (Runs (seat_of self.old) (seat_of self.new)) }
+        ensures stopped { IfErr result (λ e. Stops e.step (seat_of self.old) (seat_of self.new)) }
+        ensures held { OnErr result (held_in self.new.parts ≡ held_in self.old.parts) }
+        ensures words { KeepsWords (seat_of self.old) (seat_of self.new) }
+        ensures counted { IsLargeCall (span_of bytes) (seat_of self.old) (seat_of self.new) }
+    {
+        self.running()?;
+        let answer = self.arena.alloc(bytes);
+        self.large_calls += 1;
+        self.stopped = stop_of(&answer);
+        answer
+    }
+
     /// Refuses the call if the heap has stopped.
     fn running(&self) -> Result<(), Stopped>
         ensures ok { OnOk result (self.now.stopped ≡ None) }

@@ -34,6 +34,5 @@ invariant_of-self g c =
 
 pub returns-clause-ok : goal.returns-clause-ok
 returns-clause-ok g c =
-    subst (λ (s : SeqState). IfOk c.load-answer.result (λ value. Loads (word_of c.args.s) value (seat_of s) _)) c.self.view_is
-    (load_ok c.load-answer.result _ (medium_view c.load-answer.new.self) c.stop_of-self-inside.result _ (word_of c.args.s) c.self.invariant (ap (λ (s : SeqState). s.stopped) c.self.view_is ∙ c.in_ok-running.ensures.ok)
-    c.stop_of-self-inside.ensures.ok (subst (λ word. IfOk c.load-answer.result (λ value. IsLoaded word value (medium_view c.self.inside.arena.medium) (medium_view c.load-answer.new.self))) c.word_of.ensures c.load-answer.ensures.ok))
+    load_ok c.load-answer.result _ c.args.self.now (medium_view c.load-answer.new.self) c.stop_of-self-inside.result (word_of c.args.s) c.self.invariant c.self.view_is c.in_ok-running.ensures.ok
+    c.stop_of-self-inside.ensures.ok (subst (λ word. IfOk c.load-answer.result (λ value. IsLoaded word value (medium_view c.self.inside.arena.medium) (medium_view c.load-answer.new.self))) c.word_of.ensures c.load-answer.ensures.ok)
