@@ -8,3 +8,5 @@ pub mod OpenedLemmas
 pub mod StableLemmas
 pub mod RunningLemmas
 pub mod SeatLemmas
+pub mod OpenLastLemmas
+pub mod StoreLemmas

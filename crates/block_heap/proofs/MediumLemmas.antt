@@ -1,5 +1,5 @@
 -- What each step on the words of an open heap leaves, and how rows of steps go together.
-use Rattle.std.proofs.Common.{◌≡◌, ℕ, ◌+◌, ◌<◌, ◌⊎◌, List, length, get_or, set, refl, sym, ◌∙◌, ap, subst, arith, inl, inr, None, length-set, get_or-set_other}
+use Rattle.std.proofs.Common.{◌≡◌, ℕ, ◌+◌, ◌<◌, ◌⊎◌, List, length, get_or, set, refl, sym, ◌∙◌, ap, subst, arith, inl, inr, None, Result, Ok, Err, OnErr, length-set, get_or-set_other}
 use Rattle.std.proofs.lemmas.Bool.{cases_eq}
 use Rattle.line_memory.specs.View.{View, volatile_at, durable_at, IsPending, IsSound, line_of}
 use Rattle.line_memory.specs.Crash.{IsValueOf, MayStore}
@@ -258,3 +258,8 @@ none_may word value v w none =
       seen = inr (none.volatile word (λ f. f));
       left = inr (none.durable word (λ f. f));
     }
+
+-- a fact that holds anyway holds at `Err`
+pub at_err : {T E : Type 0} (r : Result T E) (P : Type 0) → P → OnErr r P
+at_err (Ok t) P p = tt
+at_err (Err e) P p = p

@@ -155,3 +155,14 @@ loaded_goes (Err e) word v w loaded = tt
 pub loaded_same : (r : Result ℕ Stopped) (word : ℕ) (v w : View) → IfOk r (λ value. IsLoaded word value v w) → OnOk r (w.volatile ≡ v.volatile)
 loaded_same (Ok value) word v w loaded = loaded.volatile
 loaded_same (Err e) word v w loaded = tt
+
+-- the own word of a spot, by its number
+pub own_at : (s seen : SeqState) (spot : Spot) (word : ℕ) → IsSeqHeap s → s ≡ seen → word ≡ word_of spot → IsOwnSpot (seat_of seen) spot → IsOwn (held_in s.parts) all_roots word
+own_at s seen spot word heap same at own =
+    subst (IsOwn (held_in s.parts) all_roots) (sym at) (own_spot (seat_of s) spot (subst (λ t. IsOwnSpot (seat_of t) spot) (sym same) own))
+
+-- and it is one of the image
+pub at_within : (s seen : SeqState) (spot : Spot) (word : ℕ) → IsSeqHeap s → s ≡ seen → word ≡ word_of spot → seen.stopped ≡ None → IsOwnSpot (seat_of seen) spot → word < word_count s.parts.words
+at_within s seen spot word heap same at ran own =
+    subst (λ n. n < word_count s.parts.words) (sym at)
+    (own_within s spot heap (ap (λ (t : SeqState). t.stopped) same ∙ ran) (subst (λ t. IsOwnSpot (seat_of t) spot) (sym same) own))
