@@ -5,3 +5,5 @@ pub mod HeldLemmas
 pub mod MediumLemmas
 pub mod StableLemmas
 pub mod RunningLemmas
+pub mod RefillLemmas
+pub mod TakeLemmas
