@@ -7,3 +7,4 @@ pub mod StableLemmas
 pub mod RunningLemmas
 pub mod RefillLemmas
 pub mod TakeLemmas
+pub mod CutStepLemmas

@@ -3,7 +3,7 @@ use Rattle.std.proofs.Common.{◌≡◌, ◌≢◌, ℕ, zero, suc, ◌+◌, ◌
 use Rattle.std.proofs.lemmas.Bool.{cases_eq}
 use Rattle.std.proofs.lemmas.List.{nil_from_length}
 use Rattle.heap_model.specs.declared.block.Block.{Block}
-use Rattle.heap_model.specs.Geometry.{lists, head_word, info_word, anchor_word, link_word, used_word}
+use Rattle.heap_model.specs.Geometry.{lists, head_word, info_word, anchor_word, link_word, used_word, image_words}
 use Rattle.heap_model.specs.Image.{Image}
 use Rattle.heap_model.specs.Sizes.{IsClass, blocks_of, words_of_class}
 use Rattle.heap_model.specs.Words.{head_first, head_pops, head_of, anchor_state, anchor_first, anchor_count, partial_state, full_anchor}
@@ -31,7 +31,7 @@ use Rattle.block_heap.specs.Medium.{StoresOnly, Goes}
 use Rattle.block_heap.specs.Parts.{Parts, image_of, held_in, cache_at}
 use Rattle.block_heap.specs.Running.{IsRunning, IsCacheOf, KnowsSizes, IsSettled, Serves}
 use Rattle.block_heap.specs.Steps.{head_at, IsEmptyList, LeadsAlong, look_at, IsLook, Fills, FindsEmpty, Recycles}
-use Rattle.block_heap.specs.Works.{IsAllocatorWord, is_head, is_anchor, is_link}
+use Rattle.block_heap.specs.Works.{Works, IsAllocatorWord, is_head, is_anchor, is_link}
 use Rattle.block_heap.proofs.MediumLemmas.{stores_then, stores_more}
 use Rattle.block_heap.proofs.RunningLemmas.{set_is, settled_kept, running_words}
 use Rattle.block_heap.proofs.StableLemmas.{works_of, works_then, works_none}
@@ -53,23 +53,27 @@ moved_used capacity word (a_head list below at) e = omega arith
 moved_used capacity word (an_anchor c below at) e = omega arith
 moved_used capacity word (a_link c below at) e = omega arith
 
-moved_word : (capacity : ℕ) (held : List Block) (word : ℕ) → IsMoved capacity word → IsAllocatorWord capacity held word
+pub moved_word : (capacity : ℕ) (held : List Block) (word : ℕ) → IsMoved capacity word → IsAllocatorWord capacity held word
 moved_word capacity held word (a_head list below at) = is_head list below at
 moved_word capacity held word (an_anchor d below at) = is_anchor d below at
 moved_word capacity held word (a_link d below at) = is_link d below at
 
--- a row of steps that stores to such words alone, or to none; and two rows
-pub serves_moved : (p q : Parts) → IsRunning p → StoresOnly (IsMoved p.capacity) p.words q.words → q.capacity ≡ p.capacity → q.used_look ≡ p.used_look → q.taken ≡ p.taken → Serves (held_in p) p q
-serves_moved p q run stores capacity look taken =
+-- a row of steps that doesn't store to `used`; one that stores to such words alone, or none at all; and two rows
+pub serves_of : (p q : Parts) (to : ℕ → Type 0) → IsRunning p → ((word : ℕ) → to word → IsAllocatorWord p.capacity (held_in p) word) → (to used_word → ⊥) → StoresOnly to p.words q.words
+    → q.capacity ≡ p.capacity → q.used_look ≡ p.used_look → q.taken ≡ p.taken → Serves (held_in p) p q
+serves_of p q to run are not_used stores capacity look taken =
     let seen : q.used_look.seen ≡ p.used_look.seen = ap (λ (l : Look). l.seen) look in
     let then : q.used_look.taken ≡ p.used_look.taken = ap (λ (l : Look). l.taken) look in
     record {
       capacity = capacity;
-      works = (works_of p.capacity (held_in p) (IsMoved p.capacity) p.words q.words (λ word m. moved_word p.capacity (held_in p) word m)
-          (λ m. moved_used p.capacity used_word m refl) stores run.settled.used).0;
+      works = (works_of p.capacity (held_in p) to p.words q.words are not_used stores run.settled.used).0;
       knows = omega arith;
       taken = omega arith;
     }
+
+pub serves_moved : (p q : Parts) → IsRunning p → StoresOnly (IsMoved p.capacity) p.words q.words → q.capacity ≡ p.capacity → q.used_look ≡ p.used_look → q.taken ≡ p.taken → Serves (held_in p) p q
+serves_moved p q run stores capacity look taken =
+    serves_of p q (IsMoved p.capacity) run (λ word m. moved_word p.capacity (held_in p) word m) (λ m. moved_used p.capacity used_word m refl) stores capacity look taken
 
 pub serves_same : (p : Parts) → Serves (held_in p) p p
 serves_same p = record { capacity = refl; works = works_none p.capacity (held_in p) p.words; knows = refl; taken = omega arith }
@@ -83,8 +87,8 @@ serves_then p u q held a b =
     record {
       capacity = b.capacity ∙ a.capacity;
       works = works_then p.capacity (held_in p) p.words u.words q.words a.works
-          (subst (λ c. Rattle.block_heap.specs.Works.Works c (held_in p) u.words q.words) a.capacity
-          (subst (λ (h : List Block). Rattle.block_heap.specs.Works.Works u.capacity h u.words q.words) held b.works));
+          (subst (λ c. Works c (held_in p) u.words q.words) a.capacity
+          (subst (λ (h : List Block). Works u.capacity h u.words q.words) held b.works));
       knows = omega arith;
       taken = omega arith;
     }
@@ -116,11 +120,12 @@ pub record IsMade (p q : Parts) (t : Shape) : Type 0 where
   pub settled : IsSettled p.capacity q.words
   pub pops : (list : ℕ) → list < lists → 2 * head_pops (head_at q list) ≤ q.words.drawn
   pub knows : image_of q used_word + q.used_look.taken ≡ q.used_look.seen + q.taken
+  pub few : q.taken ≤ image_of q used_word
 
 -- they are right
 pub made : (p q : Parts) (t : Shape) → IsRunning p → IsMade p q t → IsRunning q
 made p q t run m = record {
-  words_open = record { running = m.running; long = m.words ∙ run.words_open.long ∙ ap (λ c. Rattle.heap_model.specs.Geometry.image_words c) (sym m.capacity) };
+  words_open = record { running = m.running; long = m.words ∙ run.words_open.long ∙ ap (λ c. image_words c) (sym m.capacity) };
   below = m.below;
   bounded = let e = m.budget in let b = run.bounded in omega arith;
   caches_long = m.caches_long;
@@ -132,6 +137,7 @@ made p q t run m = record {
   settled = subst (λ c. IsSettled c q.words) (sym m.capacity) m.settled;
   pops = m.pops;
   knows = m.knows;
+  few = m.few;
 }
 
 -- the caches where the one of the class has these blocks now
@@ -165,7 +171,7 @@ pub sizes_kept : (capacity : ℕ) (s t : Shape) (info new : ℕ → ℕ) (blocks
 sizes_kept capacity s t info new blocks knows same stood = record {
   start = knows.start;
   long = knows.long;
-  sizes = λ e within. subst (λ i. IsClass i → (t.place e ≡ in_list i) ⊎ (t.place e ≡ is_full) → Rattle.std.specs.Prelude.slice_index blocks.words.items e ≡ words_of_class i)
+  sizes = λ e within. subst (λ i. IsClass i → (t.place e ≡ in_list i) ⊎ (t.place e ≡ is_full) → get_or blocks.words.items e 0 ≡ words_of_class i)
       (sym (same e within)) (λ is at. knows.sizes e within is (stood e within is at));
 }
 
@@ -254,6 +260,7 @@ running_looks p looks long run = record {
   settled = run.settled;
   pops = run.pops;
   knows = run.knows;
+  few = run.few;
 }
 
 -- a list that was found empty

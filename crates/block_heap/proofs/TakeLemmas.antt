@@ -124,6 +124,7 @@ module _ (p : Parts) (class d : ℕ) (popped : Popped) (w : View) (look : Look) 
             let more = is_taken.goes.drew in
             omega arith;
         knows = let same : volatile_at u used_word ≡ image_of p used_word = take_moved.volatile used_word (λ m. moved_used p.capacity used_word m refl) in let knew = run.knows in omega arith;
+        few = let same : volatile_at u used_word ≡ image_of p used_word = take_moved.volatile used_word (λ m. moved_used p.capacity used_word m refl) in let least = run.few in omega arith;
       }
 
       pub taken_fills : Fills class p taken_parts
@@ -238,6 +239,7 @@ module _ (p : Parts) (class d : ℕ) (popped : Popped) (w : View) (look : Look) 
               let last = pushed.goes.drew in
               omega arith;
           knows = let same : volatile_at v used_word ≡ image_of p used_word = push_moved.volatile used_word (λ m. moved_used p.capacity used_word m refl) in let knew = run.knows in omega arith;
+          few = let same : volatile_at v used_word ≡ image_of p used_word = push_moved.volatile used_word (λ m. moved_used p.capacity used_word m refl) in let least = run.few in omega arith;
         }
 
         pub recycled_fills : Fills class p recycled
