@@ -10,3 +10,7 @@ pub mod RunningLemmas
 pub mod SeatLemmas
 pub mod OpenLastLemmas
 pub mod StoreLemmas
+pub mod RefillLemmas
+pub mod TakeLemmas
+pub mod CutStepLemmas
+pub mod BlockMarkLemmas
