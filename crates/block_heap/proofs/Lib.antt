@@ -5,3 +5,4 @@ pub mod HeldLemmas
 pub mod MediumLemmas
 pub mod StableLemmas
 pub mod RunningLemmas
+pub mod SmallLemmas
