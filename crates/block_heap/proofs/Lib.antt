@@ -6,3 +6,4 @@ pub mod MediumLemmas
 pub mod StableLemmas
 pub mod RunningLemmas
 pub mod SmallLemmas
+pub mod FlushLemmas
