@@ -7,3 +7,4 @@ pub mod StableLemmas
 pub mod RunningLemmas
 pub mod SmallLemmas
 pub mod FlushLemmas
+pub mod FrontLemmas
