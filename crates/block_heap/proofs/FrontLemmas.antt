@@ -3,22 +3,22 @@ use Rattle.std.proofs.Common.{◌≡◌, ℕ, ◌+◌, ◌-◌, ◌*◌, ◌/◌
 use Rattle.std.proofs.Math.Nat.{mul-div_cancel}
 use Rattle.std.proofs.lemmas.List.Elements.{Contains-append_left, Contains-append_right, Contains-append_cases}
 use Rattle.heap_model.specs.Geometry.{start_word}
-use Rattle.heap_model.specs.Sizes.{IsClass, words_of_class}
+use Rattle.heap_model.specs.Sizes.{IsClass, words_of_class, blocks_of}
 use Rattle.heap_model.specs.Chains.{Walks}
 use Rattle.heap_model.proofs.MemberLemmas.{in_none, in_head, head_or_rest}
-use Rattle.heap_model.proofs.SizeLemmas.{two_words}
+use Rattle.heap_model.proofs.SizeLemmas.{two_words, few_blocks}
 use Rattle.heap_shape.specs.Standing.{first_of, IsFirstOf}
 use Rattle.line_memory.specs.View.{View}
 use Rattle.block_heap.specs.declared.anchors.Batch.{Batch}
 use Rattle.block_heap.specs.declared.cache.Cache.{Cache}
 use Rattle.block_heap.specs.declared.small.Front.{Front}
-use Rattle.block_heap.specs.Flush.{IsFront}
-use Rattle.block_heap.specs.Medium.{StoresOnly, Goes, IsLoaded}
+use Rattle.block_heap.specs.Flush.{IsFront, KeepsAll, GivesBack}
+use Rattle.block_heap.specs.Medium.{StoresOnly, Goes, Halts, IsLoaded}
 use Rattle.block_heap.specs.Parts.{Parts, image_of, held_in, cache_at}
 use Rattle.block_heap.specs.Running.{IsRunning, Serves}
 use Rattle.block_heap.proofs.MediumLemmas.{stores_then}
 use Rattle.block_heap.proofs.RunningLemmas.{running_words}
-use Rattle.block_heap.proofs.SmallLemmas.{first_cached, first_of_d, first_from, first_below, serves_of}
+use Rattle.block_heap.proofs.SmallLemmas.{first_cached, first_of_d, serves_of, serves_none, serves_then}
 use Rattle.block_heap.proofs.FlushLemmas.{walk_front}
 
 -- the cache leads along so many blocks of superblock d, up to the last one, which leads to the next
@@ -70,6 +70,9 @@ module _ (p q : Parts) (most : ℕ) (run : IsRunning p) (loaded : HasLoaded most
       (ap (λ (x : Parts). x.used_look) same ∙ ap (λ (x : Parts). x.used_look) loaded.same)
       (ap (λ (x : Parts). x.taken) same ∙ ap (λ (x : Parts). x.taken) loaded.same)
       (λ word out. absurd out) (λ out. out) (stores_then (λ _. ⊥) p.words q.words r.words loaded.stores stores)
+
+pub loaded_capacity : (p q : Parts) (most : ℕ) → HasLoaded most p q → q.capacity ≡ p.capacity
+loaded_capacity p q most loaded = ap (λ (x : Parts). x.capacity) loaded.same
 
 -- one more load
 pub loaded_more : (p q r : Parts) (most : ℕ) (word value : ℕ) → HasLoaded most p q → r ≡ record q { words = r.words } → IsLoaded word value q.words r.words → StoresOnly (λ _. ⊥) q.words r.words
@@ -206,3 +209,122 @@ module _ (p : Parts) (class : ℕ) (is : IsClass class) (run : IsRunning p) (cac
           next = walked.next_is;
           rest = omega arith;
         }
+
+-- a part of the cache was given back, with at most nine tickets a block
+pub record IsFlushed (class : ℕ) (p q : Parts) : Type 0 where
+  pub running : IsRunning q
+  pub keeps : KeepsAll class p q
+  pub more : p.words.drawn ≤ q.words.drawn
+  pub few : q.words.drawn + 9 * (cache_at q.caches class).count ≤ p.words.drawn + 9 * (cache_at p.caches class).count
+  pub held : held_in q ≡ held_in p
+  pub serves : Serves (held_in p) p q
+  pub taken : q.taken ≡ p.taken
+
+-- none was yet
+pub flushed_none : (class : ℕ) (p : Parts) → IsRunning p → IsFlushed class p p
+flushed_none class p run = record {
+  running = run;
+  keeps = record { caches = λ c is other. refl; used_look = refl; head_looks = refl };
+  more = omega arith;
+  few = omega arith;
+  held = refl;
+  serves = serves_none p (held_in p);
+  taken = refl;
+}
+
+keeps_then : (class : ℕ) (p q r : Parts) → KeepsAll class p q → KeepsAll class q r → KeepsAll class p r
+keeps_then class p q r a b = record {
+  caches = λ c is other. b.caches c is other ∙ a.caches c is other;
+  used_look = b.used_look ∙ a.used_look;
+  head_looks = b.head_looks ∙ a.head_looks;
+}
+
+pub flushed_serves : (class : ℕ) (p q r : Parts) → IsFlushed class p q → Serves (held_in q) q r → Serves (held_in p) p r
+flushed_serves class p q r before serves = serves_then p q r (held_in p) before.serves (subst (λ held. Serves held q r) before.held serves)
+
+-- a front was found
+module _ (class : ℕ) (p q r : Parts) (front : Front) (before : IsFlushed class p q) (is_front : IsFront class front r) (run : IsRunning r) (keeps : KeepsAll class q r) (caches : r.caches ≡ q.caches)
+    (goes : Goes front.batch.count q.words r.words) (held : held_in r ≡ held_in q) (serves : Serves (held_in q) q r) (taken : r.taken ≡ q.taken) where
+  some_given : 1 ≤ front.batch.count
+  some_given = let count = is_front.count in let both = length-append is_front.before (front.batch.last ∷ []) in omega arith
+
+  same_count : (cache_at r.caches class).count ≡ (cache_at q.caches class).count
+  same_count = ap (λ (xs : List Cache). (cache_at xs class).count) caches
+
+  pub front_few : r.words.drawn + 8 * front.batch.count + 9 * front.rest.count ≤ p.words.drawn + 9 * (cache_at p.caches class).count
+  front_few =
+      let few = before.few in
+      let count = is_front.rest in
+      let same = same_count in
+      let drew = goes.few in
+      omega arith
+
+  pub front_held : held_in r ≡ held_in p
+  front_held = held ∙ before.held
+
+  pub front_serves : Serves (held_in p) p r
+  front_serves = flushed_serves class p q r before serves
+
+  -- and given back
+  module _ (t : Parts) (gave_run : IsRunning t) (gives : GivesBack class front r t) (gave : Goes 6 r.words t.words) (gave_held : held_in t ≡ held_in r)
+      (gave_serve : Serves (held_in r) r t) (gave_taken : t.taken ≡ r.taken) where
+    pub flushed_more : IsFlushed class p t
+    flushed_more = record {
+      running = gave_run;
+      keeps = keeps_then class p q t before.keeps (keeps_then class q r t keeps gives.keeps);
+      more = let a = before.more in let b = goes.drew in let c = gave.drew in omega arith;
+      few =
+          let a = front_few in
+          let some = some_given in
+          let b = gave.few in
+          let rest : (cache_at t.caches class).count ≡ front.rest.count = ap (λ (x : Cache). x.count) gives.cache in
+          omega arith;
+      held = gave_held ∙ front_held;
+      serves = serves_then p r t (held_in p) front_serves (subst (λ h. Serves h r t) front_held gave_serve);
+      taken = gave_taken ∙ taken ∙ before.taken;
+    }
+
+    pub flushed_less : (cache_at t.caches class).count < (cache_at q.caches class).count
+    flushed_less =
+        let count = is_front.rest in
+        let same = same_count in
+        let some = some_given in
+        let rest : (cache_at t.caches class).count ≡ front.rest.count = ap (λ (x : Cache). x.count) gives.cache in
+        omega arith
+
+  -- giving it serves the held blocks, however far it goes
+  pub give_serves : (x : Parts) → Serves (held_in r) r x → Serves (held_in p) p x
+  give_serves x gave = serves_then p r x (held_in p) front_serves (subst (λ h. Serves h r x) front_held gave)
+
+  -- how far it went where giving it stopped
+  pub give_halts : (w : View) (ticket : ℕ) → IsClass class → IsRunning p → Halts ticket 6 r.words w → Halts ticket 36864 p.words w
+  give_halts w ticket is first halts = record {
+    stopped = halts.stopped;
+    above = halts.above;
+    from = let a = before.more in let b = goes.drew in let c = halts.from in omega arith;
+    until = halts.until;
+    few =
+        let a = front_few in
+        let some = some_given in
+        let b = halts.few in
+        let of = first.caches class is in
+        let most : (cache_at p.caches class).count ≤ blocks_of class = of.most in
+        let few = few_blocks class is in
+        omega arith;
+  }
+
+-- and where finding it did
+pub front_halts : (class : ℕ) (p q : Parts) (w : View) (ticket : ℕ) → IsFlushed class p q → IsClass class → IsRunning p → Halts ticket (cache_at q.caches class).count q.words w → Halts ticket 36864 p.words w
+front_halts class p q w ticket before is first halts = record {
+  stopped = halts.stopped;
+  above = halts.above;
+  from = let a = before.more in let c = halts.from in omega arith;
+  until = halts.until;
+  few =
+      let a = before.few in
+      let b = halts.few in
+      let of = first.caches class is in
+      let most : (cache_at p.caches class).count ≤ blocks_of class = of.most in
+      let few = few_blocks class is in
+      omega arith;
+}

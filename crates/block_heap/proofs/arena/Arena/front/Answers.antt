@@ -1,11 +1,11 @@
 use Rattle.std.proofs.Common.{◌≡◌, ℕ, ◌-◌, ◌/◌, ◌≤◌, List, get_or, refl, sym, ◌∙◌, ap, subst, arith}
 use Rattle.std.proofs.lemmas.List.{get_or_read}
 use Rattle.heap_model.specs.Geometry.{start_word}
-use Rattle.block_heap.specs.Parts.{Parts, parts_of, cache_at}
+use Rattle.block_heap.specs.Parts.{parts_of, cache_at}
 use Rattle.block_heap.proofs.AnchorLemmas.{words_by_bytes}
 use Rattle.heap_model.proofs.SizeLemmas.{two_words}
 use Rattle.block_heap.proofs.SmallLemmas.{first_from, first_below}
-use Rattle.block_heap.proofs.FrontLemmas.{cache_first, walked_one, next_placed, walked_more, first_behind, walked_front, loaded_run, loaded_serves, stopped_serves, loaded_front, loaded_more}
+use Rattle.block_heap.proofs.FrontLemmas.{cache_first, walked_one, next_placed, walked_more, first_behind, walked_front, loaded_run, loaded_serves, stopped_serves, loaded_front, loaded_more, loaded_capacity}
 use Rattle.block_heap.proofs.arena.Arena.front.Goals as goal
 
 pub superblock_of-d-requires : goal.superblock_of-d-requires
@@ -45,7 +45,7 @@ superblock_of-requires g c =
     let p = parts_of c.args.self.now in
     let inv = c.loop-count.invariant in
     let at = next_placed p c.args.class c.requires.class c.requires.running c.index-cache.result.now inv.cache_is c.superblock_of-d.result c.loop-count.last c.loop-count.next c.loop-count.count inv.walked c.loop-count-test.true in
-    let capacity : c.loop-count.self.geometry.capacity ≡ c.args.self.now.geometry.capacity = ap (λ (x : Parts). x.capacity) inv.loaded.same in
+    let capacity : c.loop-count.self.geometry.capacity ≡ c.args.self.now.geometry.capacity = loaded_capacity (parts_of c.args.self.now) (parts_of c.loop-count.self) c.loop-count.count inv.loaded in
     subst (λ n. start_word n 0 ≤ c.loop-count.next) (sym capacity)
     (first_from p c.args.class at.d c.loop-count.next c.requires.class c.requires.running at.within at.first)
 
@@ -68,7 +68,7 @@ loop-count-preserved g c =
     let p = parts_of c.args.self.now in
     let q = parts_of c.loop-count.self in
     let inv = c.loop-count.invariant in
-    let capacity : c.loop-count.self.geometry.capacity ≡ c.args.self.now.geometry.capacity = ap (λ (x : Parts). x.capacity) inv.loaded.same in
+    let capacity : c.loop-count.self.geometry.capacity ≡ c.args.self.now.geometry.capacity = loaded_capacity (parts_of c.args.self.now) (parts_of c.loop-count.self) c.loop-count.count inv.loaded in
     let at : (c.loop-count.next - start_word p.capacity 0) / 8192 ≡ c.superblock_of-d.result =
         ap (λ n. (c.loop-count.next - start_word n 0) / 8192) (sym capacity) ∙ sym c.superblock_of.ensures ∙ c.if-superblock_of-d.true in
     record {
@@ -83,7 +83,7 @@ pub overflow_sub-result : goal.overflow_sub-result
 overflow_sub-result g c =
     let p = parts_of c.args.self.now in
     let inv = c.loop-count.invariant in
-    let capacity : c.loop-count.self.geometry.capacity ≡ c.args.self.now.geometry.capacity = ap (λ (x : Parts). x.capacity) inv.loaded.same in
+    let capacity : c.loop-count.self.geometry.capacity ≡ c.args.self.now.geometry.capacity = loaded_capacity (parts_of c.args.self.now) (parts_of c.loop-count.self) c.loop-count.count inv.loaded in
     let behind = first_behind p c.args.class c.requires.class c.requires.running c.index-cache.result.now inv.cache_is c.superblock_of-d.result c.loop-count.last c.loop-count.next c.loop-count.count inv.walked in
     let start = c.start.ensures in
     omega arith
@@ -99,7 +99,7 @@ returns-clause-ok g c =
     let p = parts_of c.args.self.now in
     let q = parts_of c.loop-count.self in
     let inv = c.loop-count.invariant in
-    let capacity : c.loop-count.self.geometry.capacity ≡ c.args.self.now.geometry.capacity = ap (λ (x : Parts). x.capacity) inv.loaded.same in
+    let capacity : c.loop-count.self.geometry.capacity ≡ c.args.self.now.geometry.capacity = loaded_capacity (parts_of c.args.self.now) (parts_of c.loop-count.self) c.loop-count.count inv.loaded in
     loaded_front p q c.loop-count.count c.requires.running inv.loaded c.args.class _
     (walked_front p c.args.class c.requires.class c.requires.running c.index-cache.result.now inv.cache_is c.superblock_of-d.result c.loop-count.last c.loop-count.next c.loop-count.count inv.walked
     c.start.result (c.size_of-words.result / 8) (c.start.ensures ∙ ap (λ n. start_word n c.superblock_of-d.result) capacity)
