@@ -8,3 +8,4 @@ pub mod RunningLemmas
 pub mod SmallLemmas
 pub mod FlushLemmas
 pub mod FrontLemmas
+pub mod FreeLemmas

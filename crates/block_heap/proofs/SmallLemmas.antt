@@ -155,11 +155,11 @@ serves_then p q r held a b = record {
 }
 
 -- blocks have an even number of words
-even_words : (class : ℕ) → IsClass class → words_of_class class % 2 ≡ 0
+pub even_words : (class : ℕ) → IsClass class → words_of_class class % 2 ≡ 0
 unfolding words_of_class class_sizes
 even_words class is = eqb-true (words_of_class class % 2) 0 (at_class (λ c. nat_eq (words_of_class c % 2) 0) refl class is)
 
-even_product : (index words : ℕ) → words % 2 ≡ 0 → (index * words) % 2 ≡ 0
+pub even_product : (index words : ℕ) → words % 2 ≡ 0 → (index * words) % 2 ≡ 0
 even_product index words even =
     let half : words ≡ 2 * (words / 2) = omega arith in
     let product : index * words ≡ index * (2 * (words / 2)) = ap (λ x. index * x) half in
