@@ -14,3 +14,7 @@ pub mod RefillLemmas
 pub mod TakeLemmas
 pub mod CutStepLemmas
 pub mod BlockMarkLemmas
+pub mod SmallLemmas
+pub mod FlushLemmas
+pub mod FrontLemmas
+pub mod FreeLemmas

@@ -1,0 +1,330 @@
+-- How the front of a cache is found: a walk along its blocks as far as they lie in one superblock.
+use Rattle.std.proofs.Common.{◌≡◌, ℕ, ◌+◌, ◌-◌, ◌*◌, ◌/◌, ◌<◌, ◌≤◌, inl, inr, List, [], ◌∷◌, ◌++◌, length, get_or, Contains, refl, ap, sym, subst, ◌∙◌, arith, length-append}
+use Rattle.std.proofs.Math.Nat.{mul-div_cancel}
+use Rattle.std.proofs.lemmas.List.Elements.{Contains-append_left, Contains-append_right, Contains-append_cases}
+use Rattle.heap_model.specs.Geometry.{start_word}
+use Rattle.heap_model.specs.Sizes.{IsClass, words_of_class, blocks_of}
+use Rattle.heap_model.specs.Chains.{Walks}
+use Rattle.heap_model.proofs.MemberLemmas.{in_none, in_head, head_or_rest}
+use Rattle.heap_model.proofs.SizeLemmas.{two_words, few_blocks}
+use Rattle.heap_shape.specs.Standing.{first_of, IsFirstOf}
+use Rattle.line_memory.specs.View.{View}
+use Rattle.block_heap.specs.declared.anchors.Batch.{Batch}
+use Rattle.block_heap.specs.declared.cache.Cache.{Cache}
+use Rattle.block_heap.specs.declared.small.Front.{Front}
+use Rattle.block_heap.specs.Flush.{IsFront, KeepsAll, GivesBack}
+use Rattle.block_heap.specs.Medium.{StoresOnly, Goes, Halts, IsLoaded}
+use Rattle.block_heap.specs.Parts.{Parts, image_of, held_in, cache_at}
+use Rattle.block_heap.specs.Running.{IsRunning, Serves}
+use Rattle.block_heap.proofs.MediumLemmas.{stores_then}
+use Rattle.block_heap.proofs.RunningLemmas.{running_words}
+use Rattle.block_heap.proofs.SmallLemmas.{first_cached, first_of_d, serves_of, serves_none, serves_then}
+use Rattle.block_heap.proofs.FlushLemmas.{walk_front}
+
+-- the cache leads along so many blocks of superblock d, up to the last one, which leads to the next
+pub record IsWalked (class d last next count : ℕ) (cache : Cache) (p : Parts) : Type 0 where
+  pub within : d < p.capacity
+  pub before : List ℕ
+  pub walks : Walks (image_of p) cache.first (before ++ last ∷ [])
+  pub firsts : (word : ℕ) → Contains (before ++ last ∷ []) word → IsFirstOf p.capacity class d word
+  pub count_is : count ≡ length (before ++ last ∷ [])
+  pub next_is : next ≡ image_of p last
+  pub few : count ≤ cache.count
+
+-- so many words at most were loaded, and nothing else was done
+pub record HasLoaded (most : ℕ) (p q : Parts) : Type 0 where
+  pub same : q ≡ record p { words = q.words }
+  pub goes : Goes most p.words q.words
+  pub volatile : q.words.volatile ≡ p.words.volatile
+  pub stores : StoresOnly (λ _. ⊥) p.words q.words
+
+-- loads leave a heap right, and serve it
+module _ (p q : Parts) (most : ℕ) (run : IsRunning p) (loaded : HasLoaded most p q) where
+  loaded_running : IsRunning (record p { words = q.words })
+  loaded_running = running_words p q.words (λ _. ⊥) run loaded.goes.running loaded.volatile loaded.stores (λ d within out. out) (λ out. out) loaded.goes.below
+
+  pub loaded_run : IsRunning q
+  loaded_run = subst (λ x. IsRunning x) (sym loaded.same) loaded_running
+
+  pub loaded_serves : Serves (held_in p) p q
+  loaded_serves = serves_of p q (held_in p) (λ _. ⊥) run (ap (λ x. x.capacity) loaded.same) (ap (λ x. x.used_look) loaded.same) (ap (λ x. x.taken) loaded.same)
+      (λ word out. absurd out) (λ out. out) loaded.stores
+
+  pub loaded_front : (class : ℕ) (front : Front) → IsFront class front p → IsFront class front q
+  loaded_front class front is = subst (λ x. IsFront class front x) (sym loaded.same)
+      (record {
+        within = is.within;
+        before = is.before;
+        walks = subst (λ (xs : List ℕ). Walks (λ word. get_or xs word 0) (cache_at p.caches class).first (is.before ++ front.batch.last ∷ [])) (sym loaded.volatile) is.walks;
+        firsts = is.firsts;
+        first = is.first;
+        count = is.count;
+        next = is.next ∙ ap (λ (xs : List ℕ). get_or xs front.batch.last 0) (sym loaded.volatile);
+        rest = is.rest;
+      })
+
+  -- also where the next load stopped
+  pub stopped_serves : (r : Parts) → r ≡ record q { words = r.words } → StoresOnly (λ _. ⊥) q.words r.words → Serves (held_in p) p r
+  stopped_serves r same stores = serves_of p r (held_in p) (λ _. ⊥) run
+      (ap (λ (x : Parts). x.capacity) same ∙ ap (λ (x : Parts). x.capacity) loaded.same)
+      (ap (λ (x : Parts). x.used_look) same ∙ ap (λ (x : Parts). x.used_look) loaded.same)
+      (ap (λ (x : Parts). x.taken) same ∙ ap (λ (x : Parts). x.taken) loaded.same)
+      (λ word out. absurd out) (λ out. out) (stores_then (λ _. ⊥) p.words q.words r.words loaded.stores stores)
+
+pub loaded_capacity : (p q : Parts) (most : ℕ) → HasLoaded most p q → q.capacity ≡ p.capacity
+loaded_capacity p q most loaded = ap (λ (x : Parts). x.capacity) loaded.same
+
+-- one more load
+pub loaded_more : (p q r : Parts) (most : ℕ) (word value : ℕ) → HasLoaded most p q → r ≡ record q { words = r.words } → IsLoaded word value q.words r.words → StoresOnly (λ _. ⊥) q.words r.words
+    → HasLoaded (most + 1) p r
+loaded_more p q r most word value before same loaded stores = record {
+  same = same ∙ ap (λ (x : Parts). record x { words = r.words }) before.same;
+  goes = record {
+    running = loaded.goes.running;
+    drew = let a = before.goes.drew in let b = loaded.goes.drew in omega arith;
+    few = let a = before.goes.few in let b = loaded.goes.few in omega arith;
+    below = loaded.goes.below;
+  };
+  volatile = loaded.volatile ∙ before.volatile;
+  stores = stores_then (λ _. ⊥) p.words q.words r.words before.stores stores;
+}
+
+-- the value that was loaded, as it was before
+pub loaded_value : (p q r : Parts) (most : ℕ) (word value : ℕ) → HasLoaded most p q → IsLoaded word value q.words r.words → value ≡ image_of p word
+loaded_value p q r most word value before loaded = loaded.seen ∙ ap (λ (xs : List ℕ). get_or xs word 0) before.volatile
+
+-- a walk that goes one block further, and what is behind it
+walk_more : (next : ℕ → ℕ) (from : ℕ) (before : List ℕ) (last x : ℕ) → Walks next from (before ++ last ∷ []) → x ≡ next last → Walks next from ((before ++ last ∷ []) ++ x ∷ [])
+walk_more next from [] last x walks e = (walks.0, (sym e, tt))
+walk_more next from (b ∷ before) last x walks e = (walks.0, walk_more next (next b) before last x walks.1 e)
+
+walk_behind : (next : ℕ → ℕ) (from : ℕ) (before : List ℕ) (last : ℕ) (rest : List ℕ) → Walks next from ((before ++ last ∷ []) ++ rest) → Walks next (next last) rest
+walk_behind next from [] last rest walks = walks.1
+walk_behind next from (b ∷ before) last rest walks = walk_behind next (next b) before last rest walks.1
+
+walk_begin : (next : ℕ → ℕ) (from : ℕ) (words : List ℕ) → Walks next from words → 1 ≤ length words → Contains words from
+walk_begin next from [] walks some = absurd (omega arith)
+walk_begin next from (w ∷ ws) walks some = subst (λ x. Contains (w ∷ ws) x) (sym walks.0) (in_head w ws)
+
+-- a block of a superblock
+pub record IsPlacedAt (p : Parts) (class word : ℕ) : Type 0 where
+  pub d : ℕ
+  pub within : d < p.capacity
+  pub first : IsFirstOf p.capacity class d word
+
+module _ (p : Parts) (class : ℕ) (is : IsClass class) (run : IsRunning p) (cache : Cache) (cache_is : cache ≡ cache_at p.caches class) where
+  -- the first block of the cache
+  module _ (some : 1 ≤ (cache_at p.caches class).count) where
+    cache_count : cache.count ≡ (cache_at p.caches class).count
+    cache_count = ap (λ (x : Cache). x.count) cache_is
+
+    pub cache_first : IsPlacedAt p class cache.first
+    cache_first = let found = first_cached p class is run cache cache_is some in record { d = found.d; within = found.within; first = found.is_first }
+
+    pub walked_one : (d next : ℕ) → d ≡ (cache.first - start_word p.capacity 0) / 8192 → next ≡ image_of p cache.first → IsWalked class d cache.first next 1 cache p
+    walked_one d next at e =
+        let found = cache_first in
+        let same : found.d ≡ d = sym (first_of_d p class found.d cache.first is run found.within found.first) ∙ sym at in
+        record {
+          within = subst (λ x. x < p.capacity) same found.within;
+          before = [];
+          walks = (refl, tt);
+          firsts = λ word has. elim (head_or_rest cache.first word [] has) as (λ _. IsFirstOf p.capacity class d word) [
+            | inl one ↦ subst (λ x. IsFirstOf p.capacity class d x) one (subst (λ x. IsFirstOf p.capacity class x cache.first) same found.first)
+            | inr none ↦ absurd (in_none word none)
+          ];
+          count_is = refl;
+          next_is = e;
+          few = let count = cache_count in omega arith;
+        }
+
+  module _ (d last next count : ℕ) (walked : IsWalked class d last next count cache p) where
+    abbrev blocks : List ℕ
+    blocks = walked.before ++ last ∷ []
+
+    -- there are more blocks in the cache, so the next is one
+    pub next_placed : count < cache.count → IsPlacedAt p class next
+    next_placed more =
+        let of = run.caches class is in
+        let first : cache.first ≡ run.shape.start class = ap (λ (x : Cache). x.first) cache_is ∙ of.first in
+        let long : cache.count ≡ length (run.shape.cached class) = ap (λ (x : Cache). x.count) cache_is ∙ of.count in
+        let count_is = walked.count_is in
+        let all = run.is.walks class is in
+        let split = walk_front (image_of p) (run.shape.start class) blocks (run.shape.cached class) (subst (λ x. Walks (image_of p) x blocks) first walked.walks) all (omega arith) in
+        let both = length-append blocks split.0 in
+        let e : length (run.shape.cached class) ≡ length (blocks ++ split.0) = ap (λ (xs : List ℕ). length xs) split.1 in
+        let behind = walk_behind (image_of p) (run.shape.start class) walked.before last split.0 (subst (λ xs. Walks (image_of p) (run.shape.start class) xs) split.1 all) in
+        let has : Contains split.0 next = subst (λ x. Contains split.0 x) (sym walked.next_is) (walk_begin (image_of p) (image_of p last) split.0 behind (omega arith)) in
+        let cached : Contains (run.shape.cached class) next = subst (λ xs. Contains xs next) (sym split.1) (Contains-append_right blocks split.0 next has) in
+        let found = run.is.cached class next is cached in
+        record { d = found.superblock; within = found.within; first = found.is_first }
+
+    -- the walk goes on to it, where it lies in the same superblock
+    pub walked_more : (after : ℕ) → count < cache.count → (next - start_word p.capacity 0) / 8192 ≡ d → after ≡ image_of p next → IsWalked class d next after (count + 1) cache p
+    walked_more after more at e =
+        let found = next_placed more in
+        let same : found.d ≡ d = sym (first_of_d p class found.d next is run found.within found.first) ∙ at in
+        record {
+          within = walked.within;
+          before = blocks;
+          walks = walk_more (image_of p) cache.first walked.before last next walked.walks walked.next_is;
+          firsts = λ word has. elim (Contains-append_cases blocks (next ∷ []) word has) as (λ _. IsFirstOf p.capacity class d word) [
+            | inl before ↦ walked.firsts word before
+            | inr now ↦ elim (head_or_rest next word [] now) as (λ _. IsFirstOf p.capacity class d word) [
+              | inl one ↦ subst (λ x. IsFirstOf p.capacity class d x) one (subst (λ x. IsFirstOf p.capacity class x next) same found.first)
+              | inr none ↦ absurd (in_none word none)
+            ]
+          ];
+          count_is = let both = length-append blocks (next ∷ []) in let count_is = walked.count_is in omega arith;
+          next_is = e;
+          few = omega arith;
+        }
+
+    first_there : IsFirstOf p.capacity class d cache.first
+    first_there = walked.firsts cache.first (walk_begin (image_of p) cache.first blocks walked.walks (let both = length-append walked.before (last ∷ []) in omega arith))
+
+    pub first_behind : start_word p.capacity d ≤ cache.first
+    first_behind = let at = first_there.at in omega arith
+
+    -- the front that was walked
+    pub walked_front : (start words : ℕ) → start ≡ start_word p.capacity d → words ≡ words_of_class class
+        → IsFront class (record { d = d; batch = record { first = (cache.first - start) / words; last = last; count = count }; rest = record { first = next; count = cache.count - count } }) p
+    walked_front start words start_is words_is =
+        let first = first_there in
+        let at = first.at in
+        let two = two_words class is in
+        let few = walked.few in
+        let size : cache.count ≡ (cache_at p.caches class).count = ap (λ (x : Cache). x.count) cache_is in
+        let begins : cache.first ≡ (cache_at p.caches class).first = ap (λ (x : Cache). x.first) cache_is in
+        let product : cache.first - start ≡ first.index * words_of_class class = omega arith in
+        let index : (cache.first - start) / words ≡ first.index =
+            ap (λ x. x / words) product ∙ ap (λ x. first.index * words_of_class class / x) words_is ∙ mul-div_cancel first.index {n = words_of_class class} (omega arith) in
+        record {
+          within = walked.within;
+          before = walked.before;
+          walks = subst (λ x. Walks (image_of p) x blocks) begins walked.walks;
+          firsts = walked.firsts;
+          first = sym begins ∙ first.at ∙ ap (λ i. first_of p.capacity class d i) (sym index);
+          count = walked.count_is;
+          next = walked.next_is;
+          rest = omega arith;
+        }
+
+-- a part of the cache was given back, with at most nine tickets a block
+pub record IsFlushed (class : ℕ) (p q : Parts) : Type 0 where
+  pub running : IsRunning q
+  pub keeps : KeepsAll class p q
+  pub more : p.words.drawn ≤ q.words.drawn
+  pub few : q.words.drawn + 9 * (cache_at q.caches class).count ≤ p.words.drawn + 9 * (cache_at p.caches class).count
+  pub held : held_in q ≡ held_in p
+  pub serves : Serves (held_in p) p q
+  pub taken : q.taken ≡ p.taken
+
+-- none was yet
+pub flushed_none : (class : ℕ) (p : Parts) → IsRunning p → IsFlushed class p p
+flushed_none class p run = record {
+  running = run;
+  keeps = record { caches = λ c is other. refl; used_look = refl; head_looks = refl };
+  more = omega arith;
+  few = omega arith;
+  held = refl;
+  serves = serves_none p (held_in p);
+  taken = refl;
+}
+
+keeps_then : (class : ℕ) (p q r : Parts) → KeepsAll class p q → KeepsAll class q r → KeepsAll class p r
+keeps_then class p q r a b = record {
+  caches = λ c is other. b.caches c is other ∙ a.caches c is other;
+  used_look = b.used_look ∙ a.used_look;
+  head_looks = b.head_looks ∙ a.head_looks;
+}
+
+pub flushed_serves : (class : ℕ) (p q r : Parts) → IsFlushed class p q → Serves (held_in q) q r → Serves (held_in p) p r
+flushed_serves class p q r before serves = serves_then p q r (held_in p) before.serves (subst (λ held. Serves held q r) before.held serves)
+
+-- a front was found
+module _ (class : ℕ) (p q r : Parts) (front : Front) (before : IsFlushed class p q) (is_front : IsFront class front r) (run : IsRunning r) (keeps : KeepsAll class q r) (caches : r.caches ≡ q.caches)
+    (goes : Goes front.batch.count q.words r.words) (held : held_in r ≡ held_in q) (serves : Serves (held_in q) q r) (taken : r.taken ≡ q.taken) where
+  some_given : 1 ≤ front.batch.count
+  some_given = let count = is_front.count in let both = length-append is_front.before (front.batch.last ∷ []) in omega arith
+
+  same_count : (cache_at r.caches class).count ≡ (cache_at q.caches class).count
+  same_count = ap (λ (xs : List Cache). (cache_at xs class).count) caches
+
+  pub front_few : r.words.drawn + 8 * front.batch.count + 9 * front.rest.count ≤ p.words.drawn + 9 * (cache_at p.caches class).count
+  front_few =
+      let few = before.few in
+      let count = is_front.rest in
+      let same = same_count in
+      let drew = goes.few in
+      omega arith
+
+  pub front_held : held_in r ≡ held_in p
+  front_held = held ∙ before.held
+
+  pub front_serves : Serves (held_in p) p r
+  front_serves = flushed_serves class p q r before serves
+
+  -- and given back
+  module _ (t : Parts) (gave_run : IsRunning t) (gives : GivesBack class front r t) (gave : Goes 6 r.words t.words) (gave_held : held_in t ≡ held_in r)
+      (gave_serve : Serves (held_in r) r t) (gave_taken : t.taken ≡ r.taken) where
+    pub flushed_more : IsFlushed class p t
+    flushed_more = record {
+      running = gave_run;
+      keeps = keeps_then class p q t before.keeps (keeps_then class q r t keeps gives.keeps);
+      more = let a = before.more in let b = goes.drew in let c = gave.drew in omega arith;
+      few =
+          let a = front_few in
+          let some = some_given in
+          let b = gave.few in
+          let rest : (cache_at t.caches class).count ≡ front.rest.count = ap (λ (x : Cache). x.count) gives.cache in
+          omega arith;
+      held = gave_held ∙ front_held;
+      serves = serves_then p r t (held_in p) front_serves (subst (λ h. Serves h r t) front_held gave_serve);
+      taken = gave_taken ∙ taken ∙ before.taken;
+    }
+
+    pub flushed_less : (cache_at t.caches class).count < (cache_at q.caches class).count
+    flushed_less =
+        let count = is_front.rest in
+        let same = same_count in
+        let some = some_given in
+        let rest : (cache_at t.caches class).count ≡ front.rest.count = ap (λ (x : Cache). x.count) gives.cache in
+        omega arith
+
+  -- giving it serves the held blocks, however far it goes
+  pub give_serves : (x : Parts) → Serves (held_in r) r x → Serves (held_in p) p x
+  give_serves x gave = serves_then p r x (held_in p) front_serves (subst (λ h. Serves h r x) front_held gave)
+
+  -- how far it went where giving it stopped
+  pub give_halts : (w : View) (ticket : ℕ) → IsClass class → IsRunning p → Halts ticket 6 r.words w → Halts ticket 36864 p.words w
+  give_halts w ticket is first halts = record {
+    stopped = halts.stopped;
+    above = halts.above;
+    from = let a = before.more in let b = goes.drew in let c = halts.from in omega arith;
+    until = halts.until;
+    few =
+        let a = front_few in
+        let some = some_given in
+        let b = halts.few in
+        let of = first.caches class is in
+        let most : (cache_at p.caches class).count ≤ blocks_of class = of.most in
+        let few = few_blocks class is in
+        omega arith;
+  }
+
+-- and where finding it did
+pub front_halts : (class : ℕ) (p q : Parts) (w : View) (ticket : ℕ) → IsFlushed class p q → IsClass class → IsRunning p → Halts ticket (cache_at q.caches class).count q.words w → Halts ticket 36864 p.words w
+front_halts class p q w ticket before is first halts = record {
+  stopped = halts.stopped;
+  above = halts.above;
+  from = let a = before.more in let c = halts.from in omega arith;
+  until = halts.until;
+  few =
+      let a = before.few in
+      let b = halts.few in
+      let of = first.caches class is in
+      let most : (cache_at p.caches class).count ≤ blocks_of class = of.most in
+      let few = few_blocks class is in
+      omega arith;
+}

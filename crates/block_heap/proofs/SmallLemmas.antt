@@ -1,0 +1,318 @@
+-- How the parts of a heap stay right where caches and held blocks change, and what handing out the first block of a cache makes of them.
+use Rattle.std.proofs.Common.{◌≡◌, ◌≢◌, ℕ, ◌+◌, ◌-◌, ◌*◌, ◌/◌, ◌%◌, ◌<◌, ◌≤◌, ◌^◌, ◌⊎◌, inl, inr, None, nat_eq, eqb-true, List, [], ◌∷◌, length, get_or, set, Contains, refl, ap, sym, subst, ◌∙◌, arith, get_or-set_same, get_or-set_other, length-set}
+use Rattle.std.proofs.lemmas.Bool.{cases_eq}
+use Rattle.heap_model.specs.declared.block.Block.{Block}
+use Rattle.heap_model.specs.Geometry.{lists, head_word, info_word, used_word, start_word, image_words}
+use Rattle.heap_model.specs.Sizes.{IsClass, class_sizes, words_of_class, blocks_of}
+use Rattle.heap_model.specs.Words.{head_pops}
+use Rattle.heap_model.specs.Chains.{Walks}
+use Rattle.heap_model.proofs.MemberLemmas.{in_head}
+use Rattle.heap_model.proofs.PartLemmas.{same_fields}
+use Rattle.heap_model.proofs.SizeLemmas.{at_class}
+use Rattle.heap_shape.specs.Shape.{Shape, in_list, is_full, with_at}
+use Rattle.heap_shape.specs.Standing.{IsFirstOf}
+use Rattle.heap_shape.specs.Whole.{IsShape, IsCachedIn}
+use Rattle.heap_shape.specs.Effects.{IsInSuperblock}
+use Rattle.heap_shape.specs.Moves.{AddsTo, with_cache}
+use Rattle.heap_shape.proofs.BasicLemmas.{with_at_same, with_at_other, first_inside, cached_of_class}
+use Rattle.heap_shape.proofs.HandLemmas.{hand_out}
+use Rattle.heap_shape.proofs.DrainLemmas.{hand_out_drains}
+use Rattle.line_memory.specs.View.{View, volatile_at, durable_at, word_count}
+use Rattle.block_heap.specs.declared.cache.Cache.{Cache}
+use Rattle.block_heap.specs.declared.held.HeldBlocks.{HeldBlocks}
+use Rattle.block_heap.specs.Held.{held_of, HasMark, at_mark}
+use Rattle.block_heap.specs.Medium.{StoresOnly, IsLoaded}
+use Rattle.block_heap.specs.Parts.{Parts, image_of, held_in, cache_at}
+use Rattle.block_heap.specs.Running.{IsCacheOf, IsRunning, Serves}
+use Rattle.block_heap.specs.Steps.{HandsOut}
+use Rattle.block_heap.specs.Works.{IsAllocatorWord}
+use Rattle.block_heap.proofs.RunningLemmas.{settled_kept}
+use Rattle.block_heap.proofs.StableLemmas.{works_of, works_then, works_none}
+
+-- the parts with other words, caches and held blocks
+abbrev pub changed : Parts → View → List Cache → HeldBlocks → Parts
+changed p w caches blocks = record { words = w; capacity = p.capacity; caches = caches; blocks = blocks; taken = p.taken; used_look = p.used_look; head_looks = p.head_looks }
+
+-- what stays where the words of superblocks, anchors, links and the first descriptors of lists change
+pub record KeepsFixed (p : Parts) (w : View) : Type 0 where
+  pub running : w.stopped ≡ None
+  pub long : word_count w ≡ word_count p.words
+  pub budget : w.budget ≡ p.words.budget
+  pub more : p.words.drawn ≤ w.drawn
+  pub below : w.drawn ≤ w.budget
+  pub infos : (d : ℕ) → d < p.capacity → volatile_at w (info_word d) ≡ volatile_at p.words (info_word d)
+  pub infos_durable : (d : ℕ) → d < p.capacity → durable_at w (info_word d) ≡ volatile_at w (info_word d)
+  pub used : volatile_at w used_word ≡ volatile_at p.words used_word
+  pub used_durable : durable_at w used_word ≡ volatile_at w used_word
+  pub pops : (list : ℕ) → list < lists → head_pops (volatile_at w (head_word list)) ≡ head_pops (volatile_at p.words (head_word list))
+
+-- it stays over steps that store to none of these words
+pub keeps_fixed : (p : Parts) (w : View) (to : ℕ → Type 0) → IsRunning p → StoresOnly to p.words w → w.stopped ≡ None → w.drawn ≤ w.budget
+    → ((d : ℕ) → d < p.capacity → to (info_word d) → ⊥) → (to used_word → ⊥)
+    → ((list : ℕ) → list < lists → head_pops (volatile_at w (head_word list)) ≡ head_pops (volatile_at p.words (head_word list))) → KeepsFixed p w
+keeps_fixed p w to run stores running below infos used pops =
+    let settled = settled_kept p.capacity to p.words w stores infos used run.settled in
+    record {
+      running = running;
+      long = stores.words;
+      budget = stores.budget;
+      more = stores.drawn;
+      below = below;
+      infos = λ d within. stores.volatile (info_word d) (infos d within);
+      infos_durable = settled.infos;
+      used = stores.volatile used_word used;
+      used_durable = settled.used;
+      pops = pops;
+    }
+
+-- the parts are right with another shape whose places tell the same sizes
+pub running_after : (p : Parts) (w : View) (caches : List Cache) (blocks : HeldBlocks) (t : Shape) (run : IsRunning p) → KeepsFixed p w → length caches ≡ lists
+    → blocks.start ≡ p.blocks.start → blocks.words.items ≡ p.blocks.words.items → IsShape p.capacity (λ word. volatile_at w word) (held_of blocks) t
+    → ((class : ℕ) → IsClass class → IsCacheOf t class (cache_at caches class))
+    → ((d : ℕ) → d < p.capacity → IsClass (image_of p (info_word d)) → (t.place d ≡ in_list (image_of p (info_word d))) ⊎ (t.place d ≡ is_full)
+      → (run.shape.place d ≡ in_list (image_of p (info_word d))) ⊎ (run.shape.place d ≡ is_full))
+    → IsRunning (changed p w caches blocks)
+running_after p w caches blocks t run keeps long start words is caches_are places = record {
+  words_open = record { running = keeps.running; long = keeps.long ∙ run.words_open.long };
+  below = keeps.below;
+  bounded = let e = keeps.budget in let b = run.bounded in subst (λ n. n < 2 ^ 40) (sym e) b;
+  caches_long = long;
+  looks_long = run.looks_long;
+  shape = t;
+  is = is;
+  caches = caches_are;
+  sizes = record {
+    start = start ∙ run.sizes.start;
+    long = ap (λ (xs : List ℕ). length xs) words ∙ run.sizes.long;
+    sizes = λ d within is_class place. sized d within (keeps.infos d within) is_class place;
+  };
+  settled = record { infos = keeps.infos_durable; used = keeps.used_durable };
+  pops = λ list less. let e = keeps.pops list less in let before = run.pops list less in let more = keeps.more in omega arith;
+  knows = let e = keeps.used in let k = run.knows in omega arith;
+} where
+  sized : (d : ℕ) → d < p.capacity → volatile_at w (info_word d) ≡ image_of p (info_word d) → IsClass (volatile_at w (info_word d))
+      → (t.place d ≡ in_list (volatile_at w (info_word d))) ⊎ (t.place d ≡ is_full) → get_or blocks.words.items d 0 ≡ words_of_class (volatile_at w (info_word d))
+  sized d within same is_class place =
+      let before = places d within (subst IsClass same is_class) (subst (λ x. (t.place d ≡ in_list x) ⊎ (t.place d ≡ is_full)) same place) in
+      ap (λ (xs : List ℕ). get_or xs d 0) words ∙ run.sizes.sizes d within (subst IsClass same is_class) before ∙ ap words_of_class (sym same)
+
+-- the caches are those of a shape whose cache of one class is another
+pub caches_set : (p : Parts) (run : IsRunning p) (class : ℕ) (t : Shape) (first : ℕ) (ws : List ℕ) (new : Cache) → IsClass class → new.first ≡ first → new.count ≡ length ws → length ws ≤ blocks_of class
+    → ((c : ℕ) → t.cached c ≡ with_at run.shape.cached class ws c) → ((c : ℕ) → t.start c ≡ with_at run.shape.start class first c)
+    → (c : ℕ) → IsClass c → IsCacheOf t c (cache_at (set p.caches class new) c)
+caches_set p run class t first ws new is first_is count_is few cached start c is_c = elim (cases_eq c class) as (λ _. IsCacheOf t c (cache_at (set p.caches class new) c)) [
+  | inl same ↦ subst (λ k. IsCacheOf t k (cache_at (set p.caches class new) k)) (sym same) here
+  | inr other ↦
+      let e : cache_at (set p.caches class new) c ≡ cache_at p.caches c = get_or-set_other p.caches class c new (record { first = 0; count = 0 }) other in
+      let before = run.caches c is_c in
+      let words : t.cached c ≡ run.shape.cached c = cached c ∙ with_at_other run.shape.cached class ws c other in
+      let begins : t.start c ≡ run.shape.start c = start c ∙ with_at_other run.shape.start class first c other in
+      subst (λ x. IsCacheOf t c x) (sym e)
+      (record {
+        first = before.first ∙ sym begins;
+        count = before.count ∙ ap (λ (xs : List ℕ). length xs) (sym words);
+        most = before.most;
+      })
+] where
+  here : IsCacheOf t class (cache_at (set p.caches class new) class)
+  here =
+      let last = is.last in
+      let long = run.caches_long in
+      let e : cache_at (set p.caches class new) class ≡ new = get_or-set_same p.caches class new (record { first = 0; count = 0 }) (omega arith) in
+      subst (λ x. IsCacheOf t class x) (sym e)
+      (record {
+        first = first_is ∙ sym (start class ∙ with_at_same run.shape.start class first);
+        count = count_is ∙ ap (λ (xs : List ℕ). length xs) (sym (cached class ∙ with_at_same run.shape.cached class ws));
+        most = omega arith;
+      })
+
+-- the other caches stay
+pub other_cache : (caches : List Cache) (class : ℕ) (new : Cache) (c : ℕ) → c ≢ class → cache_at (set caches class new) c ≡ cache_at caches c
+other_cache caches class new c other = get_or-set_other caches class c new (record { first = 0; count = 0 }) other
+
+-- steps that store to words of an allocator serve the held blocks
+pub serves_of : (p q : Parts) (held : List Block) (to : ℕ → Type 0) → IsRunning p → q.capacity ≡ p.capacity → q.used_look ≡ p.used_look → q.taken ≡ p.taken
+    → ((word : ℕ) → to word → IsAllocatorWord p.capacity held word) → (to used_word → ⊥) → StoresOnly to p.words q.words → Serves held p q
+serves_of p q held to run capacity look taken are not_used stores = record {
+  capacity = capacity;
+  works = (works_of p.capacity held to p.words q.words are not_used stores run.settled.used).0;
+  knows =
+      let seen : q.used_look.seen ≡ p.used_look.seen = ap (λ x. x.seen) look in
+      let count : q.used_look.taken ≡ p.used_look.taken = ap (λ x. x.taken) look in
+      omega arith;
+  taken = omega arith;
+}
+
+pub serves_none : (p : Parts) (held : List Block) → Serves held p p
+serves_none p held = record { capacity = refl; works = works_none p.capacity held p.words; knows = omega arith; taken = omega arith }
+
+pub serves_then : (p q r : Parts) (held : List Block) → Serves held p q → Serves held q r → Serves held p r
+serves_then p q r held a b = record {
+  capacity = b.capacity ∙ a.capacity;
+  works = works_then p.capacity held p.words q.words r.words a.works (subst (λ n. Rattle.block_heap.specs.Works.Works n held q.words r.words) a.capacity b.works);
+  knows = let x = a.knows in let y = b.knows in omega arith;
+  taken = let x = a.taken in let y = b.taken in omega arith;
+}
+
+-- blocks have an even number of words
+pub even_words : (class : ℕ) → IsClass class → words_of_class class % 2 ≡ 0
+unfolding words_of_class class_sizes
+even_words class is = eqb-true (words_of_class class % 2) 0 (at_class (λ c. nat_eq (words_of_class c % 2) 0) refl class is)
+
+pub even_product : (index words : ℕ) → words % 2 ≡ 0 → (index * words) % 2 ≡ 0
+even_product index words even =
+    let half : words ≡ 2 * (words / 2) = omega arith in
+    let product : index * words ≡ index * (2 * (words / 2)) = ap (λ x. index * x) half in
+    omega arith
+
+-- a first word of a block of superblock d
+module _ (p : Parts) (class d word : ℕ) (is : IsClass class) (run : IsRunning p) (within : d < p.capacity) (first : IsFirstOf p.capacity class d word) where
+  first_in : IsInSuperblock p.capacity d word
+  first_in = first_inside p.capacity class d word is first
+
+  pub first_below : word < image_words p.capacity
+  first_below = let until = first_in.until in omega arith
+
+  pub first_from : start_word p.capacity 0 ≤ word
+  first_from = let from = first_in.from in omega arith
+
+  pub first_of_d : (word - start_word p.capacity 0) / 8192 ≡ d
+  first_of_d = let from = first_in.from in let until = first_in.until in omega arith
+
+  pub first_mark : (h : HeldBlocks) → h.start ≡ p.blocks.start → h.words.items ≡ p.blocks.words.items → HasMark h word
+  first_mark h start words =
+      let from = first_in.from in
+      let until = first_in.until in
+      let begins = start ∙ run.sizes.start in
+      let long : length h.words.items ≡ p.capacity = ap (λ (xs : List ℕ). length xs) words ∙ run.sizes.long in
+      let product = even_product first.index (words_of_class class) (even_words class is) in
+      let at = first.at in
+      record { from = omega arith; until = omega arith; even = omega arith }
+
+-- the first block of a cache that has one
+pub record IsFirstCached (p : Parts) (class : ℕ) (run : IsRunning p) (first : ℕ) : Type 0 where
+  pub behind : List ℕ
+  pub cached : run.shape.cached class ≡ first ∷ behind
+  pub d : ℕ
+  pub within : d < p.capacity
+  pub is_first : IsFirstOf p.capacity class d first
+  pub info : image_of p (info_word d) ≡ class
+  pub place : (run.shape.place d ≡ in_list class) ⊎ (run.shape.place d ≡ is_full)
+
+-- a cached block
+pub cached_where : (p : Parts) (class : ℕ) (is : IsClass class) (run : IsRunning p) (first : ℕ) (behind : List ℕ) → run.shape.cached class ≡ first ∷ behind → IsFirstCached p class run first
+cached_where p class is run first behind e =
+    let has : Contains (run.shape.cached class) first = subst (λ xs. Contains xs first) (sym e) (in_head first behind) in
+    let found = run.is.cached class first is has in
+    let of = cached_of_class p.capacity (image_of p) (held_in p) run.shape run.is class first is has in
+    record {
+      behind = behind;
+      cached = e;
+      d = found.superblock;
+      within = found.within;
+      is_first = found.is_first;
+      info = of.info;
+      place = elim found.place as (λ _. (run.shape.place found.superblock ≡ in_list class) ⊎ (run.shape.place found.superblock ≡ is_full)) [ inl listed ↦ inl listed | inr full ↦ inr full.0 ];
+    }
+
+some_cached : (p : Parts) (class : ℕ) (is : IsClass class) (run : IsRunning p) (first : ℕ) (words : List ℕ) → run.shape.cached class ≡ words → 1 ≤ length words → Walks (image_of p) first words
+    → IsFirstCached p class run first
+some_cached p class is run first [] e some walks = absurd (omega arith)
+some_cached p class is run first (w ∷ ws) e some walks = cached_where p class is run first ws (e ∙ ap (λ x. x ∷ ws) (sym walks.0))
+
+pub first_cached : (p : Parts) (class : ℕ) (is : IsClass class) (run : IsRunning p) (cache : Cache) → cache ≡ cache_at p.caches class → 1 ≤ (cache_at p.caches class).count → IsFirstCached p class run cache.first
+first_cached p class is run cache e some =
+    let of = run.caches class is in
+    let count : (cache_at p.caches class).count ≡ length (run.shape.cached class) = of.count in
+    let first : cache.first ≡ run.shape.start class = ap (λ (x : Cache). x.first) e ∙ of.first in
+    subst (λ x. IsFirstCached p class run x) (sym first)
+    (some_cached p class is run (run.shape.start class) (run.shape.cached class) refl (omega arith) (run.is.walks class is))
+
+-- the block that begins there has the words of the class
+pub cached_block : (p : Parts) (class : ℕ) (is : IsClass class) (run : IsRunning p) (first : ℕ) (h : HeldBlocks) → IsFirstCached p class run first → h.start ≡ p.blocks.start → h.words.items ≡ p.blocks.words.items
+    → at_mark h first ≡ record { first_word = first; words = words_of_class class }
+cached_block p class is run first h cached start words =
+    let begins : h.start ≡ start_word p.capacity 0 = start ∙ run.sizes.start in
+    let d_is : (first - h.start) / 8192 ≡ cached.d = ap (λ x. (first - x) / 8192) begins ∙ first_of_d p class cached.d first is run cached.within cached.is_first in
+    let e = cached.info in
+    let known : get_or p.blocks.words.items cached.d 0 ≡ words_of_class (image_of p (info_word cached.d)) =
+        run.sizes.sizes cached.d cached.within (subst IsClass (sym e) is)
+        (subst (λ c. (run.shape.place cached.d ≡ in_list c) ⊎ (run.shape.place cached.d ≡ is_full)) (sym e) cached.place) in
+    let size : get_or h.words.items ((first - h.start) / 8192) 0 ≡ words_of_class class =
+        ap (λ k. get_or h.words.items k 0) d_is ∙ ap (λ (xs : List ℕ). get_or xs cached.d 0) words ∙ known ∙ ap words_of_class e in
+    same_fields (at_mark h first) (record { first_word = first; words = words_of_class class }) refl size
+
+-- the first block of the cache was handed out
+module _ (p : Parts) (class : ℕ) (is : IsClass class) (run : IsRunning p) (cache : Cache) (cache_is : cache ≡ cache_at p.caches class) (some : 1 ≤ (cache_at p.caches class).count)
+    (w : View) (next : ℕ) (h : HeldBlocks) (loaded : IsLoaded cache.first next p.words w) (stores : StoresOnly (λ _. ⊥) p.words w)
+    (adds : AddsTo (at_mark p.blocks cache.first) (held_in p) (held_of h)) (words : h.words.items ≡ p.blocks.words.items) (start : h.start ≡ p.blocks.start) where
+  abbrev pub handed_cache : Cache
+  handed_cache = record { first = next; count = cache.count - 1 }
+
+  abbrev pub handed_parts : Parts
+  handed_parts = changed p w (set p.caches class handed_cache) h
+
+  front : IsFirstCached p class run cache.first
+  front = first_cached p class is run cache cache_is some
+
+  abbrev block : Block
+  block = record { first_word = cache.first; words = words_of_class class }
+
+  adds_block : AddsTo block (held_in p) (held_of h)
+  adds_block = subst (λ b. AddsTo b (held_in p) (held_of h)) (cached_block p class is run cache.first p.blocks front refl refl) adds
+
+  count_is : cache.count ≡ length front.behind + 1
+  count_is =
+      let of = run.caches class is in
+      let e : cache.count ≡ (cache_at p.caches class).count = ap (λ (x : Cache). x.count) cache_is in
+      let c : (cache_at p.caches class).count ≡ length (run.shape.cached class) = of.count in
+      let l : length (run.shape.cached class) ≡ length (cache.first ∷ front.behind) = ap (λ (xs : List ℕ). length xs) front.cached in
+      omega arith
+
+  few_behind : length front.behind ≤ blocks_of class
+  few_behind =
+      let of = run.caches class is in
+      let most : (cache_at p.caches class).count ≤ blocks_of class = of.most in
+      let e : cache.count ≡ (cache_at p.caches class).count = ap (λ (x : Cache). x.count) cache_is in
+      let n = count_is in
+      omega arith
+
+  shape_after : IsShape p.capacity (λ word. volatile_at w word) (held_of h) (with_cache run.shape class next front.behind) × (Contains (held_in p) block → ⊥)
+  shape_after =
+      let both = hand_out p.capacity class cache.first (image_of p) (held_in p) (held_of h) run.shape front.behind is run.is front.cached adds_block in
+      (
+        subst (λ (xs : List ℕ). IsShape p.capacity (λ word. get_or xs word 0) (held_of h) (with_cache run.shape class next front.behind)) (sym loaded.volatile)
+        (subst (λ x. IsShape p.capacity (image_of p) (held_of h) (with_cache run.shape class x front.behind)) (sym loaded.seen) both.0),
+        both.1,
+      )
+
+  pub handed_running : IsRunning handed_parts
+  handed_running = running_after p w (set p.caches class handed_cache) h (with_cache run.shape class next front.behind) run
+      (keeps_fixed p w (λ _. ⊥) run stores loaded.goes.running loaded.goes.below (λ d within out. out) (λ out. out) (λ list less. ap head_pops (stores.volatile (head_word list) (λ out. out))))
+      (length-set p.caches class handed_cache ∙ run.caches_long) start words shape_after.0
+      (caches_set p run class (with_cache run.shape class next front.behind) next front.behind handed_cache is refl (let n = count_is in omega arith) few_behind (λ c. refl) (λ c. refl))
+      (λ d within is_class place. place)
+
+  pub handed : (b : Block) → b ≡ at_mark h cache.first → HandsOut class b p handed_parts
+  handed b is_b =
+      let e : b ≡ block = is_b ∙ cached_block p class is run cache.first h front start words in
+      let last = is.last in
+      let long = run.caches_long in
+      let now : cache_at (set p.caches class handed_cache) class ≡ handed_cache = get_or-set_same p.caches class handed_cache (record { first = 0; count = 0 }) (omega arith) in
+      let now_count : (cache_at (set p.caches class handed_cache) class).count ≡ cache.count - 1 = ap (λ (x : Cache). x.count) now in
+      let was : cache.count ≡ (cache_at p.caches class).count = ap (λ (x : Cache). x.count) cache_is in
+      subst (λ x. HandsOut class x p handed_parts) (sym e)
+      (record {
+        running = handed_running;
+        size = refl;
+        adds = adds_block;
+        new = shape_after.1;
+        count = omega arith;
+        caches = λ c is_c other. other_cache p.caches class handed_cache c other;
+        drains = hand_out_drains p.capacity class cache.first (image_of p) (held_in p) (held_of h) run.shape front.behind is run.is front.cached adds_block;
+        volatile = loaded.volatile;
+        taken = refl;
+      })
+
+  pub handed_serves : Serves (held_in p) p handed_parts
+  handed_serves = serves_of p handed_parts (held_in p) (λ _. ⊥) run refl refl refl (λ word out. absurd out) (λ out. out) stores

@@ -1,0 +1,161 @@
+use Rattle.std.proofs.Common.{◌≡◌, refl, ◌∙◌, sym, arith}
+use Rattle.std.proofs.lemmas.List.{get_or_read}
+use Rattle.heap_model.proofs.SizeLemmas.{few_blocks}
+use Rattle.block_heap.specs.MediumView.{medium_view}
+use Rattle.block_heap.specs.Parts.{parts_of, cache_at}
+use Rattle.block_heap.proofs.FreeLemmas.{held_mark, held_below, taken_back, freed_serves, count_short, freed_running, freed_short, flushed_short, flushed_held, flushed_serve, flushed_goes}
+use Rattle.block_heap.proofs.arena.Arena.free_small.Goals as goal
+
+pub remove-requires : goal.remove-requires
+remove-requires g c =
+    let p = parts_of c.args.self.now in
+    held_mark p c.args.class c.requires.class c.requires.running c.args.b c.requires.holds c.requires.size
+
+pub store-requires-clause-within : goal.store-requires-clause-within
+store-requires-clause-within g c =
+    let p = parts_of c.args.self.now in
+    let below = held_below p c.args.class c.requires.class c.requires.running c.args.b c.requires.holds c.requires.size in let words = c.requires.running.words_open.long in omega arith
+
+pub returns-in_err-store-clause-freed : goal.returns-in_err-store-clause-freed
+returns-in_err-store-clause-freed g c =
+    let p = parts_of c.args.self.now in
+    taken_back p c.args.class c.requires.class c.requires.running c.args.b c.requires.holds c.requires.size
+    c.remove.new.self c.remove.ensures.held c.remove.ensures.words c.remove.ensures.start
+
+pub returns-in_err-store-clause-serves : goal.returns-in_err-store-clause-serves
+returns-in_err-store-clause-serves g c =
+    let p = parts_of c.args.self.now in
+    freed_serves p c.args.class c.requires.class c.requires.running c.args.b c.requires.holds c.requires.size
+    c.remove.new.self c.remove.ensures.held c.remove.ensures.words c.remove.ensures.start _ refl refl refl c.store.ensures.others
+
+pub overflow_add-cache : goal.overflow_add-cache
+overflow_add-cache g c =
+    let p = parts_of c.args.self.now in
+    let last = c.requires.class.last in
+    let long = c.requires.running.caches_long in
+    let is : c.index-cache.result.now ≡ cache_at p.caches c.args.class = get_or_read c.args.self.now.caches.items c.args.class c.index-cache.result.now (omega arith) c.index-cache.ensures (record { first = 0; count = 0 }) in
+    let few = few_blocks c.args.class c.requires.class in
+    let short = count_short p c.args.class c.requires.class c.requires.running c.args.b c.requires.holds c.requires.size
+        c.remove.new.self c.remove.ensures.held c.remove.ensures.words c.remove.ensures.start
+        c.index-cache.result.now is (medium_view c.store.new.self) c.in_ok-store.ensures.ok c.store.ensures.others c.requires.short in
+    omega arith
+
+pub overflow_add-cache-2 : goal.overflow_add-cache-2
+overflow_add-cache-2 g c =
+    let p = parts_of c.args.self.now in
+    let last = c.requires.class.last in
+    let long = c.requires.running.caches_long in
+    let is : c.index-cache.result.now ≡ cache_at p.caches c.args.class = get_or_read c.args.self.now.caches.items c.args.class c.index-cache.result.now (omega arith) c.index-cache.ensures (record { first = 0; count = 0 }) in
+    let few = few_blocks c.args.class c.requires.class in
+    let short = count_short p c.args.class c.requires.class c.requires.running c.args.b c.requires.holds c.requires.size
+        c.remove.new.self c.remove.ensures.held c.remove.ensures.words c.remove.ensures.start
+        c.index-cache.result.now is (medium_view c.store.new.self) c.in_ok-store.ensures.ok c.store.ensures.others c.requires.short in
+    omega arith
+
+pub flush-requires-clause-running : goal.flush-requires-clause-running
+flush-requires-clause-running g c =
+    let p = parts_of c.args.self.now in
+    let last = c.requires.class.last in
+    let long = c.requires.running.caches_long in
+    let is : c.index-cache.result.now ≡ cache_at p.caches c.args.class = get_or_read c.args.self.now.caches.items c.args.class c.index-cache.result.now (omega arith) c.index-cache.ensures (record { first = 0; count = 0 }) in
+    freed_running p c.args.class c.requires.class c.requires.running c.args.b c.requires.holds c.requires.size
+    c.remove.new.self c.remove.ensures.held c.remove.ensures.words c.remove.ensures.start
+    c.index-cache.result.now is (medium_view c.store.new.self) c.in_ok-store.ensures.ok c.store.ensures.others c.requires.short
+
+pub returns-in_err-flush-clause-freed : goal.returns-in_err-flush-clause-freed
+returns-in_err-flush-clause-freed g c =
+    let p = parts_of c.args.self.now in
+    let last = c.requires.class.last in
+    let long = c.requires.running.caches_long in
+    let is : c.index-cache.result.now ≡ cache_at p.caches c.args.class = get_or_read c.args.self.now.caches.items c.args.class c.index-cache.result.now (omega arith) c.index-cache.ensures (record { first = 0; count = 0 }) in
+    flushed_held p c.args.class c.requires.class c.requires.running c.args.b c.requires.holds c.requires.size
+    c.remove.new.self c.remove.ensures.held c.remove.ensures.words c.remove.ensures.start
+    c.index-cache.result.now is (medium_view c.store.new.self) c.in_ok-store.ensures.ok c.store.ensures.others c.requires.short
+    (parts_of c.flush.new.self) c.flush.ensures.held
+
+pub returns-in_err-flush-clause-serves : goal.returns-in_err-flush-clause-serves
+returns-in_err-flush-clause-serves g c =
+    let p = parts_of c.args.self.now in
+    let last = c.requires.class.last in
+    let long = c.requires.running.caches_long in
+    let is : c.index-cache.result.now ≡ cache_at p.caches c.args.class = get_or_read c.args.self.now.caches.items c.args.class c.index-cache.result.now (omega arith) c.index-cache.ensures (record { first = 0; count = 0 }) in
+    flushed_serve p c.args.class c.requires.class c.requires.running c.args.b c.requires.holds c.requires.size
+    c.remove.new.self c.remove.ensures.held c.remove.ensures.words c.remove.ensures.start
+    c.index-cache.result.now is (medium_view c.store.new.self) c.in_ok-store.ensures.ok c.store.ensures.others c.requires.short
+    (parts_of c.flush.new.self) c.flush.ensures.held c.flush.ensures.serves
+
+pub returns-in_ok-flush-clause-freed : goal.returns-in_ok-flush-clause-freed
+returns-in_ok-flush-clause-freed g c =
+    let p = parts_of c.args.self.now in
+    let last = c.requires.class.last in
+    let long = c.requires.running.caches_long in
+    let is : c.index-cache.result.now ≡ cache_at p.caches c.args.class = get_or_read c.args.self.now.caches.items c.args.class c.index-cache.result.now (omega arith) c.index-cache.ensures (record { first = 0; count = 0 }) in
+    flushed_held p c.args.class c.requires.class c.requires.running c.args.b c.requires.holds c.requires.size
+    c.remove.new.self c.remove.ensures.held c.remove.ensures.words c.remove.ensures.start
+    c.index-cache.result.now is (medium_view c.store.new.self) c.in_ok-store.ensures.ok c.store.ensures.others c.requires.short
+    (parts_of c.flush.new.self) c.flush.ensures.held
+
+pub returns-in_ok-flush-clause-serves : goal.returns-in_ok-flush-clause-serves
+returns-in_ok-flush-clause-serves g c =
+    let p = parts_of c.args.self.now in
+    let last = c.requires.class.last in
+    let long = c.requires.running.caches_long in
+    let is : c.index-cache.result.now ≡ cache_at p.caches c.args.class = get_or_read c.args.self.now.caches.items c.args.class c.index-cache.result.now (omega arith) c.index-cache.ensures (record { first = 0; count = 0 }) in
+    flushed_serve p c.args.class c.requires.class c.requires.running c.args.b c.requires.holds c.requires.size
+    c.remove.new.self c.remove.ensures.held c.remove.ensures.words c.remove.ensures.start
+    c.index-cache.result.now is (medium_view c.store.new.self) c.in_ok-store.ensures.ok c.store.ensures.others c.requires.short
+    (parts_of c.flush.new.self) c.flush.ensures.held c.flush.ensures.serves
+
+pub returns-in_ok-flush-clause-short : goal.returns-in_ok-flush-clause-short
+returns-in_ok-flush-clause-short g c =
+    let p = parts_of c.args.self.now in
+    let last = c.requires.class.last in
+    let long = c.requires.running.caches_long in
+    let is : c.index-cache.result.now ≡ cache_at p.caches c.args.class = get_or_read c.args.self.now.caches.items c.args.class c.index-cache.result.now (omega arith) c.index-cache.ensures (record { first = 0; count = 0 }) in
+    flushed_short p c.args.class c.requires.class c.requires.running c.args.b c.requires.holds c.requires.size
+    c.remove.new.self c.remove.ensures.held c.remove.ensures.words c.remove.ensures.start
+    c.index-cache.result.now is (medium_view c.store.new.self) c.in_ok-store.ensures.ok c.store.ensures.others c.requires.short
+    (parts_of c.flush.new.self) c.in_ok-flush.ensures.keeps c.in_ok-flush.ensures.empty
+
+pub returns-in_ok-flush-clause-goes : goal.returns-in_ok-flush-clause-goes
+returns-in_ok-flush-clause-goes g c =
+    let p = parts_of c.args.self.now in
+    let last = c.requires.class.last in
+    let long = c.requires.running.caches_long in
+    let is : c.index-cache.result.now ≡ cache_at p.caches c.args.class = get_or_read c.args.self.now.caches.items c.args.class c.index-cache.result.now (omega arith) c.index-cache.ensures (record { first = 0; count = 0 }) in
+    flushed_goes p c.args.class c.requires.class c.requires.running c.args.b c.requires.holds c.requires.size
+    c.remove.new.self c.remove.ensures.held c.remove.ensures.words c.remove.ensures.start
+    c.index-cache.result.now is (medium_view c.store.new.self) c.in_ok-store.ensures.ok c.store.ensures.others c.requires.short
+    (parts_of c.flush.new.self) c.in_ok-flush.ensures.running c.flush.ensures.serves.works.stores.drawn c.flush.ensures.few
+
+pub returns-else-cache-blocks_of-clause-running : goal.returns-else-cache-blocks_of-clause-running
+returns-else-cache-blocks_of-clause-running g c =
+    let p = parts_of c.args.self.now in
+    let last = c.requires.class.last in
+    let long = c.requires.running.caches_long in
+    let is : c.index-cache.result.now ≡ cache_at p.caches c.args.class = get_or_read c.args.self.now.caches.items c.args.class c.index-cache.result.now (omega arith) c.index-cache.ensures (record { first = 0; count = 0 }) in
+    freed_running p c.args.class c.requires.class c.requires.running c.args.b c.requires.holds c.requires.size
+    c.remove.new.self c.remove.ensures.held c.remove.ensures.words c.remove.ensures.start
+    c.index-cache.result.now is (medium_view c.store.new.self) c.in_ok-store.ensures.ok c.store.ensures.others c.requires.short
+
+pub returns-else-cache-blocks_of-clause-short : goal.returns-else-cache-blocks_of-clause-short
+returns-else-cache-blocks_of-clause-short g c =
+    let p = parts_of c.args.self.now in
+    let last = c.requires.class.last in
+    let long = c.requires.running.caches_long in
+    let is : c.index-cache.result.now ≡ cache_at p.caches c.args.class = get_or_read c.args.self.now.caches.items c.args.class c.index-cache.result.now (omega arith) c.index-cache.ensures (record { first = 0; count = 0 }) in
+    freed_short p c.args.class c.requires.class c.requires.running c.args.b c.requires.holds c.requires.size
+    c.remove.new.self c.remove.ensures.held c.remove.ensures.words c.remove.ensures.start
+    c.index-cache.result.now is (medium_view c.store.new.self) c.in_ok-store.ensures.ok c.store.ensures.others c.requires.short (λ e. c.if-cache-blocks_of.false (e ∙ sym c.blocks_of.ensures))
+
+pub returns-else-cache-blocks_of-clause-freed : goal.returns-else-cache-blocks_of-clause-freed
+returns-else-cache-blocks_of-clause-freed g c =
+    let p = parts_of c.args.self.now in
+    taken_back p c.args.class c.requires.class c.requires.running c.args.b c.requires.holds c.requires.size
+    c.remove.new.self c.remove.ensures.held c.remove.ensures.words c.remove.ensures.start
+
+pub returns-else-cache-blocks_of-clause-serves : goal.returns-else-cache-blocks_of-clause-serves
+returns-else-cache-blocks_of-clause-serves g c =
+    let p = parts_of c.args.self.now in
+    freed_serves p c.args.class c.requires.class c.requires.running c.args.b c.requires.holds c.requires.size
+    c.remove.new.self c.remove.ensures.held c.remove.ensures.words c.remove.ensures.start _ refl refl refl c.store.ensures.others
