@@ -1,7 +1,9 @@
+pub mod AllocLemmas
 pub mod AnchorLemmas
 pub mod CallerLemmas
 pub mod DivideLemmas
 pub mod HeldLemmas
+pub mod LargeStepLemmas
 pub mod MediumLemmas
 pub mod StableLemmas
 pub mod RunningLemmas

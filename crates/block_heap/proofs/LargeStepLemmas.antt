@@ -1,0 +1,1 @@
+-- How blocks of whole superblocks are made and freed, step by step.
