@@ -5,5 +5,6 @@ pub mod DivideLemmas
 pub mod HeldLemmas
 pub mod LargeStepLemmas
 pub mod MediumLemmas
+pub mod SplitLemmas
 pub mod StableLemmas
 pub mod RunningLemmas
