@@ -1,10 +1,13 @@
+pub mod AllocLemmas
 pub mod AnchorLemmas
 pub mod CallerLemmas
 pub mod DivideLemmas
 pub mod HeldLemmas
+pub mod LargeStepLemmas
 pub mod MediumLemmas
 pub mod OpeningLemmas
 pub mod OpenedLemmas
+pub mod SplitLemmas
 pub mod StableLemmas
 pub mod RunningLemmas
 pub mod SeatLemmas
