@@ -125,6 +125,7 @@ module _ (words : List ℕ) (held : List Block) (budget : ℕ) (h : HeldBlocks) 
             (ready.shaped.descriptors list) ready.formed.small (ready.shaped.follows list less) in
         omega arith;
     knows = omega arith;
+    few = omega arith;
   }
 
   opens_parts : Opens words held budget parts

@@ -58,6 +58,7 @@ own_stored p w o word value run lasts own within stored stores = record {
       let more = stores.drawn in
       subst (λ x. 2 * head_pops x ≤ w.drawn) (sym (stores.volatile (head_word list) (not_head list less))) (omega arith);
   knows = subst (λ x. x + p.used_look.taken ≡ p.used_look.seen + p.taken) (sym (stores.volatile used_word not_used)) run.knows;
+  few = subst (λ x. p.taken ≤ x) (sym (stores.volatile used_word not_used)) run.few;
 } where
   at : ((root_word 0 ≤ word) × (word < info_word 0)) ⊎ (start_word p.capacity 0 ≤ word)
   at = own_where p.capacity (held_in p) p.words word lasts.stable own
