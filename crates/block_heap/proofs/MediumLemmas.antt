@@ -1,5 +1,5 @@
 -- What each step on the words of an open heap leaves, and how rows of steps go together.
-use Rattle.std.proofs.Common.{◌≡◌, ℕ, ◌+◌, ◌<◌, ◌⊎◌, List, length, get_or, set, refl, sym, ◌∙◌, ap, subst, arith, inl, inr, None, length-set, get_or-set_other}
+use Rattle.std.proofs.Common.{◌≡◌, ℕ, ◌+◌, ◌<◌, ◌⊎◌, List, length, get_or, set, refl, sym, ◌∙◌, ap, subst, arith, inl, inr, None, Result, Ok, Err, OnErr, length-set, get_or-set_other}
 use Rattle.std.proofs.lemmas.Bool.{cases_eq}
 use Rattle.line_memory.specs.View.{View, volatile_at, durable_at, IsPending, IsSound, line_of}
 use Rattle.line_memory.specs.Crash.{IsValueOf, MayStore}
@@ -117,6 +117,7 @@ load_is gives word value v w takes =
         goes = same_goes takes.number v w takes.running takes.allowed same;
         seen = done.seen;
         volatile = ap (λ (x : View). x.volatile) done.unchanged;
+        pending = ap (λ (x : View). x.pending) done.unchanged;
       },
       draw_stores takes.number v w done.unchanged,
     )
@@ -131,6 +132,7 @@ store_is gives word value v w takes =
       record {
         goes = same_goes takes.number v w takes.running takes.allowed done.tickets;
         volatile = volatile;
+        pending = λ other out p. (done.pending other out).1 p;
       },
       record {
         words = ap (λ (xs : List ℕ). length xs) volatile ∙ length-set v.volatile word value;
@@ -153,6 +155,11 @@ write_back_is gives line word v w sound at takes =
         goes = same_goes takes.number v w takes.running takes.allowed done.tickets;
         volatile = volatile;
         line = λ other within same. done.in_line other within (same ∙ sym at);
+        pending = λ other p.
+            elim (cases_eq (line_of other) line) as (λ _. IsPending w other) [
+              | inl same ↦ done.in_line other (sound.pending_within other p) same
+              | inr differs ↦ (done.pending other differs).1 p
+            ];
       },
       record {
         words = ap (λ (xs : List ℕ). length xs) volatile;
@@ -251,3 +258,8 @@ none_may word value v w none =
       seen = inr (none.volatile word (λ f. f));
       left = inr (none.durable word (λ f. f));
     }
+
+-- a fact that holds anyway holds at `Err`
+pub at_err : {T E : Type 0} (r : Result T E) (P : Type 0) → P → OnErr r P
+at_err (Ok t) P p = tt
+at_err (Err e) P p = p

@@ -56,6 +56,7 @@ running_words p w to run running same stores infos used below = record {
       let e : get_or w.volatile (head_word list) 0 ≡ get_or p.words.volatile (head_word list) 0 = ap (λ xs. get_or xs (head_word list) 0) same in
       subst (λ x. 2 * head_pops x ≤ w.drawn) (sym e) (omega arith);
   knows = subst (λ (xs : List ℕ). get_or xs used_word 0 + p.used_look.taken ≡ p.used_look.seen + p.taken) (sym same) run.knows;
+  few = subst (λ (xs : List ℕ). p.taken ≤ get_or xs used_word 0) (sym same) run.few;
 }
 
 -- the head of a list leads to a superblock or to none, and its count has room

@@ -16,62 +16,11 @@ use Rattle.line_memory.specs.Crash.{IsValueOf, MayStore}
 use Rattle.block_heap.specs.Medium.{StoresOnly}
 use Rattle.block_heap.specs.Words.{IsOwn, in_block, in_root, NamesAll}
 use Rattle.block_heap.specs.Sound.{IsPlaced}
+use Rattle.block_heap.specs.Stable.{root_below, block_more, low_layout, lies, own_where}
 use Rattle.block_heap.specs.Works.{IsAllocatorWord, is_used, is_head, is_info, is_anchor, is_link, is_inside, Works, IsStable}
 use Rattle.block_heap.proofs.MediumLemmas.{stores_then, stores_more, stores_nothing}
 
--- the `count` numbers from a number on: each stands among them, and no other does
-in_numbers : (from count i : ℕ) → from ≤ i → i < from + count → Contains (words_from (λ n. n) from count) i
-in_numbers from zero i low high = absurd (omega arith)
-in_numbers from (suc count) i low high = elim (cases_eq from i) as (λ _. Contains (words_from (λ n. n) from (suc count)) i) [
-  | inl same ↦ subst (λ x. Contains (from ∷ words_from (λ n. n) (from + 1) count) x) same (in_head from (words_from (λ n. n) (from + 1) count))
-  | inr other ↦ in_rest from i (words_from (λ n. n) (from + 1) count) (in_numbers (from + 1) count i (omega arith) (omega arith))
-]
-
-numbers_below : (from count i : ℕ) → Contains (words_from (λ n. n) from count) i → i < from + count
-numbers_below from zero i p = absurd (in_none i p)
-numbers_below from (suc count) i p = elim (head_or_rest from i (words_from (λ n. n) (from + 1) count) p) as (λ _. i < from + suc count) [
-  | inl same ↦ omega arith
-  | inr later ↦ omega (arith, numbers_below (from + 1) count i later)
-]
-
--- the numbers of the roots
-pub is_root : (i : ℕ) → i < roots → Contains (words_from (λ n. n) 0 roots) i
-is_root i below = in_numbers 0 roots i (omega arith) (omega arith)
-
-pub root_below : (i : ℕ) → Contains (words_from (λ n. n) 0 roots) i → i < roots
-root_below i p = omega (arith, numbers_below 0 roots i p)
-
--- a block stays one where more superblocks are taken
-begins_more : (l : Layout) (used d w n : ℕ) → l.used ≤ used → Begins l d w n → Begins (record { capacity = l.capacity; used = used; info = l.info }) d w n
-begins_more l used d w n more (of_class c info is) = of_class c info is
-begins_more l used d w n more (as_large k some info end zeros) = as_large k some info (omega arith) zeros
-
-taken_more : (l : Layout) (used : ℕ) (b : Block) → l.used ≤ used → IsBlock l b → IsBlock (record { capacity = l.capacity; used = used; info = l.info }) b
-taken_more l used b more is = record {
-  superblock = is.superblock;
-  index = is.index;
-  words = is.words;
-  count = is.count;
-  is_of = record {
-    taken = let taken = is.is_of.taken in omega arith;
-    begins = begins_more l used is.superblock is.words is.count more is.is_of.begins;
-    below = is.is_of.below;
-    at = is.is_of.at;
-    size = is.is_of.size;
-  };
-}
-
--- and where the infos of its superblocks stay
-block_more : (l m : Layout) (b : Block) → m.capacity ≡ l.capacity → l.used ≤ m.used → ((d : ℕ) → HasPartIn l.capacity b d → m.info d ≡ l.info d)
-    → IsBlock l b → IsBlock m b
-block_more l m b capacity more infos is =
-    same_there (record { capacity = l.capacity; used = m.used; info = l.info }) m b capacity refl infos (taken_more l m.used b more is)
-
 module _ (capacity : ℕ) (held : List Block) where
-  -- the layout that tells held blocks
-  abbrev low_layout : View → ℕ → Layout
-  low_layout v low = record { capacity = capacity; used = low; info = λ d. volatile_at v (info_word d) }
-
   -- no step at all, two rows of steps, and steps while more blocks are held
   pub works_none : (v : View) → Works capacity held v v
   works_none v = record {
@@ -127,17 +76,6 @@ module _ (capacity : ℕ) (held : List Block) where
     ];
   }
 
-  -- where a held block lies, and an own word
-  lies : (v : View) (b : Block) (stable : IsStable capacity v held) → Contains held b
-      → (start_word capacity 0 ≤ b.first_word) × (b.first_word + b.words ≤ start_word capacity stable.low)
-  lies v b stable holds = block_inside (low_layout v stable.low) b (stable.named b holds)
-
-  own_where : (v : View) (word : ℕ) → IsStable capacity v held → IsOwn held (words_from (λ n. n) 0 roots) word
-      → ((root_word 0 ≤ word) × (word < info_word 0)) ⊎ (start_word capacity 0 ≤ word)
-  own_where v _ stable (in_block b word holds in_b) =
-      let inside = lies v b stable holds in let from = in_b.from in inr (omega (arith, inside.0))
-  own_where v _ stable (in_root i word p same) = let below = root_below i p in inl (omega arith, omega arith)
-
   -- an allocator stores to no own word of the seat
   pub not_own : (v : View) (word : ℕ) → capacity ≤ largest_capacity → IsStable capacity v held → IsAllocatorWord capacity held word → IsOwn held (words_from (λ n. n) 0 roots) word → ⊥
   not_own v word small stable may own = by_word may own where
@@ -154,11 +92,11 @@ module _ (capacity : ℕ) (held : List Block) where
     inside_apart _ from none (in_root i other p same) = let below = root_below i p in omega arith
 
     by_word : IsAllocatorWord capacity held word → IsOwn held (words_from (λ n. n) 0 roots) word → ⊥
-    by_word (is_used e) own = fixed_apart (own_where v word stable own) (inl (omega arith))
-    by_word (is_head list below e) own = fixed_apart (own_where v word stable own) (inl (omega arith))
-    by_word (is_info d below none e) own = fixed_apart (own_where v word stable own) (inr (omega arith, omega arith))
-    by_word (is_anchor d below e) own = fixed_apart (own_where v word stable own) (inr (omega arith, omega arith))
-    by_word (is_link d below e) own = fixed_apart (own_where v word stable own) (inr (omega arith, omega arith))
+    by_word (is_used e) own = fixed_apart (own_where capacity held v word stable own) (inl (omega arith))
+    by_word (is_head list below e) own = fixed_apart (own_where capacity held v word stable own) (inl (omega arith))
+    by_word (is_info d below none e) own = fixed_apart (own_where capacity held v word stable own) (inr (omega arith, omega arith))
+    by_word (is_anchor d below e) own = fixed_apart (own_where capacity held v word stable own) (inr (omega arith, omega arith))
+    by_word (is_link d below e) own = fixed_apart (own_where capacity held v word stable own) (inr (omega arith, omega arith))
     by_word (is_inside from none) own = inside_apart word from none own
 
   -- nor to the first four words of the header or to a word without a meaning
@@ -202,7 +140,7 @@ module _ (capacity : ℕ) (held : List Block) where
     fits = stable.fits;
     used = used;
     used_durable = used_durable;
-    named = λ b holds. block_more (low_layout v stable.low) (low_layout w stable.low) b refl (omega arith)
+    named = λ b holds. block_more (low_layout capacity held v stable.low) (low_layout capacity held w stable.low) b refl (omega arith)
         (λ d part. stores.volatile (info_word d) (no_info b d holds part)) (stable.named b holds);
     settled = λ b d holds part.
         let same : volatile_at w (info_word d) ≡ volatile_at v (info_word d) = stores.volatile (info_word d) (no_info b d holds part) in
@@ -229,7 +167,7 @@ module _ (capacity : ℕ) (held : List Block) where
       stable_by (IsAllocatorWord capacity held) v w stable works.stores (λ may. not_first capacity_word may (omega arith))
       (let p = stable.used in let q = works.used in omega arith) (let p = stable.used_durable in let q = works.used_durable in omega arith)
       (λ b d holds part may.
-      let taken = part_taken (low_layout v stable.low) b d (stable.named b holds) part in
+      let taken = part_taken (low_layout capacity held v stable.low) b d (stable.named b holds) part in
       not_info b d (info_word d) holds part (omega arith) refl may)
 
   -- also over a store to an own word, or over none
@@ -243,11 +181,11 @@ module _ (capacity : ℕ) (held : List Block) where
       stable_by to v w stable stores (λ t. header_apart capacity_word t (omega arith)) (omega arith)
       (elim (stores.durable used_word not_used) as (λ _. stable.low ≤ durable_at w used_word) [ inl e ↦ omega arith | inr e ↦ omega arith ])
       (λ b d holds part t.
-      let taken = part_taken (low_layout v stable.low) b d (stable.named b holds) part in
-      elim (own_where v (info_word d) stable (own (info_word d) t)) as (λ _. ⊥) [ inl at_root ↦ omega (arith, at_root.1) | inr inside ↦ omega arith ])
+      let taken = part_taken (low_layout capacity held v stable.low) b d (stable.named b holds) part in
+      elim (own_where capacity held v (info_word d) stable (own (info_word d) t)) as (λ _. ⊥) [ inl at_root ↦ omega (arith, at_root.1) | inr inside ↦ omega arith ])
     where
       header_apart : (word : ℕ) → to word → word < 16 → ⊥
-      header_apart word t few = elim (own_where v word stable (own word t)) as (λ _. ⊥) [ inl at_root ↦ omega (arith, at_root.0) | inr inside ↦ omega arith ]
+      header_apart word t few = elim (own_where capacity held v word stable (own word t)) as (λ _. ⊥) [ inl at_root ↦ omega (arith, at_root.0) | inr inside ↦ omega arith ]
 
       not_used : to used_word → ⊥
       not_used t = header_apart used_word t (omega arith)
@@ -263,46 +201,3 @@ module _ (capacity : ℕ) (held : List Block) where
     named = λ b p. stable.named b (are b p);
     settled = λ b d p part. stable.settled b d (are b p) part;
   }
-
-  -- where held blocks lie
-  pub stable_placed : (v : View) (b : Block) → 1 ≤ capacity → capacity ≤ largest_capacity → IsStable capacity v held → Contains held b → IsPlaced b
-  stable_placed v b some small stable holds =
-      let fits = stable.fits in
-      let inside = lies v b stable holds in
-      let words = block_words (low_layout v stable.low) b (stable.named b holds) in
-      record { behind = omega (arith, inside.0); some = omega arith; short = omega (arith, inside.1) }
-
-  pub stable_apart : (v : View) (a b : Block) → IsStable capacity v held → Contains held a → Contains held b → AreOneOrApart a b
-  stable_apart v a b stable in_a in_b = never_overlap (low_layout v stable.low) a b (stable.named a in_a) (stable.named b in_b)
-
-  -- neither the first words of the header nor an info is transient
-  not_transient : (word : ℕ) → (word < 16) ⊎ ((d : ℕ) × (word ≡ info_word d)) → IsTransient capacity word → ⊥
-  not_transient _ (inl few) (head_lost list word below e) = omega arith
-  not_transient _ (inl few) (anchor_lost d word below e) = omega arith
-  not_transient _ (inl few) (link_lost d word below e) = omega arith
-  not_transient _ (inr info) (head_lost list word below e) = let at = info.1 in omega arith
-  not_transient _ (inr info) (anchor_lost d word below e) = let at = info.1 in omega arith
-  not_transient _ (inr info) (link_lost d word below e) = let at = info.1 in omega arith
-
-  -- each image that may be left names them
-  pub stable_names : (v : View) (image : Image) → IsStable capacity v held → ((word : ℕ) → (word ≡ state_word → ⊥) → (IsTransient capacity word → ⊥) → IsValueOf v word (image word)) → NamesAll image held
-  stable_names v image stable left = λ b holds. record {
-    begins_at = refl;
-    block = block_more (low_layout v stable.low) (layout_of image) b capacity_is used_is (infos b holds) (stable.named b holds);
-  } where
-    capacity_is : image capacity_word ≡ capacity
-    capacity_is = elim (left capacity_word (λ e. omega (arith, e)) (not_transient capacity_word (inl (omega arith)))) as (λ _. image capacity_word ≡ capacity) [
-      | inl e ↦ e ∙ stable.capacity_durable
-      | inr e ↦ e ∙ stable.capacity_is
-    ]
-
-    used_is : stable.low ≤ image used_word
-    used_is = elim (left used_word (λ e. omega (arith, e)) (not_transient used_word (inl (omega arith)))) as (λ _. stable.low ≤ image used_word) [
-      | inl e ↦ let p = stable.used_durable in omega arith
-      | inr e ↦ let p = stable.used in omega arith
-    ]
-
-    infos : (b : Block) → Contains held b → (d : ℕ) → HasPartIn capacity b d → image (info_word d) ≡ volatile_at v (info_word d)
-    infos b holds d part =
-        let value = left (info_word d) (λ e. omega (arith, e)) (not_transient (info_word d) (inr (d, refl))) in
-        elim value as (λ _. image (info_word d) ≡ volatile_at v (info_word d)) [ inl e ↦ e ∙ stable.settled b d holds part | inr e ↦ e ]

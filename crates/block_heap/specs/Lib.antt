@@ -9,6 +9,7 @@ pub mod Flush
 pub mod Free
 pub mod Held
 pub mod Large
+pub mod Laws
 pub mod Links
 pub mod Looks
 pub mod Medium
@@ -16,10 +17,12 @@ pub mod MediumView
 pub mod Opening
 pub mod Parts
 pub mod Refill
+pub mod Requests
 pub mod Running
 pub mod SeqState
 pub mod Serving
 pub mod Sound
+pub mod Stable
 pub mod Steps
 pub mod Tickets
 pub mod View

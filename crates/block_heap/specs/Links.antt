@@ -5,7 +5,7 @@ use Rattle.heap_model.specs.Words.{head_of, head_first, head_pops}
 use Rattle.line_memory.specs.View.{View, word_count, volatile_at, durable_at}
 use Rattle.block_heap.specs.declared.lists.Popped.{Popped}
 use Rattle.block_heap.specs.declared.superblocks.Fresh.{Fresh}
-use Rattle.block_heap.specs.Medium.{Goes}
+use Rattle.block_heap.specs.Medium.{Goes, StoresOnly}
 
 -- the link to a descriptor: 1 more than its index, or 0 to none
 abbrev pub link_of : Option ℕ → ℕ
@@ -44,6 +44,6 @@ IsPushWord list d word = (word ≡ head_word list) ⊎ (word ≡ link_word d)
 pub record IsFresh (capacity count : ℕ) (fresh : Fresh) (v w : View) : Type 0 where
   pub goes : Goes 4 v w
   pub used : fresh.used ≡ volatile_at v used_word
-  pub words : MatchOption fresh.first ((w.volatile ≡ v.volatile) × (capacity < fresh.used + count))
+  pub words : MatchOption fresh.first ((w.volatile ≡ v.volatile) × (capacity < fresh.used + count) × StoresOnly (λ _. ⊥) v w)
       (λ d. (d ≡ fresh.used) × (fresh.used + count ≤ capacity)
       × (w.volatile ≡ slice_set v.volatile used_word (fresh.used + count)) × (durable_at w used_word ≡ fresh.used + count))

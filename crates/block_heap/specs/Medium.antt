@@ -1,5 +1,5 @@
 -- What steps on the words of an open heap do, and what a row of steps leaves alone.
-use Rattle.std.specs.Prelude.{◌≡◌, ℕ, ◌+◌, ◌<◌, ◌≤◌, ◌⊎◌, None, Some, slice_set}
+use Rattle.std.specs.Prelude.{◌≡◌, ◌≢◌, ℕ, ◌+◌, ◌<◌, ◌≤◌, ◌⊎◌, None, Some, slice_set}
 use Rattle.line_memory.specs.View.{View, word_count, volatile_at, durable_at, IsPending, line_of}
 use Rattle.line_memory.specs.Crash.{IsValueOf}
 
@@ -35,15 +35,18 @@ pub record IsLoaded (word value : ℕ) (v w : View) : Type 0 where
   pub goes : Goes 1 v w
   pub seen : value ≡ volatile_at v word
   pub volatile : w.volatile ≡ v.volatile
+  pub pending : w.pending ≡ v.pending
 
 pub record IsStored (word value : ℕ) (v w : View) : Type 0 where
   pub goes : Goes 1 v w
   pub volatile : w.volatile ≡ slice_set v.volatile word value
+  pub pending : (other : ℕ) → other ≢ word → IsPending v other → IsPending w other
 
 pub record IsWritten (word : ℕ) (v w : View) : Type 0 where
   pub goes : Goes 1 v w
   pub volatile : w.volatile ≡ v.volatile
   pub line : (other : ℕ) → other < word_count v → line_of other ≡ line_of word → IsPending w other
+  pub pending : (other : ℕ) → IsPending v other → IsPending w other
 
 pub record IsFenced (v w : View) : Type 0 where
   pub goes : Goes 1 v w

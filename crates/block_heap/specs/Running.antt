@@ -44,6 +44,7 @@ pub record IsRunning (p : Parts) : Type 0 where
   pub settled : IsSettled p.capacity p.words
   pub pops : (list : ℕ) → list < lists → 2 * head_pops (image_of p (head_word list)) ≤ p.words.drawn
   pub knows : image_of p used_word + p.used_look.taken ≡ p.used_look.seen + p.taken
+  pub few : p.taken ≤ image_of p used_word
 
 -- no cache has as many blocks as a superblock, but perhaps that of this class
 pub record AreShort (p : Parts) (but : ℕ) : Type 0 where

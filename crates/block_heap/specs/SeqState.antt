@@ -1,5 +1,5 @@
 -- What contracts see of a heap for one thread.
-use Rattle.std.specs.Prelude.{◌≡◌, ℕ, ◌+◌, ◌<◌, ◌≤◌, ◌^◌, ◌⊎◌, List, Option, None, Some, slice_index_or}
+use Rattle.std.specs.Prelude.{◌≡◌, ℕ, ◌+◌, ◌<◌, ◌≤◌, ◌⊎◌, List, Option, None, Some, slice_index_or}
 use Rattle.heap_model.specs.Geometry.{roots, state_word}
 use Rattle.heap_model.specs.Image.{Image, words_from}
 use Rattle.heap_model.specs.Durability.{IsTransient}
@@ -10,7 +10,7 @@ use Rattle.block_heap.specs.declared.look.Look.{Look}
 use Rattle.block_heap.specs.View.{View}
 use Rattle.block_heap.specs.Parts.{Parts, held_in}
 use Rattle.block_heap.specs.Running.{IsRunning, AreShort}
-use Rattle.block_heap.specs.Works.{IsStable}
+use Rattle.block_heap.specs.Works.{IsLasting}
 
 pub record SeqState : Type 0 where
   pub parts : Parts
@@ -20,6 +20,8 @@ pub record SeqState : Type 0 where
   pub refusals : ℕ
   pub refused_bytes : ℕ
   pub refused_looks : Looks
+  -- its held blocks are named in every image that may be left
+  pub lasts : ∥ IsLasting parts.capacity parts.words (held_in parts) stopped ∥₁
 
 -- one thread owns every root
 abbrev pub all_roots : List ℕ
@@ -52,9 +54,7 @@ pub record MayLeave (s : SeqState) (image : Image) : Type 0 where
 
 -- a heap for one thread: its held blocks are stable, and until it stops its parts are right
 pub record IsSeqHeap (s : SeqState) : Type 0 where
-  pub stable : IsStable s.parts.capacity s.parts.words (held_in s.parts)
+  pub lasts : IsLasting s.parts.capacity s.parts.words (held_in s.parts) s.stopped
   pub running : s.stopped ≡ None → IsRunning s.parts × AreShort s.parts 0
-  pub stopping : (ticket : ℕ) → s.stopped ≡ Some ticket → s.parts.words.budget ≤ ticket
   pub calls : s.small_calls + s.large_calls ≤ s.parts.words.drawn
   pub refused : s.refusals ≤ s.large_calls
-  pub short : s.parts.words.drawn ≤ 2 ^ 40

@@ -1,7 +1,7 @@
 -- What an allocator may store to, and what stays of the held blocks whatever it does.
-use Rattle.std.specs.Prelude.{◌≡◌, ℕ, ◌+◌, ◌<◌, ◌≤◌, List, Contains}
+use Rattle.std.specs.Prelude.{◌≡◌, ℕ, ◌+◌, ◌<◌, ◌≤◌, List, Option, Some, Contains}
 use Rattle.heap_model.specs.declared.block.Block.{Block}
-use Rattle.heap_model.specs.Geometry.{lists, head_word, info_word, anchor_word, link_word, used_word, capacity_word, start_word}
+use Rattle.heap_model.specs.Geometry.{lists, largest_capacity, head_word, info_word, anchor_word, link_word, used_word, capacity_word, start_word}
 use Rattle.heap_model.specs.Blocks.{IsBlock, IsIn}
 use Rattle.heap_model.specs.Recovered.{HasPartIn}
 use Rattle.heap_shape.specs.Standing.{HasNoHeld}
@@ -33,3 +33,10 @@ pub record IsStable (capacity : ℕ) (v : View) (held : List Block) : Type 0 whe
   pub used_durable : low ≤ durable_at v used_word
   pub named : (b : Block) → Contains held b → IsBlock (record { capacity = capacity; used = low; info = λ d. volatile_at v (info_word d) }) b
   pub settled : (b : Block) (d : ℕ) → Contains held b → HasPartIn capacity b d → durable_at v (info_word d) ≡ volatile_at v (info_word d)
+
+-- what lasts over a stop too: the held blocks are stable, and a stop is by a ticket that the budget does not allow
+pub record IsLasting (capacity : ℕ) (v : View) (held : List Block) (stopped : Option ℕ) : Type 0 where
+  pub some : 1 ≤ capacity
+  pub small : capacity ≤ largest_capacity
+  pub stable : IsStable capacity v held
+  pub stopping : (ticket : ℕ) → stopped ≡ Some ticket → v.budget ≤ ticket

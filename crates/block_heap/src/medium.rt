@@ -16,7 +16,7 @@ pub(crate) struct Medium<C> {
 }
 
 impl<C: Chance> Medium<C> {
-    ghost use Rattle.std.specs.Prelude.{IfOk, OnOk, IfErr};
+    ghost use Rattle.std.specs.Prelude.{IfOk, OnOk, IfErr, OnErr};
     ghost use Rattle.line_memory.specs.View.{opened, word_count, volatile_at};
     ghost use Rattle.line_memory.specs.Crash.{MayStore};
     ghost use Rattle.line_memory.specs.ClosedWords.{volatile_words, durable_words};
@@ -79,6 +79,8 @@ impl<C: Chance> Medium<C> {
         ensures others { StoresOnly (λ other. other ≡ word)
             (medium_view self.old) (medium_view self.new) }
         ensures crash { MayStore word value (medium_view self.old) (medium_view self.new) }
+        ensures refused { OnErr result (StoresOnly (λ _. ⊥)
+            (medium_view self.old) (medium_view self.new)) }
     {
         self.memory.store(word, value)?;
         self.next += 1;

@@ -1,7 +1,12 @@
 //! An open heap for one thread.
+ghost use Rattle.std.specs.Prelude.{◌≡◌};
+ghost use Rattle.block_heap.specs.declared.seq_heap.DrainFault.TheVariants.{Memory as MemoryFault, Stopped as StoppedFault};
+ghost use Rattle.block_heap.specs.Held.{held_of};
+ghost use Rattle.block_heap.specs.MediumView.{medium_view};
+ghost use Rattle.block_heap.specs.Works.{IsLasting};
+
 use crate::arena::Arena;
-use crate::fault::{AllocFault, Looks};
-use crate::seat::HeapSeat;
+use crate::fault::Looks;
 use line_memory::{Chance, Closed, Stopped};
 use size_table::{blocks_of, size_of};
 use std::alloc::{AllocError, Global};
@@ -18,6 +23,8 @@ pub struct SeqHeap<C> {
     pub(crate) refusals: u64,
     pub(crate) refused_bytes: u64,
     pub(crate) refused_looks: Looks,
+    ghost lasts: { ∥ IsLasting arena.geometry.capacity (medium_view arena.medium)
+        (held_of arena.held) stopped ∥₁ },
 }
 
 /// Why a class was not drained.
@@ -42,7 +49,8 @@ impl<C> Model for SeqHeap<C> {
         large_calls = s.large_calls;
         refusals = s.refusals;
         refused_bytes = s.refused_bytes;
-        refused_looks = s.refused_looks
+        refused_looks = s.refused_looks;
+        lasts = s.lasts
     } };
 
     ghost invariant = { λ s. IsSeqHeap (record {
@@ -52,18 +60,37 @@ impl<C> Model for SeqHeap<C> {
         large_calls = s.large_calls;
         refusals = s.refusals;
         refused_bytes = s.refused_bytes;
-        refused_looks = s.refused_looks
+        refused_looks = s.refused_looks;
+        lasts = s.lasts
     }) };
 }
 
 impl From<AllocError> for DrainFault {
+    ghost from_gives = { λ _ fault. fault ≡ MemoryFault };
+
     fn from(_error: AllocError) -> DrainFault {
         DrainFault::Memory
     }
 }
 
+impl From<Stopped> for DrainFault {
+    ghost from_gives = { λ stopped fault. fault ≡ StoppedFault stopped };
+
+    fn from(stopped: Stopped) -> DrainFault {
+        DrainFault::Stopped(stopped)
+    }
+}
+
 impl<C: Chance> SeqHeap<C> {
-    ghost use Rattle.std.specs.Prelude.{◌<◌, ◌^◌, IfOk};
+    ghost use Rattle.std.specs.Prelude.{◌≡◌, ◌<◌, ◌^◌, IfOk, IfErr, Some};
+    ghost use Rattle.line_memory.specs.ClosedWords.{volatile_words, durable_words};
+    ghost use Rattle.line_memory.specs.declared.memory.Stopped.{Stopped};
+    ghost use Rattle.heap_model.specs.Image.{Image};
+    ghost use Rattle.heap_model.specs.Sizes.{IsClass};
+    ghost use Rattle.block_heap.specs.Parts.{held_in};
+    ghost use Rattle.block_heap.specs.Requests.{IsTidyFor, Drains};
+    ghost use Rattle.block_heap.specs.SeqState.{MayLeave};
+    ghost use Rattle.block_heap.specs.Words.{NamesAll};
     ghost use Rattle.block_heap.specs.Closing.{IsOpened};
 
     /// Opens the heap with a budget of so many steps.
@@ -92,23 +119,31 @@ impl<C: Chance> SeqHeap<C> {
     }
 
     /// Closes the heap, and gives what loads saw and what a crash would have left.
-    pub fn finish(self) -> Closed {
+    pub fn finish(self) -> Closed
+        ensures volatile { volatile_words result ≡ self.parts.words.volatile }
+        ensures durable { durable_words result ≡ self.parts.words.durable }
+        ensures named { (image : Image) → MayLeave self image
+            → NamesAll image (held_in self.parts) }
+    {
         self.arena.medium.finish()
     }
 
     /// Allocates in the class until there is no room, and gives the byte offsets of the blocks.
-    pub fn drain(&mut self, alloc: Global, class: u8) -> Result<Vec<u64>, DrainFault> {
+    pub fn drain(&mut self, alloc: Global, class: u8) -> Result<Vec<u64>, DrainFault>
+        requires { IsClass class }
+        ensures ok { IsTidyFor class self.old
+            → IfOk result (λ offsets. Drains class offsets.items self.old) }
+        ensures stopped { IfErr result (λ fault. (e : Stopped) → fault ≡ DrainFault.Stopped e
+            → self.new.stopped ≡ Some e.step) }
+    {
         let most = self.arena.geometry.capacity() * blocks_of(class);
         let mut offsets = Vec::with_capacity(alloc, most as usize)?;
-        loop {
-            match self.alloc(size_of(class)) {
-                Ok(b) => match offsets.push(WORD_BYTES * b.first_word) {
-                    Ok(()) => {}
-                    Err(e) => return Err(AllocError::from(e).into()),
-                },
-                Err(AllocFault::Full(_)) => return Ok(offsets),
-                Err(AllocFault::Stopped(stopped)) => return Err(DrainFault::Stopped(stopped)),
+        while let Some(b) = self.request(size_of(class))? {
+            match offsets.push(WORD_BYTES * b.first_word) {
+                Ok(()) => {}
+                Err(e) => return Err(AllocError::from(e).into()),
             }
         }
+        Ok(offsets)
     }
 }

@@ -1,4 +1,7 @@
 //! The calls of the heap for one thread.
+ghost use Rattle.std.specs.Prelude.{◌≡◌, ◌<◌, ◌^◌, OnOk, IfErr, None, Some};
+ghost use Rattle.block_heap.specs.View.{word_of as spot_word};
+
 use crate::fault::AllocFault;
 use crate::seat::HeapSeat;
 use crate::seq_heap::SeqHeap;
@@ -9,18 +12,21 @@ use super_block::{ROOT_WORD, WORD_BYTES};
 
 impl<C: Chance> HeapSeat for SeqHeap<C> {
     ghost use Rattle.block_heap.specs.SeqState.{seat_of, MayLeave};
+    ghost use Rattle.block_heap.specs.Laws.{seat_law, mixed_law, named_law};
 
     ghost view = { seat_of };
 
     ghost images = { MayLeave };
 
     fn alloc(&mut self, bytes: u64) -> Result<Block, AllocFault> {
-        self.running()?;
-        let answer = self.arena.alloc(bytes);
-        self.large_calls += 1;
-        match self.note(answer)? {
+        match self.request(bytes)? {
             Some(block) => Ok(block),
-            None => Err(self.refuse(bytes)),
+            None => {
+                self.refusals += 1;
+                self.refused_bytes = bytes;
+                self.refused_looks = self.arena.looks(bytes);
+                Err(AllocFault::Full(self.refused_looks))
+            }
         }
     }
 
@@ -28,78 +34,111 @@ impl<C: Chance> HeapSeat for SeqHeap<C> {
         self.running()?;
         let answer = self.arena.free(b);
         self.large_calls += 1;
-        self.note(answer)
+        self.stopped = stop_of(&answer);
+        answer
     }
 
     fn load(&mut self, s: Spot) -> Result<u64, Stopped> {
         self.running()?;
         let answer = self.arena.medium.load(word_of(s));
         self.small_calls += 1;
-        self.note(answer)
+        self.stopped = stop_of(&answer);
+        answer
     }
 
     fn store(&mut self, s: Spot, value: u64) -> Result<(), Stopped> {
         self.running()?;
         let answer = self.arena.medium.store(word_of(s), value);
         self.small_calls += 1;
-        self.note(answer)
+        self.stopped = stop_of(&answer);
+        answer
     }
 
     fn write_back(&mut self, s: Spot) -> Result<(), Stopped> {
         self.running()?;
         let answer = self.arena.medium.write_back(word_of(s));
         self.small_calls += 1;
-        self.note(answer)
+        self.stopped = stop_of(&answer);
+        answer
     }
 
     fn fence(&mut self) -> Result<(), Stopped> {
         self.running()?;
         let answer = self.arena.medium.fence();
         self.small_calls += 1;
-        self.note(answer)
+        self.stopped = stop_of(&answer);
+        answer
     }
 
     fn block(&self, offset: u64) -> Block {
         self.arena.held.at(offset / WORD_BYTES)
     }
 
-    ghost seat = { ? };
+    ghost seat = { seat_law };
 
-    ghost mixed = { ? };
+    ghost mixed = { mixed_law };
 
-    ghost named = { ? };
+    ghost named = { named_law };
 }
 
 /// The word of the spot.
-fn word_of(s: Spot) -> u64 {
+fn word_of(s: Spot) -> u64
+    requires { spot_word s < 2 ^ 48 }
+    ensures { result ≡ spot_word s }
+{
     match s {
         Spot::InBlock(b, index) => b.first_word + index,
         Spot::Root(i) => ROOT_WORD + i,
     }
 }
 
+/// The ticket at which a heap with this answer stopped.
+fn stop_of<T>(answer: &Result<T, Stopped>) -> Option<u64>
+    ensures ok { OnOk answer.now (result ≡ None) }
+    ensures stopped { IfErr answer.now (λ e. result ≡ Some e.step) }
+{
+    match answer {
+        Ok(_) => None,
+        Err(stopped) => Some(stopped.step),
+    }
+}
+
 impl<C: Chance> SeqHeap<C> {
+    ghost use Rattle.std.specs.Prelude.{ℕ, IfOk, OnErr};
+    ghost use Rattle.heap_model.specs.Sizes.{IsClass, size_of, span_of};
+    ghost use Rattle.block_heap.specs.Calls.{IsLargeCall};
+    ghost use Rattle.block_heap.specs.Parts.{held_in};
+    ghost use Rattle.block_heap.specs.Requests.{KeepsWords};
+    ghost use Rattle.block_heap.specs.Serving.{Answers, DrainsAs};
+    ghost use Rattle.block_heap.specs.SeqState.{seat_of};
+    ghost use Rattle.block_heap.specs.Tickets.{Runs, Stops};
+
+    /// A block of at least so many bytes, if there is room. A refusal is not counted.
+    pub(crate) fn request(&mut self, bytes: u64) -> Result<Option<Block>, Stopped>
+        ensures ok { IfOk result (λ answer. Answers bytes answer self.old.parts self.new.parts) }
+        ensures drains { (class : ℕ) → IsClass class → bytes ≡ size_of class
+            → IfOk result (λ answer. DrainsAs class answer self.old.parts self.new.parts) }
+        ensures runs { OnOk result (Runs (seat_of self.old) (seat_of self.new)) }
+        ensures stopped { IfErr result (λ e. Stops e.step (seat_of self.old) (seat_of self.new)) }
+        ensures held { OnErr result (held_in self.new.parts ≡ held_in self.old.parts) }
+        ensures words { KeepsWords (seat_of self.old) (seat_of self.new) }
+        ensures counted { IsLargeCall (span_of bytes) (seat_of self.old) (seat_of self.new) }
+    {
+        self.running()?;
+        let answer = self.arena.alloc(bytes);
+        self.large_calls += 1;
+        self.stopped = stop_of(&answer);
+        answer
+    }
+
     /// Refuses the call if the heap has stopped.
-    fn running(&self) -> Result<(), Stopped> {
+    fn running(&self) -> Result<(), Stopped>
+        ensures ok { OnOk result (self.now.stopped ≡ None) }
+        ensures stopped { IfErr result (λ e. self.now.stopped ≡ Some e.step) }
+    {
         match self.stopped {
             Some(step) => Err(Stopped { step }),
             None => Ok(()),
         }
-    }
-
-    /// Keeps the ticket of a stop.
-    fn note<T>(&mut self, answer: Result<T, Stopped>) -> Result<T, Stopped> {
-        if let Err(stopped) = &answer {
-            self.stopped = Some(stopped.step);
-        }
-        answer
-    }
-
-    /// Counts a request that found no room.
-    fn refuse(&mut self, bytes: u64) -> AllocFault {
-        self.refusals += 1;
-        self.refused_bytes = bytes;
-        self.refused_looks = self.arena.looks(bytes);
-        AllocFault::Full(self.refused_looks)
     }
 }

@@ -19,4 +19,6 @@ pub use laws::reached_words_are_unchanged;
 pub use recovery::recover;
 
 #[cfg(test)]
+mod rest_check;
+#[cfg(test)]
 mod tests;

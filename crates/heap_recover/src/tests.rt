@@ -1,16 +1,22 @@
+//! Images recovered. Each heap that comes of one is looked through by the slow check of `rest_check`.
 ghost use Rattle.std.specs.Prelude.{◌≡◌, ◌<◌, length, slice_get, IfOk};
 ghost use Rattle.std.specs.List.{All};
 ghost use Rattle.heap_model.specs.Geometry.{roots};
+ghost use Rattle.heap_model.specs.Sizes.{IsClass};
 ghost use Rattle.heap_recover.specs.PairLinks.{one_link};
 
 use super::*;
+use crate::rest_check::{is_at_rest, start};
 use filter_trace::Filter;
 use heap_model::BadHeader;
+use size_table::{blocks_of, size_of};
 use std::alloc::{AllocError, Global};
+use std::process::Abort;
 use std::test::Fail;
 use super_block::{Block, CLEAN, MAGIC, VERSION};
 
-/// Pairs, whose first link is in word 0 (kind 2), or second in word 2 (kind 1).
+/// Pairs, whose first link is in word 0 and leads to such a pair again (kind 2), or whose second is
+/// in word 2 and leads to a block without links (kind 1).
 struct Pairs;
 
 impl Filter for Pairs {
@@ -24,8 +30,8 @@ impl Filter for Pairs {
 
     fn links(&self, kind: u32, block: &[u64], at: usize) -> Option<(usize, u32)> {
         match kind {
-            1 => link_in(2, block, at),
-            2 => link_in(0, block, at),
+            1 => link_in(2, 0, block, at),
+            2 => link_in(0, 2, block, at),
             _ => None,
         }
     }
@@ -35,12 +41,12 @@ impl Filter for Pairs {
     ghost few = { λ _. pair_links-few };
 }
 
-/// The one link, in that word of the block.
-fn link_in(word: usize, block: &[u64], at: usize) -> Option<(usize, u32)>
-    ensures { result ≡ slice_get (one_link word block.now) at }
+/// The one link, in that word of the block, to a block of the kind.
+fn link_in(word: usize, kind: u32, block: &[u64], at: usize) -> Option<(usize, u32)>
+    ensures { result ≡ slice_get (one_link word kind block.now) at }
 {
     if at == 0 && word < block.len() {
-        Some((word, 0))
+        Some((word, kind))
     } else {
         None
     }
@@ -63,7 +69,7 @@ fn recovered(
     capacity: usize,
     words: &[(usize, u64)],
 ) -> Result<Recovered, RecoverFault>
-    requires { capacity < 3 }
+    requires { capacity < 257 }
 {
     let mut image = vec![in alloc; 0; 1_064 + 8_200 * capacity]?;
     let header = [
@@ -77,6 +83,24 @@ fn recovered(
     write(&mut image, words);
     let kinds = kinds(alloc)?;
     recover(alloc, &image, &kinds, &Pairs)
+}
+
+/// Recovers such an image, and looks the heap through.
+fn at_rest(
+    rt: &(impl Abort + AllocGlobal),
+    capacity: usize,
+    words: &[(usize, u64)],
+) -> Result<Recovered, Fail>
+    requires { capacity < 257 }
+{
+    let found = recovered(rt.alloc(), capacity, words)?;
+    let first = words.get(..4).unwrap_or(words);
+    assert!(rt;
+        is_at_rest(&found),
+        "{} words, first {first:?}",
+        words.len()
+    );
+    Ok(found)
 }
 
 /// Writes words into an image.
@@ -119,7 +143,7 @@ fn blocks_reached_with_two_kinds_are_held_once(rt: HostRuntime) -> Result<(), Fa
         (1_072, 0x5250_0000_0000_21a0),
         (1_074, 0x5250_0000_0000_21c0),
     ];
-    let found = recovered(rt.alloc(), 1, &words)?;
+    let found = at_rest(&rt, 1, &words)?;
     let held = [1_072, 1_076, 1_080].map(|first_word| Block {
         first_word,
         words: 4,
@@ -136,7 +160,7 @@ fn a_block_kept_of_a_partial_superblock_leaves_the_others_chained(
     rt: HostRuntime,
 ) -> Result<(), Fail> {
     let words = [(8, 1), (1_064, 4), (48, 0x5250_0000_0000_21c0)];
-    let found = recovered(rt.alloc(), 2, &words)?;
+    let found = at_rest(&rt, 2, &words)?;
     let left = [
         (3, 2),
         (8, 1),
@@ -196,7 +220,7 @@ fn a_superblock_is_chained_around_its_kept_blocks(rt: HostRuntime) -> Result<(),
             [(1_064, 0), (1_065, 0), (16, 1), (36, 0), (2_864, 7)],
         ),
     ] {
-        let found = recovered(rt.alloc(), 1, &marked(root))?;
+        let found = at_rest(&rt, 1, &marked(root))?;
         assert!(rt; has_words(&found, &left), "{root:?}");
     }
     Ok(())
@@ -214,7 +238,7 @@ fn a_superblock_that_is_all_kept_is_in_no_list(rt: HostRuntime) -> Result<(), Fa
         (1_066, 2),
         (1_072, 5),
     ];
-    let found = recovered(rt.alloc(), 1, &words)?;
+    let found = at_rest(&rt, 1, &words)?;
     let left = [
         (16, 0),
         (36, 0),
@@ -237,7 +261,7 @@ fn superblocks_of_a_class_are_listed_from_the_lowest(rt: HostRuntime) -> Result<
         (48, 0x5250_0000_0000_21c0),
         (49, 0x5250_0000_0001_21c0),
     ];
-    let found = recovered(rt.alloc(), 2, &words)?;
+    let found = at_rest(&rt, 2, &words)?;
     assert!(rt; has_words(&found, &[(36, 1), (1_066, 2), (1_074, 0)]));
     Ok(())
 }
@@ -245,7 +269,7 @@ fn superblocks_of_a_class_are_listed_from_the_lowest(rt: HostRuntime) -> Result<
 #[test]
 fn a_large_block_is_kept_beside_one_that_is_freed(rt: HostRuntime) -> Result<(), Fail> {
     let words = [(1_064, 511), (1_072, 511), (48, 0x5250_0000_0001_21c0)];
-    let found = recovered(rt.alloc(), 2, &words)?;
+    let found = at_rest(&rt, 2, &words)?;
     let left = [
         (16, 1),
         (1_064, 0),
@@ -268,7 +292,7 @@ fn a_large_block_of_two_superblocks_is_kept_whole(rt: HostRuntime) -> Result<(),
         value: 0x5250_0000_0000_21c0,
     };
     assert_eq!(rt; outside, Some(fault));
-    let found = recovered(rt.alloc(), 2, &[(1_064, 767), root])?;
+    let found = at_rest(&rt, 2, &[(1_064, 767), root])?;
     let block = Block {
         first_word: 1_080,
         words: 16_384,
@@ -299,7 +323,106 @@ fn the_first_cause_of_a_bad_header_is_told(rt: HostRuntime) {
 
 #[test]
 fn an_image_left_open_is_told(rt: HostRuntime) -> Result<(), Fail> {
-    assert_eq!(rt; recovered(rt.alloc(), 1, &[(3, 2)])?.was, Was::Dirty);
-    assert_eq!(rt; recovered(rt.alloc(), 1, &[(3, 1)])?.was, Was::Clean);
+    assert_eq!(rt; at_rest(&rt, 1, &[(3, 2)])?.was, Was::Dirty);
+    assert_eq!(rt; at_rest(&rt, 1, &[(3, 1)])?.was, Was::Clean);
+    Ok(())
+}
+
+/// Words that take each superblock for the class, and hold blocks of the first `superblocks`: of each
+/// block `first` and those `step` apart behind it, linked one to the next, the first from root 0;
+/// and how many these are.
+fn chained(
+    alloc: Global,
+    capacity: u64,
+    superblocks: u64,
+    class: u8,
+    first: u64,
+    step: u64,
+) -> Result<(Vec<(usize, u64)>, usize), AllocError>
+    requires { IsClass class }
+{
+    let mut words = Vec::new(alloc);
+    for d in 0..capacity {
+        let info = d.wrapping_mul(8).wrapping_add(1_064);
+        words.push((info as usize, u64::from(class)))?;
+    }
+    let mut held = 0usize;
+    let mut link = 40;
+    for d in 0..superblocks {
+        let mut index = first;
+        for _ in 0..blocks_of(class) {
+            if index < blocks_of(class) {
+                let at = start(capacity, d).wrapping_add(index.wrapping_mul(size_of(class) / 8));
+                let pointer = at.wrapping_mul(8).wrapping_add(0x5250_0000_0000_0000);
+                words.push((link as usize, pointer))?;
+                link = at;
+                held = held.wrapping_add(1);
+            }
+            index = index.wrapping_add(step);
+        }
+    }
+    Ok((words, held))
+}
+
+#[test]
+fn superblocks_of_every_class_are_left_at_rest(rt: HostRuntime) -> Result<(), Fail> {
+    for class in 1..=20u8 {
+        let last = blocks_of(class).wrapping_sub(1);
+        for (superblocks, first, step) in [
+            (1, 0, 5_000),
+            (1, last, 5_000),
+            (1, last / 2, 5_000),
+            (1, 0, 1),
+            (1, 0, 2),
+            (2, 0, 1),
+            (2, 1, 3),
+            (0, 0, 1),
+        ] {
+            let (words, held) = chained(rt.alloc(), 2, superblocks, class, first, step)?;
+            let found = at_rest(&rt, 2, &words)?;
+            assert_eq!(rt;
+                found.heap.held().len(),
+                held,
+                "{class}: {superblocks}, {first}, {step}"
+            );
+        }
+    }
+    Ok(())
+}
+
+#[test]
+fn images_of_every_size_are_left_at_rest(rt: HostRuntime) -> Result<(), Fail> {
+    // The third holds a chain of sixty thousand blocks.
+    for (capacity, superblocks, class, step, held) in [
+        (1, 1, 20, 1, 4),
+        (256, 255, 12, 3, 5_610),
+        (31, 30, 2, 1, 61_440),
+    ] {
+        let (words, _) = chained(rt.alloc(), capacity, superblocks, class, 0, step)?;
+        let found = at_rest(&rt, capacity as usize, &words)?;
+        assert_eq!(rt; found.heap.held().len(), held, "of {capacity}");
+    }
+    Ok(())
+}
+
+#[test]
+fn words_that_nothing_names_do_not_count(rt: HostRuntime) -> Result<(), Fail> {
+    let mut words = Vec::new(rt.alloc());
+    for at in (4..40).chain(1_064..25_664) {
+        words.push((at, u64::MAX))?;
+    }
+    let named = [
+        // Of three superblocks, the last has not been taken.
+        (8, 2),
+        (1_064, 12),
+        (1_072, 2),
+        (40, 0x5250_0000_0000_2200),
+        (1_088, 0x5250_0000_0001_2200),
+        // The second block leads to itself.
+        (9_280, 0x5250_0000_0001_2200),
+    ];
+    words.extend_from_slice(&named)?;
+    let found = at_rest(&rt, 3, &words)?;
+    assert_eq!(rt; found.heap.held().len(), 2);
     Ok(())
 }

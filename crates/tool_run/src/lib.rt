@@ -12,6 +12,4 @@ pub use run::run_tool;
 pub use status::Status;
 
 #[cfg(test)]
-mod recovery_tests;
-#[cfg(test)]
 mod tests;

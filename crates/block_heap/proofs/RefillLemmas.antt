@@ -1,0 +1,306 @@
+-- How the parts of a heap stay right over a pop from a list, and what then fills an empty cache or goes to the free list.
+use Rattle.std.proofs.Common.{◌≡◌, ◌≢◌, ℕ, zero, suc, ◌+◌, ◌*◌, ◌<◌, ◌≤◌, ◌⊎◌, inl, inr, Option, None, Some, MatchOption, List, [], ◌∷◌, length, get_or, set, Contains, refl, ap, sym, subst, ◌∙◌, arith, get_or-set_same, get_or-set_other, length-set}
+use Rattle.std.proofs.lemmas.Bool.{cases_eq}
+use Rattle.std.proofs.lemmas.List.{nil_from_length}
+use Rattle.heap_model.specs.declared.block.Block.{Block}
+use Rattle.heap_model.specs.Geometry.{lists, head_word, info_word, anchor_word, link_word, used_word, image_words}
+use Rattle.heap_model.specs.Image.{Image}
+use Rattle.heap_model.specs.Sizes.{IsClass, blocks_of, words_of_class}
+use Rattle.heap_model.specs.Words.{head_first, head_pops, head_of, anchor_state, anchor_first, anchor_count, partial_state, full_anchor}
+use Rattle.heap_model.specs.Chains.{Follows}
+use Rattle.heap_model.specs.Counting.{times}
+use Rattle.heap_shape.specs.Shape.{in_list, is_full, Shape, with_at}
+use Rattle.heap_shape.specs.Standing.{first_of, IsListed}
+use Rattle.heap_shape.specs.Whole.{IsShape}
+use Rattle.heap_shape.specs.Effects.{IsSet, IsPoppedOf, IsPushedOn}
+use Rattle.heap_shape.specs.Moves.{after_take, after_recycle}
+use Rattle.heap_shape.specs.Draining.{DrainsSame}
+use Rattle.heap_shape.proofs.BasicLemmas.{with_at_same, with_at_other, first_place, in_class_list, one_list}
+use Rattle.heap_shape.proofs.RefillLemmas.{take}
+use Rattle.heap_shape.proofs.RecycleLemmas.{recycle}
+use Rattle.heap_shape.proofs.OwnLemmas.{one_following}
+use Rattle.heap_shape.proofs.DrainLemmas.{take_drains, recycle_drains}
+use Rattle.line_memory.specs.View.{View, word_count, volatile_at, durable_at}
+use Rattle.block_heap.specs.declared.cache.Cache.{Cache}
+use Rattle.block_heap.specs.declared.held.HeldBlocks.{HeldBlocks}
+use Rattle.block_heap.specs.declared.lists.Popped.{Popped}
+use Rattle.block_heap.specs.declared.look.Look.{Look}
+use Rattle.block_heap.specs.Anchors.{anchor_at, IsTakenFrom}
+use Rattle.block_heap.specs.Links.{link_of, IsPopped, IsPushed, IsPushWord}
+use Rattle.block_heap.specs.Medium.{StoresOnly, Goes}
+use Rattle.block_heap.specs.Parts.{Parts, image_of, held_in, cache_at}
+use Rattle.block_heap.specs.Running.{IsRunning, IsCacheOf, KnowsSizes, IsSettled, Serves}
+use Rattle.block_heap.specs.Steps.{head_at, IsEmptyList, LeadsAlong, look_at, IsLook, Fills, FindsEmpty, Recycles}
+use Rattle.block_heap.specs.Works.{Works, IsAllocatorWord, is_head, is_anchor, is_link}
+use Rattle.block_heap.proofs.MediumLemmas.{stores_then, stores_more}
+use Rattle.block_heap.proofs.RunningLemmas.{set_is, settled_kept, running_words}
+use Rattle.block_heap.proofs.StableLemmas.{works_of, works_then, works_none}
+
+-- a head, or the anchor or the link of a superblock
+pub data IsMoved (capacity word : ℕ) : Type 0 where
+  a_head : (list : ℕ) → list < lists → word ≡ head_word list → IsMoved capacity word
+  an_anchor : (d : ℕ) → d < capacity → word ≡ anchor_word d → IsMoved capacity word
+  a_link : (d : ℕ) → d < capacity → word ≡ link_word d → IsMoved capacity word
+
+-- it is no info, and not `used`, and an allocator may store to it
+pub moved_info : (capacity d word : ℕ) → IsMoved capacity word → word ≡ info_word d → ⊥
+moved_info capacity d word (a_head list below at) e = omega arith
+moved_info capacity d word (an_anchor c below at) e = omega arith
+moved_info capacity d word (a_link c below at) e = omega arith
+
+pub moved_used : (capacity word : ℕ) → IsMoved capacity word → word ≡ used_word → ⊥
+moved_used capacity word (a_head list below at) e = omega arith
+moved_used capacity word (an_anchor c below at) e = omega arith
+moved_used capacity word (a_link c below at) e = omega arith
+
+pub moved_word : (capacity : ℕ) (held : List Block) (word : ℕ) → IsMoved capacity word → IsAllocatorWord capacity held word
+moved_word capacity held word (a_head list below at) = is_head list below at
+moved_word capacity held word (an_anchor d below at) = is_anchor d below at
+moved_word capacity held word (a_link d below at) = is_link d below at
+
+-- a row of steps that doesn't store to `used`; one that stores to such words alone, or none at all; and two rows
+pub serves_of : (p q : Parts) (to : ℕ → Type 0) → IsRunning p → ((word : ℕ) → to word → IsAllocatorWord p.capacity (held_in p) word) → (to used_word → ⊥) → StoresOnly to p.words q.words
+    → q.capacity ≡ p.capacity → q.used_look ≡ p.used_look → q.taken ≡ p.taken → Serves (held_in p) p q
+serves_of p q to run are not_used stores capacity look taken =
+    let seen : q.used_look.seen ≡ p.used_look.seen = ap (λ (l : Look). l.seen) look in
+    let then : q.used_look.taken ≡ p.used_look.taken = ap (λ (l : Look). l.taken) look in
+    record {
+      capacity = capacity;
+      works = (works_of p.capacity (held_in p) to p.words q.words are not_used stores run.settled.used).0;
+      knows = omega arith;
+      taken = omega arith;
+    }
+
+pub serves_moved : (p q : Parts) → IsRunning p → StoresOnly (IsMoved p.capacity) p.words q.words → q.capacity ≡ p.capacity → q.used_look ≡ p.used_look → q.taken ≡ p.taken → Serves (held_in p) p q
+serves_moved p q run stores capacity look taken =
+    serves_of p q (IsMoved p.capacity) run (λ word m. moved_word p.capacity (held_in p) word m) (λ m. moved_used p.capacity used_word m refl) stores capacity look taken
+
+pub serves_same : (p : Parts) → Serves (held_in p) p p
+serves_same p = record { capacity = refl; works = works_none p.capacity (held_in p) p.words; knows = refl; taken = omega arith }
+
+pub serves_then : (p u q : Parts) → held_in u ≡ held_in p → Serves (held_in p) p u → Serves (held_in u) u q → Serves (held_in p) p q
+serves_then p u q held a b =
+    let first = a.knows in
+    let second = b.knows in
+    let less = a.taken in
+    let more = b.taken in
+    record {
+      capacity = b.capacity ∙ a.capacity;
+      works = works_then p.capacity (held_in p) p.words u.words q.words a.works
+          (subst (λ c. Works c (held_in p) u.words q.words) a.capacity
+          (subst (λ (h : List Block). Works u.capacity h u.words q.words) held b.works));
+      knows = omega arith;
+      taken = omega arith;
+    }
+
+-- what is to be drained where nothing changes, and over two rows of steps
+pub drains_none : (capacity class : ℕ) (held : List Block) (image : Image) → DrainsSame capacity class held image image
+drains_none capacity class held image = record { has = λ b p. p; only = λ b p. p; tidy = λ p. p }
+
+pub drains_then : (capacity class : ℕ) (held : List Block) (image middle new : Image) → DrainsSame capacity class held image middle → DrainsSame capacity class held middle new → DrainsSame capacity class held image new
+drains_then capacity class held image middle new a b = record {
+  has = λ x p. b.has x (a.has x p);
+  only = λ x p. a.only x (b.only x p);
+  tidy = λ p. b.tidy (a.tidy p);
+}
+
+-- the parts after steps, with this shape
+pub record IsMade (p q : Parts) (t : Shape) : Type 0 where
+  pub capacity : q.capacity ≡ p.capacity
+  pub held : held_in q ≡ held_in p
+  pub running : q.words.stopped ≡ None
+  pub words : word_count q.words ≡ word_count p.words
+  pub budget : q.words.budget ≡ p.words.budget
+  pub below : q.words.drawn ≤ q.words.budget
+  pub caches_long : length q.caches ≡ lists
+  pub looks_long : length q.head_looks ≡ lists
+  pub is : IsShape p.capacity (image_of q) (held_in p) t
+  pub caches : (class : ℕ) → IsClass class → IsCacheOf t class (cache_at q.caches class)
+  pub sizes : KnowsSizes p.capacity t (λ d. image_of q (info_word d)) q.blocks
+  pub settled : IsSettled p.capacity q.words
+  pub pops : (list : ℕ) → list < lists → 2 * head_pops (head_at q list) ≤ q.words.drawn
+  pub knows : image_of q used_word + q.used_look.taken ≡ q.used_look.seen + q.taken
+  pub few : q.taken ≤ image_of q used_word
+
+-- they are right
+pub made : (p q : Parts) (t : Shape) → IsRunning p → IsMade p q t → IsRunning q
+made p q t run m = record {
+  words_open = record { running = m.running; long = m.words ∙ run.words_open.long ∙ ap (λ c. image_words c) (sym m.capacity) };
+  below = m.below;
+  bounded = let e = m.budget in let b = run.bounded in omega arith;
+  caches_long = m.caches_long;
+  looks_long = m.looks_long;
+  shape = t;
+  is = subst (λ c. IsShape c (image_of q) (held_in q) t) (sym m.capacity) (subst (λ (h : List Block). IsShape p.capacity (image_of q) h t) (sym m.held) m.is);
+  caches = m.caches;
+  sizes = subst (λ c. KnowsSizes c t (λ d. image_of q (info_word d)) q.blocks) (sym m.capacity) m.sizes;
+  settled = subst (λ c. IsSettled c q.words) (sym m.capacity) m.settled;
+  pops = m.pops;
+  knows = m.knows;
+  few = m.few;
+}
+
+-- the caches where the one of the class has these blocks now
+pub caches_filled : (s t : Shape) (caches : List Cache) (class first : ℕ) (ws : List ℕ) (cache : Cache) → length caches ≡ lists → IsClass class
+    → ((c : ℕ) → IsClass c → IsCacheOf s c (cache_at caches c)) → t.start ≡ with_at s.start class first → t.cached ≡ with_at s.cached class ws
+    → cache.first ≡ first → cache.count ≡ length ws → cache.count ≤ blocks_of class → (c : ℕ) → IsClass c → IsCacheOf t c (cache_at (set caches class cache) c)
+caches_filled s t caches class first ws cache long is before start cached first_is count most c is_c = elim (cases_eq c class) as (λ _. IsCacheOf t c (cache_at (set caches class cache) c)) [
+  | inl same ↦ subst (λ k. IsCacheOf t k (cache_at (set caches class cache) k)) (sym same)
+      (subst (λ (x : Cache). IsCacheOf t class x) (sym (get_or-set_same caches class cache (record { first = 0; count = 0 }) (let last = is.last in omega arith)))
+      (record {
+        first = first_is ∙ sym (ap (λ (f : ℕ → ℕ). f class) start ∙ with_at_same s.start class first);
+        count = count ∙ sym (ap length (ap (λ (f : ℕ → List ℕ). f class) cached ∙ with_at_same s.cached class ws));
+        most = most;
+      }))
+  | inr other ↦
+      subst (λ (x : Cache). IsCacheOf t c x) (sym (get_or-set_other caches class c cache (record { first = 0; count = 0 }) other))
+      (record {
+        first = (before c is_c).first ∙ sym (ap (λ (f : ℕ → ℕ). f c) start ∙ with_at_other s.start class first c other);
+        count = (before c is_c).count ∙ sym (ap length (ap (λ (f : ℕ → List ℕ). f c) cached ∙ with_at_other s.cached class ws c other));
+        most = (before c is_c).most;
+      })
+]
+
+pub caches_other : (caches : List Cache) (class : ℕ) (cache : Cache) (c : ℕ) → IsClass c → c ≢ class → cache_at (set caches class cache) c ≡ cache_at caches c
+caches_other caches class cache c is_c other = get_or-set_other caches class c cache (record { first = 0; count = 0 }) other
+
+-- the sizes stay where infos do, and superblocks of a class are ones from before
+pub sizes_kept : (capacity : ℕ) (s t : Shape) (info new : ℕ → ℕ) (blocks : HeldBlocks) → KnowsSizes capacity s info blocks → ((e : ℕ) → e < capacity → new e ≡ info e)
+    → ((e : ℕ) → e < capacity → IsClass (info e) → (t.place e ≡ in_list (info e)) ⊎ (t.place e ≡ is_full) → (s.place e ≡ in_list (info e)) ⊎ (s.place e ≡ is_full))
+    → KnowsSizes capacity t new blocks
+sizes_kept capacity s t info new blocks knows same stood = record {
+  start = knows.start;
+  long = knows.long;
+  sizes = λ e within. subst (λ i. IsClass i → (t.place e ≡ in_list i) ⊎ (t.place e ≡ is_full) → get_or blocks.words.items e 0 ≡ words_of_class i)
+      (sym (same e within)) (λ is at. knows.sizes e within is (stood e within is at));
+}
+
+-- an empty cache has no blocks
+pub none_cached : (p : Parts) (class : ℕ) (run : IsRunning p) → IsClass class → (cache_at p.caches class).count ≡ 0 → run.shape.cached class ≡ []
+none_cached p class run is empty = nil_from_length (run.shape.cached class) (sym (run.caches class is).count ∙ empty)
+
+-- a list from a number that isn't 0 has a first descriptor
+follows_first : (link : ℕ → ℕ) (capacity from d : ℕ) (ds : List ℕ) → Follows link capacity from ds → from ≡ d + 1 → (es : List ℕ) × (ds ≡ d ∷ es)
+follows_first link capacity from d [] follows at = absurd (let none : from ≡ 0 = follows in omega arith)
+follows_first link capacity from d (e ∷ es) follows at = let first = follows.0 in let same : e ≡ d = omega arith in (es, ap (λ x. x ∷ es) same)
+
+pub first_listed : (p : Parts) (list d : ℕ) (run : IsRunning p) → list < lists → head_first (head_at p list) ≡ d + 1 → (ds : List ℕ) × (run.shape.listed list ≡ d ∷ ds)
+first_listed p list d run below at =
+    follows_first (λ e. image_of p (link_word e)) p.capacity (head_first (head_at p list)) d (run.shape.listed list) (run.is.follows list below) at
+
+-- a step that stores to a head alone
+pub head_moved : (capacity list : ℕ) (v w : View) → list < lists → StoresOnly (λ word. word ≡ head_word list) v w → StoresOnly (IsMoved capacity) v w
+head_moved capacity list v w below stores = stores_more (λ word. word ≡ head_word list) (IsMoved capacity) v w (λ word e. a_head list below e) stores
+
+-- what a pop does
+module _ (p : Parts) (list : ℕ) (popped : Popped) (w : View) (run : IsRunning p) (below : list < lists) (pop : IsPopped list popped p.words w) (stores : StoresOnly (λ word. word ≡ head_word list) p.words w) where
+  pub pop_moved : StoresOnly (IsMoved p.capacity) p.words w
+  pop_moved = head_moved p.capacity list p.words w below stores
+
+  -- the list had none
+  pub popped_none : popped.first ≡ None → IsEmptyList p list × (w.volatile ≡ p.words.volatile)
+  popped_none none =
+      let at : 0 ≡ link_of popped.first = ap link_of (sym none) in
+      (sym (at ∙ pop.first ∙ ap head_first pop.head),
+      subst (λ (o : Option ℕ). MatchOption o (w.volatile ≡ p.words.volatile)
+          (λ d. w.volatile ≡ set p.words.volatile (head_word list) (head_of (head_first (volatile_at p.words (link_word d))) (head_pops popped.head + 1)))) none pop.words)
+
+  module _ (d : ℕ) (some : popped.first ≡ Some d) where
+    pub popped_head : head_first (head_at p list) ≡ d + 1
+    popped_head =
+        let at : d + 1 ≡ link_of popped.first = ap link_of (sym some) in
+        sym (at ∙ pop.first ∙ ap head_first pop.head)
+
+    words : w.volatile ≡ set p.words.volatile (head_word list) (head_of (head_first (volatile_at p.words (link_word d))) (head_pops popped.head + 1))
+    words = subst (λ (o : Option ℕ). MatchOption o (w.volatile ≡ p.words.volatile)
+        (λ d. w.volatile ≡ set p.words.volatile (head_word list) (head_of (head_first (volatile_at p.words (link_word d))) (head_pops popped.head + 1)))) some pop.words
+
+    within : head_word list < length p.words.volatile
+    within = let long = run.words_open.long in omega arith
+
+    pub popped_of : IsPoppedOf (image_of p) (λ word. volatile_at w word) list d
+    popped_of = record {
+      pops = head_pops popped.head + 1;
+      is_first = popped_head;
+      set = set_is p.words.volatile w.volatile (head_word list) (head_of (head_first (volatile_at p.words (link_word d))) (head_pops popped.head + 1)) within words;
+    }
+
+    -- its count rises by one
+    pub popped_pops : (other : ℕ) → other < lists → head_pops (volatile_at w (head_word other)) ≤ head_pops (head_at p other) + 1
+    unfolding popped_of
+    popped_pops other less = elim (cases_eq other list) as (λ _. head_pops (volatile_at w (head_word other)) ≤ head_pops (head_at p other) + 1) [
+      | inl same ↦ subst (λ k. head_pops (volatile_at w (head_word k)) ≤ head_pops (head_at p k) + 1) (sym same)
+          (let at : volatile_at w (head_word list) ≡ head_of (head_first (volatile_at p.words (link_word d))) (head_pops popped.head + 1) = popped_of.set.at in
+          let head : popped.head ≡ head_at p list = pop.head in
+          omega arith)
+      | inr apart ↦ let e : volatile_at w (head_word other) ≡ head_at p other = popped_of.set.others (head_word other) (λ e. apart (omega arith)) in omega arith
+    ]
+
+    pub popped_list : (ds : List ℕ) × (run.shape.listed list ≡ d ∷ ds)
+    popped_list = first_listed p list d run below popped_head
+
+    pub popped_place : (run.shape.place d ≡ in_list list) × (d < p.capacity) × (times d popped_list.0 ≡ 0)
+    popped_place = first_place p.capacity (image_of p) (held_in p) run.shape run.is list d popped_list.0 below popped_list.1
+
+-- a pop reads the head: the look at it
+pub look_set : (looks : List Look) (list : ℕ) (look : Look) → length looks ≡ lists → list < lists → get_or (set looks list look) list (record { seen = 0; ticket = None; taken = 0 }) ≡ look
+look_set looks list look long below = get_or-set_same looks list look (record { seen = 0; ticket = None; taken = 0 }) (omega arith)
+
+pub running_looks : (p : Parts) (looks : List Look) → length looks ≡ lists → IsRunning p → IsRunning (record p { head_looks = looks })
+running_looks p looks long run = record {
+  words_open = run.words_open;
+  below = run.below;
+  bounded = run.bounded;
+  caches_long = run.caches_long;
+  looks_long = long;
+  shape = run.shape;
+  is = run.is;
+  caches = run.caches;
+  sizes = run.sizes;
+  settled = run.settled;
+  pops = run.pops;
+  knows = run.knows;
+  few = run.few;
+}
+
+-- a list that was found empty
+module _ (p : Parts) (class list : ℕ) (popped : Popped) (w : View) (look : Look) (run : IsRunning p) (below : list < lists) (pop : IsPopped list popped p.words w) (stores : StoresOnly (λ word. word ≡ head_word list) p.words w)
+    (none : popped.first ≡ None) where
+  abbrev pub emptied : Parts
+  emptied = record p { words = w; head_looks = set p.head_looks list look }
+
+  moved : StoresOnly (IsMoved p.capacity) p.words w
+  moved = pop_moved p list popped w run below pop stores
+
+  same_words : w.volatile ≡ p.words.volatile
+  same_words = (popped_none p list popped w run below pop stores none).1
+
+  pub emptied_running : IsRunning emptied
+  emptied_running = running_looks (record p { words = w }) (set p.head_looks list look) (length-set p.head_looks list look ∙ run.looks_long)
+      (running_words p w (IsMoved p.capacity) run pop.goes.running same_words moved (λ d less m. moved_info p.capacity d (info_word d) m refl) (λ m. moved_used p.capacity used_word m refl) pop.goes.below)
+
+  pub emptied_serves : Serves (held_in p) p emptied
+  emptied_serves = serves_moved p emptied run moved refl refl refl
+
+  pub emptied_fills : Fills class p emptied
+  emptied_fills = record {
+    running = emptied_running;
+    held = refl;
+    caches = λ c is other. refl;
+    drains = subst (λ (xs : List ℕ). DrainsSame p.capacity class (held_in p) (image_of p) (λ word. get_or xs word 0)) (sym same_words) (drains_none p.capacity class (held_in p) (image_of p));
+  }
+
+  pub emptied_finds : (ticket : ℕ) → ticket ≡ p.words.drawn → look.seen ≡ popped.head → look.ticket ≡ Some ticket → look.taken ≡ p.taken → FindsEmpty list p emptied
+  emptied_finds ticket is seen by taken = record {
+    empty = (popped_none p list popped w run below pop stores none).0;
+    volatile = same_words;
+    look = subst (λ (l : Look). IsLook p.words.drawn emptied l (head_at emptied list)) (sym (look_set p.head_looks list look run.looks_long below)) (record {
+      seen_is = seen ∙ pop.head ∙ sym (ap (λ (xs : List ℕ). get_or xs (head_word list) 0) same_words);
+      ticket = ticket;
+      by = by;
+      since = omega arith;
+      until = let drew = pop.goes.drew in omega arith;
+      taken_is = taken;
+    });
+    others = λ other differs. get_or-set_other p.head_looks list other look (record { seen = 0; ticket = None; taken = 0 }) differs;
+  }

@@ -1,0 +1,168 @@
+-- What the small calls of a heap for one thread leave.
+use Rattle.std.proofs.Common.{◌≡◌, ◌≢◌, ℕ, ◌+◌, ◌*◌, ◌<◌, ◌≤◌, ◌⊎◌, inl, inr, Option, None, Some, Result, Ok, Err, OnOk, IfOk, IfErr, List, length, get_or, get_or-set_same, Contains, refl, ap, sym, subst, ◌∙◌, arith}
+use Rattle.heap_model.specs.Geometry.{info_word, used_word, image_words}
+use Rattle.line_memory.specs.View.{View, word_count, volatile_at, durable_at, line_of}
+use Rattle.line_memory.specs.declared.memory.Stopped.{Stopped}
+use Rattle.block_heap.specs.Medium.{StoresOnly, Goes, Halts, IsLoaded, IsStored, IsWritten}
+use Rattle.block_heap.specs.Parts.{Parts, held_in}
+use Rattle.block_heap.specs.Running.{IsRunning, AreShort}
+use Rattle.block_heap.specs.Works.{IsLasting}
+use Rattle.block_heap.specs.SeqState.{SeqState, IsSeqHeap, all_roots, seat_of}
+use Rattle.block_heap.specs.Words.{IsOwn, in_block, in_root, IsOwnSpot}
+use Rattle.block_heap.specs.declared.spot.Spot.{Spot}
+use Rattle.block_heap.specs.declared.spot.Spot.TheVariants.{InBlock, Root}
+use Rattle.block_heap.specs.View.{View as SeatView, word_of}
+use Rattle.block_heap.specs.Calls.{Loads, Stores, WritesBack, IsWrittenWith}
+use Rattle.block_heap.specs.Tickets.{Runs}
+use Rattle.block_heap.specs.Stable.{root_below, lies}
+use Rattle.block_heap.proofs.CallerLemmas.{own_spot}
+use Rattle.block_heap.proofs.StableLemmas.{stable_own}
+use Rattle.block_heap.proofs.RunningLemmas.{running_words}
+
+-- the ticket of a stop is not allowed
+pub stop_above : {T : Type 0} (r : Result T Stopped) (o : Option ℕ) (most : ℕ) (v w : View) → OnOk r (o ≡ None) → IfErr r (λ e. o ≡ Some e.step) → IfErr r (λ e. Halts e.step most v w)
+    → (ticket : ℕ) → o ≡ Some ticket → w.budget ≤ ticket
+stop_above (Ok x) o most v w none stops halts ticket at = absurd (cc)
+stop_above (Err e) o most v w none stops halts ticket at =
+    let same : Some e.step ≡ Some ticket = sym stops ∙ at in
+    let one : e.step ≡ ticket = cc in
+    let above = halts.above in
+    omega arith
+
+-- a call that ran drew a ticket
+pub drew : {T : Type 0} (r : Result T Stopped) (most : ℕ) (v w : View) → OnOk r (Goes most v w) → IfErr r (λ e. Halts e.step most v w) → v.drawn < w.drawn
+drew (Ok x) most v w goes halts = goes.drew
+drew (Err e) most v w goes halts = let from = halts.from in let until = halts.until in omega arith
+
+-- no stop, so it was done
+pub done_of : {T : Type 0} (r : Result T Stopped) (o : Option ℕ) (P : Type 0) → OnOk r P → IfErr r (λ e. o ≡ Some e.step) → o ≡ None → P
+done_of (Ok x) o P ok stops none = ok
+done_of (Err e) o P ok stops none = absurd (cc)
+
+-- what lasts over a small call
+pub small_lasts : (p : Parts) (w : View) (to : ℕ → Type 0) (old o : Option ℕ) → IsLasting p.capacity p.words (held_in p) old → StoresOnly to p.words w → ((word : ℕ) → to word → IsOwn (held_in p) all_roots word)
+    → ((ticket : ℕ) → o ≡ Some ticket → w.budget ≤ ticket) → IsLasting p.capacity w (held_in p) o
+small_lasts p w to old o lasts stores own above = record {
+  some = lasts.some;
+  small = lasts.small;
+  stable = stable_own p.capacity (held_in p) to p.words w lasts.small own lasts.stable stores;
+  stopping = above;
+}
+
+-- a call that stores nothing keeps the heap
+pub quiet_heap : {T : Type 0} (r : Result T Stopped) (s : SeqState) (w : View) (o : Option ℕ) (l : ∥ IsLasting s.parts.capacity w (held_in s.parts) o ∥₁) → IsSeqHeap s → s.stopped ≡ None
+    → OnOk r (Goes 1 s.parts.words w) → OnOk r (w.volatile ≡ s.parts.words.volatile) → IfErr r (λ e. Halts e.step 1 s.parts.words w) → StoresOnly (λ _. ⊥) s.parts.words w
+    → OnOk r (o ≡ None) → IfErr r (λ e. o ≡ Some e.step)
+    → IsSeqHeap (record { parts = record s.parts { words = w }; stopped = o; small_calls = s.small_calls + 1; large_calls = s.large_calls; refusals = s.refusals; refused_bytes = s.refused_bytes; refused_looks = s.refused_looks; lasts = l })
+quiet_heap r s w o l heap ran goes same halts stores none stops = record {
+  lasts = small_lasts s.parts w (λ _. ⊥) s.stopped o heap.lasts stores (λ word t. absurd t) (stop_above r o 1 s.parts.words w none stops halts);
+  running = λ running.
+      let before = heap.running ran in
+      let went = done_of r o (Goes 1 s.parts.words w) goes stops running in (
+        running_words s.parts w (λ _. ⊥) before.0 went.running (done_of r o (w.volatile ≡ s.parts.words.volatile) same stops running) stores (λ d below t. t) (λ t. t) went.below,
+        record { each = before.1.each },
+      );
+  calls = let few = heap.calls in let more = drew r 1 s.parts.words w goes halts in omega arith;
+  refused = heap.refused;
+}
+
+-- an own word is one of the image
+pub own_below : (s : SeqState) (word : ℕ) → IsLasting s.parts.capacity s.parts.words (held_in s.parts) s.stopped → IsOwn (held_in s.parts) all_roots word → word < image_words s.parts.capacity
+own_below s _ lasts (in_block b word holds in_b) =
+    let inside = lies s.parts.capacity (held_in s.parts) s.parts.words b lasts.stable holds in
+    let until = in_b.until in
+    let fits = lasts.stable.fits in
+    omega (arith, inside.1)
+own_below s _ lasts (in_root i word p same) = let below = root_below i p in omega arith
+
+-- so a 64-bit number holds it
+pub own_short : (s : SeqState) (spot : Spot) → IsSeqHeap s → IsOwnSpot (seat_of s) spot → word_of spot < 281474976710656
+own_short s spot heap own =
+    let below = own_below s (word_of spot) heap.lasts (own_spot (seat_of s) spot own) in
+    let small = heap.lasts.small in
+    omega arith
+
+-- a heap that runs has that word
+pub own_within : (s : SeqState) (spot : Spot) → IsSeqHeap s → s.stopped ≡ None → IsOwnSpot (seat_of s) spot → word_of spot < word_count s.parts.words
+own_within s spot heap ran own =
+    let below = own_below s (word_of spot) heap.lasts (own_spot (seat_of s) spot own) in
+    let long : word_count s.parts.words ≡ image_words s.parts.capacity = (heap.running ran).0.words_open.long in
+    omega arith
+
+-- what contracts see after a small call
+abbrev pub small_view : SeqState → View → Option ℕ → SeatView
+small_view s w o = record (seat_of s) {
+  volatile = λ word. Some (volatile_at w word);
+  durable = λ word. Some (durable_at w word);
+  pending = w.pending;
+  budget = w.budget;
+  next = w.drawn;
+  stopped = o;
+  small_calls = s.small_calls + 1;
+}
+
+-- a call that was done
+runs_of : (s : SeqState) (w : View) (o : Option ℕ) → s.stopped ≡ None → o ≡ None → Goes 1 s.parts.words w → Runs (seat_of s) (small_view s w o)
+runs_of s w o ran runs goes = record { ran = ran; running = runs; drew = goes.drew; below = goes.below }
+
+pub load_ok : (r : Result ℕ Stopped) (s seen : SeqState) (w : View) (o : Option ℕ) (word : ℕ) → IsSeqHeap s → s ≡ seen → seen.stopped ≡ None → OnOk r (o ≡ None)
+    → IfOk r (λ value. IsLoaded word value s.parts.words w) → IfOk r (λ value. Loads word value (seat_of seen) (small_view s w o))
+load_ok (Ok value) s seen w o word heap same ran runs loaded = subst (λ t. Loads word value (seat_of t) (small_view s w o)) same (record {
+  runs = runs_of s w o (ap (λ (t : SeqState). t.stopped) same ∙ ran) runs loaded.goes;
+  seen = ap Some (ap (λ xs. get_or xs word 0) loaded.volatile ∙ sym loaded.seen);
+  pending = λ other p. subst (λ xs. Contains xs other) (sym loaded.pending) p;
+})
+load_ok (Err e) s seen w o word heap same ran runs loaded = tt
+
+pub store_ok : (r : Result Unit Stopped) (s seen : SeqState) (w : View) (o : Option ℕ) (word value : ℕ) → IsSeqHeap s → s ≡ seen → word < word_count s.parts.words → seen.stopped ≡ None → OnOk r (o ≡ None)
+    → OnOk r (IsStored word value s.parts.words w) → OnOk r (Stores word value (seat_of seen) (small_view s w o))
+store_ok (Ok t) s seen w o word value heap same within ran runs stored = subst (λ t. Stores word value (seat_of t) (small_view s w o)) same (record {
+  runs = runs_of s w o (ap (λ (t : SeqState). t.stopped) same ∙ ran) runs stored.goes;
+  seen = ap Some (ap (λ xs. get_or xs word 0) stored.volatile ∙ get_or-set_same s.parts.words.volatile word value 0 within);
+  pending = stored.pending;
+})
+store_ok (Err e) s seen w o word value heap same within ran runs stored = tt
+
+pub write_back_ok : (r : Result Unit Stopped) (s seen : SeqState) (w : View) (o : Option ℕ) (spot : Spot) → IsSeqHeap s → s ≡ seen → seen.stopped ≡ None → IsOwnSpot (seat_of seen) spot
+    → OnOk r (o ≡ None) → OnOk r (IsWritten (word_of spot) s.parts.words w) → OnOk r (WritesBack spot (seat_of seen) (small_view s w o))
+write_back_ok (Ok t) s seen w o spot heap same ran own runs written = subst (λ t. WritesBack spot (seat_of t) (small_view s w o)) same (record {
+  runs = runs_of s w o ran_before runs written.goes;
+  line = λ word p. in_line word (spot_words spot own_before word p);
+  pending = written.pending;
+}) where
+  ran_before : s.stopped ≡ None
+  ran_before = ap (λ (t : SeqState). t.stopped) same ∙ ran
+
+  own_before : IsOwnSpot (seat_of s) spot
+  own_before = subst (λ t. IsOwnSpot (seat_of t) spot) (sym same) own
+
+  spot_words : (at : Spot) → IsOwnSpot (seat_of s) at → (word : ℕ) → IsWrittenWith at word → IsOwn (held_in s.parts) all_roots word × (line_of word ≡ line_of (word_of at))
+  spot_words (InBlock b index) own word p = (in_block b word own.0 p.0, p.1)
+  spot_words (Root i) own word p = (in_root i word own p, ap line_of p)
+
+  in_line : (word : ℕ) → IsOwn (held_in s.parts) all_roots word × (line_of word ≡ line_of (word_of spot)) → Contains w.pending word
+  in_line word p =
+      let below = own_below s word heap.lasts p.0 in
+      let long : word_count s.parts.words ≡ image_words s.parts.capacity = (heap.running ran_before).0.words_open.long in
+      written.line word (omega arith) p.1
+write_back_ok (Err e) s seen w o spot heap same ran own runs written = tt
+
+-- of a load that was done
+pub loaded_goes : (r : Result ℕ Stopped) (word : ℕ) (v w : View) → IfOk r (λ value. IsLoaded word value v w) → OnOk r (Goes 1 v w)
+loaded_goes (Ok value) word v w loaded = loaded.goes
+loaded_goes (Err e) word v w loaded = tt
+
+pub loaded_same : (r : Result ℕ Stopped) (word : ℕ) (v w : View) → IfOk r (λ value. IsLoaded word value v w) → OnOk r (w.volatile ≡ v.volatile)
+loaded_same (Ok value) word v w loaded = loaded.volatile
+loaded_same (Err e) word v w loaded = tt
+
+-- the own word of a spot, by its number
+pub own_at : (s seen : SeqState) (spot : Spot) (word : ℕ) → IsSeqHeap s → s ≡ seen → word ≡ word_of spot → IsOwnSpot (seat_of seen) spot → IsOwn (held_in s.parts) all_roots word
+own_at s seen spot word heap same at own =
+    subst (IsOwn (held_in s.parts) all_roots) (sym at) (own_spot (seat_of s) spot (subst (λ t. IsOwnSpot (seat_of t) spot) (sym same) own))
+
+-- and it is one of the image
+pub at_within : (s seen : SeqState) (spot : Spot) (word : ℕ) → IsSeqHeap s → s ≡ seen → word ≡ word_of spot → seen.stopped ≡ None → IsOwnSpot (seat_of seen) spot → word < word_count s.parts.words
+at_within s seen spot word heap same at ran own =
+    subst (λ n. n < word_count s.parts.words) (sym at)
+    (own_within s spot heap (ap (λ (t : SeqState). t.stopped) same ∙ ran) (subst (λ t. IsOwnSpot (seat_of t) spot) (sym same) own))

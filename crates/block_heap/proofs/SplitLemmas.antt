@@ -1,0 +1,391 @@
+-- How a large block is freed: its mark is taken back, and then each of its superblocks goes to the free list.
+use Rattle.std.proofs.Common.{◌≡◌, ◌≢◌, ℕ, zero, suc, ◌+◌, ◌-◌, ◌*◌, ◌/◌, ◌<◌, ◌≤◌, ◌^◌, ◌⊎◌, inl, inr, Bool, true, false, cond, nat_le, nat_lt, ◌&&◌, Option, None, Some, MatchOption, List, ◌∷◌, length, get_or, set, Contains, refl, ap, sym, subst, ◌∙◌, arith, length-set, get_or-set_same, get_or-set_other}
+use Rattle.std.proofs.lemmas.Bool.{cases_eq, eq-eqb}
+use Rattle.heap_model.specs.declared.block.Block.{Block}
+use Rattle.heap_model.specs.Geometry.{lists, head_word, info_word, anchor_word, link_word, used_word, image_words, start_word, superblock_words}
+use Rattle.heap_model.specs.Image.{Image}
+use Rattle.heap_model.specs.Sizes.{IsClass, words_of_class}
+use Rattle.heap_model.specs.Words.{head_first, head_of, head_pops, large_info}
+use Rattle.heap_model.specs.Chains.{Follows}
+use Rattle.heap_model.proofs.BlockLemmas.{block_words, block_inside}
+use Rattle.heap_model.proofs.CountingLemmas.{times_some}
+use Rattle.heap_model.proofs.MemberLemmas.{in_head, in_rest, head_or_rest}
+use Rattle.heap_model.proofs.PartLemmas.{same_fields}
+use Rattle.heap_shape.specs.Shape.{Place, in_list, is_full, in_large, is_new, Shape, stands_in}
+use Rattle.heap_shape.specs.Standing.{HasNoHeld, IsInLarge, IsAs}
+use Rattle.heap_shape.specs.Whole.{layout_at, IsShape}
+use Rattle.heap_shape.specs.Effects.{IsSet, IsPushedOn}
+use Rattle.heap_shape.specs.Moves.{after_split, TakesFrom}
+use Rattle.heap_shape.proofs.BasicLemmas.{with_at_same, with_at_other, member_place}
+use Rattle.heap_shape.proofs.LargeLemmas.{large_places, drop_large, split_one}
+use Rattle.heap_shape.proofs.OwnLemmas.{one_following, large_block}
+use Rattle.line_memory.specs.View.{View, word_count, volatile_at, durable_at}
+use Rattle.line_memory.specs.Crash.{MayStore}
+use Rattle.line_memory.specs.Marks.{marked_words, IsMarked}
+use Rattle.line_memory.specs.Marked.{marked_words-has}
+use Rattle.block_heap.specs.declared.held.HeldBlocks.{HeldBlocks}
+use Rattle.block_heap.specs.declared.look.Look.{Look}
+use Rattle.block_heap.specs.declared.superblocks.Fresh.{Fresh}
+use Rattle.block_heap.specs.Held.{held_of, at_mark, block_of_mark, HasMark}
+use Rattle.block_heap.specs.Links.{IsOpen, IsPushed, IsPushWord, IsFresh}
+use Rattle.block_heap.specs.Medium.{StoresOnly, Goes, Halts, IsStored}
+use Rattle.block_heap.specs.Parts.{Parts, image_of, held_in}
+use Rattle.block_heap.specs.Running.{IsRunning, IsCacheOf, KnowsSizes, IsSettled, Serves}
+use Rattle.block_heap.specs.Steps.{head_at, LeadsAlong}
+use Rattle.block_heap.specs.Large.{IsDropped}
+use Rattle.block_heap.specs.Works.{IsAllocatorWord, is_head, is_anchor, is_link, Works}
+use Rattle.block_heap.proofs.MediumLemmas.{stores_then, stores_more}
+use Rattle.block_heap.proofs.RunningLemmas.{set_is, settled_kept, running_words}
+use Rattle.block_heap.proofs.HeldLemmas.{only_map, mark_block}
+use Rattle.block_heap.proofs.StableLemmas.{works_none, works_of, works_then}
+
+-- a push, as an image
+pub pushed_is : (list d : ℕ) (v w : View) → list < lists → head_word list < word_count v → link_word d < word_count v → IsPushed list d v w
+    → IsPushedOn (volatile_at v) (volatile_at w) list d
+pushed_is list d v w less head link pushed =
+    let long = length-set v.volatile (link_word d) (head_first (volatile_at v (head_word list))) in
+    record {
+      middle = volatile_at (record v { volatile = set v.volatile (link_word d) (head_first (volatile_at v (head_word list))) });
+      pops = head_pops (volatile_at v (head_word list));
+      link = set_is v.volatile (set v.volatile (link_word d) (head_first (volatile_at v (head_word list)))) (link_word d)
+          (head_first (volatile_at v (head_word list))) link refl;
+      head = set_is (set v.volatile (link_word d) (head_first (volatile_at v (head_word list)))) w.volatile (head_word list)
+          (head_of (d + 1) (head_pops (volatile_at v (head_word list)))) (omega arith) pushed.words;
+    }
+
+-- it keeps how often each list was popped
+pub pushed_pops : (list d : ℕ) (v w : View) → list < lists → head_word list < word_count v → link_word d < word_count v → d < 16777215 → IsPushed list d v w
+    → (other : ℕ) → other < lists → head_pops (volatile_at w (head_word other)) ≡ head_pops (volatile_at v (head_word other))
+pushed_pops list d v w less head link small pushed other below =
+    let long = length-set v.volatile (link_word d) (head_first (volatile_at v (head_word list))) in
+    let first = set_is v.volatile (set v.volatile (link_word d) (head_first (volatile_at v (head_word list)))) (link_word d)
+        (head_first (volatile_at v (head_word list))) link refl in
+    let second = set_is (set v.volatile (link_word d) (head_first (volatile_at v (head_word list)))) w.volatile (head_word list)
+        (head_of (d + 1) (head_pops (volatile_at v (head_word list)))) (omega arith) pushed.words in
+    elim (cases_eq other list) as (λ _. head_pops (volatile_at w (head_word other)) ≡ head_pops (volatile_at v (head_word other))) [
+      | inl same ↦
+          let now : volatile_at w (head_word list) ≡ d + 1 + 16777216 * head_pops (volatile_at v (head_word list)) = second.at in
+          subst (λ k. head_pops (volatile_at w (head_word k)) ≡ head_pops (volatile_at v (head_word k))) (sym same) (omega arith)
+      | inr differs ↦ ap head_pops (second.others (head_word other) (λ e. differs (omega arith)) ∙ first.others (head_word other) (λ e. omega arith))
+    ]
+
+-- the words of an open heap
+pub words_inside : (capacity d list : ℕ) (v : View) → IsOpen capacity v → d < capacity → list < lists
+    → (head_word list < word_count v) × (anchor_word d < word_count v) × (link_word d < word_count v)
+words_inside capacity d list v is within less = let long = is.long in (omega arith, omega arith, omega arith)
+
+-- parts with other words serve, where each word stored to is an allocator's
+pub serves_words : (held : List Block) (p : Parts) (to : ℕ → Type 0) (w : View) → ((word : ℕ) → to word → IsAllocatorWord p.capacity held word) → (to used_word → ⊥)
+    → StoresOnly to p.words w → durable_at p.words used_word ≡ volatile_at p.words used_word → Serves held p (record p { words = w })
+serves_words held p to w are not_used stores settled = record {
+  capacity = refl;
+  works = (works_of p.capacity held to p.words w are not_used stores settled).0;
+  knows = refl;
+  taken = omega arith;
+}
+
+-- a dropped superblock has the place of one that a large block takes
+pub dropped_place : (p : Parts) (d : ℕ) (run : IsRunning p) → IsDropped p d → run.shape.place d ≡ in_large
+dropped_place p d run dropped = by_place (run.shape.place d) refl (run.is.places d dropped.within) where
+  by_place : (at : Place) → run.shape.place d ≡ at → IsAs p.capacity (image_of p) run.shape (held_in p) d at → at ≡ in_large
+  by_place (in_list zero) same is =
+      let count = run.is.listed 0 d (omega arith) in
+      let one : stands_in (run.shape.place d) 0 ≡ 1 = ap (λ at. stands_in at 0) same in
+      absurd (dropped.unlisted (run.shape.listed 0) (run.is.follows 0 (omega arith)) (times_some d (run.shape.listed 0) (omega arith)))
+  by_place (in_list (suc c)) same is = absurd (dropped.no_class (subst IsClass (sym is.of_class.info) is.of_class.is_class))
+  by_place is_full same is = absurd (dropped.no_class is.of_class.is_class)
+  by_place in_large same is = refl
+  by_place is_new same is = absurd (let past = is.past in let taken = dropped.taken in omega arith)
+
+-- a word that the split of superblock d stores to
+abbrev pub IsSplitWord : ℕ → ℕ → Type 0
+IsSplitWord d word = (word ≡ anchor_word d) ⊎ IsPushWord 0 d word
+
+-- each is an allocator's
+pub split_words : (capacity d : ℕ) (held : List Block) → d < capacity → (word : ℕ) → IsSplitWord d word → IsAllocatorWord capacity held word
+split_words capacity d held within word (inl anchor) = is_anchor d within anchor
+split_words capacity d held within word (inr push) = elim push as (λ _. IsAllocatorWord capacity held word) [
+  | inl head ↦ is_head 0 (omega arith) head
+  | inr link ↦ is_link d within link
+]
+
+pub split_not_used : (d : ℕ) → IsSplitWord d used_word → ⊥
+split_not_used d (inl anchor) = omega arith
+split_not_used d (inr push) = elim push as (λ _. ⊥) [ inl head ↦ omega arith | inr link ↦ omega arith ]
+
+split_not_info : (d e : ℕ) → IsSplitWord d (info_word e) → ⊥
+split_not_info d e (inl anchor) = omega arith
+split_not_info d e (inr push) = elim push as (λ _. ⊥) [ inl head ↦ omega arith | inr link ↦ omega arith ]
+
+-- One superblock of a freed large block goes to the free list: first its anchor is stored, then it is pushed.
+module _ (p : Parts) (d anchor : ℕ) (u w : View) (run : IsRunning p) (dropped : IsDropped p d) (at : anchor ≡ anchor_word d)
+    (store : StoresOnly (λ word. word ≡ anchor) p.words u) where
+  abbrev s : Shape
+  s = run.shape
+
+  within : d < p.capacity
+  within = dropped.within
+
+  -- after the first step
+  pub anchor_stores : StoresOnly (IsSplitWord d) p.words u
+  anchor_stores = stores_more (λ word. word ≡ anchor) (IsSplitWord d) p.words u (λ word e. inl (e ∙ at)) store
+
+  pub anchor_serves : Serves (held_in p) p (record p { words = u })
+  anchor_serves = serves_words (held_in p) p (IsSplitWord d) u (split_words p.capacity d (held_in p) within) (split_not_used d) anchor_stores run.settled.used
+
+  -- after both
+  module _ (push : StoresOnly (IsPushWord 0 d) u w) where
+    pub split_stores : StoresOnly (IsSplitWord d) p.words w
+    split_stores = stores_then (IsSplitWord d) p.words u w anchor_stores (stores_more (IsPushWord 0 d) (IsSplitWord d) u w (λ word e. inr e) push)
+
+    pub split_serves : Serves (held_in p) p (record p { words = w })
+    split_serves = serves_words (held_in p) p (IsSplitWord d) w (split_words p.capacity d (held_in p) within) (split_not_used d) split_stores run.settled.used
+
+    -- where both were done
+    module _ (stored : IsStored anchor 0 p.words u) (pushed : IsPushed 0 d u w) where
+      inside : (head_word 0 < word_count p.words) × (anchor_word d < word_count p.words) × (link_word d < word_count p.words)
+      inside = words_inside p.capacity d 0 p.words run.words_open within (omega arith)
+
+      anchor_set : IsSet (image_of p) (volatile_at u) (anchor_word d) 0
+      anchor_set = set_is p.words.volatile u.volatile (anchor_word d) 0 (omega (arith, inside.1)) (stored.volatile ∙ ap (λ a. set p.words.volatile a 0) at)
+
+      long : word_count u ≡ word_count p.words
+      long = store.words
+
+      on_list : IsPushedOn (volatile_at u) (volatile_at w) 0 d
+      on_list = pushed_is 0 d u w (omega arith) (let k = long in omega (arith, inside.0)) (let k = long in omega (arith, inside.2)) pushed
+
+      is_shape : IsShape p.capacity (volatile_at w) (held_in p) (after_split s d)
+      is_shape = split_one p.capacity d (image_of p) (volatile_at u) (volatile_at w) (held_in p) s run.is within (dropped_place p d run dropped) dropped.none anchor_set on_list
+
+      info_same : (e : ℕ) → volatile_at w (info_word e) ≡ volatile_at p.words (info_word e)
+      info_same e = split_stores.volatile (info_word e) (split_not_info d e)
+
+      used_same : volatile_at w used_word ≡ volatile_at p.words used_word
+      used_same = split_stores.volatile used_word (split_not_used d)
+
+      sizes_at : (e : ℕ) → e < p.capacity → IsClass (volatile_at w (info_word e)) → ((after_split s d).place e ≡ in_list (volatile_at w (info_word e))) ⊎ ((after_split s d).place e ≡ is_full)
+          → get_or p.blocks.words.items e 0 ≡ words_of_class (volatile_at w (info_word e))
+      sizes_at e below is place = elim (cases_eq e d) as (λ _. get_or p.blocks.words.items e 0 ≡ words_of_class (volatile_at w (info_word e))) [
+        | inl one ↦ absurd (dropped.no_class (subst (λ k. IsClass (volatile_at p.words (info_word k))) one (subst IsClass (info_same e) is)))
+        | inr other ↦
+            let stays : (after_split s d).place e ≡ s.place e = with_at_other s.place d (in_list 0) e other in
+            let before : (s.place e ≡ in_list (image_of p (info_word e))) ⊎ (s.place e ≡ is_full) = elim place [
+              | inl listed ↦ inl (sym stays ∙ listed ∙ ap in_list (info_same e))
+              | inr full ↦ inr (sym stays ∙ full)
+            ] in
+            run.sizes.sizes e below (subst IsClass (info_same e) is) before ∙ ap words_of_class (sym (info_same e))
+      ]
+
+      pops : (list : ℕ) → list < lists → 2 * head_pops (volatile_at w (head_word list)) ≤ w.drawn
+      pops list less =
+          let small = run.is.small in
+          let below = within in
+          let k = long in
+          let first : head_pops (volatile_at u (head_word list)) ≡ head_pops (image_of p (head_word list)) =
+              ap head_pops (anchor_set.others (head_word list) (λ e. omega arith)) in
+          let second = pushed_pops 0 d u w (omega arith) (omega (arith, inside.0)) (omega (arith, inside.2)) (omega arith) pushed list less in
+          let before = run.pops list less in
+          let drawn = split_stores.drawn in
+          omega arith
+
+      pub split_running : IsRunning (record p { words = w })
+      split_running = record {
+        words_open = record { running = pushed.goes.running; long = split_stores.words ∙ run.words_open.long };
+        below = pushed.goes.below;
+        bounded = let same = split_stores.budget in let bounded = run.bounded in subst (λ n. n < 2 ^ 40) (sym same) bounded;
+        caches_long = run.caches_long;
+        looks_long = run.looks_long;
+        shape = after_split s d;
+        is = is_shape;
+        caches = λ class is. let cache = run.caches class is in record { first = cache.first; count = cache.count; most = cache.most };
+        sizes = record { start = run.sizes.start; long = run.sizes.long; sizes = sizes_at };
+        settled = settled_kept p.capacity (IsSplitWord d) p.words w split_stores (λ e below. split_not_info d e) (split_not_used d) run.settled;
+        pops = pops;
+        knows = let used = used_same in let knows = run.knows in omega arith;
+        few = let used = used_same in let few = run.few in omega arith;
+      }
+
+      -- the other dropped superblocks stay so
+      pub split_others : (e : ℕ) → e ≢ d → IsDropped p e → IsDropped (record p { words = w }) e
+      split_others e other is = record {
+        within = is.within;
+        taken = let used = used_same in let taken = is.taken in omega arith;
+        no_class = λ class. is.no_class (subst IsClass (info_same e) class);
+        none = is.none;
+        unlisted = λ ds leads in_ds.
+            let one : d ∷ s.listed 0 ≡ ds = one_following (λ k. volatile_at w (link_word k)) p.capacity (head_first (volatile_at w (head_word 0))) (d ∷ s.listed 0) ds
+                (subst (λ ls. Follows (λ k. volatile_at w (link_word k)) p.capacity (head_first (volatile_at w (head_word 0))) ls) (with_at_same s.listed 0 (d ∷ s.listed 0)) (is_shape.follows 0 (omega arith))) leads in
+            elim (head_or_rest d e (s.listed 0) (subst (λ ls. Contains ls e) (sym one) in_ds)) as (λ _. ⊥) [
+              | inl same ↦ other (sym same)
+              | inr later ↦ is.unlisted (s.listed 0) (run.is.follows 0 (omega arith)) later
+            ];
+      }
+
+-- a held block is that of its mark
+pub held_mark : (h : HeldBlocks) (b : Block) → Contains (held_of h) b → at_mark h b.first_word ≡ b
+held_mark h b holds =
+    let found = only_map (block_of_mark h.start h.words.items) (marked_words h.marks.items) b holds in
+    let first : h.start + 2 * found.0 ≡ b.first_word = ap (λ (x : Block). x.first_word) found.2 in
+    sym (mark_block h.start h.words.items found.0 b.first_word first) ∙ found.2
+
+-- a place is one
+list_not_large : in_list 0 ≡ in_large → ⊥
+list_not_large same = cc
+
+-- a block of whole superblocks: the first of them, and how many there are
+record IsWhole (capacity : ℕ) (b : Block) : Type 0 where
+  pub first : ℕ
+  pub count : ℕ
+  pub some : 1 ≤ count
+  pub within : first + count ≤ capacity
+  pub at : b.first_word ≡ start_word capacity first
+  pub size : b.words ≡ superblock_words * count
+
+-- so many superblocks of a large block, from `first` on, are to go to the free list, and those before d are there
+pub record IsFreed (first d end : ℕ) (p q : Parts) : Type 0 where
+  pub some : first + 1 ≤ end
+  pub most : end ≤ first + 256
+  pub running : IsRunning q
+  pub left : (e : ℕ) → d ≤ e → e < end → IsDropped q e
+  pub serves : Serves (held_in p) p q
+  pub blocks : q.blocks ≡ p.blocks
+  pub caches : q.caches ≡ p.caches
+  pub taken : q.taken ≡ p.taken
+  pub few : q.words.drawn + 4 * first ≤ p.words.drawn + 4 * d
+  pub drew : p.words.drawn + d ≤ q.words.drawn + first
+
+-- parts that serve, and serve on
+pub serves_then : (held : List Block) (p q r : Parts) → Serves held p q → Serves held q r → Serves held p r
+serves_then held p q r a b = record {
+  capacity = b.capacity ∙ a.capacity;
+  works = works_then p.capacity held p.words q.words r.words a.works (subst (λ k. Works k held q.words r.words) a.capacity b.works);
+  knows = let x = a.knows in let y = b.knows in omega arith;
+  taken = let x = a.taken in let y = b.taken in omega arith;
+}
+
+-- one superblock more is in the free list
+pub freed_more : (first d end : ℕ) (p q r : Parts) → d < end → IsFreed first d end p q → IsRunning r → ((e : ℕ) → e ≢ d → IsDropped q e → IsDropped r e)
+    → Goes 4 q.words r.words → r.blocks ≡ q.blocks → Serves (held_in q) q r → r.caches ≡ q.caches → r.taken ≡ q.taken → IsFreed first (d + 1) end p r
+freed_more first d end p q r below freed running others goes blocks serves caches taken = record {
+  some = freed.some;
+  most = freed.most;
+  running = running;
+  left = λ e from until. others e (λ same. omega arith) (freed.left e (omega arith) until);
+  serves = serves_then (held_in p) p q r freed.serves (subst (λ (h : HeldBlocks). Serves (held_of h) q r) freed.blocks serves);
+  blocks = blocks ∙ freed.blocks;
+  caches = caches ∙ freed.caches;
+  taken = taken ∙ freed.taken;
+  few = let before = freed.few in let more = goes.few in omega arith;
+  drew = let before = freed.drew in let more = goes.drew in omega arith;
+}
+
+-- the parts serve the blocks that are held still
+pub freed_serves : (first d end : ℕ) (h : HeldBlocks) (p q r : Parts) → IsFreed first d end (record p { blocks = h }) q → r.blocks ≡ q.blocks → Serves (held_in q) q r
+    → Serves (held_in r) p r
+freed_serves first d end h p q r freed blocks serves =
+    let all = serves_then (held_of h) (record p { blocks = h }) q r freed.serves (subst (λ (x : HeldBlocks). Serves (held_of x) q r) freed.blocks serves) in
+    subst (λ (x : HeldBlocks). Serves (held_of x) p r) (sym (blocks ∙ freed.blocks))
+        (record { capacity = all.capacity; works = all.works; knows = all.knows; taken = all.taken })
+
+-- the block is held no more
+pub freed_takes : (p r : Parts) (b : Block) (h : HeldBlocks) → Contains (held_in p) b → TakesFrom (at_mark p.blocks b.first_word) (held_in p) (held_of h) → r.blocks ≡ h
+    → TakesFrom b (held_in p) (held_in r)
+freed_takes p r b h holds takes same =
+    subst (λ (x : HeldBlocks). TakesFrom b (held_in p) (held_of x)) (sym same) (subst (λ x. TakesFrom x (held_in p) (held_of h)) (held_mark p.blocks b holds) takes)
+
+-- A large block is held no more.
+module _ (p : Parts) (b : Block) (run : IsRunning p) (holds : Contains (held_in p) b) (large : (class : ℕ) → IsClass class → b.words ≢ words_of_class class) where
+  lies : IsWhole p.capacity b
+  lies =
+      let found = large_block p.capacity (image_of p) (held_in p) run.shape b run.is holds large in
+      record { first = found.0; count = found.1; some = found.2; within = found.3; at = found.4; size = found.5 }
+
+  pub large_mark : HasMark p.blocks b.first_word
+  large_mark =
+      let whole = lies in
+      let some = whole.some in
+      let within = whole.within in
+      let at = whole.at in
+      let start = run.sizes.start in
+      let long = run.sizes.long in
+      record { from = omega arith; until = omega arith; even = omega arith }
+
+  pub large_behind : start_word p.capacity 0 ≤ b.first_word
+  large_behind = let whole = lies in let at = whole.at in omega arith
+
+  -- its mark is taken back
+  module _ (h : HeldBlocks) (takes : TakesFrom (at_mark p.blocks b.first_word) (held_in p) (held_of h)) (words : h.words.items ≡ p.blocks.words.items)
+      (start : h.start ≡ p.blocks.start) where
+    takes_block : TakesFrom b (held_in p) (held_of h)
+    takes_block = freed_takes p (record p { blocks = h }) b h holds takes refl
+
+    whole_words : superblock_words ≤ b.words
+    whole_words = let whole = lies in let some = whole.some in let size = whole.size in omega arith
+
+    dropped : IsShape p.capacity (image_of p) (held_of h) run.shape
+        × ((d : ℕ) → b.first_word ≤ start_word p.capacity d → start_word p.capacity d < b.first_word + b.words → HasNoHeld p.capacity (held_of h) d)
+    dropped = drop_large p.capacity (image_of p) (held_in p) (held_of h) run.shape b run.is holds whole_words takes_block
+
+    drop_running : IsRunning (record p { blocks = h })
+    drop_running = record {
+      words_open = run.words_open;
+      below = run.below;
+      bounded = run.bounded;
+      caches_long = run.caches_long;
+      looks_long = run.looks_long;
+      shape = run.shape;
+      is = dropped.0;
+      caches = run.caches;
+      sizes = record {
+        start = start ∙ run.sizes.start;
+        long = ap (λ xs. length xs) words ∙ run.sizes.long;
+        sizes = λ d below is place. ap (λ xs. get_or xs d 0) words ∙ run.sizes.sizes d below is place;
+      };
+      settled = run.settled;
+      pops = run.pops;
+      knows = run.knows;
+      few = run.few;
+    }
+
+    drop_left : (d : ℕ) → b.first_word ≤ start_word p.capacity d → start_word p.capacity d < b.first_word + b.words → IsDropped (record p { blocks = h }) d
+    drop_left d from until = by_place (large_places p.capacity d (image_of p) (held_in p) run.shape b run.is holds whole_words from until) where
+      by_place : (d < p.capacity) × (run.shape.place d ≡ in_large) → IsDropped (record p { blocks = h }) d
+      by_place place =
+          let is : IsInLarge (image_of p) d = subst (λ at. IsAs p.capacity (image_of p) run.shape (held_in p) d at) place.1 (run.is.places d place.0) in
+          record {
+            within = place.0;
+            taken = is.taken;
+            no_class = is.no_class;
+            none = dropped.1 d from until;
+            unlisted = λ ds leads in_ds.
+                let one = one_following (λ k. image_of p (link_word k)) p.capacity (head_first (image_of p (head_word 0))) ds (run.shape.listed 0) leads
+                    (run.is.follows 0 (omega arith)) in
+                let there = member_place p.capacity (image_of p) (held_in p) run.shape run.is 0 d (omega arith) (subst (λ xs. Contains xs d) one in_ds) in
+                list_not_large (sym there.0 ∙ place.1);
+          }
+
+    -- none of its superblocks is in the free list yet
+    pub drop_begins : (first : ℕ) → first ≡ (b.first_word - start_word p.capacity 0) / 8192
+        → IsFreed first first (first + b.words / 8192) (record p { blocks = h }) (record p { blocks = h })
+    drop_begins first is =
+        let whole = lies in
+        let some = whole.some in
+        let within = whole.within in
+        let at = whole.at in
+        let size = whole.size in
+        let small = run.is.small in
+        let one : first ≡ whole.first = omega arith in
+        let count : b.words / 8192 ≡ whole.count = omega arith in
+        record {
+          some = omega arith;
+          most = omega arith;
+          running = drop_running;
+          left = λ e from until. drop_left e (omega arith) (omega arith);
+          serves = record { capacity = refl; works = works_none p.capacity (held_of h) p.words; knows = refl; taken = omega arith };
+          blocks = refl;
+          caches = refl;
+          taken = refl;
+          few = omega arith;
+          drew = omega arith;
+        }

@@ -1,0 +1,273 @@
+-- The first superblock of a class list: its free blocks fill the empty cache, or it goes to the free list.
+use Rattle.std.proofs.Common.{◌≡◌, ◌≢◌, ℕ, ◌+◌, ◌*◌, ◌<◌, ◌≤◌, ◌⊎◌, inl, inr, Option, None, Some, List, [], ◌∷◌, length, get_or, set, refl, ap, sym, subst, ◌∙◌, arith, get_or-set_same, get_or-set_other, length-set}
+use Rattle.std.proofs.lemmas.Bool.{cases_eq}
+use Rattle.heap_model.specs.Geometry.{lists, head_word, info_word, anchor_word, link_word, used_word}
+use Rattle.heap_model.specs.Sizes.{IsClass, blocks_of}
+use Rattle.heap_model.specs.Words.{head_first, head_pops, head_of, anchor_state, anchor_first, anchor_count, partial_state, full_anchor}
+use Rattle.heap_model.specs.Chains.{Follows}
+use Rattle.heap_shape.specs.Shape.{in_list, is_full, Shape, with_at}
+use Rattle.heap_shape.specs.Standing.{first_of, IsListed}
+use Rattle.heap_shape.specs.Effects.{IsSet, IsPushedOn}
+use Rattle.heap_shape.specs.Moves.{after_take, after_recycle}
+use Rattle.heap_shape.proofs.BasicLemmas.{with_at_same, with_at_other, in_class_list, one_list}
+use Rattle.heap_shape.proofs.RefillLemmas.{take}
+use Rattle.heap_shape.proofs.RecycleLemmas.{recycle}
+use Rattle.heap_shape.proofs.OwnLemmas.{one_following}
+use Rattle.heap_shape.proofs.DrainLemmas.{take_drains, recycle_drains}
+use Rattle.line_memory.specs.View.{View, volatile_at}
+use Rattle.block_heap.specs.declared.cache.Cache.{Cache}
+use Rattle.block_heap.specs.declared.lists.Popped.{Popped}
+use Rattle.block_heap.specs.declared.look.Look.{Look}
+use Rattle.block_heap.specs.Anchors.{anchor_at, IsTakenFrom}
+use Rattle.block_heap.specs.Links.{IsPopped, IsPushed, IsPushWord}
+use Rattle.block_heap.specs.Medium.{StoresOnly}
+use Rattle.block_heap.specs.Parts.{Parts, image_of, held_in, cache_at}
+use Rattle.block_heap.specs.Running.{IsRunning, Serves}
+use Rattle.block_heap.specs.Steps.{head_at, IsEmptyList, LeadsAlong, Fills, Recycles}
+use Rattle.block_heap.proofs.MediumLemmas.{stores_then, stores_more}
+use Rattle.block_heap.proofs.RunningLemmas.{set_is, settled_kept}
+use Rattle.block_heap.proofs.RefillLemmas.{IsMoved, a_head, an_anchor, a_link, moved_info, moved_used, serves_moved, IsMade, made, caches_filled, caches_other, sizes_kept, none_cached, pop_moved, popped_head, popped_of, popped_pops, popped_list, popped_place}
+
+module _ (p : Parts) (class d : ℕ) (popped : Popped) (w : View) (look : Look) (run : IsRunning p) (is : IsClass class) (pop : IsPopped class popped p.words w)
+    (pop_stores : StoresOnly (λ word. word ≡ head_word class) p.words w) (some : popped.first ≡ Some d) where
+  below : class < lists
+  below = let last = is.last in omega arith
+
+  abbrev rest : List ℕ
+  rest = (popped_list p class popped w run below pop pop_stores d some).0
+
+  listed : run.shape.listed class ≡ d ∷ rest
+  listed = (popped_list p class popped w run below pop pop_stores d some).1
+
+  place : run.shape.place d ≡ in_list class
+  place = (popped_place p class popped w run below pop pop_stores d some).0
+
+  -- the descriptor is one of the heap
+  pub first_within : d < p.capacity
+  first_within = (popped_place p class popped w run below pop pop_stores d some).1
+
+  stands : IsListed p.capacity (image_of p) run.shape (held_in p) class d
+  stands = in_class_list p.capacity (image_of p) (held_in p) run.shape run.is class d is first_within place
+
+  anchor_kept : volatile_at w (anchor_word d) ≡ image_of p (anchor_word d)
+  anchor_kept = pop_stores.volatile (anchor_word d) (λ e. let last = is.last in omega arith)
+
+  -- its anchor has one of three states
+  pub first_anchor : anchor_state (volatile_at w (anchor_word d)) ≢ 3
+  first_anchor three = let kept = anchor_kept in elim stands.state as (λ _. ⊥) [ inl all ↦ omega (arith, all.0) | inr part ↦ omega (arith, part.0) ]
+
+  pub first_some : IsEmptyList p class → ⊥
+  first_some none = let head = popped_head p class popped w run below pop pop_stores d some in omega arith
+
+  most_free : length (run.shape.chain d) ≤ blocks_of class
+  most_free = elim stands.state as (λ _. length (run.shape.chain d) ≤ blocks_of class) [ inl all ↦ omega (arith, all.1) | inr part ↦ omega (arith, part.1) ]
+
+  -- its blocks are taken
+  module _ (u : View) (take_stores : StoresOnly (λ word. word ≡ anchor_word d) w u) where
+    pub take_moved : StoresOnly (IsMoved p.capacity) p.words u
+    take_moved = stores_then (IsMoved p.capacity) p.words w u (pop_moved p class popped w run below pop pop_stores)
+        (stores_more (λ word. word ≡ anchor_word d) (IsMoved p.capacity) w u (λ word e. an_anchor d first_within e) take_stores)
+
+    module _ (cache : Cache) (answer : Option Cache) (answer_is : answer ≡ Some cache) (empty : (cache_at p.caches class).count ≡ 0) (took : IsTakenFrom p.capacity class d answer w u) where
+      abbrev pub taken_parts : Parts
+      taken_parts = record p { words = u; caches = set p.caches class cache; head_looks = set p.head_looks class look }
+
+      is_taken : IsTakenFrom p.capacity class d (Some cache) w u
+      is_taken = subst (λ (o : Option Cache). IsTakenFrom p.capacity class d o w u) answer_is took
+
+      anchor_set : IsSet (λ word. volatile_at w word) (image_of taken_parts) (anchor_word d) full_anchor
+      anchor_set = set_is w.volatile u.volatile (anchor_word d) full_anchor
+          (let same = pop_stores.words in let long = run.words_open.long in let less = first_within in omega arith) is_taken.words.3
+
+      abbrev first : ℕ
+      first = first_of p.capacity class d (anchor_first (image_of p (anchor_word d)))
+
+      abbrev shape : Shape
+      shape = after_take run.shape class d rest first
+
+      cache_first : cache.first ≡ first
+      cache_first = is_taken.words.1 ∙ ap (λ word. first_of p.capacity class d (anchor_first word)) anchor_kept
+
+      cache_count : cache.count ≡ length (run.shape.chain d)
+      cache_count = is_taken.words.2 ∙ ap anchor_count anchor_kept ∙ stands.of_class.count
+
+      stood : (e : ℕ) → e < p.capacity → IsClass (image_of p (info_word e)) → (shape.place e ≡ in_list (image_of p (info_word e))) ⊎ (shape.place e ≡ is_full)
+          → (run.shape.place e ≡ in_list (image_of p (info_word e))) ⊎ (run.shape.place e ≡ is_full)
+      stood e within is_e at = elim (cases_eq e d) as (λ _. (run.shape.place e ≡ in_list (image_of p (info_word e))) ⊎ (run.shape.place e ≡ is_full)) [
+        | inl same ↦ inl (subst (λ k. run.shape.place k ≡ in_list (image_of p (info_word k))) (sym same) (place ∙ ap in_list (sym stands.of_class.info)))
+        | inr other ↦ let kept = with_at_other run.shape.place d is_full e other in
+            elim at as (λ _. (run.shape.place e ≡ in_list (image_of p (info_word e))) ⊎ (run.shape.place e ≡ is_full)) [ inl l ↦ inl (sym kept ∙ l) | inr f ↦ inr (sym kept ∙ f) ]
+      ]
+
+      made_taken : IsMade p taken_parts shape
+      made_taken = record {
+        capacity = refl;
+        held = refl;
+        running = is_taken.goes.running;
+        words = take_stores.words ∙ pop_stores.words;
+        budget = take_stores.budget ∙ pop_stores.budget;
+        below = is_taken.goes.below;
+        caches_long = length-set p.caches class cache ∙ run.caches_long;
+        looks_long = length-set p.head_looks class look ∙ run.looks_long;
+        is = take p.capacity class d (image_of p) (λ word. volatile_at w word) (image_of taken_parts) (held_in p) run.shape rest is run.is listed (none_cached p class run is empty)
+            (popped_of p class popped w run below pop pop_stores d some) anchor_set;
+        caches = caches_filled run.shape shape p.caches class first (run.shape.chain d) cache run.caches_long is run.caches refl refl cache_first cache_count
+            (let count = cache_count in let most = most_free in omega arith);
+        sizes = sizes_kept p.capacity run.shape shape (λ e. image_of p (info_word e)) (λ e. volatile_at u (info_word e)) p.blocks run.sizes
+            (λ e within. take_moved.volatile (info_word e) (λ m. moved_info p.capacity e (info_word e) m refl)) stood;
+        settled = settled_kept p.capacity (IsMoved p.capacity) p.words u take_moved (λ e within m. moved_info p.capacity e (info_word e) m refl) (λ m. moved_used p.capacity used_word m refl) run.settled;
+        pops = λ list less.
+            let before = run.pops list less in
+            let popped_once = popped_pops p class popped w run below pop pop_stores d some list less in
+            let same : volatile_at u (head_word list) ≡ volatile_at w (head_word list) = take_stores.volatile (head_word list) (λ e. omega arith) in
+            let drew = pop.goes.drew in
+            let more = is_taken.goes.drew in
+            omega arith;
+        knows = let same : volatile_at u used_word ≡ image_of p used_word = take_moved.volatile used_word (λ m. moved_used p.capacity used_word m refl) in let knew = run.knows in omega arith;
+        few = let same : volatile_at u used_word ≡ image_of p used_word = take_moved.volatile used_word (λ m. moved_used p.capacity used_word m refl) in let least = run.few in omega arith;
+      }
+
+      pub taken_fills : Fills class p taken_parts
+      taken_fills = record {
+        running = made p taken_parts shape run made_taken;
+        held = refl;
+        caches = λ c is_c other. caches_other p.caches class cache c is_c other;
+        drains = take_drains p.capacity class d (image_of p) (λ word. volatile_at w word) (image_of taken_parts) (held_in p) run.shape rest is run.is listed
+            (popped_of p class popped w run below pop pop_stores d some) anchor_set;
+      }
+
+      pub taken_serves : Serves (held_in p) p taken_parts
+      taken_serves = serves_moved p taken_parts run take_moved refl refl refl
+
+      pub taken_some : (1 ≤ (cache_at (set p.caches class cache) class).count) × (IsEmptyList p class → ⊥)
+      taken_some =
+          let now : cache_at (set p.caches class cache) class ≡ cache =
+            get_or-set_same p.caches class cache (record { first = 0; count = 0 }) (let long = run.caches_long in let less = below in omega arith) in
+          let count = cache_count in
+          let free = stands.some in
+          (subst (λ (x : Cache). 1 ≤ x.count) (sym now) (omega arith), first_some)
+
+    -- or it goes to the free list
+    module _ (v : View) (push_stores : StoresOnly (IsPushWord 0 d) u v) where
+      pub push_moved : StoresOnly (IsMoved p.capacity) p.words v
+      push_moved = stores_then (IsMoved p.capacity) p.words u v take_moved
+          (stores_more (IsPushWord 0 d) (IsMoved p.capacity) u v
+          (λ word t. elim t as (λ _. IsMoved p.capacity word) [ inl e ↦ a_head 0 (omega arith) e | inr e ↦ a_link d first_within e ]) push_stores)
+
+      abbrev pub recycled : Parts
+      recycled = record p { words = v; head_looks = set p.head_looks class look }
+
+      pub recycled_serves : Serves (held_in p) p recycled
+      recycled_serves = serves_moved p recycled run push_moved refl refl refl
+
+      module _ (answer : Option Cache) (answer_is : answer ≡ None) (took : IsTakenFrom p.capacity class d answer w u) (pushed : IsPushed 0 d u v) where
+        not_taken : IsTakenFrom p.capacity class d None w u
+        not_taken = subst (λ (o : Option Cache). IsTakenFrom p.capacity class d o w u) answer_is took
+
+        state : anchor_state (image_of p (anchor_word d)) ≢ partial_state
+        state part = not_taken.words.0 (ap anchor_state anchor_kept ∙ part)
+
+        long : length u.volatile ≡ length p.words.volatile
+        long = take_stores.words ∙ pop_stores.words
+
+        abbrev linked : List ℕ
+        linked = set u.volatile (link_word d) (head_first (volatile_at u (head_word 0)))
+
+        pushed_on : IsPushedOn (λ word. volatile_at w word) (image_of recycled) 0 d
+        pushed_on = subst (λ (xs : List ℕ). IsPushedOn (λ word. get_or xs word 0) (image_of recycled) 0 d) not_taken.words.1 (record {
+          middle = λ word. get_or linked word 0;
+          pops = head_pops (volatile_at u (head_word 0));
+          link = set_is u.volatile linked (link_word d) (head_first (volatile_at u (head_word 0))) (let same = long in let wide = run.words_open.long in let less = first_within in omega arith) refl;
+          head = set_is linked v.volatile (head_word 0) (head_of (d + 1) (head_pops (volatile_at u (head_word 0))))
+              (let same = long in let wide = run.words_open.long in let kept = length-set u.volatile (link_word d) (head_first (volatile_at u (head_word 0))) in omega arith) pushed.words;
+        })
+
+        abbrev shape_then : Shape
+        shape_then = after_recycle run.shape class d rest
+
+        stood_then : (e : ℕ) → e < p.capacity → IsClass (image_of p (info_word e)) → (shape_then.place e ≡ in_list (image_of p (info_word e))) ⊎ (shape_then.place e ≡ is_full)
+            → (run.shape.place e ≡ in_list (image_of p (info_word e))) ⊎ (run.shape.place e ≡ is_full)
+        stood_then e within is_e at = elim (cases_eq e d) as (λ _. (run.shape.place e ≡ in_list (image_of p (info_word e))) ⊎ (run.shape.place e ≡ is_full)) [
+          | inl same ↦ inl (subst (λ k. run.shape.place k ≡ in_list (image_of p (info_word k))) (sym same) (place ∙ ap in_list (sym stands.of_class.info)))
+          | inr other ↦ let kept = with_at_other run.shape.place d (in_list 0) e other in
+              elim at as (λ _. (run.shape.place e ≡ in_list (image_of p (info_word e))) ⊎ (run.shape.place e ≡ is_full)) [ inl l ↦ inl (sym kept ∙ l) | inr f ↦ inr (sym kept ∙ f) ]
+        ]
+
+        -- the heads: only that of the class was popped
+        count_then : (list : ℕ) → list < lists → head_pops (volatile_at v (head_word list)) ≤ head_pops (head_at p list) + 1
+        count_then list less =
+            let once = popped_pops p class popped w run below pop pop_stores d some list less in
+            let same : volatile_at u (head_word list) ≡ volatile_at w (head_word list) = take_stores.volatile (head_word list) (λ e. omega arith) in
+            elim (cases_eq list 0) as (λ _. head_pops (volatile_at v (head_word list)) ≤ head_pops (head_at p list) + 1) [
+              | inl zero_is ↦
+                  let set_to : volatile_at v (head_word 0) ≡ head_of (d + 1) (head_pops (volatile_at u (head_word 0))) =
+                    ap (λ (xs : List ℕ). get_or xs (head_word 0) 0) pushed.words
+                    ∙ get_or-set_same linked (head_word 0) (head_of (d + 1) (head_pops (volatile_at u (head_word 0)))) 0
+                      (let same = long in let wide = run.words_open.long in let kept = length-set u.volatile (link_word d) (head_first (volatile_at u (head_word 0))) in omega arith) in
+                  let here : volatile_at v (head_word list) ≡ head_of (d + 1) (head_pops (volatile_at u (head_word list))) =
+                    subst (λ k. volatile_at v (head_word k) ≡ head_of (d + 1) (head_pops (volatile_at u (head_word k)))) (sym zero_is) set_to in
+                  let small = first_within in
+                  let few = run.is.small in
+                  omega arith
+              | inr other ↦
+                  let kept : volatile_at v (head_word list) ≡ volatile_at u (head_word list) =
+                    push_stores.volatile (head_word list) (λ t. elim t as (λ _. ⊥) [ inl e ↦ other (omega arith) | inr e ↦ omega arith ]) in
+                  omega arith
+            ]
+
+        made_recycled : IsMade p recycled shape_then
+        made_recycled = record {
+          capacity = refl;
+          held = refl;
+          running = pushed.goes.running;
+          words = push_stores.words ∙ long;
+          budget = push_stores.budget ∙ take_stores.budget ∙ pop_stores.budget;
+          below = pushed.goes.below;
+          caches_long = run.caches_long;
+          looks_long = length-set p.head_looks class look ∙ run.looks_long;
+          is = recycle p.capacity class d (image_of p) (λ word. volatile_at w word) (image_of recycled) (held_in p) run.shape rest is run.is listed state
+              (popped_of p class popped w run below pop pop_stores d some) pushed_on;
+          caches = λ c is_c. record { first = (run.caches c is_c).first; count = (run.caches c is_c).count; most = (run.caches c is_c).most };
+          sizes = sizes_kept p.capacity run.shape shape_then (λ e. image_of p (info_word e)) (λ e. volatile_at v (info_word e)) p.blocks run.sizes
+              (λ e within. push_moved.volatile (info_word e) (λ m. moved_info p.capacity e (info_word e) m refl)) stood_then;
+          settled = settled_kept p.capacity (IsMoved p.capacity) p.words v push_moved (λ e within m. moved_info p.capacity e (info_word e) m refl) (λ m. moved_used p.capacity used_word m refl) run.settled;
+          pops = λ list less.
+              let before = run.pops list less in
+              let once = count_then list less in
+              let drew = pop.goes.drew in
+              let more = not_taken.goes.drew in
+              let last = pushed.goes.drew in
+              omega arith;
+          knows = let same : volatile_at v used_word ≡ image_of p used_word = push_moved.volatile used_word (λ m. moved_used p.capacity used_word m refl) in let knew = run.knows in omega arith;
+          few = let same : volatile_at v used_word ≡ image_of p used_word = push_moved.volatile used_word (λ m. moved_used p.capacity used_word m refl) in let least = run.few in omega arith;
+        }
+
+        pub recycled_fills : Fills class p recycled
+        recycled_fills = record {
+          running = made p recycled shape_then run made_recycled;
+          held = refl;
+          caches = λ c is_c other. refl;
+          drains = recycle_drains p.capacity class d (image_of p) (λ word. volatile_at w word) (image_of recycled) (held_in p) run.shape rest is run.is listed
+              (popped_of p class popped w run below pop pop_stores d some) pushed_on;
+        }
+
+        -- its list is shorter by it
+        now_rest : shape_then.listed class ≡ rest
+        now_rest = with_at_other (with_at run.shape.listed class rest) 0 (d ∷ run.shape.listed 0) class (λ e. let from = is.some in omega arith) ∙ with_at_same run.shape.listed class rest
+
+        now_free : shape_then.listed 0 ≡ d ∷ run.shape.listed 0
+        now_free = with_at_same (with_at run.shape.listed class rest) 0 (d ∷ run.shape.listed 0)
+
+        pub recycled_first : Recycles class p recycled
+        recycled_first = record {
+          some = first_some;
+          now = λ none.
+              let follows = subst (λ (ds : List ℕ). Follows (λ e. image_of recycled (link_word e)) p.capacity (head_first (head_at recycled 0)) ds) now_free (made_recycled.is.follows 0 (omega arith)) in
+              let from = follows.0 in
+              omega arith;
+          used = push_moved.volatile used_word (λ m. moved_used p.capacity used_word m refl);
+          shorter = λ ds leads.
+              let follows = subst (λ (es : List ℕ). Follows (λ e. image_of recycled (link_word e)) p.capacity (head_first (head_at recycled class)) es) now_rest (made_recycled.is.follows class below) in
+              let same : rest ≡ ds = one_following (λ e. image_of recycled (link_word e)) p.capacity (head_first (head_at recycled class)) rest ds follows leads in
+              (d, subst (λ (es : List ℕ). LeadsAlong p class (d ∷ es)) same (subst (λ (es : List ℕ). LeadsAlong p class es) listed (run.is.follows class below)));
+        }

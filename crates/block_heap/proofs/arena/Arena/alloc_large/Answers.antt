@@ -1,0 +1,53 @@
+use Rattle.std.proofs.Common.{arith}
+use Rattle.block_heap.specs.Parts.{parts_of}
+use Rattle.block_heap.specs.MediumView.{medium_view}
+use Rattle.block_heap.proofs.LargeStepLemmas.{running_looked, taken_fits, fresh_unmarked, join_serves, join_running, join_answers, serves_looked}
+use Rattle.block_heap.proofs.arena.Arena.alloc_large.Goals as goal
+
+pub returns-in_default-clause-running : goal.returns-in_default-clause-running
+returns-in_default-clause-running g c =
+    running_looked (parts_of c.args.self.now) c.args.count c.in_ok-fresh.fresh (medium_view c.take_fresh.new.self) c.by-self.result
+    c.requires.running c.in_ok-fresh.ensures.ok c.in_default.is c.by-self.ensures.seen c.by-self.ensures.taken
+
+pub overflow_add-self : goal.overflow_add-self
+overflow_add-self g c =
+    let few = taken_fits (parts_of c.args.self.now) c.args.count c.in-Some.d c.in_ok-fresh.fresh (medium_view c.take_fresh.new.self) c.by-self.result
+        c.requires.running c.in_ok-fresh.ensures.ok c.in-Some.is in
+    omega arith
+
+pub returns-in_err-join-clause-serves : goal.returns-in_err-join-clause-serves
+returns-in_err-join-clause-serves g c =
+    join_serves (parts_of c.args.self.now) c.args.count c.in-Some.d c.in_ok-fresh.fresh (medium_view c.take_fresh.new.self) c.by-self.result
+    c.requires.running c.in_ok-fresh.ensures.ok c.in-Some.is (medium_view c.join.new.self) c.requires.some c.take_fresh.ensures.others c.take_fresh.ensures.crash
+    c.by-self.ensures.seen c.by-self.ensures.taken c.join.ensures.others c.args.self.now.held
+
+pub divide-requires-clause-none : goal.divide-requires-clause-none
+divide-requires-clause-none g c =
+    fresh_unmarked (parts_of c.args.self.now) c.args.count c.in-Some.d c.in_ok-fresh.fresh (medium_view c.take_fresh.new.self) c.by-self.result
+    c.requires.running c.in_ok-fresh.ensures.ok c.in-Some.is
+
+pub returns-clause-serves : goal.returns-clause-serves
+returns-clause-serves g c =
+    join_serves (parts_of c.args.self.now) c.args.count c.in-Some.d c.in_ok-fresh.fresh (medium_view c.take_fresh.new.self) c.by-self.result
+    c.requires.running c.in_ok-fresh.ensures.ok c.in-Some.is (medium_view c.join.new.self) c.requires.some c.take_fresh.ensures.others c.take_fresh.ensures.crash
+    c.by-self.ensures.seen c.by-self.ensures.taken c.join.ensures.others c.add.new.self
+
+pub returns-clause-ok : goal.returns-clause-ok
+returns-clause-ok g c =
+    join_answers (parts_of c.args.self.now) c.args.count c.in-Some.d c.in_ok-fresh.fresh (medium_view c.take_fresh.new.self) c.by-self.result
+    c.requires.running c.in_ok-fresh.ensures.ok c.in-Some.is (medium_view c.join.new.self) c.requires.some c.take_fresh.ensures.others c.take_fresh.ensures.crash
+    c.by-self.ensures.seen c.by-self.ensures.taken c.join.ensures.others c.divide.new.self c.add.new.self c.start-first_word.result c.in_ok-join.ensures.ok
+    c.divide.ensures.held c.divide.ensures.words c.divide.ensures.start c.start-first_word.ensures c.add.ensures.held c.add.ensures.words c.add.ensures.start
+    c.at.result c.at.ensures
+
+pub returns-clause-running : goal.returns-clause-running
+returns-clause-running g c =
+    join_running (parts_of c.args.self.now) c.args.count c.in-Some.d c.in_ok-fresh.fresh (medium_view c.take_fresh.new.self) c.by-self.result
+    c.requires.running c.in_ok-fresh.ensures.ok c.in-Some.is (medium_view c.join.new.self) c.requires.some c.take_fresh.ensures.others c.take_fresh.ensures.crash
+    c.by-self.ensures.seen c.by-self.ensures.taken c.join.ensures.others c.divide.new.self c.add.new.self c.start-first_word.result c.in_ok-join.ensures.ok
+    c.divide.ensures.held c.divide.ensures.words c.divide.ensures.start c.start-first_word.ensures c.add.ensures.held c.add.ensures.words c.add.ensures.start
+
+pub returns-in_default-clause-serves : goal.returns-in_default-clause-serves
+returns-in_default-clause-serves g c =
+    serves_looked (parts_of c.args.self.now) c.args.count c.in_ok-fresh.fresh (medium_view c.take_fresh.new.self) c.by-self.result
+    c.requires.running c.in_ok-fresh.ensures.ok c.in_default.is c.by-self.ensures.seen c.by-self.ensures.taken

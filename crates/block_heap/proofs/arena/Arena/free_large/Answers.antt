@@ -1,0 +1,42 @@
+use Rattle.std.proofs.Common.{◌+◌, ◌/◌, ◌∙◌, arith}
+use Rattle.block_heap.specs.Parts.{parts_of}
+use Rattle.block_heap.proofs.SplitLemmas.{large_mark, large_behind, drop_begins, freed_more, freed_serves, freed_takes}
+use Rattle.block_heap.proofs.arena.Arena.free_large.Goals as goal
+
+pub remove-requires : goal.remove-requires
+remove-requires g c = large_mark (parts_of c.args.self.now) c.args.b c.requires.running c.requires.holds c.requires.large
+
+pub superblock_of-first-requires : goal.superblock_of-first-requires
+superblock_of-first-requires g c = large_behind (parts_of c.args.self.now) c.args.b c.requires.running c.requires.holds c.requires.large
+
+pub loop-d-init : goal.loop-d-init
+loop-d-init g c =
+    drop_begins (parts_of c.args.self.now) c.args.b c.requires.running c.requires.holds c.requires.large c.remove.new.self
+    c.remove.ensures.held c.remove.ensures.words c.remove.ensures.start c.superblock_of-first.result c.superblock_of-first.ensures
+
+pub split-requires-clause-within : goal.split-requires-clause-within
+split-requires-clause-within g c = (c.loop-d.invariant.left c.loop-d.d (omega arith) c.loop-d-test.true).within
+
+pub split-requires-clause-dropped : goal.split-requires-clause-dropped
+split-requires-clause-dropped g c = c.loop-d.invariant.left c.loop-d.d (omega arith) c.loop-d-test.true
+
+pub returns-in_err-split-clause-freed : goal.returns-in_err-split-clause-freed
+returns-in_err-split-clause-freed g c =
+    freed_takes (parts_of c.args.self.now) (parts_of c.split.new.self) c.args.b c.remove.new.self c.requires.holds c.remove.ensures.held
+    (c.in_err-split.ensures.held ∙ c.loop-d.invariant.blocks)
+
+pub returns-in_err-split-clause-serves : goal.returns-in_err-split-clause-serves
+returns-in_err-split-clause-serves g c =
+    freed_serves c.superblock_of-first.result c.loop-d.d (c.superblock_of-first.result + c.args.b.words / 8192) c.remove.new.self
+    (parts_of c.args.self.now) (parts_of c.loop-d.self) (parts_of c.split.new.self) c.loop-d.invariant c.in_err-split.ensures.held c.in_err-split.ensures.serves
+
+pub loop-d-preserved : goal.loop-d-preserved
+loop-d-preserved g c =
+    let kept = c.in_ok-split.ensures in
+    freed_more c.superblock_of-first.result c.loop-d.d (c.superblock_of-first.result + c.args.b.words / 8192)
+    (record (parts_of c.args.self.now) { blocks = c.remove.new.self }) (parts_of c.loop-d.self) (parts_of c.split.new.self) c.loop-d-test.true c.loop-d.invariant
+    kept.running kept.others kept.goes kept.held kept.serves kept.caches kept.taken
+
+pub returns-clause-freed : goal.returns-clause-freed
+returns-clause-freed g c =
+    freed_takes (parts_of c.args.self.now) (parts_of c.loop-d.self) c.args.b c.remove.new.self c.requires.holds c.remove.ensures.held c.loop-d.invariant.blocks

@@ -1,0 +1,29 @@
+use Rattle.block_heap.specs.Parts.{parts_of}
+use Rattle.block_heap.specs.MediumView.{medium_view}
+use Rattle.std.proofs.lemmas.Result.{on_ok_weaker}
+use Rattle.block_heap.proofs.SplitLemmas.{anchor_serves, split_serves, split_running, split_others}
+use Rattle.block_heap.proofs.arena.Arena.split.Goals as goal
+
+pub returns-in_err-store-clause-serves : goal.returns-in_err-store-clause-serves
+returns-in_err-store-clause-serves g c =
+    anchor_serves (parts_of c.args.self.now) c.args.d c.anchor.result (medium_view c.store.new.self) (medium_view c.store.new.self)
+    c.requires.running c.requires.dropped c.anchor.ensures c.store.ensures.others
+
+pub returns-clause-serves : goal.returns-clause-serves
+returns-clause-serves g c =
+    split_serves (parts_of c.args.self.now) c.args.d c.anchor.result (medium_view c.store.new.self) (medium_view c.push.new.self)
+    c.requires.running c.requires.dropped c.anchor.ensures c.store.ensures.others c.push.ensures.others
+
+pub returns-clause-running : goal.returns-clause-running
+returns-clause-running g c =
+    on_ok_weaker c.push.result
+    (split_running (parts_of c.args.self.now) c.args.d c.anchor.result (medium_view c.store.new.self) (medium_view c.push.new.self)
+    c.requires.running c.requires.dropped c.anchor.ensures c.store.ensures.others c.push.ensures.others c.in_ok-store.ensures.ok)
+    c.push.ensures.ok
+
+pub returns-clause-others : goal.returns-clause-others
+returns-clause-others g c =
+    on_ok_weaker c.push.result
+    (split_others (parts_of c.args.self.now) c.args.d c.anchor.result (medium_view c.store.new.self) (medium_view c.push.new.self)
+    c.requires.running c.requires.dropped c.anchor.ensures c.store.ensures.others c.push.ensures.others c.in_ok-store.ensures.ok)
+    c.push.ensures.ok

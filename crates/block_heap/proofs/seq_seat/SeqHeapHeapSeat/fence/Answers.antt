@@ -1,0 +1,20 @@
+use Rattle.std.proofs.Common.{◌≡◌, ℕ, ap, ◌∙◌}
+use Rattle.std.proofs.lemmas.Result.{on_ok_weaker}
+use Rattle.block_heap.specs.MediumView.{medium_view}
+use Rattle.block_heap.specs.Parts.{parts_of}
+use Rattle.block_heap.specs.SeqState.{SeqState}
+use Rattle.block_heap.proofs.SeatLemmas.{small_lasts, stop_above, quiet_heap}
+use Rattle.block_heap.proofs.seq_seat.SeqHeapHeapSeat.fence.Goals as goal
+
+pub invariant_of-self-inside : goal.invariant_of-self-inside
+invariant_of-self-inside g c = (
+  ∣ small_lasts (parts_of c.self.inside.arena) (medium_view c.fence-answer.new.self) (λ _. ⊥) c.self.inside.stopped c.stop_of-self-inside.result c.self.invariant.lasts c.fence-answer.ensures.unchanged (λ word t. absurd t)
+    (stop_above c.fence-answer.result c.stop_of-self-inside.result 1 (medium_view c.self.inside.arena.medium) (medium_view c.fence-answer.new.self) c.stop_of-self-inside.ensures.ok c.stop_of-self-inside.ensures.stopped c.fence-answer.ensures.stopped) ∣₁,
+  tt,
+)
+
+pub invariant_of-self : goal.invariant_of-self
+invariant_of-self g c =
+    quiet_heap c.fence-answer.result _ (medium_view c.fence-answer.new.self) c.stop_of-self-inside.result _ c.self.invariant (ap (λ (s : SeqState). s.stopped) c.self.view_is ∙ c.in_ok-running.ensures.ok)
+    (on_ok_weaker c.fence-answer.result (λ f. f.goes) c.fence-answer.ensures.ok) (on_ok_weaker c.fence-answer.result (λ f. f.volatile) c.fence-answer.ensures.ok)
+    c.fence-answer.ensures.stopped c.fence-answer.ensures.unchanged c.stop_of-self-inside.ensures.ok c.stop_of-self-inside.ensures.stopped

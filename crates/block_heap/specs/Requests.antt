@@ -1,0 +1,30 @@
+-- What a heap for one thread answers to a request, before it counts refusals, and what a drain gives.
+use Rattle.std.specs.Prelude.{◌≡◌, ◌≢◌, ℕ, ◌*◌, List, Contains, AllPairs}
+use Rattle.heap_model.specs.declared.block.Block.{Block}
+use Rattle.heap_shape.specs.Draining.{IsTidy, IsToDrain}
+use Rattle.block_heap.specs.Calls.{SameRefusals}
+use Rattle.block_heap.specs.Words.{IsOwn, KeepsWord, KeepsPending}
+use Rattle.block_heap.specs.View.{View}
+use Rattle.block_heap.specs.Parts.{image_of, held_in}
+use Rattle.block_heap.specs.SeqState.{SeqState}
+
+-- own words, roots and refusals stay
+pub record KeepsWords (v w : View) : Type 0 where
+  pub roots : w.roots ≡ v.roots
+  pub words : (word : ℕ) → IsOwn v.held v.roots word → KeepsWord v w word
+  pub pending : (word : ℕ) → IsOwn v.held v.roots word → KeepsPending v w word
+  pub refusals : SameRefusals v w
+
+-- no superblock without a part of a held block is elsewhere than in the free list, but those of the class
+abbrev pub IsTidyFor : ℕ → SeqState → Type 0
+IsTidyFor class s = IsTidy s.parts.capacity (image_of s.parts) (held_in s.parts) class
+
+-- a block that draining the class gives
+abbrev pub IsDrainedOf : ℕ → SeqState → Block → Type 0
+IsDrainedOf class s = IsToDrain s.parts.capacity (image_of s.parts) (held_in s.parts) class
+
+-- the byte offsets of exactly these blocks, each once
+pub record Drains (class : ℕ) (offsets : List ℕ) (s : SeqState) : Type 0 where
+  pub sound : (offset : ℕ) → Contains offsets offset → (b : Block) × (offset ≡ 8 * b.first_word) × IsDrainedOf class s b
+  pub complete : (b : Block) → IsDrainedOf class s b → Contains offsets (8 * b.first_word)
+  pub once : AllPairs (λ x y. x ≢ y) offsets
