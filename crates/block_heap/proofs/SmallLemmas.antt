@@ -92,6 +92,7 @@ running_after p w caches blocks t run keeps long start words is caches_are place
   settled = record { infos = keeps.infos_durable; used = keeps.used_durable };
   pops = λ list less. let e = keeps.pops list less in let before = run.pops list less in let more = keeps.more in omega arith;
   knows = let e = keeps.used in let k = run.knows in omega arith;
+  few = let e = keeps.used in let f = run.few in omega arith;
 } where
   sized : (d : ℕ) → d < p.capacity → volatile_at w (info_word d) ≡ image_of p (info_word d) → IsClass (volatile_at w (info_word d))
       → (t.place d ≡ in_list (volatile_at w (info_word d))) ⊎ (t.place d ≡ is_full)
