@@ -1,20 +1,19 @@
 -- What giving the front of a cache back to its superblock makes of the parts of a heap.
-use Rattle.std.proofs.Common.{◌≡◌, ◌≢◌, ℕ, ◌+◌, ◌-◌, ◌*◌, ◌/◌, ◌%◌, ◌<◌, ◌≤◌, ◌⊎◌, inl, inr, None, cond, true, false, nat_eq, eq-eqb, ne_eqb, List, [], ◌∷◌, ◌++◌, length, get_or, set, Contains, refl, ap, sym, subst, ◌∙◌, arith, get_or-set_same, get_or-set_other, length-set, length-append}
+use Rattle.std.proofs.Common.{◌≡◌, ◌≢◌, ℕ, ◌+◌, ◌*◌, ◌<◌, ◌≤◌, ◌⊎◌, inl, inr, cond, nat_eq, eq-eqb, ne_eqb, List, [], ◌∷◌, ◌++◌, length, get_or, set, Contains, refl, ap, sym, subst, ◌∙◌, arith, get_or-set_same, get_or-set_other, length-set, length-append}
 use Rattle.std.proofs.lemmas.Bool.{cases_eq, cond-true, cond-false}
 use Rattle.std.proofs.lemmas.List.Elements.{Contains-append_left, Contains-append_right}
-use Rattle.heap_model.specs.declared.block.Block.{Block}
 use Rattle.heap_model.specs.Geometry.{lists, head_word, info_word, anchor_word, link_word, used_word, start_word, image_words}
 use Rattle.heap_model.specs.Sizes.{IsClass, words_of_class, blocks_of}
 use Rattle.heap_model.specs.Blocks.{IsIn}
-use Rattle.heap_model.specs.Words.{head_of, head_first, head_pops, anchor_of, anchor_state, anchor_first, anchor_count, empty_state, partial_state, full_anchor}
+use Rattle.heap_model.specs.Words.{head_of, head_first, head_pops, anchor_of, anchor_state, anchor_first, anchor_count, empty_state, partial_state}
 use Rattle.heap_model.specs.Chains.{Walks}
 use Rattle.heap_model.proofs.MemberLemmas.{in_head}
 use Rattle.heap_shape.specs.Shape.{Shape, in_list, is_full, with_at}
-use Rattle.heap_shape.specs.Standing.{first_of, IsFirstOf, IsOfClass}
+use Rattle.heap_shape.specs.Standing.{first_of, IsOfClass}
 use Rattle.heap_shape.specs.Whole.{IsShape}
-use Rattle.heap_shape.specs.Effects.{IsSet, IsPushedOn, IsGivenBack, IsInSuperblock}
+use Rattle.heap_shape.specs.Effects.{IsPushedOn, IsGivenBack, IsInSuperblock}
 use Rattle.heap_shape.specs.Moves.{after_give, after_give_full, after_give_all}
-use Rattle.heap_shape.proofs.BasicLemmas.{with_at_same, with_at_other, first_inside, first_injective, inside_one, cached_of_class, in_class_list, in_full}
+use Rattle.heap_shape.proofs.BasicLemmas.{with_at_other, first_inside, first_injective, inside_one, cached_of_class, in_class_list, in_full}
 use Rattle.heap_shape.proofs.CountLemmas.{few_given}
 use Rattle.heap_shape.proofs.GiveLemmas.{give, give_full, give_all}
 use Rattle.heap_shape.proofs.HandLemmas.{cached_apart}
@@ -22,11 +21,10 @@ use Rattle.line_memory.specs.View.{View, volatile_at, word_count}
 use Rattle.anchor_word.specs.declared.anchor.Anchor.{Anchor}
 use Rattle.anchor_word.specs.declared.anchor.State.{State}
 use Rattle.anchor_word.specs.declared.anchor.State.TheVariants.{Empty, Partial, Full}
-use Rattle.anchor_word.specs.Anchor.{HasParts, state_number}
-use Rattle.block_heap.specs.declared.anchors.Batch.{Batch}
+use Rattle.anchor_word.specs.Anchor.{state_number}
 use Rattle.block_heap.specs.declared.small.Front.{Front}
 use Rattle.block_heap.specs.Batches.{IsGiven, IsGiveWord, linked_words, given_to}
-use Rattle.block_heap.specs.Flush.{IsFront, KeepsAll, GivesBack}
+use Rattle.block_heap.specs.Flush.{IsFront}
 use Rattle.block_heap.specs.Links.{IsPushed, IsPushWord}
 use Rattle.block_heap.specs.Medium.{StoresOnly}
 use Rattle.block_heap.specs.Parts.{Parts, image_of, held_in, cache_at}
@@ -34,10 +32,11 @@ use Rattle.block_heap.specs.Running.{IsRunning, IsCacheOf, Serves}
 use Rattle.block_heap.specs.Works.{IsAllocatorWord, is_head, is_anchor, is_link, is_inside}
 use Rattle.block_heap.proofs.MediumLemmas.{stores_then, stores_more}
 use Rattle.block_heap.proofs.RunningLemmas.{set_is}
-use Rattle.block_heap.proofs.SmallLemmas.{changed, keeps_fixed, running_after, caches_set, other_cache, serves_of}
+use Rattle.block_heap.proofs.SmallLemmas.{changed, keeps_fixed, running_after, caches_set, serves_of}
 
 -- a walk along fewer blocks from where a longer one begins goes along its front
-pub walk_front : (next : ℕ → ℕ) (from : ℕ) (xs ys : List ℕ) → Walks next from xs → Walks next from ys → length xs ≤ length ys → (rest : List ℕ) × (ys ≡ xs ++ rest)
+pub walk_front : (next : ℕ → ℕ) (from : ℕ) (xs ys : List ℕ) → Walks next from xs → Walks next from ys → length xs ≤ length ys
+    → (rest : List ℕ) × (ys ≡ xs ++ rest)
 walk_front next from [] ys walks all few = (ys, refl)
 walk_front next from (x ∷ xs) [] walks all few = absurd (omega arith)
 walk_front next from (x ∷ xs) (y ∷ ys) walks all few =
@@ -78,7 +77,8 @@ module _ (p : Parts) (class : ℕ) (is : IsClass class) (run : IsRunning p) (fro
       let count : (cache_at p.caches class).count ≡ length (s.cached class) = cache_of.count in
       let batch = is_front.count in
       let left = is_front.rest in
-      walk_front (image_of p) (s.start class) blocks (s.cached class) (subst (λ x. Walks (image_of p) x blocks) first is_front.walks) (run.is.walks class is) (omega arith)
+      walk_front (image_of p) (s.start class) blocks (s.cached class) (subst (λ x. Walks (image_of p) x blocks) first is_front.walks) (run.is.walks class is)
+          (omega arith)
 
   rest_long : length split.0 ≡ front.rest.count
   rest_long =
@@ -102,22 +102,27 @@ module _ (p : Parts) (class : ℕ) (is : IsClass class) (run : IsRunning p) (fro
   found_is : (run.is.cached class front.batch.last is last_cached).superblock ≡ front.d
   found_is =
       let found = run.is.cached class front.batch.last is last_cached in
-      inside_one p.capacity found.superblock front.d front.batch.last (first_inside p.capacity class found.superblock front.batch.last is found.is_first) last_inside
+      inside_one p.capacity found.superblock front.d front.batch.last (first_inside p.capacity class found.superblock front.batch.last is found.is_first)
+          last_inside
 
   pub front_class : IsOfClass p.capacity (image_of p) s (held_in p) class front.d
   front_class = subst (λ e. IsOfClass p.capacity (image_of p) s (held_in p) class e) found_is
       (cached_of_class p.capacity (image_of p) (held_in p) s run.is class front.batch.last is last_cached)
 
   -- in its class list, with an anchor that says so, or full
-  front_state : ((s.place front.d ≡ in_list class) × (anchor_state (image_of p (anchor_word front.d)) ≢ 2) × (anchor_state (image_of p (anchor_word front.d)) ≢ 3))
-      ⊎ ((s.place front.d ≡ is_full) × (image_of p (info_word front.d) ≡ class) × (anchor_state (image_of p (anchor_word front.d)) ≡ 2) × (s.chain front.d ≡ []))
+  front_state : ((s.place front.d ≡ in_list class) × (anchor_state (image_of p (anchor_word front.d)) ≢ 2)
+      × (anchor_state (image_of p (anchor_word front.d)) ≢ 3))
+      ⊎ ((s.place front.d ≡ is_full) × (image_of p (info_word front.d) ≡ class) × (anchor_state (image_of p (anchor_word front.d)) ≡ 2)
+          × (s.chain front.d ≡ []))
   front_state =
       let placed : (s.place front.d ≡ in_list class) ⊎ ((s.place front.d ≡ is_full) × (image_of p (info_word front.d) ≡ class)) =
-        subst (λ e. (s.place e ≡ in_list class) ⊎ ((s.place e ≡ is_full) × (image_of p (info_word e) ≡ class))) found_is (run.is.cached class front.batch.last is last_cached).place in
+        subst (λ e. (s.place e ≡ in_list class) ⊎ ((s.place e ≡ is_full) × (image_of p (info_word e) ≡ class))) found_is
+            (run.is.cached class front.batch.last is last_cached).place in
       elim placed [
         | inl listed ↦
             let of = in_class_list p.capacity (image_of p) (held_in p) s run.is class front.d is is_front.within listed in
-            inl (elim of.state as (λ _. (s.place front.d ≡ in_list class) × (anchor_state (image_of p (anchor_word front.d)) ≢ 2) × (anchor_state (image_of p (anchor_word front.d)) ≢ 3)) [
+            inl (elim of.state as (λ _. (s.place front.d ≡ in_list class) × (anchor_state (image_of p (anchor_word front.d)) ≢ 2)
+                × (anchor_state (image_of p (anchor_word front.d)) ≢ 3)) [
               | inl all ↦ let number = all.0 in (listed, (λ e. omega arith), (λ e. omega arith))
               | inr some ↦ let number = some.0 in (listed, (λ e. omega arith), (λ e. omega arith))
             ])
@@ -132,7 +137,8 @@ module _ (p : Parts) (class : ℕ) (is : IsClass class) (run : IsRunning p) (fro
 
   pub front_first : front.batch.first < blocks_of class
   front_first =
-      let begins = is_front.firsts (cache_at p.caches class).first (walk_first (image_of p) (cache_at p.caches class).first is_front.before front.batch.last is_front.walks) in
+      let begins = is_front.firsts (cache_at p.caches class).first (walk_first (image_of p)
+          (cache_at p.caches class).first is_front.before front.batch.last is_front.walks) in
       let same = first_injective p.capacity class front.d front.batch.first begins.index is (sym is_front.first ∙ begins.at) in
       let below = begins.below in
       omega arith
@@ -158,7 +164,8 @@ module _ (p : Parts) (class : ℕ) (is : IsClass class) (run : IsRunning p) (fro
   pub give_word : (word : ℕ) → IsGiveWord front.d front.batch word → IsAllocatorWord p.capacity (held_in p) word
   give_word word (inl at) = is_anchor front.d is_front.within at
   give_word word (inr at) = is_inside (let from = last_inside.from in omega arith)
-      (λ b holds is_in. cached_apart p.capacity (image_of p) (held_in p) s class front.batch.last b run.is is last_cached holds (subst (λ x. IsIn b x) at is_in))
+      (λ b holds is_in. cached_apart p.capacity (image_of p) (held_in p) s class front.batch.last b run.is is last_cached holds
+          (subst (λ x. IsIn b x) at is_in))
 
   give_low : (word : ℕ) → word < start_word p.capacity 0 → word ≢ anchor_word front.d → IsGiveWord front.d front.batch word → ⊥
   give_low word low other (inl at) = other at
@@ -175,27 +182,32 @@ module _ (p : Parts) (class : ℕ) (is : IsClass class) (run : IsRunning p) (fro
   both_word list word below (inl given) = give_word word given
   both_word list word below (inr pushed) = push_word list word below pushed
 
-  both_low : (list word : ℕ) → word < start_word p.capacity 0 → word ≢ anchor_word front.d → word ≢ link_word front.d → word ≢ head_word list → IsEitherWord list word → ⊥
+  both_low : (list word : ℕ) → word < start_word p.capacity 0 → word ≢ anchor_word front.d → word ≢ link_word front.d → word ≢ head_word list
+      → IsEitherWord list word → ⊥
   both_low list word low not_anchor not_link not_head (inl given) = give_low word low not_anchor given
   both_low list word low not_anchor not_link not_head (inr (inl at)) = not_head at
   both_low list word low not_anchor not_link not_head (inr (inr at)) = not_link at
 
-  pub gave_serves : (q : Parts) → q.capacity ≡ p.capacity → q.used_look ≡ p.used_look → q.taken ≡ p.taken → StoresOnly (IsGiveWord front.d front.batch) p.words q.words → Serves (held_in p) p q
+  pub gave_serves : (q : Parts) → q.capacity ≡ p.capacity → q.used_look ≡ p.used_look → q.taken ≡ p.taken
+      → StoresOnly (IsGiveWord front.d front.batch) p.words q.words → Serves (held_in p) p q
   gave_serves q capacity look taken stores = serves_of p q (held_in p) (IsGiveWord front.d front.batch) run capacity look taken give_word
       (λ at. give_low used_word (omega arith) (omega arith) at) stores
 
-  both_stores : (w x : View) (list : ℕ) → StoresOnly (IsGiveWord front.d front.batch) p.words w → StoresOnly (IsPushWord list front.d) w x → StoresOnly (IsEitherWord list) p.words x
+  both_stores : (w x : View) (list : ℕ) → StoresOnly (IsGiveWord front.d front.batch) p.words w → StoresOnly (IsPushWord list front.d) w x
+      → StoresOnly (IsEitherWord list) p.words x
   both_stores w x list given pushed = stores_then (IsEitherWord list) p.words w x
       (stores_more (IsGiveWord front.d front.batch) (IsEitherWord list) p.words w (λ word at. inl at) given)
       (stores_more (IsPushWord list front.d) (IsEitherWord list) w x (λ word at. inr at) pushed)
 
   pub pushed_serves : (w : View) (list : ℕ) (q : Parts) → list < lists → q.capacity ≡ p.capacity → q.used_look ≡ p.used_look → q.taken ≡ p.taken
       → StoresOnly (IsGiveWord front.d front.batch) p.words w → StoresOnly (IsPushWord list front.d) w q.words → Serves (held_in p) p q
-  pushed_serves w list q below capacity look taken given pushed = serves_of p q (held_in p) (IsEitherWord list) run capacity look taken (λ word at. both_word list word below at)
+  pushed_serves w list q below capacity look taken given pushed = serves_of p q (held_in p) (IsEitherWord list) run capacity look taken
+      (λ word at. both_word list word below at)
       (λ at. both_low list used_word (omega arith) (omega arith) (omega arith) (omega arith) at) (both_stores w q.words list given pushed)
 
   -- the blocks were given back
-  module _ (w : View) (anchor : Anchor) (given : IsGiven p.capacity class front.d front.batch anchor p.words w) (stores : StoresOnly (IsGiveWord front.d front.batch) p.words w) where
+  module _ (w : View) (anchor : Anchor) (given : IsGiven p.capacity class front.d front.batch anchor p.words w)
+      (stores : StoresOnly (IsGiveWord front.d front.batch) p.words w) where
     abbrev next_word : ℕ
     next_word = start_word p.capacity front.d + anchor.first * words_of_class class
 
@@ -203,8 +215,10 @@ module _ (p : Parts) (class : ℕ) (is : IsClass class) (run : IsRunning p) (fro
     linked = linked_words p.capacity class front.d front.batch anchor p.words.volatile
 
     linked_is : ((anchor.count ≡ 0) × (linked ≡ p.words.volatile)) ⊎ (linked ≡ set p.words.volatile front.batch.last next_word)
-    linked_is = elim (cases_eq anchor.count 0) as (λ _. ((anchor.count ≡ 0) × (linked ≡ p.words.volatile)) ⊎ (linked ≡ set p.words.volatile front.batch.last next_word)) [
-      | inl none ↦ inl (none, cond-true (nat_eq anchor.count 0) p.words.volatile (set p.words.volatile front.batch.last next_word) (eq-eqb anchor.count 0 none))
+    linked_is = elim (cases_eq anchor.count 0) as (λ _. ((anchor.count ≡ 0) × (linked ≡ p.words.volatile))
+        ⊎ (linked ≡ set p.words.volatile front.batch.last next_word)) [
+      | inl none ↦ inl (none, cond-true (nat_eq anchor.count 0) p.words.volatile (set p.words.volatile front.batch.last next_word)
+          (eq-eqb anchor.count 0 none))
       | inr some ↦ inr (cond-false (nat_eq anchor.count 0) p.words.volatile (set p.words.volatile front.batch.last next_word) (ne_eqb anchor.count 0 some))
     ]
 
@@ -230,7 +244,8 @@ module _ (p : Parts) (class : ℕ) (is : IsClass class) (run : IsRunning p) (fro
     state_now = cond (nat_eq (length blocks + length (s.chain front.d)) (blocks_of class)) empty_state partial_state
 
     new_other : (word : ℕ) → word ≢ anchor_word front.d → volatile_at w word ≡ get_or linked word 0
-    new_other word other = ap (λ (xs : List ℕ). get_or xs word 0) given.words ∙ get_or-set_other linked (anchor_word front.d) word (given_to anchor front.batch (blocks_of class)) 0 other
+    new_other word other = ap (λ (xs : List ℕ). get_or xs word 0) given.words ∙ get_or-set_other linked (anchor_word front.d) word
+        (given_to anchor front.batch (blocks_of class)) 0 other
 
     last_high : start_word p.capacity 0 ≤ front.batch.last
     last_high = let from = last_inside.from in omega arith
@@ -250,7 +265,8 @@ module _ (p : Parts) (class : ℕ) (is : IsClass class) (run : IsRunning p) (fro
           others = λ word not_anchor not_last. new_other word not_anchor ∙ linked_other word not_last;
         }
       where
-        linked_now : (s.chain front.d ≡ []) ⊎ (volatile_at w front.batch.last ≡ first_of p.capacity class front.d (anchor_first (image_of p (anchor_word front.d))))
+        linked_now : (s.chain front.d ≡ []) ⊎ (volatile_at w front.batch.last ≡ first_of p.capacity class front.d
+            (anchor_first (image_of p (anchor_word front.d))))
         linked_now =
             let high = last_high in
             let last = front_last in
@@ -258,9 +274,11 @@ module _ (p : Parts) (class : ℕ) (is : IsClass class) (run : IsRunning p) (fro
             let within = is_front.within in
             let seen = new_other front.batch.last (omega arith) in
             let first = given.parts.first in
-            elim linked_is as (λ _. (s.chain front.d ≡ []) ⊎ (volatile_at w front.batch.last ≡ first_of p.capacity class front.d (anchor_first (image_of p (anchor_word front.d))))) [
+            elim linked_is as (λ _. (s.chain front.d ≡ []) ⊎ (volatile_at w front.batch.last ≡ first_of p.capacity class front.d
+                (anchor_first (image_of p (anchor_word front.d))))) [
               | inl none ↦ inl (none_of_zero (s.chain front.d) (sym chain_count ∙ none.0))
-              | inr some ↦ inr (seen ∙ ap (λ (xs : List ℕ). get_or xs front.batch.last 0) some ∙ get_or-set_same p.words.volatile front.batch.last next_word 0 (omega arith)
+              | inr some ↦ inr (seen ∙ ap (λ (xs : List ℕ). get_or xs front.batch.last 0) some ∙ get_or-set_same p.words.volatile front.batch.last next_word 0
+                  (omega arith)
                   ∙ ap (λ n. first_of p.capacity class front.d n) first)
             ]
 
@@ -271,29 +289,36 @@ module _ (p : Parts) (class : ℕ) (is : IsClass class) (run : IsRunning p) (fro
       | inr full ↦ absurd (other (full_number anchor.state (given.parts.state ∙ full.2)))
     ]
 
-    gave_full : anchor.state ≡ Full → (s.place front.d ≡ is_full) × (image_of p (info_word front.d) ≡ class) × (anchor_state (image_of p (anchor_word front.d)) ≡ 2) × (s.chain front.d ≡ [])
-    gave_full same = elim front_state as (λ _. (s.place front.d ≡ is_full) × (image_of p (info_word front.d) ≡ class) × (anchor_state (image_of p (anchor_word front.d)) ≡ 2) × (s.chain front.d ≡ [])) [
+    gave_full : anchor.state ≡ Full → (s.place front.d ≡ is_full) × (image_of p (info_word front.d) ≡ class)
+        × (anchor_state (image_of p (anchor_word front.d)) ≡ 2) × (s.chain front.d ≡ [])
+    gave_full same = elim front_state as (λ _. (s.place front.d ≡ is_full) × (image_of p (info_word front.d) ≡ class)
+        × (anchor_state (image_of p (anchor_word front.d)) ≡ 2) × (s.chain front.d ≡ [])) [
       | inl listed ↦ absurd (listed.1 (sym given.parts.state ∙ ap state_number same))
       | inr full ↦ full
     ]
 
-    caches_now : (t : Shape) → ((c : ℕ) → t.cached c ≡ with_at s.cached class split.0 c) → ((c : ℕ) → t.start c ≡ with_at s.start class (image_of p front.batch.last) c)
+    caches_now : (t : Shape) → ((c : ℕ) → t.cached c ≡ with_at s.cached class split.0 c)
+        → ((c : ℕ) → t.start c ≡ with_at s.start class (image_of p front.batch.last) c)
         → (c : ℕ) → IsClass c → IsCacheOf t c (cache_at (set p.caches class front.rest) c)
-    caches_now t cached start = caches_set p run class t (image_of p front.batch.last) split.0 front.rest is is_front.next (sym rest_long) few_rest cached start
+    caches_now t cached start = caches_set p run class t (image_of p front.batch.last) split.0 front.rest is is_front.next
+        (sym rest_long) few_rest cached start
 
     pub gave_running : anchor.state ≢ Full → IsRunning (changed p w (set p.caches class front.rest) p.blocks)
     gave_running other =
         let within = is_front.within in
         running_after p w (set p.caches class front.rest) p.blocks (after_give s class front.d blocks split.0 (image_of p front.batch.last)) run
-        (keeps_fixed p w (IsGiveWord front.d front.batch) run stores given.goes.running given.goes.below (λ e below. give_low (info_word e) (omega arith) (omega arith)) (give_low used_word (omega arith) (omega arith))
+        (keeps_fixed p w (IsGiveWord front.d front.batch) run stores given.goes.running given.goes.below
+            (λ e below. give_low (info_word e) (omega arith) (omega arith)) (give_low used_word (omega arith) (omega arith))
         (λ list below. ap head_pops (stores.volatile (head_word list) (give_low (head_word list) (omega arith) (omega arith)))))
         (length-set p.caches class front.rest ∙ run.caches_long) refl refl
-        (give p.capacity class front.d (image_of p) (λ word. volatile_at w word) (held_in p) s is_front.before split.0 front.batch.last is run.is is_front.within split.1 is_front.firsts (gave_listed other) given_back)
+        (give p.capacity class front.d (image_of p) (λ word. volatile_at w word) (held_in p) s is_front.before split.0 front.batch.last is run.is
+            is_front.within split.1 is_front.firsts (gave_listed other) given_back)
         (caches_now (after_give s class front.d blocks split.0 (image_of p front.batch.last)) (λ c. refl) (λ c. refl))
         (λ e below is_class place. place)
 
     -- it went to a list where it was
-    module _ (full : anchor.state ≡ Full) (list : ℕ) (x : View) (pushed : IsPushed list front.d w x) (push_stores : StoresOnly (IsPushWord list front.d) w x) where
+    module _ (full : anchor.state ≡ Full) (list : ℕ) (x : View) (pushed : IsPushed list front.d w x)
+        (push_stores : StoresOnly (IsPushWord list front.d) w x) where
       abbrev pub now_listed : Parts
       now_listed = changed p x (set p.caches class front.rest) p.blocks
 
@@ -310,7 +335,8 @@ module _ (p : Parts) (class : ℕ) (is : IsClass class) (run : IsRunning p) (fro
             middle = λ word. get_or (set w.volatile (link_word front.d) next) word 0;
             pops = head_pops (volatile_at w (head_word list));
             link = set_is w.volatile (set w.volatile (link_word front.d) next) (link_word front.d) next (omega arith) refl;
-            head = set_is (set w.volatile (link_word front.d) next) x.volatile (head_word list) (head_of (front.d + 1) (head_pops (volatile_at w (head_word list)))) (omega arith) pushed.words;
+            head = set_is (set w.volatile (link_word front.d) next) x.volatile (head_word list)
+                (head_of (front.d + 1) (head_pops (volatile_at w (head_word list)))) (omega arith) pushed.words;
           }
 
       pops_now : list < lists → (l : ℕ) → l < lists → head_pops (volatile_at x (head_word l)) ≡ head_pops (image_of p (head_word l))
@@ -318,11 +344,13 @@ module _ (p : Parts) (class : ℕ) (is : IsClass class) (run : IsRunning p) (fro
       pops_now below l l_below =
           let within = is_front.within in
           let small = run.is.small in
-          let first : volatile_at w (head_word l) ≡ image_of p (head_word l) = stores.volatile (head_word l) (give_low (head_word l) (omega arith) (omega arith)) in
+          let first : volatile_at w (head_word l) ≡ image_of p (head_word l) = stores.volatile (head_word l)
+              (give_low (head_word l) (omega arith) (omega arith)) in
           elim (cases_eq l list) as (λ _. head_pops (volatile_at x (head_word l)) ≡ head_pops (image_of p (head_word l))) [
             | inl same ↦
                 let at : volatile_at x (head_word list) ≡ head_of (front.d + 1) (head_pops (volatile_at w (head_word list))) = (pushed_on below).head.at in
-                let there : volatile_at w (head_word list) ≡ image_of p (head_word list) = subst (λ k. volatile_at w (head_word k) ≡ image_of p (head_word k)) same first in
+                let there : volatile_at w (head_word list) ≡ image_of p (head_word list) = subst
+                    (λ k. volatile_at w (head_word k) ≡ image_of p (head_word k)) same first in
                 subst (λ k. head_pops (volatile_at x (head_word k)) ≡ head_pops (image_of p (head_word k))) (sym same) (omega arith)
             | inr other ↦ ap head_pops (push_stores.volatile (head_word l) (push_other l l_below other) ∙ first)
           ]
@@ -360,12 +388,15 @@ module _ (p : Parts) (class : ℕ) (is : IsClass class) (run : IsRunning p) (fro
           let count = is_front.count in
           let none = none_before in
           let total : length blocks + length (s.chain front.d) ≡ blocks_of class = omega arith in
-          let empty : state_now ≡ empty_state = cond-true (nat_eq (length blocks + length (s.chain front.d)) (blocks_of class)) empty_state partial_state (eq-eqb (length blocks + length (s.chain front.d)) (blocks_of class) total) in
+          let empty : state_now ≡ empty_state = cond-true (nat_eq (length blocks + length (s.chain front.d)) (blocks_of class)) empty_state partial_state
+              (eq-eqb (length blocks + length (s.chain front.d)) (blocks_of class) total) in
           let is_state = gave_full full in
           listed_running (after_give_all s class front.d blocks split.0 (image_of p front.batch.last)) 0 (omega arith)
-          (give_all p.capacity class front.d (image_of p) (λ word. volatile_at w word) (held_in p) s is_front.before split.0 front.batch.last is run.is is_front.within split.1 is_front.firsts
+          (give_all p.capacity class front.d (image_of p) (λ word. volatile_at w word) (held_in p) s is_front.before split.0 front.batch.last is run.is
+              is_front.within split.1 is_front.firsts
           (λ word. volatile_at x word) is_state.0 is_state.1 (omega arith)
-          (subst (λ state. IsGivenBack p.capacity (image_of p) (λ word. volatile_at w word) s class front.d is_front.before front.batch.last state) empty given_back)
+          (subst (λ state. IsGivenBack p.capacity (image_of p) (λ word. volatile_at w word) s class front.d is_front.before front.batch.last state) empty
+              given_back)
           (subst (λ l. IsPushedOn (λ word. volatile_at w word) (λ word. volatile_at x word) l front.d) same (pushed_on (omega arith))))
           (λ c. refl) (λ c. refl) (λ e. refl)
 
@@ -377,11 +408,14 @@ module _ (p : Parts) (class : ℕ) (is : IsClass class) (run : IsRunning p) (fro
           let none = none_before in
           let fits = front_fits in
           let differs : length blocks + length (s.chain front.d) ≢ blocks_of class = λ e. not_all (omega arith) in
-          let partial : state_now ≡ partial_state = cond-false (nat_eq (length blocks + length (s.chain front.d)) (blocks_of class)) empty_state partial_state (ne_eqb (length blocks + length (s.chain front.d)) (blocks_of class) differs) in
+          let partial : state_now ≡ partial_state = cond-false (nat_eq (length blocks + length (s.chain front.d)) (blocks_of class)) empty_state partial_state
+              (ne_eqb (length blocks + length (s.chain front.d)) (blocks_of class) differs) in
           let is_state = gave_full full in
           listed_running (after_give_full s class front.d blocks split.0 (image_of p front.batch.last)) class (omega arith)
-          (give_full p.capacity class front.d (image_of p) (λ word. volatile_at w word) (held_in p) s is_front.before split.0 front.batch.last is run.is is_front.within split.1 is_front.firsts
+          (give_full p.capacity class front.d (image_of p) (λ word. volatile_at w word) (held_in p) s is_front.before split.0 front.batch.last is run.is
+              is_front.within split.1 is_front.firsts
           (λ word. volatile_at x word) is_state.0 is_state.1 (omega arith)
-          (subst (λ state. IsGivenBack p.capacity (image_of p) (λ word. volatile_at w word) s class front.d is_front.before front.batch.last state) partial given_back)
+          (subst (λ state. IsGivenBack p.capacity (image_of p) (λ word. volatile_at w word) s class front.d is_front.before front.batch.last state) partial
+              given_back)
           (subst (λ l. IsPushedOn (λ word. volatile_at w word) (λ word. volatile_at x word) l front.d) same (pushed_on (omega arith))))
           (λ c. refl) (λ c. refl) (λ e. refl)

@@ -2,18 +2,18 @@
 use Rattle.std.proofs.Common.{◌≡◌, ◌≢◌, ℕ, zero, suc, ◌+◌, ◌-◌, ◌*◌, ◌/◌, ◌<◌, ◌≤◌, ◌⊎◌, inl, inr, List, ◌∷◌, length, get_or, set, Contains, refl, ap, sym, subst, ◌∙◌, arith, get_or-set_same, length-set}
 use Rattle.std.proofs.lemmas.Bool.{cases_eq}
 use Rattle.heap_model.specs.declared.block.Block.{Block}
-use Rattle.heap_model.specs.Geometry.{lists, head_word, info_word, used_word, start_word, image_words}
+use Rattle.heap_model.specs.Geometry.{head_word, info_word, used_word, start_word, image_words}
 use Rattle.heap_model.specs.Image.{Image}
 use Rattle.heap_model.specs.Sizes.{IsClass, words_of_class, blocks_of}
 use Rattle.heap_model.specs.Blocks.{IsBlock, IsIn}
 use Rattle.heap_model.specs.Recovered.{HasPartIn}
 use Rattle.heap_model.specs.Words.{head_pops}
-use Rattle.heap_model.proofs.BlockLemmas.{block_inside, block_words, never_overlap}
+use Rattle.heap_model.proofs.BlockLemmas.{block_inside, never_overlap}
 use Rattle.heap_model.proofs.PartLemmas.{part_taken, same_fields}
 use Rattle.heap_model.proofs.SizeLemmas.{two_words, four_blocks, few_blocks}
-use Rattle.heap_shape.specs.Shape.{Place, in_list, is_full, in_large, is_new, Shape, with_at}
+use Rattle.heap_shape.specs.Shape.{Place, in_list, is_full, in_large, is_new, Shape}
 use Rattle.heap_shape.specs.Standing.{HasNoHeld, IsAs}
-use Rattle.heap_shape.specs.Whole.{layout_at, IsShape}
+use Rattle.heap_shape.specs.Whole.{layout_at}
 use Rattle.heap_shape.specs.Effects.{IsInSuperblock}
 use Rattle.heap_shape.specs.Moves.{TakesFrom, with_cache}
 use Rattle.heap_shape.proofs.HandLemmas.{take_back}
@@ -22,7 +22,7 @@ use Rattle.line_memory.specs.View.{View, volatile_at}
 use Rattle.block_heap.specs.declared.cache.Cache.{Cache}
 use Rattle.block_heap.specs.declared.held.HeldBlocks.{HeldBlocks}
 use Rattle.block_heap.specs.Held.{held_of, HasMark, at_mark}
-use Rattle.block_heap.specs.Medium.{StoresOnly, IsStored, Goes, Halts}
+use Rattle.block_heap.specs.Medium.{StoresOnly, IsStored, Goes}
 use Rattle.block_heap.specs.Parts.{Parts, image_of, held_in, cache_at}
 use Rattle.block_heap.specs.Running.{IsRunning, AreShort, Serves}
 use Rattle.block_heap.specs.Flush.{KeepsAll}
@@ -31,7 +31,8 @@ use Rattle.block_heap.proofs.RunningLemmas.{set_is}
 use Rattle.block_heap.proofs.SmallLemmas.{changed, keeps_fixed, running_after, caches_set, other_cache, serves_of, serves_then, even_words, even_product}
 
 -- a superblock of a class with a held block stands in the list of its class, or is full
-place_known : (capacity : ℕ) (image : Image) (s : Shape) (held : List Block) (d : ℕ) (place : Place) → IsClass (image (info_word d)) → d < image used_word → (HasNoHeld capacity held d → ⊥)
+place_known : (capacity : ℕ) (image : Image) (s : Shape) (held : List Block) (d : ℕ) (place : Place) → IsClass (image (info_word d)) → d < image used_word
+    → (HasNoHeld capacity held d → ⊥)
     → IsAs capacity image s held d place → (place ≡ in_list (image (info_word d))) ⊎ (place ≡ is_full)
 place_known capacity image s held d (in_list zero) is taken some free = absurd (some free.none)
 place_known capacity image s held d (in_list (suc c)) is taken some listed = inl (ap in_list (sym listed.of_class.info))
@@ -40,7 +41,8 @@ place_known capacity image s held d in_large is taken some large = absurd (large
 place_known capacity image s held d is_new is taken some new = absurd (let past = new.past in omega arith)
 
 -- a held block of the class
-module _ (p : Parts) (class : ℕ) (is : IsClass class) (run : IsRunning p) (b : Block) (holds : Contains (held_in p) b) (size : b.words ≡ words_of_class class) where
+module _ (p : Parts) (class : ℕ) (is : IsClass class) (run : IsRunning p) (b : Block) (holds : Contains (held_in p) b)
+    (size : b.words ≡ words_of_class class) where
   named : IsBlock (layout_at p.capacity (image_of p)) b
   named = run.is.named b holds
 
@@ -84,14 +86,16 @@ module _ (p : Parts) (class : ℕ) (is : IsClass class) (run : IsRunning p) (b :
       let until = where_is.3.until in
       let begins = run.sizes.start in
       let d_is : (b.first_word - p.blocks.start) / 8192 ≡ d = omega arith in
-      let place = place_known p.capacity (image_of p) run.shape (held_in p) d (run.shape.place d) is_class (part_taken (layout_at p.capacity (image_of p)) b d named part)
+      let place = place_known p.capacity (image_of p) run.shape (held_in p) d (run.shape.place d) is_class
+          (part_taken (layout_at p.capacity (image_of p)) b d named part)
           (λ none. none b holds part) (run.is.places d where_is.1) in
       let words : get_or p.blocks.words.items ((b.first_word - p.blocks.start) / 8192) 0 ≡ b.words =
           ap (λ k. get_or p.blocks.words.items k 0) d_is ∙ run.sizes.sizes d where_is.1 is_class place ∙ ap words_of_class e ∙ sym size in
       same_fields (at_mark p.blocks b.first_word) b refl words
 
   -- it was taken back
-  module _ (h : HeldBlocks) (takes : TakesFrom (at_mark p.blocks b.first_word) (held_in p) (held_of h)) (words : h.words.items ≡ p.blocks.words.items) (start : h.start ≡ p.blocks.start) where
+  module _ (h : HeldBlocks) (takes : TakesFrom (at_mark p.blocks b.first_word) (held_in p) (held_of h)) (words : h.words.items ≡ p.blocks.words.items)
+      (start : h.start ≡ p.blocks.start) where
     pub taken_back : TakesFrom b (held_in p) (held_of h)
     taken_back = subst (λ a. TakesFrom a (held_in p) (held_of h)) held_at takes
 
@@ -111,10 +115,13 @@ module _ (p : Parts) (class : ℕ) (is : IsClass class) (run : IsRunning p) (b :
     not_first : (word : ℕ) → word < start_word p.capacity 0 → word ≡ b.first_word → ⊥
     not_first word low at = let from = inside.0 in omega arith
 
-    pub freed_serves : (q : Parts) → q.capacity ≡ p.capacity → q.used_look ≡ p.used_look → q.taken ≡ p.taken → StoresOnly (λ word. word ≡ b.first_word) p.words q.words → Serves (held_of h) p q
-    freed_serves q capacity look taken stores = serves_of p q (held_of h) (λ word. word ≡ b.first_word) run capacity look taken freed_word (λ at. not_first used_word (omega arith) at) stores
+    pub freed_serves : (q : Parts) → q.capacity ≡ p.capacity → q.used_look ≡ p.used_look → q.taken ≡ p.taken
+        → StoresOnly (λ word. word ≡ b.first_word) p.words q.words → Serves (held_of h) p q
+    freed_serves q capacity look taken stores = serves_of p q (held_of h) (λ word. word ≡ b.first_word) run capacity look taken freed_word
+        (λ at. not_first used_word (omega arith) at) stores
 
-    module _ (cache : Cache) (cache_is : cache ≡ cache_at p.caches class) (w : View) (stored : IsStored b.first_word cache.first p.words w) (stores : StoresOnly (λ word. word ≡ b.first_word) p.words w)
+    module _ (cache : Cache) (cache_is : cache ≡ cache_at p.caches class) (w : View) (stored : IsStored b.first_word cache.first p.words w)
+        (stores : StoresOnly (λ word. word ≡ b.first_word) p.words w)
         (short : AreShort p 0) where
       abbrev pub freed_cache : Cache
       freed_cache = record { first = b.first_word; count = cache.count + 1 }
@@ -142,12 +149,16 @@ module _ (p : Parts) (class : ℕ) (is : IsClass class) (run : IsRunning p) (b :
           let few = count_short in
           let count = count_is in
           running_after p w (set p.caches class freed_cache) h (with_cache run.shape class b.first_word (b.first_word ∷ run.shape.cached class)) run
-          (keeps_fixed p w (λ word. word ≡ b.first_word) run stores stored.goes.running stored.goes.below (λ d d_below. not_first (info_word d) (omega arith)) (not_first used_word (omega arith))
+          (keeps_fixed p w (λ word. word ≡ b.first_word) run stores stored.goes.running stored.goes.below (λ d d_below. not_first (info_word d) (omega arith))
+              (not_first used_word (omega arith))
           (λ list list_below. ap head_pops (stores.volatile (head_word list) (not_first (head_word list) (omega arith)))))
           (length-set p.caches class freed_cache ∙ run.caches_long) start words
-          (take_back p.capacity class where_is.0 (image_of p) (λ word. volatile_at w word) (held_in p) (held_of h) run.shape b is run.is holds where_is.1 where_is.2 where_is.3 taken_back
-          (set_is p.words.volatile w.volatile b.first_word (run.shape.start class) (omega arith) (stored.volatile ∙ ap (λ x. set p.words.volatile b.first_word x) first_is)))
-          (caches_set p run class (with_cache run.shape class b.first_word (b.first_word ∷ run.shape.cached class)) b.first_word (b.first_word ∷ run.shape.cached class) freed_cache is refl (omega arith) (omega arith) (λ c. refl) (λ c. refl))
+          (take_back p.capacity class where_is.0 (image_of p) (λ word. volatile_at w word) (held_in p)
+              (held_of h) run.shape b is run.is holds where_is.1 where_is.2 where_is.3 taken_back
+          (set_is p.words.volatile w.volatile b.first_word (run.shape.start class) (omega arith)
+              (stored.volatile ∙ ap (λ x. set p.words.volatile b.first_word x) first_is)))
+          (caches_set p run class (with_cache run.shape class b.first_word (b.first_word ∷ run.shape.cached class)) b.first_word
+              (b.first_word ∷ run.shape.cached class) freed_cache is refl (omega arith) (omega arith) (λ c. refl) (λ c. refl))
           (λ d d_below is_class place. place)
 
       freed_count : (cache_at (set p.caches class freed_cache) class).count ≡ cache.count + 1
@@ -160,7 +171,8 @@ module _ (p : Parts) (class : ℕ) (is : IsClass class) (run : IsRunning p) (b :
       pub freed_short : cache.count + 1 ≢ blocks_of class → AreShort freed_parts 0
       freed_short not_all = record {
         each = λ c is_c other. elim (cases_eq c class) as (λ _. (cache_at (set p.caches class freed_cache) c).count < blocks_of c) [
-          | inl same ↦ subst (λ k. (cache_at (set p.caches class freed_cache) k).count < blocks_of k) (sym same) (let e = freed_count in let few = count_short in omega arith)
+          | inl same ↦ subst (λ k. (cache_at (set p.caches class freed_cache) k).count < blocks_of k) (sym same)
+              (let e = freed_count in let few = count_short in omega arith)
           | inr differs ↦ subst (λ (x : Cache). x.count < blocks_of c) (sym (other_cache p.caches class freed_cache c differs)) (short.each c is_c other)
         ];
       }
@@ -171,7 +183,8 @@ module _ (p : Parts) (class : ℕ) (is : IsClass class) (run : IsRunning p) (b :
         flushed_short = record {
           each = λ c is_c other. elim (cases_eq c class) as (λ _. (cache_at r.caches c).count < blocks_of c) [
             | inl same ↦ subst (λ k. (cache_at r.caches k).count < blocks_of k) (sym same) (let four = four_blocks class is in omega arith)
-            | inr differs ↦ subst (λ (x : Cache). x.count < blocks_of c) (sym (keeps.caches c is_c differs ∙ other_cache p.caches class freed_cache c differs)) (short.each c is_c other)
+            | inr differs ↦ subst (λ (x : Cache). x.count < blocks_of c) (sym (keeps.caches c is_c differs ∙ other_cache p.caches class freed_cache c
+                differs)) (short.each c is_c other)
           ];
         }
 
@@ -179,9 +192,11 @@ module _ (p : Parts) (class : ℕ) (is : IsClass class) (run : IsRunning p) (b :
       flushed_held r same = subst (λ now. TakesFrom b (held_in p) now) (sym same) taken_back
 
       pub flushed_serve : (r : Parts) → held_in r ≡ held_of h → Serves (held_of h) freed_parts r → Serves (held_in r) p r
-      flushed_serve r same serves = subst (λ now. Serves now p r) (sym same) (serves_then p freed_parts r (held_of h) (freed_serves freed_parts refl refl refl stores) serves)
+      flushed_serve r same serves = subst (λ now. Serves now p r) (sym same) (serves_then p freed_parts r (held_of h)
+          (freed_serves freed_parts refl refl refl stores) serves)
 
-      pub flushed_goes : (r : Parts) → IsRunning r → freed_parts.words.drawn ≤ r.words.drawn → r.words.drawn ≤ freed_parts.words.drawn + 9 * (cache_at freed_parts.caches class).count → Goes 40000 p.words r.words
+      pub flushed_goes : (r : Parts) → IsRunning r → freed_parts.words.drawn ≤ r.words.drawn
+          → r.words.drawn ≤ freed_parts.words.drawn + 9 * (cache_at freed_parts.caches class).count → Goes 40000 p.words r.words
       flushed_goes r running more few =
           let drew = stored.goes.drew in
           let one = stored.goes.few in

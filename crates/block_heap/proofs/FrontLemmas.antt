@@ -1,7 +1,7 @@
 -- How the front of a cache is found: a walk along its blocks as far as they lie in one superblock.
 use Rattle.std.proofs.Common.{◌≡◌, ℕ, ◌+◌, ◌-◌, ◌*◌, ◌/◌, ◌<◌, ◌≤◌, inl, inr, List, [], ◌∷◌, ◌++◌, length, get_or, Contains, refl, ap, sym, subst, ◌∙◌, arith, length-append}
 use Rattle.std.proofs.Math.Nat.{mul-div_cancel}
-use Rattle.std.proofs.lemmas.List.Elements.{Contains-append_left, Contains-append_right, Contains-append_cases}
+use Rattle.std.proofs.lemmas.List.Elements.{Contains-append_right, Contains-append_cases}
 use Rattle.heap_model.specs.Geometry.{start_word}
 use Rattle.heap_model.specs.Sizes.{IsClass, words_of_class, blocks_of}
 use Rattle.heap_model.specs.Chains.{Walks}
@@ -9,7 +9,6 @@ use Rattle.heap_model.proofs.MemberLemmas.{in_none, in_head, head_or_rest}
 use Rattle.heap_model.proofs.SizeLemmas.{two_words, few_blocks}
 use Rattle.heap_shape.specs.Standing.{first_of, IsFirstOf}
 use Rattle.line_memory.specs.View.{View}
-use Rattle.block_heap.specs.declared.anchors.Batch.{Batch}
 use Rattle.block_heap.specs.declared.cache.Cache.{Cache}
 use Rattle.block_heap.specs.declared.small.Front.{Front}
 use Rattle.block_heap.specs.Flush.{IsFront, KeepsAll, GivesBack}
@@ -47,7 +46,8 @@ module _ (p q : Parts) (most : ℕ) (run : IsRunning p) (loaded : HasLoaded most
   loaded_run = subst (λ x. IsRunning x) (sym loaded.same) loaded_running
 
   pub loaded_serves : Serves (held_in p) p q
-  loaded_serves = serves_of p q (held_in p) (λ _. ⊥) run (ap (λ x. x.capacity) loaded.same) (ap (λ x. x.used_look) loaded.same) (ap (λ x. x.taken) loaded.same)
+  loaded_serves = serves_of p q (held_in p) (λ _. ⊥) run (ap (λ x. x.capacity) loaded.same) (ap (λ x. x.used_look) loaded.same)
+      (ap (λ x. x.taken) loaded.same)
       (λ word out. absurd out) (λ out. out) loaded.stores
 
   pub loaded_front : (class : ℕ) (front : Front) → IsFront class front p → IsFront class front q
@@ -55,7 +55,8 @@ module _ (p q : Parts) (most : ℕ) (run : IsRunning p) (loaded : HasLoaded most
       (record {
         within = is.within;
         before = is.before;
-        walks = subst (λ (xs : List ℕ). Walks (λ word. get_or xs word 0) (cache_at p.caches class).first (is.before ++ front.batch.last ∷ [])) (sym loaded.volatile) is.walks;
+        walks = subst (λ (xs : List ℕ). Walks (λ word. get_or xs word 0) (cache_at p.caches class).first (is.before ++ front.batch.last ∷ []))
+            (sym loaded.volatile) is.walks;
         firsts = is.firsts;
         first = is.first;
         count = is.count;
@@ -75,7 +76,8 @@ pub loaded_capacity : (p q : Parts) (most : ℕ) → HasLoaded most p q → q.ca
 loaded_capacity p q most loaded = ap (λ (x : Parts). x.capacity) loaded.same
 
 -- one more load
-pub loaded_more : (p q r : Parts) (most : ℕ) (word value : ℕ) → HasLoaded most p q → r ≡ record q { words = r.words } → IsLoaded word value q.words r.words → StoresOnly (λ _. ⊥) q.words r.words
+pub loaded_more : (p q r : Parts) (most : ℕ) (word value : ℕ) → HasLoaded most p q → r ≡ record q { words = r.words } → IsLoaded word value q.words r.words
+    → StoresOnly (λ _. ⊥) q.words r.words
     → HasLoaded (most + 1) p r
 loaded_more p q r most word value before same loaded stores = record {
   same = same ∙ ap (λ (x : Parts). record x { words = r.words }) before.same;
@@ -94,11 +96,13 @@ pub loaded_value : (p q r : Parts) (most : ℕ) (word value : ℕ) → HasLoaded
 loaded_value p q r most word value before loaded = loaded.seen ∙ ap (λ (xs : List ℕ). get_or xs word 0) before.volatile
 
 -- a walk that goes one block further, and what is behind it
-walk_more : (next : ℕ → ℕ) (from : ℕ) (before : List ℕ) (last x : ℕ) → Walks next from (before ++ last ∷ []) → x ≡ next last → Walks next from ((before ++ last ∷ []) ++ x ∷ [])
+walk_more : (next : ℕ → ℕ) (from : ℕ) (before : List ℕ) (last x : ℕ) → Walks next from (before ++ last ∷ []) → x ≡ next last
+    → Walks next from ((before ++ last ∷ []) ++ x ∷ [])
 walk_more next from [] last x walks e = (walks.0, (sym e, tt))
 walk_more next from (b ∷ before) last x walks e = (walks.0, walk_more next (next b) before last x walks.1 e)
 
-walk_behind : (next : ℕ → ℕ) (from : ℕ) (before : List ℕ) (last : ℕ) (rest : List ℕ) → Walks next from ((before ++ last ∷ []) ++ rest) → Walks next (next last) rest
+walk_behind : (next : ℕ → ℕ) (from : ℕ) (before : List ℕ) (last : ℕ) (rest : List ℕ) → Walks next from ((before ++ last ∷ []) ++ rest)
+    → Walks next (next last) rest
 walk_behind next from [] last rest walks = walks.1
 walk_behind next from (b ∷ before) last rest walks = walk_behind next (next b) before last rest walks.1
 
@@ -121,7 +125,8 @@ module _ (p : Parts) (class : ℕ) (is : IsClass class) (run : IsRunning p) (cac
     pub cache_first : IsPlacedAt p class cache.first
     cache_first = let found = first_cached p class is run cache cache_is some in record { d = found.d; within = found.within; first = found.is_first }
 
-    pub walked_one : (d next : ℕ) → d ≡ (cache.first - start_word p.capacity 0) / 8192 → next ≡ image_of p cache.first → IsWalked class d cache.first next 1 cache p
+    pub walked_one : (d next : ℕ) → d ≡ (cache.first - start_word p.capacity 0) / 8192 → next ≡ image_of p cache.first
+        → IsWalked class d cache.first next 1 cache p
     walked_one d next at e =
         let found = cache_first in
         let same : found.d ≡ d = sym (first_of_d p class found.d cache.first is run found.within found.first) ∙ sym at in
@@ -150,17 +155,21 @@ module _ (p : Parts) (class : ℕ) (is : IsClass class) (run : IsRunning p) (cac
         let long : cache.count ≡ length (run.shape.cached class) = ap (λ (x : Cache). x.count) cache_is ∙ of.count in
         let count_is = walked.count_is in
         let all = run.is.walks class is in
-        let split = walk_front (image_of p) (run.shape.start class) blocks (run.shape.cached class) (subst (λ x. Walks (image_of p) x blocks) first walked.walks) all (omega arith) in
+        let split = walk_front (image_of p) (run.shape.start class) blocks (run.shape.cached class)
+            (subst (λ x. Walks (image_of p) x blocks) first walked.walks) all (omega arith) in
         let both = length-append blocks split.0 in
         let e : length (run.shape.cached class) ≡ length (blocks ++ split.0) = ap (λ (xs : List ℕ). length xs) split.1 in
-        let behind = walk_behind (image_of p) (run.shape.start class) walked.before last split.0 (subst (λ xs. Walks (image_of p) (run.shape.start class) xs) split.1 all) in
-        let has : Contains split.0 next = subst (λ x. Contains split.0 x) (sym walked.next_is) (walk_begin (image_of p) (image_of p last) split.0 behind (omega arith)) in
+        let behind = walk_behind (image_of p) (run.shape.start class) walked.before last split.0
+            (subst (λ xs. Walks (image_of p) (run.shape.start class) xs) split.1 all) in
+        let has : Contains split.0 next = subst (λ x. Contains split.0 x) (sym walked.next_is)
+            (walk_begin (image_of p) (image_of p last) split.0 behind (omega arith)) in
         let cached : Contains (run.shape.cached class) next = subst (λ xs. Contains xs next) (sym split.1) (Contains-append_right blocks split.0 next has) in
         let found = run.is.cached class next is cached in
         record { d = found.superblock; within = found.within; first = found.is_first }
 
     -- the walk goes on to it, where it lies in the same superblock
-    pub walked_more : (after : ℕ) → count < cache.count → (next - start_word p.capacity 0) / 8192 ≡ d → after ≡ image_of p next → IsWalked class d next after (count + 1) cache p
+    pub walked_more : (after : ℕ) → count < cache.count → (next - start_word p.capacity 0) / 8192 ≡ d → after ≡ image_of p next
+        → IsWalked class d next after (count + 1) cache p
     walked_more after more at e =
         let found = next_placed more in
         let same : found.d ≡ d = sym (first_of_d p class found.d next is run found.within found.first) ∙ at in
@@ -181,14 +190,16 @@ module _ (p : Parts) (class : ℕ) (is : IsClass class) (run : IsRunning p) (cac
         }
 
     first_there : IsFirstOf p.capacity class d cache.first
-    first_there = walked.firsts cache.first (walk_begin (image_of p) cache.first blocks walked.walks (let both = length-append walked.before (last ∷ []) in omega arith))
+    first_there = walked.firsts cache.first (walk_begin (image_of p) cache.first blocks walked.walks
+        (let both = length-append walked.before (last ∷ []) in omega arith))
 
     pub first_behind : start_word p.capacity d ≤ cache.first
     first_behind = let at = first_there.at in omega arith
 
     -- the front that was walked
     pub walked_front : (start words : ℕ) → start ≡ start_word p.capacity d → words ≡ words_of_class class
-        → IsFront class (record { d = d; batch = record { first = (cache.first - start) / words; last = last; count = count }; rest = record { first = next; count = cache.count - count } }) p
+        → IsFront class (record { d = d; batch = record { first = (cache.first - start) / words; last = last; count = count }; rest = record
+            { first = next; count = cache.count - count } }) p
     walked_front start words start_is words_is =
         let first = first_there in
         let at = first.at in
@@ -198,7 +209,8 @@ module _ (p : Parts) (class : ℕ) (is : IsClass class) (run : IsRunning p) (cac
         let begins : cache.first ≡ (cache_at p.caches class).first = ap (λ (x : Cache). x.first) cache_is in
         let product : cache.first - start ≡ first.index * words_of_class class = omega arith in
         let index : (cache.first - start) / words ≡ first.index =
-            ap (λ x. x / words) product ∙ ap (λ x. first.index * words_of_class class / x) words_is ∙ mul-div_cancel first.index {n = words_of_class class} (omega arith) in
+            ap (λ x. x / words) product ∙ ap (λ x. first.index * words_of_class class / x) words_is ∙ mul-div_cancel first.index {n = words_of_class class}
+                (omega arith) in
         record {
           within = walked.within;
           before = walked.before;
@@ -243,7 +255,8 @@ pub flushed_serves : (class : ℕ) (p q r : Parts) → IsFlushed class p q → S
 flushed_serves class p q r before serves = serves_then p q r (held_in p) before.serves (subst (λ held. Serves held q r) before.held serves)
 
 -- a front was found
-module _ (class : ℕ) (p q r : Parts) (front : Front) (before : IsFlushed class p q) (is_front : IsFront class front r) (run : IsRunning r) (keeps : KeepsAll class q r) (caches : r.caches ≡ q.caches)
+module _ (class : ℕ) (p q r : Parts) (front : Front) (before : IsFlushed class p q) (is_front : IsFront class front r) (run : IsRunning r)
+    (keeps : KeepsAll class q r) (caches : r.caches ≡ q.caches)
     (goes : Goes front.batch.count q.words r.words) (held : held_in r ≡ held_in q) (serves : Serves (held_in q) q r) (taken : r.taken ≡ q.taken) where
   some_given : 1 ≤ front.batch.count
   some_given = let count = is_front.count in let both = length-append is_front.before (front.batch.last ∷ []) in omega arith
@@ -314,7 +327,8 @@ module _ (class : ℕ) (p q r : Parts) (front : Front) (before : IsFlushed class
   }
 
 -- and where finding it did
-pub front_halts : (class : ℕ) (p q : Parts) (w : View) (ticket : ℕ) → IsFlushed class p q → IsClass class → IsRunning p → Halts ticket (cache_at q.caches class).count q.words w → Halts ticket 36864 p.words w
+pub front_halts : (class : ℕ) (p q : Parts) (w : View) (ticket : ℕ) → IsFlushed class p q → IsClass class → IsRunning p
+    → Halts ticket (cache_at q.caches class).count q.words w → Halts ticket 36864 p.words w
 front_halts class p q w ticket before is first halts = record {
   stopped = halts.stopped;
   above = halts.above;

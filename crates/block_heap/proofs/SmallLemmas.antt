@@ -1,6 +1,7 @@
 -- How the parts of a heap stay right where caches and held blocks change, and what handing out the first block of a cache makes of them.
 use Rattle.std.proofs.Common.{◌≡◌, ◌≢◌, ℕ, ◌+◌, ◌-◌, ◌*◌, ◌/◌, ◌%◌, ◌<◌, ◌≤◌, ◌^◌, ◌⊎◌, inl, inr, None, nat_eq, eqb-true, List, [], ◌∷◌, length, get_or, set, Contains, refl, ap, sym, subst, ◌∙◌, arith, get_or-set_same, get_or-set_other, length-set}
 use Rattle.std.proofs.lemmas.Bool.{cases_eq}
+use Rattle.std.proofs.lemmas.List.{get_or_read}
 use Rattle.heap_model.specs.declared.block.Block.{Block}
 use Rattle.heap_model.specs.Geometry.{lists, head_word, info_word, used_word, start_word, image_words}
 use Rattle.heap_model.specs.Sizes.{IsClass, class_sizes, words_of_class, blocks_of}
@@ -11,7 +12,7 @@ use Rattle.heap_model.proofs.PartLemmas.{same_fields}
 use Rattle.heap_model.proofs.SizeLemmas.{at_class}
 use Rattle.heap_shape.specs.Shape.{Shape, in_list, is_full, with_at}
 use Rattle.heap_shape.specs.Standing.{IsFirstOf}
-use Rattle.heap_shape.specs.Whole.{IsShape, IsCachedIn}
+use Rattle.heap_shape.specs.Whole.{IsShape}
 use Rattle.heap_shape.specs.Effects.{IsInSuperblock}
 use Rattle.heap_shape.specs.Moves.{AddsTo, with_cache}
 use Rattle.heap_shape.proofs.BasicLemmas.{with_at_same, with_at_other, first_inside, cached_of_class}
@@ -31,7 +32,8 @@ use Rattle.block_heap.proofs.StableLemmas.{works_of, works_then, works_none}
 
 -- the parts with other words, caches and held blocks
 abbrev pub changed : Parts → View → List Cache → HeldBlocks → Parts
-changed p w caches blocks = record { words = w; capacity = p.capacity; caches = caches; blocks = blocks; taken = p.taken; used_look = p.used_look; head_looks = p.head_looks }
+changed p w caches blocks = record { words = w; capacity = p.capacity; caches = caches; blocks = blocks; taken = p.taken; used_look = p.used_look;
+    head_looks = p.head_looks }
 
 -- what stays where the words of superblocks, anchors, links and the first descriptors of lists change
 pub record KeepsFixed (p : Parts) (w : View) : Type 0 where
@@ -66,7 +68,8 @@ keeps_fixed p w to run stores running below infos used pops =
     }
 
 -- the parts are right with another shape whose places tell the same sizes
-pub running_after : (p : Parts) (w : View) (caches : List Cache) (blocks : HeldBlocks) (t : Shape) (run : IsRunning p) → KeepsFixed p w → length caches ≡ lists
+pub running_after : (p : Parts) (w : View) (caches : List Cache) (blocks : HeldBlocks) (t : Shape) (run : IsRunning p) → KeepsFixed p w
+    → length caches ≡ lists
     → blocks.start ≡ p.blocks.start → blocks.words.items ≡ p.blocks.words.items → IsShape p.capacity (λ word. volatile_at w word) (held_of blocks) t
     → ((class : ℕ) → IsClass class → IsCacheOf t class (cache_at caches class))
     → ((d : ℕ) → d < p.capacity → IsClass (image_of p (info_word d)) → (t.place d ≡ in_list (image_of p (info_word d))) ⊎ (t.place d ≡ is_full)
@@ -89,18 +92,22 @@ running_after p w caches blocks t run keeps long start words is caches_are place
   settled = record { infos = keeps.infos_durable; used = keeps.used_durable };
   pops = λ list less. let e = keeps.pops list less in let before = run.pops list less in let more = keeps.more in omega arith;
   knows = let e = keeps.used in let k = run.knows in omega arith;
+  few = let e = keeps.used in let f = run.few in omega arith;
 } where
   sized : (d : ℕ) → d < p.capacity → volatile_at w (info_word d) ≡ image_of p (info_word d) → IsClass (volatile_at w (info_word d))
-      → (t.place d ≡ in_list (volatile_at w (info_word d))) ⊎ (t.place d ≡ is_full) → get_or blocks.words.items d 0 ≡ words_of_class (volatile_at w (info_word d))
+      → (t.place d ≡ in_list (volatile_at w (info_word d))) ⊎ (t.place d ≡ is_full)
+          → get_or blocks.words.items d 0 ≡ words_of_class (volatile_at w (info_word d))
   sized d within same is_class place =
       let before = places d within (subst IsClass same is_class) (subst (λ x. (t.place d ≡ in_list x) ⊎ (t.place d ≡ is_full)) same place) in
       ap (λ (xs : List ℕ). get_or xs d 0) words ∙ run.sizes.sizes d within (subst IsClass same is_class) before ∙ ap words_of_class (sym same)
 
 -- the caches are those of a shape whose cache of one class is another
-pub caches_set : (p : Parts) (run : IsRunning p) (class : ℕ) (t : Shape) (first : ℕ) (ws : List ℕ) (new : Cache) → IsClass class → new.first ≡ first → new.count ≡ length ws → length ws ≤ blocks_of class
+pub caches_set : (p : Parts) (run : IsRunning p) (class : ℕ) (t : Shape) (first : ℕ) (ws : List ℕ) (new : Cache) → IsClass class → new.first ≡ first
+    → new.count ≡ length ws → length ws ≤ blocks_of class
     → ((c : ℕ) → t.cached c ≡ with_at run.shape.cached class ws c) → ((c : ℕ) → t.start c ≡ with_at run.shape.start class first c)
     → (c : ℕ) → IsClass c → IsCacheOf t c (cache_at (set p.caches class new) c)
-caches_set p run class t first ws new is first_is count_is few cached start c is_c = elim (cases_eq c class) as (λ _. IsCacheOf t c (cache_at (set p.caches class new) c)) [
+caches_set p run class t first ws new is first_is count_is few cached start c is_c = elim (cases_eq c class)
+    as (λ _. IsCacheOf t c (cache_at (set p.caches class new) c)) [
   | inl same ↦ subst (λ k. IsCacheOf t k (cache_at (set p.caches class new) k)) (sym same) here
   | inr other ↦
       let e : cache_at (set p.caches class new) c ≡ cache_at p.caches c = get_or-set_other p.caches class c new (record { first = 0; count = 0 }) other in
@@ -126,6 +133,13 @@ caches_set p run class t first ws new is first_is count_is few cached start c is
         most = omega arith;
       })
 
+-- the cache that was read
+pub read_cache : (p : Parts) (class : ℕ) (cache : Cache) → IsClass class → IsRunning p → cache ≡ get_or p.caches class cache → cache ≡ cache_at p.caches class
+read_cache p class cache is run e =
+    let last = is.last in
+    let long = run.caches_long in
+    get_or_read p.caches class cache (omega arith) e (record { first = 0; count = 0 })
+
 -- the other caches stay
 pub other_cache : (caches : List Cache) (class : ℕ) (new : Cache) (c : ℕ) → c ≢ class → cache_at (set caches class new) c ≡ cache_at caches c
 other_cache caches class new c other = get_or-set_other caches class c new (record { first = 0; count = 0 }) other
@@ -149,7 +163,8 @@ serves_none p held = record { capacity = refl; works = works_none p.capacity hel
 pub serves_then : (p q r : Parts) (held : List Block) → Serves held p q → Serves held q r → Serves held p r
 serves_then p q r held a b = record {
   capacity = b.capacity ∙ a.capacity;
-  works = works_then p.capacity held p.words q.words r.words a.works (subst (λ n. Rattle.block_heap.specs.Works.Works n held q.words r.words) a.capacity b.works);
+  works = works_then p.capacity held p.words q.words r.words a.works (subst (λ n. Rattle.block_heap.specs.Works.Works n held q.words r.words) a.capacity
+      b.works);
   knows = let x = a.knows in let y = b.knows in omega arith;
   taken = let x = a.taken in let y = b.taken in omega arith;
 }
@@ -200,7 +215,8 @@ pub record IsFirstCached (p : Parts) (class : ℕ) (run : IsRunning p) (first : 
   pub place : (run.shape.place d ≡ in_list class) ⊎ (run.shape.place d ≡ is_full)
 
 -- a cached block
-pub cached_where : (p : Parts) (class : ℕ) (is : IsClass class) (run : IsRunning p) (first : ℕ) (behind : List ℕ) → run.shape.cached class ≡ first ∷ behind → IsFirstCached p class run first
+pub cached_where : (p : Parts) (class : ℕ) (is : IsClass class) (run : IsRunning p) (first : ℕ) (behind : List ℕ) → run.shape.cached class ≡ first ∷ behind
+    → IsFirstCached p class run first
 cached_where p class is run first behind e =
     let has : Contains (run.shape.cached class) first = subst (λ xs. Contains xs first) (sym e) (in_head first behind) in
     let found = run.is.cached class first is has in
@@ -212,15 +228,18 @@ cached_where p class is run first behind e =
       within = found.within;
       is_first = found.is_first;
       info = of.info;
-      place = elim found.place as (λ _. (run.shape.place found.superblock ≡ in_list class) ⊎ (run.shape.place found.superblock ≡ is_full)) [ inl listed ↦ inl listed | inr full ↦ inr full.0 ];
+      place = elim found.place as (λ _. (run.shape.place found.superblock ≡ in_list class) ⊎ (run.shape.place found.superblock ≡ is_full))
+          [ inl listed ↦ inl listed | inr full ↦ inr full.0 ];
     }
 
-some_cached : (p : Parts) (class : ℕ) (is : IsClass class) (run : IsRunning p) (first : ℕ) (words : List ℕ) → run.shape.cached class ≡ words → 1 ≤ length words → Walks (image_of p) first words
+some_cached : (p : Parts) (class : ℕ) (is : IsClass class) (run : IsRunning p) (first : ℕ) (words : List ℕ) → run.shape.cached class ≡ words
+    → 1 ≤ length words → Walks (image_of p) first words
     → IsFirstCached p class run first
 some_cached p class is run first [] e some walks = absurd (omega arith)
 some_cached p class is run first (w ∷ ws) e some walks = cached_where p class is run first ws (e ∙ ap (λ x. x ∷ ws) (sym walks.0))
 
-pub first_cached : (p : Parts) (class : ℕ) (is : IsClass class) (run : IsRunning p) (cache : Cache) → cache ≡ cache_at p.caches class → 1 ≤ (cache_at p.caches class).count → IsFirstCached p class run cache.first
+pub first_cached : (p : Parts) (class : ℕ) (is : IsClass class) (run : IsRunning p) (cache : Cache) → cache ≡ cache_at p.caches class
+    → 1 ≤ (cache_at p.caches class).count → IsFirstCached p class run cache.first
 first_cached p class is run cache e some =
     let of = run.caches class is in
     let count : (cache_at p.caches class).count ≡ length (run.shape.cached class) = of.count in
@@ -229,11 +248,13 @@ first_cached p class is run cache e some =
     (some_cached p class is run (run.shape.start class) (run.shape.cached class) refl (omega arith) (run.is.walks class is))
 
 -- the block that begins there has the words of the class
-pub cached_block : (p : Parts) (class : ℕ) (is : IsClass class) (run : IsRunning p) (first : ℕ) (h : HeldBlocks) → IsFirstCached p class run first → h.start ≡ p.blocks.start → h.words.items ≡ p.blocks.words.items
+pub cached_block : (p : Parts) (class : ℕ) (is : IsClass class) (run : IsRunning p) (first : ℕ) (h : HeldBlocks) → IsFirstCached p class run first
+    → h.start ≡ p.blocks.start → h.words.items ≡ p.blocks.words.items
     → at_mark h first ≡ record { first_word = first; words = words_of_class class }
 cached_block p class is run first h cached start words =
     let begins : h.start ≡ start_word p.capacity 0 = start ∙ run.sizes.start in
-    let d_is : (first - h.start) / 8192 ≡ cached.d = ap (λ x. (first - x) / 8192) begins ∙ first_of_d p class cached.d first is run cached.within cached.is_first in
+    let d_is : (first - h.start) / 8192 ≡ cached.d = ap (λ x. (first - x) / 8192) begins ∙ first_of_d p class cached.d first is run cached.within
+        cached.is_first in
     let e = cached.info in
     let known : get_or p.blocks.words.items cached.d 0 ≡ words_of_class (image_of p (info_word cached.d)) =
         run.sizes.sizes cached.d cached.within (subst IsClass (sym e) is)
@@ -243,9 +264,11 @@ cached_block p class is run first h cached start words =
     same_fields (at_mark h first) (record { first_word = first; words = words_of_class class }) refl size
 
 -- the first block of the cache was handed out
-module _ (p : Parts) (class : ℕ) (is : IsClass class) (run : IsRunning p) (cache : Cache) (cache_is : cache ≡ cache_at p.caches class) (some : 1 ≤ (cache_at p.caches class).count)
+module _ (p : Parts) (class : ℕ) (is : IsClass class) (run : IsRunning p) (cache : Cache) (cache_is : cache ≡ cache_at p.caches class)
+    (some : 1 ≤ (cache_at p.caches class).count)
     (w : View) (next : ℕ) (h : HeldBlocks) (loaded : IsLoaded cache.first next p.words w) (stores : StoresOnly (λ _. ⊥) p.words w)
-    (adds : AddsTo (at_mark p.blocks cache.first) (held_in p) (held_of h)) (words : h.words.items ≡ p.blocks.words.items) (start : h.start ≡ p.blocks.start) where
+    (adds : AddsTo (at_mark p.blocks cache.first) (held_in p) (held_of h)) (words : h.words.items ≡ p.blocks.words.items)
+        (start : h.start ≡ p.blocks.start) where
   abbrev pub handed_cache : Cache
   handed_cache = record { first = next; count = cache.count - 1 }
 
@@ -281,16 +304,19 @@ module _ (p : Parts) (class : ℕ) (is : IsClass class) (run : IsRunning p) (cac
   shape_after =
       let both = hand_out p.capacity class cache.first (image_of p) (held_in p) (held_of h) run.shape front.behind is run.is front.cached adds_block in
       (
-        subst (λ (xs : List ℕ). IsShape p.capacity (λ word. get_or xs word 0) (held_of h) (with_cache run.shape class next front.behind)) (sym loaded.volatile)
+        subst (λ (xs : List ℕ). IsShape p.capacity (λ word. get_or xs word 0) (held_of h) (with_cache run.shape class next front.behind))
+            (sym loaded.volatile)
         (subst (λ x. IsShape p.capacity (image_of p) (held_of h) (with_cache run.shape class x front.behind)) (sym loaded.seen) both.0),
         both.1,
       )
 
   pub handed_running : IsRunning handed_parts
   handed_running = running_after p w (set p.caches class handed_cache) h (with_cache run.shape class next front.behind) run
-      (keeps_fixed p w (λ _. ⊥) run stores loaded.goes.running loaded.goes.below (λ d within out. out) (λ out. out) (λ list less. ap head_pops (stores.volatile (head_word list) (λ out. out))))
+      (keeps_fixed p w (λ _. ⊥) run stores loaded.goes.running loaded.goes.below (λ d within out. out) (λ out. out)
+          (λ list less. ap head_pops (stores.volatile (head_word list) (λ out. out))))
       (length-set p.caches class handed_cache ∙ run.caches_long) start words shape_after.0
-      (caches_set p run class (with_cache run.shape class next front.behind) next front.behind handed_cache is refl (let n = count_is in omega arith) few_behind (λ c. refl) (λ c. refl))
+      (caches_set p run class (with_cache run.shape class next front.behind) next front.behind handed_cache is refl
+          (let n = count_is in omega arith) few_behind (λ c. refl) (λ c. refl))
       (λ d within is_class place. place)
 
   pub handed : (b : Block) → b ≡ at_mark h cache.first → HandsOut class b p handed_parts
@@ -298,7 +324,8 @@ module _ (p : Parts) (class : ℕ) (is : IsClass class) (run : IsRunning p) (cac
       let e : b ≡ block = is_b ∙ cached_block p class is run cache.first h front start words in
       let last = is.last in
       let long = run.caches_long in
-      let now : cache_at (set p.caches class handed_cache) class ≡ handed_cache = get_or-set_same p.caches class handed_cache (record { first = 0; count = 0 }) (omega arith) in
+      let now : cache_at (set p.caches class handed_cache) class ≡ handed_cache = get_or-set_same p.caches class handed_cache
+          (record { first = 0; count = 0 }) (omega arith) in
       let now_count : (cache_at (set p.caches class handed_cache) class).count ≡ cache.count - 1 = ap (λ (x : Cache). x.count) now in
       let was : cache.count ≡ (cache_at p.caches class).count = ap (λ (x : Cache). x.count) cache_is in
       subst (λ x. HandsOut class x p handed_parts) (sym e)

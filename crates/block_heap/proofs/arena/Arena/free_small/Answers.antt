@@ -1,8 +1,8 @@
-use Rattle.std.proofs.Common.{◌≡◌, refl, ◌∙◌, sym, arith}
-use Rattle.std.proofs.lemmas.List.{get_or_read}
+use Rattle.std.proofs.Common.{refl, ◌∙◌, sym, arith}
 use Rattle.heap_model.proofs.SizeLemmas.{few_blocks}
 use Rattle.block_heap.specs.MediumView.{medium_view}
-use Rattle.block_heap.specs.Parts.{parts_of, cache_at}
+use Rattle.block_heap.specs.Parts.{parts_of}
+use Rattle.block_heap.proofs.SmallLemmas.{read_cache}
 use Rattle.block_heap.proofs.FreeLemmas.{held_mark, held_below, taken_back, freed_serves, count_short, freed_running, freed_short, flushed_short, flushed_held, flushed_serve, flushed_goes}
 use Rattle.block_heap.proofs.arena.Arena.free_small.Goals as goal
 
@@ -14,7 +14,8 @@ remove-requires g c =
 pub store-requires-clause-within : goal.store-requires-clause-within
 store-requires-clause-within g c =
     let p = parts_of c.args.self.now in
-    let below = held_below p c.args.class c.requires.class c.requires.running c.args.b c.requires.holds c.requires.size in let words = c.requires.running.words_open.long in omega arith
+    let below = held_below p c.args.class c.requires.class c.requires.running c.args.b c.requires.holds c.requires.size
+        in let words = c.requires.running.words_open.long in omega arith
 
 pub returns-in_err-store-clause-freed : goal.returns-in_err-store-clause-freed
 returns-in_err-store-clause-freed g c =
@@ -31,9 +32,7 @@ returns-in_err-store-clause-serves g c =
 pub overflow_add-cache : goal.overflow_add-cache
 overflow_add-cache g c =
     let p = parts_of c.args.self.now in
-    let last = c.requires.class.last in
-    let long = c.requires.running.caches_long in
-    let is : c.index-cache.result.now ≡ cache_at p.caches c.args.class = get_or_read c.args.self.now.caches.items c.args.class c.index-cache.result.now (omega arith) c.index-cache.ensures (record { first = 0; count = 0 }) in
+    let is = read_cache p c.args.class c.index-cache.result.now c.requires.class c.requires.running c.index-cache.ensures in
     let few = few_blocks c.args.class c.requires.class in
     let short = count_short p c.args.class c.requires.class c.requires.running c.args.b c.requires.holds c.requires.size
         c.remove.new.self c.remove.ensures.held c.remove.ensures.words c.remove.ensures.start
@@ -43,9 +42,7 @@ overflow_add-cache g c =
 pub overflow_add-cache-2 : goal.overflow_add-cache-2
 overflow_add-cache-2 g c =
     let p = parts_of c.args.self.now in
-    let last = c.requires.class.last in
-    let long = c.requires.running.caches_long in
-    let is : c.index-cache.result.now ≡ cache_at p.caches c.args.class = get_or_read c.args.self.now.caches.items c.args.class c.index-cache.result.now (omega arith) c.index-cache.ensures (record { first = 0; count = 0 }) in
+    let is = read_cache p c.args.class c.index-cache.result.now c.requires.class c.requires.running c.index-cache.ensures in
     let few = few_blocks c.args.class c.requires.class in
     let short = count_short p c.args.class c.requires.class c.requires.running c.args.b c.requires.holds c.requires.size
         c.remove.new.self c.remove.ensures.held c.remove.ensures.words c.remove.ensures.start
@@ -55,9 +52,7 @@ overflow_add-cache-2 g c =
 pub flush-requires-clause-running : goal.flush-requires-clause-running
 flush-requires-clause-running g c =
     let p = parts_of c.args.self.now in
-    let last = c.requires.class.last in
-    let long = c.requires.running.caches_long in
-    let is : c.index-cache.result.now ≡ cache_at p.caches c.args.class = get_or_read c.args.self.now.caches.items c.args.class c.index-cache.result.now (omega arith) c.index-cache.ensures (record { first = 0; count = 0 }) in
+    let is = read_cache p c.args.class c.index-cache.result.now c.requires.class c.requires.running c.index-cache.ensures in
     freed_running p c.args.class c.requires.class c.requires.running c.args.b c.requires.holds c.requires.size
     c.remove.new.self c.remove.ensures.held c.remove.ensures.words c.remove.ensures.start
     c.index-cache.result.now is (medium_view c.store.new.self) c.in_ok-store.ensures.ok c.store.ensures.others c.requires.short
@@ -65,9 +60,7 @@ flush-requires-clause-running g c =
 pub returns-in_err-flush-clause-freed : goal.returns-in_err-flush-clause-freed
 returns-in_err-flush-clause-freed g c =
     let p = parts_of c.args.self.now in
-    let last = c.requires.class.last in
-    let long = c.requires.running.caches_long in
-    let is : c.index-cache.result.now ≡ cache_at p.caches c.args.class = get_or_read c.args.self.now.caches.items c.args.class c.index-cache.result.now (omega arith) c.index-cache.ensures (record { first = 0; count = 0 }) in
+    let is = read_cache p c.args.class c.index-cache.result.now c.requires.class c.requires.running c.index-cache.ensures in
     flushed_held p c.args.class c.requires.class c.requires.running c.args.b c.requires.holds c.requires.size
     c.remove.new.self c.remove.ensures.held c.remove.ensures.words c.remove.ensures.start
     c.index-cache.result.now is (medium_view c.store.new.self) c.in_ok-store.ensures.ok c.store.ensures.others c.requires.short
@@ -76,9 +69,7 @@ returns-in_err-flush-clause-freed g c =
 pub returns-in_err-flush-clause-serves : goal.returns-in_err-flush-clause-serves
 returns-in_err-flush-clause-serves g c =
     let p = parts_of c.args.self.now in
-    let last = c.requires.class.last in
-    let long = c.requires.running.caches_long in
-    let is : c.index-cache.result.now ≡ cache_at p.caches c.args.class = get_or_read c.args.self.now.caches.items c.args.class c.index-cache.result.now (omega arith) c.index-cache.ensures (record { first = 0; count = 0 }) in
+    let is = read_cache p c.args.class c.index-cache.result.now c.requires.class c.requires.running c.index-cache.ensures in
     flushed_serve p c.args.class c.requires.class c.requires.running c.args.b c.requires.holds c.requires.size
     c.remove.new.self c.remove.ensures.held c.remove.ensures.words c.remove.ensures.start
     c.index-cache.result.now is (medium_view c.store.new.self) c.in_ok-store.ensures.ok c.store.ensures.others c.requires.short
@@ -87,9 +78,7 @@ returns-in_err-flush-clause-serves g c =
 pub returns-in_ok-flush-clause-freed : goal.returns-in_ok-flush-clause-freed
 returns-in_ok-flush-clause-freed g c =
     let p = parts_of c.args.self.now in
-    let last = c.requires.class.last in
-    let long = c.requires.running.caches_long in
-    let is : c.index-cache.result.now ≡ cache_at p.caches c.args.class = get_or_read c.args.self.now.caches.items c.args.class c.index-cache.result.now (omega arith) c.index-cache.ensures (record { first = 0; count = 0 }) in
+    let is = read_cache p c.args.class c.index-cache.result.now c.requires.class c.requires.running c.index-cache.ensures in
     flushed_held p c.args.class c.requires.class c.requires.running c.args.b c.requires.holds c.requires.size
     c.remove.new.self c.remove.ensures.held c.remove.ensures.words c.remove.ensures.start
     c.index-cache.result.now is (medium_view c.store.new.self) c.in_ok-store.ensures.ok c.store.ensures.others c.requires.short
@@ -98,9 +87,7 @@ returns-in_ok-flush-clause-freed g c =
 pub returns-in_ok-flush-clause-serves : goal.returns-in_ok-flush-clause-serves
 returns-in_ok-flush-clause-serves g c =
     let p = parts_of c.args.self.now in
-    let last = c.requires.class.last in
-    let long = c.requires.running.caches_long in
-    let is : c.index-cache.result.now ≡ cache_at p.caches c.args.class = get_or_read c.args.self.now.caches.items c.args.class c.index-cache.result.now (omega arith) c.index-cache.ensures (record { first = 0; count = 0 }) in
+    let is = read_cache p c.args.class c.index-cache.result.now c.requires.class c.requires.running c.index-cache.ensures in
     flushed_serve p c.args.class c.requires.class c.requires.running c.args.b c.requires.holds c.requires.size
     c.remove.new.self c.remove.ensures.held c.remove.ensures.words c.remove.ensures.start
     c.index-cache.result.now is (medium_view c.store.new.self) c.in_ok-store.ensures.ok c.store.ensures.others c.requires.short
@@ -109,9 +96,7 @@ returns-in_ok-flush-clause-serves g c =
 pub returns-in_ok-flush-clause-short : goal.returns-in_ok-flush-clause-short
 returns-in_ok-flush-clause-short g c =
     let p = parts_of c.args.self.now in
-    let last = c.requires.class.last in
-    let long = c.requires.running.caches_long in
-    let is : c.index-cache.result.now ≡ cache_at p.caches c.args.class = get_or_read c.args.self.now.caches.items c.args.class c.index-cache.result.now (omega arith) c.index-cache.ensures (record { first = 0; count = 0 }) in
+    let is = read_cache p c.args.class c.index-cache.result.now c.requires.class c.requires.running c.index-cache.ensures in
     flushed_short p c.args.class c.requires.class c.requires.running c.args.b c.requires.holds c.requires.size
     c.remove.new.self c.remove.ensures.held c.remove.ensures.words c.remove.ensures.start
     c.index-cache.result.now is (medium_view c.store.new.self) c.in_ok-store.ensures.ok c.store.ensures.others c.requires.short
@@ -120,9 +105,7 @@ returns-in_ok-flush-clause-short g c =
 pub returns-in_ok-flush-clause-goes : goal.returns-in_ok-flush-clause-goes
 returns-in_ok-flush-clause-goes g c =
     let p = parts_of c.args.self.now in
-    let last = c.requires.class.last in
-    let long = c.requires.running.caches_long in
-    let is : c.index-cache.result.now ≡ cache_at p.caches c.args.class = get_or_read c.args.self.now.caches.items c.args.class c.index-cache.result.now (omega arith) c.index-cache.ensures (record { first = 0; count = 0 }) in
+    let is = read_cache p c.args.class c.index-cache.result.now c.requires.class c.requires.running c.index-cache.ensures in
     flushed_goes p c.args.class c.requires.class c.requires.running c.args.b c.requires.holds c.requires.size
     c.remove.new.self c.remove.ensures.held c.remove.ensures.words c.remove.ensures.start
     c.index-cache.result.now is (medium_view c.store.new.self) c.in_ok-store.ensures.ok c.store.ensures.others c.requires.short
@@ -131,9 +114,7 @@ returns-in_ok-flush-clause-goes g c =
 pub returns-else-cache-blocks_of-clause-running : goal.returns-else-cache-blocks_of-clause-running
 returns-else-cache-blocks_of-clause-running g c =
     let p = parts_of c.args.self.now in
-    let last = c.requires.class.last in
-    let long = c.requires.running.caches_long in
-    let is : c.index-cache.result.now ≡ cache_at p.caches c.args.class = get_or_read c.args.self.now.caches.items c.args.class c.index-cache.result.now (omega arith) c.index-cache.ensures (record { first = 0; count = 0 }) in
+    let is = read_cache p c.args.class c.index-cache.result.now c.requires.class c.requires.running c.index-cache.ensures in
     freed_running p c.args.class c.requires.class c.requires.running c.args.b c.requires.holds c.requires.size
     c.remove.new.self c.remove.ensures.held c.remove.ensures.words c.remove.ensures.start
     c.index-cache.result.now is (medium_view c.store.new.self) c.in_ok-store.ensures.ok c.store.ensures.others c.requires.short
@@ -141,12 +122,11 @@ returns-else-cache-blocks_of-clause-running g c =
 pub returns-else-cache-blocks_of-clause-short : goal.returns-else-cache-blocks_of-clause-short
 returns-else-cache-blocks_of-clause-short g c =
     let p = parts_of c.args.self.now in
-    let last = c.requires.class.last in
-    let long = c.requires.running.caches_long in
-    let is : c.index-cache.result.now ≡ cache_at p.caches c.args.class = get_or_read c.args.self.now.caches.items c.args.class c.index-cache.result.now (omega arith) c.index-cache.ensures (record { first = 0; count = 0 }) in
+    let is = read_cache p c.args.class c.index-cache.result.now c.requires.class c.requires.running c.index-cache.ensures in
     freed_short p c.args.class c.requires.class c.requires.running c.args.b c.requires.holds c.requires.size
     c.remove.new.self c.remove.ensures.held c.remove.ensures.words c.remove.ensures.start
-    c.index-cache.result.now is (medium_view c.store.new.self) c.in_ok-store.ensures.ok c.store.ensures.others c.requires.short (λ e. c.if-cache-blocks_of.false (e ∙ sym c.blocks_of.ensures))
+    c.index-cache.result.now is (medium_view c.store.new.self) c.in_ok-store.ensures.ok c.store.ensures.others c.requires.short
+        (λ e. c.if-cache-blocks_of.false (e ∙ sym c.blocks_of.ensures))
 
 pub returns-else-cache-blocks_of-clause-freed : goal.returns-else-cache-blocks_of-clause-freed
 returns-else-cache-blocks_of-clause-freed g c =

@@ -1,28 +1,23 @@
 use Rattle.std.proofs.Common.{◌≡◌, ℕ, ◌-◌, ◌/◌, ◌≤◌, List, get_or, refl, sym, ◌∙◌, ap, subst, arith}
-use Rattle.std.proofs.lemmas.List.{get_or_read}
 use Rattle.heap_model.specs.Geometry.{start_word}
-use Rattle.block_heap.specs.Parts.{parts_of, cache_at}
+use Rattle.block_heap.specs.Parts.{parts_of}
 use Rattle.block_heap.proofs.AnchorLemmas.{words_by_bytes}
 use Rattle.heap_model.proofs.SizeLemmas.{two_words}
-use Rattle.block_heap.proofs.SmallLemmas.{first_from, first_below}
+use Rattle.block_heap.proofs.SmallLemmas.{read_cache, first_from, first_below}
 use Rattle.block_heap.proofs.FrontLemmas.{cache_first, walked_one, next_placed, walked_more, first_behind, walked_front, loaded_run, loaded_serves, stopped_serves, loaded_front, loaded_more, loaded_capacity}
 use Rattle.block_heap.proofs.arena.Arena.front.Goals as goal
 
 pub superblock_of-d-requires : goal.superblock_of-d-requires
 superblock_of-d-requires g c =
     let p = parts_of c.args.self.now in
-    let last = c.requires.class.last in
-    let long = c.requires.running.caches_long in
-    let is : c.index-cache.result.now ≡ cache_at p.caches c.args.class = get_or_read c.args.self.now.caches.items c.args.class c.index-cache.result.now (omega arith) c.index-cache.ensures (record { first = 0; count = 0 }) in
+    let is = read_cache p c.args.class c.index-cache.result.now c.requires.class c.requires.running c.index-cache.ensures in
     let at = cache_first p c.args.class c.requires.class c.requires.running c.index-cache.result.now is c.requires.some in
     first_from p c.args.class at.d c.index-cache.result.now.first c.requires.class c.requires.running at.within at.first
 
 pub load-requires-clause-within : goal.load-requires-clause-within
 load-requires-clause-within g c =
     let p = parts_of c.args.self.now in
-    let last = c.requires.class.last in
-    let long = c.requires.running.caches_long in
-    let is : c.index-cache.result.now ≡ cache_at p.caches c.args.class = get_or_read c.args.self.now.caches.items c.args.class c.index-cache.result.now (omega arith) c.index-cache.ensures (record { first = 0; count = 0 }) in
+    let is = read_cache p c.args.class c.index-cache.result.now c.requires.class c.requires.running c.index-cache.ensures in
     let at = cache_first p c.args.class c.requires.class c.requires.running c.index-cache.result.now is c.requires.some in
     let below = first_below p c.args.class at.d c.index-cache.result.now.first c.requires.class c.requires.running at.within at.first in
     let words = c.requires.running.words_open.long in
@@ -31,12 +26,11 @@ load-requires-clause-within g c =
 pub loop-count-init : goal.loop-count-init
 loop-count-init g c =
     let p = parts_of c.args.self.now in
-    let last = c.requires.class.last in
-    let long = c.requires.running.caches_long in
-    let is : c.index-cache.result.now ≡ cache_at p.caches c.args.class = get_or_read c.args.self.now.caches.items c.args.class c.index-cache.result.now (omega arith) c.index-cache.ensures (record { first = 0; count = 0 }) in
+    let is = read_cache p c.args.class c.index-cache.result.now c.requires.class c.requires.running c.index-cache.ensures in
     record {
       loaded = record { same = refl; goes = c.in_ok-next.ensures.ok.goes; volatile = c.in_ok-next.ensures.ok.volatile; stores = c.load.ensures.unchanged };
-      walked = walked_one p c.args.class c.requires.class c.requires.running c.index-cache.result.now is c.requires.some c.superblock_of-d.result c.in_ok-next.next c.superblock_of-d.ensures c.in_ok-next.ensures.ok.seen;
+      walked = walked_one p c.args.class c.requires.class c.requires.running c.index-cache.result.now is c.requires.some c.superblock_of-d.result
+          c.in_ok-next.next c.superblock_of-d.ensures c.in_ok-next.ensures.ok.seen;
       cache_is = is;
     }
 
@@ -44,8 +38,10 @@ pub superblock_of-requires : goal.superblock_of-requires
 superblock_of-requires g c =
     let p = parts_of c.args.self.now in
     let inv = c.loop-count.invariant in
-    let at = next_placed p c.args.class c.requires.class c.requires.running c.index-cache.result.now inv.cache_is c.superblock_of-d.result c.loop-count.last c.loop-count.next c.loop-count.count inv.walked c.loop-count-test.true in
-    let capacity : c.loop-count.self.geometry.capacity ≡ c.args.self.now.geometry.capacity = loaded_capacity (parts_of c.args.self.now) (parts_of c.loop-count.self) c.loop-count.count inv.loaded in
+    let at = next_placed p c.args.class c.requires.class c.requires.running c.index-cache.result.now inv.cache_is c.superblock_of-d.result c.loop-count.last
+        c.loop-count.next c.loop-count.count inv.walked c.loop-count-test.true in
+    let capacity : c.loop-count.self.geometry.capacity ≡ c.args.self.now.geometry.capacity = loaded_capacity (parts_of c.args.self.now)
+        (parts_of c.loop-count.self) c.loop-count.count inv.loaded in
     subst (λ n. start_word n 0 ≤ c.loop-count.next) (sym capacity)
     (first_from p c.args.class at.d c.loop-count.next c.requires.class c.requires.running at.within at.first)
 
@@ -53,7 +49,8 @@ pub load-requires-in-loop-count-clause-within : goal.load-requires-in-loop-count
 load-requires-in-loop-count-clause-within g c =
     let p = parts_of c.args.self.now in
     let inv = c.loop-count.invariant in
-    let at = next_placed p c.args.class c.requires.class c.requires.running c.index-cache.result.now inv.cache_is c.superblock_of-d.result c.loop-count.last c.loop-count.next c.loop-count.count inv.walked c.loop-count-test.true in
+    let at = next_placed p c.args.class c.requires.class c.requires.running c.index-cache.result.now inv.cache_is c.superblock_of-d.result c.loop-count.last
+        c.loop-count.next c.loop-count.count inv.walked c.loop-count-test.true in
     let below = first_below p c.args.class at.d c.loop-count.next c.requires.class c.requires.running at.within at.first in
     let long = c.requires.running.words_open.long in
     let words = inv.loaded.stores.words in
@@ -61,19 +58,23 @@ load-requires-in-loop-count-clause-within g c =
 
 pub returns-in_err-next-2-clause-serves : goal.returns-in_err-next-2-clause-serves
 returns-in_err-next-2-clause-serves g c =
-    stopped_serves (parts_of c.args.self.now) (parts_of c.loop-count.self) c.loop-count.count c.requires.running c.loop-count.invariant.loaded _ refl c.load-in-loop-count.ensures.unchanged
+    stopped_serves (parts_of c.args.self.now) (parts_of c.loop-count.self) c.loop-count.count c.requires.running c.loop-count.invariant.loaded _ refl
+        c.load-in-loop-count.ensures.unchanged
 
 pub loop-count-preserved : goal.loop-count-preserved
 loop-count-preserved g c =
     let p = parts_of c.args.self.now in
     let q = parts_of c.loop-count.self in
     let inv = c.loop-count.invariant in
-    let capacity : c.loop-count.self.geometry.capacity ≡ c.args.self.now.geometry.capacity = loaded_capacity (parts_of c.args.self.now) (parts_of c.loop-count.self) c.loop-count.count inv.loaded in
+    let capacity : c.loop-count.self.geometry.capacity ≡ c.args.self.now.geometry.capacity = loaded_capacity (parts_of c.args.self.now)
+        (parts_of c.loop-count.self) c.loop-count.count inv.loaded in
     let at : (c.loop-count.next - start_word p.capacity 0) / 8192 ≡ c.superblock_of-d.result =
         ap (λ n. (c.loop-count.next - start_word n 0) / 8192) (sym capacity) ∙ sym c.superblock_of.ensures ∙ c.if-superblock_of-d.true in
     record {
-      loaded = loaded_more p q _ c.loop-count.count c.loop-count.next c.in_ok-next-2.next inv.loaded refl c.in_ok-next-2.ensures.ok c.load-in-loop-count.ensures.unchanged;
-      walked = walked_more p c.args.class c.requires.class c.requires.running c.index-cache.result.now inv.cache_is c.superblock_of-d.result c.loop-count.last c.loop-count.next c.loop-count.count inv.walked
+      loaded = loaded_more p q _ c.loop-count.count c.loop-count.next c.in_ok-next-2.next inv.loaded refl c.in_ok-next-2.ensures.ok
+          c.load-in-loop-count.ensures.unchanged;
+      walked = walked_more p c.args.class c.requires.class c.requires.running c.index-cache.result.now inv.cache_is c.superblock_of-d.result c.loop-count.last
+          c.loop-count.next c.loop-count.count inv.walked
           c.in_ok-next-2.next c.loop-count-test.true at
           (c.in_ok-next-2.ensures.ok.seen ∙ ap (λ (xs : List ℕ). get_or xs c.loop-count.next 0) inv.loaded.volatile);
       cache_is = inv.cache_is;
@@ -83,8 +84,10 @@ pub overflow_sub-result : goal.overflow_sub-result
 overflow_sub-result g c =
     let p = parts_of c.args.self.now in
     let inv = c.loop-count.invariant in
-    let capacity : c.loop-count.self.geometry.capacity ≡ c.args.self.now.geometry.capacity = loaded_capacity (parts_of c.args.self.now) (parts_of c.loop-count.self) c.loop-count.count inv.loaded in
-    let behind = first_behind p c.args.class c.requires.class c.requires.running c.index-cache.result.now inv.cache_is c.superblock_of-d.result c.loop-count.last c.loop-count.next c.loop-count.count inv.walked in
+    let capacity : c.loop-count.self.geometry.capacity ≡ c.args.self.now.geometry.capacity = loaded_capacity (parts_of c.args.self.now)
+        (parts_of c.loop-count.self) c.loop-count.count inv.loaded in
+    let behind = first_behind p c.args.class c.requires.class c.requires.running c.index-cache.result.now inv.cache_is c.superblock_of-d.result
+        c.loop-count.last c.loop-count.next c.loop-count.count inv.walked in
     let start = c.start.ensures in
     omega arith
 
@@ -99,14 +102,18 @@ returns-clause-ok g c =
     let p = parts_of c.args.self.now in
     let q = parts_of c.loop-count.self in
     let inv = c.loop-count.invariant in
-    let capacity : c.loop-count.self.geometry.capacity ≡ c.args.self.now.geometry.capacity = loaded_capacity (parts_of c.args.self.now) (parts_of c.loop-count.self) c.loop-count.count inv.loaded in
+    let capacity : c.loop-count.self.geometry.capacity ≡ c.args.self.now.geometry.capacity = loaded_capacity (parts_of c.args.self.now)
+        (parts_of c.loop-count.self) c.loop-count.count inv.loaded in
     loaded_front p q c.loop-count.count c.requires.running inv.loaded c.args.class _
-    (walked_front p c.args.class c.requires.class c.requires.running c.index-cache.result.now inv.cache_is c.superblock_of-d.result c.loop-count.last c.loop-count.next c.loop-count.count inv.walked
+    (walked_front p c.args.class c.requires.class c.requires.running c.index-cache.result.now inv.cache_is c.superblock_of-d.result c.loop-count.last
+        c.loop-count.next c.loop-count.count inv.walked
     c.start.result (c.size_of-words.result / 8) (c.start.ensures ∙ ap (λ n. start_word n c.superblock_of-d.result) capacity)
     (words_by_bytes c.args.class c.size_of-words.result c.requires.class c.size_of-words.ensures))
 
 pub returns-clause-running : goal.returns-clause-running
-returns-clause-running g c = loaded_run (parts_of c.args.self.now) (parts_of c.loop-count.self) c.loop-count.count c.requires.running c.loop-count.invariant.loaded
+returns-clause-running g c = loaded_run (parts_of c.args.self.now) (parts_of c.loop-count.self) c.loop-count.count c.requires.running
+    c.loop-count.invariant.loaded
 
 pub returns-clause-serves : goal.returns-clause-serves
-returns-clause-serves g c = loaded_serves (parts_of c.args.self.now) (parts_of c.loop-count.self) c.loop-count.count c.requires.running c.loop-count.invariant.loaded
+returns-clause-serves g c = loaded_serves (parts_of c.args.self.now) (parts_of c.loop-count.self) c.loop-count.count c.requires.running
+    c.loop-count.invariant.loaded

@@ -1,17 +1,13 @@
-use Rattle.std.proofs.Common.{◌≡◌, refl, arith}
-use Rattle.std.proofs.lemmas.List.{get_or_read}
-use Rattle.block_heap.specs.declared.cache.Cache.{Cache}
+use Rattle.std.proofs.Common.{refl, arith}
 use Rattle.block_heap.specs.MediumView.{medium_view}
-use Rattle.block_heap.specs.Parts.{parts_of, cache_at}
-use Rattle.block_heap.proofs.SmallLemmas.{first_cached, first_below, first_mark, handed, handed_serves}
+use Rattle.block_heap.specs.Parts.{parts_of}
+use Rattle.block_heap.proofs.SmallLemmas.{read_cache, first_cached, first_below, first_mark, handed, handed_serves}
 use Rattle.block_heap.proofs.arena.Arena.hand_out.Goals as goal
 
 pub load-requires-clause-within : goal.load-requires-clause-within
 load-requires-clause-within g c =
     let p = parts_of c.args.self.now in
-    let last = c.requires.class.last in
-    let long = c.requires.running.caches_long in
-    let is : c.index-cache.result.now ≡ cache_at p.caches c.args.class = get_or_read c.args.self.now.caches.items c.args.class c.index-cache.result.now (omega arith) c.index-cache.ensures (record { first = 0; count = 0 }) in
+    let is = read_cache p c.args.class c.index-cache.result.now c.requires.class c.requires.running c.index-cache.ensures in
     let front = first_cached p c.args.class c.requires.class c.requires.running c.index-cache.result.now is c.requires.some in
     let below = first_below p c.args.class front.d c.index-cache.result.now.first c.requires.class c.requires.running front.within front.is_first in
     let words = c.requires.running.words_open.long in
@@ -20,35 +16,31 @@ load-requires-clause-within g c =
 pub add-requires : goal.add-requires
 add-requires g c =
     let p = parts_of c.args.self.now in
-    let last = c.requires.class.last in
-    let long = c.requires.running.caches_long in
-    let is : c.index-cache.result.now ≡ cache_at p.caches c.args.class = get_or_read c.args.self.now.caches.items c.args.class c.index-cache.result.now (omega arith) c.index-cache.ensures (record { first = 0; count = 0 }) in
+    let is = read_cache p c.args.class c.index-cache.result.now c.requires.class c.requires.running c.index-cache.ensures in
     let front = first_cached p c.args.class c.requires.class c.requires.running c.index-cache.result.now is c.requires.some in
-    first_mark p c.args.class front.d c.index-cache.result.now.first c.requires.class c.requires.running front.within front.is_first c.args.self.now.held refl refl
+    first_mark p c.args.class front.d c.index-cache.result.now.first c.requires.class c.requires.running front.within front.is_first c.args.self.now.held refl
+        refl
 
 pub at-requires : goal.at-requires
 at-requires g c =
     let p = parts_of c.args.self.now in
-    let last = c.requires.class.last in
-    let long = c.requires.running.caches_long in
-    let is : c.index-cache.result.now ≡ cache_at p.caches c.args.class = get_or_read c.args.self.now.caches.items c.args.class c.index-cache.result.now (omega arith) c.index-cache.ensures (record { first = 0; count = 0 }) in
+    let is = read_cache p c.args.class c.index-cache.result.now c.requires.class c.requires.running c.index-cache.ensures in
     let front = first_cached p c.args.class c.requires.class c.requires.running c.index-cache.result.now is c.requires.some in
-    first_mark p c.args.class front.d c.index-cache.result.now.first c.requires.class c.requires.running front.within front.is_first c.add.new.self c.add.ensures.start c.add.ensures.words
+    first_mark p c.args.class front.d c.index-cache.result.now.first c.requires.class c.requires.running front.within front.is_first c.add.new.self
+        c.add.ensures.start c.add.ensures.words
 
 pub returns-clause-ok : goal.returns-clause-ok
 returns-clause-ok g c =
     let p = parts_of c.args.self.now in
-    let last = c.requires.class.last in
-    let long = c.requires.running.caches_long in
-    let is : c.index-cache.result.now ≡ cache_at p.caches c.args.class = get_or_read c.args.self.now.caches.items c.args.class c.index-cache.result.now (omega arith) c.index-cache.ensures (record { first = 0; count = 0 }) in
-    handed p c.args.class c.requires.class c.requires.running c.index-cache.result.now is c.requires.some (medium_view c.load.new.self) c.in_ok-next.next c.add.new.self
+    let is = read_cache p c.args.class c.index-cache.result.now c.requires.class c.requires.running c.index-cache.ensures in
+    handed p c.args.class c.requires.class c.requires.running c.index-cache.result.now is c.requires.some
+        (medium_view c.load.new.self) c.in_ok-next.next c.add.new.self
     c.in_ok-next.ensures.ok c.load.ensures.unchanged c.add.ensures.held c.add.ensures.words c.add.ensures.start c.at.result c.at.ensures
 
 pub returns-clause-serves : goal.returns-clause-serves
 returns-clause-serves g c =
     let p = parts_of c.args.self.now in
-    let last = c.requires.class.last in
-    let long = c.requires.running.caches_long in
-    let is : c.index-cache.result.now ≡ cache_at p.caches c.args.class = get_or_read c.args.self.now.caches.items c.args.class c.index-cache.result.now (omega arith) c.index-cache.ensures (record { first = 0; count = 0 }) in
-    handed_serves p c.args.class c.requires.class c.requires.running c.index-cache.result.now is c.requires.some (medium_view c.load.new.self) c.in_ok-next.next c.add.new.self
+    let is = read_cache p c.args.class c.index-cache.result.now c.requires.class c.requires.running c.index-cache.ensures in
+    handed_serves p c.args.class c.requires.class c.requires.running c.index-cache.result.now is c.requires.some
+        (medium_view c.load.new.self) c.in_ok-next.next c.add.new.self
     c.in_ok-next.ensures.ok c.load.ensures.unchanged c.add.ensures.held c.add.ensures.words c.add.ensures.start
