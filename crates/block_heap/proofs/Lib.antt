@@ -8,3 +8,4 @@ pub mod OpenedLemmas
 pub mod StableLemmas
 pub mod RunningLemmas
 pub mod SeatLemmas
+pub mod RequestLemmas
