@@ -21,3 +21,4 @@ pub mod SmallLemmas
 pub mod FlushLemmas
 pub mod FrontLemmas
 pub mod FreeLemmas
+pub mod RequestLemmas
