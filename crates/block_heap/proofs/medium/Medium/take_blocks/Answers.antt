@@ -11,4 +11,4 @@ returns-in_err-store-in-Partial-clause-others g c =
     let w = medium_view c.store.new.self in
     let to = λ (word : ℕ). word ≡ anchor_word c.args.d in
     stores_then to v u w (stores_none to v u c.anchor.ensures.unchanged)
-    (stores_more (λ (word : ℕ). word ≡ c.anchor-2.result) to u w (λ word e. e ∙ c.anchor-2.ensures) c.store.ensures.others)
+    (stores_more (λ (word : ℕ). word ≡ c.anchor-in-Partial.result) to u w (λ word e. e ∙ c.anchor-in-Partial.ensures) c.store.ensures.others)
