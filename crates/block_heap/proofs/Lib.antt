@@ -8,3 +8,4 @@ pub mod RunningLemmas
 pub mod RefillLemmas
 pub mod TakeLemmas
 pub mod CutStepLemmas
+pub mod PartialLemmas

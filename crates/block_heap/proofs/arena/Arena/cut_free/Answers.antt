@@ -19,7 +19,7 @@ returns-in_err-popped-clause-serves g c =
 pub returns-in_default-clause-ok : goal.returns-in_default-clause-ok
 returns-in_default-clause-ok g c =
     (c.requires.empty, emptied_finds (parts_of c.args.self.now) c.args.class 0 c.in_ok-popped.popped (medium_view c.pop.new.self) c.by.result c.requires.running (omega arith) c.in_ok-popped.ensures.ok c.pop.ensures.others c.in_default.is
-    c.next_ticket-ticket.result c.next_ticket-ticket.ensures c.by.ensures.seen c.by.ensures.ticket c.by.ensures.taken)
+    c.next_ticket-ticket.result c.next_ticket-ticket.ensures c.by.ensures.seen c.by.ensures.ticket c.by.ensures.taken, c.in_ok-popped.ensures.ok.goes.few)
 
 pub returns-in_default-clause-fills : goal.returns-in_default-clause-fills
 returns-in_default-clause-fills g c =
