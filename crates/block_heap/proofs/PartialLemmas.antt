@@ -1,6 +1,5 @@
 -- How a request goes along the list of its class, and where it looks after that.
-use Rattle.std.proofs.Common.{◌≡◌, ◌≢◌, ℕ, ◌+◌, ◌-◌, ◌*◌, ◌<◌, ◌≤◌, ◌⊎◌, inl, inr, Bool, true, false, None, List, ◌∷◌, length, get_or, refl, ap, sym, subst, ◌∙◌, arith}
-use Rattle.std.proofs.lemmas.Bool.{cases_eq}
+use Rattle.std.proofs.Common.{◌≡◌, ℕ, ◌+◌, ◌-◌, ◌*◌, ◌<◌, ◌≤◌, ◌⊎◌, inl, inr, Bool, true, false, None, List, ◌∷◌, length, get_or, refl, ap, sym, subst, ◌∙◌, arith}
 use Rattle.heap_model.specs.declared.block.Block.{Block}
 use Rattle.heap_model.specs.Geometry.{lists, head_word, link_word, used_word}
 use Rattle.heap_model.specs.Sizes.{IsClass}
@@ -15,7 +14,7 @@ use Rattle.block_heap.specs.Medium.{Goes, Halts}
 use Rattle.block_heap.specs.Parts.{Parts, image_of, held_in, cache_at}
 use Rattle.block_heap.specs.Refill.{FindsPartial, FindsFree, FindsFresh, Refills}
 use Rattle.block_heap.specs.Running.{IsRunning, Serves}
-use Rattle.block_heap.specs.Serving.{HasRoom, in_cache, in_class_list, in_free_list, in_fresh, FindsNone}
+use Rattle.block_heap.specs.Serving.{HasRoom, in_cache, in_class_list, in_free_list, in_fresh}
 use Rattle.block_heap.specs.Steps.{head_at, look_at, IsLook, IsEmptyList, LeadsAlong, Fills, FindsFirst, FindsEmpty, Recycles}
 use Rattle.block_heap.proofs.RefillLemmas.{serves_same, serves_then, drains_none, drains_then}
 
@@ -38,7 +37,8 @@ pub empty_same : (p q : Parts) (list : ℕ) → q.words.volatile ≡ p.words.vol
 empty_same p q list same none = subst (λ (xs : List ℕ). head_first (get_or xs (head_word list) 0) ≡ 0) (sym same) none
 
 -- a look is the last one later too
-pub look_later : (from first : ℕ) (p q : Parts) (look : Look) (seen : ℕ) → first ≤ from → p.words.drawn ≤ q.words.drawn → q.taken ≡ p.taken → IsLook from p look seen → IsLook first q look seen
+pub look_later : (from first : ℕ) (p q : Parts) (look : Look) (seen : ℕ) → first ≤ from → p.words.drawn ≤ q.words.drawn → q.taken ≡ p.taken
+    → IsLook from p look seen → IsLook first q look seen
 look_later from first p q look seen before later same is = record {
   seen_is = is.seen_is;
   ticket = is.ticket;
@@ -68,7 +68,8 @@ walk_begins class p is run empty = record {
   way = inl refl;
   few = λ ds leads.
       let below : class < lists = let last = is.last in omega arith in
-      let same : run.shape.listed class ≡ ds = one_following (λ d. image_of p (link_word d)) p.capacity (head_first (head_at p class)) (run.shape.listed class) ds (run.is.follows class below) leads in
+      let same : run.shape.listed class ≡ ds = one_following (λ d. image_of p (link_word d)) p.capacity (head_first (head_at p class))
+          (run.shape.listed class) ds (run.is.follows class below) leads in
       let long : length (run.shape.listed class) ≡ length ds = ap length same in
       let most = few_listed p.capacity (image_of p) (held_in p) run.shape run.is class below in
       let small = run.is.small in
@@ -76,7 +77,8 @@ walk_begins class p is run empty = record {
 }
 
 -- one more look at the first of the list
-module _ (class : ℕ) (p q r : Parts) (is : IsClass class) (walked : Walked class p q) (serves : Serves (held_in q) q r) (held : held_in r ≡ held_in q) (taken : r.taken ≡ q.taken) where
+module _ (class : ℕ) (p q r : Parts) (is : IsClass class) (walked : Walked class p q) (serves : Serves (held_in q) q r) (held : held_in r ≡ held_in q)
+    (taken : r.taken ≡ q.taken) where
   begun : p.words.drawn ≤ q.words.drawn
   begun = walked.serves.works.stores.drawn
 
@@ -167,15 +169,10 @@ module _ (class : ℕ) (p q r : Parts) (is : IsClass class) (walked : Walked cla
       )
 
 -- First the list of the class is looked through, then the free list, and then superblocks that were never taken.
-module _ (class : ℕ) (p a b : Parts) (is : IsClass class) (a_serves : Serves (held_in p) p a) (a_taken : a.taken ≡ p.taken) (b_serves : Serves (held_in a) a b) where
-  -- the free list had one
-  pub free_room : FindsPartial class false p a → FindsFree class true a b → Refills class true p b
-  free_room part free = (free.0, elim (cases_eq (head_first (head_at p class)) 0) as (λ _. HasRoom p class) [
-    | inl none ↦ in_free_list (λ none_free. free.1 (empty_same p a 0 (part.4 none) none_free))
-    | inr some ↦ in_class_list some
-  ])
-
-  module _ (q : Parts) (b_taken : b.taken ≡ a.taken) (q_serves : Serves (held_in b) b q) (part : FindsPartial class false p a) (free : FindsFree class false a b) where
+module _ (class : ℕ) (p a b : Parts) (is : IsClass class) (a_serves : Serves (held_in p) p a) (a_taken : a.taken ≡ p.taken)
+    (b_serves : Serves (held_in a) a b) where
+  module _ (q : Parts) (b_taken : b.taken ≡ a.taken) (q_serves : Serves (held_in b) b q) (part : FindsPartial class false p a)
+      (free : FindsFree class false a b) where
     finds : FindsEmpty 0 a b
     finds = free.1
 
