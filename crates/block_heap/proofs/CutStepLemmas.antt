@@ -1,20 +1,19 @@
 -- A free superblock, or one that was never taken, is cut and fills the empty cache.
-use Rattle.std.proofs.Common.{◌≡◌, ◌≢◌, ℕ, zero, suc, ◌+◌, ◌*◌, ◌/◌, ◌<◌, ◌≤◌, ◌⊎◌, inl, inr, Option, None, Some, MatchOption, List, [], ◌∷◌, length, get_or, set, Contains, refl, ap, sym, subst, ◌∙◌, arith, get_or-set_same, get_or-set_other, length-set}
+use Rattle.std.proofs.Common.{◌≡◌, ◌≢◌, ℕ, zero, suc, ◌+◌, ◌*◌, ◌/◌, ◌<◌, ◌≤◌, ◌⊎◌, inl, inr, Option, None, Some, MatchOption, List, ◌∷◌, length, get_or, set, Contains, refl, ap, sym, subst, ◌∙◌, arith, get_or-set_same, get_or-set_other, length-set}
 use Rattle.std.proofs.lemmas.Bool.{cases_eq}
 use Rattle.heap_model.specs.declared.block.Block.{Block}
 use Rattle.heap_model.specs.Geometry.{lists, head_word, info_word, anchor_word, used_word, start_word}
-use Rattle.heap_model.specs.Blocks.{IsIn}
 use Rattle.heap_model.specs.Sizes.{IsClass, blocks_of, words_of_class}
 use Rattle.heap_model.specs.Words.{head_pops}
 use Rattle.heap_model.proofs.BlockLemmas.{block_words}
-use Rattle.heap_model.proofs.SizeLemmas.{few_blocks, four_blocks}
+use Rattle.heap_model.proofs.SizeLemmas.{four_blocks}
 use Rattle.heap_shape.specs.Shape.{in_list, is_full, Shape, with_at}
 use Rattle.heap_shape.specs.Standing.{first_of, HasNoHeld}
 use Rattle.heap_shape.specs.Whole.{layout_at, IsShape}
 use Rattle.heap_shape.specs.Effects.{IsSet, IsCut, IsInSuperblock, firsts_from, all_firsts}
 use Rattle.heap_shape.specs.Draining.{DrainsSame}
 use Rattle.heap_shape.specs.Moves.{after_cut, after_fresh}
-use Rattle.heap_shape.proofs.BasicLemmas.{with_at_same, with_at_other, in_free_list}
+use Rattle.heap_shape.proofs.BasicLemmas.{with_at_other, in_free_list}
 use Rattle.heap_shape.proofs.OwnLemmas.{none_past}
 use Rattle.heap_shape.proofs.RefillLemmas.{cut_free, cut_fresh}
 use Rattle.heap_shape.proofs.DrainLemmas.{cut_free_drains, cut_fresh_drains}
@@ -39,10 +38,11 @@ use Rattle.block_heap.proofs.HeldLemmas.{has_map}
 use Rattle.block_heap.proofs.MediumLemmas.{stores_then, stores_more}
 use Rattle.block_heap.proofs.RunningLemmas.{set_is, settled_kept, running_words}
 use Rattle.block_heap.proofs.StableLemmas.{works_of, works_then, works_raised}
-use Rattle.block_heap.proofs.RefillLemmas.{IsMoved, moved_word, moved_info, moved_used, serves_of, drains_none, IsMade, made, caches_filled, caches_other, none_cached, head_moved, popped_head, popped_of, popped_pops, popped_list, popped_place}
+use Rattle.block_heap.proofs.RefillLemmas.{IsMoved, moved_word, moved_info, moved_used, serves_of, drains_none, made, caches_filled, caches_other, none_cached, head_moved, popped_head, popped_of, popped_pops, popped_list, popped_place}
 
 -- a word of a superblock that no held block has a part in, and its info and anchor: an allocator may store to them
-pub divide_word : (capacity d : ℕ) (held : List Block) (word : ℕ) → d < capacity → HasNoHeld capacity held d → IsDivideWord capacity d word → IsAllocatorWord capacity held word
+pub divide_word : (capacity d : ℕ) (held : List Block) (word : ℕ) → d < capacity → HasNoHeld capacity held d → IsDivideWord capacity d word
+    → IsAllocatorWord capacity held word
 divide_word capacity d held word within none (inl inside) =
     let from = inside.from in
     let until = inside.until in
@@ -67,7 +67,8 @@ divide_info capacity d e within other (inr (inr anchor)) = omega arith
 -- a cache with these numbers
 pub cache_set : (caches : List Cache) (class first count f n : ℕ) → first ≡ f → count ≡ n
     → set caches class (record { first = first; count = count }) ≡ set caches class (record { first = f; count = n })
-cache_set caches class first count f n at many = ap (λ k. set caches class (record { first = k; count = count })) at ∙ ap (λ k. set caches class (record { first = f; count = k })) many
+cache_set caches class first count f n at many = ap (λ k. set caches class (record { first = k; count = count })) at ∙ ap
+    (λ k. set caches class (record { first = f; count = k })) many
 
 -- a list where such a number was set
 pub number_set : (xs new : List ℕ) (at n m : ℕ) → new ≡ set xs at n → n ≡ m → new ≡ set xs at m
@@ -88,7 +89,8 @@ cut_is capacity class d v w stores divided = record {
   by_word word out not_info not_anchor (inr (inr anchor)) = not_anchor anchor
 
 -- it leaves infos and `used` durable
-settled_cut : (capacity class d : ℕ) (v w : View) → IsSettled capacity v → StoresOnly (IsDivideWord capacity d) v w → IsDivided capacity class d v w → IsSettled capacity w
+settled_cut : (capacity class d : ℕ) (v w : View) → IsSettled capacity v → StoresOnly (IsDivideWord capacity d) v w → IsDivided capacity class d v w
+    → IsSettled capacity w
 settled_cut capacity class d v w settled stores divided = record {
   infos = λ e within. elim (cases_eq e d) as (λ _. durable_at w (info_word e) ≡ volatile_at w (info_word e)) [
     | inl same ↦ subst (λ k. durable_at w (info_word k) ≡ volatile_at w (info_word k)) (sym same) (divided.info_durable ∙ sym divided.info)
@@ -106,7 +108,8 @@ settled_cut capacity class d v w settled stores divided = record {
 pub unmarked : (p : Parts) (d : ℕ) → IsRunning p → HasNoHeld p.capacity (held_in p) d → (mark : ℕ) → IsMarked p.blocks.marks.items mark → mark / 4096 ≢ d
 unmarked p d run none mark marked at =
     let b : Block = block_of_mark p.blocks.start p.blocks.words.items mark in
-    let holds : Contains (held_in p) b = has_map (block_of_mark p.blocks.start p.blocks.words.items) (marked_words p.blocks.marks.items) mark (marked_words-has p.blocks.marks.items mark marked) in
+    let holds : Contains (held_in p) b = has_map (block_of_mark p.blocks.start p.blocks.words.items) (marked_words p.blocks.marks.items) mark
+        (marked_words-has p.blocks.marks.items mark marked) in
     let some : 2 ≤ get_or p.blocks.words.items (mark / 4096) 0 = block_words (layout_at p.capacity (image_of p)) b (run.is.named b holds) in
     let start : p.blocks.start ≡ start_word p.capacity 0 = run.sizes.start in
     none b holds (record { begins = omega arith; ends = omega arith })
@@ -117,8 +120,10 @@ long_firsts capacity class d index zero = refl
 long_firsts capacity class d index (suc count) = let rest = long_firsts capacity class d (index + 1) count in omega arith
 
 -- the parts after a cut of superblock d, whose words were these, with what was read and taken
-module _ (p : Parts) (class d : ℕ) (w : View) (looks : List Look) (look : Look) (taken : ℕ) (q : Parts) (run : IsRunning p) (is : IsClass class) (within : d < p.capacity)
-    (stores : StoresOnly (IsDivideWord p.capacity d) w q.words) (same : SameBut (record p { words = w; head_looks = looks; used_look = look; taken = taken }) q)
+module _ (p : Parts) (class d : ℕ) (w : View) (looks : List Look) (look : Look) (taken : ℕ) (q : Parts) (run : IsRunning p) (is : IsClass class)
+    (within : d < p.capacity)
+    (stores : StoresOnly (IsDivideWord p.capacity d) w q.words) (same : SameBut (record p { words = w; head_looks = looks; used_look = look; taken = taken })
+        q)
     (cuts : Cuts class d (record p { words = w; head_looks = looks; used_look = look; taken = taken }) q) where
   abbrev filled : Cache
   filled = record { first = start_word p.capacity d; count = blocks_of class }
@@ -144,22 +149,27 @@ module _ (p : Parts) (class d : ℕ) (w : View) (looks : List Look) (look : Look
     sizes = λ e less is_e stood. elim (cases_eq e d) as (λ _. get_or q.blocks.words.items e 0 ≡ words_of_class (image_of q (info_word e))) [
       | inl one ↦ subst (λ k. get_or q.blocks.words.items k 0 ≡ words_of_class (image_of q (info_word k))) (sym one)
           (ap (λ (xs : List ℕ). get_or xs d 0) cuts.sizes
-          ∙ get_or-set_same p.blocks.words.items d (words_of_class class) 0 (let long = run.sizes.long in omega arith) ∙ ap words_of_class (sym cuts.divided.info))
+          ∙ get_or-set_same p.blocks.words.items d (words_of_class class) 0 (let long = run.sizes.long in omega arith) ∙ ap words_of_class
+              (sym cuts.divided.info))
       | inr other ↦
-          let info : image_of q (info_word e) ≡ image_of p (info_word e) = stores.volatile (info_word e) (divide_info p.capacity d e less other) ∙ infos e less in
-          let stands : t.place e ≡ run.shape.place e = ap (λ (f : ℕ → Rattle.heap_shape.specs.Shape.Place). f e) place ∙ with_at_other run.shape.place d is_full e other in
+          let info : image_of q (info_word e) ≡ image_of p (info_word e) =
+              stores.volatile (info_word e) (divide_info p.capacity d e less other) ∙ infos e less in
+          let stands : t.place e ≡ run.shape.place e = ap (λ (f : ℕ → Rattle.heap_shape.specs.Shape.Place). f e) place ∙ with_at_other run.shape.place d
+              is_full e other in
           let before : get_or p.blocks.words.items e 0 ≡ words_of_class (image_of p (info_word e)) = run.sizes.sizes e less (subst IsClass info is_e)
             (elim stood as (λ _. (run.shape.place e ≡ in_list (image_of p (info_word e))) ⊎ (run.shape.place e ≡ is_full)) [
               | inl l ↦ inl (sym stands ∙ l ∙ ap in_list info)
               | inr f ↦ inr (sym stands ∙ f)
             ]) in
-          ap (λ (xs : List ℕ). get_or xs e 0) cuts.sizes ∙ get_or-set_other p.blocks.words.items d e (words_of_class class) 0 other ∙ before ∙ ap words_of_class (sym info)
+          ap (λ (xs : List ℕ). get_or xs e 0) cuts.sizes ∙ get_or-set_other p.blocks.words.items d e (words_of_class class) 0 other ∙ before ∙ ap
+              words_of_class (sym info)
     ];
   }
 
   pub cut_running : (t : Shape) → word_count w ≡ word_count p.words → w.budget ≡ p.words.budget → length looks ≡ lists → IsSettled p.capacity w
       → ((e : ℕ) → e < p.capacity → volatile_at w (info_word e) ≡ image_of p (info_word e)) → IsShape p.capacity (image_of q) (held_in p) t
-      → t.place ≡ with_at run.shape.place d is_full → t.start ≡ with_at run.shape.start class (first_of p.capacity class d 0) → t.cached ≡ with_at run.shape.cached class (all_firsts p.capacity class d)
+      → t.place ≡ with_at run.shape.place d is_full → t.start ≡ with_at run.shape.start class (first_of p.capacity class d 0)
+          → t.cached ≡ with_at run.shape.cached class (all_firsts p.capacity class d)
       → ((list : ℕ) → list < lists → 2 * head_pops (volatile_at w (head_word list)) ≤ w.drawn + 1)
       → volatile_at w used_word + look.taken ≡ look.seen + taken → taken ≤ volatile_at w used_word → IsRunning q
   cut_running t words budget looks_long settled infos shape place start cached pops knows few = made p q t run (record {
@@ -173,14 +183,16 @@ module _ (p : Parts) (class d : ℕ) (w : View) (looks : List Look) (look : Look
     looks_long = ap length same.head_looks ∙ looks_long;
     is = shape;
     caches = subst (λ (cs : List Cache). (c : ℕ) → IsClass c → IsCacheOf t c (cache_at cs c)) (sym cuts.caches)
-        (caches_filled run.shape t p.caches class (first_of p.capacity class d 0) (all_firsts p.capacity class d) filled run.caches_long is run.caches start cached
+        (caches_filled run.shape t p.caches class (first_of p.capacity class d 0) (all_firsts p.capacity class d) filled run.caches_long is run.caches start
+            cached
         (omega arith) (sym (long_firsts p.capacity class d 0 (blocks_of class))) (omega arith));
     sizes = sizes t infos place;
     settled = settled_cut p.capacity class d w q.words settled stores cuts.divided;
     pops = λ list less.
         let before = pops list less in
         let drew = cuts.divided.goes.drew in
-        let kept : head_at q list ≡ volatile_at w (head_word list) = stores.volatile (head_word list) (divide_before p.capacity d (head_word list) (omega arith)) in
+        let kept : head_at q list ≡ volatile_at w (head_word list) = stores.volatile (head_word list)
+            (divide_before p.capacity d (head_word list) (omega arith)) in
         omega arith;
     knows =
         let kept : image_of q used_word ≡ volatile_at w used_word = stores.volatile used_word (divide_before p.capacity d used_word (omega arith)) in
@@ -210,7 +222,8 @@ module _ (p : Parts) (class d : ℕ) (popped : Popped) (w : View) (look : Look) 
   free_within = (popped_place p 0 popped w run zero_list pop pop_stores d some).1
 
   free_none : HasNoHeld p.capacity (held_in p) d
-  free_none = (in_free_list p.capacity (image_of p) (held_in p) run.shape run.is d free_within (popped_place p 0 popped w run zero_list pop pop_stores d some).0).none
+  free_none = (in_free_list p.capacity (image_of p) (held_in p) run.shape run.is d free_within
+      (popped_place p 0 popped w run zero_list pop pop_stores d some).0).none
 
   pub free_unmarked : (mark : ℕ) → IsMarked p.blocks.marks.items mark → mark / 4096 ≢ d
   free_unmarked = unmarked p d run free_none
@@ -218,10 +231,12 @@ module _ (p : Parts) (class d : ℕ) (popped : Popped) (w : View) (look : Look) 
   moved : StoresOnly (IsMoved p.capacity) p.words w
   moved = head_moved p.capacity 0 p.words w zero_list pop_stores
 
-  module _ (q : Parts) (stores : StoresOnly (IsDivideWord p.capacity d) w q.words) (same : SameBut (record p { words = w; head_looks = set p.head_looks 0 look }) q) where
+  module _ (q : Parts) (stores : StoresOnly (IsDivideWord p.capacity d) w q.words)
+      (same : SameBut (record p { words = w; head_looks = set p.head_looks 0 look }) q) where
     pub free_serves : Serves (held_in p) p q
     free_serves = serves_of p q (λ word. IsMoved p.capacity word ⊎ IsDivideWord p.capacity d word) run
-        (λ word t. elim t as (λ _. IsAllocatorWord p.capacity (held_in p) word) [ inl m ↦ moved_word p.capacity (held_in p) word m | inr t ↦ divide_word p.capacity d (held_in p) word free_within free_none t ])
+        (λ word t. elim t as (λ _. IsAllocatorWord p.capacity (held_in p) word)
+            [ inl m ↦ moved_word p.capacity (held_in p) word m | inr t ↦ divide_word p.capacity d (held_in p) word free_within free_none t ])
         (λ t. elim t as (λ _. ⊥) [ inl m ↦ moved_used p.capacity used_word m refl | inr t ↦ divide_before p.capacity d used_word (omega arith) t ])
         (stores_then (λ word. IsMoved p.capacity word ⊎ IsDivideWord p.capacity d word) p.words w q.words
         (stores_more (IsMoved p.capacity) (λ word. IsMoved p.capacity word ⊎ IsDivideWord p.capacity d word) p.words w (λ word m. inl m) moved)
@@ -235,9 +250,11 @@ module _ (p : Parts) (class d : ℕ) (popped : Popped) (w : View) (look : Look) 
       free_running : IsRunning q
       free_running = cut_running p class d w (set p.head_looks 0 look) p.used_look p.taken q run is free_within stores same cuts
           (after_cut run.shape p.capacity class d rest) pop_stores.words pop_stores.budget (length-set p.head_looks 0 look ∙ run.looks_long)
-          (settled_kept p.capacity (IsMoved p.capacity) p.words w moved (λ e within m. moved_info p.capacity e (info_word e) m refl) (λ m. moved_used p.capacity used_word m refl) run.settled)
+          (settled_kept p.capacity (IsMoved p.capacity) p.words w moved (λ e within m. moved_info p.capacity e (info_word e) m refl)
+              (λ m. moved_used p.capacity used_word m refl) run.settled)
           (λ e within. moved.volatile (info_word e) (λ m. moved_info p.capacity e (info_word e) m refl))
-          (cut_free p.capacity class d (image_of p) (λ word. volatile_at w word) (image_of q) (held_in p) run.shape rest is run.is listed (none_cached p class run is empty)
+          (cut_free p.capacity class d (image_of p) (λ word. volatile_at w word) (image_of q) (held_in p) run.shape rest is run.is listed
+              (none_cached p class run is empty)
           (popped_of p 0 popped w run zero_list pop pop_stores d some) image_cut)
           refl refl refl
           (λ list less.
@@ -245,8 +262,10 @@ module _ (p : Parts) (class d : ℕ) (popped : Popped) (w : View) (look : Look) 
           let once = popped_pops p 0 popped w run zero_list pop pop_stores d some list less in
           let drew = pop.goes.drew in
           omega arith)
-          (let kept : volatile_at w used_word ≡ image_of p used_word = moved.volatile used_word (λ m. moved_used p.capacity used_word m refl) in let knew = run.knows in omega arith)
-          (let kept : volatile_at w used_word ≡ image_of p used_word = moved.volatile used_word (λ m. moved_used p.capacity used_word m refl) in let least = run.few in omega arith)
+          (let kept : volatile_at w used_word ≡ image_of p used_word = moved.volatile used_word (λ m. moved_used p.capacity used_word m refl) in let knew =
+              run.knows in omega arith)
+          (let kept : volatile_at w used_word ≡ image_of p used_word = moved.volatile used_word (λ m. moved_used p.capacity used_word m refl) in let least =
+              run.few in omega arith)
 
       pub free_fills : Fills class p q
       free_fills = record {
@@ -271,7 +290,8 @@ module _ (p : Parts) (w : View) (run : IsRunning p) (stores : StoresOnly (λ wor
   pub fresh_stops : Serves (held_in p) p (record p { words = w })
   fresh_stops = record { capacity = refl; works = raised; knows = refl; taken = omega arith }
 
-  module _ (class : ℕ) (fresh : Fresh) (look : Look) (took : IsFresh p.capacity 1 fresh p.words w) (seen : look.seen ≡ fresh.used) (taken_is : look.taken ≡ p.taken) where
+  module _ (class : ℕ) (fresh : Fresh) (look : Look) (took : IsFresh p.capacity 1 fresh p.words w) (seen : look.seen ≡ fresh.used)
+      (taken_is : look.taken ≡ p.taken) where
     -- there is none
     module _ (none : fresh.first ≡ None) where
       abbrev pub none_fresh : Parts
@@ -279,7 +299,8 @@ module _ (p : Parts) (w : View) (run : IsRunning p) (stores : StoresOnly (λ wor
 
       no_words : (w.volatile ≡ p.words.volatile) × (p.capacity < fresh.used + 1) × StoresOnly (λ _. ⊥) p.words w
       no_words = subst (λ (o : Option ℕ). MatchOption o ((w.volatile ≡ p.words.volatile) × (p.capacity < fresh.used + 1) × StoresOnly (λ _. ⊥) p.words w)
-          (λ d. (d ≡ fresh.used) × (fresh.used + 1 ≤ p.capacity) × (w.volatile ≡ set p.words.volatile used_word (fresh.used + 1)) × (durable_at w used_word ≡ fresh.used + 1))) none took.words
+          (λ d. (d ≡ fresh.used) × (fresh.used + 1 ≤ p.capacity) × (w.volatile ≡ set p.words.volatile used_word (fresh.used + 1)) × (durable_at w
+              used_word ≡ fresh.used + 1))) none took.words
 
       none_running : IsRunning (record p { words = w })
       none_running = running_words p w (λ _. ⊥) run took.goes.running no_words.0 no_words.2 (λ e less t. t) (λ t. t) took.goes.below
@@ -298,27 +319,23 @@ module _ (p : Parts) (w : View) (run : IsRunning p) (stores : StoresOnly (λ wor
           sizes = none_running.sizes;
           settled = none_running.settled;
           pops = none_running.pops;
-          knows = let same : volatile_at w used_word ≡ image_of p used_word = ap (λ (xs : List ℕ). get_or xs used_word 0) no_words.0 in let used = took.used in omega arith;
+          knows = let same : volatile_at w used_word ≡ image_of p used_word = ap (λ (xs : List ℕ). get_or xs used_word 0) no_words.0 in let used =
+              took.used in omega arith;
           few = none_running.few;
         };
         held = refl;
         caches = λ c is_c other. refl;
-        drains = subst (λ (xs : List ℕ). DrainsSame p.capacity class (held_in p) (image_of p) (λ word. get_or xs word 0)) (sym no_words.0) (drains_none p.capacity class (held_in p) (image_of p));
-      }
-
-      pub none_serves : Serves (held_in p) p none_fresh
-      none_serves = record {
-        capacity = refl;
-        works = raised;
-        knows = let used = took.used in let knew = run.knows in omega arith;
-        taken = omega arith;
+        drains = subst (λ (xs : List ℕ). DrainsSame p.capacity class (held_in p) (image_of p) (λ word. get_or xs word 0)) (sym no_words.0)
+            (drains_none p.capacity class (held_in p) (image_of p));
       }
 
     -- it is cut
     module _ (d : ℕ) (some : fresh.first ≡ Some d) where
-      some_words : (d ≡ fresh.used) × (fresh.used + 1 ≤ p.capacity) × (w.volatile ≡ set p.words.volatile used_word (fresh.used + 1)) × (durable_at w used_word ≡ fresh.used + 1)
+      some_words : (d ≡ fresh.used) × (fresh.used + 1 ≤ p.capacity) × (w.volatile ≡ set p.words.volatile used_word (fresh.used + 1)) × (durable_at w
+          used_word ≡ fresh.used + 1)
       some_words = subst (λ (o : Option ℕ). MatchOption o ((w.volatile ≡ p.words.volatile) × (p.capacity < fresh.used + 1) × StoresOnly (λ _. ⊥) p.words w)
-          (λ d. (d ≡ fresh.used) × (fresh.used + 1 ≤ p.capacity) × (w.volatile ≡ set p.words.volatile used_word (fresh.used + 1)) × (durable_at w used_word ≡ fresh.used + 1))) some took.words
+          (λ d. (d ≡ fresh.used) × (fresh.used + 1 ≤ p.capacity) × (w.volatile ≡ set p.words.volatile used_word (fresh.used + 1)) × (durable_at w
+              used_word ≡ fresh.used + 1))) some took.words
 
       past : image_of p used_word ≡ d
       past = sym took.used ∙ sym some_words.0
@@ -350,7 +367,8 @@ module _ (p : Parts) (w : View) (run : IsRunning p) (stores : StoresOnly (λ wor
         used = let first = some_words.0 in some_words.3 ∙ sym (used_set.at ∙ ap (λ n. n + 1) first);
       }
 
-      module _ (q : Parts) (cut_stores : StoresOnly (IsDivideWord p.capacity d) w q.words) (same : SameBut (record p { words = w; used_look = look; taken = p.taken + 1 }) q) where
+      module _ (q : Parts) (cut_stores : StoresOnly (IsDivideWord p.capacity d) w q.words)
+          (same : SameBut (record p { words = w; used_look = look; taken = p.taken + 1 }) q) where
         pub fresh_serves : Serves (held_in p) p q
         fresh_serves =
             let seen_now : q.used_look.seen ≡ look.seen = ap (λ (l : Look). l.seen) same.used_look in
@@ -361,13 +379,15 @@ module _ (p : Parts) (w : View) (run : IsRunning p) (stores : StoresOnly (λ wor
             record {
               capacity = same.capacity;
               works = works_then p.capacity (held_in p) p.words w q.words raised
-                  (works_of p.capacity (held_in p) (IsDivideWord p.capacity d) w q.words (λ word t. divide_word p.capacity d (held_in p) word within none_held t)
+                  (works_of p.capacity (held_in p) (IsDivideWord p.capacity d) w q.words
+                      (λ word t. divide_word p.capacity d (held_in p) word within none_held t)
                   (λ t. divide_before p.capacity d used_word (omega arith) t) cut_stores settled.used).0;
               knows = omega arith;
               taken = omega arith;
             }
 
-        module _ (is : IsClass class) (empty : (cache_at p.caches class).count ≡ 0) (cuts : Cuts class d (record p { words = w; used_look = look; taken = p.taken + 1 }) q) where
+        module _ (is : IsClass class) (empty : (cache_at p.caches class).count ≡ 0)
+            (cuts : Cuts class d (record p { words = w; used_look = look; taken = p.taken + 1 }) q) where
           fresh_image : IsCut p.capacity (λ word. volatile_at w word) (image_of q) class d
           fresh_image = cut_image p class d w p.head_looks look (p.taken + 1) q run is within cut_stores same cuts
 
@@ -375,7 +395,8 @@ module _ (p : Parts) (w : View) (run : IsRunning p) (stores : StoresOnly (λ wor
           fresh_running = cut_running p class d w p.head_looks look (p.taken + 1) q run is within cut_stores same cuts
               (after_fresh run.shape p.capacity class d) stores.words stores.budget run.looks_long settled
               (λ e less. stores.volatile (info_word e) (λ at. omega arith))
-              (cut_fresh p.capacity class d (image_of p) (λ word. volatile_at w word) (image_of q) (held_in p) run.shape is run.is past within (none_cached p class run is empty) used_set fresh_image)
+              (cut_fresh p.capacity class d (image_of p) (λ word. volatile_at w word) (image_of q) (held_in p) run.shape is run.is past within
+                  (none_cached p class run is empty) used_set fresh_image)
               refl refl refl
               (λ list less.
               let before = run.pops list less in
@@ -390,7 +411,8 @@ module _ (p : Parts) (w : View) (run : IsRunning p) (stores : StoresOnly (λ wor
             running = fresh_running;
             held = same.held;
             caches = cut_others p class d w p.head_looks look (p.taken + 1) q run is within cut_stores same cuts;
-            drains = cut_fresh_drains p.capacity class d (image_of p) (λ word. volatile_at w word) (image_of q) (held_in p) run.shape is run.is past within used_set fresh_image;
+            drains = cut_fresh_drains p.capacity class d (image_of p) (λ word. volatile_at w word) (image_of q) (held_in p) run.shape is run.is past within
+                used_set fresh_image;
           }
 
           pub fresh_found : (1 ≤ (cache_at q.caches class).count) × (image_of p used_word + 1 ≤ p.capacity)

@@ -22,3 +22,4 @@ pub mod FlushLemmas
 pub mod FrontLemmas
 pub mod FreeLemmas
 pub mod RequestLemmas
+pub mod PartialLemmas

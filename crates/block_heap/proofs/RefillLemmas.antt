@@ -1,39 +1,32 @@
 -- How the parts of a heap stay right over a pop from a list, and what then fills an empty cache or goes to the free list.
-use Rattle.std.proofs.Common.{◌≡◌, ◌≢◌, ℕ, zero, suc, ◌+◌, ◌*◌, ◌<◌, ◌≤◌, ◌⊎◌, inl, inr, Option, None, Some, MatchOption, List, [], ◌∷◌, length, get_or, set, Contains, refl, ap, sym, subst, ◌∙◌, arith, get_or-set_same, get_or-set_other, length-set}
+use Rattle.std.proofs.Common.{◌≡◌, ◌≢◌, ℕ, ◌+◌, ◌*◌, ◌<◌, ◌≤◌, ◌⊎◌, inl, inr, Option, None, Some, MatchOption, List, [], ◌∷◌, length, get_or, set, refl, ap, sym, subst, ◌∙◌, arith, get_or-set_same, get_or-set_other, length-set}
 use Rattle.std.proofs.lemmas.Bool.{cases_eq}
 use Rattle.std.proofs.lemmas.List.{nil_from_length}
 use Rattle.heap_model.specs.declared.block.Block.{Block}
 use Rattle.heap_model.specs.Geometry.{lists, head_word, info_word, anchor_word, link_word, used_word, image_words}
 use Rattle.heap_model.specs.Image.{Image}
 use Rattle.heap_model.specs.Sizes.{IsClass, blocks_of, words_of_class}
-use Rattle.heap_model.specs.Words.{head_first, head_pops, head_of, anchor_state, anchor_first, anchor_count, partial_state, full_anchor}
+use Rattle.heap_model.specs.Words.{head_first, head_pops, head_of}
 use Rattle.heap_model.specs.Chains.{Follows}
 use Rattle.heap_model.specs.Counting.{times}
 use Rattle.heap_shape.specs.Shape.{in_list, is_full, Shape, with_at}
-use Rattle.heap_shape.specs.Standing.{first_of, IsListed}
 use Rattle.heap_shape.specs.Whole.{IsShape}
-use Rattle.heap_shape.specs.Effects.{IsSet, IsPoppedOf, IsPushedOn}
-use Rattle.heap_shape.specs.Moves.{after_take, after_recycle}
+use Rattle.heap_shape.specs.Effects.{IsPoppedOf}
 use Rattle.heap_shape.specs.Draining.{DrainsSame}
-use Rattle.heap_shape.proofs.BasicLemmas.{with_at_same, with_at_other, first_place, in_class_list, one_list}
-use Rattle.heap_shape.proofs.RefillLemmas.{take}
-use Rattle.heap_shape.proofs.RecycleLemmas.{recycle}
-use Rattle.heap_shape.proofs.OwnLemmas.{one_following}
-use Rattle.heap_shape.proofs.DrainLemmas.{take_drains, recycle_drains}
-use Rattle.line_memory.specs.View.{View, word_count, volatile_at, durable_at}
+use Rattle.heap_shape.proofs.BasicLemmas.{with_at_same, with_at_other, first_place}
+use Rattle.line_memory.specs.View.{View, word_count, volatile_at}
 use Rattle.block_heap.specs.declared.cache.Cache.{Cache}
 use Rattle.block_heap.specs.declared.held.HeldBlocks.{HeldBlocks}
 use Rattle.block_heap.specs.declared.lists.Popped.{Popped}
 use Rattle.block_heap.specs.declared.look.Look.{Look}
-use Rattle.block_heap.specs.Anchors.{anchor_at, IsTakenFrom}
-use Rattle.block_heap.specs.Links.{link_of, IsPopped, IsPushed, IsPushWord}
-use Rattle.block_heap.specs.Medium.{StoresOnly, Goes}
+use Rattle.block_heap.specs.Links.{link_of, IsPopped}
+use Rattle.block_heap.specs.Medium.{StoresOnly}
 use Rattle.block_heap.specs.Parts.{Parts, image_of, held_in, cache_at}
 use Rattle.block_heap.specs.Running.{IsRunning, IsCacheOf, KnowsSizes, IsSettled, Serves}
-use Rattle.block_heap.specs.Steps.{head_at, IsEmptyList, LeadsAlong, look_at, IsLook, Fills, FindsEmpty, Recycles}
+use Rattle.block_heap.specs.Steps.{head_at, IsEmptyList, IsLook, Fills, FindsEmpty}
 use Rattle.block_heap.specs.Works.{Works, IsAllocatorWord, is_head, is_anchor, is_link}
-use Rattle.block_heap.proofs.MediumLemmas.{stores_then, stores_more}
-use Rattle.block_heap.proofs.RunningLemmas.{set_is, settled_kept, running_words}
+use Rattle.block_heap.proofs.MediumLemmas.{stores_more}
+use Rattle.block_heap.proofs.RunningLemmas.{set_is, running_words}
 use Rattle.block_heap.proofs.StableLemmas.{works_of, works_then, works_none}
 
 -- a head, or the anchor or the link of a superblock
@@ -59,7 +52,8 @@ moved_word capacity held word (an_anchor d below at) = is_anchor d below at
 moved_word capacity held word (a_link d below at) = is_link d below at
 
 -- a row of steps that doesn't store to `used`; one that stores to such words alone, or none at all; and two rows
-pub serves_of : (p q : Parts) (to : ℕ → Type 0) → IsRunning p → ((word : ℕ) → to word → IsAllocatorWord p.capacity (held_in p) word) → (to used_word → ⊥) → StoresOnly to p.words q.words
+pub serves_of : (p q : Parts) (to : ℕ → Type 0) → IsRunning p → ((word : ℕ) → to word → IsAllocatorWord p.capacity (held_in p) word) → (to used_word → ⊥)
+    → StoresOnly to p.words q.words
     → q.capacity ≡ p.capacity → q.used_look ≡ p.used_look → q.taken ≡ p.taken → Serves (held_in p) p q
 serves_of p q to run are not_used stores capacity look taken =
     let seen : q.used_look.seen ≡ p.used_look.seen = ap (λ (l : Look). l.seen) look in
@@ -71,9 +65,11 @@ serves_of p q to run are not_used stores capacity look taken =
       taken = omega arith;
     }
 
-pub serves_moved : (p q : Parts) → IsRunning p → StoresOnly (IsMoved p.capacity) p.words q.words → q.capacity ≡ p.capacity → q.used_look ≡ p.used_look → q.taken ≡ p.taken → Serves (held_in p) p q
+pub serves_moved : (p q : Parts) → IsRunning p → StoresOnly (IsMoved p.capacity) p.words q.words → q.capacity ≡ p.capacity → q.used_look ≡ p.used_look
+    → q.taken ≡ p.taken → Serves (held_in p) p q
 serves_moved p q run stores capacity look taken =
-    serves_of p q (IsMoved p.capacity) run (λ word m. moved_word p.capacity (held_in p) word m) (λ m. moved_used p.capacity used_word m refl) stores capacity look taken
+    serves_of p q (IsMoved p.capacity) run (λ word m. moved_word p.capacity (held_in p) word m) (λ m. moved_used p.capacity used_word m refl) stores capacity
+        look taken
 
 pub serves_same : (p : Parts) → Serves (held_in p) p p
 serves_same p = record { capacity = refl; works = works_none p.capacity (held_in p) p.words; knows = refl; taken = omega arith }
@@ -97,7 +93,8 @@ serves_then p u q held a b =
 pub drains_none : (capacity class : ℕ) (held : List Block) (image : Image) → DrainsSame capacity class held image image
 drains_none capacity class held image = record { has = λ b p. p; only = λ b p. p; tidy = λ p. p }
 
-pub drains_then : (capacity class : ℕ) (held : List Block) (image middle new : Image) → DrainsSame capacity class held image middle → DrainsSame capacity class held middle new → DrainsSame capacity class held image new
+pub drains_then : (capacity class : ℕ) (held : List Block) (image middle new : Image) → DrainsSame capacity class held image middle
+    → DrainsSame capacity class held middle new → DrainsSame capacity class held image new
 drains_then capacity class held image middle new a b = record {
   has = λ x p. b.has x (a.has x p);
   only = λ x p. a.only x (b.only x p);
@@ -143,10 +140,13 @@ made p q t run m = record {
 -- the caches where the one of the class has these blocks now
 pub caches_filled : (s t : Shape) (caches : List Cache) (class first : ℕ) (ws : List ℕ) (cache : Cache) → length caches ≡ lists → IsClass class
     → ((c : ℕ) → IsClass c → IsCacheOf s c (cache_at caches c)) → t.start ≡ with_at s.start class first → t.cached ≡ with_at s.cached class ws
-    → cache.first ≡ first → cache.count ≡ length ws → cache.count ≤ blocks_of class → (c : ℕ) → IsClass c → IsCacheOf t c (cache_at (set caches class cache) c)
-caches_filled s t caches class first ws cache long is before start cached first_is count most c is_c = elim (cases_eq c class) as (λ _. IsCacheOf t c (cache_at (set caches class cache) c)) [
+    → cache.first ≡ first → cache.count ≡ length ws → cache.count ≤ blocks_of class → (c : ℕ) → IsClass c
+        → IsCacheOf t c (cache_at (set caches class cache) c)
+caches_filled s t caches class first ws cache long is before start cached first_is count most c is_c =
+    elim (cases_eq c class) as (λ _. IsCacheOf t c (cache_at (set caches class cache) c)) [
   | inl same ↦ subst (λ k. IsCacheOf t k (cache_at (set caches class cache) k)) (sym same)
-      (subst (λ (x : Cache). IsCacheOf t class x) (sym (get_or-set_same caches class cache (record { first = 0; count = 0 }) (let last = is.last in omega arith)))
+      (subst (λ (x : Cache). IsCacheOf t class x) (sym (get_or-set_same caches class cache (record { first = 0; count = 0 })
+          (let last = is.last in omega arith)))
       (record {
         first = first_is ∙ sym (ap (λ (f : ℕ → ℕ). f class) start ∙ with_at_same s.start class first);
         count = count ∙ sym (ap length (ap (λ (f : ℕ → List ℕ). f class) cached ∙ with_at_same s.cached class ws));
@@ -165,8 +165,10 @@ pub caches_other : (caches : List Cache) (class : ℕ) (cache : Cache) (c : ℕ)
 caches_other caches class cache c is_c other = get_or-set_other caches class c cache (record { first = 0; count = 0 }) other
 
 -- the sizes stay where infos do, and superblocks of a class are ones from before
-pub sizes_kept : (capacity : ℕ) (s t : Shape) (info new : ℕ → ℕ) (blocks : HeldBlocks) → KnowsSizes capacity s info blocks → ((e : ℕ) → e < capacity → new e ≡ info e)
-    → ((e : ℕ) → e < capacity → IsClass (info e) → (t.place e ≡ in_list (info e)) ⊎ (t.place e ≡ is_full) → (s.place e ≡ in_list (info e)) ⊎ (s.place e ≡ is_full))
+pub sizes_kept : (capacity : ℕ) (s t : Shape) (info new : ℕ → ℕ) (blocks : HeldBlocks) → KnowsSizes capacity s info blocks
+    → ((e : ℕ) → e < capacity → new e ≡ info e)
+    → ((e : ℕ) → e < capacity → IsClass (info e) → (t.place e ≡ in_list (info e)) ⊎ (t.place e ≡ is_full)
+        → (s.place e ≡ in_list (info e)) ⊎ (s.place e ≡ is_full))
     → KnowsSizes capacity t new blocks
 sizes_kept capacity s t info new blocks knows same stood = record {
   start = knows.start;
@@ -184,7 +186,8 @@ follows_first : (link : ℕ → ℕ) (capacity from d : ℕ) (ds : List ℕ) →
 follows_first link capacity from d [] follows at = absurd (let none : from ≡ 0 = follows in omega arith)
 follows_first link capacity from d (e ∷ es) follows at = let first = follows.0 in let same : e ≡ d = omega arith in (es, ap (λ x. x ∷ es) same)
 
-pub first_listed : (p : Parts) (list d : ℕ) (run : IsRunning p) → list < lists → head_first (head_at p list) ≡ d + 1 → (ds : List ℕ) × (run.shape.listed list ≡ d ∷ ds)
+pub first_listed : (p : Parts) (list d : ℕ) (run : IsRunning p) → list < lists → head_first (head_at p list) ≡ d + 1
+    → (ds : List ℕ) × (run.shape.listed list ≡ d ∷ ds)
 first_listed p list d run below at =
     follows_first (λ e. image_of p (link_word e)) p.capacity (head_first (head_at p list)) d (run.shape.listed list) (run.is.follows list below) at
 
@@ -193,7 +196,8 @@ pub head_moved : (capacity list : ℕ) (v w : View) → list < lists → StoresO
 head_moved capacity list v w below stores = stores_more (λ word. word ≡ head_word list) (IsMoved capacity) v w (λ word e. a_head list below e) stores
 
 -- what a pop does
-module _ (p : Parts) (list : ℕ) (popped : Popped) (w : View) (run : IsRunning p) (below : list < lists) (pop : IsPopped list popped p.words w) (stores : StoresOnly (λ word. word ≡ head_word list) p.words w) where
+module _ (p : Parts) (list : ℕ) (popped : Popped) (w : View) (run : IsRunning p) (below : list < lists) (pop : IsPopped list popped p.words w)
+    (stores : StoresOnly (λ word. word ≡ head_word list) p.words w) where
   pub pop_moved : StoresOnly (IsMoved p.capacity) p.words w
   pop_moved = head_moved p.capacity list p.words w below stores
 
@@ -203,7 +207,8 @@ module _ (p : Parts) (list : ℕ) (popped : Popped) (w : View) (run : IsRunning 
       let at : 0 ≡ link_of popped.first = ap link_of (sym none) in
       (sym (at ∙ pop.first ∙ ap head_first pop.head),
       subst (λ (o : Option ℕ). MatchOption o (w.volatile ≡ p.words.volatile)
-          (λ d. w.volatile ≡ set p.words.volatile (head_word list) (head_of (head_first (volatile_at p.words (link_word d))) (head_pops popped.head + 1)))) none pop.words)
+          (λ d. w.volatile ≡ set p.words.volatile (head_word list) (head_of (head_first (volatile_at p.words (link_word d))) (head_pops popped.head + 1))))
+              none pop.words)
 
   module _ (d : ℕ) (some : popped.first ≡ Some d) where
     pub popped_head : head_first (head_at p list) ≡ d + 1
@@ -213,7 +218,8 @@ module _ (p : Parts) (list : ℕ) (popped : Popped) (w : View) (run : IsRunning 
 
     words : w.volatile ≡ set p.words.volatile (head_word list) (head_of (head_first (volatile_at p.words (link_word d))) (head_pops popped.head + 1))
     words = subst (λ (o : Option ℕ). MatchOption o (w.volatile ≡ p.words.volatile)
-        (λ d. w.volatile ≡ set p.words.volatile (head_word list) (head_of (head_first (volatile_at p.words (link_word d))) (head_pops popped.head + 1)))) some pop.words
+        (λ d. w.volatile ≡ set p.words.volatile (head_word list) (head_of (head_first (volatile_at p.words (link_word d))) (head_pops popped.head + 1))))
+            some pop.words
 
     within : head_word list < length p.words.volatile
     within = let long = run.words_open.long in omega arith
@@ -222,7 +228,8 @@ module _ (p : Parts) (list : ℕ) (popped : Popped) (w : View) (run : IsRunning 
     popped_of = record {
       pops = head_pops popped.head + 1;
       is_first = popped_head;
-      set = set_is p.words.volatile w.volatile (head_word list) (head_of (head_first (volatile_at p.words (link_word d))) (head_pops popped.head + 1)) within words;
+      set = set_is p.words.volatile w.volatile (head_word list) (head_of (head_first (volatile_at p.words (link_word d))) (head_pops popped.head + 1)) within
+          words;
     }
 
     -- its count rises by one
@@ -230,10 +237,12 @@ module _ (p : Parts) (list : ℕ) (popped : Popped) (w : View) (run : IsRunning 
     unfolding popped_of
     popped_pops other less = elim (cases_eq other list) as (λ _. head_pops (volatile_at w (head_word other)) ≤ head_pops (head_at p other) + 1) [
       | inl same ↦ subst (λ k. head_pops (volatile_at w (head_word k)) ≤ head_pops (head_at p k) + 1) (sym same)
-          (let at : volatile_at w (head_word list) ≡ head_of (head_first (volatile_at p.words (link_word d))) (head_pops popped.head + 1) = popped_of.set.at in
+          (let at : volatile_at w (head_word list) ≡ head_of (head_first (volatile_at p.words (link_word d))) (head_pops popped.head + 1) =
+              popped_of.set.at in
           let head : popped.head ≡ head_at p list = pop.head in
           omega arith)
-      | inr apart ↦ let e : volatile_at w (head_word other) ≡ head_at p other = popped_of.set.others (head_word other) (λ e. apart (omega arith)) in omega arith
+      | inr apart ↦ let e : volatile_at w (head_word other) ≡ head_at p other =
+          popped_of.set.others (head_word other) (λ e. apart (omega arith)) in omega arith
     ]
 
     pub popped_list : (ds : List ℕ) × (run.shape.listed list ≡ d ∷ ds)
@@ -243,7 +252,8 @@ module _ (p : Parts) (list : ℕ) (popped : Popped) (w : View) (run : IsRunning 
     popped_place = first_place p.capacity (image_of p) (held_in p) run.shape run.is list d popped_list.0 below popped_list.1
 
 -- a pop reads the head: the look at it
-pub look_set : (looks : List Look) (list : ℕ) (look : Look) → length looks ≡ lists → list < lists → get_or (set looks list look) list (record { seen = 0; ticket = None; taken = 0 }) ≡ look
+pub look_set : (looks : List Look) (list : ℕ) (look : Look) → length looks ≡ lists → list < lists
+    → get_or (set looks list look) list (record { seen = 0; ticket = None; taken = 0 }) ≡ look
 look_set looks list look long below = get_or-set_same looks list look (record { seen = 0; ticket = None; taken = 0 }) (omega arith)
 
 pub running_looks : (p : Parts) (looks : List Look) → length looks ≡ lists → IsRunning p → IsRunning (record p { head_looks = looks })
@@ -264,7 +274,8 @@ running_looks p looks long run = record {
 }
 
 -- a list that was found empty
-module _ (p : Parts) (class list : ℕ) (popped : Popped) (w : View) (look : Look) (run : IsRunning p) (below : list < lists) (pop : IsPopped list popped p.words w) (stores : StoresOnly (λ word. word ≡ head_word list) p.words w)
+module _ (p : Parts) (class list : ℕ) (popped : Popped) (w : View) (look : Look) (run : IsRunning p) (below : list < lists)
+    (pop : IsPopped list popped p.words w) (stores : StoresOnly (λ word. word ≡ head_word list) p.words w)
     (none : popped.first ≡ None) where
   abbrev pub emptied : Parts
   emptied = record p { words = w; head_looks = set p.head_looks list look }
@@ -277,7 +288,8 @@ module _ (p : Parts) (class list : ℕ) (popped : Popped) (w : View) (look : Loo
 
   pub emptied_running : IsRunning emptied
   emptied_running = running_looks (record p { words = w }) (set p.head_looks list look) (length-set p.head_looks list look ∙ run.looks_long)
-      (running_words p w (IsMoved p.capacity) run pop.goes.running same_words moved (λ d less m. moved_info p.capacity d (info_word d) m refl) (λ m. moved_used p.capacity used_word m refl) pop.goes.below)
+      (running_words p w (IsMoved p.capacity) run pop.goes.running same_words moved (λ d less m. moved_info p.capacity d (info_word d) m refl)
+          (λ m. moved_used p.capacity used_word m refl) pop.goes.below)
 
   pub emptied_serves : Serves (held_in p) p emptied
   emptied_serves = serves_moved p emptied run moved refl refl refl
@@ -287,10 +299,12 @@ module _ (p : Parts) (class list : ℕ) (popped : Popped) (w : View) (look : Loo
     running = emptied_running;
     held = refl;
     caches = λ c is other. refl;
-    drains = subst (λ (xs : List ℕ). DrainsSame p.capacity class (held_in p) (image_of p) (λ word. get_or xs word 0)) (sym same_words) (drains_none p.capacity class (held_in p) (image_of p));
+    drains = subst (λ (xs : List ℕ). DrainsSame p.capacity class (held_in p) (image_of p) (λ word. get_or xs word 0)) (sym same_words)
+        (drains_none p.capacity class (held_in p) (image_of p));
   }
 
-  pub emptied_finds : (ticket : ℕ) → ticket ≡ p.words.drawn → look.seen ≡ popped.head → look.ticket ≡ Some ticket → look.taken ≡ p.taken → FindsEmpty list p emptied
+  pub emptied_finds : (ticket : ℕ) → ticket ≡ p.words.drawn → look.seen ≡ popped.head → look.ticket ≡ Some ticket → look.taken ≡ p.taken
+      → FindsEmpty list p emptied
   emptied_finds ticket is seen by taken = record {
     empty = (popped_none p list popped w run below pop stores none).0;
     volatile = same_words;

@@ -1,5 +1,5 @@
 -- The first superblock of a class list: its free blocks fill the empty cache, or it goes to the free list.
-use Rattle.std.proofs.Common.{◌≡◌, ◌≢◌, ℕ, ◌+◌, ◌*◌, ◌<◌, ◌≤◌, ◌⊎◌, inl, inr, Option, None, Some, List, [], ◌∷◌, length, get_or, set, refl, ap, sym, subst, ◌∙◌, arith, get_or-set_same, get_or-set_other, length-set}
+use Rattle.std.proofs.Common.{◌≡◌, ◌≢◌, ℕ, ◌+◌, ◌<◌, ◌≤◌, ◌⊎◌, inl, inr, Option, None, Some, List, ◌∷◌, length, get_or, set, refl, ap, sym, subst, ◌∙◌, arith, get_or-set_same, length-set}
 use Rattle.std.proofs.lemmas.Bool.{cases_eq}
 use Rattle.heap_model.specs.Geometry.{lists, head_word, info_word, anchor_word, link_word, used_word}
 use Rattle.heap_model.specs.Sizes.{IsClass, blocks_of}
@@ -9,7 +9,7 @@ use Rattle.heap_shape.specs.Shape.{in_list, is_full, Shape, with_at}
 use Rattle.heap_shape.specs.Standing.{first_of, IsListed}
 use Rattle.heap_shape.specs.Effects.{IsSet, IsPushedOn}
 use Rattle.heap_shape.specs.Moves.{after_take, after_recycle}
-use Rattle.heap_shape.proofs.BasicLemmas.{with_at_same, with_at_other, in_class_list, one_list}
+use Rattle.heap_shape.proofs.BasicLemmas.{with_at_same, with_at_other, in_class_list}
 use Rattle.heap_shape.proofs.RefillLemmas.{take}
 use Rattle.heap_shape.proofs.RecycleLemmas.{recycle}
 use Rattle.heap_shape.proofs.OwnLemmas.{one_following}
@@ -18,7 +18,7 @@ use Rattle.line_memory.specs.View.{View, volatile_at}
 use Rattle.block_heap.specs.declared.cache.Cache.{Cache}
 use Rattle.block_heap.specs.declared.lists.Popped.{Popped}
 use Rattle.block_heap.specs.declared.look.Look.{Look}
-use Rattle.block_heap.specs.Anchors.{anchor_at, IsTakenFrom}
+use Rattle.block_heap.specs.Anchors.{IsTakenFrom}
 use Rattle.block_heap.specs.Links.{IsPopped, IsPushed, IsPushWord}
 use Rattle.block_heap.specs.Medium.{StoresOnly}
 use Rattle.block_heap.specs.Parts.{Parts, image_of, held_in, cache_at}
@@ -68,7 +68,8 @@ module _ (p : Parts) (class d : ℕ) (popped : Popped) (w : View) (look : Look) 
     take_moved = stores_then (IsMoved p.capacity) p.words w u (pop_moved p class popped w run below pop pop_stores)
         (stores_more (λ word. word ≡ anchor_word d) (IsMoved p.capacity) w u (λ word e. an_anchor d first_within e) take_stores)
 
-    module _ (cache : Cache) (answer : Option Cache) (answer_is : answer ≡ Some cache) (empty : (cache_at p.caches class).count ≡ 0) (took : IsTakenFrom p.capacity class d answer w u) where
+    module _ (cache : Cache) (answer : Option Cache) (answer_is : answer ≡ Some cache) (empty : (cache_at p.caches class).count ≡ 0)
+        (took : IsTakenFrom p.capacity class d answer w u) where
       abbrev pub taken_parts : Parts
       taken_parts = record p { words = u; caches = set p.caches class cache; head_looks = set p.head_looks class look }
 
@@ -96,7 +97,8 @@ module _ (p : Parts) (class d : ℕ) (popped : Popped) (w : View) (look : Look) 
       stood e within is_e at = elim (cases_eq e d) as (λ _. (run.shape.place e ≡ in_list (image_of p (info_word e))) ⊎ (run.shape.place e ≡ is_full)) [
         | inl same ↦ inl (subst (λ k. run.shape.place k ≡ in_list (image_of p (info_word k))) (sym same) (place ∙ ap in_list (sym stands.of_class.info)))
         | inr other ↦ let kept = with_at_other run.shape.place d is_full e other in
-            elim at as (λ _. (run.shape.place e ≡ in_list (image_of p (info_word e))) ⊎ (run.shape.place e ≡ is_full)) [ inl l ↦ inl (sym kept ∙ l) | inr f ↦ inr (sym kept ∙ f) ]
+            elim at as (λ _. (run.shape.place e ≡ in_list (image_of p (info_word e))) ⊎ (run.shape.place e ≡ is_full))
+                [ inl l ↦ inl (sym kept ∙ l) | inr f ↦ inr (sym kept ∙ f) ]
       ]
 
       made_taken : IsMade p taken_parts shape
@@ -109,13 +111,15 @@ module _ (p : Parts) (class d : ℕ) (popped : Popped) (w : View) (look : Look) 
         below = is_taken.goes.below;
         caches_long = length-set p.caches class cache ∙ run.caches_long;
         looks_long = length-set p.head_looks class look ∙ run.looks_long;
-        is = take p.capacity class d (image_of p) (λ word. volatile_at w word) (image_of taken_parts) (held_in p) run.shape rest is run.is listed (none_cached p class run is empty)
+        is = take p.capacity class d (image_of p) (λ word. volatile_at w word) (image_of taken_parts) (held_in p) run.shape rest is run.is listed
+            (none_cached p class run is empty)
             (popped_of p class popped w run below pop pop_stores d some) anchor_set;
         caches = caches_filled run.shape shape p.caches class first (run.shape.chain d) cache run.caches_long is run.caches refl refl cache_first cache_count
             (let count = cache_count in let most = most_free in omega arith);
         sizes = sizes_kept p.capacity run.shape shape (λ e. image_of p (info_word e)) (λ e. volatile_at u (info_word e)) p.blocks run.sizes
             (λ e within. take_moved.volatile (info_word e) (λ m. moved_info p.capacity e (info_word e) m refl)) stood;
-        settled = settled_kept p.capacity (IsMoved p.capacity) p.words u take_moved (λ e within m. moved_info p.capacity e (info_word e) m refl) (λ m. moved_used p.capacity used_word m refl) run.settled;
+        settled = settled_kept p.capacity (IsMoved p.capacity) p.words u take_moved (λ e within m. moved_info p.capacity e (info_word e) m refl)
+            (λ m. moved_used p.capacity used_word m refl) run.settled;
         pops = λ list less.
             let before = run.pops list less in
             let popped_once = popped_pops p class popped w run below pop pop_stores d some list less in
@@ -123,8 +127,10 @@ module _ (p : Parts) (class d : ℕ) (popped : Popped) (w : View) (look : Look) 
             let drew = pop.goes.drew in
             let more = is_taken.goes.drew in
             omega arith;
-        knows = let same : volatile_at u used_word ≡ image_of p used_word = take_moved.volatile used_word (λ m. moved_used p.capacity used_word m refl) in let knew = run.knows in omega arith;
-        few = let same : volatile_at u used_word ≡ image_of p used_word = take_moved.volatile used_word (λ m. moved_used p.capacity used_word m refl) in let least = run.few in omega arith;
+        knows = let same : volatile_at u used_word ≡ image_of p used_word =
+            take_moved.volatile used_word (λ m. moved_used p.capacity used_word m refl) in let knew = run.knows in omega arith;
+        few = let same : volatile_at u used_word ≡ image_of p used_word =
+            take_moved.volatile used_word (λ m. moved_used p.capacity used_word m refl) in let least = run.few in omega arith;
       }
 
       pub taken_fills : Fills class p taken_parts
@@ -177,20 +183,24 @@ module _ (p : Parts) (class d : ℕ) (popped : Popped) (w : View) (look : Look) 
         pushed_on = subst (λ (xs : List ℕ). IsPushedOn (λ word. get_or xs word 0) (image_of recycled) 0 d) not_taken.words.1 (record {
           middle = λ word. get_or linked word 0;
           pops = head_pops (volatile_at u (head_word 0));
-          link = set_is u.volatile linked (link_word d) (head_first (volatile_at u (head_word 0))) (let same = long in let wide = run.words_open.long in let less = first_within in omega arith) refl;
+          link = set_is u.volatile linked (link_word d) (head_first (volatile_at u (head_word 0)))
+              (let same = long in let wide = run.words_open.long in let less = first_within in omega arith) refl;
           head = set_is linked v.volatile (head_word 0) (head_of (d + 1) (head_pops (volatile_at u (head_word 0))))
-              (let same = long in let wide = run.words_open.long in let kept = length-set u.volatile (link_word d) (head_first (volatile_at u (head_word 0))) in omega arith) pushed.words;
+              (let same = long in let wide = run.words_open.long in let kept =
+                  length-set u.volatile (link_word d) (head_first (volatile_at u (head_word 0))) in omega arith) pushed.words;
         })
 
         abbrev shape_then : Shape
         shape_then = after_recycle run.shape class d rest
 
-        stood_then : (e : ℕ) → e < p.capacity → IsClass (image_of p (info_word e)) → (shape_then.place e ≡ in_list (image_of p (info_word e))) ⊎ (shape_then.place e ≡ is_full)
+        stood_then : (e : ℕ) → e < p.capacity → IsClass (image_of p (info_word e))
+            → (shape_then.place e ≡ in_list (image_of p (info_word e))) ⊎ (shape_then.place e ≡ is_full)
             → (run.shape.place e ≡ in_list (image_of p (info_word e))) ⊎ (run.shape.place e ≡ is_full)
         stood_then e within is_e at = elim (cases_eq e d) as (λ _. (run.shape.place e ≡ in_list (image_of p (info_word e))) ⊎ (run.shape.place e ≡ is_full)) [
           | inl same ↦ inl (subst (λ k. run.shape.place k ≡ in_list (image_of p (info_word k))) (sym same) (place ∙ ap in_list (sym stands.of_class.info)))
           | inr other ↦ let kept = with_at_other run.shape.place d (in_list 0) e other in
-              elim at as (λ _. (run.shape.place e ≡ in_list (image_of p (info_word e))) ⊎ (run.shape.place e ≡ is_full)) [ inl l ↦ inl (sym kept ∙ l) | inr f ↦ inr (sym kept ∙ f) ]
+              elim at as (λ _. (run.shape.place e ≡ in_list (image_of p (info_word e))) ⊎ (run.shape.place e ≡ is_full))
+                  [ inl l ↦ inl (sym kept ∙ l) | inr f ↦ inr (sym kept ∙ f) ]
         ]
 
         -- the heads: only that of the class was popped
@@ -203,7 +213,8 @@ module _ (p : Parts) (class d : ℕ) (popped : Popped) (w : View) (look : Look) 
                   let set_to : volatile_at v (head_word 0) ≡ head_of (d + 1) (head_pops (volatile_at u (head_word 0))) =
                     ap (λ (xs : List ℕ). get_or xs (head_word 0) 0) pushed.words
                     ∙ get_or-set_same linked (head_word 0) (head_of (d + 1) (head_pops (volatile_at u (head_word 0)))) 0
-                      (let same = long in let wide = run.words_open.long in let kept = length-set u.volatile (link_word d) (head_first (volatile_at u (head_word 0))) in omega arith) in
+                      (let same = long in let wide = run.words_open.long in let kept =
+                          length-set u.volatile (link_word d) (head_first (volatile_at u (head_word 0))) in omega arith) in
                   let here : volatile_at v (head_word list) ≡ head_of (d + 1) (head_pops (volatile_at u (head_word list))) =
                     subst (λ k. volatile_at v (head_word k) ≡ head_of (d + 1) (head_pops (volatile_at u (head_word k)))) (sym zero_is) set_to in
                   let small = first_within in
@@ -230,7 +241,8 @@ module _ (p : Parts) (class d : ℕ) (popped : Popped) (w : View) (look : Look) 
           caches = λ c is_c. record { first = (run.caches c is_c).first; count = (run.caches c is_c).count; most = (run.caches c is_c).most };
           sizes = sizes_kept p.capacity run.shape shape_then (λ e. image_of p (info_word e)) (λ e. volatile_at v (info_word e)) p.blocks run.sizes
               (λ e within. push_moved.volatile (info_word e) (λ m. moved_info p.capacity e (info_word e) m refl)) stood_then;
-          settled = settled_kept p.capacity (IsMoved p.capacity) p.words v push_moved (λ e within m. moved_info p.capacity e (info_word e) m refl) (λ m. moved_used p.capacity used_word m refl) run.settled;
+          settled = settled_kept p.capacity (IsMoved p.capacity) p.words v push_moved (λ e within m. moved_info p.capacity e (info_word e) m refl)
+              (λ m. moved_used p.capacity used_word m refl) run.settled;
           pops = λ list less.
               let before = run.pops list less in
               let once = count_then list less in
@@ -238,8 +250,10 @@ module _ (p : Parts) (class d : ℕ) (popped : Popped) (w : View) (look : Look) 
               let more = not_taken.goes.drew in
               let last = pushed.goes.drew in
               omega arith;
-          knows = let same : volatile_at v used_word ≡ image_of p used_word = push_moved.volatile used_word (λ m. moved_used p.capacity used_word m refl) in let knew = run.knows in omega arith;
-          few = let same : volatile_at v used_word ≡ image_of p used_word = push_moved.volatile used_word (λ m. moved_used p.capacity used_word m refl) in let least = run.few in omega arith;
+          knows = let same : volatile_at v used_word ≡ image_of p used_word =
+              push_moved.volatile used_word (λ m. moved_used p.capacity used_word m refl) in let knew = run.knows in omega arith;
+          few = let same : volatile_at v used_word ≡ image_of p used_word =
+              push_moved.volatile used_word (λ m. moved_used p.capacity used_word m refl) in let least = run.few in omega arith;
         }
 
         pub recycled_fills : Fills class p recycled
@@ -253,7 +267,8 @@ module _ (p : Parts) (class d : ℕ) (popped : Popped) (w : View) (look : Look) 
 
         -- its list is shorter by it
         now_rest : shape_then.listed class ≡ rest
-        now_rest = with_at_other (with_at run.shape.listed class rest) 0 (d ∷ run.shape.listed 0) class (λ e. let from = is.some in omega arith) ∙ with_at_same run.shape.listed class rest
+        now_rest = with_at_other (with_at run.shape.listed class rest) 0 (d ∷ run.shape.listed 0) class (λ e. let from = is.some in omega arith)
+            ∙ with_at_same run.shape.listed class rest
 
         now_free : shape_then.listed 0 ≡ d ∷ run.shape.listed 0
         now_free = with_at_same (with_at run.shape.listed class rest) 0 (d ∷ run.shape.listed 0)
@@ -262,12 +277,16 @@ module _ (p : Parts) (class d : ℕ) (popped : Popped) (w : View) (look : Look) 
         recycled_first = record {
           some = first_some;
           now = λ none.
-              let follows = subst (λ (ds : List ℕ). Follows (λ e. image_of recycled (link_word e)) p.capacity (head_first (head_at recycled 0)) ds) now_free (made_recycled.is.follows 0 (omega arith)) in
+              let follows = subst (λ (ds : List ℕ). Follows (λ e. image_of recycled (link_word e)) p.capacity (head_first (head_at recycled 0)) ds) now_free
+                  (made_recycled.is.follows 0 (omega arith)) in
               let from = follows.0 in
               omega arith;
           used = push_moved.volatile used_word (λ m. moved_used p.capacity used_word m refl);
           shorter = λ ds leads.
-              let follows = subst (λ (es : List ℕ). Follows (λ e. image_of recycled (link_word e)) p.capacity (head_first (head_at recycled class)) es) now_rest (made_recycled.is.follows class below) in
-              let same : rest ≡ ds = one_following (λ e. image_of recycled (link_word e)) p.capacity (head_first (head_at recycled class)) rest ds follows leads in
-              (d, subst (λ (es : List ℕ). LeadsAlong p class (d ∷ es)) same (subst (λ (es : List ℕ). LeadsAlong p class es) listed (run.is.follows class below)));
+              let follows = subst (λ (es : List ℕ). Follows (λ e. image_of recycled (link_word e)) p.capacity (head_first (head_at recycled class)) es)
+                  now_rest (made_recycled.is.follows class below) in
+              let same : rest ≡ ds = one_following (λ e. image_of recycled (link_word e)) p.capacity (head_first (head_at recycled class)) rest ds follows
+                  leads in
+              (d, subst (λ (es : List ℕ). LeadsAlong p class (d ∷ es)) same
+                  (subst (λ (es : List ℕ). LeadsAlong p class es) listed (run.is.follows class below)));
         }

@@ -31,10 +31,10 @@ FindsPartial class false p q = ((cache_at q.caches class).count ≡ 0)
     × (IsEmptyList q 0 → IsEmptyList p 0 × IsEmptyList p class)
     × (IsEmptyList p class → q.words.volatile ≡ p.words.volatile)
 
--- from the free list, or that is empty
+-- from the free list, or that is empty, as few steps tell
 abbrev pub FindsFree : ℕ → Bool → Parts → Parts → Type 0
 FindsFree class true p q = (1 ≤ (cache_at q.caches class).count) × (IsEmptyList p 0 → ⊥)
-FindsFree class false p q = ((cache_at q.caches class).count ≡ 0) × FindsEmpty 0 p q
+FindsFree class false p q = ((cache_at q.caches class).count ≡ 0) × FindsEmpty 0 p q × (q.words.drawn ≤ p.words.drawn + 3)
 
 -- from a superblock that was never taken, or there is none
 abbrev pub FindsFresh : ℕ → Bool → Parts → Parts → Type 0

@@ -1,0 +1,262 @@
+-- How a request goes along the list of its class, and where it looks after that.
+use Rattle.std.proofs.Common.{◌≡◌, ℕ, ◌+◌, ◌-◌, ◌*◌, ◌<◌, ◌≤◌, ◌⊎◌, inl, inr, Bool, true, false, None, List, ◌∷◌, length, get_or, refl, ap, sym, subst, ◌∙◌, arith}
+use Rattle.heap_model.specs.declared.block.Block.{Block}
+use Rattle.heap_model.specs.Geometry.{lists, head_word, link_word, used_word}
+use Rattle.heap_model.specs.Sizes.{IsClass}
+use Rattle.heap_model.specs.Words.{head_first}
+use Rattle.heap_shape.specs.Draining.{DrainsSame}
+use Rattle.heap_shape.proofs.CountLemmas.{few_listed}
+use Rattle.heap_shape.proofs.OwnLemmas.{one_following}
+use Rattle.block_heap.specs.declared.look.Look.{Look}
+use Rattle.block_heap.specs.declared.refill.Found.{Found}
+use Rattle.block_heap.specs.declared.refill.Found.TheVariants.{Blocks, Recycled, Nothing}
+use Rattle.block_heap.specs.Medium.{Goes, Halts}
+use Rattle.block_heap.specs.Parts.{Parts, image_of, held_in, cache_at}
+use Rattle.block_heap.specs.Refill.{FindsPartial, FindsFree, FindsFresh, Refills}
+use Rattle.block_heap.specs.Running.{IsRunning, Serves}
+use Rattle.block_heap.specs.Serving.{HasRoom, in_cache, in_class_list, in_free_list, in_fresh}
+use Rattle.block_heap.specs.Steps.{head_at, look_at, IsLook, IsEmptyList, LeadsAlong, Fills, FindsFirst, FindsEmpty, Recycles}
+use Rattle.block_heap.proofs.RefillLemmas.{serves_same, serves_then, drains_none, drains_then}
+
+-- nothing done yet, and two rows of steps
+pub fills_none : (class : ℕ) (p : Parts) → IsRunning p → Fills class p p
+fills_none class p run = record { running = run; held = refl; caches = λ c is other. refl; drains = drains_none p.capacity class (held_in p) (image_of p) }
+
+pub fills_then : (class : ℕ) (p u q : Parts) → u.capacity ≡ p.capacity → Fills class p u → Fills class u q → Fills class p q
+fills_then class p u q capacity a b = record {
+  running = b.running;
+  held = b.held ∙ a.held;
+  caches = λ c is other. b.caches c is other ∙ a.caches c is other;
+  drains = drains_then p.capacity class (held_in p) (image_of p) (image_of u) (image_of q) a.drains
+      (subst (λ n. DrainsSame n class (held_in p) (image_of u) (image_of q)) capacity
+      (subst (λ (h : List Block). DrainsSame u.capacity class h (image_of u) (image_of q)) a.held b.drains));
+}
+
+-- a list is as empty as it was where loads see the same words
+pub empty_same : (p q : Parts) (list : ℕ) → q.words.volatile ≡ p.words.volatile → IsEmptyList p list → IsEmptyList q list
+empty_same p q list same none = subst (λ (xs : List ℕ). head_first (get_or xs (head_word list) 0) ≡ 0) (sym same) none
+
+-- a look is the last one later too
+pub look_later : (from first : ℕ) (p q : Parts) (look : Look) (seen : ℕ) → first ≤ from → p.words.drawn ≤ q.words.drawn → q.taken ≡ p.taken
+    → IsLook from p look seen → IsLook first q look seen
+look_later from first p q look seen before later same is = record {
+  seen_is = is.seen_is;
+  ticket = is.ticket;
+  by = is.by;
+  since = let since = is.since in omega arith;
+  until = let until = is.until in omega arith;
+  taken_is = is.taken_is ∙ sym same;
+}
+
+-- on the way along the list of the class: what was found there went to the free list, and eight steps for each that is left are few
+pub record Walked (class : ℕ) (p q : Parts) : Type 0 where
+  pub fills : Fills class p q
+  pub serves : Serves (held_in p) p q
+  pub empty : (cache_at q.caches class).count ≡ 0
+  pub taken : q.taken ≡ p.taken
+  pub used : image_of q used_word ≡ image_of p used_word
+  pub way : (q.words.volatile ≡ p.words.volatile) ⊎ ((IsEmptyList q 0 → ⊥) × (IsEmptyList p class → ⊥))
+  pub few : (ds : List ℕ) → LeadsAlong q class ds → q.words.drawn + 8 * length ds ≤ p.words.drawn + 2048
+
+pub walk_begins : (class : ℕ) (p : Parts) → IsClass class → IsRunning p → (cache_at p.caches class).count ≡ 0 → Walked class p p
+walk_begins class p is run empty = record {
+  fills = fills_none class p run;
+  serves = serves_same p;
+  empty = empty;
+  taken = refl;
+  used = refl;
+  way = inl refl;
+  few = λ ds leads.
+      let below : class < lists = let last = is.last in omega arith in
+      let same : run.shape.listed class ≡ ds = one_following (λ d. image_of p (link_word d)) p.capacity (head_first (head_at p class))
+          (run.shape.listed class) ds (run.is.follows class below) leads in
+      let long : length (run.shape.listed class) ≡ length ds = ap length same in
+      let most = few_listed p.capacity (image_of p) (held_in p) run.shape run.is class below in
+      let small = run.is.small in
+      omega arith;
+}
+
+-- one more look at the first of the list
+module _ (class : ℕ) (p q r : Parts) (is : IsClass class) (walked : Walked class p q) (serves : Serves (held_in q) q r) (held : held_in r ≡ held_in q)
+    (taken : r.taken ≡ q.taken) where
+  begun : p.words.drawn ≤ q.words.drawn
+  begun = walked.serves.works.stores.drawn
+
+  -- so far few steps were done
+  so_far : q.words.drawn ≤ p.words.drawn + 2048
+  so_far =
+      let run = walked.fills.running in
+      let few = walked.few (run.shape.listed class) (run.is.follows class (let last = is.last in omega arith)) in
+      omega arith
+
+  was_some : (IsEmptyList q class → ⊥) → IsEmptyList p class → ⊥
+  was_some some none = elim walked.way as (λ _. ⊥) [ inl same ↦ some (empty_same p q class same none) | inr way ↦ way.1 none ]
+
+  pub walk_serves : Serves (held_in p) p r
+  walk_serves = serves_then p q r walked.fills.held walked.serves serves
+
+  pub walk_halts : (ticket : ℕ) → Halts ticket 8 q.words r.words → Halts ticket 2056 p.words r.words
+  walk_halts ticket halts =
+      let from = halts.from in
+      let few = halts.few in
+      let first = begun in
+      let most = so_far in
+      record { stopped = halts.stopped; above = halts.above; from = omega arith; until = halts.until; few = omega arith }
+
+  pub walk_held : held_in r ≡ held_in p
+  walk_held = held ∙ walked.fills.held
+
+  pub walk_taken : r.taken ≡ p.taken
+  walk_taken = taken ∙ walked.taken
+
+  module _ (fills : Fills class q r) (goes : Goes 8 q.words r.words) where
+    pub walk_goes : Goes 2056 p.words r.words
+    walk_goes =
+        let drew = goes.drew in
+        let few = goes.few in
+        let first = begun in
+        let most = so_far in
+        record { running = goes.running; drew = omega arith; few = omega arith; below = goes.below }
+
+    pub walk_fills : Fills class p r
+    walk_fills = fills_then class p q r walked.serves.capacity walked.fills fills
+
+    -- the measure
+    pub walk_ends : r.words.budget - r.words.drawn < q.words.budget - q.words.drawn
+    walk_ends = let drew = goes.drew in let below = goes.below in let same : r.words.budget ≡ q.words.budget = serves.works.stores.budget in omega arith
+
+    pub walk_more : (found : Found) → found ≡ Recycled → FindsFirst class found q r → Walked class p r
+    walk_more found is_found found_first = by_first (subst (λ f. FindsFirst class f q r) is_found found_first) where
+      by_first : FindsFirst class Recycled q r → Walked class p r
+      by_first first = more first.0 first.1 where
+        more : (cache_at r.caches class).count ≡ 0 → Recycles class q r → Walked class p r
+        more empty recycles = record {
+          fills = walk_fills;
+          serves = walk_serves;
+          empty = empty;
+          taken = walk_taken;
+          used = recycles.used ∙ walked.used;
+          way = inr (recycles.now, was_some recycles.some);
+          few = λ ds leads.
+              let before = recycles.shorter ds leads in
+              let few = walked.few (before.0 ∷ ds) before.1 in
+              let most = goes.few in
+              omega arith;
+        }
+
+  pub walk_finds : (found : Found) → found ≡ Blocks → FindsFirst class found q r → FindsPartial class true p r
+  walk_finds found is_found found_first =
+      let first : FindsFirst class Blocks q r = subst (λ f. FindsFirst class f q r) is_found found_first in
+      (first.0, was_some first.1)
+
+  pub walk_none : (found : Found) → found ≡ Nothing → FindsFirst class found q r → FindsPartial class false p r
+  walk_none found is_found found_first =
+      let first : FindsFirst class Nothing q r = subst (λ f. FindsFirst class f q r) is_found found_first in
+      let finds : FindsEmpty class q r = first.1 in
+      let look = look_later q.words.drawn p.words.drawn r r (look_at r class) (head_at r class) begun (omega arith) refl finds.look in
+      let used : image_of r used_word ≡ image_of q used_word = ap (λ (xs : List ℕ). get_or xs used_word 0) finds.volatile in (
+        first.0,
+        (empty_same q r class finds.volatile finds.empty, look),
+        used ∙ walked.used,
+        (λ none. elim walked.way as (λ _. IsEmptyList p 0 × IsEmptyList p class) [
+          | inl same ↦ (empty_same r p 0 (sym (finds.volatile ∙ same)) none, empty_same q p class (sym same) finds.empty)
+          | inr way ↦ absurd (way.0 (empty_same r q 0 (sym finds.volatile) none))
+        ]),
+        (λ none. elim walked.way as (λ _. r.words.volatile ≡ p.words.volatile) [
+          | inl same ↦ finds.volatile ∙ same
+          | inr way ↦ absurd (way.1 none)
+        ]),
+      )
+
+-- First the list of the class is looked through, then the free list, and then superblocks that were never taken.
+module _ (class : ℕ) (p a b : Parts) (is : IsClass class) (a_serves : Serves (held_in p) p a) (a_taken : a.taken ≡ p.taken)
+    (b_serves : Serves (held_in a) a b) where
+  module _ (q : Parts) (b_taken : b.taken ≡ a.taken) (q_serves : Serves (held_in b) b q) (part : FindsPartial class false p a)
+      (free : FindsFree class false a b) where
+    finds : FindsEmpty 0 a b
+    finds = free.1
+
+    used_then : image_of b used_word ≡ image_of p used_word
+    used_then = ap (λ (xs : List ℕ). get_or xs used_word 0) finds.volatile ∙ part.2
+
+    some_fresh : FindsFresh class true b q → Refills class true p q
+    some_fresh fresh =
+        let same : b.capacity ≡ p.capacity = b_serves.capacity ∙ a_serves.capacity in
+        let used = used_then in
+        (fresh.0, in_fresh (omega (arith, fresh.1)))
+
+    -- nothing was found anywhere
+    module _ (fresh : FindsFresh class false b q) where
+      words : q.words.volatile ≡ a.words.volatile
+      words = fresh.2 ∙ finds.volatile
+
+      same_head : (list : ℕ) → head_at q list ≡ head_at a list
+      same_head list = ap (λ (xs : List ℕ). get_or xs (head_word list) 0) words
+
+      same_look : (list : ℕ) → look_at q list ≡ look_at b list
+      same_look list = ap (λ (ls : List Look). get_or ls list (record { seen = 0; ticket = None; taken = 0 })) fresh.4
+
+      begun_a : p.words.drawn ≤ a.words.drawn
+      begun_a = a_serves.works.stores.drawn
+
+      begun_b : a.words.drawn ≤ b.words.drawn
+      begun_b = b_serves.works.stores.drawn
+
+      begun_q : b.words.drawn ≤ q.words.drawn
+      begun_q = q_serves.works.stores.drawn
+
+      class_look : IsLook p.words.drawn q (look_at q class) (head_at q class)
+      class_look =
+          let same : look_at q class ≡ look_at a class = same_look class ∙ finds.others class (λ e. let some = is.some in omega arith) in
+          let first = begun_a in
+          let second = begun_b in
+          let third = begun_q in
+          subst (λ (l : Look). IsLook p.words.drawn q l (head_at q class)) (sym same)
+          (subst (λ h. IsLook p.words.drawn q (look_at a class) h) (sym (same_head class))
+          (look_later p.words.drawn p.words.drawn a q (look_at a class) (head_at a class) (omega arith) (omega arith) (fresh.5 ∙ b_taken) part.1.1))
+
+      free_look : IsLook p.words.drawn q (look_at q 0) (head_at q 0)
+      free_look =
+          let first = begun_a in
+          let third = begun_q in
+          let head : head_at q 0 ≡ head_at b 0 = ap (λ (xs : List ℕ). get_or xs (head_word 0) 0) fresh.2 in
+          subst (λ (l : Look). IsLook p.words.drawn q l (head_at q 0)) (sym (same_look 0))
+          (subst (λ h. IsLook p.words.drawn q (look_at b 0) h) (sym head)
+          (look_later a.words.drawn p.words.drawn b q (look_at b 0) (head_at b 0) (omega arith) (omega arith) fresh.5 finds.look))
+
+      used_look : IsLook p.words.drawn q q.used_look (image_of q used_word)
+      used_look =
+          let first = begun_a in
+          let second = begun_b in
+          look_later b.words.drawn p.words.drawn q q q.used_look (image_of q used_word) (omega arith) (omega arith) refl fresh.3
+
+      no_room : (cache_at p.caches class).count ≡ 0 → HasRoom p class → ⊥
+      no_room empty (in_cache some) = omega arith
+      no_room empty (in_class_list some) = some (part.3 finds.empty).1
+      no_room empty (in_free_list some) = some (part.3 finds.empty).0
+      no_room empty (in_fresh room) =
+          let same : b.capacity ≡ p.capacity = b_serves.capacity ∙ a_serves.capacity in
+          let used = used_then in
+          omega (arith, fresh.1)
+
+      none_found : (cache_at p.caches class).count ≡ 0 → Refills class false p q
+      none_found empty = record {
+        looked = record {
+          class_look = class_look;
+          class_empty = empty_same a q class words part.1.0;
+          free_look = free_look;
+          free_empty = empty_same a q 0 words finds.empty;
+          used_look = used_look;
+          past =
+              let same : q.capacity ≡ b.capacity = q_serves.capacity in
+              let used : image_of q used_word ≡ image_of b used_word = ap (λ (xs : List ℕ). get_or xs used_word 0) fresh.2 in
+              omega (arith, fresh.1);
+        };
+        none = no_room empty;
+        empty = fresh.0;
+        taken = fresh.5 ∙ b_taken ∙ a_taken;
+      }
+
+    pub fresh_refills : (cache_at p.caches class).count ≡ 0 → (some : Bool) → FindsFresh class some b q → Refills class some p q
+    fresh_refills empty true fresh = some_fresh fresh
+    fresh_refills empty false fresh = none_found fresh empty
