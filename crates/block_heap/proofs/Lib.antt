@@ -9,3 +9,4 @@ pub mod StableLemmas
 pub mod RunningLemmas
 pub mod SeatLemmas
 pub mod RequestLemmas
+pub mod FreeCallLemmas
