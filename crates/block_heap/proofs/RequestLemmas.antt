@@ -1,12 +1,22 @@
 -- What a request and a free leave of a heap for one thread.
-use Rattle.std.proofs.Common.{◌≡◌, ◌≢◌, ℕ, ◌+◌, ◌<◌, ◌≤◌, ◌⊎◌, inl, inr, Option, None, Some, Result, Ok, Err, OnOk, OnErr, IfOk, IfErr, List, Contains, refl, ap, sym, subst, ◌∙◌, arith}
+use Rattle.std.proofs.Common.{◌≡◌, ◌≢◌, ℕ, zero, suc, ◌+◌, ◌<◌, ◌≤◌, ◌*◌, ◌/◌, ◌⊎◌, inl, inr, Option, None, Some, Result, Ok, Err, OnOk, OnErr, IfOk, IfErr, List, Contains, refl, ap, sym, subst, ◌∙◌, arith}
+use Rattle.std.proofs.lemmas.Bool.{cases_lt}
 use Rattle.heap_model.specs.declared.block.Block.{Block}
+use Rattle.heap_model.specs.Geometry.{used_word}
+use Rattle.heap_model.specs.Sizes.{IsClass, IsLeastClassFor, class_sizes, size_of, largest_small, span_of}
+use Rattle.heap_model.specs.Words.{head_first}
 use Rattle.line_memory.specs.View.{View, volatile_at, durable_at}
 use Rattle.line_memory.specs.declared.memory.Stopped.{Stopped}
 use Rattle.block_heap.specs.Medium.{StoresOnly, Goes, Halts}
-use Rattle.block_heap.specs.Parts.{Parts, held_in}
+use Rattle.block_heap.specs.declared.fault.Looks.{Looks}
+use Rattle.block_heap.specs.declared.look.Look.{Look}
+use Rattle.block_heap.specs.Alloc.{Refuses}
+use Rattle.block_heap.specs.Looks.{IsLastSeen, FoundEmpty, FoundNoRoom}
+use Rattle.block_heap.specs.Parts.{Parts, image_of, held_in}
 use Rattle.block_heap.specs.Running.{IsRunning, AreShort, Serves}
-use Rattle.block_heap.specs.Serving.{Answers}
+use Rattle.block_heap.specs.Serving.{Answers, Misses, IsLooksOf}
+use Rattle.block_heap.specs.Steps.{IsEmptyList, look_at, head_at, IsLook}
+use Rattle.block_heap.specs.Tickets.{Runs}
 use Rattle.block_heap.specs.Works.{IsAllocatorWord, IsStable, IsLasting}
 use Rattle.block_heap.specs.SeqState.{SeqState, IsSeqHeap, all_roots, seat_of}
 use Rattle.block_heap.specs.Words.{IsOwn, MayRead, KeepsWord, KeepsPending}
@@ -98,3 +108,99 @@ request_words s seen q o heap same serves = subst (λ t. KeepsWords (seat_of t) 
 pub request_runs : (r : Result (Option Block) Stopped) (bytes : ℕ) (p q : Parts) → IfOk r (λ answer. Answers bytes answer p q) → OnOk r (IsRunning q × AreShort q 0)
 request_runs (Ok answer) bytes p q answers = answer_runs answer bytes p q answers
 request_runs (Err e) bytes p q answers = tt
+
+-- the least class, from `from` on, whose blocks hold so many bytes
+least_from : (bytes from more : ℕ) → 1 ≤ from → from + more ≡ 20 → bytes ≤ size_of 20 → ((other : ℕ) → IsClass other → other < from → bytes ≤ size_of other → ⊥) → (c : ℕ) × IsLeastClassFor bytes c
+least_from bytes from zero some end fits none =
+    let last : 20 ≡ from = omega arith in
+    (from, record {
+      is_class = record { some = some; last = omega arith };
+      holds = subst (λ c. bytes ≤ size_of c) last fits;
+      least = λ other is holds. elim (cases_lt other from) as (λ _. from ≤ other) [ inl less ↦ absurd (none other is less holds) | inr not ↦ omega arith ];
+    })
+least_from bytes from (suc more) some end fits none = elim (cases_lt (size_of from) bytes) as (λ _. (c : ℕ) × IsLeastClassFor bytes c) [
+  | inl short ↦ least_from bytes (from + 1) more (omega arith) (omega arith) fits (λ other is less holds. elim (cases_lt other from) as (λ _. ⊥) [
+    | inl before ↦ none other is before holds
+    | inr not ↦ let same : other ≡ from = omega arith in let here : bytes ≤ size_of from = subst (λ c. bytes ≤ size_of c) same holds in omega arith
+  ])
+  | inr holds ↦ (from, record {
+    is_class = record { some = some; last = omega arith };
+    holds = omega arith;
+    least = λ other is fitting. elim (cases_lt other from) as (λ _. from ≤ other) [ inl less ↦ absurd (none other is less fitting) | inr not ↦ omega arith ];
+  })
+]
+
+last_size : (bytes : ℕ) → bytes ≤ largest_small → bytes ≤ size_of 20
+unfolding size_of class_sizes
+last_size bytes small = small
+
+least_class : (bytes : ℕ) → bytes ≤ largest_small → (c : ℕ) × IsLeastClassFor bytes c
+least_class bytes small = least_from bytes 1 19 (omega arith) (omega arith) (last_size bytes small) (λ other is less holds. let some = is.some in omega arith)
+
+module _ (bytes : ℕ) (looks : Looks) (s t : SeqState) (misses : Misses bytes s.parts t.parts) (are : IsLooksOf bytes looks t.parts) where
+  -- what contracts see after the refusal is counted
+  abbrev refused_view : SeatView
+  refused_view = record (seat_of t) { refusals = t.refusals + 1; refused_bytes = bytes; refused_looks = looks }
+
+  seen : (look : Look) (value now : ℕ) → IsLook s.parts.words.drawn t.parts look value → now ≡ look.seen → IsLastSeen (seat_of s) refused_view look now
+  seen look value now is same = record {
+    is = sym same;
+    ticket = is.ticket;
+    by = is.by;
+    drawn = record { from = is.since; until = is.until };
+    taken = is.taken_is;
+  }
+
+  found_empty : (list now : ℕ) → IsLook s.parts.words.drawn t.parts (look_at t.parts list) (head_at t.parts list) → IsEmptyList t.parts list → now ≡ (look_at t.parts list).seen → FoundEmpty (seat_of s) refused_view list now
+  found_empty list now is empty same = record {
+    last = seen (look_at t.parts list) (head_at t.parts list) now is same;
+    empty = ap head_first (same ∙ is.seen_is) ∙ empty;
+  }
+
+  -- why it found no room
+  found : FoundNoRoom bytes looks (seat_of s) refused_view
+  found = record {
+    used = used.0;
+    past = used.1;
+    class = λ c least. let looked = misses.in_class c least in found_empty c looks.class_head looked.class_look looked.class_empty (are.class c least);
+    free = λ small. let looked = misses.in_class (least_class bytes small).0 (least_class bytes small).1 in found_empty 0 looks.free_head looked.free_look looked.free_empty (are.free small);
+    large = are.large;
+  } where
+    used : IsLastSeen (seat_of s) refused_view t.parts.used_look looks.used × (t.parts.capacity < looks.used + span_of bytes)
+    used = elim (cases_lt largest_small bytes) as (λ _. IsLastSeen (seat_of s) refused_view t.parts.used_look looks.used × (t.parts.capacity < looks.used + span_of bytes)) [
+      | inl large ↦
+          let looked = misses.at_used large in
+          let e : looks.used ≡ image_of t.parts used_word = are.used ∙ looked.used_look.seen_is in
+          let past = looked.past in
+          (seen t.parts.used_look (image_of t.parts used_word) looks.used looked.used_look are.used, subst (λ n. t.parts.capacity < n + span_of bytes) (sym e) past)
+      | inr not ↦
+          let least = least_class bytes (omega arith) in
+          let looked = misses.in_class least.0 least.1 in
+          let e : looks.used ≡ image_of t.parts used_word = are.used ∙ looked.used_look.seen_is in
+          let past = looked.past in
+          (seen t.parts.used_look (image_of t.parts used_word) looks.used looked.used_look are.used, omega arith)
+    ]
+
+  -- a request that found no room is refused
+  pub refuses : Runs (seat_of s) (seat_of t) → KeepsWords (seat_of s) (seat_of t) → Refuses bytes looks (seat_of s) refused_view
+  refuses runs keeps = record {
+    runs = record { ran = runs.ran; running = runs.running; drew = runs.drew; below = runs.below };
+    found = found;
+    taken = misses.taken;
+    count = ap (λ n. n + 1) keeps.refusals.count;
+    bytes_are = refl;
+    looks_are = refl;
+    pending = keeps.pending;
+  }
+
+-- the refusal is counted
+pub refused_heap : (s : SeqState) (bytes : ℕ) (looks : Looks) (l : ∥ IsLasting s.parts.capacity s.parts.words (held_in s.parts) s.stopped ∥₁) → IsSeqHeap s → s.refusals < s.large_calls
+    → IsSeqHeap (record { parts = s.parts; stopped = s.stopped; small_calls = s.small_calls; large_calls = s.large_calls; refusals = s.refusals + 1; refused_bytes = bytes; refused_looks = looks; lasts = l })
+refused_heap s bytes looks l heap room = record { lasts = heap.lasts; running = heap.running; calls = heap.calls; refused = omega arith }
+
+-- a request that found no room, as its caller sees it
+pub refused_by : (bytes : ℕ) (looks : Looks) (answer : Option Block) (s seen t : SeqState) → t ≡ seen → answer ≡ None → Answers bytes answer s.parts seen.parts → Runs (seat_of s) (seat_of seen) → KeepsWords (seat_of s) (seat_of seen)
+    → IsLooksOf bytes looks t.parts → Refuses bytes looks (seat_of s) (record (seat_of t) { refusals = t.refusals + 1; refused_bytes = bytes; refused_looks = looks })
+refused_by bytes looks answer s seen t same none answers runs keeps are =
+    refuses bytes looks s t (subst (λ m. Misses bytes s.parts m.parts) (sym same) (subst (λ a. Answers bytes a s.parts seen.parts) none answers)) are
+    (subst (λ m. Runs (seat_of s) (seat_of m)) (sym same) runs) (subst (λ m. KeepsWords (seat_of s) (seat_of m)) (sym same) keeps)

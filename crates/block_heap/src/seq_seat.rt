@@ -104,7 +104,7 @@ fn stop_of<T>(answer: &Result<T, Stopped>) -> Option<u64>
 }
 
 impl<C: Chance> SeqHeap<C> {
-    ghost use Rattle.std.specs.Prelude.{ℕ, IfOk, OnErr};
+    ghost use Rattle.std.specs.Prelude.{ℕ, ◌<◌, IfOk, OnErr};
     ghost use Rattle.heap_model.specs.Sizes.{IsClass, size_of, span_of};
     ghost use Rattle.block_heap.specs.Calls.{IsLargeCall};
     ghost use Rattle.block_heap.specs.Parts.{held_in};
@@ -123,6 +123,7 @@ impl<C: Chance> SeqHeap<C> {
         ensures held { OnErr result (held_in self.new.parts ≡ held_in self.old.parts) }
         ensures words { KeepsWords (seat_of self.old) (seat_of self.new) }
         ensures counted { IsLargeCall (span_of bytes) (seat_of self.old) (seat_of self.new) }
+        ensures refusable { OnOk result (self.new.refusals < self.new.large_calls) }
     {
         self.running()?;
         let answer = self.arena.alloc(bytes);
