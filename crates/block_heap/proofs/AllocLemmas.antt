@@ -1,12 +1,12 @@
 -- Which requests a class serves, what the answer to a request is, and which free a held block gets.
-use Rattle.std.proofs.Common.{◌≡◌, ◌≢◌, ℕ, ◌+◌, ◌*◌, ◌<◌, ◌≤◌, ◌⊎◌, inl, inr, true, cond, nat_eq, nat_le, Option, None, Some, List, [], ◌∷◌, length, get_or, Contains, refl, ap, sym, subst, ◌∙◌, arith}
+use Rattle.std.proofs.Common.{◌≡◌, ◌≢◌, ℕ, ◌+◌, ◌*◌, ◌<◌, ◌≤◌, ◌⊎◌, inl, inr, true, cond, nat_eq, nat_le, Option, None, Some, Result, Ok, Err, IfOk, OnOk, List, [], ◌∷◌, length, get_or, Contains, refl, ap, sym, subst, ◌∙◌, arith}
 use Rattle.std.proofs.lemmas.Bool.{agree_below, cases_eq, cond-true, le-leb, leb-true}
 use Rattle.heap_model.specs.declared.block.Block.{Block}
 use Rattle.heap_model.specs.Geometry.{link_word, used_word, largest_capacity, superblock_words}
 use Rattle.heap_model.specs.Image.{Image}
 use Rattle.heap_model.specs.Sizes.{IsClass, IsLeastClassFor, class_sizes, size_of, words_of_class, blocks_of, largest_small, span_of}
 use Rattle.heap_model.specs.Words.{head_first}
-use Rattle.heap_model.specs.Blocks.{Begins, of_class, as_large}
+use Rattle.heap_model.specs.Blocks.{Begins, of_class, as_large, IsBlock}
 use Rattle.heap_model.specs.Chains.{Follows}
 use Rattle.heap_model.proofs.BlockLemmas.{block_inside}
 use Rattle.heap_model.proofs.SizeLemmas.{at_class, few_words, four_blocks, size_of-words}
@@ -17,13 +17,13 @@ use Rattle.heap_shape.specs.Draining.{IsTidy, IsToDrain, DrainsSame, DrainsOne}
 use Rattle.heap_shape.proofs.DrainLemmas.{drained_none}
 use Rattle.line_memory.specs.View.{volatile_at}
 use Rattle.block_heap.specs.declared.cache.Cache.{Cache}
-use Rattle.block_heap.specs.Alloc.{of_class as size_of_class, of_superblocks}
+use Rattle.block_heap.specs.Alloc.{IsSizeFor, of_class as size_of_class, of_superblocks}
 use Rattle.block_heap.specs.Parts.{Parts, image_of, held_in, cache_at}
 use Rattle.block_heap.specs.Running.{IsRunning, AreShort, Serves}
 use Rattle.block_heap.specs.Steps.{IsEmptyList, head_at, Fills, HandsOut}
 use Rattle.block_heap.specs.Large.{JoinsAs}
 use Rattle.block_heap.proofs.SplitLemmas.{serves_then}
-use Rattle.block_heap.specs.Serving.{HasRoom, HasRoomFor, for_class, for_large, FindsNone, MissesInClass, GetsInClass, AnswersInClass, Misses, Gets, Answers, DrainsTo, DrainsNone, DrainsAs}
+use Rattle.block_heap.specs.Serving.{HasRoom, HasRoomFor, for_class, for_large, LookedInClass, FindsNone, MissesInClass, GetsInClass, AnswersInClass, Misses, Gets, Answers, DrainsTo, DrainsNone, DrainsAs}
 
 -- a request that a class serves is small
 pub least_small : (bytes class : ℕ) → IsLeastClassFor bytes class → bytes ≤ largest_small
@@ -132,3 +132,82 @@ drains_block class b p q r capacity fills hands tidy =
 -- the parts serve all along
 pub serves_all : (p q r : Parts) → held_in q ≡ held_in p → Serves (held_in p) p q → Serves (held_in q) q r → Serves (held_in p) p r
 serves_all p q r same a b = serves_then (held_in p) p q r a (subst (λ held. Serves held q r) same b)
+
+-- the answer to a request that a class serves
+pub answers_small : (bytes class : ℕ) (answer : Option Block) (p q : Parts) → IsLeastClassFor bytes class → AnswersInClass class answer p q → Answers bytes answer p q
+answers_small bytes class None p q least misses = record {
+  running = misses.running;
+  short = misses.short;
+  held = misses.held;
+  taken = misses.taken;
+  none = λ room. no_room room;
+  in_class = λ other is_least. subst (λ k. LookedInClass k p.words.drawn q) (one_least bytes class other least is_least) misses.looked;
+  at_used = λ large. absurd (let small = least_small bytes class least in omega arith);
+} where
+  no_room : HasRoomFor p bytes → ⊥
+  no_room (for_class other is_least room) = misses.none (subst (HasRoom p) (one_least bytes other class is_least least) room)
+  no_room (for_large large fits) = let small = least_small bytes class least in omega arith
+answers_small bytes class (Some b) p q least gets = record {
+  running = gets.running;
+  short = gets.short;
+  size = subst (IsSizeFor bytes) (size_of-words class least.is_class ∙ ap (λ words. 8 * words) (sym gets.size)) (size_of_class class least);
+  adds = gets.adds;
+  new = gets.new;
+  room = for_class class least gets.room;
+}
+
+-- the answer to one that takes superblocks of its own
+pub answers_large : (bytes : ℕ) (answer : Option Block) (p q : Parts) → largest_small < bytes → AreShort p 0 → JoinsAs (span_of bytes) answer p q → IsRunning q
+    → q.caches ≡ p.caches → q.capacity ≡ p.capacity → Answers bytes answer p q
+answers_large bytes None p q large short joins running caches capacity = record {
+  running = running;
+  short = short_same p q caches short;
+  held = joins.0;
+  taken = joins.4;
+  none = λ room. no_room room;
+  in_class = λ class least. absurd (let small = least_small bytes class least in omega arith);
+  at_used = λ _. record { used_look = joins.3; past = let same = joins.2 in let past = joins.1 in omega arith };
+} where
+  no_room : HasRoomFor p bytes → ⊥
+  no_room (for_class class least room) = let small = least_small bytes class least in omega arith
+  no_room (for_large _ fits) = let past = joins.1 in omega arith
+answers_large bytes (Some b) p q large short joins running caches capacity = record {
+  running = running;
+  short = short_same p q caches short;
+  size =
+      let size = joins.0 in
+      let bytes_are : 65536 * span_of bytes ≡ 8 * b.words = omega arith in
+      subst (IsSizeFor bytes) bytes_are (of_superblocks large);
+  adds = joins.1;
+  new = joins.2;
+  room = for_large large joins.3;
+}
+
+-- a held block of a class has the size of that class
+pub size_of_held : (p : Parts) (b : Block) (class : ℕ) → IsRunning p → Contains (held_in p) b → IsLeastClassFor (8 * b.words) class → b.words ≡ words_of_class class
+size_of_held p b class run holds least = by_begins named.superblock named.words named.count named.is_of.begins named.is_of.size where
+  named : IsBlock (layout_at p.capacity (image_of p)) b
+  named = run.is.named b holds
+
+  by_begins : (d w n : ℕ) → Begins (layout_at p.capacity (image_of p)) d w n → b.words ≡ w → b.words ≡ words_of_class class
+  by_begins d w n (of_class c info is) words =
+      let bytes : 8 * b.words ≡ size_of c = ap (λ x. 8 * x) words ∙ sym (size_of-words c is) in
+      words ∙ ap words_of_class (least_of_size (8 * b.words) class c least is bytes)
+  by_begins d w n (as_large k some info end zeros) words = absurd (let small = least_small (8 * b.words) class least in omega arith)
+
+-- one that no class serves has no size of a class
+pub no_size_of_held : (b : Block) → largest_small < 8 * b.words → (class : ℕ) → IsClass class → b.words ≢ words_of_class class
+no_size_of_held b large class is same = let few = few_words class is in omega arith
+
+-- held blocks are short
+pub few_held : (p : Parts) (b : Block) → IsRunning p → Contains (held_in p) b → b.words ≤ 2097152
+few_held p b run holds =
+    let inside = block_inside (layout_at p.capacity (image_of p)) b (run.is.named b holds) in
+    let small = run.is.small in
+    let used = run.is.used in
+    omega (arith, inside.0, inside.1)
+
+-- two facts of an answer
+pub both_ok : {T E : Type 0} (r : Result T E) (P Q : T → Type 0) (R : Type 0) → ((x : T) → P x → R → Q x) → IfOk r P → OnOk r R → IfOk r Q
+both_ok (Ok x) P Q R both p q = both x p q
+both_ok (Err e) P Q R both p q = p
