@@ -10,3 +10,4 @@ pub mod RunningLemmas
 pub mod SeatLemmas
 pub mod RequestLemmas
 pub mod FreeCallLemmas
+pub mod DrainStepLemmas
