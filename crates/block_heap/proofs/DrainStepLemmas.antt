@@ -1,5 +1,5 @@
 -- How a drain comes to the offsets of all blocks that it is to give.
-use Rattle.std.proofs.Common.{◌≡◌, ◌≢◌, ℕ, ◌+◌, ◌-◌, ◌*◌, ◌<◌, ◌≤◌, ◌⊎◌, inl, inr, Option, None, Some, List, [], ◌∷◌, ◌++◌, length, length-append, get_or, Contains, refl, ap, sym, subst, ◌∙◌, arith}
+use Rattle.std.proofs.Common.{◌≡◌, ◌≢◌, ℕ, ◌+◌, ◌*◌, ◌<◌, ◌⊎◌, inl, inr, List, [], ◌∷◌, ◌++◌, length, length-append, get_or, Contains, refl, ap, sym, subst, ◌∙◌, arith}
 use Rattle.std.specs.Prelude.{AllPairs}
 use Rattle.std.proofs.lemmas.Bool.{cases_eq}
 use Rattle.std.proofs.lemmas.List.Elements.{Contains-append_left, Contains-append_right, Contains-append_cases, Contains-get_or}
@@ -7,12 +7,12 @@ use Rattle.std.proofs.Math.ListN.{get_or-append}
 use Rattle.std.proofs.Math.Seq.{get_or-append_seam}
 use Rattle.heap_model.specs.declared.block.Block.{Block}
 use Rattle.heap_model.specs.Blocks.{Layout}
-use Rattle.heap_model.specs.Recovered.{IsBlockOfClass, IsDrained, beside, freed, fresh}
+use Rattle.heap_model.specs.Recovered.{IsDrained, beside, freed, fresh}
 use Rattle.heap_model.specs.Sizes.{words_of_class}
 use Rattle.heap_model.proofs.MemberLemmas.{in_none, in_head, head_or_rest}
 use Rattle.heap_model.proofs.PartLemmas.{same_fields}
 use Rattle.heap_shape.specs.Draining.{IsTidy, IsToDrain}
-use Rattle.block_heap.specs.Parts.{Parts, image_of, held_in}
+use Rattle.block_heap.specs.Parts.{image_of, held_in}
 use Rattle.block_heap.specs.Requests.{IsTidyFor, IsDrainedOf, Drains}
 use Rattle.block_heap.specs.SeqState.{SeqState}
 use Rattle.block_heap.specs.Serving.{DrainsTo, DrainsNone}

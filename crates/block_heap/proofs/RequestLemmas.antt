@@ -1,11 +1,12 @@
 -- What a request and a free leave of a heap for one thread.
-use Rattle.std.proofs.Common.{◌≡◌, ◌≢◌, ℕ, zero, suc, ◌+◌, ◌<◌, ◌≤◌, ◌*◌, ◌/◌, ◌⊎◌, inl, inr, Option, None, Some, Result, Ok, Err, OnOk, OnErr, IfOk, IfErr, List, Contains, refl, ap, sym, subst, ◌∙◌, arith}
+use Rattle.std.proofs.Common.{◌≡◌, ℕ, zero, suc, ◌+◌, ◌<◌, ◌≤◌, ◌⊎◌, inl, inr, Option, None, Some, Result, Ok, Err, OnOk, OnErr, IfOk, IfErr, List, Contains, refl, ap, sym, subst, ◌∙◌, arith}
+use Rattle.std.specs.Prelude.{slice_index_or}
 use Rattle.std.proofs.lemmas.Bool.{cases_lt}
 use Rattle.heap_model.specs.declared.block.Block.{Block}
 use Rattle.heap_model.specs.Geometry.{used_word}
 use Rattle.heap_model.specs.Sizes.{IsClass, IsLeastClassFor, class_sizes, size_of, largest_small, span_of}
 use Rattle.heap_model.specs.Words.{head_first}
-use Rattle.line_memory.specs.View.{View, volatile_at, durable_at}
+use Rattle.line_memory.specs.View.{volatile_at, durable_at}
 use Rattle.line_memory.specs.declared.memory.Stopped.{Stopped}
 use Rattle.block_heap.specs.Medium.{StoresOnly, Goes, Halts}
 use Rattle.block_heap.specs.declared.fault.Looks.{Looks}
@@ -21,13 +22,13 @@ use Rattle.block_heap.specs.Works.{IsAllocatorWord, IsStable, IsLasting}
 use Rattle.block_heap.specs.SeqState.{SeqState, IsSeqHeap, all_roots, seat_of}
 use Rattle.block_heap.specs.Words.{IsOwn, MayRead, KeepsWord, KeepsPending}
 use Rattle.block_heap.specs.Requests.{KeepsWords}
-use Rattle.block_heap.specs.View.{View as SeatView}
+use Rattle.block_heap.specs.View.{View}
 use Rattle.block_heap.proofs.SeatLemmas.{stop_above, done_of, drew}
 use Rattle.block_heap.proofs.StableLemmas.{not_own, stable_kept}
 use Rattle.block_heap.proofs.RunningLemmas.{running_stable}
 
 -- what contracts see after a request or a free
-abbrev pub large_view : SeqState → Parts → Option ℕ → SeatView
+abbrev pub large_view : SeqState → Parts → Option ℕ → View
 large_view s q o = record (seat_of s) {
   held = held_in q;
   volatile = λ word. Some (volatile_at q.words word);
@@ -40,7 +41,7 @@ large_view s q o = record (seat_of s) {
   large_calls = s.large_calls + 1;
   taken = q.taken;
   used_look = q.used_look;
-  head_look = λ list. Rattle.std.specs.Prelude.slice_index_or q.head_looks list (record { seen = 0; ticket = None; taken = 0 });
+  head_look = λ list. slice_index_or q.head_looks list (record { seen = 0; ticket = None; taken = 0 });
 }
 
 -- the parts that an answer leaves run
@@ -59,14 +60,21 @@ request_stable (Err e) p q bytes stable serves answers held =
     (subst (λ blocks. IsStable p.capacity q.words blocks) (sym held) (stable_kept p.capacity (held_in p) p.words q.words stable serves.works))
 
 -- what lasts over a request or a free
-pub large_lasts : (p q : Parts) (held : List Block) (old o : Option ℕ) → IsLasting p.capacity p.words (held_in p) old → Serves held p q → IsStable q.capacity q.words (held_in q)
-    → ((ticket : ℕ) → o ≡ Some ticket → q.words.budget ≤ ticket) → IsLasting q.capacity q.words (held_in q) o
-large_lasts p q held old o lasts serves stable above = record {
+pub large_lasts : {T : Type 0} (r : Result T Stopped) (p q : Parts) (held : List Block) (most : ℕ) (old o : Option ℕ) → IsLasting p.capacity p.words (held_in p) old → Serves held p q
+    → IsStable q.capacity q.words (held_in q) → OnOk r (o ≡ None) → IfErr r (λ e. o ≡ Some e.step) → IfErr r (λ e. Halts e.step most p.words q.words) → IsLasting q.capacity q.words (held_in q) o
+large_lasts r p q held most old o lasts serves stable none stops halts = record {
   some = let same = serves.capacity in let some = lasts.some in omega arith;
   small = let same = serves.capacity in let small = lasts.small in omega arith;
   stable = stable;
-  stopping = above;
+  stopping = stop_above r o most p.words q.words none stops halts;
 }
+
+-- over a request
+pub request_lasts : (r : Result (Option Block) Stopped) (p q : Parts) (bytes : ℕ) (old o : Option ℕ) → IsLasting p.capacity p.words (held_in p) old → Serves (held_in p) p q
+    → IfOk r (λ answer. Answers bytes answer p q) → OnErr r (held_in q ≡ held_in p) → OnOk r (o ≡ None) → IfErr r (λ e. o ≡ Some e.step) → IfErr r (λ e. Halts e.step 10001 p.words q.words)
+    → IsLasting q.capacity q.words (held_in q) o
+request_lasts r p q bytes old o lasts serves answers held none stops halts =
+    large_lasts r p q (held_in p) 10001 old o lasts serves (request_stable r p q bytes lasts.stable serves answers held) none stops halts
 
 -- a request or a free keeps the heap
 pub large_heap : {T : Type 0} (r : Result T Stopped) (s : SeqState) (q : Parts) (most : ℕ) (o : Option ℕ) (l : ∥ IsLasting q.capacity q.words (held_in q) o ∥₁) → IsSeqHeap s
@@ -139,7 +147,7 @@ least_class bytes small = least_from bytes 1 19 (omega arith) (omega arith) (las
 
 module _ (bytes : ℕ) (looks : Looks) (s t : SeqState) (misses : Misses bytes s.parts t.parts) (are : IsLooksOf bytes looks t.parts) where
   -- what contracts see after the refusal is counted
-  abbrev refused_view : SeatView
+  abbrev refused_view : View
   refused_view = record (seat_of t) { refusals = t.refusals + 1; refused_bytes = bytes; refused_looks = looks }
 
   seen : (look : Look) (value now : ℕ) → IsLook s.parts.words.drawn t.parts look value → now ≡ look.seen → IsLastSeen (seat_of s) refused_view look now

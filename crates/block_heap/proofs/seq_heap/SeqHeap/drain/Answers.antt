@@ -1,9 +1,9 @@
 use Rattle.std.proofs.Common.{◌≡◌, ◌≤◌, ◌*◌, subst, sym, arith}
-use Rattle.std.proofs.Math.Nat.{mul-le-mul_left, mul-le-mul_right}
+use Rattle.std.proofs.Math.Nat.{mul-le-mul_left}
 use Rattle.heap_model.specs.Sizes.{blocks_of}
 use Rattle.heap_model.proofs.SizeLemmas.{few_blocks}
 use Rattle.block_heap.specs.Laws.{seat_law}
-use Rattle.block_heap.specs.Serving.{Answers, Gets, DrainsAs}
+use Rattle.block_heap.specs.Serving.{Answers, DrainsAs}
 use Rattle.block_heap.proofs.DrainStepLemmas.{HasDrained, drains_more, drains_last}
 use Rattle.block_heap.proofs.seq_heap.SeqHeap.drain.Goals as goal
 
