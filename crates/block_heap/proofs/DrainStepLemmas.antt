@@ -64,7 +64,8 @@ pairs_push R xs x pairs last = λ i j d less within.
     ]
 
 -- a request of the class gave a block: its offset comes to the others
-pub drains_more : (class : ℕ) (s t u : SeqState) (offsets : List ℕ) (b : Block) → HasDrained class s t offsets → u.parts.capacity ≡ t.parts.capacity → DrainsTo class b t.parts u.parts
+pub drains_more : (class : ℕ) (s t u : SeqState) (offsets : List ℕ) (b : Block) → HasDrained class s t offsets → u.parts.capacity ≡ t.parts.capacity
+    → DrainsTo class b t.parts u.parts
     → HasDrained class s u (offsets ++ 8 * b.first_word ∷ [])
 drains_more class s t u offsets b has capacity drains = record {
   capacity = capacity ∙ has.capacity;
