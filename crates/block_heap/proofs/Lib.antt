@@ -24,3 +24,4 @@ pub mod FreeLemmas
 pub mod RequestLemmas
 pub mod PartialLemmas
 pub mod FreeCallLemmas
+pub mod DrainStepLemmas
