@@ -108,7 +108,7 @@ fn stop_of<T>(answer: &Result<T, Stopped>) -> Option<u64>
 }
 
 impl<C: Chance> SeqHeap<C> {
-    ghost use Rattle.std.specs.Prelude.{ℕ, ◌<◌, IfOk, OnErr};
+    ghost use Rattle.std.specs.Prelude.{ℕ, ◌+◌, ◌<◌, IfOk, OnErr};
     ghost use Rattle.heap_model.specs.Sizes.{IsClass, size_of, span_of};
     ghost use Rattle.block_heap.specs.Calls.{IsLargeCall};
     ghost use Rattle.block_heap.specs.Parts.{held_in};
