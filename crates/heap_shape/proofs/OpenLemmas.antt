@@ -51,7 +51,7 @@ times_in n (x ∷ xs) p = elim (head_or_rest x n xs p) as (λ _. 0 < one_if (nat
 ]
 
 -- a head that was never popped is the number of its list's first descriptor
-head_at_rest : (link : ℕ → ℕ) (capacity head : ℕ) (ds : List ℕ) → capacity ≤ 256 → Follows link capacity head ds
+pub head_at_rest : (link : ℕ → ℕ) (capacity head : ℕ) (ds : List ℕ) → capacity ≤ 256 → Follows link capacity head ds
     → Follows link capacity (head_first head) ds
 head_at_rest link capacity head [] small follows = let none : head ≡ 0 = follows in omega arith
 head_at_rest link capacity head (d ∷ ds) small follows =
