@@ -1,5 +1,5 @@
 -- What recovery leaves is tidy, and what is then to be drained is what the image had to give.
-use Rattle.std.proofs.Common.{◌≡◌, ℕ, ◌+◌, ◌<◌, ◌≤◌, ◌↔◌, inl, inr, List, Contains, refl, sym, subst, ◌∙◌, arith}
+use Rattle.std.proofs.Common.{◌≡◌, ℕ, ◌<◌, ◌≤◌, ◌↔◌, inl, inr, List, Contains, refl, sym, subst, ◌∙◌, arith}
 use Rattle.std.proofs.lemmas.Bool.{cases_eq}
 use Rattle.heap_model.specs.declared.block.Block.{Block}
 use Rattle.heap_model.specs.Geometry.{head_word, info_word, link_word, used_word, largest_capacity}
@@ -14,7 +14,7 @@ use Rattle.heap_model.specs.Recovery.{HoldsKept, IsRecovered, first_number, in_h
 use Rattle.heap_model.proofs.ReachLemmas.{reached_block}
 use Rattle.heap_model.proofs.PartLemmas.{cases_held, cases_parts, cases_class, part_taken}
 use Rattle.heap_shape.specs.Standing.{HasNoHeld}
-use Rattle.heap_shape.specs.Draining.{IsInFreeList, IsTidy, IsToDrain}
+use Rattle.heap_shape.specs.Draining.{IsTidy, IsToDrain}
 use Rattle.heap_shape.proofs.OpenLemmas.{head_at_rest}
 use Rattle.heap_shape.proofs.OwnLemmas.{one_following}
 
@@ -42,18 +42,18 @@ module _ (old new : Image) (kept : Block → Type 0) (held : List Block) (recove
         | inl is ↦ elim (cases_eq (new (info_word d)) (old (info_word d))) as (λ _. new (info_word d) ≡ old (info_word d)) [
           | inl same ↦ same
           | inr other ↦ (recovered.full (old (info_word d)) d is (record {
-              taken = taken;
-              info_is = refl;
-              all = λ index a of. elim (cases_held held a) as (λ _. kept a) [
-                | inl held_too ↦ (are_held a).0 held_too
-                | inr unheld ↦ absurd (other (recovered.partial (old (info_word d)) d is (record {
-                    taken = taken;
-                    info_is = refl;
-                    holds = here;
-                    spare = (a.first_word, record { index = index; block = a; is_block = of; first = refl; unkept = λ too. unheld ((are_held a).1 too) });
-                  })).words.info_is)
-              ];
-            })).info_is
+            taken = taken;
+            info_is = refl;
+            all = λ index a of. elim (cases_held held a) as (λ _. kept a) [
+              | inl held_too ↦ (are_held a).0 held_too
+              | inr unheld ↦ absurd (other (recovered.partial (old (info_word d)) d is (record {
+                taken = taken;
+                info_is = refl;
+                holds = here;
+                spare = (a.first_word, record { index = index; block = a; is_block = of; first = refl; unkept = λ too. unheld ((are_held a).1 too) });
+              })).words.info_is)
+            ];
+          })).info_is
         ]
       ]
 

@@ -1,12 +1,12 @@
 -- Worked examples by computation: one superblock of class 20, of words 1072 to 9263 and four blocks of 1792 words, in a heap of one.
-use Rattle.std.specs.Prelude.{◌≡◌, ℕ, ◌+◌, ◌*◌, ◌<◌, List, [], ◌∷◌, map, refl}
+use Rattle.std.specs.Prelude.{◌≡◌, ◌+◌, ◌*◌, ◌<◌, List, [], ◌∷◌, map, refl}
 use Rattle.std.proofs.Common.{arith, inl, inr, subst, sym}
 use Rattle.heap_model.specs.declared.block.Block.{Block}
 use Rattle.heap_model.specs.Image.{Image}
 use Rattle.heap_model.specs.Sizes.{class_sizes, words_of_class, blocks_of}
 use Rattle.heap_model.specs.Examples.{image_with}
 use Rattle.heap_shape.specs.Shape.{in_list, is_full, in_large, is_new, Shape, stands_in, with_at}
-use Rattle.heap_shape.specs.Standing.{first_of, IsFirstOf, HoldsAt, times_free, HasNoHeld}
+use Rattle.heap_shape.specs.Standing.{first_of, IsFirstOf, HoldsAt, times_free}
 use Rattle.heap_shape.specs.Effects.{IsInSuperblock, all_firsts}
 use Rattle.heap_shape.specs.Moves.{after_take, after_recycle, after_cut, after_join, after_give_all}
 use Rattle.heap_shape.specs.Draining.{IsTidy}
