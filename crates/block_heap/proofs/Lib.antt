@@ -23,3 +23,5 @@ pub mod FrontLemmas
 pub mod FreeLemmas
 pub mod RequestLemmas
 pub mod PartialLemmas
+pub mod FreeCallLemmas
+pub mod DrainStepLemmas

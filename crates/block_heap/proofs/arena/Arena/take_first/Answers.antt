@@ -2,7 +2,7 @@ use Rattle.std.proofs.Common.{set, refl, arith}
 use Rattle.block_heap.specs.MediumView.{medium_view}
 use Rattle.block_heap.specs.Parts.{parts_of}
 use Rattle.block_heap.proofs.RunningLemmas.{is_head}
-use Rattle.block_heap.proofs.RefillLemmas.{head_moved, serves_moved, emptied_fills, emptied_serves, emptied_finds}
+use Rattle.block_heap.proofs.RefillLemmas.{head_moved, serves_moved, emptied_fills, emptied_serves}
 use Rattle.block_heap.proofs.TakeLemmas.{first_within, first_anchor, take_moved, taken_some, taken_fills, taken_serves, recycled_serves, recycled_fills, recycled_first}
 use Rattle.block_heap.proofs.arena.Arena.take_first.Goals as goal
 
@@ -15,12 +15,6 @@ returns-in_err-popped-clause-serves g c =
     serves_moved p (record p { words = medium_view c.pop.new.self }) c.requires.running
     (head_moved p.capacity c.args.class p.words (medium_view c.pop.new.self) (let last = c.requires.class.last in omega arith) c.pop.ensures.others) refl
         refl refl
-
-pub returns-in_default-clause-ok : goal.returns-in_default-clause-ok
-returns-in_default-clause-ok g c =
-    (c.requires.empty, emptied_finds (parts_of c.args.self.now) c.args.class c.args.class c.in_ok-popped.popped (medium_view c.pop.new.self) c.by.result
-        c.requires.running (let last = c.requires.class.last in omega arith) c.in_ok-popped.ensures.ok c.pop.ensures.others c.in_default.is
-    c.next_ticket-ticket.result c.next_ticket-ticket.ensures c.by.ensures.seen c.by.ensures.ticket c.by.ensures.taken, refl)
 
 pub returns-in_default-clause-fills : goal.returns-in_default-clause-fills
 returns-in_default-clause-fills g c =
