@@ -3,6 +3,8 @@ ghost use Rattle.std.specs.Prelude.{◌≡◌, ℕ, ◌-◌, ◌*◌, ⊤, IfOk,
 ghost use Rattle.heap_model.specs.declared.block.Block.{Block};
 ghost use Rattle.heap_model.specs.Image.{Image};
 ghost use Rattle.heap_model.specs.Sizes.{span_of};
+ghost use Rattle.block_heap.specs.declared.fault.AllocFault.TheVariants.{Full};
+ghost use Rattle.block_heap.specs.declared.fault.Looks.{Looks};
 ghost use Rattle.block_heap.specs.View.{View, word_of};
 ghost use Rattle.block_heap.specs.Words.{IsOwnSpot, KeepsOwn, MayStore, MixesOwn, NamesAll};
 ghost use Rattle.block_heap.specs.Tickets.{Stops};
@@ -32,11 +34,19 @@ pub trait HeapSeat {
 
     ghost large_draws: { ℕ → Type 0 } = { λ _. ⊤ };
 
+    // What is so of a seat that gives a block to a request of so many bytes, and of one that
+    // refuses it for want of room. By default nothing more than what its looks tell.
+    ghost has_room: { Self → ℕ → Type 0 } = { λ _ _. ⊤ };
+    ghost has_none: { Self → ℕ → Type 0 } = { λ _ _. ⊤ };
+
     /// A block of at least so many bytes. What its words hold is not known.
     fn alloc(&mut self, bytes: u64) -> Result<Block, AllocFault>
         ensures ok { IfOk result (λ b. Allocates bytes b (view self.old) (view self.new)) }
         ensures cause { IfErr result (λ fault. FailsBy bytes fault
             (view self.old) (view self.new)) }
+        ensures room { OnOk result (has_room self.old bytes) }
+        ensures none { IfErr result (λ fault. (looks : Looks) → fault ≡ Full looks
+            → has_none self.old bytes) }
         ensures unchanged { OnErr result (KeepsOwn (view self.old) (view self.new)) }
         ensures counted { IsLargeCall (span_of bytes) (view self.old) (view self.new) }
         ensures draws { large_draws ((view self.new).next - (view self.old).next) };

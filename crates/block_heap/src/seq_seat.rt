@@ -12,6 +12,7 @@ use super_block::{ROOT_WORD, WORD_BYTES};
 
 impl<C: Chance> HeapSeat for SeqHeap<C> {
     ghost use Rattle.block_heap.specs.SeqState.{seat_of, MayLeave};
+    ghost use Rattle.block_heap.specs.Serving.{HasRoomFor};
     ghost use Rattle.block_heap.specs.Laws.{seat_law, mixed_law, named_law};
 
     ghost view = { seat_of };
@@ -21,6 +22,10 @@ impl<C: Chance> HeapSeat for SeqHeap<C> {
     ghost small_draws = { λ n. n ≤ 1 };
 
     ghost large_draws = { λ n. n ≤ 131072 };
+
+    ghost has_room = { λ s bytes. HasRoomFor s.parts bytes };
+
+    ghost has_none = { λ s bytes. HasRoomFor s.parts bytes → ⊥ };
 
     fn alloc(&mut self, bytes: u64) -> Result<Block, AllocFault> {
         match self.request(bytes)? {

@@ -1,5 +1,6 @@
 use Rattle.std.proofs.Common.{◌<◌, subst, sym}
 use Rattle.block_heap.specs.SeqState.{SeqState}
+use Rattle.block_heap.specs.Serving.{Answers}
 use Rattle.block_heap.proofs.RequestLemmas.{refused_by, refused_heap}
 use Rattle.block_heap.proofs.seq_seat.SeqHeapHeapSeat.alloc.Goals as goal
 
@@ -10,3 +11,10 @@ pub returns-in-None-clause-cause : goal.returns-in-None-clause-cause
 returns-in-None-clause-cause g c =
     refused_by c.args.bytes c.looks-self-inside.result c.in_ok-block.field-0 c.args.self.now c.request.new.self _ c.self.view_is c.in-None.is
     c.in_ok-block.ensures.ok c.in_ok-block.ensures.runs c.in_ok-block.ensures.words c.looks-self-inside.ensures
+
+pub returns-in-Some-clause-room : goal.returns-in-Some-clause-room
+returns-in-Some-clause-room g c = (subst (λ answer. Answers c.args.bytes answer c.args.self.now.parts c.request.new.self.parts) c.in-Some.is c.in_ok-block.ensures.ok).room
+
+pub returns-in-None-clause-none : goal.returns-in-None-clause-none
+returns-in-None-clause-none g c =
+    λ looks same. (subst (λ answer. Answers c.args.bytes answer c.args.self.now.parts c.request.new.self.parts) c.in-None.is c.in_ok-block.ensures.ok).none
