@@ -23,3 +23,4 @@ pub mod FrontLemmas
 pub mod FreeLemmas
 pub mod RequestLemmas
 pub mod PartialLemmas
+pub mod SpendLemmas
