@@ -1,5 +1,5 @@
 -- How a request goes along the list of its class, and where it looks after that.
-use Rattle.std.proofs.Common.{◌≡◌, ℕ, ◌+◌, ◌-◌, ◌*◌, ◌<◌, ◌≤◌, ◌⊎◌, inl, inr, Bool, true, false, None, List, ◌∷◌, length, get_or, refl, ap, sym, subst, ◌∙◌, arith}
+use Rattle.std.proofs.Common.{◌≡◌, ℕ, ◌+◌, ◌*◌, ◌<◌, ◌≤◌, ◌⊎◌, inl, inr, Bool, true, false, None, List, ◌∷◌, length, get_or, refl, ap, sym, subst, ◌∙◌, arith}
 use Rattle.heap_model.specs.declared.block.Block.{Block}
 use Rattle.heap_model.specs.Geometry.{lists, head_word, link_word, used_word}
 use Rattle.heap_model.specs.Sizes.{IsClass}
@@ -9,7 +9,7 @@ use Rattle.heap_shape.proofs.CountLemmas.{few_listed}
 use Rattle.heap_shape.proofs.OwnLemmas.{one_following}
 use Rattle.block_heap.specs.declared.look.Look.{Look}
 use Rattle.block_heap.specs.declared.refill.Found.{Found}
-use Rattle.block_heap.specs.declared.refill.Found.TheVariants.{Blocks, Recycled, Nothing}
+use Rattle.block_heap.specs.declared.refill.Found.TheVariants.{Recycled}
 use Rattle.block_heap.specs.Medium.{Goes, Halts}
 use Rattle.block_heap.specs.Parts.{Parts, image_of, held_in, cache_at}
 use Rattle.block_heap.specs.Refill.{FindsPartial, FindsFree, FindsFresh, Refills}
@@ -128,10 +128,6 @@ module _ (class : ℕ) (p q r : Parts) (is : IsClass class) (walked : Walked cla
     pub walk_fills : Fills class p r
     walk_fills = fills_then class p q r walked.serves.capacity walked.fills fills
 
-    -- the measure
-    pub walk_ends : r.words.budget - r.words.drawn < q.words.budget - q.words.drawn
-    walk_ends = let drew = goes.drew in let below = goes.below in let same : r.words.budget ≡ q.words.budget = serves.works.stores.budget in omega arith
-
     pub walk_more : (found : Found) → found ≡ Recycled → FindsFirst class found q r → Spends (used_up found) class q r → Walked class p r
     walk_more found is_found found_first spends = by_first (subst (λ f. FindsFirst class f q r) is_found found_first) where
       by_first : FindsFirst class Recycled q r → Walked class p r
@@ -151,30 +147,6 @@ module _ (class : ℕ) (p q r : Parts) (is : IsClass class) (walked : Walked cla
               let most = goes.few in
               omega arith;
         }
-
-  pub walk_finds : (found : Found) → found ≡ Blocks → FindsFirst class found q r → FindsPartial class true p r
-  walk_finds found is_found found_first =
-      let first : FindsFirst class Blocks q r = subst (λ f. FindsFirst class f q r) is_found found_first in
-      (first.0, was_some first.1)
-
-  pub walk_none : (found : Found) → found ≡ Nothing → FindsFirst class found q r → FindsPartial class false p r
-  walk_none found is_found found_first =
-      let first : FindsFirst class Nothing q r = subst (λ f. FindsFirst class f q r) is_found found_first in
-      let finds : FindsEmpty class q r = first.1 in
-      let look = look_later q.words.drawn p.words.drawn r r (look_at r class) (head_at r class) begun (omega arith) refl finds.look in
-      let used : image_of r used_word ≡ image_of q used_word = ap (λ (xs : List ℕ). get_or xs used_word 0) finds.volatile in (
-        first.0,
-        (empty_same q r class finds.volatile finds.empty, look),
-        used ∙ walked.used,
-        (λ none. elim walked.way as (λ _. IsEmptyList p 0 × IsEmptyList p class) [
-          | inl same ↦ (empty_same r p 0 (sym (finds.volatile ∙ same)) none, empty_same q p class (sym same) finds.empty)
-          | inr way ↦ absurd (way.0 (empty_same r q 0 (sym finds.volatile) none))
-        ]),
-        (λ none. elim walked.way as (λ _. r.words.volatile ≡ p.words.volatile) [
-          | inl same ↦ finds.volatile ∙ same
-          | inr way ↦ absurd (way.1 none)
-        ]),
-      )
 
 -- First the list of the class is looked through, then the free list, and then superblocks that were never taken.
 module _ (class : ℕ) (p a b : Parts) (is : IsClass class) (a_serves : Serves (held_in p) p a) (a_taken : a.taken ≡ p.taken)

@@ -23,7 +23,7 @@ use Rattle.block_heap.specs.Links.{link_of, IsPopped}
 use Rattle.block_heap.specs.Medium.{StoresOnly}
 use Rattle.block_heap.specs.Parts.{Parts, image_of, held_in, cache_at}
 use Rattle.block_heap.specs.Running.{IsRunning, IsCacheOf, KnowsSizes, IsSettled, Serves}
-use Rattle.block_heap.specs.Steps.{head_at, IsEmptyList, IsLook, Fills, FindsEmpty}
+use Rattle.block_heap.specs.Steps.{head_at, IsEmptyList, Fills}
 use Rattle.block_heap.specs.Works.{Works, IsAllocatorWord, is_head, is_anchor, is_link}
 use Rattle.block_heap.proofs.MediumLemmas.{stores_more}
 use Rattle.block_heap.proofs.RunningLemmas.{set_is, running_words}
@@ -251,11 +251,7 @@ module _ (p : Parts) (list : ℕ) (popped : Popped) (w : View) (run : IsRunning 
     pub popped_place : (run.shape.place d ≡ in_list list) × (d < p.capacity) × (times d popped_list.0 ≡ 0)
     popped_place = first_place p.capacity (image_of p) (held_in p) run.shape run.is list d popped_list.0 below popped_list.1
 
--- a pop reads the head: the look at it
-pub look_set : (looks : List Look) (list : ℕ) (look : Look) → length looks ≡ lists → list < lists
-    → get_or (set looks list look) list (record { seen = 0; ticket = None; taken = 0 }) ≡ look
-look_set looks list look long below = get_or-set_same looks list look (record { seen = 0; ticket = None; taken = 0 }) (omega arith)
-
+-- other looks
 pub running_looks : (p : Parts) (looks : List Look) → length looks ≡ lists → IsRunning p → IsRunning (record p { head_looks = looks })
 running_looks p looks long run = record {
   words_open = run.words_open;
@@ -301,20 +297,4 @@ module _ (p : Parts) (class list : ℕ) (popped : Popped) (w : View) (look : Loo
     caches = λ c is other. refl;
     drains = subst (λ (xs : List ℕ). DrainsSame p.capacity class (held_in p) (image_of p) (λ word. get_or xs word 0)) (sym same_words)
         (drains_none p.capacity class (held_in p) (image_of p));
-  }
-
-  pub emptied_finds : (ticket : ℕ) → ticket ≡ p.words.drawn → look.seen ≡ popped.head → look.ticket ≡ Some ticket → look.taken ≡ p.taken
-      → FindsEmpty list p emptied
-  emptied_finds ticket is seen by taken = record {
-    empty = (popped_none p list popped w run below pop stores none).0;
-    volatile = same_words;
-    look = subst (λ (l : Look). IsLook p.words.drawn emptied l (head_at emptied list)) (sym (look_set p.head_looks list look run.looks_long below)) (record {
-      seen_is = seen ∙ pop.head ∙ sym (ap (λ (xs : List ℕ). get_or xs (head_word list) 0) same_words);
-      ticket = ticket;
-      by = by;
-      since = omega arith;
-      until = let drew = pop.goes.drew in omega arith;
-      taken_is = taken;
-    });
-    others = λ other differs. get_or-set_other p.head_looks list other look (record { seen = 0; ticket = None; taken = 0 }) differs;
   }

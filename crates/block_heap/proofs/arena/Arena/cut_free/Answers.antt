@@ -2,7 +2,7 @@ use Rattle.std.proofs.Common.{refl, arith}
 use Rattle.block_heap.specs.MediumView.{medium_view}
 use Rattle.block_heap.specs.Parts.{parts_of}
 use Rattle.block_heap.proofs.RunningLemmas.{is_head}
-use Rattle.block_heap.proofs.RefillLemmas.{head_moved, serves_moved, emptied_fills, emptied, emptied_serves, emptied_finds, popped_none}
+use Rattle.block_heap.proofs.RefillLemmas.{head_moved, serves_moved, emptied_fills, emptied, emptied_serves, popped_none}
 use Rattle.block_heap.proofs.SpendLemmas.{spends_none}
 use Rattle.block_heap.proofs.CutStepLemmas.{free_within, free_unmarked, free_serves, free_fills, free_found, free_spends}
 use Rattle.block_heap.proofs.arena.Arena.cut_free.Goals as goal
@@ -16,12 +16,6 @@ returns-in_err-popped-clause-serves g c =
     let p = parts_of c.args.self.now in
     serves_moved p (record p { words = medium_view c.pop.new.self }) c.requires.running
     (head_moved p.capacity 0 p.words (medium_view c.pop.new.self) (omega arith) c.pop.ensures.others) refl refl refl
-
-pub returns-in_default-clause-ok : goal.returns-in_default-clause-ok
-returns-in_default-clause-ok g c =
-    (c.requires.empty, emptied_finds (parts_of c.args.self.now) c.args.class 0 c.in_ok-popped.popped (medium_view c.pop.new.self) c.by.result
-        c.requires.running (omega arith) c.in_ok-popped.ensures.ok c.pop.ensures.others c.in_default.is
-    c.next_ticket-ticket.result c.next_ticket-ticket.ensures c.by.ensures.seen c.by.ensures.ticket c.by.ensures.taken, c.in_ok-popped.ensures.ok.goes.few)
 
 pub returns-in_default-clause-fills : goal.returns-in_default-clause-fills
 returns-in_default-clause-fills g c =

@@ -3,7 +3,7 @@ use Rattle.heap_model.specs.Geometry.{lists}
 use Rattle.block_heap.specs.MediumView.{medium_view}
 use Rattle.block_heap.specs.Parts.{parts_of}
 use Rattle.block_heap.proofs.RunningLemmas.{is_head}
-use Rattle.block_heap.proofs.RefillLemmas.{head_moved, serves_moved, emptied, emptied_fills, emptied_serves, emptied_finds, popped_none}
+use Rattle.block_heap.proofs.RefillLemmas.{head_moved, serves_moved, emptied, emptied_fills, emptied_serves, popped_none}
 use Rattle.block_heap.proofs.SpendLemmas.{spends_none}
 use Rattle.block_heap.proofs.TakeLemmas.{first_within, first_anchor, take_moved, taken_some, taken_fills, taken_serves, taken_spends, recycled_serves, recycled_fills, recycled_first, recycled_spends}
 use Rattle.block_heap.proofs.arena.Arena.take_first.Goals as goal
@@ -17,12 +17,6 @@ returns-in_err-popped-clause-serves g c =
     serves_moved p (record p { words = medium_view c.pop.new.self }) c.requires.running
     (head_moved p.capacity c.args.class p.words (medium_view c.pop.new.self) (let last = c.requires.class.last in omega arith) c.pop.ensures.others) refl
         refl refl
-
-pub returns-in_default-clause-ok : goal.returns-in_default-clause-ok
-returns-in_default-clause-ok g c =
-    (c.requires.empty, emptied_finds (parts_of c.args.self.now) c.args.class c.args.class c.in_ok-popped.popped (medium_view c.pop.new.self) c.by.result
-        c.requires.running (let last = c.requires.class.last in omega arith) c.in_ok-popped.ensures.ok c.pop.ensures.others c.in_default.is
-    c.next_ticket-ticket.result c.next_ticket-ticket.ensures c.by.ensures.seen c.by.ensures.ticket c.by.ensures.taken, refl)
 
 pub returns-in_default-clause-fills : goal.returns-in_default-clause-fills
 returns-in_default-clause-fills g c =

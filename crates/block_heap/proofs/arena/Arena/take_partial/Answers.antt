@@ -2,7 +2,7 @@ use Rattle.std.proofs.Common.{◌≤◌, sym, subst, arith}
 use Rattle.std.proofs.lemmas.Result.{err_from_is_err_and}
 use Rattle.block_heap.specs.Parts.{parts_of}
 use Rattle.block_heap.specs.Steps.{used_up}
-use Rattle.block_heap.proofs.PartialLemmas.{walk_begins, walk_serves, walk_halts, walk_goes, walk_fills, walk_ends, walk_more, walk_left, walk_finds, walk_none}
+use Rattle.block_heap.proofs.PartialLemmas.{walk_begins, walk_serves, walk_halts, walk_goes, walk_fills, walk_more, walk_left}
 use Rattle.block_heap.proofs.arena.Arena.take_partial.Goals as goal
 
 pub loop-init : goal.loop-init
@@ -21,12 +21,6 @@ pub returns-in_err-take_first-clause-serves : goal.returns-in_err-take_first-cla
 returns-in_err-take_first-clause-serves g c =
     walk_serves c.args.class (parts_of c.args.self.now) (parts_of c.loop.self) (parts_of c.take_first.new.self) c.requires.class c.loop.invariant
         c.take_first.ensures.serves c.take_first.ensures.held c.take_first.ensures.taken
-
-pub returns-in-Blocks-clause-ok : goal.returns-in-Blocks-clause-ok
-returns-in-Blocks-clause-ok g c =
-    walk_finds c.args.class (parts_of c.args.self.now) (parts_of c.loop.self) (parts_of c.take_first.new.self) c.requires.class c.loop.invariant
-        c.take_first.ensures.serves c.take_first.ensures.held c.take_first.ensures.taken c.in_ok-take_first.field-0 c.in-Blocks.is
-        c.in_ok-take_first.ensures.ok
 
 pub returns-in-Blocks-clause-fills : goal.returns-in-Blocks-clause-fills
 returns-in-Blocks-clause-fills g c =
@@ -48,17 +42,6 @@ loop-preserved g c =
     walk_more c.args.class (parts_of c.args.self.now) (parts_of c.loop.self) (parts_of c.take_first.new.self) c.requires.class c.loop.invariant
         c.take_first.ensures.serves c.take_first.ensures.held c.take_first.ensures.taken c.in_ok-take_first.ensures.fills c.in_ok-take_first.ensures.goes
         c.in_ok-take_first.field-0 c.in-Recycled.is c.in_ok-take_first.ensures.ok c.in_ok-take_first.ensures.left
-
-pub loop-smaller : goal.loop-smaller
-loop-smaller g c =
-    walk_ends c.args.class (parts_of c.args.self.now) (parts_of c.loop.self) (parts_of c.take_first.new.self) c.requires.class c.loop.invariant
-        c.take_first.ensures.serves c.take_first.ensures.held c.take_first.ensures.taken c.in_ok-take_first.ensures.fills c.in_ok-take_first.ensures.goes
-
-pub returns-in-Nothing-clause-ok : goal.returns-in-Nothing-clause-ok
-returns-in-Nothing-clause-ok g c =
-    walk_none c.args.class (parts_of c.args.self.now) (parts_of c.loop.self) (parts_of c.take_first.new.self) c.requires.class c.loop.invariant
-        c.take_first.ensures.serves c.take_first.ensures.held c.take_first.ensures.taken c.in_ok-take_first.field-0 c.in-Nothing.is
-        c.in_ok-take_first.ensures.ok
 
 pub returns-in-Nothing-clause-fills : goal.returns-in-Nothing-clause-fills
 returns-in-Nothing-clause-fills g c =
