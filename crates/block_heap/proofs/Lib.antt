@@ -26,3 +26,4 @@ pub mod PartialLemmas
 pub mod FreeCallLemmas
 pub mod DrainStepLemmas
 pub mod SpendLemmas
+pub mod DrawnLemmas

@@ -1,5 +1,6 @@
 -- How many superblocks are left that a class may be filled from.
-use Rattle.std.proofs.Common.{◌≡◌, ℕ, ◌+◌, ◌-◌, ◌<◌, ◌≤◌, List, length, get_or, ap, sym, subst, arith}
+use Rattle.std.proofs.Common.{◌≡◌, ℕ, ◌+◌, ◌-◌, ◌<◌, ◌≤◌, inl, inr, Bool, true, List, length, get_or, ap, sym, subst, arith}
+use Rattle.heap_model.specs.Counting.{one_if}
 use Rattle.heap_model.specs.Geometry.{lists, head_word, link_word, used_word}
 use Rattle.heap_model.specs.Sizes.{IsClass}
 use Rattle.heap_model.specs.Words.{head_first}
@@ -7,7 +8,9 @@ use Rattle.heap_model.specs.Chains.{Follows}
 use Rattle.heap_shape.proofs.CountLemmas.{few_listed}
 use Rattle.heap_shape.proofs.OwnLemmas.{one_following}
 use Rattle.block_heap.specs.Parts.{Parts, image_of, held_in}
+use Rattle.block_heap.specs.Refill.{Stocks}
 use Rattle.block_heap.specs.Running.{IsRunning}
+use Rattle.block_heap.specs.Serving.{Costs}
 use Rattle.block_heap.specs.Steps.{head_at, LeadsAlong, HasAtMost, Spends}
 
 -- a list is as long as any that its head leads along
@@ -58,3 +61,11 @@ spends_by count class p q run cs fs is now capacity leads_class leads_free fewer
       let of_class = long_as q class cs ds leads_class is_ds in
       let free = long_as q 0 fs es leads_free is_es in
       omega arith)
+
+-- what a block cost that was handed out after that
+pub costs_of : (class : ℕ) (some : Bool) (p q r : Parts) → some ≡ true → Stocks class some p q → q.words.drawn ≤ p.words.drawn + 10000
+    → r.capacity ≡ q.capacity → r.words.volatile ≡ q.words.volatile → r.words.drawn ≤ q.words.drawn + 1 → Costs class p r
+costs_of class some p q r is stocks few capacity same one = elim stocks as (λ _. Costs class p r) [
+  | inl cached ↦ inl (spends_then 0 0 0 class p q r (omega arith) cached.0 (spends_none class q r capacity same), omega (arith, cached.1))
+  | inr filled ↦ inr (spends_then 1 1 0 class p q r (omega arith) (subst (λ b. Spends (one_if b) class p q) is filled) (spends_none class q r capacity same), omega arith)
+]

@@ -26,7 +26,7 @@ pub loop-offsets-preserved : goal.loop-offsets-preserved
 loop-offsets-preserved g c = λ tidy.
     subst (λ xs. HasDrained c.args.class c.args.self.now c.request.new.self xs) (sym c.in-Ok.ensures.items)
     (drains_more c.args.class c.args.self.now c.loop-offsets.self c.request.new.self c.loop-offsets.offsets.items c.in-Some.b (c.loop-offsets.invariant tidy) c.request.ensures.counted.goes_on.capacity
-    (subst (λ a. DrainsAs c.args.class a c.loop-offsets.self.parts c.request.new.self.parts) c.in-Some.is (c.in_ok-b.ensures.drains c.args.class c.requires c.size_of.ensures)))
+    (subst (λ a. DrainsAs c.args.class a c.loop-offsets.self.parts c.request.new.self.parts) c.in-Some.is (c.in_ok-b.ensures.drains c.args.class c.requires c.size_of.ensures)).0)
 
 pub returns-clause-ok : goal.returns-clause-ok
 returns-clause-ok g c = λ tidy.
