@@ -1,5 +1,5 @@
 -- How many tickets a drain draws.
-use Rattle.std.proofs.Common.{◌≡◌, ℕ, ◌+◌, ◌-◌, ◌*◌, ◌<◌, ◌≤◌, ◌^◌, inl, inr, None, List, [], ◌∷◌, ◌++◌, length, length-append, Contains, refl, sym, subst, ◌∙◌, arith}
+use Rattle.std.proofs.Common.{◌≡◌, ℕ, ◌+◌, ◌-◌, ◌*◌, ◌<◌, ◌≤◌, ◌^◌, inl, inr, Option, None, Some, List, [], ◌∷◌, ◌++◌, length, length-append, Contains, refl, ap, sym, subst, ◌∙◌, arith}
 use Rattle.std.proofs.lemmas.Bool.{cases_eq}
 use Rattle.std.proofs.lemmas.List.Elements.{Contains-append_cases}
 use Rattle.heap_model.specs.declared.block.Block.{Block}
@@ -12,14 +12,18 @@ use Rattle.heap_model.proofs.BlockLemmas.{block_inside}
 use Rattle.heap_shape.specs.Whole.{layout_at}
 use Rattle.heap_shape.proofs.BasicLemmas.{times_append, times_here, times_past}
 use Rattle.heap_shape.proofs.CountLemmas.{few_members}
+use Rattle.line_memory.specs.declared.memory.Stopped.{Stopped}
+use Rattle.block_heap.specs.declared.seq_heap.DrainFault.{DrainFault}
+use Rattle.block_heap.specs.declared.seq_heap.DrainFault.TheVariants.{Stopped as StoppedFault, Memory as MemoryFault}
 use Rattle.block_heap.specs.Calls.{IsLargeCall}
 use Rattle.block_heap.specs.Laws.{seat_law}
-use Rattle.block_heap.specs.Parts.{Parts, image_of, held_in}
-use Rattle.block_heap.specs.Running.{IsRunning}
+use Rattle.block_heap.specs.Parts.{image_of, held_in}
+use Rattle.block_heap.specs.Requests.{IsTidyFor}
 use Rattle.block_heap.specs.SeqState.{SeqState, IsSeqHeap, seat_of}
-use Rattle.block_heap.specs.Serving.{Gets, Costs}
+use Rattle.block_heap.specs.Serving.{Gets, Answers, DrainsTo, Costs, DrainsAs}
 use Rattle.block_heap.specs.Steps.{HasAtMost}
 use Rattle.block_heap.specs.Tickets.{Runs, Stops}
+use Rattle.block_heap.proofs.DrainStepLemmas.{HasDrained, drains_first, drains_more}
 use Rattle.block_heap.proofs.SpendLemmas.{has_most}
 
 -- the offsets are those of blocks that are held now, each once; so there are few, and each superblock that may still be used up is paid for
@@ -33,7 +37,7 @@ pub record HasDrawn (class : ℕ) (s t : SeqState) (offsets : List ℕ) : Type 0
   pub budget : t.parts.words.budget ≡ s.parts.words.budget
 
 -- at first there is none
-pub drawn_first : (class : ℕ) (s : SeqState) (offsets : List ℕ) → offsets ≡ [] → IsClass class → IsSeqHeap s → HasDrawn class s s offsets
+drawn_first : (class : ℕ) (s : SeqState) (offsets : List ℕ) → offsets ≡ [] → IsClass class → IsSeqHeap s → HasDrawn class s s offsets
 drawn_first class s offsets empty is heap = subst (λ xs. HasDrawn class s s xs) (sym empty) (record {
   held = λ x p. absurd (in_none x p);
   once = λ x. omega arith;
@@ -112,7 +116,7 @@ module _ (class bytes most : ℕ) (s t u : SeqState) (offsets : List ℕ) (b : B
           | inr filled ↦ let now = filled.0 before.0 before.1 in (now.0, now.2, omega (arith, before.2, now.1, filled.1))
         ]
 
-    pub drawn_more : HasDrawn class s u more
+    drawn_more : HasDrawn class s u more
     drawn_more = record {
       held = all_held;
       once = all_once;
@@ -123,18 +127,45 @@ module _ (class bytes most : ℕ) (s t u : SeqState) (offsets : List ℕ) (b : B
       budget = counted.goes_on.budget ∙ has.budget;
     }
 
+-- what the loop of a drain keeps: at any time how many tickets were drawn, and of a tidy heap what was given
+abbrev pub Draining : ℕ → SeqState → SeqState → List ℕ → Type 0
+Draining class s t offsets = (IsTidyFor class s → HasDrained class s t offsets) × HasDrawn class s t offsets
+
+pub draining_first : (class : ℕ) (s seen : SeqState) (offsets : List ℕ) → offsets ≡ [] → IsClass class → s ≡ seen → IsSeqHeap s → Draining class seen seen offsets
+draining_first class s seen offsets empty is same heap =
+    ((λ tidy. drains_first class seen offsets empty tidy), drawn_first class seen offsets empty is (subst IsSeqHeap same heap))
+
+pub draining_more : (class bytes most : ℕ) (s t u : SeqState) (offsets now : List ℕ) (answer : Option Block) (b : Block) → now ≡ offsets ++ 8 * b.first_word ∷ []
+    → Draining class s t offsets → answer ≡ Some b → Answers bytes answer t.parts u.parts → DrainsAs class answer t.parts u.parts
+    → Runs (seat_of t) (seat_of u) → IsLargeCall most (seat_of t) (seat_of u) → Draining class s u now
+draining_more class bytes most s t u offsets now answer b pushed draining is answers drains runs counted =
+    let gets : Gets bytes b t.parts u.parts = subst (λ (o : Option Block). Answers bytes o t.parts u.parts) is answers in
+    let gives : DrainsTo class b t.parts u.parts × Costs class t.parts u.parts = subst (λ (o : Option Block). DrainsAs class o t.parts u.parts) is drains in
+    subst (λ xs. Draining class s u xs) (sym pushed) (
+      (λ tidy. drains_more class s t u offsets b (draining.0 tidy) counted.goes_on.capacity gives.0),
+      drawn_more class bytes most s t u offsets b draining.1 gets gives.1 runs counted,
+    )
+
 -- whatever the next request answers, few tickets were drawn
 pub drawn_few : (class : ℕ) (s t u : SeqState) (offsets : List ℕ) → HasDrawn class s t offsets → u.parts.words.drawn ≤ t.parts.words.drawn + 10001
     → u.parts.words.drawn < s.parts.words.drawn + 2 ^ 32
 drawn_few class s t u offsets has draws = let short = has.short in let few = has.few in omega arith
 
+-- the ticket of a fault
+step_of : DrainFault → ℕ
+step_of (StoppedFault stopped) = stopped.step
+step_of MemoryFault = 0
+
 -- and if it stops the heap, the budget is used up
-pub drawn_halts : (class most ticket : ℕ) (s t u : SeqState) (offsets : List ℕ) → HasDrawn class s t offsets → u.parts.words.drawn ≤ t.parts.words.drawn + 10001
-    → IsLargeCall most (seat_of t) (seat_of u) → Stops ticket (seat_of t) (seat_of u) → s.stopped ≡ None
-    → (s.parts.words.budget ≤ ticket) × (ticket < s.parts.words.drawn + 2 ^ 32)
-drawn_halts class most ticket s t u offsets has draws counted stops running =
+pub drawn_halts : (class most : ℕ) (stopped e : Stopped) (s t u : SeqState) (offsets : List ℕ) → HasDrawn class s t offsets
+    → u.parts.words.drawn ≤ t.parts.words.drawn + 10001 → IsLargeCall most (seat_of t) (seat_of u) → Stops stopped.step (seat_of t) (seat_of u)
+    → StoppedFault stopped ≡ StoppedFault e → s.stopped ≡ None
+    → (s.parts.words.budget ≤ e.step) × (e.step < s.parts.words.drawn + 2 ^ 32)
+unfolding step_of
+drawn_halts class most stopped e s t u offsets has draws counted stops one running =
     let few = drawn_few class s t u offsets has draws in
-    let above : u.parts.words.budget ≤ ticket = stops.above in
-    let until : ticket < u.parts.words.drawn = (stops.now (has.runs running)).until in
+    let above : u.parts.words.budget ≤ stopped.step = stops.above in
+    let until : stopped.step < u.parts.words.drawn = (stops.now (has.runs running)).until in
     let same : u.parts.words.budget ≡ s.parts.words.budget = counted.goes_on.budget ∙ has.budget in
+    let step : stopped.step ≡ e.step = ap step_of one in
     (omega arith, omega arith)
