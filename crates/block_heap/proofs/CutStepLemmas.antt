@@ -2,9 +2,10 @@
 use Rattle.std.proofs.Common.{◌≡◌, ◌≢◌, ℕ, zero, suc, ◌+◌, ◌*◌, ◌/◌, ◌<◌, ◌≤◌, ◌⊎◌, inl, inr, Option, None, Some, MatchOption, List, ◌∷◌, length, get_or, set, Contains, refl, ap, sym, subst, ◌∙◌, arith, get_or-set_same, get_or-set_other, length-set}
 use Rattle.std.proofs.lemmas.Bool.{cases_eq}
 use Rattle.heap_model.specs.declared.block.Block.{Block}
-use Rattle.heap_model.specs.Geometry.{lists, head_word, info_word, anchor_word, used_word, start_word}
+use Rattle.heap_model.specs.Geometry.{lists, head_word, info_word, anchor_word, link_word, used_word, start_word}
 use Rattle.heap_model.specs.Sizes.{IsClass, blocks_of, words_of_class}
-use Rattle.heap_model.specs.Words.{head_pops}
+use Rattle.heap_model.specs.Words.{head_first, head_pops}
+use Rattle.heap_model.specs.Chains.{Follows}
 use Rattle.heap_model.proofs.BlockLemmas.{block_words}
 use Rattle.heap_model.proofs.SizeLemmas.{four_blocks}
 use Rattle.heap_shape.specs.Shape.{in_list, is_full, Shape, with_at}
@@ -13,7 +14,7 @@ use Rattle.heap_shape.specs.Whole.{layout_at, IsShape}
 use Rattle.heap_shape.specs.Effects.{IsSet, IsCut, IsInSuperblock, firsts_from, all_firsts}
 use Rattle.heap_shape.specs.Draining.{DrainsSame}
 use Rattle.heap_shape.specs.Moves.{after_cut, after_fresh}
-use Rattle.heap_shape.proofs.BasicLemmas.{with_at_other, in_free_list}
+use Rattle.heap_shape.proofs.BasicLemmas.{with_at_same, with_at_other, in_free_list}
 use Rattle.heap_shape.proofs.OwnLemmas.{none_past}
 use Rattle.heap_shape.proofs.RefillLemmas.{cut_free, cut_fresh}
 use Rattle.heap_shape.proofs.DrainLemmas.{cut_free_drains, cut_fresh_drains}
@@ -32,11 +33,12 @@ use Rattle.block_heap.specs.Medium.{StoresOnly}
 use Rattle.block_heap.specs.Parts.{Parts, image_of, held_in, cache_at}
 use Rattle.block_heap.specs.Refill.{SameBut, Cuts}
 use Rattle.block_heap.specs.Running.{IsRunning, IsCacheOf, KnowsSizes, IsSettled, Serves}
-use Rattle.block_heap.specs.Steps.{head_at, IsEmptyList, Fills}
+use Rattle.block_heap.specs.Steps.{head_at, IsEmptyList, LeadsAlong, Fills, Spends}
 use Rattle.block_heap.specs.Works.{Works, IsAllocatorWord, is_info, is_anchor, is_inside}
 use Rattle.block_heap.proofs.HeldLemmas.{has_map}
 use Rattle.block_heap.proofs.MediumLemmas.{stores_then, stores_more}
 use Rattle.block_heap.proofs.RunningLemmas.{set_is, settled_kept, running_words}
+use Rattle.block_heap.proofs.SpendLemmas.{spends_none, spends_by}
 use Rattle.block_heap.proofs.StableLemmas.{works_of, works_then, works_raised}
 use Rattle.block_heap.proofs.RefillLemmas.{IsMoved, moved_word, moved_info, moved_used, serves_of, drains_none, made, caches_filled, caches_other, none_cached, head_moved, popped_head, popped_of, popped_pops, popped_list, popped_place}
 
@@ -247,15 +249,23 @@ module _ (p : Parts) (class d : ℕ) (popped : Popped) (w : View) (look : Look) 
       image_cut : IsCut p.capacity (λ word. volatile_at w word) (image_of q) class d
       image_cut = cut_image p class d w (set p.head_looks 0 look) p.used_look p.taken q run is free_within stores same cuts
 
+      free_shape : IsShape p.capacity (image_of q) (held_in p) (after_cut run.shape p.capacity class d rest)
+      free_shape = cut_free p.capacity class d (image_of p) (λ word. volatile_at w word) (image_of q) (held_in p) run.shape rest is run.is listed
+          (none_cached p class run is empty) (popped_of p 0 popped w run zero_list pop pop_stores d some) image_cut
+
       free_running : IsRunning q
       free_running = cut_running p class d w (set p.head_looks 0 look) p.used_look p.taken q run is free_within stores same cuts
           (after_cut run.shape p.capacity class d rest) pop_stores.words pop_stores.budget (length-set p.head_looks 0 look ∙ run.looks_long)
           (settled_kept p.capacity (IsMoved p.capacity) p.words w moved (λ e within m. moved_info p.capacity e (info_word e) m refl)
           (λ m. moved_used p.capacity used_word m refl) run.settled)
           (λ e within. moved.volatile (info_word e) (λ m. moved_info p.capacity e (info_word e) m refl))
+<<<<<<< HEAD
           (cut_free p.capacity class d (image_of p) (λ word. volatile_at w word) (image_of q) (held_in p) run.shape rest is run.is listed
           (none_cached p class run is empty)
           (popped_of p 0 popped w run zero_list pop pop_stores d some) image_cut)
+=======
+          free_shape
+>>>>>>> 721adec2cc9e89152f8d2c3944c102931e58556d
           refl refl refl
           (λ list less.
           let before = run.pops list less in
@@ -275,6 +285,20 @@ module _ (p : Parts) (class d : ℕ) (popped : Popped) (w : View) (look : Look) 
         drains = cut_free_drains p.capacity class d (image_of p) (λ word. volatile_at w word) (image_of q) (held_in p) run.shape rest is run.is listed
             (popped_of p 0 popped w run zero_list pop pop_stores d some) image_cut;
       }
+
+      free_list : (list : ℕ) (ds : List ℕ) → list < lists → with_at run.shape.listed 0 rest list ≡ ds → LeadsAlong q list ds
+      free_list list ds less is_ds =
+          subst (λ n. Follows (λ e. image_of q (link_word e)) n (head_first (head_at q list)) ds) (sym same.capacity)
+          (subst (λ (es : List ℕ). Follows (λ e. image_of q (link_word e)) p.capacity (head_first (head_at q list)) es) is_ds (free_shape.follows list less))
+
+      pub free_spends : Spends 1 class p q
+      free_spends =
+          let long : length (run.shape.listed 0) ≡ length (d ∷ rest) = ap length listed in
+          let used = free_serves.works.used in
+          spends_by 1 class p q run (run.shape.listed class) rest is free_running same.capacity
+              (free_list class (run.shape.listed class) (let last = is.last in omega arith)
+              (with_at_other run.shape.listed 0 rest class (λ e. let from = is.some in omega arith)))
+              (free_list 0 rest (omega arith) (with_at_same run.shape.listed 0 rest)) (omega arith)
 
       pub free_found : (1 ≤ (cache_at q.caches class).count) × (IsEmptyList p 0 → ⊥)
       free_found = (
@@ -306,6 +330,9 @@ module _ (p : Parts) (w : View) (run : IsRunning p) (stores : StoresOnly (λ wor
 
       none_running : IsRunning (record p { words = w })
       none_running = running_words p w (λ _. ⊥) run took.goes.running no_words.0 no_words.2 (λ e less t. t) (λ t. t) took.goes.below
+
+      pub none_spends : Spends 0 class p none_fresh
+      none_spends = spends_none class p none_fresh refl no_words.0
 
       pub none_fills : Fills class p none_fresh
       none_fills = record {
@@ -393,12 +420,20 @@ module _ (p : Parts) (w : View) (run : IsRunning p) (stores : StoresOnly (λ wor
           fresh_image : IsCut p.capacity (λ word. volatile_at w word) (image_of q) class d
           fresh_image = cut_image p class d w p.head_looks look (p.taken + 1) q run is within cut_stores same cuts
 
+          fresh_shape : IsShape p.capacity (image_of q) (held_in p) (after_fresh run.shape p.capacity class d)
+          fresh_shape = cut_fresh p.capacity class d (image_of p) (λ word. volatile_at w word) (image_of q) (held_in p) run.shape is run.is past within
+              (none_cached p class run is empty) used_set fresh_image
+
           fresh_running : IsRunning q
           fresh_running = cut_running p class d w p.head_looks look (p.taken + 1) q run is within cut_stores same cuts
               (after_fresh run.shape p.capacity class d) stores.words stores.budget run.looks_long settled
               (λ e less. stores.volatile (info_word e) (λ at. omega arith))
+<<<<<<< HEAD
               (cut_fresh p.capacity class d (image_of p) (λ word. volatile_at w word) (image_of q) (held_in p) run.shape is run.is past within
               (none_cached p class run is empty) used_set fresh_image)
+=======
+              fresh_shape
+>>>>>>> 721adec2cc9e89152f8d2c3944c102931e58556d
               refl refl refl
               (λ list less.
               let before = run.pops list less in
@@ -416,6 +451,20 @@ module _ (p : Parts) (w : View) (run : IsRunning p) (stores : StoresOnly (λ wor
             drains = cut_fresh_drains p.capacity class d (image_of p) (λ word. volatile_at w word) (image_of q) (held_in p) run.shape is run.is past within
                 used_set fresh_image;
           }
+
+          fresh_list : (list : ℕ) → list < lists → LeadsAlong q list (run.shape.listed list)
+          fresh_list list less =
+              subst (λ n. Follows (λ e. image_of q (link_word e)) n (head_first (head_at q list)) (run.shape.listed list)) (sym same.capacity)
+              (fresh_shape.follows list less)
+
+          pub fresh_spends : Spends 1 class p q
+          fresh_spends =
+              let at = past in
+              let now : volatile_at w used_word ≡ d + 1 = used_set.at in
+              let kept : image_of q used_word ≡ volatile_at w used_word =
+                cut_stores.volatile used_word (divide_before p.capacity d used_word (omega arith)) in
+              spends_by 1 class p q run (run.shape.listed class) (run.shape.listed 0) is fresh_running same.capacity
+                  (fresh_list class (let last = is.last in omega arith)) (fresh_list 0 (omega arith)) (omega arith)
 
           pub fresh_found : (1 ≤ (cache_at q.caches class).count) × (image_of p used_word + 1 ≤ p.capacity)
           fresh_found = (cut_some p class d w p.head_looks look (p.taken + 1) q run is within cut_stores same cuts, fresh_room)

@@ -25,3 +25,5 @@ pub mod RequestLemmas
 pub mod PartialLemmas
 pub mod FreeCallLemmas
 pub mod DrainStepLemmas
+pub mod SpendLemmas
+pub mod DrawnLemmas

@@ -15,7 +15,8 @@ use Rattle.block_heap.specs.Parts.{Parts, image_of, held_in, cache_at}
 use Rattle.block_heap.specs.Refill.{FindsPartial, FindsFree, FindsFresh, Refills}
 use Rattle.block_heap.specs.Running.{IsRunning, Serves}
 use Rattle.block_heap.specs.Serving.{HasRoom, in_cache, in_class_list, in_free_list, in_fresh}
-use Rattle.block_heap.specs.Steps.{head_at, look_at, IsLook, IsEmptyList, LeadsAlong, Fills, FindsFirst, FindsEmpty, Recycles}
+use Rattle.block_heap.specs.Steps.{head_at, look_at, IsLook, IsEmptyList, LeadsAlong, Fills, FindsFirst, FindsEmpty, Recycles, Spends, used_up}
+use Rattle.block_heap.proofs.SpendLemmas.{spends_none, spends_then}
 use Rattle.block_heap.proofs.RefillLemmas.{serves_same, serves_then, drains_none, drains_then}
 
 -- nothing done yet, and two rows of steps
@@ -56,6 +57,7 @@ pub record Walked (class : ℕ) (p q : Parts) : Type 0 where
   pub taken : q.taken ≡ p.taken
   pub used : image_of q used_word ≡ image_of p used_word
   pub way : (q.words.volatile ≡ p.words.volatile) ⊎ ((IsEmptyList q 0 → ⊥) × (IsEmptyList p class → ⊥))
+  pub left : Spends 0 class p q
   pub few : (ds : List ℕ) → LeadsAlong q class ds → q.words.drawn + 8 * length ds ≤ p.words.drawn + 2048
 
 pub walk_begins : (class : ℕ) (p : Parts) → IsClass class → IsRunning p → (cache_at p.caches class).count ≡ 0 → Walked class p p
@@ -66,6 +68,7 @@ walk_begins class p is run empty = record {
   taken = refl;
   used = refl;
   way = inl refl;
+  left = spends_none class p p refl refl;
   few = λ ds leads.
       let below : class < lists = let last = is.last in omega arith in
       let same : run.shape.listed class ≡ ds = one_following (λ d. image_of p (link_word d)) p.capacity (head_first (head_at p class))
@@ -109,6 +112,10 @@ module _ (class : ℕ) (p q r : Parts) (is : IsClass class) (walked : Walked cla
   pub walk_taken : r.taken ≡ p.taken
   walk_taken = taken ∙ walked.taken
 
+  -- how many superblocks are left
+  pub walk_left : (count : ℕ) (found : Found) → Spends (used_up found) class q r → count ≤ used_up found → Spends count class p r
+  walk_left count found spends few = spends_then count 0 (used_up found) class p q r (omega arith) walked.left spends
+
   module _ (fills : Fills class q r) (goes : Goes 8 q.words r.words) where
     pub walk_goes : Goes 2056 p.words r.words
     walk_goes =
@@ -121,8 +128,8 @@ module _ (class : ℕ) (p q r : Parts) (is : IsClass class) (walked : Walked cla
     pub walk_fills : Fills class p r
     walk_fills = fills_then class p q r walked.serves.capacity walked.fills fills
 
-    pub walk_more : (found : Found) → found ≡ Recycled → FindsFirst class found q r → Walked class p r
-    walk_more found is_found found_first = by_first (subst (λ f. FindsFirst class f q r) is_found found_first) where
+    pub walk_more : (found : Found) → found ≡ Recycled → FindsFirst class found q r → Spends (used_up found) class q r → Walked class p r
+    walk_more found is_found found_first spends = by_first (subst (λ f. FindsFirst class f q r) is_found found_first) where
       by_first : FindsFirst class Recycled q r → Walked class p r
       by_first first = more first.0 first.1 where
         more : (cache_at r.caches class).count ≡ 0 → Recycles class q r → Walked class p r
@@ -133,6 +140,7 @@ module _ (class : ℕ) (p q r : Parts) (is : IsClass class) (walked : Walked cla
           taken = walk_taken;
           used = recycles.used ∙ walked.used;
           way = inr (recycles.now, was_some recycles.some);
+          left = walk_left 0 found spends (omega arith);
           few = λ ds leads.
               let before = recycles.shorter ds leads in
               let few = walked.few (before.0 ∷ ds) before.1 in

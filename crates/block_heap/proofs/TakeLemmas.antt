@@ -23,9 +23,10 @@ use Rattle.block_heap.specs.Links.{IsPopped, IsPushed, IsPushWord}
 use Rattle.block_heap.specs.Medium.{StoresOnly}
 use Rattle.block_heap.specs.Parts.{Parts, image_of, held_in, cache_at}
 use Rattle.block_heap.specs.Running.{IsRunning, Serves}
-use Rattle.block_heap.specs.Steps.{head_at, IsEmptyList, LeadsAlong, Fills, Recycles}
+use Rattle.block_heap.specs.Steps.{head_at, IsEmptyList, LeadsAlong, Fills, Recycles, Spends}
 use Rattle.block_heap.proofs.MediumLemmas.{stores_then, stores_more}
 use Rattle.block_heap.proofs.RunningLemmas.{set_is, settled_kept}
+use Rattle.block_heap.proofs.SpendLemmas.{spends_by}
 use Rattle.block_heap.proofs.RefillLemmas.{IsMoved, a_head, an_anchor, a_link, moved_info, moved_used, serves_moved, IsMade, made, caches_filled, caches_other, sizes_kept, none_cached, pop_moved, popped_head, popped_of, popped_pops, popped_list, popped_place}
 
 module _ (p : Parts) (class d : ℕ) (popped : Popped) (w : View) (look : Look) (run : IsRunning p) (is : IsClass class) (pop : IsPopped class popped p.words w)
@@ -152,6 +153,20 @@ module _ (p : Parts) (class d : ℕ) (popped : Popped) (w : View) (look : Look) 
           let count = cache_count in
           let free = stands.some in
           (subst (λ (x : Cache). 1 ≤ x.count) (sym now) (omega arith), first_some)
+
+      -- its list is shorter by it
+      taken_list : (list : ℕ) (ds : List ℕ) → list < lists → with_at run.shape.listed class rest list ≡ ds → LeadsAlong taken_parts list ds
+      taken_list list ds less is_ds = subst (λ (es : List ℕ). LeadsAlong taken_parts list es) is_ds (made_taken.is.follows list less)
+
+      pub taken_spends : Spends 1 class p taken_parts
+      taken_spends =
+          let long : length (run.shape.listed class) ≡ length (d ∷ rest) = ap length listed in
+          let same : volatile_at u used_word ≡ image_of p used_word =
+            take_moved.volatile used_word (λ m. moved_used p.capacity used_word m refl) in
+          spends_by 1 class p taken_parts run rest (run.shape.listed 0) is taken_fills.running refl
+              (taken_list class rest below (with_at_same run.shape.listed class rest))
+              (taken_list 0 (run.shape.listed 0) (omega arith)
+              (with_at_other run.shape.listed class rest 0 (λ e. let from = is.some in omega arith))) (omega arith)
 
     -- or it goes to the free list
     module _ (v : View) (push_stores : StoresOnly (IsPushWord 0 d) u v) where
@@ -292,3 +307,12 @@ module _ (p : Parts) (class d : ℕ) (popped : Popped) (w : View) (look : Look) 
                     (subst (λ (es : List ℕ). LeadsAlong p class es) listed (run.is.follows class below)),
               );
         }
+
+        -- the free list is longer by it
+        pub recycled_spends : Spends 0 class p recycled
+        recycled_spends =
+            let long : length (run.shape.listed class) ≡ length (d ∷ rest) = ap length listed in
+            let same : volatile_at v used_word ≡ image_of p used_word = push_moved.volatile used_word (λ m. moved_used p.capacity used_word m refl) in
+            spends_by 0 class p recycled run rest (d ∷ run.shape.listed 0) is recycled_fills.running refl
+                (subst (λ (ds : List ℕ). LeadsAlong recycled class ds) now_rest (made_recycled.is.follows class below))
+                (subst (λ (ds : List ℕ). LeadsAlong recycled 0 ds) now_free (made_recycled.is.follows 0 (omega arith))) (omega arith)

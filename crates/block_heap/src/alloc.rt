@@ -14,7 +14,7 @@ impl<C: Chance> Arena<C> {
     ghost use Rattle.block_heap.specs.Parts.{parts_of, held_in};
     ghost use Rattle.block_heap.specs.Running.{IsRunning, AreShort, Serves};
     ghost use Rattle.block_heap.specs.Steps.{Fills};
-    ghost use Rattle.block_heap.specs.Refill.{Refills};
+    ghost use Rattle.block_heap.specs.Refill.{Refills, Stocks};
     ghost use Rattle.block_heap.specs.Serving.{Answers, AnswersInClass, DrainsAs, IsLooksOf};
 
     /// A block of at least so many bytes, if there is room.
@@ -74,6 +74,8 @@ impl<C: Chance> Arena<C> {
         ensures ok { IfOk result (λ some. Refills class some
             (parts_of self.old) (parts_of self.new)) }
         ensures fills { OnOk result (Fills class (parts_of self.old) (parts_of self.new)) }
+        ensures left { IfOk result (λ some. Stocks class some
+            (parts_of self.old) (parts_of self.new)) }
         ensures steps { OnOk result ((parts_of self.new).words.drawn
             ≤ (parts_of self.old).words.drawn + 10000) }
         ensures stopped { IfErr result (λ e. Halts e.step 10000

@@ -82,7 +82,7 @@ impl From<Stopped> for DrainFault {
 }
 
 impl<C: Chance> SeqHeap<C> {
-    ghost use Rattle.std.specs.Prelude.{◌≡◌, ◌<◌, ◌^◌, IfOk, IfErr, Some};
+    ghost use Rattle.std.specs.Prelude.{◌≡◌, ◌+◌, ◌<◌, ◌≤◌, ◌^◌, IfOk, IfErr, None, Some};
     ghost use Rattle.line_memory.specs.ClosedWords.{volatile_words, durable_words};
     ghost use Rattle.line_memory.specs.declared.memory.Stopped.{Stopped};
     ghost use Rattle.heap_model.specs.Image.{Image};
@@ -130,6 +130,10 @@ impl<C: Chance> SeqHeap<C> {
             → IfOk result (λ offsets. Drains class offsets.items self.old) }
         ensures stopped { IfErr result (λ fault. (e : Stopped) → fault ≡ DrainFault.Stopped e
             → self.new.stopped ≡ Some e.step) }
+        ensures few { self.new.parts.words.drawn < self.old.parts.words.drawn + 2 ^ 32 }
+        ensures above { IfErr result (λ fault. (e : Stopped) → fault ≡ DrainFault.Stopped e
+            → self.old.stopped ≡ None → (self.old.parts.words.budget ≤ e.step)
+            × (e.step < self.old.parts.words.drawn + 2 ^ 32)) }
     {
         let most = self.arena.geometry.capacity() * blocks_of(class);
         let mut offsets = Vec::with_capacity(alloc, most as usize)?;

@@ -2,6 +2,7 @@ use Rattle.std.proofs.Common.{Bool, subst}
 use Rattle.block_heap.specs.Parts.{parts_of}
 use Rattle.block_heap.specs.Refill.{Refills}
 use Rattle.block_heap.proofs.AllocLemmas.{drains_nothing, gets_in_class, drains_block, serves_all}
+use Rattle.block_heap.proofs.SpendLemmas.{costs_of}
 use Rattle.block_heap.proofs.arena.Arena.alloc_small.Goals as goal
 
 pub returns-then-not-branch-clause-drains : goal.returns-then-not-branch-clause-drains
@@ -29,5 +30,9 @@ returns-clause-ok g c =
 
 pub returns-clause-drains : goal.returns-clause-drains
 returns-clause-drains g c =
-    drains_block c.args.class c.in_ok-hand_out.field-0 (parts_of c.args.self.now) (parts_of c.stock.new.self) (parts_of c.hand_out.new.self)
-    c.stock.ensures.serves.capacity c.in_ok-stock.ensures.fills c.in_ok-hand_out.ensures.ok
+    let p = parts_of c.args.self.now in
+    let q = parts_of c.stock.new.self in
+    let r = parts_of c.hand_out.new.self in
+    (drains_block c.args.class c.in_ok-hand_out.field-0 p q r c.stock.ensures.serves.capacity c.in_ok-stock.ensures.fills c.in_ok-hand_out.ensures.ok,
+    costs_of c.args.class c.in_ok-stock.field-0 p q r c.if-not-branch.false c.in_ok-stock.ensures.left c.in_ok-stock.ensures.steps
+    c.hand_out.ensures.serves.capacity c.in_ok-hand_out.ensures.ok.volatile c.in_ok-hand_out.ensures.goes.few)

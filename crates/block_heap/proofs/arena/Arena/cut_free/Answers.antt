@@ -2,8 +2,9 @@ use Rattle.std.proofs.Common.{refl, arith}
 use Rattle.block_heap.specs.MediumView.{medium_view}
 use Rattle.block_heap.specs.Parts.{parts_of}
 use Rattle.block_heap.proofs.RunningLemmas.{is_head}
-use Rattle.block_heap.proofs.RefillLemmas.{head_moved, serves_moved, emptied_fills, emptied_serves}
-use Rattle.block_heap.proofs.CutStepLemmas.{free_within, free_unmarked, free_serves, free_fills, free_found}
+use Rattle.block_heap.proofs.RefillLemmas.{head_moved, serves_moved, emptied_fills, emptied, emptied_serves, popped_none}
+use Rattle.block_heap.proofs.SpendLemmas.{spends_none}
+use Rattle.block_heap.proofs.CutStepLemmas.{free_within, free_unmarked, free_serves, free_fills, free_found, free_spends}
 use Rattle.block_heap.proofs.arena.Arena.cut_free.Goals as goal
 
 pub pop-requires-clause-head : goal.pop-requires-clause-head
@@ -59,3 +60,17 @@ returns-clause-serves g c =
     free_serves (parts_of c.args.self.now) c.args.class c.in-Some.d c.in_ok-popped.popped (medium_view c.pop.new.self) c.by.result c.requires.running
     c.requires.class c.in_ok-popped.ensures.ok c.pop.ensures.others c.in-Some.is
     (parts_of c.cut.new.self) c.cut.ensures.others c.cut.ensures.same
+
+pub returns-in_default-clause-left : goal.returns-in_default-clause-left
+returns-in_default-clause-left g c =
+    let p = parts_of c.args.self.now in
+    spends_none c.args.class p (emptied p c.args.class 0 c.in_ok-popped.popped (medium_view c.pop.new.self) c.by.result c.requires.running (omega arith)
+        c.in_ok-popped.ensures.ok c.pop.ensures.others c.in_default.is) refl
+    (popped_none p 0 c.in_ok-popped.popped (medium_view c.pop.new.self) c.requires.running (omega arith) c.in_ok-popped.ensures.ok c.pop.ensures.others
+        c.in_default.is).1
+
+pub returns-clause-left : goal.returns-clause-left
+returns-clause-left g c =
+    free_spends (parts_of c.args.self.now) c.args.class c.in-Some.d c.in_ok-popped.popped (medium_view c.pop.new.self) c.by.result c.requires.running
+        c.requires.class c.in_ok-popped.ensures.ok c.pop.ensures.others c.in-Some.is
+    (parts_of c.cut.new.self) c.cut.ensures.others c.cut.ensures.same c.requires.empty c.in_ok-cut.ensures.ok

@@ -1,11 +1,13 @@
-use Rattle.std.proofs.Common.{sym, subst, ◌∙◌}
+use Rattle.std.proofs.Common.{sym, subst, ◌∙◌, arith}
 use Rattle.std.proofs.lemmas.Result.{IfOk-weaker, on_ok_weaker}
+use Rattle.heap_model.specs.Counting.{one_if}
 use Rattle.block_heap.specs.declared.arena.Arena.{Arena}
 use Rattle.block_heap.specs.Parts.{parts_of, held_in}
 use Rattle.block_heap.specs.Refill.{FindsPartial, FindsFree}
 use Rattle.block_heap.specs.Running.{Serves}
-use Rattle.block_heap.specs.Steps.{Fills}
+use Rattle.block_heap.specs.Steps.{Fills, Spends}
 use Rattle.block_heap.proofs.RefillLemmas.{serves_then}
+use Rattle.block_heap.proofs.SpendLemmas.{spends_then}
 use Rattle.block_heap.proofs.PartialLemmas.{fills_then, fresh_refills}
 use Rattle.block_heap.proofs.arena.Arena.refill.Goals.{then-branch-via-then-branch, then-branch-via-else-branch+in_ok-cut_free+then-branch-2}
 use Rattle.block_heap.proofs.arena.Arena.refill.Goals as goal
@@ -61,4 +63,34 @@ returns-clause-serves g c =
     serves_then (parts_of c.args.self.now) (parts_of c.cut_free.new.self) (parts_of c.cut_fresh.new.self)
     (c.cut_free.ensures.held ∙ c.take_partial.ensures.held)
     (serves_then (parts_of c.args.self.now) (parts_of c.take_partial.new.self) (parts_of c.cut_free.new.self) c.take_partial.ensures.held
+<<<<<<< HEAD
     c.take_partial.ensures.serves c.cut_free.ensures.serves) c.cut_fresh.ensures.serves
+=======
+        c.take_partial.ensures.serves c.cut_free.ensures.serves) c.cut_fresh.ensures.serves
+
+pub returns-then-branch-clause-left : goal.returns-then-branch-clause-left
+returns-then-branch-clause-left g c =
+    let p = parts_of c.args.self.now in
+    let class = c.args.class in
+    elim c.then-branch.branch as (λ _. Spends 1 class p (parts_of c.then-branch.self)) [
+      | then-branch-via-then-branch w ↦ subst (λ (a : Arena _). Spends 1 class p (parts_of a)) (sym w.self-is)
+          (subst (λ some. Spends (one_if some) class p (parts_of c.take_partial.new.self)) w.if-branch.true c.in_ok-take_partial.ensures.left)
+      | then-branch-via-else-branch+in_ok-cut_free+then-branch-2 w ↦ subst (λ (a : Arena _). Spends 1 class p (parts_of a)) (sym w.self-is)
+          (spends_then 1 (one_if c.in_ok-take_partial.field-0) 1 class p (parts_of c.take_partial.new.self) (parts_of w.cut_free.new.self) (omega arith)
+          c.in_ok-take_partial.ensures.left
+          (subst (λ some. Spends (one_if some) class (parts_of c.take_partial.new.self) (parts_of w.cut_free.new.self)) w.if-branch-2.true
+          w.in_ok-cut_free.ensures.left))
+    ]
+
+pub returns-clause-left : goal.returns-clause-left
+returns-clause-left g c =
+    let p = parts_of c.args.self.now in
+    let a = parts_of c.take_partial.new.self in
+    let b = parts_of c.cut_free.new.self in
+    let class = c.args.class in
+    IfOk-weaker c.cut_fresh.result _ _
+    (λ some spends. spends_then (one_if some) 0 (one_if some) class p b (parts_of c.cut_fresh.new.self) (omega arith)
+        (spends_then 0 (one_if c.in_ok-take_partial.field-0) (one_if c.in_ok-cut_free.field-0) class p a b (omega arith) c.in_ok-take_partial.ensures.left
+        c.in_ok-cut_free.ensures.left) spends)
+    c.cut_fresh.ensures.left
+>>>>>>> 721adec2cc9e89152f8d2c3944c102931e58556d
