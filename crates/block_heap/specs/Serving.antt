@@ -1,13 +1,11 @@
 -- What requests make of the parts of a heap.
-use Rattle.std.specs.Prelude.{◌≡◌, ◌≢◌, ℕ, ◌+◌, ◌*◌, ◌<◌, ◌≤◌, ◌⊎◌, Option, None, Some, MatchOption, Contains}
+use Rattle.std.specs.Prelude.{◌≡◌, ℕ, ◌+◌, ◌*◌, ◌<◌, ◌≤◌, ◌⊎◌, Option, MatchOption, Contains}
 use Rattle.heap_model.specs.declared.block.Block.{Block}
 use Rattle.heap_model.specs.Geometry.{used_word}
 use Rattle.heap_model.specs.Sizes.{IsLeastClassFor, largest_small, span_of, words_of_class}
-use Rattle.heap_model.specs.Words.{head_first}
-use Rattle.heap_shape.specs.Moves.{AddsTo, TakesFrom}
-use Rattle.heap_shape.specs.Draining.{IsToDrain, IsTidy, DrainsOne}
+use Rattle.heap_shape.specs.Moves.{AddsTo}
+use Rattle.heap_shape.specs.Draining.{IsToDrain, IsTidy}
 use Rattle.block_heap.specs.declared.fault.Looks.{Looks}
-use Rattle.block_heap.specs.declared.look.Look.{Look}
 use Rattle.block_heap.specs.Alloc.{IsSizeFor}
 use Rattle.block_heap.specs.Parts.{Parts, image_of, held_in, cache_at}
 use Rattle.block_heap.specs.Running.{IsRunning, AreShort}
