@@ -89,15 +89,15 @@ drains_nothing class p q is capacity fills finds tidy b drained =
     let empty = finds.empty in
     let last = is.last in
     let shape : IsShape p.capacity (image_of q) (held_in p) run.shape =
-        subst (λ held. IsShape p.capacity (image_of q) held run.shape) fills.held (subst (λ k. IsShape k (image_of q) (held_in q) run.shape) capacity run.is) in
+    subst (λ held. IsShape p.capacity (image_of q) held run.shape) fills.held (subst (λ k. IsShape k (image_of q) (held_in q) run.shape) capacity run.is) in
     let count = (run.caches class is).count in
     let cached : run.shape.cached class ≡ [] = none_of (run.shape.cached class) (omega arith) in
     let listed : run.shape.listed class ≡ [] =
-        leads_nowhere (λ d. image_of q (link_word d)) q.capacity (head_first (head_at q class)) (run.shape.listed class) looked.class_empty (run.is.follows class (omega arith)) in
+    leads_nowhere (λ d. image_of q (link_word d)) q.capacity (head_first (head_at q class)) (run.shape.listed class) looked.class_empty (run.is.follows class (omega arith)) in
     let free : run.shape.listed 0 ≡ [] =
-        leads_nowhere (λ d. image_of q (link_word d)) q.capacity (head_first (head_at q 0)) (run.shape.listed 0) looked.free_empty (run.is.follows 0 (omega arith)) in
+    leads_nowhere (λ d. image_of q (link_word d)) q.capacity (head_first (head_at q 0)) (run.shape.listed 0) looked.free_empty (run.is.follows 0 (omega arith)) in
     drained_none p.capacity class (image_of q) (held_in p) run.shape is shape cached listed free (let past = looked.past in omega arith) (fills.drains.tidy tidy) b
-        (fills.drains.has b drained)
+    (fills.drains.has b drained)
 
 -- a request of a class that got a block
 pub gets_in_class : (class : ℕ) (b : Block) (p q r : Parts) → IsClass class → AreShort p 0 → Fills class p q → HasRoom p class → HandsOut class b q r → GetsInClass class b p r
@@ -116,12 +116,12 @@ pub drains_block : (class : ℕ) (b : Block) (p q r : Parts) → q.capacity ≡ 
 drains_block class b p q r capacity fills hands tidy =
     let same = fills.drains in
     let first : DrainsOne p.capacity class (image_of q) (held_in p) (held_in r) b =
-        subst (λ k. DrainsOne k class (image_of q) (held_in p) (held_in r) b) capacity
-        (subst (λ held. DrainsOne q.capacity class (image_of q) held (held_in r) b) fills.held hands.drains) in
+    subst (λ k. DrainsOne k class (image_of q) (held_in p) (held_in r) b) capacity
+    (subst (λ held. DrainsOne q.capacity class (image_of q) held (held_in r) b) fills.held hands.drains) in
     let one : DrainsOne p.capacity class (image_of r) (held_in p) (held_in r) b =
-        subst (λ (xs : List ℕ). DrainsOne p.capacity class (λ word. get_or xs word 0) (held_in p) (held_in r) b) (sym hands.volatile) first in
+    subst (λ (xs : List ℕ). DrainsOne p.capacity class (λ word. get_or xs word 0) (held_in p) (held_in r) b) (sym hands.volatile) first in
     let before : DrainsSame p.capacity class (held_in p) (image_of p) (image_of r) =
-        subst (λ (xs : List ℕ). DrainsSame p.capacity class (held_in p) (image_of p) (λ word. get_or xs word 0)) (sym hands.volatile) same in (
+    subst (λ (xs : List ℕ). DrainsSame p.capacity class (held_in p) (image_of p) (λ word. get_or xs word 0)) (sym hands.volatile) same in (
       one.tidy (before.tidy tidy),
       before.only b one.was,
       one.gone,

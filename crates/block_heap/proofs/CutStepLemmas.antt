@@ -111,7 +111,7 @@ pub unmarked : (p : Parts) (d : ℕ) → IsRunning p → HasNoHeld p.capacity (h
 unmarked p d run none mark marked at =
     let b : Block = block_of_mark p.blocks.start p.blocks.words.items mark in
     let holds : Contains (held_in p) b = has_map (block_of_mark p.blocks.start p.blocks.words.items) (marked_words p.blocks.marks.items) mark
-        (marked_words-has p.blocks.marks.items mark marked) in
+    (marked_words-has p.blocks.marks.items mark marked) in
     let some : 2 ≤ get_or p.blocks.words.items (mark / 4096) 0 = block_words (layout_at p.capacity (image_of p)) b (run.is.named b holds) in
     let start : p.blocks.start ≡ start_word p.capacity 0 = run.sizes.start in
     none b holds (record { begins = omega arith; ends = omega arith })
@@ -125,7 +125,7 @@ long_firsts capacity class d index (suc count) = let rest = long_firsts capacity
 module _ (p : Parts) (class d : ℕ) (w : View) (looks : List Look) (look : Look) (taken : ℕ) (q : Parts) (run : IsRunning p) (is : IsClass class)
     (within : d < p.capacity)
     (stores : StoresOnly (IsDivideWord p.capacity d) w q.words) (same : SameBut (record p { words = w; head_looks = looks; used_look = look; taken = taken })
-        q)
+    q)
     (cuts : Cuts class d (record p { words = w; head_looks = looks; used_look = look; taken = taken }) q) where
   abbrev filled : Cache
   filled = record { first = start_word p.capacity d; count = blocks_of class }
@@ -136,7 +136,7 @@ module _ (p : Parts) (class d : ℕ) (w : View) (looks : List Look) (look : Look
   pub cut_some : 1 ≤ (cache_at q.caches class).count
   cut_some =
       let now : cache_at q.caches class ≡ filled = ap (λ (cs : List Cache). cache_at cs class) cuts.caches
-        ∙ get_or-set_same p.caches class filled (record { first = 0; count = 0 }) (let long = run.caches_long in let last = is.last in omega arith) in
+      ∙ get_or-set_same p.caches class filled (record { first = 0; count = 0 }) (let long = run.caches_long in let last = is.last in omega arith) in
       let four = four_blocks class is in
       subst (λ (x : Cache). 1 ≤ x.count) (sym now) (omega arith)
 
@@ -152,26 +152,26 @@ module _ (p : Parts) (class d : ℕ) (w : View) (looks : List Look) (look : Look
       | inl one ↦ subst (λ k. get_or q.blocks.words.items k 0 ≡ words_of_class (image_of q (info_word k))) (sym one)
           (ap (λ (xs : List ℕ). get_or xs d 0) cuts.sizes
           ∙ get_or-set_same p.blocks.words.items d (words_of_class class) 0 (let long = run.sizes.long in omega arith) ∙ ap words_of_class
-              (sym cuts.divided.info))
+          (sym cuts.divided.info))
       | inr other ↦
           let info : image_of q (info_word e) ≡ image_of p (info_word e) =
-              stores.volatile (info_word e) (divide_info p.capacity d e less other) ∙ infos e less in
+          stores.volatile (info_word e) (divide_info p.capacity d e less other) ∙ infos e less in
           let stands : t.place e ≡ run.shape.place e = ap (λ (f : ℕ → Rattle.heap_shape.specs.Shape.Place). f e) place ∙ with_at_other run.shape.place d
-              is_full e other in
+          is_full e other in
           let before : get_or p.blocks.words.items e 0 ≡ words_of_class (image_of p (info_word e)) = run.sizes.sizes e less (subst IsClass info is_e)
-            (elim stood as (λ _. (run.shape.place e ≡ in_list (image_of p (info_word e))) ⊎ (run.shape.place e ≡ is_full)) [
-              | inl l ↦ inl (sym stands ∙ l ∙ ap in_list info)
-              | inr f ↦ inr (sym stands ∙ f)
-            ]) in
+          (elim stood as (λ _. (run.shape.place e ≡ in_list (image_of p (info_word e))) ⊎ (run.shape.place e ≡ is_full)) [
+            | inl l ↦ inl (sym stands ∙ l ∙ ap in_list info)
+            | inr f ↦ inr (sym stands ∙ f)
+          ]) in
           ap (λ (xs : List ℕ). get_or xs e 0) cuts.sizes ∙ get_or-set_other p.blocks.words.items d e (words_of_class class) 0 other ∙ before ∙ ap
-              words_of_class (sym info)
+          words_of_class (sym info)
     ];
   }
 
   pub cut_running : (t : Shape) → word_count w ≡ word_count p.words → w.budget ≡ p.words.budget → length looks ≡ lists → IsSettled p.capacity w
       → ((e : ℕ) → e < p.capacity → volatile_at w (info_word e) ≡ image_of p (info_word e)) → IsShape p.capacity (image_of q) (held_in p) t
       → t.place ≡ with_at run.shape.place d is_full → t.start ≡ with_at run.shape.start class (first_of p.capacity class d 0)
-          → t.cached ≡ with_at run.shape.cached class (all_firsts p.capacity class d)
+      → t.cached ≡ with_at run.shape.cached class (all_firsts p.capacity class d)
       → ((list : ℕ) → list < lists → 2 * head_pops (volatile_at w (head_word list)) ≤ w.drawn + 1)
       → volatile_at w used_word + look.taken ≡ look.seen + taken → taken ≤ volatile_at w used_word → IsRunning q
   cut_running t words budget looks_long settled infos shape place start cached pops knows few = made p q t run (record {
@@ -186,7 +186,7 @@ module _ (p : Parts) (class d : ℕ) (w : View) (looks : List Look) (look : Look
     is = shape;
     caches = subst (λ (cs : List Cache). (c : ℕ) → IsClass c → IsCacheOf t c (cache_at cs c)) (sym cuts.caches)
         (caches_filled run.shape t p.caches class (first_of p.capacity class d 0) (all_firsts p.capacity class d) filled run.caches_long is run.caches start
-            cached
+        cached
         (omega arith) (sym (long_firsts p.capacity class d 0 (blocks_of class))) (omega arith));
     sizes = sizes t infos place;
     settled = settled_cut p.capacity class d w q.words settled stores cuts.divided;
@@ -194,7 +194,7 @@ module _ (p : Parts) (class d : ℕ) (w : View) (looks : List Look) (look : Look
         let before = pops list less in
         let drew = cuts.divided.goes.drew in
         let kept : head_at q list ≡ volatile_at w (head_word list) = stores.volatile (head_word list)
-            (divide_before p.capacity d (head_word list) (omega arith)) in
+        (divide_before p.capacity d (head_word list) (omega arith)) in
         omega arith;
     knows =
         let kept : image_of q used_word ≡ volatile_at w used_word = stores.volatile used_word (divide_before p.capacity d used_word (omega arith)) in
@@ -238,7 +238,7 @@ module _ (p : Parts) (class d : ℕ) (popped : Popped) (w : View) (look : Look) 
     pub free_serves : Serves (held_in p) p q
     free_serves = serves_of p q (λ word. IsMoved p.capacity word ⊎ IsDivideWord p.capacity d word) run
         (λ word t. elim t as (λ _. IsAllocatorWord p.capacity (held_in p) word)
-            [ inl m ↦ moved_word p.capacity (held_in p) word m | inr t ↦ divide_word p.capacity d (held_in p) word free_within free_none t ])
+        [ inl m ↦ moved_word p.capacity (held_in p) word m | inr t ↦ divide_word p.capacity d (held_in p) word free_within free_none t ])
         (λ t. elim t as (λ _. ⊥) [ inl m ↦ moved_used p.capacity used_word m refl | inr t ↦ divide_before p.capacity d used_word (omega arith) t ])
         (stores_then (λ word. IsMoved p.capacity word ⊎ IsDivideWord p.capacity d word) p.words w q.words
         (stores_more (IsMoved p.capacity) (λ word. IsMoved p.capacity word ⊎ IsDivideWord p.capacity d word) p.words w (λ word m. inl m) moved)
@@ -257,7 +257,7 @@ module _ (p : Parts) (class d : ℕ) (popped : Popped) (w : View) (look : Look) 
       free_running = cut_running p class d w (set p.head_looks 0 look) p.used_look p.taken q run is free_within stores same cuts
           (after_cut run.shape p.capacity class d rest) pop_stores.words pop_stores.budget (length-set p.head_looks 0 look ∙ run.looks_long)
           (settled_kept p.capacity (IsMoved p.capacity) p.words w moved (λ e within m. moved_info p.capacity e (info_word e) m refl)
-              (λ m. moved_used p.capacity used_word m refl) run.settled)
+          (λ m. moved_used p.capacity used_word m refl) run.settled)
           (λ e within. moved.volatile (info_word e) (λ m. moved_info p.capacity e (info_word e) m refl))
           free_shape
           refl refl refl
@@ -267,9 +267,9 @@ module _ (p : Parts) (class d : ℕ) (popped : Popped) (w : View) (look : Look) 
           let drew = pop.goes.drew in
           omega arith)
           (let kept : volatile_at w used_word ≡ image_of p used_word = moved.volatile used_word (λ m. moved_used p.capacity used_word m refl) in let knew =
-              run.knows in omega arith)
+          run.knows in omega arith)
           (let kept : volatile_at w used_word ≡ image_of p used_word = moved.volatile used_word (λ m. moved_used p.capacity used_word m refl) in let least =
-              run.few in omega arith)
+          run.few in omega arith)
 
       pub free_fills : Fills class p q
       free_fills = record {
@@ -295,8 +295,10 @@ module _ (p : Parts) (class d : ℕ) (popped : Popped) (w : View) (look : Look) 
               (free_list 0 rest (omega arith) (with_at_same run.shape.listed 0 rest)) (omega arith)
 
       pub free_found : (1 ≤ (cache_at q.caches class).count) × (IsEmptyList p 0 → ⊥)
-      free_found = (cut_some p class d w (set p.head_looks 0 look) p.used_look p.taken q run is free_within stores same cuts,
-          λ none. let head = popped_head p 0 popped w run zero_list pop pop_stores d some in omega arith)
+      free_found = (
+        cut_some p class d w (set p.head_looks 0 look) p.used_look p.taken q run is free_within stores same cuts,
+        λ none. let head = popped_head p 0 popped w run zero_list pop pop_stores d some in omega arith,
+      )
 
 -- one that was never taken
 module _ (p : Parts) (w : View) (run : IsRunning p) (stores : StoresOnly (λ word. word ≡ used_word) p.words w)
@@ -318,7 +320,7 @@ module _ (p : Parts) (w : View) (run : IsRunning p) (stores : StoresOnly (λ wor
       no_words : (w.volatile ≡ p.words.volatile) × (p.capacity < fresh.used + 1) × StoresOnly (λ _. ⊥) p.words w
       no_words = subst (λ (o : Option ℕ). MatchOption o ((w.volatile ≡ p.words.volatile) × (p.capacity < fresh.used + 1) × StoresOnly (λ _. ⊥) p.words w)
           (λ d. (d ≡ fresh.used) × (fresh.used + 1 ≤ p.capacity) × (w.volatile ≡ set p.words.volatile used_word (fresh.used + 1)) × (durable_at w
-              used_word ≡ fresh.used + 1))) none took.words
+          used_word ≡ fresh.used + 1))) none took.words
 
       none_running : IsRunning (record p { words = w })
       none_running = running_words p w (λ _. ⊥) run took.goes.running no_words.0 no_words.2 (λ e less t. t) (λ t. t) took.goes.below
@@ -356,7 +358,7 @@ module _ (p : Parts) (w : View) (run : IsRunning p) (stores : StoresOnly (λ wor
           used_word ≡ fresh.used + 1)
       some_words = subst (λ (o : Option ℕ). MatchOption o ((w.volatile ≡ p.words.volatile) × (p.capacity < fresh.used + 1) × StoresOnly (λ _. ⊥) p.words w)
           (λ d. (d ≡ fresh.used) × (fresh.used + 1 ≤ p.capacity) × (w.volatile ≡ set p.words.volatile used_word (fresh.used + 1)) × (durable_at w
-              used_word ≡ fresh.used + 1))) some took.words
+          used_word ≡ fresh.used + 1))) some took.words
 
       past : image_of p used_word ≡ d
       past = sym took.used ∙ sym some_words.0
@@ -401,7 +403,7 @@ module _ (p : Parts) (w : View) (run : IsRunning p) (stores : StoresOnly (λ wor
               capacity = same.capacity;
               works = works_then p.capacity (held_in p) p.words w q.words raised
                   (works_of p.capacity (held_in p) (IsDivideWord p.capacity d) w q.words
-                      (λ word t. divide_word p.capacity d (held_in p) word within none_held t)
+                  (λ word t. divide_word p.capacity d (held_in p) word within none_held t)
                   (λ t. divide_before p.capacity d used_word (omega arith) t) cut_stores settled.used).0;
               knows = omega arith;
               taken = omega arith;

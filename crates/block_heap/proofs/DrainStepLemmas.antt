@@ -79,7 +79,7 @@ drains_more class s t u offsets b has capacity drains = record {
     | inl old ↦ inl (Contains-append_left offsets (8 * b.first_word ∷ []) (8 * a.first_word) old)
     | inr left ↦ elim (step.3 a left) [
       | inl same ↦ inl (subst (λ (z : Block). Contains (offsets ++ 8 * b.first_word ∷ []) (8 * z.first_word)) (sym same)
-        (Contains-append_right offsets (8 * b.first_word ∷ []) (8 * b.first_word) (in_head (8 * b.first_word) [])))
+          (Contains-append_right offsets (8 * b.first_word ∷ []) (8 * b.first_word) (in_head (8 * b.first_word) [])))
       | inr still ↦ inr (subst (λ n. IsToDrain n (image_of u.parts) (held_in u.parts) class a) (sym capacity) still)
     ]
   ];

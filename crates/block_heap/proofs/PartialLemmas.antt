@@ -72,7 +72,7 @@ walk_begins class p is run empty = record {
   few = λ ds leads.
       let below : class < lists = let last = is.last in omega arith in
       let same : run.shape.listed class ≡ ds = one_following (λ d. image_of p (link_word d)) p.capacity (head_first (head_at p class))
-          (run.shape.listed class) ds (run.is.follows class below) leads in
+      (run.shape.listed class) ds (run.is.follows class below) leads in
       let long : length (run.shape.listed class) ≡ length ds = ap length same in
       let most = few_listed p.capacity (image_of p) (held_in p) run.shape run.is class below in
       let small = run.is.small in

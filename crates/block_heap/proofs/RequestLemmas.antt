@@ -86,8 +86,16 @@ pub large_heap : {T : Type 0} (r : Result T Stopped) (s : SeqState) (q : Parts) 
     → IsSeqHeap s
     → IsLasting q.capacity q.words (held_in q) o → OnOk r (IsRunning q × AreShort q 0) → OnOk r (Goes most s.parts.words q.words)
     → IfErr r (λ e. Halts e.step most s.parts.words q.words) → IfErr r (λ e. o ≡ Some e.step)
-    → IsSeqHeap (record { parts = q; stopped = o; small_calls = s.small_calls; large_calls = s.large_calls + 1;
-      refusals = s.refusals; refused_bytes = s.refused_bytes; refused_looks = s.refused_looks; lasts = l })
+    → IsSeqHeap (record {
+      parts = q;
+      stopped = o;
+      small_calls = s.small_calls;
+      large_calls = s.large_calls + 1;
+      refusals = s.refusals;
+      refused_bytes = s.refused_bytes;
+      refused_looks = s.refused_looks;
+      lasts = l;
+    })
 large_heap r s q most o l heap lasts runs goes halts stops = record {
   lasts = lasts;
   running = λ running. done_of r o (IsRunning q × AreShort q 0) runs stops running;
@@ -132,22 +140,27 @@ request_runs (Err e) bytes p q answers = tt
 least_from : (bytes from more : ℕ) → 1 ≤ from → from + more ≡ 20 → bytes ≤ size_of 20 → ((other : ℕ) → IsClass other → other < from → bytes ≤ size_of other → ⊥)
     → (c : ℕ) × IsLeastClassFor bytes c
 least_from bytes from zero some end fits none =
-    let last : 20 ≡ from = omega arith in
-    (from, record {
-      is_class = record { some = some; last = omega arith };
-      holds = subst (λ c. bytes ≤ size_of c) last fits;
-      least = λ other is holds. elim (cases_lt other from) as (λ _. from ≤ other) [ inl less ↦ absurd (none other is less holds) | inr not ↦ omega arith ];
-    })
+    let last : 20 ≡ from = omega arith in (
+      from,
+      record {
+        is_class = record { some = some; last = omega arith };
+        holds = subst (λ c. bytes ≤ size_of c) last fits;
+        least = λ other is holds. elim (cases_lt other from) as (λ _. from ≤ other) [ inl less ↦ absurd (none other is less holds) | inr not ↦ omega arith ];
+      },
+    )
 least_from bytes from (suc more) some end fits none = elim (cases_lt (size_of from) bytes) as (λ _. (c : ℕ) × IsLeastClassFor bytes c) [
   | inl short ↦ least_from bytes (from + 1) more (omega arith) (omega arith) fits (λ other is less holds. elim (cases_lt other from) as (λ _. ⊥) [
     | inl before ↦ none other is before holds
     | inr not ↦ let same : other ≡ from = omega arith in let here : bytes ≤ size_of from = subst (λ c. bytes ≤ size_of c) same holds in omega arith
   ])
-  | inr holds ↦ (from, record {
-    is_class = record { some = some; last = omega arith };
-    holds = omega arith;
-    least = λ other is fitting. elim (cases_lt other from) as (λ _. from ≤ other) [ inl less ↦ absurd (none other is less fitting) | inr not ↦ omega arith ];
-  })
+  | inr holds ↦ (
+    from,
+    record {
+      is_class = record { some = some; last = omega arith };
+      holds = omega arith;
+      least = λ other is fitting. elim (cases_lt other from) as (λ _. from ≤ other) [ inl less ↦ absurd (none other is less fitting) | inr not ↦ omega arith ];
+    },
+  )
 ]
 
 last_size : (bytes : ℕ) → bytes ≤ largest_small → bytes ≤ size_of 20
@@ -219,8 +232,16 @@ module _ (bytes : ℕ) (looks : Looks) (s t : SeqState) (misses : Misses bytes s
 -- the refusal is counted
 pub refused_heap : (s : SeqState) (bytes : ℕ) (looks : Looks) (l : ∥ IsLasting s.parts.capacity s.parts.words (held_in s.parts) s.stopped ∥₁) → IsSeqHeap s
     → s.refusals < s.large_calls
-    → IsSeqHeap (record { parts = s.parts; stopped = s.stopped; small_calls = s.small_calls; large_calls = s.large_calls;
-      refusals = s.refusals + 1; refused_bytes = bytes; refused_looks = looks; lasts = l })
+    → IsSeqHeap (record {
+      parts = s.parts;
+      stopped = s.stopped;
+      small_calls = s.small_calls;
+      large_calls = s.large_calls;
+      refusals = s.refusals + 1;
+      refused_bytes = bytes;
+      refused_looks = looks;
+      lasts = l;
+    })
 refused_heap s bytes looks l heap room = record { lasts = heap.lasts; running = heap.running; calls = heap.calls; refused = omega arith }
 
 -- a request that found no room, as its caller sees it

@@ -99,7 +99,7 @@ module _ (p : Parts) (class d : ℕ) (popped : Popped) (w : View) (look : Look) 
         | inl same ↦ inl (subst (λ k. run.shape.place k ≡ in_list (image_of p (info_word k))) (sym same) (place ∙ ap in_list (sym stands.of_class.info)))
         | inr other ↦ let kept = with_at_other run.shape.place d is_full e other in
             elim at as (λ _. (run.shape.place e ≡ in_list (image_of p (info_word e))) ⊎ (run.shape.place e ≡ is_full))
-                [ inl l ↦ inl (sym kept ∙ l) | inr f ↦ inr (sym kept ∙ f) ]
+            [ inl l ↦ inl (sym kept ∙ l) | inr f ↦ inr (sym kept ∙ f) ]
       ]
 
       made_taken : IsMade p taken_parts shape
@@ -149,7 +149,7 @@ module _ (p : Parts) (class d : ℕ) (popped : Popped) (w : View) (look : Look) 
       pub taken_some : (1 ≤ (cache_at (set p.caches class cache) class).count) × (IsEmptyList p class → ⊥)
       taken_some =
           let now : cache_at (set p.caches class cache) class ≡ cache =
-            get_or-set_same p.caches class cache (record { first = 0; count = 0 }) (let long = run.caches_long in let less = below in omega arith) in
+          get_or-set_same p.caches class cache (record { first = 0; count = 0 }) (let long = run.caches_long in let less = below in omega arith) in
           let count = cache_count in
           let free = stands.some in
           (subst (λ (x : Cache). 1 ≤ x.count) (sym now) (omega arith), first_some)
@@ -202,7 +202,7 @@ module _ (p : Parts) (class d : ℕ) (popped : Popped) (w : View) (look : Look) 
               (let same = long in let wide = run.words_open.long in let less = first_within in omega arith) refl;
           head = set_is linked v.volatile (head_word 0) (head_of (d + 1) (head_pops (volatile_at u (head_word 0))))
               (let same = long in let wide = run.words_open.long in let kept =
-                  length-set u.volatile (link_word d) (head_first (volatile_at u (head_word 0))) in omega arith) pushed.words;
+              length-set u.volatile (link_word d) (head_first (volatile_at u (head_word 0))) in omega arith) pushed.words;
         })
 
         abbrev shape_then : Shape
@@ -215,7 +215,7 @@ module _ (p : Parts) (class d : ℕ) (popped : Popped) (w : View) (look : Look) 
           | inl same ↦ inl (subst (λ k. run.shape.place k ≡ in_list (image_of p (info_word k))) (sym same) (place ∙ ap in_list (sym stands.of_class.info)))
           | inr other ↦ let kept = with_at_other run.shape.place d (in_list 0) e other in
               elim at as (λ _. (run.shape.place e ≡ in_list (image_of p (info_word e))) ⊎ (run.shape.place e ≡ is_full))
-                  [ inl l ↦ inl (sym kept ∙ l) | inr f ↦ inr (sym kept ∙ f) ]
+              [ inl l ↦ inl (sym kept ∙ l) | inr f ↦ inr (sym kept ∙ f) ]
         ]
 
         -- the heads: only that of the class was popped
@@ -226,18 +226,18 @@ module _ (p : Parts) (class d : ℕ) (popped : Popped) (w : View) (look : Look) 
             elim (cases_eq list 0) as (λ _. head_pops (volatile_at v (head_word list)) ≤ head_pops (head_at p list) + 1) [
               | inl zero_is ↦
                   let set_to : volatile_at v (head_word 0) ≡ head_of (d + 1) (head_pops (volatile_at u (head_word 0))) =
-                    ap (λ (xs : List ℕ). get_or xs (head_word 0) 0) pushed.words
-                    ∙ get_or-set_same linked (head_word 0) (head_of (d + 1) (head_pops (volatile_at u (head_word 0)))) 0
-                      (let same = long in let wide = run.words_open.long in let kept =
-                          length-set u.volatile (link_word d) (head_first (volatile_at u (head_word 0))) in omega arith) in
+                  ap (λ (xs : List ℕ). get_or xs (head_word 0) 0) pushed.words
+                  ∙ get_or-set_same linked (head_word 0) (head_of (d + 1) (head_pops (volatile_at u (head_word 0)))) 0
+                  (let same = long in let wide = run.words_open.long in let kept =
+                  length-set u.volatile (link_word d) (head_first (volatile_at u (head_word 0))) in omega arith) in
                   let here : volatile_at v (head_word list) ≡ head_of (d + 1) (head_pops (volatile_at u (head_word list))) =
-                    subst (λ k. volatile_at v (head_word k) ≡ head_of (d + 1) (head_pops (volatile_at u (head_word k)))) (sym zero_is) set_to in
+                  subst (λ k. volatile_at v (head_word k) ≡ head_of (d + 1) (head_pops (volatile_at u (head_word k)))) (sym zero_is) set_to in
                   let small = first_within in
                   let few = run.is.small in
                   omega arith
               | inr other ↦
                   let kept : volatile_at v (head_word list) ≡ volatile_at u (head_word list) =
-                    push_stores.volatile (head_word list) (λ t. elim t as (λ _. ⊥) [ inl e ↦ other (omega arith) | inr e ↦ omega arith ]) in
+                  push_stores.volatile (head_word list) (λ t. elim t as (λ _. ⊥) [ inl e ↦ other (omega arith) | inr e ↦ omega arith ]) in
                   omega arith
             ]
 
@@ -293,17 +293,19 @@ module _ (p : Parts) (class d : ℕ) (popped : Popped) (w : View) (look : Look) 
           some = first_some;
           now = λ none.
               let follows = subst (λ (ds : List ℕ). Follows (λ e. image_of recycled (link_word e)) p.capacity (head_first (head_at recycled 0)) ds) now_free
-                  (made_recycled.is.follows 0 (omega arith)) in
+              (made_recycled.is.follows 0 (omega arith)) in
               let from = follows.0 in
               omega arith;
           used = push_moved.volatile used_word (λ m. moved_used p.capacity used_word m refl);
           shorter = λ ds leads.
               let follows = subst (λ (es : List ℕ). Follows (λ e. image_of recycled (link_word e)) p.capacity (head_first (head_at recycled class)) es)
-                  now_rest (made_recycled.is.follows class below) in
+              now_rest (made_recycled.is.follows class below) in
               let same : rest ≡ ds = one_following (λ e. image_of recycled (link_word e)) p.capacity (head_first (head_at recycled class)) rest ds follows
-                  leads in
-              (d, subst (λ (es : List ℕ). LeadsAlong p class (d ∷ es)) same
-                  (subst (λ (es : List ℕ). LeadsAlong p class es) listed (run.is.follows class below)));
+              leads in (
+                d,
+                subst (λ (es : List ℕ). LeadsAlong p class (d ∷ es)) same
+                    (subst (λ (es : List ℕ). LeadsAlong p class es) listed (run.is.follows class below)),
+              );
         }
 
         -- the free list is longer by it

@@ -29,6 +29,7 @@ pub trait HeapSeat {
 
     // How many tickets a call on words, and one of alloc or free, may draw. By default any number.
     ghost small_draws: { ℕ → Type 0 } = { λ _. ⊤ };
+
     ghost large_draws: { ℕ → Type 0 } = { λ _. ⊤ };
 
     /// A block of at least so many bytes. What its words hold is not known.

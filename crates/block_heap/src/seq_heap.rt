@@ -43,25 +43,25 @@ impl<C> Model for SeqHeap<C> {
     ghost Value = { SeqState };
 
     ghost view = { λ s. record {
-        parts = parts_of s.arena;
-        stopped = s.stopped;
-        small_calls = s.small_calls;
-        large_calls = s.large_calls;
-        refusals = s.refusals;
-        refused_bytes = s.refused_bytes;
-        refused_looks = s.refused_looks;
-        lasts = s.lasts
+      parts = parts_of s.arena;
+      stopped = s.stopped;
+      small_calls = s.small_calls;
+      large_calls = s.large_calls;
+      refusals = s.refusals;
+      refused_bytes = s.refused_bytes;
+      refused_looks = s.refused_looks;
+      lasts = s.lasts;
     } };
 
     ghost invariant = { λ s. IsSeqHeap (record {
-        parts = parts_of s.arena;
-        stopped = s.stopped;
-        small_calls = s.small_calls;
-        large_calls = s.large_calls;
-        refusals = s.refusals;
-        refused_bytes = s.refused_bytes;
-        refused_looks = s.refused_looks;
-        lasts = s.lasts
+      parts = parts_of s.arena;
+      stopped = s.stopped;
+      small_calls = s.small_calls;
+      large_calls = s.large_calls;
+      refusals = s.refusals;
+      refused_bytes = s.refused_bytes;
+      refused_looks = s.refused_looks;
+      lasts = s.lasts;
     }) };
 }
 
@@ -94,12 +94,7 @@ impl<C: Chance> SeqHeap<C> {
     ghost use Rattle.block_heap.specs.Closing.{IsOpened};
 
     /// Opens the heap with a budget of so many steps.
-    pub fn new(
-        alloc: Global,
-        heap: Ready,
-        budget: u64,
-        chance: C,
-    ) -> Result<SeqHeap<C>, AllocError>
+    pub fn new(alloc: Global, heap: Ready, budget: u64, chance: C) -> Result<SeqHeap<C>, AllocError>
         requires { budget < 2 ^ 40 }
         ensures { IfOk result (λ s. IsOpened heap.words heap.held budget s) }
     {

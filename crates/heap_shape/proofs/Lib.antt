@@ -11,3 +11,4 @@ pub mod GiveLemmas
 pub mod LargeLemmas
 pub mod OwnLemmas
 pub mod DrainLemmas
+pub mod RecoveredLemmas

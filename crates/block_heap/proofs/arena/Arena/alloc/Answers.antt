@@ -22,7 +22,7 @@ returns-in-Some-clause-drains g c =
     let p = parts_of c.args.self.now in
     let q = parts_of c.alloc_small.new.self in
     λ class is same. subst (λ (k : ℕ). IfOk c.alloc_small.result (λ answer. DrainsAs k answer p q))
-        (sym (least_of_size c.args.bytes c.in-Some.class class c.in-Some.ensures.some is same)) c.alloc_small.ensures.drains
+    (sym (least_of_size c.args.bytes c.in-Some.class class c.in-Some.ensures.some is same)) c.alloc_small.ensures.drains
 
 pub returns-in-None-clause-ok : goal.returns-in-None-clause-ok
 returns-in-None-clause-ok g c =
@@ -30,7 +30,7 @@ returns-in-None-clause-ok g c =
     let q = parts_of c.alloc_large.new.self in
     let large : largest_small < c.args.bytes = c.in-None.ensures.none.0 refl in
     let joins : IfOk c.alloc_large.result (λ answer. JoinsAs (span_of c.args.bytes) answer p q) =
-        subst (λ (count : ℕ). IfOk c.alloc_large.result (λ answer. JoinsAs count answer p q)) c.span_of.ensures c.alloc_large.ensures.ok in
+    subst (λ (count : ℕ). IfOk c.alloc_large.result (λ answer. JoinsAs count answer p q)) c.span_of.ensures c.alloc_large.ensures.ok in
     both_ok c.alloc_large.result (λ answer. JoinsAs (span_of c.args.bytes) answer p q) (λ answer. Answers c.args.bytes answer p q) (IsRunning q)
     (λ answer join running. answers_large c.args.bytes answer p q large c.requires.short join running c.alloc_large.ensures.caches
     c.alloc_large.ensures.serves.capacity) joins c.alloc_large.ensures.running

@@ -20,45 +20,45 @@ returns-in_err-popped-clause-serves g c =
 pub returns-in_default-clause-fills : goal.returns-in_default-clause-fills
 returns-in_default-clause-fills g c =
     emptied_fills (parts_of c.args.self.now) c.args.class 0 c.in_ok-popped.popped (medium_view c.pop.new.self) c.by.result c.requires.running (omega arith)
-        c.in_ok-popped.ensures.ok c.pop.ensures.others c.in_default.is
+    c.in_ok-popped.ensures.ok c.pop.ensures.others c.in_default.is
 
 pub returns-in_default-clause-serves : goal.returns-in_default-clause-serves
 returns-in_default-clause-serves g c =
     emptied_serves (parts_of c.args.self.now) c.args.class 0 c.in_ok-popped.popped (medium_view c.pop.new.self) c.by.result c.requires.running (omega arith)
-        c.in_ok-popped.ensures.ok c.pop.ensures.others c.in_default.is
+    c.in_ok-popped.ensures.ok c.pop.ensures.others c.in_default.is
 
 pub cut-requires-clause-superblock : goal.cut-requires-clause-superblock
 cut-requires-clause-superblock g c =
     free_within (parts_of c.args.self.now) c.args.class c.in-Some.d c.in_ok-popped.popped (medium_view c.pop.new.self) c.by.result c.requires.running
-        c.requires.class c.in_ok-popped.ensures.ok c.pop.ensures.others c.in-Some.is
+    c.requires.class c.in_ok-popped.ensures.ok c.pop.ensures.others c.in-Some.is
 
 pub cut-requires-clause-none : goal.cut-requires-clause-none
 cut-requires-clause-none g c =
     free_unmarked (parts_of c.args.self.now) c.args.class c.in-Some.d c.in_ok-popped.popped (medium_view c.pop.new.self) c.by.result c.requires.running
-        c.requires.class c.in_ok-popped.ensures.ok c.pop.ensures.others c.in-Some.is
+    c.requires.class c.in_ok-popped.ensures.ok c.pop.ensures.others c.in-Some.is
 
 pub returns-in_err-cut-clause-serves : goal.returns-in_err-cut-clause-serves
 returns-in_err-cut-clause-serves g c =
     free_serves (parts_of c.args.self.now) c.args.class c.in-Some.d c.in_ok-popped.popped (medium_view c.pop.new.self) c.by.result c.requires.running
-        c.requires.class c.in_ok-popped.ensures.ok c.pop.ensures.others c.in-Some.is
+    c.requires.class c.in_ok-popped.ensures.ok c.pop.ensures.others c.in-Some.is
     (parts_of c.cut.new.self) c.cut.ensures.others c.cut.ensures.same
 
 pub returns-clause-ok : goal.returns-clause-ok
 returns-clause-ok g c =
     free_found (parts_of c.args.self.now) c.args.class c.in-Some.d c.in_ok-popped.popped (medium_view c.pop.new.self) c.by.result c.requires.running
-        c.requires.class c.in_ok-popped.ensures.ok c.pop.ensures.others c.in-Some.is
+    c.requires.class c.in_ok-popped.ensures.ok c.pop.ensures.others c.in-Some.is
     (parts_of c.cut.new.self) c.cut.ensures.others c.cut.ensures.same c.requires.empty c.in_ok-cut.ensures.ok
 
 pub returns-clause-fills : goal.returns-clause-fills
 returns-clause-fills g c =
     free_fills (parts_of c.args.self.now) c.args.class c.in-Some.d c.in_ok-popped.popped (medium_view c.pop.new.self) c.by.result c.requires.running
-        c.requires.class c.in_ok-popped.ensures.ok c.pop.ensures.others c.in-Some.is
+    c.requires.class c.in_ok-popped.ensures.ok c.pop.ensures.others c.in-Some.is
     (parts_of c.cut.new.self) c.cut.ensures.others c.cut.ensures.same c.requires.empty c.in_ok-cut.ensures.ok
 
 pub returns-clause-serves : goal.returns-clause-serves
 returns-clause-serves g c =
     free_serves (parts_of c.args.self.now) c.args.class c.in-Some.d c.in_ok-popped.popped (medium_view c.pop.new.self) c.by.result c.requires.running
-        c.requires.class c.in_ok-popped.ensures.ok c.pop.ensures.others c.in-Some.is
+    c.requires.class c.in_ok-popped.ensures.ok c.pop.ensures.others c.in-Some.is
     (parts_of c.cut.new.self) c.cut.ensures.others c.cut.ensures.same
 
 pub returns-in_default-clause-left : goal.returns-in_default-clause-left

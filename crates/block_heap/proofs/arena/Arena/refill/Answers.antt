@@ -15,7 +15,7 @@ use Rattle.block_heap.proofs.arena.Arena.refill.Goals as goal
 pub returns-in_err-cut_free-clause-serves : goal.returns-in_err-cut_free-clause-serves
 returns-in_err-cut_free-clause-serves g c =
     serves_then (parts_of c.args.self.now) (parts_of c.take_partial.new.self) (parts_of c.cut_free.new.self) c.take_partial.ensures.held
-        c.take_partial.ensures.serves c.cut_free.ensures.serves
+    c.take_partial.ensures.serves c.cut_free.ensures.serves
 
 pub returns-then-branch-clause-fills : goal.returns-then-branch-clause-fills
 returns-then-branch-clause-fills g c =
@@ -24,7 +24,7 @@ returns-then-branch-clause-fills g c =
       | then-branch-via-then-branch w ↦ subst (λ (a : Arena _). Fills c.args.class p (parts_of a)) (sym w.self-is) c.in_ok-take_partial.ensures.fills
       | then-branch-via-else-branch+in_ok-cut_free+then-branch-2 w ↦ subst (λ (a : Arena _). Fills c.args.class p (parts_of a)) (sym w.self-is)
           (fills_then c.args.class p (parts_of c.take_partial.new.self) (parts_of w.cut_free.new.self) c.take_partial.ensures.serves.capacity
-              c.in_ok-take_partial.ensures.fills w.in_ok-cut_free.ensures.fills)
+          c.in_ok-take_partial.ensures.fills w.in_ok-cut_free.ensures.fills)
     ]
 
 pub returns-then-branch-clause-serves : goal.returns-then-branch-clause-serves
@@ -34,7 +34,7 @@ returns-then-branch-clause-serves g c =
       | then-branch-via-then-branch w ↦ subst (λ (a : Arena _). Serves (held_in p) p (parts_of a)) (sym w.self-is) c.take_partial.ensures.serves
       | then-branch-via-else-branch+in_ok-cut_free+then-branch-2 w ↦ subst (λ (a : Arena _). Serves (held_in p) p (parts_of a)) (sym w.self-is)
           (serves_then p (parts_of c.take_partial.new.self) (parts_of w.cut_free.new.self) c.take_partial.ensures.held c.take_partial.ensures.serves
-              w.cut_free.ensures.serves)
+          w.cut_free.ensures.serves)
     ]
 
 pub returns-clause-ok : goal.returns-clause-ok
@@ -44,7 +44,7 @@ returns-clause-ok g c =
     let b = parts_of c.cut_free.new.self in
     IfOk-weaker c.cut_fresh.result _ _
     (fresh_refills c.args.class p a b c.requires.class c.take_partial.ensures.serves c.in_ok-take_partial.ensures.taken c.cut_free.ensures.serves
-        (parts_of c.cut_fresh.new.self) c.in_ok-cut_free.ensures.taken c.cut_fresh.ensures.serves
+    (parts_of c.cut_fresh.new.self) c.in_ok-cut_free.ensures.taken c.cut_fresh.ensures.serves
     (subst (λ some. FindsPartial c.args.class some p a) c.if-branch.false c.in_ok-take_partial.ensures.ok)
     (subst (λ some. FindsFree c.args.class some a b) c.if-branch-2.false c.in_ok-cut_free.ensures.ok) c.requires.empty)
     c.cut_fresh.ensures.ok
@@ -56,14 +56,14 @@ returns-clause-fills g c =
     let b = parts_of c.cut_free.new.self in
     let then = fills_then c.args.class p a b c.take_partial.ensures.serves.capacity c.in_ok-take_partial.ensures.fills c.in_ok-cut_free.ensures.fills in
     on_ok_weaker c.cut_fresh.result (fills_then c.args.class p b (parts_of c.cut_fresh.new.self)
-        (c.cut_free.ensures.serves.capacity ∙ c.take_partial.ensures.serves.capacity) then) c.cut_fresh.ensures.fills
+    (c.cut_free.ensures.serves.capacity ∙ c.take_partial.ensures.serves.capacity) then) c.cut_fresh.ensures.fills
 
 pub returns-clause-serves : goal.returns-clause-serves
 returns-clause-serves g c =
     serves_then (parts_of c.args.self.now) (parts_of c.cut_free.new.self) (parts_of c.cut_fresh.new.self)
-        (c.cut_free.ensures.held ∙ c.take_partial.ensures.held)
+    (c.cut_free.ensures.held ∙ c.take_partial.ensures.held)
     (serves_then (parts_of c.args.self.now) (parts_of c.take_partial.new.self) (parts_of c.cut_free.new.self) c.take_partial.ensures.held
-        c.take_partial.ensures.serves c.cut_free.ensures.serves) c.cut_fresh.ensures.serves
+    c.take_partial.ensures.serves c.cut_free.ensures.serves) c.cut_fresh.ensures.serves
 
 pub returns-then-branch-clause-left : goal.returns-then-branch-clause-left
 returns-then-branch-clause-left g c =

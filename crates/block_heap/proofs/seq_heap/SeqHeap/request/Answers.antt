@@ -8,7 +8,7 @@ use Rattle.block_heap.proofs.seq_heap.SeqHeap.request.Goals as goal
 pub invariant_of-self-inside : goal.invariant_of-self-inside
 invariant_of-self-inside g c = (
   ∣ request_lasts c.alloc-answer.result (parts_of c.self.inside.arena) (parts_of c.alloc-answer.new.self) c.args.bytes c.self.inside.stopped c.stop_of-self-inside.result c.self.invariant.lasts
-    c.alloc-answer.ensures.serves c.alloc-answer.ensures.ok c.alloc-answer.ensures.held c.stop_of-self-inside.ensures.ok c.stop_of-self-inside.ensures.stopped c.alloc-answer.ensures.stopped ∣₁,
+      c.alloc-answer.ensures.serves c.alloc-answer.ensures.ok c.alloc-answer.ensures.held c.stop_of-self-inside.ensures.ok c.stop_of-self-inside.ensures.stopped c.alloc-answer.ensures.stopped ∣₁,
   tt,
 )
 

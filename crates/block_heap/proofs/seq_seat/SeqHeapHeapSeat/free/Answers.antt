@@ -7,7 +7,7 @@ use Rattle.block_heap.proofs.seq_seat.SeqHeapHeapSeat.free.Goals as goal
 pub invariant_of-self-inside : goal.invariant_of-self-inside
 invariant_of-self-inside g c = (
   ∣ free_lasts c.free-answer.result (parts_of c.self.inside.arena) (parts_of c.free-answer.new.self) c.args.b c.self.inside.stopped c.stop_of-self-inside.result c.self.invariant.lasts
-    c.free-answer.ensures.freed c.free-answer.ensures.serves c.stop_of-self-inside.ensures.ok c.stop_of-self-inside.ensures.stopped c.free-answer.ensures.stopped ∣₁,
+      c.free-answer.ensures.freed c.free-answer.ensures.serves c.stop_of-self-inside.ensures.ok c.stop_of-self-inside.ensures.stopped c.free-answer.ensures.stopped ∣₁,
   tt,
 )
 
