@@ -89,6 +89,7 @@ DrainsNone class p = IsTidy p.capacity (image_of p) (held_in p) class → (b : B
 abbrev pub Costs : ℕ → Parts → Parts → Type 0
 Costs class p q = (Spends 0 class p q × (q.words.drawn ≤ p.words.drawn + 1)) ⊎ (Spends 1 class p q × (q.words.drawn ≤ p.words.drawn + 10001))
 
+-- what a drain needs of the answer
 abbrev pub DrainsAs : ℕ → Option Block → Parts → Parts → Type 0
 DrainsAs class answer p q = MatchOption answer (DrainsNone class p) (λ b. DrainsTo class b p q × Costs class p q)
 
