@@ -17,6 +17,7 @@ pub mod MediumView
 pub mod Opening
 pub mod Parts
 pub mod Refill
+pub mod Reopening
 pub mod Requests
 pub mod Running
 pub mod SeqState
