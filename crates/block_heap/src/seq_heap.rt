@@ -83,12 +83,8 @@ impl From<Stopped> for DrainFault {
 }
 
 impl<C: Chance> SeqHeap<C> {
-<<<<<<< HEAD
-    ghost use Rattle.std.specs.Prelude.{◌≡◌, ◌+◌, ◌<◌, ◌≤◌, ◌^◌, IfOk, IfErr, None, Some};
-=======
-    ghost use Rattle.std.specs.Prelude.{◌≡◌, ◌≢◌, ◌*◌, ◌<◌, ◌^◌, IfOk, IfErr, IfSome, IfNone, Some, Contains};
+    ghost use Rattle.std.specs.Prelude.{◌≡◌, ◌≢◌, ◌+◌, ◌*◌, ◌<◌, ◌≤◌, ◌^◌, IfOk, IfErr, IfSome, IfNone, None, Some, Contains};
     ghost use Rattle.heap_model.specs.declared.block.Block.{Block};
->>>>>>> ae24ff99171d3276c65f68026cd3a9957f9d1401
     ghost use Rattle.line_memory.specs.ClosedWords.{volatile_words, durable_words};
     ghost use Rattle.line_memory.specs.declared.memory.Stopped.{Stopped};
     ghost use Rattle.heap_model.specs.Image.{Image};
