@@ -7,6 +7,7 @@ ghost use Rattle.block_heap.specs.Works.{IsLasting};
 
 use crate::arena::Arena;
 use crate::fault::Looks;
+use heap_model::Block;
 use line_memory::{Chance, Closed, Stopped};
 use size_table::{blocks_of, size_of};
 use std::alloc::{AllocError, Global};
@@ -82,7 +83,8 @@ impl From<Stopped> for DrainFault {
 }
 
 impl<C: Chance> SeqHeap<C> {
-    ghost use Rattle.std.specs.Prelude.{◌≡◌, ◌+◌, ◌<◌, ◌≤◌, ◌^◌, IfOk, IfErr, None, Some};
+    ghost use Rattle.std.specs.Prelude.{◌≡◌, ◌≢◌, ◌+◌, ◌*◌, ◌<◌, ◌≤◌, ◌^◌, IfOk, IfErr, IfSome, IfNone, None, Some, Contains};
+    ghost use Rattle.heap_model.specs.declared.block.Block.{Block};
     ghost use Rattle.line_memory.specs.ClosedWords.{volatile_words, durable_words};
     ghost use Rattle.line_memory.specs.declared.memory.Stopped.{Stopped};
     ghost use Rattle.heap_model.specs.Image.{Image};
@@ -111,6 +113,19 @@ impl<C: Chance> SeqHeap<C> {
                 used: 0,
             },
         })
+    }
+
+    /// The held block that begins at the byte offset, if one does: what `free` and a spot ask for.
+    pub fn held_at(&self, offset: u64) -> Option<Block>
+        ensures some { IfSome result (λ b. Contains (held_in self.now.parts) b
+            × (offset ≡ 8 * b.first_word)) }
+        ensures none { IfNone result ((b : Block) → Contains (held_in self.now.parts) b
+            → offset ≢ 8 * b.first_word) }
+    {
+        if offset % WORD_BYTES != 0 {
+            return None;
+        }
+        self.arena.held.find(offset / WORD_BYTES)
     }
 
     /// Closes the heap, and gives what loads saw and what a crash would have left.
