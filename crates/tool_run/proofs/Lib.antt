@@ -2,5 +2,8 @@ pub mod PrintLemmas
 pub mod DeliveryLemmas
 pub mod ImageLemmas
 pub mod RecoveryLemmas
+pub mod OffsetLemmas
+pub mod DrainLemmas
 pub mod CallLemmas
 pub mod StatusLemmas
+pub mod OutsideLemmas

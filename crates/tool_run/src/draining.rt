@@ -1,10 +1,10 @@
 //! What draining a class of an image gives, once the image is recovered.
-ghost use Rattle.std.specs.Prelude.{◌≡◌, ◌≤◌, ℕ, ◌++◌, IfOk, IfErr};
+ghost use Rattle.std.specs.Prelude.{◌≡◌, ◌≤◌, ℕ, IfOk, IfErr};
 ghost use Rattle.tool_ports.specs.Causes.{Rose};
 ghost use Rattle.tool_run.specs.Command.{drain_image};
 ghost use Rattle.tool_run.specs.Inside.{Refuses};
 ghost use Rattle.tool_run.specs.Making.{Drains, drained_text};
-ghost use Rattle.tool_run.specs.Recovering.{IsDrainText};
+ghost use Rattle.tool_run.specs.Recovering.{IsTidyAtRest, IsGivenText};
 
 use crate::drained::drain_heap;
 use crate::fault::Fault;
@@ -15,6 +15,7 @@ use heap_recover::Recovered;
 use region_header::Bytes;
 use size_table::size_of;
 use std::alloc::{AllocError, Global};
+use super_block::Ready;
 use tool_ports::ImageStore;
 
 /// The offsets of the blocks that the class of an image gives until nothing is left.
@@ -32,22 +33,20 @@ pub fn drain_image<I: ImageStore>(
     ensures later { I.faults images.old ≤ I.faults images.new }
 {
     let recovered = recover_image(alloc, name, images)?;
-    let text = drained_text(alloc, recovered, class)?;
-    Ok(Product { image: None, text })
-}
-
-// The text on what a recovered heap gives.
-fn drained_text(
-    alloc: Global,
-    recovered: Recovered,
-    class: SizeClass,
-) -> Result<Bytes, AllocError>
-{
     let Recovered {
         heap,
         was: _,
         free: _,
     } = recovered;
+    let text = heap_text(alloc, heap, class)?;
+    Ok(Product { image: None, text })
+}
+
+// The text on what a heap gives.
+fn heap_text(alloc: Global, heap: Ready, class: SizeClass) -> Result<Bytes, AllocError>
+    requires { IsTidyAtRest heap.words heap.held class.number }
+    ensures { IfOk result (IsGivenText heap.words heap.held class.number) }
+{
     let mut offsets = drain_heap(alloc, heap, class)?;
     offsets.sort_unstable();
     offsets_text(alloc, class, &offsets)
@@ -55,7 +54,7 @@ fn drained_text(
 
 // The line on a class, and a line for each of these offsets.
 fn offsets_text(alloc: Global, class: SizeClass, offsets: &[u64]) -> Result<Bytes, AllocError>
-    ensures ok { IfOk result (λ text. text ≡ drained_text class.number offsets.now) }
+    ensures { IfOk result (λ text. text ≡ drained_text class.number offsets.now) }
 {
     let number = class.number;
     let size = size_of(number);

@@ -34,7 +34,8 @@ pub fn recover_image<I: ImageStore>(
 {
     let image = images.get(alloc, name, MOST_BYTES)?;
     check_bytes(&image)?;
-    Ok(recover_bytes(alloc, &image)?)
+    let recovered = recover_bytes(alloc, &image)?;
+    Ok(recovered)
 }
 
 // Recovers an image of these bytes, whose header is good.

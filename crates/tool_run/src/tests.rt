@@ -426,14 +426,14 @@ fn what_is_refused_by_show_is_refused_by_drain(rt: HostRuntime) -> Result<(), Fa
     Ok(())
 }
 
-// Each block of the least class of the largest heap.
+// Each block of a class of the largest heap.
 #[test]
 fn the_largest_heap_is_drained(rt: HostRuntime) -> Result<(), Fail> {
     let alloc = rt.alloc();
     let mut images = MapStore::new(alloc, Vec::new(alloc), FailedPut::LeavesOld);
     call(alloc, "format h 256", &mut images, &[])?;
-    let (status, out) = call(alloc, "drain h 1", &mut images, &[])?;
-    let text = drained_text(alloc, 1, 16, 24_896, 16_802_112)?;
+    let (status, out) = call(alloc, "drain h 10", &mut images, &[])?;
+    let text = drained_text(alloc, 10, 512, 24_896, 16_802_112)?;
     assert_eq!(rt; status, 0);
     assert_eq!(rt; out.bytes() == text.as_bytes(), true);
     Ok(())
