@@ -1,7 +1,29 @@
--- Which requests a class serves, and what the answer to a request is.
-use Rattle.std.proofs.Common.{◌≡◌, ℕ, ◌*◌, ◌≤◌, arith}
-use Rattle.heap_model.specs.Sizes.{IsLeastClassFor, largest_small}
-use Rattle.heap_model.proofs.SizeLemmas.{few_words, size_of-words}
+-- Which requests a class serves, what the answer to a request is, and which free a held block gets.
+use Rattle.std.proofs.Common.{◌≡◌, ◌≢◌, ℕ, ◌+◌, ◌*◌, ◌<◌, ◌≤◌, ◌⊎◌, inl, inr, true, cond, nat_eq, nat_le, Option, None, Some, Result, Ok, Err, IfOk, OnOk, List, [], ◌∷◌, length, get_or, Contains, refl, ap, sym, subst, ◌∙◌, arith}
+use Rattle.std.proofs.lemmas.Bool.{agree_below, cases_eq, cond-true, le-leb, leb-true}
+use Rattle.heap_model.specs.declared.block.Block.{Block}
+use Rattle.heap_model.specs.Geometry.{link_word, used_word, largest_capacity, superblock_words}
+use Rattle.heap_model.specs.Image.{Image}
+use Rattle.heap_model.specs.Sizes.{IsClass, IsLeastClassFor, class_sizes, size_of, words_of_class, blocks_of, largest_small, span_of}
+use Rattle.heap_model.specs.Words.{head_first}
+use Rattle.heap_model.specs.Blocks.{Begins, of_class, as_large, IsBlock}
+use Rattle.heap_model.specs.Chains.{Follows}
+use Rattle.heap_model.proofs.BlockLemmas.{block_inside}
+use Rattle.heap_model.proofs.SizeLemmas.{at_class, few_words, four_blocks, size_of-words}
+use Rattle.heap_shape.specs.Shape.{Shape}
+use Rattle.heap_shape.specs.Whole.{layout_at, IsShape}
+use Rattle.heap_shape.specs.Moves.{AddsTo}
+use Rattle.heap_shape.specs.Draining.{IsTidy, IsToDrain, DrainsSame, DrainsOne}
+use Rattle.heap_shape.proofs.DrainLemmas.{drained_none}
+use Rattle.line_memory.specs.View.{volatile_at}
+use Rattle.block_heap.specs.declared.cache.Cache.{Cache}
+use Rattle.block_heap.specs.Alloc.{IsSizeFor, of_class as size_of_class, of_superblocks}
+use Rattle.block_heap.specs.Parts.{Parts, image_of, held_in, cache_at}
+use Rattle.block_heap.specs.Running.{IsRunning, AreShort, Serves}
+use Rattle.block_heap.specs.Steps.{IsEmptyList, head_at, Fills, HandsOut}
+use Rattle.block_heap.specs.Large.{JoinsAs}
+use Rattle.block_heap.proofs.SplitLemmas.{serves_then}
+use Rattle.block_heap.specs.Serving.{HasRoom, HasRoomFor, for_class, for_large, LookedInClass, FindsNone, MissesInClass, GetsInClass, AnswersInClass, Misses, Gets, Answers, DrainsTo, DrainsNone, DrainsAs}
 
 -- a request that a class serves is small
 pub least_small : (bytes class : ℕ) → IsLeastClassFor bytes class → bytes ≤ largest_small
@@ -10,3 +32,182 @@ least_small bytes class least =
     let few = few_words class least.is_class in
     let holds = least.holds in
     omega arith
+
+-- one class is the least for a request
+pub one_least : (bytes class other : ℕ) → IsLeastClassFor bytes class → IsLeastClassFor bytes other → class ≡ other
+one_least bytes class other a b =
+    let first = a.least other b.is_class b.holds in
+    let second = b.least class a.is_class a.holds in
+    omega arith
+
+-- a class of no larger blocks is no later one
+no_later : (c class : ℕ) → IsClass c → IsClass class → size_of c ≤ size_of class → c ≤ class
+unfolding size_of class_sizes
+no_later c class is_c is less =
+    leb-true c class (sym (cond-true (nat_le (size_of c) (size_of class)) (nat_le c class) true (le-leb (size_of c) (size_of class) less)) ∙ row)
+  where
+    row : cond (nat_le (size_of c) (size_of class)) (nat_le c class) true ≡ true
+    row = at_class (λ k. cond (nat_le (size_of c) (size_of k)) (nat_le c k) true)
+        (at_class (λ j. agree_below (λ k. cond (nat_le (size_of j) (size_of (k + 1))) (nat_le j (k + 1)) true) (λ _. true) 20) refl c is_c) class is
+
+-- the least class for the size of a class is that class
+pub least_of_size : (bytes class other : ℕ) → IsLeastClassFor bytes class → IsClass other → bytes ≡ size_of other → other ≡ class
+least_of_size bytes class other least is same =
+    let first = least.least other is (omega arith) in
+    let holds = least.holds in
+    let second = no_later other class is least.is_class (omega arith) in
+    omega arith
+
+-- caches that are the same are short
+pub short_same : (p q : Parts) → q.caches ≡ p.caches → AreShort p 0 → AreShort q 0
+short_same p q same short = record { each = λ c is other. subst (λ cs. (cache_at cs c).count < blocks_of c) (sym same) (short.each c is other) }
+
+-- so are all where the one of a class is
+short_but : (class : ℕ) (p q : Parts) → AreShort p 0 → ((c : ℕ) → IsClass c → c ≢ class → cache_at q.caches c ≡ cache_at p.caches c)
+    → (cache_at q.caches class).count < blocks_of class → AreShort q 0
+short_but class p q short same here = record {
+  each = λ c is other. elim (cases_eq c class) as (λ _. (cache_at q.caches c).count < blocks_of c) [
+    | inl one ↦ subst (λ k. (cache_at q.caches k).count < blocks_of k) (sym one) here
+    | inr differs ↦ subst (λ (x : Cache). x.count < blocks_of c) (sym (same c is differs)) (short.each c is other)
+  ];
+}
+
+-- an empty list leads along nothing
+leads_nowhere : (link : ℕ → ℕ) (capacity from : ℕ) (ds : List ℕ) → from ≡ 0 → Follows link capacity from ds → ds ≡ []
+leads_nowhere link capacity from [] none leads = refl
+leads_nowhere link capacity from (d ∷ ds) none leads = absurd (let first = leads.0 in omega arith)
+
+none_of : (ws : List ℕ) → length ws ≡ 0 → ws ≡ []
+none_of [] none = refl
+none_of (w ∷ ws) none = absurd (omega arith)
+
+-- where a request of a class found nothing there was nothing to drain
+pub drains_nothing : (class : ℕ) (p q : Parts) → IsClass class → q.capacity ≡ p.capacity → Fills class p q → FindsNone class p q → DrainsNone class p
+drains_nothing class p q is capacity fills finds tidy b drained =
+    let run = fills.running in
+    let looked = finds.looked in
+    let empty = finds.empty in
+    let last = is.last in
+    let shape : IsShape p.capacity (image_of q) (held_in p) run.shape =
+    subst (λ held. IsShape p.capacity (image_of q) held run.shape) fills.held (subst (λ k. IsShape k (image_of q) (held_in q) run.shape) capacity run.is) in
+    let count = (run.caches class is).count in
+    let cached : run.shape.cached class ≡ [] = none_of (run.shape.cached class) (omega arith) in
+    let listed : run.shape.listed class ≡ [] =
+    leads_nowhere (λ d. image_of q (link_word d)) q.capacity (head_first (head_at q class)) (run.shape.listed class) looked.class_empty (run.is.follows class (omega arith)) in
+    let free : run.shape.listed 0 ≡ [] =
+    leads_nowhere (λ d. image_of q (link_word d)) q.capacity (head_first (head_at q 0)) (run.shape.listed 0) looked.free_empty (run.is.follows 0 (omega arith)) in
+    drained_none p.capacity class (image_of q) (held_in p) run.shape is shape cached listed free (let past = looked.past in omega arith) (fills.drains.tidy tidy) b
+    (fills.drains.has b drained)
+
+-- a request of a class that got a block
+pub gets_in_class : (class : ℕ) (b : Block) (p q r : Parts) → IsClass class → AreShort p 0 → Fills class p q → HasRoom p class → HandsOut class b q r → GetsInClass class b p r
+gets_in_class class b p q r is short fills room hands = record {
+  running = hands.running;
+  short = short_but class p r short (λ c is_c other. hands.caches c is_c other ∙ fills.caches c is_c other)
+      (let count = hands.count in let most = (fills.running.caches class is).most in omega arith);
+  size = hands.size;
+  adds = subst (λ held. AddsTo b held (held_in r)) fills.held hands.adds;
+  new = λ holds. hands.new (subst (λ held. Contains held b) (sym fills.held) holds);
+  room = room;
+}
+
+-- it was one of those to be drained
+pub drains_block : (class : ℕ) (b : Block) (p q r : Parts) → q.capacity ≡ p.capacity → Fills class p q → HandsOut class b q r → DrainsTo class b p r
+drains_block class b p q r capacity fills hands tidy =
+    let same = fills.drains in
+    let first : DrainsOne p.capacity class (image_of q) (held_in p) (held_in r) b =
+    subst (λ k. DrainsOne k class (image_of q) (held_in p) (held_in r) b) capacity
+    (subst (λ held. DrainsOne q.capacity class (image_of q) held (held_in r) b) fills.held hands.drains) in
+    let one : DrainsOne p.capacity class (image_of r) (held_in p) (held_in r) b =
+    subst (λ (xs : List ℕ). DrainsOne p.capacity class (λ word. get_or xs word 0) (held_in p) (held_in r) b) (sym hands.volatile) first in
+    let before : DrainsSame p.capacity class (held_in p) (image_of p) (image_of r) =
+    subst (λ (xs : List ℕ). DrainsSame p.capacity class (held_in p) (image_of p) (λ word. get_or xs word 0)) (sym hands.volatile) same in (
+      one.tidy (before.tidy tidy),
+      before.only b one.was,
+      one.gone,
+      (λ a drained. one.rest a (before.has a drained)),
+      (λ a drained. before.only a (one.only a drained)),
+    )
+
+-- the parts serve all along
+pub serves_all : (p q r : Parts) → held_in q ≡ held_in p → Serves (held_in p) p q → Serves (held_in q) q r → Serves (held_in p) p r
+serves_all p q r same a b = serves_then (held_in p) p q r a (subst (λ held. Serves held q r) same b)
+
+-- the answer to a request that a class serves
+pub answers_small : (bytes class : ℕ) (answer : Option Block) (p q : Parts) → IsLeastClassFor bytes class → AnswersInClass class answer p q → Answers bytes answer p q
+answers_small bytes class None p q least misses = record {
+  running = misses.running;
+  short = misses.short;
+  held = misses.held;
+  taken = misses.taken;
+  none = λ room. no_room room;
+  in_class = λ other is_least. subst (λ k. LookedInClass k p.words.drawn q) (one_least bytes class other least is_least) misses.looked;
+  at_used = λ large. absurd (let small = least_small bytes class least in omega arith);
+} where
+  no_room : HasRoomFor p bytes → ⊥
+  no_room (for_class other is_least room) = misses.none (subst (HasRoom p) (one_least bytes other class is_least least) room)
+  no_room (for_large large fits) = let small = least_small bytes class least in omega arith
+answers_small bytes class (Some b) p q least gets = record {
+  running = gets.running;
+  short = gets.short;
+  size = subst (IsSizeFor bytes) (size_of-words class least.is_class ∙ ap (λ words. 8 * words) (sym gets.size)) (size_of_class class least);
+  adds = gets.adds;
+  new = gets.new;
+  room = for_class class least gets.room;
+}
+
+-- the answer to one that takes superblocks of its own
+pub answers_large : (bytes : ℕ) (answer : Option Block) (p q : Parts) → largest_small < bytes → AreShort p 0 → JoinsAs (span_of bytes) answer p q → IsRunning q
+    → q.caches ≡ p.caches → q.capacity ≡ p.capacity → Answers bytes answer p q
+answers_large bytes None p q large short joins running caches capacity = record {
+  running = running;
+  short = short_same p q caches short;
+  held = joins.0;
+  taken = joins.4;
+  none = λ room. no_room room;
+  in_class = λ class least. absurd (let small = least_small bytes class least in omega arith);
+  at_used = λ _. record { used_look = joins.3; past = let same = joins.2 in let past = joins.1 in omega arith };
+} where
+  no_room : HasRoomFor p bytes → ⊥
+  no_room (for_class class least room) = let small = least_small bytes class least in omega arith
+  no_room (for_large _ fits) = let past = joins.1 in omega arith
+answers_large bytes (Some b) p q large short joins running caches capacity = record {
+  running = running;
+  short = short_same p q caches short;
+  size =
+      let size = joins.0 in
+      let bytes_are : 65536 * span_of bytes ≡ 8 * b.words = omega arith in
+      subst (IsSizeFor bytes) bytes_are (of_superblocks large);
+  adds = joins.1;
+  new = joins.2;
+  room = for_large large joins.3;
+}
+
+-- a held block of a class has the size of that class
+pub size_of_held : (p : Parts) (b : Block) (class : ℕ) → IsRunning p → Contains (held_in p) b → IsLeastClassFor (8 * b.words) class → b.words ≡ words_of_class class
+size_of_held p b class run holds least = by_begins named.superblock named.words named.count named.is_of.begins named.is_of.size where
+  named : IsBlock (layout_at p.capacity (image_of p)) b
+  named = run.is.named b holds
+
+  by_begins : (d w n : ℕ) → Begins (layout_at p.capacity (image_of p)) d w n → b.words ≡ w → b.words ≡ words_of_class class
+  by_begins d w n (of_class c info is) words =
+      let bytes : 8 * b.words ≡ size_of c = ap (λ x. 8 * x) words ∙ sym (size_of-words c is) in
+      words ∙ ap words_of_class (least_of_size (8 * b.words) class c least is bytes)
+  by_begins d w n (as_large k some info end zeros) words = absurd (let small = least_small (8 * b.words) class least in omega arith)
+
+-- one that no class serves has no size of a class
+pub no_size_of_held : (b : Block) → largest_small < 8 * b.words → (class : ℕ) → IsClass class → b.words ≢ words_of_class class
+no_size_of_held b large class is same = let few = few_words class is in omega arith
+
+-- held blocks are short
+pub few_held : (p : Parts) (b : Block) → IsRunning p → Contains (held_in p) b → b.words ≤ 2097152
+few_held p b run holds =
+    let inside = block_inside (layout_at p.capacity (image_of p)) b (run.is.named b holds) in
+    let small = run.is.small in
+    let used = run.is.used in
+    omega (arith, inside.0, inside.1)
+
+-- two facts of an answer
+pub both_ok : {T E : Type 0} (r : Result T E) (P Q : T → Type 0) (R : Type 0) → ((x : T) → P x → R → Q x) → IfOk r P → OnOk r R → IfOk r Q
+both_ok (Ok x) P Q R both p q = both x p q
+both_ok (Err e) P Q R both p q = p

@@ -2,9 +2,10 @@
 use Rattle.std.proofs.Common.{◌≡◌, ◌≢◌, ℕ, zero, suc, ◌+◌, ◌*◌, ◌/◌, ◌<◌, ◌≤◌, ◌⊎◌, inl, inr, Option, None, Some, MatchOption, List, ◌∷◌, length, get_or, set, Contains, refl, ap, sym, subst, ◌∙◌, arith, get_or-set_same, get_or-set_other, length-set}
 use Rattle.std.proofs.lemmas.Bool.{cases_eq}
 use Rattle.heap_model.specs.declared.block.Block.{Block}
-use Rattle.heap_model.specs.Geometry.{lists, head_word, info_word, anchor_word, used_word, start_word}
+use Rattle.heap_model.specs.Geometry.{lists, head_word, info_word, anchor_word, link_word, used_word, start_word}
 use Rattle.heap_model.specs.Sizes.{IsClass, blocks_of, words_of_class}
-use Rattle.heap_model.specs.Words.{head_pops}
+use Rattle.heap_model.specs.Words.{head_first, head_pops}
+use Rattle.heap_model.specs.Chains.{Follows}
 use Rattle.heap_model.proofs.BlockLemmas.{block_words}
 use Rattle.heap_model.proofs.SizeLemmas.{four_blocks}
 use Rattle.heap_shape.specs.Shape.{in_list, is_full, Shape, with_at}
@@ -13,7 +14,7 @@ use Rattle.heap_shape.specs.Whole.{layout_at, IsShape}
 use Rattle.heap_shape.specs.Effects.{IsSet, IsCut, IsInSuperblock, firsts_from, all_firsts}
 use Rattle.heap_shape.specs.Draining.{DrainsSame}
 use Rattle.heap_shape.specs.Moves.{after_cut, after_fresh}
-use Rattle.heap_shape.proofs.BasicLemmas.{with_at_other, in_free_list}
+use Rattle.heap_shape.proofs.BasicLemmas.{with_at_same, with_at_other, in_free_list}
 use Rattle.heap_shape.proofs.OwnLemmas.{none_past}
 use Rattle.heap_shape.proofs.RefillLemmas.{cut_free, cut_fresh}
 use Rattle.heap_shape.proofs.DrainLemmas.{cut_free_drains, cut_fresh_drains}
@@ -32,11 +33,12 @@ use Rattle.block_heap.specs.Medium.{StoresOnly}
 use Rattle.block_heap.specs.Parts.{Parts, image_of, held_in, cache_at}
 use Rattle.block_heap.specs.Refill.{SameBut, Cuts}
 use Rattle.block_heap.specs.Running.{IsRunning, IsCacheOf, KnowsSizes, IsSettled, Serves}
-use Rattle.block_heap.specs.Steps.{head_at, IsEmptyList, Fills}
+use Rattle.block_heap.specs.Steps.{head_at, IsEmptyList, LeadsAlong, Fills, Spends}
 use Rattle.block_heap.specs.Works.{Works, IsAllocatorWord, is_info, is_anchor, is_inside}
 use Rattle.block_heap.proofs.HeldLemmas.{has_map}
 use Rattle.block_heap.proofs.MediumLemmas.{stores_then, stores_more}
 use Rattle.block_heap.proofs.RunningLemmas.{set_is, settled_kept, running_words}
+use Rattle.block_heap.proofs.SpendLemmas.{spends_none, spends_by}
 use Rattle.block_heap.proofs.StableLemmas.{works_of, works_then, works_raised}
 use Rattle.block_heap.proofs.RefillLemmas.{IsMoved, moved_word, moved_info, moved_used, serves_of, drains_none, made, caches_filled, caches_other, none_cached, head_moved, popped_head, popped_of, popped_pops, popped_list, popped_place}
 
@@ -109,7 +111,7 @@ pub unmarked : (p : Parts) (d : ℕ) → IsRunning p → HasNoHeld p.capacity (h
 unmarked p d run none mark marked at =
     let b : Block = block_of_mark p.blocks.start p.blocks.words.items mark in
     let holds : Contains (held_in p) b = has_map (block_of_mark p.blocks.start p.blocks.words.items) (marked_words p.blocks.marks.items) mark
-        (marked_words-has p.blocks.marks.items mark marked) in
+    (marked_words-has p.blocks.marks.items mark marked) in
     let some : 2 ≤ get_or p.blocks.words.items (mark / 4096) 0 = block_words (layout_at p.capacity (image_of p)) b (run.is.named b holds) in
     let start : p.blocks.start ≡ start_word p.capacity 0 = run.sizes.start in
     none b holds (record { begins = omega arith; ends = omega arith })
@@ -123,7 +125,7 @@ long_firsts capacity class d index (suc count) = let rest = long_firsts capacity
 module _ (p : Parts) (class d : ℕ) (w : View) (looks : List Look) (look : Look) (taken : ℕ) (q : Parts) (run : IsRunning p) (is : IsClass class)
     (within : d < p.capacity)
     (stores : StoresOnly (IsDivideWord p.capacity d) w q.words) (same : SameBut (record p { words = w; head_looks = looks; used_look = look; taken = taken })
-        q)
+    q)
     (cuts : Cuts class d (record p { words = w; head_looks = looks; used_look = look; taken = taken }) q) where
   abbrev filled : Cache
   filled = record { first = start_word p.capacity d; count = blocks_of class }
@@ -134,7 +136,7 @@ module _ (p : Parts) (class d : ℕ) (w : View) (looks : List Look) (look : Look
   pub cut_some : 1 ≤ (cache_at q.caches class).count
   cut_some =
       let now : cache_at q.caches class ≡ filled = ap (λ (cs : List Cache). cache_at cs class) cuts.caches
-        ∙ get_or-set_same p.caches class filled (record { first = 0; count = 0 }) (let long = run.caches_long in let last = is.last in omega arith) in
+      ∙ get_or-set_same p.caches class filled (record { first = 0; count = 0 }) (let long = run.caches_long in let last = is.last in omega arith) in
       let four = four_blocks class is in
       subst (λ (x : Cache). 1 ≤ x.count) (sym now) (omega arith)
 
@@ -150,26 +152,26 @@ module _ (p : Parts) (class d : ℕ) (w : View) (looks : List Look) (look : Look
       | inl one ↦ subst (λ k. get_or q.blocks.words.items k 0 ≡ words_of_class (image_of q (info_word k))) (sym one)
           (ap (λ (xs : List ℕ). get_or xs d 0) cuts.sizes
           ∙ get_or-set_same p.blocks.words.items d (words_of_class class) 0 (let long = run.sizes.long in omega arith) ∙ ap words_of_class
-              (sym cuts.divided.info))
+          (sym cuts.divided.info))
       | inr other ↦
           let info : image_of q (info_word e) ≡ image_of p (info_word e) =
-              stores.volatile (info_word e) (divide_info p.capacity d e less other) ∙ infos e less in
+          stores.volatile (info_word e) (divide_info p.capacity d e less other) ∙ infos e less in
           let stands : t.place e ≡ run.shape.place e = ap (λ (f : ℕ → Rattle.heap_shape.specs.Shape.Place). f e) place ∙ with_at_other run.shape.place d
-              is_full e other in
+          is_full e other in
           let before : get_or p.blocks.words.items e 0 ≡ words_of_class (image_of p (info_word e)) = run.sizes.sizes e less (subst IsClass info is_e)
-            (elim stood as (λ _. (run.shape.place e ≡ in_list (image_of p (info_word e))) ⊎ (run.shape.place e ≡ is_full)) [
-              | inl l ↦ inl (sym stands ∙ l ∙ ap in_list info)
-              | inr f ↦ inr (sym stands ∙ f)
-            ]) in
+          (elim stood as (λ _. (run.shape.place e ≡ in_list (image_of p (info_word e))) ⊎ (run.shape.place e ≡ is_full)) [
+            | inl l ↦ inl (sym stands ∙ l ∙ ap in_list info)
+            | inr f ↦ inr (sym stands ∙ f)
+          ]) in
           ap (λ (xs : List ℕ). get_or xs e 0) cuts.sizes ∙ get_or-set_other p.blocks.words.items d e (words_of_class class) 0 other ∙ before ∙ ap
-              words_of_class (sym info)
+          words_of_class (sym info)
     ];
   }
 
   pub cut_running : (t : Shape) → word_count w ≡ word_count p.words → w.budget ≡ p.words.budget → length looks ≡ lists → IsSettled p.capacity w
       → ((e : ℕ) → e < p.capacity → volatile_at w (info_word e) ≡ image_of p (info_word e)) → IsShape p.capacity (image_of q) (held_in p) t
       → t.place ≡ with_at run.shape.place d is_full → t.start ≡ with_at run.shape.start class (first_of p.capacity class d 0)
-          → t.cached ≡ with_at run.shape.cached class (all_firsts p.capacity class d)
+      → t.cached ≡ with_at run.shape.cached class (all_firsts p.capacity class d)
       → ((list : ℕ) → list < lists → 2 * head_pops (volatile_at w (head_word list)) ≤ w.drawn + 1)
       → volatile_at w used_word + look.taken ≡ look.seen + taken → taken ≤ volatile_at w used_word → IsRunning q
   cut_running t words budget looks_long settled infos shape place start cached pops knows few = made p q t run (record {
@@ -184,7 +186,7 @@ module _ (p : Parts) (class d : ℕ) (w : View) (looks : List Look) (look : Look
     is = shape;
     caches = subst (λ (cs : List Cache). (c : ℕ) → IsClass c → IsCacheOf t c (cache_at cs c)) (sym cuts.caches)
         (caches_filled run.shape t p.caches class (first_of p.capacity class d 0) (all_firsts p.capacity class d) filled run.caches_long is run.caches start
-            cached
+        cached
         (omega arith) (sym (long_firsts p.capacity class d 0 (blocks_of class))) (omega arith));
     sizes = sizes t infos place;
     settled = settled_cut p.capacity class d w q.words settled stores cuts.divided;
@@ -192,7 +194,7 @@ module _ (p : Parts) (class d : ℕ) (w : View) (looks : List Look) (look : Look
         let before = pops list less in
         let drew = cuts.divided.goes.drew in
         let kept : head_at q list ≡ volatile_at w (head_word list) = stores.volatile (head_word list)
-            (divide_before p.capacity d (head_word list) (omega arith)) in
+        (divide_before p.capacity d (head_word list) (omega arith)) in
         omega arith;
     knows =
         let kept : image_of q used_word ≡ volatile_at w used_word = stores.volatile used_word (divide_before p.capacity d used_word (omega arith)) in
@@ -236,7 +238,7 @@ module _ (p : Parts) (class d : ℕ) (popped : Popped) (w : View) (look : Look) 
     pub free_serves : Serves (held_in p) p q
     free_serves = serves_of p q (λ word. IsMoved p.capacity word ⊎ IsDivideWord p.capacity d word) run
         (λ word t. elim t as (λ _. IsAllocatorWord p.capacity (held_in p) word)
-            [ inl m ↦ moved_word p.capacity (held_in p) word m | inr t ↦ divide_word p.capacity d (held_in p) word free_within free_none t ])
+        [ inl m ↦ moved_word p.capacity (held_in p) word m | inr t ↦ divide_word p.capacity d (held_in p) word free_within free_none t ])
         (λ t. elim t as (λ _. ⊥) [ inl m ↦ moved_used p.capacity used_word m refl | inr t ↦ divide_before p.capacity d used_word (omega arith) t ])
         (stores_then (λ word. IsMoved p.capacity word ⊎ IsDivideWord p.capacity d word) p.words w q.words
         (stores_more (IsMoved p.capacity) (λ word. IsMoved p.capacity word ⊎ IsDivideWord p.capacity d word) p.words w (λ word m. inl m) moved)
@@ -247,15 +249,23 @@ module _ (p : Parts) (class d : ℕ) (popped : Popped) (w : View) (look : Look) 
       image_cut : IsCut p.capacity (λ word. volatile_at w word) (image_of q) class d
       image_cut = cut_image p class d w (set p.head_looks 0 look) p.used_look p.taken q run is free_within stores same cuts
 
+      free_shape : IsShape p.capacity (image_of q) (held_in p) (after_cut run.shape p.capacity class d rest)
+      free_shape = cut_free p.capacity class d (image_of p) (λ word. volatile_at w word) (image_of q) (held_in p) run.shape rest is run.is listed
+          (none_cached p class run is empty) (popped_of p 0 popped w run zero_list pop pop_stores d some) image_cut
+
       free_running : IsRunning q
       free_running = cut_running p class d w (set p.head_looks 0 look) p.used_look p.taken q run is free_within stores same cuts
           (after_cut run.shape p.capacity class d rest) pop_stores.words pop_stores.budget (length-set p.head_looks 0 look ∙ run.looks_long)
           (settled_kept p.capacity (IsMoved p.capacity) p.words w moved (λ e within m. moved_info p.capacity e (info_word e) m refl)
-              (λ m. moved_used p.capacity used_word m refl) run.settled)
+          (λ m. moved_used p.capacity used_word m refl) run.settled)
           (λ e within. moved.volatile (info_word e) (λ m. moved_info p.capacity e (info_word e) m refl))
+<<<<<<< HEAD
           (cut_free p.capacity class d (image_of p) (λ word. volatile_at w word) (image_of q) (held_in p) run.shape rest is run.is listed
-              (none_cached p class run is empty)
+          (none_cached p class run is empty)
           (popped_of p 0 popped w run zero_list pop pop_stores d some) image_cut)
+=======
+          free_shape
+>>>>>>> 721adec2cc9e89152f8d2c3944c102931e58556d
           refl refl refl
           (λ list less.
           let before = run.pops list less in
@@ -263,9 +273,9 @@ module _ (p : Parts) (class d : ℕ) (popped : Popped) (w : View) (look : Look) 
           let drew = pop.goes.drew in
           omega arith)
           (let kept : volatile_at w used_word ≡ image_of p used_word = moved.volatile used_word (λ m. moved_used p.capacity used_word m refl) in let knew =
-              run.knows in omega arith)
+          run.knows in omega arith)
           (let kept : volatile_at w used_word ≡ image_of p used_word = moved.volatile used_word (λ m. moved_used p.capacity used_word m refl) in let least =
-              run.few in omega arith)
+          run.few in omega arith)
 
       pub free_fills : Fills class p q
       free_fills = record {
@@ -276,9 +286,25 @@ module _ (p : Parts) (class d : ℕ) (popped : Popped) (w : View) (look : Look) 
             (popped_of p 0 popped w run zero_list pop pop_stores d some) image_cut;
       }
 
+      free_list : (list : ℕ) (ds : List ℕ) → list < lists → with_at run.shape.listed 0 rest list ≡ ds → LeadsAlong q list ds
+      free_list list ds less is_ds =
+          subst (λ n. Follows (λ e. image_of q (link_word e)) n (head_first (head_at q list)) ds) (sym same.capacity)
+          (subst (λ (es : List ℕ). Follows (λ e. image_of q (link_word e)) p.capacity (head_first (head_at q list)) es) is_ds (free_shape.follows list less))
+
+      pub free_spends : Spends 1 class p q
+      free_spends =
+          let long : length (run.shape.listed 0) ≡ length (d ∷ rest) = ap length listed in
+          let used = free_serves.works.used in
+          spends_by 1 class p q run (run.shape.listed class) rest is free_running same.capacity
+              (free_list class (run.shape.listed class) (let last = is.last in omega arith)
+              (with_at_other run.shape.listed 0 rest class (λ e. let from = is.some in omega arith)))
+              (free_list 0 rest (omega arith) (with_at_same run.shape.listed 0 rest)) (omega arith)
+
       pub free_found : (1 ≤ (cache_at q.caches class).count) × (IsEmptyList p 0 → ⊥)
-      free_found = (cut_some p class d w (set p.head_looks 0 look) p.used_look p.taken q run is free_within stores same cuts,
-          λ none. let head = popped_head p 0 popped w run zero_list pop pop_stores d some in omega arith)
+      free_found = (
+        cut_some p class d w (set p.head_looks 0 look) p.used_look p.taken q run is free_within stores same cuts,
+        λ none. let head = popped_head p 0 popped w run zero_list pop pop_stores d some in omega arith,
+      )
 
 -- one that was never taken
 module _ (p : Parts) (w : View) (run : IsRunning p) (stores : StoresOnly (λ word. word ≡ used_word) p.words w)
@@ -300,10 +326,13 @@ module _ (p : Parts) (w : View) (run : IsRunning p) (stores : StoresOnly (λ wor
       no_words : (w.volatile ≡ p.words.volatile) × (p.capacity < fresh.used + 1) × StoresOnly (λ _. ⊥) p.words w
       no_words = subst (λ (o : Option ℕ). MatchOption o ((w.volatile ≡ p.words.volatile) × (p.capacity < fresh.used + 1) × StoresOnly (λ _. ⊥) p.words w)
           (λ d. (d ≡ fresh.used) × (fresh.used + 1 ≤ p.capacity) × (w.volatile ≡ set p.words.volatile used_word (fresh.used + 1)) × (durable_at w
-              used_word ≡ fresh.used + 1))) none took.words
+          used_word ≡ fresh.used + 1))) none took.words
 
       none_running : IsRunning (record p { words = w })
       none_running = running_words p w (λ _. ⊥) run took.goes.running no_words.0 no_words.2 (λ e less t. t) (λ t. t) took.goes.below
+
+      pub none_spends : Spends 0 class p none_fresh
+      none_spends = spends_none class p none_fresh refl no_words.0
 
       pub none_fills : Fills class p none_fresh
       none_fills = record {
@@ -335,7 +364,7 @@ module _ (p : Parts) (w : View) (run : IsRunning p) (stores : StoresOnly (λ wor
           used_word ≡ fresh.used + 1)
       some_words = subst (λ (o : Option ℕ). MatchOption o ((w.volatile ≡ p.words.volatile) × (p.capacity < fresh.used + 1) × StoresOnly (λ _. ⊥) p.words w)
           (λ d. (d ≡ fresh.used) × (fresh.used + 1 ≤ p.capacity) × (w.volatile ≡ set p.words.volatile used_word (fresh.used + 1)) × (durable_at w
-              used_word ≡ fresh.used + 1))) some took.words
+          used_word ≡ fresh.used + 1))) some took.words
 
       past : image_of p used_word ≡ d
       past = sym took.used ∙ sym some_words.0
@@ -380,7 +409,7 @@ module _ (p : Parts) (w : View) (run : IsRunning p) (stores : StoresOnly (λ wor
               capacity = same.capacity;
               works = works_then p.capacity (held_in p) p.words w q.words raised
                   (works_of p.capacity (held_in p) (IsDivideWord p.capacity d) w q.words
-                      (λ word t. divide_word p.capacity d (held_in p) word within none_held t)
+                  (λ word t. divide_word p.capacity d (held_in p) word within none_held t)
                   (λ t. divide_before p.capacity d used_word (omega arith) t) cut_stores settled.used).0;
               knows = omega arith;
               taken = omega arith;
@@ -391,12 +420,20 @@ module _ (p : Parts) (w : View) (run : IsRunning p) (stores : StoresOnly (λ wor
           fresh_image : IsCut p.capacity (λ word. volatile_at w word) (image_of q) class d
           fresh_image = cut_image p class d w p.head_looks look (p.taken + 1) q run is within cut_stores same cuts
 
+          fresh_shape : IsShape p.capacity (image_of q) (held_in p) (after_fresh run.shape p.capacity class d)
+          fresh_shape = cut_fresh p.capacity class d (image_of p) (λ word. volatile_at w word) (image_of q) (held_in p) run.shape is run.is past within
+              (none_cached p class run is empty) used_set fresh_image
+
           fresh_running : IsRunning q
           fresh_running = cut_running p class d w p.head_looks look (p.taken + 1) q run is within cut_stores same cuts
               (after_fresh run.shape p.capacity class d) stores.words stores.budget run.looks_long settled
               (λ e less. stores.volatile (info_word e) (λ at. omega arith))
+<<<<<<< HEAD
               (cut_fresh p.capacity class d (image_of p) (λ word. volatile_at w word) (image_of q) (held_in p) run.shape is run.is past within
-                  (none_cached p class run is empty) used_set fresh_image)
+              (none_cached p class run is empty) used_set fresh_image)
+=======
+              fresh_shape
+>>>>>>> 721adec2cc9e89152f8d2c3944c102931e58556d
               refl refl refl
               (λ list less.
               let before = run.pops list less in
@@ -414,6 +451,20 @@ module _ (p : Parts) (w : View) (run : IsRunning p) (stores : StoresOnly (λ wor
             drains = cut_fresh_drains p.capacity class d (image_of p) (λ word. volatile_at w word) (image_of q) (held_in p) run.shape is run.is past within
                 used_set fresh_image;
           }
+
+          fresh_list : (list : ℕ) → list < lists → LeadsAlong q list (run.shape.listed list)
+          fresh_list list less =
+              subst (λ n. Follows (λ e. image_of q (link_word e)) n (head_first (head_at q list)) (run.shape.listed list)) (sym same.capacity)
+              (fresh_shape.follows list less)
+
+          pub fresh_spends : Spends 1 class p q
+          fresh_spends =
+              let at = past in
+              let now : volatile_at w used_word ≡ d + 1 = used_set.at in
+              let kept : image_of q used_word ≡ volatile_at w used_word =
+                cut_stores.volatile used_word (divide_before p.capacity d used_word (omega arith)) in
+              spends_by 1 class p q run (run.shape.listed class) (run.shape.listed 0) is fresh_running same.capacity
+                  (fresh_list class (let last = is.last in omega arith)) (fresh_list 0 (omega arith)) (omega arith)
 
           pub fresh_found : (1 ≤ (cache_at q.caches class).count) × (image_of p used_word + 1 ≤ p.capacity)
           fresh_found = (cut_some p class d w p.head_looks look (p.taken + 1) q run is within cut_stores same cuts, fresh_room)

@@ -78,7 +78,7 @@ module _ (p : Parts) (class : ℕ) (is : IsClass class) (run : IsRunning p) (fro
       let batch = is_front.count in
       let left = is_front.rest in
       walk_front (image_of p) (s.start class) blocks (s.cached class) (subst (λ x. Walks (image_of p) x blocks) first is_front.walks) (run.is.walks class is)
-          (omega arith)
+      (omega arith)
 
   rest_long : length split.0 ≡ front.rest.count
   rest_long =
@@ -103,7 +103,7 @@ module _ (p : Parts) (class : ℕ) (is : IsClass class) (run : IsRunning p) (fro
   found_is =
       let found = run.is.cached class front.batch.last is last_cached in
       inside_one p.capacity found.superblock front.d front.batch.last (first_inside p.capacity class found.superblock front.batch.last is found.is_first)
-          last_inside
+      last_inside
 
   pub front_class : IsOfClass p.capacity (image_of p) s (held_in p) class front.d
   front_class = subst (λ e. IsOfClass p.capacity (image_of p) s (held_in p) class e) found_is
@@ -113,16 +113,16 @@ module _ (p : Parts) (class : ℕ) (is : IsClass class) (run : IsRunning p) (fro
   front_state : ((s.place front.d ≡ in_list class) × (anchor_state (image_of p (anchor_word front.d)) ≢ 2)
       × (anchor_state (image_of p (anchor_word front.d)) ≢ 3))
       ⊎ ((s.place front.d ≡ is_full) × (image_of p (info_word front.d) ≡ class) × (anchor_state (image_of p (anchor_word front.d)) ≡ 2)
-          × (s.chain front.d ≡ []))
+      × (s.chain front.d ≡ []))
   front_state =
       let placed : (s.place front.d ≡ in_list class) ⊎ ((s.place front.d ≡ is_full) × (image_of p (info_word front.d) ≡ class)) =
-        subst (λ e. (s.place e ≡ in_list class) ⊎ ((s.place e ≡ is_full) × (image_of p (info_word e) ≡ class))) found_is
-            (run.is.cached class front.batch.last is last_cached).place in
+      subst (λ e. (s.place e ≡ in_list class) ⊎ ((s.place e ≡ is_full) × (image_of p (info_word e) ≡ class))) found_is
+      (run.is.cached class front.batch.last is last_cached).place in
       elim placed [
         | inl listed ↦
             let of = in_class_list p.capacity (image_of p) (held_in p) s run.is class front.d is is_front.within listed in
             inl (elim of.state as (λ _. (s.place front.d ≡ in_list class) × (anchor_state (image_of p (anchor_word front.d)) ≢ 2)
-                × (anchor_state (image_of p (anchor_word front.d)) ≢ 3)) [
+            × (anchor_state (image_of p (anchor_word front.d)) ≢ 3)) [
               | inl all ↦ let number = all.0 in (listed, (λ e. omega arith), (λ e. omega arith))
               | inr some ↦ let number = some.0 in (listed, (λ e. omega arith), (λ e. omega arith))
             ])
@@ -138,7 +138,7 @@ module _ (p : Parts) (class : ℕ) (is : IsClass class) (run : IsRunning p) (fro
   pub front_first : front.batch.first < blocks_of class
   front_first =
       let begins = is_front.firsts (cache_at p.caches class).first (walk_first (image_of p)
-          (cache_at p.caches class).first is_front.before front.batch.last is_front.walks) in
+      (cache_at p.caches class).first is_front.before front.batch.last is_front.walks) in
       let same = first_injective p.capacity class front.d front.batch.first begins.index is (sym is_front.first ∙ begins.at) in
       let below = begins.below in
       omega arith
@@ -165,7 +165,7 @@ module _ (p : Parts) (class : ℕ) (is : IsClass class) (run : IsRunning p) (fro
   give_word word (inl at) = is_anchor front.d is_front.within at
   give_word word (inr at) = is_inside (let from = last_inside.from in omega arith)
       (λ b holds is_in. cached_apart p.capacity (image_of p) (held_in p) s class front.batch.last b run.is is last_cached holds
-          (subst (λ x. IsIn b x) at is_in))
+      (subst (λ x. IsIn b x) at is_in))
 
   give_low : (word : ℕ) → word < start_word p.capacity 0 → word ≢ anchor_word front.d → IsGiveWord front.d front.batch word → ⊥
   give_low word low other (inl at) = other at
@@ -217,10 +217,13 @@ module _ (p : Parts) (class : ℕ) (is : IsClass class) (run : IsRunning p) (fro
     linked_is : ((anchor.count ≡ 0) × (linked ≡ p.words.volatile)) ⊎ (linked ≡ set p.words.volatile front.batch.last next_word)
     linked_is = elim (cases_eq anchor.count 0) as (λ _. ((anchor.count ≡ 0) × (linked ≡ p.words.volatile))
         ⊎ (linked ≡ set p.words.volatile front.batch.last next_word)) [
-      | inl none ↦ inl (none, cond-true (nat_eq anchor.count 0) p.words.volatile (set p.words.volatile front.batch.last next_word)
-          (eq-eqb anchor.count 0 none))
-      | inr some ↦ inr (cond-false (nat_eq anchor.count 0) p.words.volatile (set p.words.volatile front.batch.last next_word) (ne_eqb anchor.count 0 some))
-    ]
+          | inl none ↦ inl (
+            none,
+            cond-true (nat_eq anchor.count 0) p.words.volatile (set p.words.volatile front.batch.last next_word)
+                (eq-eqb anchor.count 0 none),
+          )
+          | inr some ↦ inr (cond-false (nat_eq anchor.count 0) p.words.volatile (set p.words.volatile front.batch.last next_word) (ne_eqb anchor.count 0 some))
+        ]
 
     linked_long : length linked ≡ word_count p.words
     linked_long = elim linked_is as (λ _. length linked ≡ word_count p.words) [
@@ -275,7 +278,7 @@ module _ (p : Parts) (class : ℕ) (is : IsClass class) (run : IsRunning p) (fro
             let seen = new_other front.batch.last (omega arith) in
             let first = given.parts.first in
             elim linked_is as (λ _. (s.chain front.d ≡ []) ⊎ (volatile_at w front.batch.last ≡ first_of p.capacity class front.d
-                (anchor_first (image_of p (anchor_word front.d))))) [
+            (anchor_first (image_of p (anchor_word front.d))))) [
               | inl none ↦ inl (none_of_zero (s.chain front.d) (sym chain_count ∙ none.0))
               | inr some ↦ inr (seen ∙ ap (λ (xs : List ℕ). get_or xs front.batch.last 0) some ∙ get_or-set_same p.words.volatile front.batch.last next_word 0
                   (omega arith)
@@ -293,9 +296,9 @@ module _ (p : Parts) (class : ℕ) (is : IsClass class) (run : IsRunning p) (fro
         × (anchor_state (image_of p (anchor_word front.d)) ≡ 2) × (s.chain front.d ≡ [])
     gave_full same = elim front_state as (λ _. (s.place front.d ≡ is_full) × (image_of p (info_word front.d) ≡ class)
         × (anchor_state (image_of p (anchor_word front.d)) ≡ 2) × (s.chain front.d ≡ [])) [
-      | inl listed ↦ absurd (listed.1 (sym given.parts.state ∙ ap state_number same))
-      | inr full ↦ full
-    ]
+          | inl listed ↦ absurd (listed.1 (sym given.parts.state ∙ ap state_number same))
+          | inr full ↦ full
+        ]
 
     caches_now : (t : Shape) → ((c : ℕ) → t.cached c ≡ with_at s.cached class split.0 c)
         → ((c : ℕ) → t.start c ≡ with_at s.start class (image_of p front.batch.last) c)
@@ -308,11 +311,11 @@ module _ (p : Parts) (class : ℕ) (is : IsClass class) (run : IsRunning p) (fro
         let within = is_front.within in
         running_after p w (set p.caches class front.rest) p.blocks (after_give s class front.d blocks split.0 (image_of p front.batch.last)) run
         (keeps_fixed p w (IsGiveWord front.d front.batch) run stores given.goes.running given.goes.below
-            (λ e below. give_low (info_word e) (omega arith) (omega arith)) (give_low used_word (omega arith) (omega arith))
+        (λ e below. give_low (info_word e) (omega arith) (omega arith)) (give_low used_word (omega arith) (omega arith))
         (λ list below. ap head_pops (stores.volatile (head_word list) (give_low (head_word list) (omega arith) (omega arith)))))
         (length-set p.caches class front.rest ∙ run.caches_long) refl refl
         (give p.capacity class front.d (image_of p) (λ word. volatile_at w word) (held_in p) s is_front.before split.0 front.batch.last is run.is
-            is_front.within split.1 is_front.firsts (gave_listed other) given_back)
+        is_front.within split.1 is_front.firsts (gave_listed other) given_back)
         (caches_now (after_give s class front.d blocks split.0 (image_of p front.batch.last)) (λ c. refl) (λ c. refl))
         (λ e below is_class place. place)
 
@@ -345,12 +348,12 @@ module _ (p : Parts) (class : ℕ) (is : IsClass class) (run : IsRunning p) (fro
           let within = is_front.within in
           let small = run.is.small in
           let first : volatile_at w (head_word l) ≡ image_of p (head_word l) = stores.volatile (head_word l)
-              (give_low (head_word l) (omega arith) (omega arith)) in
+          (give_low (head_word l) (omega arith) (omega arith)) in
           elim (cases_eq l list) as (λ _. head_pops (volatile_at x (head_word l)) ≡ head_pops (image_of p (head_word l))) [
             | inl same ↦
                 let at : volatile_at x (head_word list) ≡ head_of (front.d + 1) (head_pops (volatile_at w (head_word list))) = (pushed_on below).head.at in
                 let there : volatile_at w (head_word list) ≡ image_of p (head_word list) = subst
-                    (λ k. volatile_at w (head_word k) ≡ image_of p (head_word k)) same first in
+                (λ k. volatile_at w (head_word k) ≡ image_of p (head_word k)) same first in
                 subst (λ k. head_pops (volatile_at x (head_word k)) ≡ head_pops (image_of p (head_word k))) (sym same) (omega arith)
             | inr other ↦ ap head_pops (push_stores.volatile (head_word l) (push_other l l_below other) ∙ first)
           ]
@@ -389,14 +392,14 @@ module _ (p : Parts) (class : ℕ) (is : IsClass class) (run : IsRunning p) (fro
           let none = none_before in
           let total : length blocks + length (s.chain front.d) ≡ blocks_of class = omega arith in
           let empty : state_now ≡ empty_state = cond-true (nat_eq (length blocks + length (s.chain front.d)) (blocks_of class)) empty_state partial_state
-              (eq-eqb (length blocks + length (s.chain front.d)) (blocks_of class) total) in
+          (eq-eqb (length blocks + length (s.chain front.d)) (blocks_of class) total) in
           let is_state = gave_full full in
           listed_running (after_give_all s class front.d blocks split.0 (image_of p front.batch.last)) 0 (omega arith)
           (give_all p.capacity class front.d (image_of p) (λ word. volatile_at w word) (held_in p) s is_front.before split.0 front.batch.last is run.is
-              is_front.within split.1 is_front.firsts
+          is_front.within split.1 is_front.firsts
           (λ word. volatile_at x word) is_state.0 is_state.1 (omega arith)
           (subst (λ state. IsGivenBack p.capacity (image_of p) (λ word. volatile_at w word) s class front.d is_front.before front.batch.last state) empty
-              given_back)
+          given_back)
           (subst (λ l. IsPushedOn (λ word. volatile_at w word) (λ word. volatile_at x word) l front.d) same (pushed_on (omega arith))))
           (λ c. refl) (λ c. refl) (λ e. refl)
 
@@ -409,13 +412,13 @@ module _ (p : Parts) (class : ℕ) (is : IsClass class) (run : IsRunning p) (fro
           let fits = front_fits in
           let differs : length blocks + length (s.chain front.d) ≢ blocks_of class = λ e. not_all (omega arith) in
           let partial : state_now ≡ partial_state = cond-false (nat_eq (length blocks + length (s.chain front.d)) (blocks_of class)) empty_state partial_state
-              (ne_eqb (length blocks + length (s.chain front.d)) (blocks_of class) differs) in
+          (ne_eqb (length blocks + length (s.chain front.d)) (blocks_of class) differs) in
           let is_state = gave_full full in
           listed_running (after_give_full s class front.d blocks split.0 (image_of p front.batch.last)) class (omega arith)
           (give_full p.capacity class front.d (image_of p) (λ word. volatile_at w word) (held_in p) s is_front.before split.0 front.batch.last is run.is
-              is_front.within split.1 is_front.firsts
+          is_front.within split.1 is_front.firsts
           (λ word. volatile_at x word) is_state.0 is_state.1 (omega arith)
           (subst (λ state. IsGivenBack p.capacity (image_of p) (λ word. volatile_at w word) s class front.d is_front.before front.batch.last state) partial
-              given_back)
+          given_back)
           (subst (λ l. IsPushedOn (λ word. volatile_at w word) (λ word. volatile_at x word) l front.d) same (pushed_on (omega arith))))
           (λ c. refl) (λ c. refl) (λ e. refl)

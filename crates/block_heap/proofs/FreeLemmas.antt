@@ -72,7 +72,7 @@ module _ (p : Parts) (class : ℕ) (is : IsClass class) (run : IsRunning p) (b :
       let long = run.sizes.long in
       let of = named.is_of in
       let at : b.first_word ≡ start_word p.capacity named.superblock + named.index * words_of_class class =
-          of.at ∙ ap (λ w. start_word p.capacity named.superblock + named.index * w) (sym of.size ∙ size) in
+      of.at ∙ ap (λ w. start_word p.capacity named.superblock + named.index * w) (sym of.size ∙ size) in
       let even = even_product named.index (words_of_class class) (even_words class is) in
       record { from = omega arith; until = omega arith; even = omega arith }
 
@@ -87,10 +87,10 @@ module _ (p : Parts) (class : ℕ) (is : IsClass class) (run : IsRunning p) (b :
       let begins = run.sizes.start in
       let d_is : (b.first_word - p.blocks.start) / 8192 ≡ d = omega arith in
       let place = place_known p.capacity (image_of p) run.shape (held_in p) d (run.shape.place d) is_class
-          (part_taken (layout_at p.capacity (image_of p)) b d named part)
-          (λ none. none b holds part) (run.is.places d where_is.1) in
+      (part_taken (layout_at p.capacity (image_of p)) b d named part)
+      (λ none. none b holds part) (run.is.places d where_is.1) in
       let words : get_or p.blocks.words.items ((b.first_word - p.blocks.start) / 8192) 0 ≡ b.words =
-          ap (λ k. get_or p.blocks.words.items k 0) d_is ∙ run.sizes.sizes d where_is.1 is_class place ∙ ap words_of_class e ∙ sym size in
+      ap (λ k. get_or p.blocks.words.items k 0) d_is ∙ run.sizes.sizes d where_is.1 is_class place ∙ ap words_of_class e ∙ sym size in
       same_fields (at_mark p.blocks b.first_word) b refl words
 
   -- it was taken back
@@ -150,15 +150,15 @@ module _ (p : Parts) (class : ℕ) (is : IsClass class) (run : IsRunning p) (b :
           let count = count_is in
           running_after p w (set p.caches class freed_cache) h (with_cache run.shape class b.first_word (b.first_word ∷ run.shape.cached class)) run
           (keeps_fixed p w (λ word. word ≡ b.first_word) run stores stored.goes.running stored.goes.below (λ d d_below. not_first (info_word d) (omega arith))
-              (not_first used_word (omega arith))
+          (not_first used_word (omega arith))
           (λ list list_below. ap head_pops (stores.volatile (head_word list) (not_first (head_word list) (omega arith)))))
           (length-set p.caches class freed_cache ∙ run.caches_long) start words
           (take_back p.capacity class where_is.0 (image_of p) (λ word. volatile_at w word) (held_in p)
-              (held_of h) run.shape b is run.is holds where_is.1 where_is.2 where_is.3 taken_back
+          (held_of h) run.shape b is run.is holds where_is.1 where_is.2 where_is.3 taken_back
           (set_is p.words.volatile w.volatile b.first_word (run.shape.start class) (omega arith)
-              (stored.volatile ∙ ap (λ x. set p.words.volatile b.first_word x) first_is)))
+          (stored.volatile ∙ ap (λ x. set p.words.volatile b.first_word x) first_is)))
           (caches_set p run class (with_cache run.shape class b.first_word (b.first_word ∷ run.shape.cached class)) b.first_word
-              (b.first_word ∷ run.shape.cached class) freed_cache is refl (omega arith) (omega arith) (λ c. refl) (λ c. refl))
+          (b.first_word ∷ run.shape.cached class) freed_cache is refl (omega arith) (omega arith) (λ c. refl) (λ c. refl))
           (λ d d_below is_class place. place)
 
       freed_count : (cache_at (set p.caches class freed_cache) class).count ≡ cache.count + 1

@@ -156,13 +156,13 @@ module _ (p : Parts) (class : ℕ) (is : IsClass class) (run : IsRunning p) (cac
         let count_is = walked.count_is in
         let all = run.is.walks class is in
         let split = walk_front (image_of p) (run.shape.start class) blocks (run.shape.cached class)
-            (subst (λ x. Walks (image_of p) x blocks) first walked.walks) all (omega arith) in
+        (subst (λ x. Walks (image_of p) x blocks) first walked.walks) all (omega arith) in
         let both = length-append blocks split.0 in
         let e : length (run.shape.cached class) ≡ length (blocks ++ split.0) = ap (λ (xs : List ℕ). length xs) split.1 in
         let behind = walk_behind (image_of p) (run.shape.start class) walked.before last split.0
-            (subst (λ xs. Walks (image_of p) (run.shape.start class) xs) split.1 all) in
+        (subst (λ xs. Walks (image_of p) (run.shape.start class) xs) split.1 all) in
         let has : Contains split.0 next = subst (λ x. Contains split.0 x) (sym walked.next_is)
-            (walk_begin (image_of p) (image_of p last) split.0 behind (omega arith)) in
+        (walk_begin (image_of p) (image_of p last) split.0 behind (omega arith)) in
         let cached : Contains (run.shape.cached class) next = subst (λ xs. Contains xs next) (sym split.1) (Contains-append_right blocks split.0 next has) in
         let found = run.is.cached class next is cached in
         record { d = found.superblock; within = found.within; first = found.is_first }
@@ -198,8 +198,12 @@ module _ (p : Parts) (class : ℕ) (is : IsClass class) (run : IsRunning p) (cac
 
     -- the front that was walked
     pub walked_front : (start words : ℕ) → start ≡ start_word p.capacity d → words ≡ words_of_class class
-        → IsFront class (record { d = d; batch = record { first = (cache.first - start) / words; last = last; count = count }; rest = record
-            { first = next; count = cache.count - count } }) p
+        → IsFront class (record {
+          d = d;
+          batch = record { first = (cache.first - start) / words; last = last; count = count };
+          rest = record
+              { first = next; count = cache.count - count };
+        }) p
     walked_front start words start_is words_is =
         let first = first_there in
         let at = first.at in
@@ -209,8 +213,8 @@ module _ (p : Parts) (class : ℕ) (is : IsClass class) (run : IsRunning p) (cac
         let begins : cache.first ≡ (cache_at p.caches class).first = ap (λ (x : Cache). x.first) cache_is in
         let product : cache.first - start ≡ first.index * words_of_class class = omega arith in
         let index : (cache.first - start) / words ≡ first.index =
-            ap (λ x. x / words) product ∙ ap (λ x. first.index * words_of_class class / x) words_is ∙ mul-div_cancel first.index {n = words_of_class class}
-                (omega arith) in
+        ap (λ x. x / words) product ∙ ap (λ x. first.index * words_of_class class / x) words_is ∙ mul-div_cancel first.index {n = words_of_class class}
+        (omega arith) in
         record {
           within = walked.within;
           before = walked.before;

@@ -23,3 +23,7 @@ pub mod FrontLemmas
 pub mod FreeLemmas
 pub mod RequestLemmas
 pub mod PartialLemmas
+pub mod FreeCallLemmas
+pub mod DrainStepLemmas
+pub mod SpendLemmas
+pub mod DrawnLemmas

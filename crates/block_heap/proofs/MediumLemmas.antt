@@ -244,9 +244,9 @@ none_then word value v u w none may =
         | inr old ↦ inr (before word (durable_at w word) old)
       ];
     } where
-  before : (other x : ℕ) → IsValueOf u other x → IsValueOf v other x
-  before other x (inl e) = subst (λ y. IsValueOf v other y) (sym e) (none.durable other (λ f. f))
-  before other x (inr e) = inr (e ∙ none.volatile other (λ f. f))
+      before : (other x : ℕ) → IsValueOf u other x → IsValueOf v other x
+      before other x (inl e) = subst (λ y. IsValueOf v other y) (sym e) (none.durable other (λ f. f))
+      before other x (inr e) = inr (e ∙ none.volatile other (λ f. f))
 
 -- no step stores to a word
 pub none_may : (word value : ℕ) (v w : View) → StoresOnly (λ _. ⊥) v w → MayStore word value v w

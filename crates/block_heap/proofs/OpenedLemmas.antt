@@ -122,7 +122,7 @@ module _ (words : List ℕ) (held : List Block) (budget : ℕ) (h : HeldBlocks) 
     settled = record { infos = λ d within. refl; used = refl };
     pops = λ list less.
         let never = never_popped (λ d. slice_index words (link_word d)) (capacity_of (slice_index words)) (slice_index words (head_word list))
-            (ready.shaped.descriptors list) ready.formed.small (ready.shaped.follows list less) in
+        (ready.shaped.descriptors list) ready.formed.small (ready.shaped.follows list less) in
         omega arith;
     knows = omega arith;
     few = omega arith;

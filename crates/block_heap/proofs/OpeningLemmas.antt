@@ -71,10 +71,10 @@ knows_more words h new d size knows within begun start sizes = record {
         let within_list : d < length h.words.items = omega arith in
         let here : slice_index new.words.items d ≡ size = ap (λ xs. get_or xs d 0) sizes ∙ get_or-set_same h.words.items d size 0 within_list in
         subst (λ x. IsBegun (slice_index words (info_word x)) (slice_index new.words.items x)) (sym same)
-            (subst (λ s. IsBegun (slice_index words (info_word d)) s) (sym here) begun)
+        (subst (λ s. IsBegun (slice_index words (info_word d)) s) (sym here) begun)
     | inr other ↦
         let there : slice_index new.words.items e ≡ slice_index h.words.items e =
-            ap (λ xs. get_or xs e 0) sizes ∙ get_or-set_other h.words.items d e size 0 other in
+        ap (λ xs. get_or xs e 0) sizes ∙ get_or-set_other h.words.items d e size 0 other in
         subst (λ s. IsBegun (slice_index words (info_word e)) s) (sym there) (knows.sizes e (omega arith))
   ];
 }
@@ -178,7 +178,7 @@ all_held words held h knows holds = record {
   sizes = knows.sizes;
   same = λ b. (
     λ p. let one = holds.only b p in (one.number, one.within, one.at),
-    λ p. holds.has b (record { number = p.0; below = p.1; within = p.1; at = p.2 })
+    λ p. holds.has b (record { number = p.0; below = p.1; within = p.1; at = p.2 }),
   );
 }
 

@@ -1,5 +1,5 @@
 -- How a request goes along the list of its class, and where it looks after that.
-use Rattle.std.proofs.Common.{◌≡◌, ℕ, ◌+◌, ◌-◌, ◌*◌, ◌<◌, ◌≤◌, ◌⊎◌, inl, inr, Bool, true, false, None, List, ◌∷◌, length, get_or, refl, ap, sym, subst, ◌∙◌, arith}
+use Rattle.std.proofs.Common.{◌≡◌, ℕ, ◌+◌, ◌*◌, ◌<◌, ◌≤◌, ◌⊎◌, inl, inr, Bool, true, false, None, List, ◌∷◌, length, get_or, refl, ap, sym, subst, ◌∙◌, arith}
 use Rattle.heap_model.specs.declared.block.Block.{Block}
 use Rattle.heap_model.specs.Geometry.{lists, head_word, link_word, used_word}
 use Rattle.heap_model.specs.Sizes.{IsClass}
@@ -9,13 +9,14 @@ use Rattle.heap_shape.proofs.CountLemmas.{few_listed}
 use Rattle.heap_shape.proofs.OwnLemmas.{one_following}
 use Rattle.block_heap.specs.declared.look.Look.{Look}
 use Rattle.block_heap.specs.declared.refill.Found.{Found}
-use Rattle.block_heap.specs.declared.refill.Found.TheVariants.{Blocks, Recycled, Nothing}
+use Rattle.block_heap.specs.declared.refill.Found.TheVariants.{Recycled}
 use Rattle.block_heap.specs.Medium.{Goes, Halts}
 use Rattle.block_heap.specs.Parts.{Parts, image_of, held_in, cache_at}
 use Rattle.block_heap.specs.Refill.{FindsPartial, FindsFree, FindsFresh, Refills}
 use Rattle.block_heap.specs.Running.{IsRunning, Serves}
 use Rattle.block_heap.specs.Serving.{HasRoom, in_cache, in_class_list, in_free_list, in_fresh}
-use Rattle.block_heap.specs.Steps.{head_at, look_at, IsLook, IsEmptyList, LeadsAlong, Fills, FindsFirst, FindsEmpty, Recycles}
+use Rattle.block_heap.specs.Steps.{head_at, look_at, IsLook, IsEmptyList, LeadsAlong, Fills, FindsFirst, FindsEmpty, Recycles, Spends, used_up}
+use Rattle.block_heap.proofs.SpendLemmas.{spends_none, spends_then}
 use Rattle.block_heap.proofs.RefillLemmas.{serves_same, serves_then, drains_none, drains_then}
 
 -- nothing done yet, and two rows of steps
@@ -56,6 +57,7 @@ pub record Walked (class : ℕ) (p q : Parts) : Type 0 where
   pub taken : q.taken ≡ p.taken
   pub used : image_of q used_word ≡ image_of p used_word
   pub way : (q.words.volatile ≡ p.words.volatile) ⊎ ((IsEmptyList q 0 → ⊥) × (IsEmptyList p class → ⊥))
+  pub left : Spends 0 class p q
   pub few : (ds : List ℕ) → LeadsAlong q class ds → q.words.drawn + 8 * length ds ≤ p.words.drawn + 2048
 
 pub walk_begins : (class : ℕ) (p : Parts) → IsClass class → IsRunning p → (cache_at p.caches class).count ≡ 0 → Walked class p p
@@ -66,10 +68,11 @@ walk_begins class p is run empty = record {
   taken = refl;
   used = refl;
   way = inl refl;
+  left = spends_none class p p refl refl;
   few = λ ds leads.
       let below : class < lists = let last = is.last in omega arith in
       let same : run.shape.listed class ≡ ds = one_following (λ d. image_of p (link_word d)) p.capacity (head_first (head_at p class))
-          (run.shape.listed class) ds (run.is.follows class below) leads in
+      (run.shape.listed class) ds (run.is.follows class below) leads in
       let long : length (run.shape.listed class) ≡ length ds = ap length same in
       let most = few_listed p.capacity (image_of p) (held_in p) run.shape run.is class below in
       let small = run.is.small in
@@ -109,6 +112,10 @@ module _ (class : ℕ) (p q r : Parts) (is : IsClass class) (walked : Walked cla
   pub walk_taken : r.taken ≡ p.taken
   walk_taken = taken ∙ walked.taken
 
+  -- how many superblocks are left
+  pub walk_left : (count : ℕ) (found : Found) → Spends (used_up found) class q r → count ≤ used_up found → Spends count class p r
+  walk_left count found spends few = spends_then count 0 (used_up found) class p q r (omega arith) walked.left spends
+
   module _ (fills : Fills class q r) (goes : Goes 8 q.words r.words) where
     pub walk_goes : Goes 2056 p.words r.words
     walk_goes =
@@ -121,12 +128,8 @@ module _ (class : ℕ) (p q r : Parts) (is : IsClass class) (walked : Walked cla
     pub walk_fills : Fills class p r
     walk_fills = fills_then class p q r walked.serves.capacity walked.fills fills
 
-    -- the measure
-    pub walk_ends : r.words.budget - r.words.drawn < q.words.budget - q.words.drawn
-    walk_ends = let drew = goes.drew in let below = goes.below in let same : r.words.budget ≡ q.words.budget = serves.works.stores.budget in omega arith
-
-    pub walk_more : (found : Found) → found ≡ Recycled → FindsFirst class found q r → Walked class p r
-    walk_more found is_found found_first = by_first (subst (λ f. FindsFirst class f q r) is_found found_first) where
+    pub walk_more : (found : Found) → found ≡ Recycled → FindsFirst class found q r → Spends (used_up found) class q r → Walked class p r
+    walk_more found is_found found_first spends = by_first (subst (λ f. FindsFirst class f q r) is_found found_first) where
       by_first : FindsFirst class Recycled q r → Walked class p r
       by_first first = more first.0 first.1 where
         more : (cache_at r.caches class).count ≡ 0 → Recycles class q r → Walked class p r
@@ -137,36 +140,13 @@ module _ (class : ℕ) (p q r : Parts) (is : IsClass class) (walked : Walked cla
           taken = walk_taken;
           used = recycles.used ∙ walked.used;
           way = inr (recycles.now, was_some recycles.some);
+          left = walk_left 0 found spends (omega arith);
           few = λ ds leads.
               let before = recycles.shorter ds leads in
               let few = walked.few (before.0 ∷ ds) before.1 in
               let most = goes.few in
               omega arith;
         }
-
-  pub walk_finds : (found : Found) → found ≡ Blocks → FindsFirst class found q r → FindsPartial class true p r
-  walk_finds found is_found found_first =
-      let first : FindsFirst class Blocks q r = subst (λ f. FindsFirst class f q r) is_found found_first in
-      (first.0, was_some first.1)
-
-  pub walk_none : (found : Found) → found ≡ Nothing → FindsFirst class found q r → FindsPartial class false p r
-  walk_none found is_found found_first =
-      let first : FindsFirst class Nothing q r = subst (λ f. FindsFirst class f q r) is_found found_first in
-      let finds : FindsEmpty class q r = first.1 in
-      let look = look_later q.words.drawn p.words.drawn r r (look_at r class) (head_at r class) begun (omega arith) refl finds.look in
-      let used : image_of r used_word ≡ image_of q used_word = ap (λ (xs : List ℕ). get_or xs used_word 0) finds.volatile in (
-        first.0,
-        (empty_same q r class finds.volatile finds.empty, look),
-        used ∙ walked.used,
-        (λ none. elim walked.way as (λ _. IsEmptyList p 0 × IsEmptyList p class) [
-          | inl same ↦ (empty_same r p 0 (sym (finds.volatile ∙ same)) none, empty_same q p class (sym same) finds.empty)
-          | inr way ↦ absurd (way.0 (empty_same r q 0 (sym finds.volatile) none))
-        ]),
-        (λ none. elim walked.way as (λ _. r.words.volatile ≡ p.words.volatile) [
-          | inl same ↦ finds.volatile ∙ same
-          | inr way ↦ absurd (way.1 none)
-        ]),
-      )
 
 -- First the list of the class is looked through, then the free list, and then superblocks that were never taken.
 module _ (class : ℕ) (p a b : Parts) (is : IsClass class) (a_serves : Serves (held_in p) p a) (a_taken : a.taken ≡ p.taken)

@@ -23,7 +23,7 @@ use Rattle.block_heap.specs.Links.{link_of, IsPopped}
 use Rattle.block_heap.specs.Medium.{StoresOnly}
 use Rattle.block_heap.specs.Parts.{Parts, image_of, held_in, cache_at}
 use Rattle.block_heap.specs.Running.{IsRunning, IsCacheOf, KnowsSizes, IsSettled, Serves}
-use Rattle.block_heap.specs.Steps.{head_at, IsEmptyList, IsLook, Fills, FindsEmpty}
+use Rattle.block_heap.specs.Steps.{head_at, IsEmptyList, Fills}
 use Rattle.block_heap.specs.Works.{Works, IsAllocatorWord, is_head, is_anchor, is_link}
 use Rattle.block_heap.proofs.MediumLemmas.{stores_more}
 use Rattle.block_heap.proofs.RunningLemmas.{set_is, running_words}
@@ -69,7 +69,7 @@ pub serves_moved : (p q : Parts) → IsRunning p → StoresOnly (IsMoved p.capac
     → q.taken ≡ p.taken → Serves (held_in p) p q
 serves_moved p q run stores capacity look taken =
     serves_of p q (IsMoved p.capacity) run (λ word m. moved_word p.capacity (held_in p) word m) (λ m. moved_used p.capacity used_word m refl) stores capacity
-        look taken
+    look taken
 
 pub serves_same : (p : Parts) → Serves (held_in p) p p
 serves_same p = record { capacity = refl; works = works_none p.capacity (held_in p) p.words; knows = refl; taken = omega arith }
@@ -141,25 +141,25 @@ made p q t run m = record {
 pub caches_filled : (s t : Shape) (caches : List Cache) (class first : ℕ) (ws : List ℕ) (cache : Cache) → length caches ≡ lists → IsClass class
     → ((c : ℕ) → IsClass c → IsCacheOf s c (cache_at caches c)) → t.start ≡ with_at s.start class first → t.cached ≡ with_at s.cached class ws
     → cache.first ≡ first → cache.count ≡ length ws → cache.count ≤ blocks_of class → (c : ℕ) → IsClass c
-        → IsCacheOf t c (cache_at (set caches class cache) c)
+    → IsCacheOf t c (cache_at (set caches class cache) c)
 caches_filled s t caches class first ws cache long is before start cached first_is count most c is_c =
     elim (cases_eq c class) as (λ _. IsCacheOf t c (cache_at (set caches class cache) c)) [
-  | inl same ↦ subst (λ k. IsCacheOf t k (cache_at (set caches class cache) k)) (sym same)
-      (subst (λ (x : Cache). IsCacheOf t class x) (sym (get_or-set_same caches class cache (record { first = 0; count = 0 })
+      | inl same ↦ subst (λ k. IsCacheOf t k (cache_at (set caches class cache) k)) (sym same)
+          (subst (λ (x : Cache). IsCacheOf t class x) (sym (get_or-set_same caches class cache (record { first = 0; count = 0 })
           (let last = is.last in omega arith)))
-      (record {
-        first = first_is ∙ sym (ap (λ (f : ℕ → ℕ). f class) start ∙ with_at_same s.start class first);
-        count = count ∙ sym (ap length (ap (λ (f : ℕ → List ℕ). f class) cached ∙ with_at_same s.cached class ws));
-        most = most;
-      }))
-  | inr other ↦
-      subst (λ (x : Cache). IsCacheOf t c x) (sym (get_or-set_other caches class c cache (record { first = 0; count = 0 }) other))
-      (record {
-        first = (before c is_c).first ∙ sym (ap (λ (f : ℕ → ℕ). f c) start ∙ with_at_other s.start class first c other);
-        count = (before c is_c).count ∙ sym (ap length (ap (λ (f : ℕ → List ℕ). f c) cached ∙ with_at_other s.cached class ws c other));
-        most = (before c is_c).most;
-      })
-]
+          (record {
+            first = first_is ∙ sym (ap (λ (f : ℕ → ℕ). f class) start ∙ with_at_same s.start class first);
+            count = count ∙ sym (ap length (ap (λ (f : ℕ → List ℕ). f class) cached ∙ with_at_same s.cached class ws));
+            most = most;
+          }))
+      | inr other ↦
+          subst (λ (x : Cache). IsCacheOf t c x) (sym (get_or-set_other caches class c cache (record { first = 0; count = 0 }) other))
+          (record {
+            first = (before c is_c).first ∙ sym (ap (λ (f : ℕ → ℕ). f c) start ∙ with_at_other s.start class first c other);
+            count = (before c is_c).count ∙ sym (ap length (ap (λ (f : ℕ → List ℕ). f c) cached ∙ with_at_other s.cached class ws c other));
+            most = (before c is_c).most;
+          })
+    ]
 
 pub caches_other : (caches : List Cache) (class : ℕ) (cache : Cache) (c : ℕ) → IsClass c → c ≢ class → cache_at (set caches class cache) c ≡ cache_at caches c
 caches_other caches class cache c is_c other = get_or-set_other caches class c cache (record { first = 0; count = 0 }) other
@@ -168,7 +168,7 @@ caches_other caches class cache c is_c other = get_or-set_other caches class c c
 pub sizes_kept : (capacity : ℕ) (s t : Shape) (info new : ℕ → ℕ) (blocks : HeldBlocks) → KnowsSizes capacity s info blocks
     → ((e : ℕ) → e < capacity → new e ≡ info e)
     → ((e : ℕ) → e < capacity → IsClass (info e) → (t.place e ≡ in_list (info e)) ⊎ (t.place e ≡ is_full)
-        → (s.place e ≡ in_list (info e)) ⊎ (s.place e ≡ is_full))
+    → (s.place e ≡ in_list (info e)) ⊎ (s.place e ≡ is_full))
     → KnowsSizes capacity t new blocks
 sizes_kept capacity s t info new blocks knows same stood = record {
   start = knows.start;
@@ -204,11 +204,12 @@ module _ (p : Parts) (list : ℕ) (popped : Popped) (w : View) (run : IsRunning 
   -- the list had none
   pub popped_none : popped.first ≡ None → IsEmptyList p list × (w.volatile ≡ p.words.volatile)
   popped_none none =
-      let at : 0 ≡ link_of popped.first = ap link_of (sym none) in
-      (sym (at ∙ pop.first ∙ ap head_first pop.head),
-      subst (λ (o : Option ℕ). MatchOption o (w.volatile ≡ p.words.volatile)
-          (λ d. w.volatile ≡ set p.words.volatile (head_word list) (head_of (head_first (volatile_at p.words (link_word d))) (head_pops popped.head + 1))))
-              none pop.words)
+      let at : 0 ≡ link_of popped.first = ap link_of (sym none) in (
+        sym (at ∙ pop.first ∙ ap head_first pop.head),
+        subst (λ (o : Option ℕ). MatchOption o (w.volatile ≡ p.words.volatile)
+            (λ d. w.volatile ≡ set p.words.volatile (head_word list) (head_of (head_first (volatile_at p.words (link_word d))) (head_pops popped.head + 1))))
+            none pop.words,
+      )
 
   module _ (d : ℕ) (some : popped.first ≡ Some d) where
     pub popped_head : head_first (head_at p list) ≡ d + 1
@@ -219,7 +220,7 @@ module _ (p : Parts) (list : ℕ) (popped : Popped) (w : View) (run : IsRunning 
     words : w.volatile ≡ set p.words.volatile (head_word list) (head_of (head_first (volatile_at p.words (link_word d))) (head_pops popped.head + 1))
     words = subst (λ (o : Option ℕ). MatchOption o (w.volatile ≡ p.words.volatile)
         (λ d. w.volatile ≡ set p.words.volatile (head_word list) (head_of (head_first (volatile_at p.words (link_word d))) (head_pops popped.head + 1))))
-            some pop.words
+        some pop.words
 
     within : head_word list < length p.words.volatile
     within = let long = run.words_open.long in omega arith
@@ -238,7 +239,7 @@ module _ (p : Parts) (list : ℕ) (popped : Popped) (w : View) (run : IsRunning 
     popped_pops other less = elim (cases_eq other list) as (λ _. head_pops (volatile_at w (head_word other)) ≤ head_pops (head_at p other) + 1) [
       | inl same ↦ subst (λ k. head_pops (volatile_at w (head_word k)) ≤ head_pops (head_at p k) + 1) (sym same)
           (let at : volatile_at w (head_word list) ≡ head_of (head_first (volatile_at p.words (link_word d))) (head_pops popped.head + 1) =
-              popped_of.set.at in
+          popped_of.set.at in
           let head : popped.head ≡ head_at p list = pop.head in
           omega arith)
       | inr apart ↦ let e : volatile_at w (head_word other) ≡ head_at p other =
@@ -251,11 +252,7 @@ module _ (p : Parts) (list : ℕ) (popped : Popped) (w : View) (run : IsRunning 
     pub popped_place : (run.shape.place d ≡ in_list list) × (d < p.capacity) × (times d popped_list.0 ≡ 0)
     popped_place = first_place p.capacity (image_of p) (held_in p) run.shape run.is list d popped_list.0 below popped_list.1
 
--- a pop reads the head: the look at it
-pub look_set : (looks : List Look) (list : ℕ) (look : Look) → length looks ≡ lists → list < lists
-    → get_or (set looks list look) list (record { seen = 0; ticket = None; taken = 0 }) ≡ look
-look_set looks list look long below = get_or-set_same looks list look (record { seen = 0; ticket = None; taken = 0 }) (omega arith)
-
+-- other looks
 pub running_looks : (p : Parts) (looks : List Look) → length looks ≡ lists → IsRunning p → IsRunning (record p { head_looks = looks })
 running_looks p looks long run = record {
   words_open = run.words_open;
@@ -289,7 +286,7 @@ module _ (p : Parts) (class list : ℕ) (popped : Popped) (w : View) (look : Loo
   pub emptied_running : IsRunning emptied
   emptied_running = running_looks (record p { words = w }) (set p.head_looks list look) (length-set p.head_looks list look ∙ run.looks_long)
       (running_words p w (IsMoved p.capacity) run pop.goes.running same_words moved (λ d less m. moved_info p.capacity d (info_word d) m refl)
-          (λ m. moved_used p.capacity used_word m refl) pop.goes.below)
+      (λ m. moved_used p.capacity used_word m refl) pop.goes.below)
 
   pub emptied_serves : Serves (held_in p) p emptied
   emptied_serves = serves_moved p emptied run moved refl refl refl
@@ -301,20 +298,4 @@ module _ (p : Parts) (class list : ℕ) (popped : Popped) (w : View) (look : Loo
     caches = λ c is other. refl;
     drains = subst (λ (xs : List ℕ). DrainsSame p.capacity class (held_in p) (image_of p) (λ word. get_or xs word 0)) (sym same_words)
         (drains_none p.capacity class (held_in p) (image_of p));
-  }
-
-  pub emptied_finds : (ticket : ℕ) → ticket ≡ p.words.drawn → look.seen ≡ popped.head → look.ticket ≡ Some ticket → look.taken ≡ p.taken
-      → FindsEmpty list p emptied
-  emptied_finds ticket is seen by taken = record {
-    empty = (popped_none p list popped w run below pop stores none).0;
-    volatile = same_words;
-    look = subst (λ (l : Look). IsLook p.words.drawn emptied l (head_at emptied list)) (sym (look_set p.head_looks list look run.looks_long below)) (record {
-      seen_is = seen ∙ pop.head ∙ sym (ap (λ (xs : List ℕ). get_or xs (head_word list) 0) same_words);
-      ticket = ticket;
-      by = by;
-      since = omega arith;
-      until = let drew = pop.goes.drew in omega arith;
-      taken_is = taken;
-    });
-    others = λ other differs. get_or-set_other p.head_looks list other look (record { seen = 0; ticket = None; taken = 0 }) differs;
   }

@@ -32,8 +32,15 @@ use Rattle.block_heap.proofs.StableLemmas.{works_of, works_then, works_none}
 
 -- the parts with other words, caches and held blocks
 abbrev pub changed : Parts → View → List Cache → HeldBlocks → Parts
-changed p w caches blocks = record { words = w; capacity = p.capacity; caches = caches; blocks = blocks; taken = p.taken; used_look = p.used_look;
-    head_looks = p.head_looks }
+changed p w caches blocks = record {
+  words = w;
+  capacity = p.capacity;
+  caches = caches;
+  blocks = blocks;
+  taken = p.taken;
+  used_look = p.used_look;
+  head_looks = p.head_looks;
+}
 
 -- what stays where the words of superblocks, anchors, links and the first descriptors of lists change
 pub record KeepsFixed (p : Parts) (w : View) : Type 0 where
@@ -73,7 +80,7 @@ pub running_after : (p : Parts) (w : View) (caches : List Cache) (blocks : HeldB
     → blocks.start ≡ p.blocks.start → blocks.words.items ≡ p.blocks.words.items → IsShape p.capacity (λ word. volatile_at w word) (held_of blocks) t
     → ((class : ℕ) → IsClass class → IsCacheOf t class (cache_at caches class))
     → ((d : ℕ) → d < p.capacity → IsClass (image_of p (info_word d)) → (t.place d ≡ in_list (image_of p (info_word d))) ⊎ (t.place d ≡ is_full)
-      → (run.shape.place d ≡ in_list (image_of p (info_word d))) ⊎ (run.shape.place d ≡ is_full))
+    → (run.shape.place d ≡ in_list (image_of p (info_word d))) ⊎ (run.shape.place d ≡ is_full))
     → IsRunning (changed p w caches blocks)
 running_after p w caches blocks t run keeps long start words is caches_are places = record {
   words_open = record { running = keeps.running; long = keeps.long ∙ run.words_open.long };
@@ -96,7 +103,7 @@ running_after p w caches blocks t run keeps long start words is caches_are place
 } where
   sized : (d : ℕ) → d < p.capacity → volatile_at w (info_word d) ≡ image_of p (info_word d) → IsClass (volatile_at w (info_word d))
       → (t.place d ≡ in_list (volatile_at w (info_word d))) ⊎ (t.place d ≡ is_full)
-          → get_or blocks.words.items d 0 ≡ words_of_class (volatile_at w (info_word d))
+      → get_or blocks.words.items d 0 ≡ words_of_class (volatile_at w (info_word d))
   sized d within same is_class place =
       let before = places d within (subst IsClass same is_class) (subst (λ x. (t.place d ≡ in_list x) ⊎ (t.place d ≡ is_full)) same place) in
       ap (λ (xs : List ℕ). get_or xs d 0) words ∙ run.sizes.sizes d within (subst IsClass same is_class) before ∙ ap words_of_class (sym same)
@@ -108,30 +115,30 @@ pub caches_set : (p : Parts) (run : IsRunning p) (class : ℕ) (t : Shape) (firs
     → (c : ℕ) → IsClass c → IsCacheOf t c (cache_at (set p.caches class new) c)
 caches_set p run class t first ws new is first_is count_is few cached start c is_c = elim (cases_eq c class)
     as (λ _. IsCacheOf t c (cache_at (set p.caches class new) c)) [
-  | inl same ↦ subst (λ k. IsCacheOf t k (cache_at (set p.caches class new) k)) (sym same) here
-  | inr other ↦
-      let e : cache_at (set p.caches class new) c ≡ cache_at p.caches c = get_or-set_other p.caches class c new (record { first = 0; count = 0 }) other in
-      let before = run.caches c is_c in
-      let words : t.cached c ≡ run.shape.cached c = cached c ∙ with_at_other run.shape.cached class ws c other in
-      let begins : t.start c ≡ run.shape.start c = start c ∙ with_at_other run.shape.start class first c other in
-      subst (λ x. IsCacheOf t c x) (sym e)
-      (record {
-        first = before.first ∙ sym begins;
-        count = before.count ∙ ap (λ (xs : List ℕ). length xs) (sym words);
-        most = before.most;
-      })
-] where
-  here : IsCacheOf t class (cache_at (set p.caches class new) class)
-  here =
-      let last = is.last in
-      let long = run.caches_long in
-      let e : cache_at (set p.caches class new) class ≡ new = get_or-set_same p.caches class new (record { first = 0; count = 0 }) (omega arith) in
-      subst (λ x. IsCacheOf t class x) (sym e)
-      (record {
-        first = first_is ∙ sym (start class ∙ with_at_same run.shape.start class first);
-        count = count_is ∙ ap (λ (xs : List ℕ). length xs) (sym (cached class ∙ with_at_same run.shape.cached class ws));
-        most = omega arith;
-      })
+      | inl same ↦ subst (λ k. IsCacheOf t k (cache_at (set p.caches class new) k)) (sym same) here
+      | inr other ↦
+          let e : cache_at (set p.caches class new) c ≡ cache_at p.caches c = get_or-set_other p.caches class c new (record { first = 0; count = 0 }) other in
+          let before = run.caches c is_c in
+          let words : t.cached c ≡ run.shape.cached c = cached c ∙ with_at_other run.shape.cached class ws c other in
+          let begins : t.start c ≡ run.shape.start c = start c ∙ with_at_other run.shape.start class first c other in
+          subst (λ x. IsCacheOf t c x) (sym e)
+          (record {
+            first = before.first ∙ sym begins;
+            count = before.count ∙ ap (λ (xs : List ℕ). length xs) (sym words);
+            most = before.most;
+          })
+    ] where
+      here : IsCacheOf t class (cache_at (set p.caches class new) class)
+      here =
+          let last = is.last in
+          let long = run.caches_long in
+          let e : cache_at (set p.caches class new) class ≡ new = get_or-set_same p.caches class new (record { first = 0; count = 0 }) (omega arith) in
+          subst (λ x. IsCacheOf t class x) (sym e)
+          (record {
+            first = first_is ∙ sym (start class ∙ with_at_same run.shape.start class first);
+            count = count_is ∙ ap (λ (xs : List ℕ). length xs) (sym (cached class ∙ with_at_same run.shape.cached class ws));
+            most = omega arith;
+          })
 
 -- the cache that was read
 pub read_cache : (p : Parts) (class : ℕ) (cache : Cache) → IsClass class → IsRunning p → cache ≡ get_or p.caches class cache → cache ≡ cache_at p.caches class
@@ -254,13 +261,13 @@ pub cached_block : (p : Parts) (class : ℕ) (is : IsClass class) (run : IsRunni
 cached_block p class is run first h cached start words =
     let begins : h.start ≡ start_word p.capacity 0 = start ∙ run.sizes.start in
     let d_is : (first - h.start) / 8192 ≡ cached.d = ap (λ x. (first - x) / 8192) begins ∙ first_of_d p class cached.d first is run cached.within
-        cached.is_first in
+    cached.is_first in
     let e = cached.info in
     let known : get_or p.blocks.words.items cached.d 0 ≡ words_of_class (image_of p (info_word cached.d)) =
-        run.sizes.sizes cached.d cached.within (subst IsClass (sym e) is)
-        (subst (λ c. (run.shape.place cached.d ≡ in_list c) ⊎ (run.shape.place cached.d ≡ is_full)) (sym e) cached.place) in
+    run.sizes.sizes cached.d cached.within (subst IsClass (sym e) is)
+    (subst (λ c. (run.shape.place cached.d ≡ in_list c) ⊎ (run.shape.place cached.d ≡ is_full)) (sym e) cached.place) in
     let size : get_or h.words.items ((first - h.start) / 8192) 0 ≡ words_of_class class =
-        ap (λ k. get_or h.words.items k 0) d_is ∙ ap (λ (xs : List ℕ). get_or xs cached.d 0) words ∙ known ∙ ap words_of_class e in
+    ap (λ k. get_or h.words.items k 0) d_is ∙ ap (λ (xs : List ℕ). get_or xs cached.d 0) words ∙ known ∙ ap words_of_class e in
     same_fields (at_mark h first) (record { first_word = first; words = words_of_class class }) refl size
 
 -- the first block of the cache was handed out
@@ -268,7 +275,7 @@ module _ (p : Parts) (class : ℕ) (is : IsClass class) (run : IsRunning p) (cac
     (some : 1 ≤ (cache_at p.caches class).count)
     (w : View) (next : ℕ) (h : HeldBlocks) (loaded : IsLoaded cache.first next p.words w) (stores : StoresOnly (λ _. ⊥) p.words w)
     (adds : AddsTo (at_mark p.blocks cache.first) (held_in p) (held_of h)) (words : h.words.items ≡ p.blocks.words.items)
-        (start : h.start ≡ p.blocks.start) where
+    (start : h.start ≡ p.blocks.start) where
   abbrev pub handed_cache : Cache
   handed_cache = record { first = next; count = cache.count - 1 }
 
@@ -302,21 +309,20 @@ module _ (p : Parts) (class : ℕ) (is : IsClass class) (run : IsRunning p) (cac
 
   shape_after : IsShape p.capacity (λ word. volatile_at w word) (held_of h) (with_cache run.shape class next front.behind) × (Contains (held_in p) block → ⊥)
   shape_after =
-      let both = hand_out p.capacity class cache.first (image_of p) (held_in p) (held_of h) run.shape front.behind is run.is front.cached adds_block in
-      (
+      let both = hand_out p.capacity class cache.first (image_of p) (held_in p) (held_of h) run.shape front.behind is run.is front.cached adds_block in (
         subst (λ (xs : List ℕ). IsShape p.capacity (λ word. get_or xs word 0) (held_of h) (with_cache run.shape class next front.behind))
             (sym loaded.volatile)
-        (subst (λ x. IsShape p.capacity (image_of p) (held_of h) (with_cache run.shape class x front.behind)) (sym loaded.seen) both.0),
+            (subst (λ x. IsShape p.capacity (image_of p) (held_of h) (with_cache run.shape class x front.behind)) (sym loaded.seen) both.0),
         both.1,
       )
 
   pub handed_running : IsRunning handed_parts
   handed_running = running_after p w (set p.caches class handed_cache) h (with_cache run.shape class next front.behind) run
       (keeps_fixed p w (λ _. ⊥) run stores loaded.goes.running loaded.goes.below (λ d within out. out) (λ out. out)
-          (λ list less. ap head_pops (stores.volatile (head_word list) (λ out. out))))
+      (λ list less. ap head_pops (stores.volatile (head_word list) (λ out. out))))
       (length-set p.caches class handed_cache ∙ run.caches_long) start words shape_after.0
       (caches_set p run class (with_cache run.shape class next front.behind) next front.behind handed_cache is refl
-          (let n = count_is in omega arith) few_behind (λ c. refl) (λ c. refl))
+      (let n = count_is in omega arith) few_behind (λ c. refl) (λ c. refl))
       (λ d within is_class place. place)
 
   pub handed : (b : Block) → b ≡ at_mark h cache.first → HandsOut class b p handed_parts
@@ -325,7 +331,7 @@ module _ (p : Parts) (class : ℕ) (is : IsClass class) (run : IsRunning p) (cac
       let last = is.last in
       let long = run.caches_long in
       let now : cache_at (set p.caches class handed_cache) class ≡ handed_cache = get_or-set_same p.caches class handed_cache
-          (record { first = 0; count = 0 }) (omega arith) in
+      (record { first = 0; count = 0 }) (omega arith) in
       let now_count : (cache_at (set p.caches class handed_cache) class).count ≡ cache.count - 1 = ap (λ (x : Cache). x.count) now in
       let was : cache.count ≡ (cache_at p.caches class).count = ap (λ (x : Cache). x.count) cache_is in
       subst (λ x. HandsOut class x p handed_parts) (sym e)

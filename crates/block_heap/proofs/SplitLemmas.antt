@@ -59,9 +59,9 @@ pub pushed_pops : (list d : ℕ) (v w : View) → list < lists → head_word lis
 pushed_pops list d v w less head link small pushed other below =
     let long = length-set v.volatile (link_word d) (head_first (volatile_at v (head_word list))) in
     let first = set_is v.volatile (set v.volatile (link_word d) (head_first (volatile_at v (head_word list)))) (link_word d)
-        (head_first (volatile_at v (head_word list))) link refl in
+    (head_first (volatile_at v (head_word list))) link refl in
     let second = set_is (set v.volatile (link_word d) (head_first (volatile_at v (head_word list)))) w.volatile (head_word list)
-        (head_of (d + 1) (head_pops (volatile_at v (head_word list)))) (omega arith) pushed.words in
+    (head_of (d + 1) (head_pops (volatile_at v (head_word list)))) (omega arith) pushed.words in
     elim (cases_eq other list) as (λ _. head_pops (volatile_at w (head_word other)) ≡ head_pops (volatile_at v (head_word other))) [
       | inl same ↦
           let now : volatile_at w (head_word list) ≡ d + 1 + 16777216 * head_pops (volatile_at v (head_word list)) = second.at in
@@ -183,7 +183,7 @@ module _ (p : Parts) (d anchor : ℕ) (u w : View) (run : IsRunning p) (dropped 
           let below = within in
           let k = long in
           let first : head_pops (volatile_at u (head_word list)) ≡ head_pops (image_of p (head_word list)) =
-              ap head_pops (anchor_set.others (head_word list) (λ e. omega arith)) in
+          ap head_pops (anchor_set.others (head_word list) (λ e. omega arith)) in
           let second = pushed_pops 0 d u w (omega arith) (omega (arith, inside.0)) (omega (arith, inside.2)) (omega arith) pushed list less in
           let before = run.pops list less in
           let drawn = split_stores.drawn in
@@ -215,7 +215,7 @@ module _ (p : Parts) (d anchor : ℕ) (u w : View) (run : IsRunning p) (dropped 
         none = is.none;
         unlisted = λ ds leads in_ds.
             let one : d ∷ s.listed 0 ≡ ds = one_following (λ k. volatile_at w (link_word k)) p.capacity (head_first (volatile_at w (head_word 0))) (d ∷ s.listed 0) ds
-                (subst (λ ls. Follows (λ k. volatile_at w (link_word k)) p.capacity (head_first (volatile_at w (head_word 0))) ls) (with_at_same s.listed 0 (d ∷ s.listed 0)) (is_shape.follows 0 (omega arith))) leads in
+            (subst (λ ls. Follows (λ k. volatile_at w (link_word k)) p.capacity (head_first (volatile_at w (head_word 0))) ls) (with_at_same s.listed 0 (d ∷ s.listed 0)) (is_shape.follows 0 (omega arith))) leads in
             elim (head_or_rest d e (s.listed 0) (subst (λ ls. Contains ls e) (sym one) in_ds)) as (λ _. ⊥) [
               | inl same ↦ other (sym same)
               | inr later ↦ is.unlisted (s.listed 0) (run.is.follows 0 (omega arith)) later
@@ -286,7 +286,7 @@ pub freed_serves : (first d end : ℕ) (h : HeldBlocks) (p q r : Parts) → IsFr
 freed_serves first d end h p q r freed blocks serves =
     let all = serves_then (held_of h) (record p { blocks = h }) q r freed.serves (subst (λ (x : HeldBlocks). Serves (held_of x) q r) freed.blocks serves) in
     subst (λ (x : HeldBlocks). Serves (held_of x) p r) (sym (blocks ∙ freed.blocks))
-        (record { capacity = all.capacity; works = all.works; knows = all.knows; taken = all.taken })
+    (record { capacity = all.capacity; works = all.works; knows = all.knows; taken = all.taken })
 
 -- the block is held no more
 pub freed_takes : (p r : Parts) (b : Block) (h : HeldBlocks) → Contains (held_in p) b → TakesFrom (at_mark p.blocks b.first_word) (held_in p) (held_of h) → r.blocks ≡ h
@@ -360,7 +360,7 @@ module _ (p : Parts) (b : Block) (run : IsRunning p) (holds : Contains (held_in 
             none = dropped.1 d from until;
             unlisted = λ ds leads in_ds.
                 let one = one_following (λ k. image_of p (link_word k)) p.capacity (head_first (image_of p (head_word 0))) ds (run.shape.listed 0) leads
-                    (run.is.follows 0 (omega arith)) in
+                (run.is.follows 0 (omega arith)) in
                 let there = member_place p.capacity (image_of p) (held_in p) run.shape run.is 0 d (omega arith) (subst (λ xs. Contains xs d) one in_ds) in
                 list_not_large (sym there.0 ∙ place.1);
           }

@@ -23,9 +23,10 @@ use Rattle.block_heap.specs.Links.{IsPopped, IsPushed, IsPushWord}
 use Rattle.block_heap.specs.Medium.{StoresOnly}
 use Rattle.block_heap.specs.Parts.{Parts, image_of, held_in, cache_at}
 use Rattle.block_heap.specs.Running.{IsRunning, Serves}
-use Rattle.block_heap.specs.Steps.{head_at, IsEmptyList, LeadsAlong, Fills, Recycles}
+use Rattle.block_heap.specs.Steps.{head_at, IsEmptyList, LeadsAlong, Fills, Recycles, Spends}
 use Rattle.block_heap.proofs.MediumLemmas.{stores_then, stores_more}
 use Rattle.block_heap.proofs.RunningLemmas.{set_is, settled_kept}
+use Rattle.block_heap.proofs.SpendLemmas.{spends_by}
 use Rattle.block_heap.proofs.RefillLemmas.{IsMoved, a_head, an_anchor, a_link, moved_info, moved_used, serves_moved, IsMade, made, caches_filled, caches_other, sizes_kept, none_cached, pop_moved, popped_head, popped_of, popped_pops, popped_list, popped_place}
 
 module _ (p : Parts) (class d : ℕ) (popped : Popped) (w : View) (look : Look) (run : IsRunning p) (is : IsClass class) (pop : IsPopped class popped p.words w)
@@ -98,7 +99,7 @@ module _ (p : Parts) (class d : ℕ) (popped : Popped) (w : View) (look : Look) 
         | inl same ↦ inl (subst (λ k. run.shape.place k ≡ in_list (image_of p (info_word k))) (sym same) (place ∙ ap in_list (sym stands.of_class.info)))
         | inr other ↦ let kept = with_at_other run.shape.place d is_full e other in
             elim at as (λ _. (run.shape.place e ≡ in_list (image_of p (info_word e))) ⊎ (run.shape.place e ≡ is_full))
-                [ inl l ↦ inl (sym kept ∙ l) | inr f ↦ inr (sym kept ∙ f) ]
+            [ inl l ↦ inl (sym kept ∙ l) | inr f ↦ inr (sym kept ∙ f) ]
       ]
 
       made_taken : IsMade p taken_parts shape
@@ -148,10 +149,24 @@ module _ (p : Parts) (class d : ℕ) (popped : Popped) (w : View) (look : Look) 
       pub taken_some : (1 ≤ (cache_at (set p.caches class cache) class).count) × (IsEmptyList p class → ⊥)
       taken_some =
           let now : cache_at (set p.caches class cache) class ≡ cache =
-            get_or-set_same p.caches class cache (record { first = 0; count = 0 }) (let long = run.caches_long in let less = below in omega arith) in
+          get_or-set_same p.caches class cache (record { first = 0; count = 0 }) (let long = run.caches_long in let less = below in omega arith) in
           let count = cache_count in
           let free = stands.some in
           (subst (λ (x : Cache). 1 ≤ x.count) (sym now) (omega arith), first_some)
+
+      -- its list is shorter by it
+      taken_list : (list : ℕ) (ds : List ℕ) → list < lists → with_at run.shape.listed class rest list ≡ ds → LeadsAlong taken_parts list ds
+      taken_list list ds less is_ds = subst (λ (es : List ℕ). LeadsAlong taken_parts list es) is_ds (made_taken.is.follows list less)
+
+      pub taken_spends : Spends 1 class p taken_parts
+      taken_spends =
+          let long : length (run.shape.listed class) ≡ length (d ∷ rest) = ap length listed in
+          let same : volatile_at u used_word ≡ image_of p used_word =
+            take_moved.volatile used_word (λ m. moved_used p.capacity used_word m refl) in
+          spends_by 1 class p taken_parts run rest (run.shape.listed 0) is taken_fills.running refl
+              (taken_list class rest below (with_at_same run.shape.listed class rest))
+              (taken_list 0 (run.shape.listed 0) (omega arith)
+              (with_at_other run.shape.listed class rest 0 (λ e. let from = is.some in omega arith))) (omega arith)
 
     -- or it goes to the free list
     module _ (v : View) (push_stores : StoresOnly (IsPushWord 0 d) u v) where
@@ -187,7 +202,7 @@ module _ (p : Parts) (class d : ℕ) (popped : Popped) (w : View) (look : Look) 
               (let same = long in let wide = run.words_open.long in let less = first_within in omega arith) refl;
           head = set_is linked v.volatile (head_word 0) (head_of (d + 1) (head_pops (volatile_at u (head_word 0))))
               (let same = long in let wide = run.words_open.long in let kept =
-                  length-set u.volatile (link_word d) (head_first (volatile_at u (head_word 0))) in omega arith) pushed.words;
+              length-set u.volatile (link_word d) (head_first (volatile_at u (head_word 0))) in omega arith) pushed.words;
         })
 
         abbrev shape_then : Shape
@@ -200,7 +215,7 @@ module _ (p : Parts) (class d : ℕ) (popped : Popped) (w : View) (look : Look) 
           | inl same ↦ inl (subst (λ k. run.shape.place k ≡ in_list (image_of p (info_word k))) (sym same) (place ∙ ap in_list (sym stands.of_class.info)))
           | inr other ↦ let kept = with_at_other run.shape.place d (in_list 0) e other in
               elim at as (λ _. (run.shape.place e ≡ in_list (image_of p (info_word e))) ⊎ (run.shape.place e ≡ is_full))
-                  [ inl l ↦ inl (sym kept ∙ l) | inr f ↦ inr (sym kept ∙ f) ]
+              [ inl l ↦ inl (sym kept ∙ l) | inr f ↦ inr (sym kept ∙ f) ]
         ]
 
         -- the heads: only that of the class was popped
@@ -211,18 +226,18 @@ module _ (p : Parts) (class d : ℕ) (popped : Popped) (w : View) (look : Look) 
             elim (cases_eq list 0) as (λ _. head_pops (volatile_at v (head_word list)) ≤ head_pops (head_at p list) + 1) [
               | inl zero_is ↦
                   let set_to : volatile_at v (head_word 0) ≡ head_of (d + 1) (head_pops (volatile_at u (head_word 0))) =
-                    ap (λ (xs : List ℕ). get_or xs (head_word 0) 0) pushed.words
-                    ∙ get_or-set_same linked (head_word 0) (head_of (d + 1) (head_pops (volatile_at u (head_word 0)))) 0
-                      (let same = long in let wide = run.words_open.long in let kept =
-                          length-set u.volatile (link_word d) (head_first (volatile_at u (head_word 0))) in omega arith) in
+                  ap (λ (xs : List ℕ). get_or xs (head_word 0) 0) pushed.words
+                  ∙ get_or-set_same linked (head_word 0) (head_of (d + 1) (head_pops (volatile_at u (head_word 0)))) 0
+                  (let same = long in let wide = run.words_open.long in let kept =
+                  length-set u.volatile (link_word d) (head_first (volatile_at u (head_word 0))) in omega arith) in
                   let here : volatile_at v (head_word list) ≡ head_of (d + 1) (head_pops (volatile_at u (head_word list))) =
-                    subst (λ k. volatile_at v (head_word k) ≡ head_of (d + 1) (head_pops (volatile_at u (head_word k)))) (sym zero_is) set_to in
+                  subst (λ k. volatile_at v (head_word k) ≡ head_of (d + 1) (head_pops (volatile_at u (head_word k)))) (sym zero_is) set_to in
                   let small = first_within in
                   let few = run.is.small in
                   omega arith
               | inr other ↦
                   let kept : volatile_at v (head_word list) ≡ volatile_at u (head_word list) =
-                    push_stores.volatile (head_word list) (λ t. elim t as (λ _. ⊥) [ inl e ↦ other (omega arith) | inr e ↦ omega arith ]) in
+                  push_stores.volatile (head_word list) (λ t. elim t as (λ _. ⊥) [ inl e ↦ other (omega arith) | inr e ↦ omega arith ]) in
                   omega arith
             ]
 
@@ -278,15 +293,26 @@ module _ (p : Parts) (class d : ℕ) (popped : Popped) (w : View) (look : Look) 
           some = first_some;
           now = λ none.
               let follows = subst (λ (ds : List ℕ). Follows (λ e. image_of recycled (link_word e)) p.capacity (head_first (head_at recycled 0)) ds) now_free
-                  (made_recycled.is.follows 0 (omega arith)) in
+              (made_recycled.is.follows 0 (omega arith)) in
               let from = follows.0 in
               omega arith;
           used = push_moved.volatile used_word (λ m. moved_used p.capacity used_word m refl);
           shorter = λ ds leads.
               let follows = subst (λ (es : List ℕ). Follows (λ e. image_of recycled (link_word e)) p.capacity (head_first (head_at recycled class)) es)
-                  now_rest (made_recycled.is.follows class below) in
+              now_rest (made_recycled.is.follows class below) in
               let same : rest ≡ ds = one_following (λ e. image_of recycled (link_word e)) p.capacity (head_first (head_at recycled class)) rest ds follows
-                  leads in
-              (d, subst (λ (es : List ℕ). LeadsAlong p class (d ∷ es)) same
-                  (subst (λ (es : List ℕ). LeadsAlong p class es) listed (run.is.follows class below)));
+              leads in (
+                d,
+                subst (λ (es : List ℕ). LeadsAlong p class (d ∷ es)) same
+                    (subst (λ (es : List ℕ). LeadsAlong p class es) listed (run.is.follows class below)),
+              );
         }
+
+        -- the free list is longer by it
+        pub recycled_spends : Spends 0 class p recycled
+        recycled_spends =
+            let long : length (run.shape.listed class) ≡ length (d ∷ rest) = ap length listed in
+            let same : volatile_at v used_word ≡ image_of p used_word = push_moved.volatile used_word (λ m. moved_used p.capacity used_word m refl) in
+            spends_by 0 class p recycled run rest (d ∷ run.shape.listed 0) is recycled_fills.running refl
+                (subst (λ (ds : List ℕ). LeadsAlong recycled class ds) now_rest (made_recycled.is.follows class below))
+                (subst (λ (ds : List ℕ). LeadsAlong recycled 0 ds) now_free (made_recycled.is.follows 0 (omega arith))) (omega arith)

@@ -141,12 +141,13 @@ seat_law s = record {
 }
 
 pub mixed_law : (s : SeqState) (image : Image) → MayLeave s image → MixesOwn (seat_of s) image
-mixed_law s image left = record { each = λ word own.
-    elim (decided (either (cases_eq (image word) (durable_at s.parts.words word)) (cases_eq (image word) (volatile_at s.parts.words word)))
-    (λ (lasts : Lasts s). own_value s.parts.capacity (held_in s.parts) s.parts.words image word lasts.small lasts.stable left.others own) s.lasts) as (λ _. MayRead (seat_of s) word (image word)) [
-      | inl durable ↦ inr durable
-      | inr volatile ↦ inl volatile
-    ]
+mixed_law s image left = record {
+  each = λ word own.
+      elim (decided (either (cases_eq (image word) (durable_at s.parts.words word)) (cases_eq (image word) (volatile_at s.parts.words word)))
+      (λ (lasts : Lasts s). own_value s.parts.capacity (held_in s.parts) s.parts.words image word lasts.small lasts.stable left.others own) s.lasts) as (λ _. MayRead (seat_of s) word (image word)) [
+        | inl durable ↦ inr durable
+        | inr volatile ↦ inl volatile
+      ];
 }
 
 pub named_law : (s : SeqState) (image : Image) → MayLeave s image → NamesAll image (seat_of s).held

@@ -1,10 +1,11 @@
 -- Where the cache of a class is filled from.
-use Rattle.std.specs.Prelude.{◌≡◌, ◌≢◌, ℕ, ◌+◌, ◌<◌, ◌≤◌, Bool, true, false, slice_set}
+use Rattle.std.specs.Prelude.{◌≡◌, ◌≢◌, ℕ, ◌+◌, ◌<◌, ◌≤◌, ◌⊎◌, Bool, true, false, slice_set}
+use Rattle.heap_model.specs.Counting.{one_if}
 use Rattle.heap_model.specs.Geometry.{used_word, start_word}
 use Rattle.heap_model.specs.Sizes.{words_of_class, blocks_of}
 use Rattle.block_heap.specs.Divide.{IsDivided}
 use Rattle.block_heap.specs.Parts.{Parts, image_of, held_in, cache_at}
-use Rattle.block_heap.specs.Steps.{IsEmptyList, FindsEmpty, IsLook, look_at, head_at}
+use Rattle.block_heap.specs.Steps.{IsEmptyList, FindsEmpty, IsLook, look_at, head_at, Spends}
 use Rattle.block_heap.specs.Serving.{HasRoom, FindsNone}
 
 -- looks, counts and held blocks stay
@@ -47,3 +48,7 @@ FindsFresh class false p q = ((cache_at q.caches class).count ≡ 0) × (p.capac
 abbrev pub Refills : ℕ → Bool → Parts → Parts → Type 0
 Refills class true p q = (1 ≤ (cache_at q.caches class).count) × HasRoom p class
 Refills class false p q = FindsNone class p q
+
+-- the cache had blocks and no ticket was drawn, or it was filled, which used up a superblock
+abbrev pub Stocks : ℕ → Bool → Parts → Parts → Type 0
+Stocks class some p q = (Spends 0 class p q × (q.words.drawn ≤ p.words.drawn)) ⊎ Spends (one_if some) class p q

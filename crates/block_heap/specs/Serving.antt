@@ -11,7 +11,7 @@ use Rattle.block_heap.specs.declared.look.Look.{Look}
 use Rattle.block_heap.specs.Alloc.{IsSizeFor}
 use Rattle.block_heap.specs.Parts.{Parts, image_of, held_in, cache_at}
 use Rattle.block_heap.specs.Running.{IsRunning, AreShort}
-use Rattle.block_heap.specs.Steps.{head_at, IsEmptyList, look_at, IsLook}
+use Rattle.block_heap.specs.Steps.{head_at, IsEmptyList, look_at, IsLook, Spends}
 
 -- a request of a class finds blocks: in the cache, in a list, or where none were taken yet
 pub data HasRoom (p : Parts) (class : ℕ) : Type 0 where
@@ -87,8 +87,12 @@ AnswersInClass class answer p q = MatchOption answer (MissesInClass class p q) (
 abbrev pub DrainsNone : ℕ → Parts → Type 0
 DrainsNone class p = IsTidy p.capacity (image_of p) (held_in p) class → (b : Block) → IsToDrain p.capacity (image_of p) (held_in p) class b → ⊥
 
+-- what a block cost: one ticket if it was in the cache, and else a superblock that the cache was filled from
+abbrev pub Costs : ℕ → Parts → Parts → Type 0
+Costs class p q = (Spends 0 class p q × (q.words.drawn ≤ p.words.drawn + 1)) ⊎ (Spends 1 class p q × (q.words.drawn ≤ p.words.drawn + 10001))
+
 abbrev pub DrainsAs : ℕ → Option Block → Parts → Parts → Type 0
-DrainsAs class answer p q = MatchOption answer (DrainsNone class p) (λ b. DrainsTo class b p q)
+DrainsAs class answer p q = MatchOption answer (DrainsNone class p) (λ b. DrainsTo class b p q × Costs class p q)
 
 -- the request found no room: what it read last was read by it
 pub record Misses (bytes : ℕ) (p q : Parts) : Type 0 where

@@ -1,5 +1,5 @@
 -- What the parts of a heap are after rows of steps that are done.
-use Rattle.std.specs.Prelude.{◌≡◌, ◌≢◌, ℕ, ◌+◌, ◌*◌, ◌<◌, ◌≤◌, ◌⊎◌, List, ◌∷◌, Option, None, Some, Contains, slice_index_or}
+use Rattle.std.specs.Prelude.{◌≡◌, ◌≢◌, ℕ, ◌+◌, ◌*◌, ◌<◌, ◌≤◌, ◌⊎◌, List, ◌∷◌, length, Option, None, Some, Contains, slice_index_or}
 use Rattle.heap_model.specs.declared.block.Block.{Block}
 use Rattle.heap_model.specs.Geometry.{head_word, link_word, used_word}
 use Rattle.heap_model.specs.Sizes.{IsClass, words_of_class}
@@ -24,6 +24,20 @@ IsEmptyList p list = head_first (head_at p list) ≡ 0
 -- the head leads along these descriptors
 abbrev pub LeadsAlong : Parts → ℕ → List ℕ → Type 0
 LeadsAlong p list ds = Follows (λ d. image_of p (link_word d)) p.capacity (head_first (head_at p list)) ds
+
+-- no more superblocks than n are left that the class may be filled from: those in its list, the free ones, and those that were never taken
+abbrev pub HasAtMost : ℕ → Parts → ℕ → Type 0
+HasAtMost class p n = (cs fs : List ℕ) → LeadsAlong p class cs → LeadsAlong p 0 fs → length cs + length fs + p.capacity ≤ n + image_of p used_word
+
+-- so many of them were used up, or more
+abbrev pub Spends : ℕ → ℕ → Parts → Parts → Type 0
+Spends count class p q = (n : ℕ) → HasAtMost class p n → (m : ℕ) × (m + count ≤ n) × HasAtMost class q m
+
+-- how many were used up where this was found first
+abbrev pub used_up : Found → ℕ
+used_up Blocks = 1
+used_up Recycled = 0
+used_up Nothing = 0
 
 abbrev pub look_at : Parts → ℕ → Look
 look_at p list = slice_index_or p.head_looks list (record { seen = 0; ticket = None; taken = 0 })

@@ -13,6 +13,8 @@ impl<C: Chance> Arena<C> {
     ghost use Rattle.block_heap.specs.Medium.{Goes, Halts};
     ghost use Rattle.block_heap.specs.Parts.{parts_of, held_in};
     ghost use Rattle.block_heap.specs.Running.{IsRunning, AreShort, Serves};
+    ghost use Rattle.block_heap.specs.Steps.{Fills};
+    ghost use Rattle.block_heap.specs.Refill.{Refills, Stocks};
     ghost use Rattle.block_heap.specs.Serving.{Answers, AnswersInClass, DrainsAs, IsLooksOf};
 
     /// A block of at least so many bytes, if there is room.
@@ -59,10 +61,34 @@ impl<C: Chance> Arena<C> {
             (held_in (parts_of self.new) ≡ held_in (parts_of self.old)) }
         ensures few { (parts_of self.new).taken ≤ (parts_of self.old).taken + 1 }
     {
-        if self.caches[class as usize].count == 0 && !self.refill(class)? {
+        if !self.stock(class)? {
             return Ok(None);
         }
         Ok(Some(self.hand_out(class)?))
+    }
+
+    /// Sees to it that the cache of the class has a block; `false` where there is no room.
+    fn stock(&mut self, class: u8) -> Result<bool, Stopped>
+        requires class { IsClass class }
+        requires running { IsRunning (parts_of self.old) }
+        ensures ok { IfOk result (λ some. Refills class some
+            (parts_of self.old) (parts_of self.new)) }
+        ensures fills { OnOk result (Fills class (parts_of self.old) (parts_of self.new)) }
+        ensures left { IfOk result (λ some. Stocks class some
+            (parts_of self.old) (parts_of self.new)) }
+        ensures steps { OnOk result ((parts_of self.new).words.drawn
+            ≤ (parts_of self.old).words.drawn + 10000) }
+        ensures stopped { IfErr result (λ e. Halts e.step 10000
+            (parts_of self.old).words (parts_of self.new).words) }
+        ensures serves { Serves (held_in (parts_of self.old))
+            (parts_of self.old) (parts_of self.new) }
+        ensures held { held_in (parts_of self.new) ≡ held_in (parts_of self.old) }
+        ensures few { (parts_of self.new).taken ≤ (parts_of self.old).taken + 1 }
+    {
+        if self.caches[class as usize].count == 0 {
+            return self.refill(class);
+        }
+        Ok(true)
     }
 
     /// Frees a held block.

@@ -3,8 +3,8 @@ ghost use Rattle.std.specs.Prelude.{◌≡◌, ◌+◌, ◌*◌, ◌<◌, ◌^�
 ghost use Rattle.block_heap.specs.Begun.{IsBegun};
 
 use heap_model::Block;
-use std::alloc::{AllocError, Global};
 use size_table::size_of;
+use std::alloc::{AllocError, Global};
 use super_block::{Geometry, Info, LARGEST_CAPACITY, Ready, SUPERBLOCK_WORDS, WORD_BYTES};
 
 /// No block is smaller, and each begins at a multiple of it from the first superblock on.

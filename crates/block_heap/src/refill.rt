@@ -19,6 +19,7 @@ pub(crate) enum Found {
 
 impl<C: Chance> Arena<C> {
     ghost use Rattle.std.specs.Prelude.{◌≡◌, ◌≢◌, ℕ, ◌+◌, ◌/◌, ◌<◌, ◌≤◌, IfOk, OnOk, OnErr, IfErr, if◌then◌else◌, length};
+    ghost use Rattle.heap_model.specs.Counting.{one_if};
     ghost use Rattle.heap_model.specs.Geometry.{used_word};
     ghost use Rattle.heap_model.specs.Sizes.{IsClass};
     ghost use Rattle.heap_shape.specs.Standing.{HasNoHeld};
@@ -28,7 +29,7 @@ impl<C: Chance> Arena<C> {
     ghost use Rattle.block_heap.specs.Links.{IsOpen};
     ghost use Rattle.block_heap.specs.Parts.{parts_of, held_in, image_of, cache_at};
     ghost use Rattle.block_heap.specs.Running.{IsRunning, Serves};
-    ghost use Rattle.block_heap.specs.Steps.{Fills, FindsFirst, IsEmptyList};
+    ghost use Rattle.block_heap.specs.Steps.{Fills, FindsFirst, IsEmptyList, Spends, used_up};
     ghost use Rattle.block_heap.specs.Refill.{Cuts, SameBut, FindsFree, FindsFresh, FindsPartial, Refills};
 
     /// Fills the empty cache of the class; `false` where there is no room.
@@ -39,6 +40,8 @@ impl<C: Chance> Arena<C> {
         ensures ok { IfOk result (λ some. Refills class some
             (parts_of self.old) (parts_of self.new)) }
         ensures fills { OnOk result (Fills class (parts_of self.old) (parts_of self.new)) }
+        ensures left { IfOk result (λ some. Spends (one_if some) class
+            (parts_of self.old) (parts_of self.new)) }
         ensures goes { OnOk result (Goes 10000
             (parts_of self.old).words (parts_of self.new).words) }
         ensures stopped { IfErr result (λ e. Halts e.step 10000
@@ -63,6 +66,8 @@ impl<C: Chance> Arena<C> {
         ensures ok { IfOk result (λ some. FindsPartial class some
             (parts_of self.old) (parts_of self.new)) }
         ensures fills { OnOk result (Fills class (parts_of self.old) (parts_of self.new)) }
+        ensures left { IfOk result (λ some. Spends (one_if some) class
+            (parts_of self.old) (parts_of self.new)) }
         ensures goes { OnOk result (Goes 2056
             (parts_of self.old).words (parts_of self.new).words) }
         ensures stopped { IfErr result (λ e. Halts e.step 2056
@@ -90,6 +95,8 @@ impl<C: Chance> Arena<C> {
         ensures ok { IfOk result (λ found. FindsFirst class found
             (parts_of self.old) (parts_of self.new)) }
         ensures fills { OnOk result (Fills class (parts_of self.old) (parts_of self.new)) }
+        ensures left { IfOk result (λ found. Spends (used_up found) class
+            (parts_of self.old) (parts_of self.new)) }
         ensures goes { OnOk result (Goes 8
             (parts_of self.old).words (parts_of self.new).words) }
         ensures stopped { IfErr result (λ e. Halts e.step 8
@@ -121,6 +128,8 @@ impl<C: Chance> Arena<C> {
         ensures ok { IfOk result (λ some. FindsFree class some
             (parts_of self.old) (parts_of self.new)) }
         ensures fills { OnOk result (Fills class (parts_of self.old) (parts_of self.new)) }
+        ensures left { IfOk result (λ some. Spends (one_if some) class
+            (parts_of self.old) (parts_of self.new)) }
         ensures goes { OnOk result (Goes 4203
             (parts_of self.old).words (parts_of self.new).words) }
         ensures stopped { IfErr result (λ e. Halts e.step 4203
@@ -148,6 +157,8 @@ impl<C: Chance> Arena<C> {
         ensures ok { IfOk result (λ some. FindsFresh class some
             (parts_of self.old) (parts_of self.new)) }
         ensures fills { OnOk result (Fills class (parts_of self.old) (parts_of self.new)) }
+        ensures left { IfOk result (λ some. Spends (one_if some) class
+            (parts_of self.old) (parts_of self.new)) }
         ensures goes { OnOk result (Goes 4204
             (parts_of self.old).words (parts_of self.new).words) }
         ensures stopped { IfErr result (λ e. Halts e.step 4204

@@ -1,8 +1,10 @@
 //! What every open heap promises to the thread that works on it.
-ghost use Rattle.std.specs.Prelude.{◌≡◌, ℕ, ◌*◌, IfOk, OnOk, IfErr, OnErr, Contains};
+ghost use Rattle.std.specs.Prelude.{◌≡◌, ℕ, ◌-◌, ◌*◌, ⊤, IfOk, OnOk, IfErr, OnErr, Contains};
 ghost use Rattle.heap_model.specs.declared.block.Block.{Block};
 ghost use Rattle.heap_model.specs.Image.{Image};
 ghost use Rattle.heap_model.specs.Sizes.{span_of};
+ghost use Rattle.block_heap.specs.declared.fault.AllocFault.TheVariants.{Full};
+ghost use Rattle.block_heap.specs.declared.fault.Looks.{Looks};
 ghost use Rattle.block_heap.specs.View.{View, word_of};
 ghost use Rattle.block_heap.specs.Words.{IsOwnSpot, KeepsOwn, MayStore, MixesOwn, NamesAll};
 ghost use Rattle.block_heap.specs.Tickets.{Stops};
@@ -27,13 +29,27 @@ pub trait HeapSeat {
     // so does each mixture of volatile and durable words.
     ghost images: { Self → Image → Type 0 };
 
+    // How many tickets a call on words, and one of alloc or free, may draw. By default any number.
+    ghost small_draws: { ℕ → Type 0 } = { λ _. ⊤ };
+
+    ghost large_draws: { ℕ → Type 0 } = { λ _. ⊤ };
+
+    // What is so of a seat that gives a block to a request of so many bytes, and of one that
+    // refuses it for want of room. By default nothing more than what its looks tell.
+    ghost has_room: { Self → ℕ → Type 0 } = { λ _ _. ⊤ };
+    ghost has_none: { Self → ℕ → Type 0 } = { λ _ _. ⊤ };
+
     /// A block of at least so many bytes. What its words hold is not known.
     fn alloc(&mut self, bytes: u64) -> Result<Block, AllocFault>
         ensures ok { IfOk result (λ b. Allocates bytes b (view self.old) (view self.new)) }
         ensures cause { IfErr result (λ fault. FailsBy bytes fault
             (view self.old) (view self.new)) }
+        ensures room { OnOk result (has_room self.old bytes) }
+        ensures none { IfErr result (λ fault. (looks : Looks) → fault ≡ Full looks
+            → has_none self.old bytes) }
         ensures unchanged { OnErr result (KeepsOwn (view self.old) (view self.new)) }
-        ensures counted { IsLargeCall (span_of bytes) (view self.old) (view self.new) };
+        ensures counted { IsLargeCall (span_of bytes) (view self.old) (view self.new) }
+        ensures draws { large_draws ((view self.new).next - (view self.old).next) };
 
     /// Gives a held block back. After `Stopped` it may be held or not.
     fn free(&mut self, b: Block) -> Result<(), Stopped>
@@ -41,7 +57,8 @@ pub trait HeapSeat {
         ensures ok { OnOk result (Frees b (view self.old) (view self.new)) }
         ensures stopped { IfErr result (λ e. Stops e.step (view self.old) (view self.new)) }
         ensures others { MayFree b (view self.old) (view self.new) }
-        ensures counted { IsLargeCall 0 (view self.old) (view self.new) };
+        ensures counted { IsLargeCall 0 (view self.old) (view self.new) }
+        ensures draws { large_draws ((view self.new).next - (view self.old).next) };
 
     /// The word at the spot.
     fn load(&mut self, s: Spot) -> Result<u64, Stopped>
@@ -50,7 +67,8 @@ pub trait HeapSeat {
             (view self.old) (view self.new)) }
         ensures stopped { IfErr result (λ e. Stops e.step (view self.old) (view self.new)) }
         ensures unchanged { KeepsOwn (view self.old) (view self.new) }
-        ensures counted { IsSmallCall (view self.old) (view self.new) };
+        ensures counted { IsSmallCall (view self.old) (view self.new) }
+        ensures draws { small_draws ((view self.new).next - (view self.old).next) };
 
     /// Changes what loads see of the word at the spot. A crash may still leave its old value.
     fn store(&mut self, s: Spot, value: u64) -> Result<(), Stopped>
@@ -59,7 +77,8 @@ pub trait HeapSeat {
         ensures stopped { IfErr result (λ e. Stops e.step (view self.old) (view self.new)) }
         ensures unchanged { OnErr result (KeepsOwn (view self.old) (view self.new)) }
         ensures crash { MayStore (word_of s) value (view self.old) (view self.new) }
-        ensures counted { IsSmallCall (view self.old) (view self.new) };
+        ensures counted { IsSmallCall (view self.old) (view self.new) }
+        ensures draws { small_draws ((view self.new).next - (view self.old).next) };
 
     /// Asks for the words of the spot's block that share its line, or for the root, to be made
     /// durable, which the next fence awaits.
@@ -68,14 +87,16 @@ pub trait HeapSeat {
         ensures ok { OnOk result (WritesBack s (view self.old) (view self.new)) }
         ensures stopped { IfErr result (λ e. Stops e.step (view self.old) (view self.new)) }
         ensures unchanged { KeepsOwn (view self.old) (view self.new) }
-        ensures counted { IsSmallCall (view self.old) (view self.new) };
+        ensures counted { IsSmallCall (view self.old) (view self.new) }
+        ensures draws { small_draws ((view self.new).next - (view self.old).next) };
 
     /// Waits until each own word that was written back, and not stored to since, is durable.
     fn fence(&mut self) -> Result<(), Stopped>
         ensures ok { OnOk result (Fences (view self.old) (view self.new)) }
         ensures stopped { IfErr result (λ e. Stops e.step (view self.old) (view self.new)) }
         ensures unchanged { KeepsOwn (view self.old) (view self.new) }
-        ensures counted { IsSmallCall (view self.old) (view self.new) };
+        ensures counted { IsSmallCall (view self.old) (view self.new) }
+        ensures draws { small_draws ((view self.new).next - (view self.old).next) };
 
     /// The held block that begins at the byte offset. Draws no ticket.
     fn block(&self, offset: u64) -> Block

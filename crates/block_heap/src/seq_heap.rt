@@ -43,25 +43,25 @@ impl<C> Model for SeqHeap<C> {
     ghost Value = { SeqState };
 
     ghost view = { λ s. record {
-        parts = parts_of s.arena;
-        stopped = s.stopped;
-        small_calls = s.small_calls;
-        large_calls = s.large_calls;
-        refusals = s.refusals;
-        refused_bytes = s.refused_bytes;
-        refused_looks = s.refused_looks;
-        lasts = s.lasts
+      parts = parts_of s.arena;
+      stopped = s.stopped;
+      small_calls = s.small_calls;
+      large_calls = s.large_calls;
+      refusals = s.refusals;
+      refused_bytes = s.refused_bytes;
+      refused_looks = s.refused_looks;
+      lasts = s.lasts;
     } };
 
     ghost invariant = { λ s. IsSeqHeap (record {
-        parts = parts_of s.arena;
-        stopped = s.stopped;
-        small_calls = s.small_calls;
-        large_calls = s.large_calls;
-        refusals = s.refusals;
-        refused_bytes = s.refused_bytes;
-        refused_looks = s.refused_looks;
-        lasts = s.lasts
+      parts = parts_of s.arena;
+      stopped = s.stopped;
+      small_calls = s.small_calls;
+      large_calls = s.large_calls;
+      refusals = s.refusals;
+      refused_bytes = s.refused_bytes;
+      refused_looks = s.refused_looks;
+      lasts = s.lasts;
     }) };
 }
 
@@ -82,7 +82,7 @@ impl From<Stopped> for DrainFault {
 }
 
 impl<C: Chance> SeqHeap<C> {
-    ghost use Rattle.std.specs.Prelude.{◌≡◌, ◌<◌, ◌^◌, IfOk, IfErr, Some};
+    ghost use Rattle.std.specs.Prelude.{◌≡◌, ◌+◌, ◌<◌, ◌≤◌, ◌^◌, IfOk, IfErr, None, Some};
     ghost use Rattle.line_memory.specs.ClosedWords.{volatile_words, durable_words};
     ghost use Rattle.line_memory.specs.declared.memory.Stopped.{Stopped};
     ghost use Rattle.heap_model.specs.Image.{Image};
@@ -94,12 +94,7 @@ impl<C: Chance> SeqHeap<C> {
     ghost use Rattle.block_heap.specs.Closing.{IsOpened};
 
     /// Opens the heap with a budget of so many steps.
-    pub fn new(
-        alloc: Global,
-        heap: Ready,
-        budget: u64,
-        chance: C,
-    ) -> Result<SeqHeap<C>, AllocError>
+    pub fn new(alloc: Global, heap: Ready, budget: u64, chance: C) -> Result<SeqHeap<C>, AllocError>
         requires { budget < 2 ^ 40 }
         ensures { IfOk result (λ s. IsOpened heap.words heap.held budget s) }
     {
@@ -135,6 +130,10 @@ impl<C: Chance> SeqHeap<C> {
             → IfOk result (λ offsets. Drains class offsets.items self.old) }
         ensures stopped { IfErr result (λ fault. (e : Stopped) → fault ≡ DrainFault.Stopped e
             → self.new.stopped ≡ Some e.step) }
+        ensures few { self.new.parts.words.drawn < self.old.parts.words.drawn + 2 ^ 32 }
+        ensures above { IfErr result (λ fault. (e : Stopped) → fault ≡ DrainFault.Stopped e
+            → self.old.stopped ≡ None → (self.old.parts.words.budget ≤ e.step)
+            × (e.step < self.old.parts.words.drawn + 2 ^ 32)) }
     {
         let most = self.arena.geometry.capacity() * blocks_of(class);
         let mut offsets = Vec::with_capacity(alloc, most as usize)?;

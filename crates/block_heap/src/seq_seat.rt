@@ -1,5 +1,5 @@
 //! The calls of the heap for one thread.
-ghost use Rattle.std.specs.Prelude.{◌≡◌, ◌<◌, ◌^◌, OnOk, IfErr, None, Some};
+ghost use Rattle.std.specs.Prelude.{◌≡◌, ◌<◌, ◌≤◌, ◌^◌, OnOk, IfErr, None, Some};
 ghost use Rattle.block_heap.specs.View.{word_of as spot_word};
 
 use crate::fault::AllocFault;
@@ -12,11 +12,20 @@ use super_block::{ROOT_WORD, WORD_BYTES};
 
 impl<C: Chance> HeapSeat for SeqHeap<C> {
     ghost use Rattle.block_heap.specs.SeqState.{seat_of, MayLeave};
+    ghost use Rattle.block_heap.specs.Serving.{HasRoomFor};
     ghost use Rattle.block_heap.specs.Laws.{seat_law, mixed_law, named_law};
 
     ghost view = { seat_of };
 
     ghost images = { MayLeave };
+
+    ghost small_draws = { λ n. n ≤ 1 };
+
+    ghost large_draws = { λ n. n ≤ 131072 };
+
+    ghost has_room = { λ s bytes. HasRoomFor s.parts bytes };
+
+    ghost has_none = { λ s bytes. HasRoomFor s.parts bytes → ⊥ };
 
     fn alloc(&mut self, bytes: u64) -> Result<Block, AllocFault> {
         match self.request(bytes)? {
@@ -104,7 +113,7 @@ fn stop_of<T>(answer: &Result<T, Stopped>) -> Option<u64>
 }
 
 impl<C: Chance> SeqHeap<C> {
-    ghost use Rattle.std.specs.Prelude.{ℕ, IfOk, OnErr};
+    ghost use Rattle.std.specs.Prelude.{ℕ, ◌+◌, ◌<◌, IfOk, OnErr};
     ghost use Rattle.heap_model.specs.Sizes.{IsClass, size_of, span_of};
     ghost use Rattle.block_heap.specs.Calls.{IsLargeCall};
     ghost use Rattle.block_heap.specs.Parts.{held_in};
@@ -123,6 +132,8 @@ impl<C: Chance> SeqHeap<C> {
         ensures held { OnErr result (held_in self.new.parts ≡ held_in self.old.parts) }
         ensures words { KeepsWords (seat_of self.old) (seat_of self.new) }
         ensures counted { IsLargeCall (span_of bytes) (seat_of self.old) (seat_of self.new) }
+        ensures draws { self.new.parts.words.drawn ≤ self.old.parts.words.drawn + 10001 }
+        ensures refusable { OnOk result (self.new.refusals < self.new.large_calls) }
     {
         self.running()?;
         let answer = self.arena.alloc(bytes);

@@ -176,7 +176,9 @@ impl<C: Chance> Arena<C> {
             (parts_of self.old) (parts_of self.new) }
         ensures taken { (parts_of self.new).taken ≡ (parts_of self.old).taken }
     {
-        let anchor = self.medium.give_blocks(self.geometry, front.d, class, front.batch)?;
+        let anchor = self
+            .medium
+            .give_blocks(self.geometry, front.d, class, front.batch)?;
         self.caches[class as usize] = front.rest;
         if anchor.state == State::Full {
             let all = front.batch.count == blocks_of(class);

@@ -29,12 +29,32 @@ fn large_blocks(rt: HostRuntime) {
     let ready = empty(alloc, 4).unwrap();
     let mut heap = SeqHeap::new(alloc, ready, 1_000_000, Always(0)).unwrap();
     let first = heap.alloc(65_537).unwrap();
-    assert_eq!(rt; first, Block { first_word: 1_096, words: 16_384 });
-    assert_eq!(rt; heap.alloc(131_073), Err(AllocFault::Full(Looks { class_head: 0, free_head: 0, used: 2 })));
+    assert_eq!(rt;
+        first,
+        Block {
+            first_word: 1_096,
+            words: 16_384
+        }
+    );
+    assert_eq!(rt;
+        heap.alloc(131_073),
+        Err(AllocFault::Full(Looks {
+            class_head: 0,
+            free_head: 0,
+            used: 2
+        }))
+    );
     heap.free(first).unwrap();
     let second = heap.alloc(65_537).unwrap();
     assert_eq!(rt; second.first_word, 17_480);
-    assert_eq!(rt; heap.alloc(65_537), Err(AllocFault::Full(Looks { class_head: 0, free_head: 0, used: 4 })));
+    assert_eq!(rt;
+        heap.alloc(65_537),
+        Err(AllocFault::Full(Looks {
+            class_head: 0,
+            free_head: 0,
+            used: 4
+        }))
+    );
     let small = heap.alloc(16).unwrap();
     assert!(rt; small.first_word < 17_480, "{}", small.first_word);
 }
@@ -54,7 +74,11 @@ fn churn(rt: HostRuntime) {
         assert!(rt; heap.alloc(bytes).is_err(), "{class}");
         for k in 0..count {
             // every other block first
-            let at = if 2 * k < count { 2 * k } else { 2 * (k - (count + 1) / 2) + 1 };
+            let at = if 2 * k < count {
+                2 * k
+            } else {
+                2 * (k - (count + 1) / 2) + 1
+            };
             let b = blocks[at as usize];
             heap.free(b).unwrap();
         }

@@ -33,8 +33,11 @@ walks_same image new from (w ∷ ws) same walks =
 -- a list reads the links of its members alone
 pub follows_same : (link new : ℕ → ℕ) (capacity from : ℕ) (ds : List ℕ) → ((d : ℕ) → Contains ds d → new d ≡ link d) → Follows link capacity from ds → Follows new capacity from ds
 follows_same link new capacity from [] same follows = follows
-follows_same link new capacity from (d ∷ ds) same follows = (follows.0, follows.1,
-    subst (λ x. Follows new capacity x ds) (sym (same d (in_head d ds))) (follows_same link new capacity (link d) ds (λ e p. same e (in_rest d e ds p)) follows.2))
+follows_same link new capacity from (d ∷ ds) same follows = (
+  follows.0,
+  follows.1,
+  subst (λ x. Follows new capacity x ds) (sym (same d (in_head d ds))) (follows_same link new capacity (link d) ds (λ e p. same e (in_rest d e ds p)) follows.2),
+)
 
 -- the members of a list are superblocks
 pub follows_below : (link : ℕ → ℕ) (capacity from : ℕ) (ds : List ℕ) (d : ℕ) → Follows link capacity from ds → Contains ds d → d < capacity
@@ -137,7 +140,7 @@ module _ (capacity : ℕ) (image : Image) (held : List Block) (s : Shape) (shape
       let here = times_here d ds in
       let once = stands_once (s.place d) list in
       let follows : Follows (λ e. image (link_word e)) capacity (head_first (image (head_word list))) (d ∷ ds) =
-        subst (λ xs. Follows (λ e. image (link_word e)) capacity (head_first (image (head_word list))) xs) is (shape.follows list below) in
+      subst (λ xs. Follows (λ e. image (link_word e)) capacity (head_first (image (head_word list))) xs) is (shape.follows list below) in
       (place_is (s.place d) list (omega arith), follows.1, omega arith)
 
   -- a member of a list stands there

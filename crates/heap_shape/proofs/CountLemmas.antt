@@ -80,6 +80,7 @@ all_members f n xs are once long injective i below =
       | inl same ↦ (i, below, sym same)
       | inr later ↦ are x later
     ]
+
     still_once : times (f i) xs ≡ 0 → (j : ℕ) → j < n → times (f j) (f i ∷ xs) ≤ 1
     still_once none j less = elim (cases_eq (f i) (f j)) as (λ _. times (f j) (f i ∷ xs) ≤ 1) [
       | inl same ↦

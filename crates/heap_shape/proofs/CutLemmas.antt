@@ -71,57 +71,57 @@ module _ (capacity : ℕ) (image : Image) (held : List Block) (s : Shape) (shape
       → Follows (λ e. new (link_word e)) capacity (head_first (new (head_word other))) (with_at s.listed list ds other)
   follows_popped middle new list d ds below is popped heads links other less =
       elim (cases_eq other list) as (λ _. Follows (λ e. new (link_word e)) capacity (head_first (new (head_word other))) (with_at s.listed list ds other)) [
-    | inl one ↦ subst (λ k. Follows (λ e. new (link_word e)) capacity (head_first (new (head_word k))) (with_at s.listed list ds k)) (sym one)
-        (subst (λ xs. Follows (λ e. new (link_word e)) capacity (head_first (new (head_word list))) xs) (sym (with_at_same s.listed list ds))
-        (subst (λ from. Follows (λ e. new (link_word e)) capacity from ds) (sym from_is) (kept (image (link_word d)) ds rest)))
-    | inr apart ↦
-        let head : new (head_word other) ≡ image (head_word other) = heads other less ∙ popped.set.others (head_word other) (λ same. apart (omega arith)) in
-        subst (λ xs. Follows (λ e. new (link_word e)) capacity (head_first (new (head_word other))) xs) (sym (with_at_other s.listed list ds other apart))
-        (subst (λ h. Follows (λ e. new (link_word e)) capacity (head_first h) (s.listed other)) (sym head)
+        | inl one ↦ subst (λ k. Follows (λ e. new (link_word e)) capacity (head_first (new (head_word k))) (with_at s.listed list ds k)) (sym one)
+            (subst (λ xs. Follows (λ e. new (link_word e)) capacity (head_first (new (head_word list))) xs) (sym (with_at_same s.listed list ds))
+            (subst (λ from. Follows (λ e. new (link_word e)) capacity from ds) (sym from_is) (kept (image (link_word d)) ds rest)))
+        | inr apart ↦
+            let head : new (head_word other) ≡ image (head_word other) = heads other less ∙ popped.set.others (head_word other) (λ same. apart (omega arith)) in
+            subst (λ xs. Follows (λ e. new (link_word e)) capacity (head_first (new (head_word other))) xs) (sym (with_at_other s.listed list ds other apart))
+            (subst (λ h. Follows (λ e. new (link_word e)) capacity (head_first h) (s.listed other)) (sym head)
             (kept (head_first (image (head_word other))) (s.listed other) (shape.follows other less)))
-  ] where
-    kept : (from : ℕ) (xs : List ℕ) → Follows (λ e. image (link_word e)) capacity from xs → Follows (λ e. new (link_word e)) capacity from xs
-    kept from xs follows = follows_same (λ e. image (link_word e)) (λ e. new (link_word e)) capacity from xs
-        (λ e p. links e (follows_below (λ k. image (link_word k)) capacity from xs e follows p)) follows
+      ] where
+        kept : (from : ℕ) (xs : List ℕ) → Follows (λ e. image (link_word e)) capacity from xs → Follows (λ e. new (link_word e)) capacity from xs
+        kept from xs follows = follows_same (λ e. image (link_word e)) (λ e. new (link_word e)) capacity from xs
+            (λ e p. links e (follows_below (λ k. image (link_word k)) capacity from xs e follows p)) follows
 
-    rest : Follows (λ e. image (link_word e)) capacity (image (link_word d)) ds
-    rest = (subst (λ xs. Follows (λ e. image (link_word e)) capacity (head_first (image (head_word list))) xs) is (shape.follows list below)).2
+        rest : Follows (λ e. image (link_word e)) capacity (image (link_word d)) ds
+        rest = (subst (λ xs. Follows (λ e. image (link_word e)) capacity (head_first (image (head_word list))) xs) is (shape.follows list below)).2
 
-    from_is : head_first (new (head_word list)) ≡ image (link_word d)
-    from_is =
-        let head = heads list below ∙ popped.set.at in
-        let small = follows_small (λ e. image (link_word e)) capacity (image (link_word d)) ds rest in
-        let few = shape.small in omega arith
+        from_is : head_first (new (head_word list)) ≡ image (link_word d)
+        from_is =
+            let head = heads list below ∙ popped.set.at in
+            let small = follows_small (λ e. image (link_word e)) capacity (image (link_word d)) ds rest in
+            let few = shape.small in omega arith
 
   -- and where its place is in no list now
   pub listed_popped : (list d : ℕ) (ds : List ℕ) → list < lists → s.listed list ≡ d ∷ ds → (other e : ℕ) → other < lists
       → times e (with_at s.listed list ds other) ≡ stands_in (with_at s.place d is_full e) other
   listed_popped list d ds below is other e less =
       elim (cases_eq e d) as (λ _. times e (with_at s.listed list ds other) ≡ stands_in (with_at s.place d is_full e) other) [
-    | inl here ↦ subst (λ k. times k (with_at s.listed list ds other) ≡ stands_in (with_at s.place d is_full k) other) (sym here)
-          (gone ∙ sym (ap (λ p. stands_in p other) (with_at_same s.place d is_full)))
-    | inr apart ↦ stays apart ∙ shape.listed other e less ∙ sym (ap (λ p. stands_in p other) (with_at_other s.place d is_full e apart))
-  ] where
-    first : (s.place d ≡ in_list list) × (d < capacity) × (times d ds ≡ 0)
-    first = first_place capacity image held s shape list d ds below is
+        | inl here ↦ subst (λ k. times k (with_at s.listed list ds other) ≡ stands_in (with_at s.place d is_full k) other) (sym here)
+            (gone ∙ sym (ap (λ p. stands_in p other) (with_at_same s.place d is_full)))
+        | inr apart ↦ stays apart ∙ shape.listed other e less ∙ sym (ap (λ p. stands_in p other) (with_at_other s.place d is_full e apart))
+      ] where
+        first : (s.place d ≡ in_list list) × (d < capacity) × (times d ds ≡ 0)
+        first = first_place capacity image held s shape list d ds below is
 
-    gone : times d (with_at s.listed list ds other) ≡ 0
-    gone = elim (cases_eq other list) as (λ _. times d (with_at s.listed list ds other) ≡ 0) [
-      | inl one ↦ ap (λ k. times d (with_at s.listed list ds k)) one ∙ ap (times d) (with_at_same s.listed list ds) ∙ first.2
-      | inr not_one ↦ ap (times d) (with_at_other s.listed list ds other not_one) ∙ shape.listed other d less ∙ ap (λ p. stands_in p other) first.0
-          ∙ one_if_false (nat_eq list other) (λ same. not_one (sym (eqb-true list other same)))
-    ]
+        gone : times d (with_at s.listed list ds other) ≡ 0
+        gone = elim (cases_eq other list) as (λ _. times d (with_at s.listed list ds other) ≡ 0) [
+          | inl one ↦ ap (λ k. times d (with_at s.listed list ds k)) one ∙ ap (times d) (with_at_same s.listed list ds) ∙ first.2
+          | inr not_one ↦ ap (times d) (with_at_other s.listed list ds other not_one) ∙ shape.listed other d less ∙ ap (λ p. stands_in p other) first.0
+              ∙ one_if_false (nat_eq list other) (λ same. not_one (sym (eqb-true list other same)))
+        ]
 
-    stays : e ≢ d → times e (with_at s.listed list ds other) ≡ times e (s.listed other)
-    stays apart = elim (cases_eq other list) as (λ _. times e (with_at s.listed list ds other) ≡ times e (s.listed other)) [
-      | inl one ↦
-          let none : one_if (nat_eq d e) ≡ 0 = one_if_false (nat_eq d e) (λ same. apart (sym (eqb-true d e same))) in
-          let old : times e (s.listed other) ≡ one_if (nat_eq d e) + times e ds = ap (times e) (ap (λ k. s.listed k) one ∙ is) in
-          let new : times e (with_at s.listed list ds other) ≡ times e ds = ap (λ k. times e (with_at s.listed list ds k)) one
+        stays : e ≢ d → times e (with_at s.listed list ds other) ≡ times e (s.listed other)
+        stays apart = elim (cases_eq other list) as (λ _. times e (with_at s.listed list ds other) ≡ times e (s.listed other)) [
+          | inl one ↦
+              let none : one_if (nat_eq d e) ≡ 0 = one_if_false (nat_eq d e) (λ same. apart (sym (eqb-true d e same))) in
+              let old : times e (s.listed other) ≡ one_if (nat_eq d e) + times e ds = ap (times e) (ap (λ k. s.listed k) one ∙ is) in
+              let new : times e (with_at s.listed list ds other) ≡ times e ds = ap (λ k. times e (with_at s.listed list ds k)) one
               ∙ ap (times e) (with_at_same s.listed list ds) in
-          omega arith
-      | inr not_one ↦ ap (times e) (with_at_other s.listed list ds other not_one)
-    ]
+              omega arith
+          | inr not_one ↦ ap (times e) (with_at_other s.listed list ds other not_one)
+        ]
 
 -- the shape where superblock d is full, and the cache of the class has these blocks, from `first` on
 abbrev pub refilled : Shape → ℕ → ℕ → (ℕ → List ℕ) → List ℕ → ℕ → Shape
@@ -183,9 +183,9 @@ module _ (capacity class d : ℕ) (image new : Image) (held : List Block) (s : S
   cached_there e c word is_c apart inside = elim (cases_eq c class) as (λ _. times word (with_at s.cached class words c) ≡ times word (s.cached c)) [
     | inl one ↦
         let none : times word words ≡ 0 = times_none word words
-            (λ p. apart (inside_one capacity e d word inside (first_inside capacity class d word is (re.firsts word p)))) in
+        (λ p. apart (inside_one capacity e d word inside (first_inside capacity class d word is (re.firsts word p)))) in
         let now : times word (with_at s.cached class words c) ≡ times word words = ap (λ k. times word (with_at s.cached class words k)) one
-            ∙ ap (times word) (with_at_same s.cached class words) in
+        ∙ ap (times word) (with_at_same s.cached class words) in
         let old : times word (s.cached c) ≡ 0 = ap (times word) (ap (λ k. s.cached k) one ∙ re.empty) in
         omega arith
     | inr other ↦ ap (times word) (with_at_other s.cached class words c other)
@@ -228,7 +228,7 @@ module _ (capacity class d : ℕ) (image new : Image) (held : List Block) (s : S
     owned index below =
         let chain : times (first_of capacity class d index) (with_at s.chain d [] d) ≡ 0 = ap (times (first_of capacity class d index)) none in
         let cached : times (first_of capacity class d index) (with_at s.cached class words class) ≡ times (first_of capacity class d index) words =
-            ap (times (first_of capacity class d index)) (with_at_same s.cached class words) in
+        ap (times (first_of capacity class d index)) (with_at_same s.cached class words) in
         elim (re.owned index below) as (λ _. HasOneOwner (refilled s class d listed words first) held class d (first_of capacity class d index)) [
           | inl free ↦ let once = free.0 in a_free (omega arith) free.1
           | inr is_held ↦ let never = is_held.0 in a_held (omega arith) is_held.1
@@ -239,18 +239,18 @@ module _ (capacity class d : ℕ) (image new : Image) (held : List Block) (s : S
       → IsCachedIn capacity new (refilled s class d listed words first) c word
   cached_now c word is_c p = elim (cases_eq c class) as (λ _. IsCachedIn capacity new (refilled s class d listed words first) c word) [
     | inl one ↦ subst (λ k. IsCachedIn capacity new (refilled s class d listed words first) k word) (sym one) (record {
-        superblock = d;
-        within = re.within;
-        is_first = re.firsts word (subst (λ ws. Contains ws word) (ap (with_at s.cached class words) one ∙ with_at_same s.cached class words) p);
-        place = inr (with_at_same s.place d is_full, re.info);
-      })
+      superblock = d;
+      within = re.within;
+      is_first = re.firsts word (subst (λ ws. Contains ws word) (ap (with_at s.cached class words) one ∙ with_at_same s.cached class words) p);
+      place = inr (with_at_same s.place d is_full, re.info);
+    })
     | inr other ↦ before (subst (λ ws. Contains ws word) (with_at_other s.cached class words c other) p)
   ] where
     before : Contains (s.cached c) word → IsCachedIn capacity new (refilled s class d listed words first) c word
     before old =
         let at = shape.cached c word is_c old in
         let apart : at.superblock ≢ d = λ same. cached_apart c word is_c old
-            (subst (λ e. IsInSuperblock capacity e word) same (first_inside capacity c at.superblock word is_c at.is_first)) in
+        (subst (λ e. IsInSuperblock capacity e word) same (first_inside capacity c at.superblock word is_c at.is_first)) in
         let place = with_at_other s.place d is_full at.superblock apart in
         record {
           superblock = at.superblock;
@@ -258,9 +258,9 @@ module _ (capacity class d : ℕ) (image new : Image) (held : List Block) (s : S
           is_first = at.is_first;
           place = elim at.place as (λ _. (with_at s.place d is_full at.superblock ≡ in_list c)
               ⊎ ((with_at s.place d is_full at.superblock ≡ is_full) × (new (info_word at.superblock) ≡ c))) [
-            | inl in_class ↦ inl (place ∙ in_class)
-            | inr is_one ↦ inr (place ∙ is_one.0, re.other_info at.superblock at.within apart ∙ is_one.1)
-          ];
+                | inl in_class ↦ inl (place ∙ in_class)
+                | inr is_one ↦ inr (place ∙ is_one.0, re.other_info at.superblock at.within apart ∙ is_one.1)
+              ];
         }
 
   -- the heap has the shape
@@ -278,7 +278,7 @@ module _ (capacity class d : ℕ) (image new : Image) (held : List Block) (s : S
       | inl same ↦ subst (λ k. IsAs capacity new (refilled s class d listed words first) held k (with_at s.place d is_full k)) (sym same)
           (subst (λ p. IsAs capacity new (refilled s class d listed words first) held d p) (sym (with_at_same s.place d is_full)) full)
       | inr other ↦ subst (λ p. IsAs capacity new (refilled s class d listed words first) held e p) (sym (with_at_other s.place d is_full e other))
-            (stays e within other)
+          (stays e within other)
     ];
     cached = cached_now;
     walks = λ c is_c. elim (cases_eq c class) as (λ _. Walks new (with_at s.start class first c) (with_at s.cached class words c)) [
@@ -297,8 +297,8 @@ firsts_none : (capacity class d i index count : ℕ) → IsClass class → i < i
 firsts_none capacity class d i index zero is before = refl
 firsts_none capacity class d i index (suc count) is before =
     let none : one_if (nat_eq (first_of capacity class d index) (first_of capacity class d i)) ≡ 0 = one_if_false _
-        (λ same. let one : index ≡ i = first_injective capacity class d index i is
-            (eqb-true (first_of capacity class d index) (first_of capacity class d i) same) in omega arith) in
+    (λ same. let one : index ≡ i = first_injective capacity class d index i is
+    (eqb-true (first_of capacity class d index) (first_of capacity class d i) same) in omega arith) in
     let rest = firsts_none capacity class d i (index + 1) count is (omega arith) in
     omega arith
 
@@ -308,17 +308,17 @@ pub firsts_once : (capacity class d i index count : ℕ) → IsClass class → i
 firsts_once capacity class d i index zero is from until = absurd (omega arith)
 firsts_once capacity class d i index (suc count) is from until =
     elim (cases_eq i index) as (λ _. times (first_of capacity class d i) (firsts_from capacity class d index (suc count)) ≡ 1) [
-  | inl one ↦
-      let here : one_if (nat_eq (first_of capacity class d index) (first_of capacity class d i)) ≡ 1 = one_if_true _
+      | inl one ↦
+          let here : one_if (nat_eq (first_of capacity class d index) (first_of capacity class d i)) ≡ 1 = one_if_true _
           (eq-eqb (first_of capacity class d index) (first_of capacity class d i) (ap (first_of capacity class d) (sym one))) in
-      let rest = firsts_none capacity class d i (index + 1) count is (omega arith) in
-      omega arith
-  | inr other ↦
-      let none : one_if (nat_eq (first_of capacity class d index) (first_of capacity class d i)) ≡ 0 = one_if_false _
+          let rest = firsts_none capacity class d i (index + 1) count is (omega arith) in
+          omega arith
+      | inr other ↦
+          let none : one_if (nat_eq (first_of capacity class d index) (first_of capacity class d i)) ≡ 0 = one_if_false _
           (λ same. other (sym (first_injective capacity class d index i is (eqb-true (first_of capacity class d index) (first_of capacity class d i) same)))) in
-      let rest = firsts_once capacity class d i (index + 1) count is (omega arith) (omega arith) in
-      omega arith
-]
+          let rest = firsts_once capacity class d i (index + 1) count is (omega arith) (omega arith) in
+          omega arith
+    ]
 
 -- and nothing else does
 pub firsts_are : (capacity class d index count w : ℕ) → index + count ≤ blocks_of class → Contains (firsts_from capacity class d index count) w
@@ -336,6 +336,8 @@ pub firsts_walk : (capacity class d : ℕ) (new : Image) (index count : ℕ)
     → index + count ≤ blocks_of class → Walks new (first_of capacity class d index) (firsts_from capacity class d index count)
 firsts_walk capacity class d new index zero linked within = tt
 firsts_walk capacity class d new index (suc zero) linked within = (refl, tt)
-firsts_walk capacity class d new index (suc (suc count)) linked within =
-    (refl, subst (λ from. Walks new from (firsts_from capacity class d (index + 1) (suc count))) (sym (linked index (omega arith)))
-    (firsts_walk capacity class d new (index + 1) (suc count) linked (omega arith)))
+firsts_walk capacity class d new index (suc (suc count)) linked within = (
+  refl,
+  subst (λ from. Walks new from (firsts_from capacity class d (index + 1) (suc count))) (sym (linked index (omega arith)))
+      (firsts_walk capacity class d new (index + 1) (suc count) linked (omega arith)),
+)

@@ -76,7 +76,7 @@ module _ (capacity class : ℕ) (image new : Image) (held : List Block) (s : Sha
       | inl info ↦ inl (stays.1 ∙ info)
       | inr in_free ↦ inr (λ ds leads.
           subst (λ xs. Contains xs e) (one_following (λ k. new (link_word k)) capacity (head_first (new (head_word 0))) free ds follows leads)
-              (stays.2 (in_free (s.listed 0) (shape.follows 0 (omega arith)))))
+          (stays.2 (in_free (s.listed 0) (shape.follows 0 (omega arith)))))
     ]
 
 -- the cache was filled from a partial superblock
@@ -85,24 +85,24 @@ pub take_drains : (capacity class d : ℕ) (image middle new : Image) (held : Li
 take_drains capacity class d image middle new held s ds is shape list popped set =
     drains_same capacity class image new held s shape (omega (arith, used)) (omega (arith, used, shape.used)) (λ b e holds part. info e) (s.listed 0) leads
     (λ e taken. inr (omega (arith, used), info e, λ p. p)) where
-  -- the words but two are as before
-  same : (word : ℕ) → word ≢ anchor_word d → word ≢ head_word class → new word ≡ image word
-  same word not_anchor not_head = set.others word not_anchor ∙ popped.set.others word not_head
+      -- the words but two are as before
+      same : (word : ℕ) → word ≢ anchor_word d → word ≢ head_word class → new word ≡ image word
+      same word not_anchor not_head = set.others word not_anchor ∙ popped.set.others word not_head
 
-  used : new used_word ≡ image used_word
-  used = same used_word (λ e. omega arith) (λ e. omega arith)
+      used : new used_word ≡ image used_word
+      used = same used_word (λ e. omega arith) (λ e. omega arith)
 
-  info : (e : ℕ) → new (info_word e) ≡ image (info_word e)
-  info e = let last = is.last in same (info_word e) (λ q. omega arith) (λ q. omega arith)
+      info : (e : ℕ) → new (info_word e) ≡ image (info_word e)
+      info e = let last = is.last in same (info_word e) (λ q. omega arith) (λ q. omega arith)
 
-  head : new (head_word 0) ≡ image (head_word 0)
-  head = let some = is.some in same (head_word 0) (λ q. omega arith) (λ q. omega arith)
+      head : new (head_word 0) ≡ image (head_word 0)
+      head = let some = is.some in same (head_word 0) (λ q. omega arith) (λ q. omega arith)
 
-  leads : Follows (λ e. new (link_word e)) capacity (head_first (new (head_word 0))) (s.listed 0)
-  leads = let last = is.last in
-      subst (λ h. Follows (λ e. new (link_word e)) capacity (head_first h) (s.listed 0)) (sym head)
-      (follows_same (λ e. image (link_word e)) (λ e. new (link_word e)) capacity (head_first (image (head_word 0))) (s.listed 0)
-      (λ e p. same (link_word e) (λ q. omega arith) (λ q. omega arith)) (shape.follows 0 (omega arith)))
+      leads : Follows (λ e. new (link_word e)) capacity (head_first (new (head_word 0))) (s.listed 0)
+      leads = let last = is.last in
+          subst (λ h. Follows (λ e. new (link_word e)) capacity (head_first h) (s.listed 0)) (sym head)
+          (follows_same (λ e. image (link_word e)) (λ e. new (link_word e)) capacity (head_first (image (head_word 0))) (s.listed 0)
+          (λ e p. same (link_word e) (λ q. omega arith) (λ q. omega arith)) (shape.follows 0 (omega arith)))
 
 -- a superblock with no block in use went to the free list
 pub recycle_drains : (capacity class d : ℕ) (image middle new : Image) (held : List Block) (s : Shape) (ds : List ℕ) → IsClass class → IsShape capacity image held s → s.listed class ≡ d ∷ ds
@@ -110,40 +110,43 @@ pub recycle_drains : (capacity class d : ℕ) (image middle new : Image) (held :
 recycle_drains capacity class d image middle new held s ds is shape list popped pushed =
     drains_same capacity class image new held s shape (omega (arith, used)) (omega (arith, used, shape.used)) (λ b e holds part. info e) (d ∷ s.listed 0) leads
     (λ e taken. inr (omega (arith, used), info e, in_rest d e (s.listed 0))) where
-  -- the words but three are as before
-  same : (word : ℕ) → word ≢ head_word class → word ≢ link_word d → word ≢ head_word 0 → new word ≡ image word
-  same word no_class_head no_link no_head = pushed.head.others word no_head ∙ pushed.link.others word no_link ∙ popped.set.others word no_class_head
+      -- the words but three are as before
+      same : (word : ℕ) → word ≢ head_word class → word ≢ link_word d → word ≢ head_word 0 → new word ≡ image word
+      same word no_class_head no_link no_head = pushed.head.others word no_head ∙ pushed.link.others word no_link ∙ popped.set.others word no_class_head
 
-  used : new used_word ≡ image used_word
-  used = same used_word (λ q. omega arith) (λ q. omega arith) (λ q. omega arith)
+      used : new used_word ≡ image used_word
+      used = same used_word (λ q. omega arith) (λ q. omega arith) (λ q. omega arith)
 
-  info : (e : ℕ) → new (info_word e) ≡ image (info_word e)
-  info e = let last = is.last in same (info_word e) (λ q. omega arith) (λ q. omega arith) (λ q. omega arith)
+      info : (e : ℕ) → new (info_word e) ≡ image (info_word e)
+      info e = let last = is.last in same (info_word e) (λ q. omega arith) (λ q. omega arith) (λ q. omega arith)
 
-  first : (s.place d ≡ in_list class) × (d < capacity) × (times d ds ≡ 0)
-  first = let last = is.last in first_place capacity image held s shape class d ds (omega arith) list
+      first : (s.place d ≡ in_list class) × (d < capacity) × (times d ds ≡ 0)
+      first = let last = is.last in first_place capacity image held s shape class d ds (omega arith) list
 
-  -- the superblock was not in the free list
-  apart : (e : ℕ) → Contains (s.listed 0) e → e ≢ d
-  apart e p one =
-      let some = is.some in
-      let place : s.place d ≡ in_list 0 = subst (λ x. s.place x ≡ in_list 0) one (member_place capacity image held s shape 0 e (omega arith) p).0 in
-      let same_list : class ≡ 0 = one_list class 0 (sym first.0 ∙ place) in
-      omega arith
+      -- the superblock was not in the free list
+      apart : (e : ℕ) → Contains (s.listed 0) e → e ≢ d
+      apart e p one =
+          let some = is.some in
+          let place : s.place d ≡ in_list 0 = subst (λ x. s.place x ≡ in_list 0) one (member_place capacity image held s shape 0 e (omega arith) p).0 in
+          let same_list : class ≡ 0 = one_list class 0 (sym first.0 ∙ place) in
+          omega arith
 
-  leads : Follows (λ e. new (link_word e)) capacity (head_first (new (head_word 0))) (d ∷ s.listed 0)
-  leads =
-      let some = is.some in
-      let last = is.last in
-      let within = first.1 in
-      let small = shape.small in
-      let set = pushed.head.at in
-      let head : middle (head_word 0) ≡ image (head_word 0) = popped.set.others (head_word 0) (λ q. omega arith) in
-      let link : new (link_word d) ≡ head_first (image (head_word 0)) =
-        pushed.head.others (link_word d) (λ q. omega arith) ∙ pushed.link.at ∙ ap head_first head in
-      (omega arith, within, subst (λ x. Follows (λ e. new (link_word e)) capacity x (s.listed 0)) (sym link)
-      (follows_same (λ e. image (link_word e)) (λ e. new (link_word e)) capacity (head_first (image (head_word 0))) (s.listed 0)
-      (λ e p. let other = apart e p in same (link_word e) (λ q. omega arith) (λ q. other (omega arith)) (λ q. omega arith)) (shape.follows 0 (omega arith))))
+      leads : Follows (λ e. new (link_word e)) capacity (head_first (new (head_word 0))) (d ∷ s.listed 0)
+      leads =
+          let some = is.some in
+          let last = is.last in
+          let within = first.1 in
+          let small = shape.small in
+          let set = pushed.head.at in
+          let head : middle (head_word 0) ≡ image (head_word 0) = popped.set.others (head_word 0) (λ q. omega arith) in
+          let link : new (link_word d) ≡ head_first (image (head_word 0)) =
+          pushed.head.others (link_word d) (λ q. omega arith) ∙ pushed.link.at ∙ ap head_first head in (
+            omega arith,
+            within,
+            subst (λ x. Follows (λ e. new (link_word e)) capacity x (s.listed 0)) (sym link)
+                (follows_same (λ e. image (link_word e)) (λ e. new (link_word e)) capacity (head_first (image (head_word 0))) (s.listed 0)
+                (λ e p. let other = apart e p in same (link_word e) (λ q. omega arith) (λ q. other (omega arith)) (λ q. omega arith)) (shape.follows 0 (omega arith))),
+          )
 
 -- the words outside superblocks but two are as before the cut
 cut_keeps : (capacity class d : ℕ) (middle new : Image) (word : ℕ) → IsCut capacity middle new class d
@@ -158,68 +161,72 @@ cut_free_drains capacity class d image middle new held s ds is shape list popped
     (follows_popped capacity image held s shape middle new 0 d ds (omega arith) list popped
     (λ other less. cut_keeps capacity class d middle new (head_word other) cut (omega arith) (λ e. omega arith) (λ e. omega arith))
     (λ e within. same (link_word e) (omega arith) (λ at. omega arith) (λ at. omega arith) (λ at. omega arith)) 0 (omega arith)) each where
-  -- the words outside superblocks but three are as before
-  same : (word : ℕ) → word < start_word capacity 0 → word ≢ info_word d → word ≢ anchor_word d → word ≢ head_word 0 → new word ≡ image word
-  same word less not_info not_anchor not_head = cut_keeps capacity class d middle new word cut less not_info not_anchor ∙ popped.set.others word not_head
+      -- the words outside superblocks but three are as before
+      same : (word : ℕ) → word < start_word capacity 0 → word ≢ info_word d → word ≢ anchor_word d → word ≢ head_word 0 → new word ≡ image word
+      same word less not_info not_anchor not_head = cut_keeps capacity class d middle new word cut less not_info not_anchor ∙ popped.set.others word not_head
 
-  first : (s.place d ≡ in_list 0) × (d < capacity) × (times d ds ≡ 0)
-  first = first_place capacity image held s shape 0 d ds (omega arith) list
+      first : (s.place d ≡ in_list 0) × (d < capacity) × (times d ds ≡ 0)
+      first = first_place capacity image held s shape 0 d ds (omega arith) list
 
-  free : IsFree capacity image held d
-  free = in_free_list capacity image held s shape d first.1 first.0
+      free : IsFree capacity image held d
+      free = in_free_list capacity image held s shape d first.1 first.0
 
-  used : new used_word ≡ image used_word
-  used = same used_word (omega arith) (λ e. omega arith) (λ e. omega arith) (λ e. omega arith)
+      used : new used_word ≡ image used_word
+      used = same used_word (omega arith) (λ e. omega arith) (λ e. omega arith) (λ e. omega arith)
 
-  info : (e : ℕ) → e < capacity → e ≢ d → new (info_word e) ≡ image (info_word e)
-  info e within apart = same (info_word e) (omega arith) (λ at. apart (omega arith)) (λ at. omega arith) (λ at. omega arith)
+      info : (e : ℕ) → e < capacity → e ≢ d → new (info_word e) ≡ image (info_word e)
+      info e within apart = same (info_word e) (omega arith) (λ at. apart (omega arith)) (λ at. omega arith) (λ at. omega arith)
 
-  held_info : (b : Block) (e : ℕ) → Contains held b → HasPartIn capacity b e → new (info_word e) ≡ image (info_word e)
-  held_info b e holds part =
-      let taken = part_taken (layout_at capacity image) b e (shape.named b holds) part in
-      let most = shape.used in
-      info e (omega arith) (λ one. free.none b holds (subst (HasPartIn capacity b) one part))
+      held_info : (b : Block) (e : ℕ) → Contains held b → HasPartIn capacity b e → new (info_word e) ≡ image (info_word e)
+      held_info b e holds part =
+          let taken = part_taken (layout_at capacity image) b e (shape.named b holds) part in
+          let most = shape.used in
+          info e (omega arith) (λ one. free.none b holds (subst (HasPartIn capacity b) one part))
 
-  each : (e : ℕ) → e < new used_word → Stays class image new (s.listed 0) ds e
-  each e taken = elim (cases_eq e d) as (λ _. Stays class image new (s.listed 0) ds e) [
-    | inl one ↦ inl (subst (λ x. new (info_word x) ≡ class) (sym one) cut.info)
-    | inr apart ↦ let most = shape.used in let keeps = used in
-        inr (omega arith, info e (omega arith) apart, λ p. elim (head_or_rest d e ds (subst (λ xs. Contains xs e) list p)) as (λ _. Contains ds e) [
-          | inl one ↦ absurd (apart (sym one))
-          | inr later ↦ later
-        ])
-  ]
+      each : (e : ℕ) → e < new used_word → Stays class image new (s.listed 0) ds e
+      each e taken = elim (cases_eq e d) as (λ _. Stays class image new (s.listed 0) ds e) [
+        | inl one ↦ inl (subst (λ x. new (info_word x) ≡ class) (sym one) cut.info)
+        | inr apart ↦ let most = shape.used in let keeps = used in
+            inr (
+              omega arith,
+              info e (omega arith) apart,
+              λ p. elim (head_or_rest d e ds (subst (λ xs. Contains xs e) list p)) as (λ _. Contains ds e) [
+                | inl one ↦ absurd (apart (sym one))
+                | inr later ↦ later
+              ],
+            )
+      ]
 
 pub cut_fresh_drains : (capacity class d : ℕ) (image middle new : Image) (held : List Block) (s : Shape) → IsClass class → IsShape capacity image held s → image used_word ≡ d → d < capacity
     → IsSet image middle used_word (d + 1) → IsCut capacity middle new class d → DrainsSame capacity class held image new
 cut_fresh_drains capacity class d image middle new held s is shape past within set cut =
     drains_same capacity class image new held s shape (omega (arith, used)) (omega (arith, used)) held_info (s.listed 0) leads each where
-  -- the words outside superblocks but three are as before
-  same : (word : ℕ) → word < start_word capacity 0 → word ≢ info_word d → word ≢ anchor_word d → word ≢ used_word → new word ≡ image word
-  same word less not_info not_anchor not_used = cut_keeps capacity class d middle new word cut less not_info not_anchor ∙ set.others word not_used
+      -- the words outside superblocks but three are as before
+      same : (word : ℕ) → word < start_word capacity 0 → word ≢ info_word d → word ≢ anchor_word d → word ≢ used_word → new word ≡ image word
+      same word less not_info not_anchor not_used = cut_keeps capacity class d middle new word cut less not_info not_anchor ∙ set.others word not_used
 
-  used : new used_word ≡ d + 1
-  used = cut_keeps capacity class d middle new used_word cut (omega arith) (λ e. omega arith) (λ e. omega arith) ∙ set.at
+      used : new used_word ≡ d + 1
+      used = cut_keeps capacity class d middle new used_word cut (omega arith) (λ e. omega arith) (λ e. omega arith) ∙ set.at
 
-  info : (e : ℕ) → e < d → new (info_word e) ≡ image (info_word e)
-  info e below = same (info_word e) (omega arith) (λ at. omega arith) (λ at. omega arith) (λ at. omega arith)
+      info : (e : ℕ) → e < d → new (info_word e) ≡ image (info_word e)
+      info e below = same (info_word e) (omega arith) (λ at. omega arith) (λ at. omega arith) (λ at. omega arith)
 
-  held_info : (b : Block) (e : ℕ) → Contains held b → HasPartIn capacity b e → new (info_word e) ≡ image (info_word e)
-  held_info b e holds part = let taken = part_taken (layout_at capacity image) b e (shape.named b holds) part in info e (omega arith)
+      held_info : (b : Block) (e : ℕ) → Contains held b → HasPartIn capacity b e → new (info_word e) ≡ image (info_word e)
+      held_info b e holds part = let taken = part_taken (layout_at capacity image) b e (shape.named b holds) part in info e (omega arith)
 
-  leads : Follows (λ e. new (link_word e)) capacity (head_first (new (head_word 0))) (s.listed 0)
-  leads =
-      let head = same (head_word 0) (omega arith) (λ e. omega arith) (λ e. omega arith) (λ e. omega arith) in
-      subst (λ h. Follows (λ e. new (link_word e)) capacity (head_first h) (s.listed 0)) (sym head)
-      (follows_same (λ e. image (link_word e)) (λ e. new (link_word e)) capacity (head_first (image (head_word 0))) (s.listed 0)
-      (λ e p. let less = (member_place capacity image held s shape 0 e (omega arith) p).1 in
-        same (link_word e) (omega arith) (λ at. omega arith) (λ at. omega arith) (λ at. omega arith)) (shape.follows 0 (omega arith)))
+      leads : Follows (λ e. new (link_word e)) capacity (head_first (new (head_word 0))) (s.listed 0)
+      leads =
+          let head = same (head_word 0) (omega arith) (λ e. omega arith) (λ e. omega arith) (λ e. omega arith) in
+          subst (λ h. Follows (λ e. new (link_word e)) capacity (head_first h) (s.listed 0)) (sym head)
+          (follows_same (λ e. image (link_word e)) (λ e. new (link_word e)) capacity (head_first (image (head_word 0))) (s.listed 0)
+          (λ e p. let less = (member_place capacity image held s shape 0 e (omega arith) p).1 in
+          same (link_word e) (omega arith) (λ at. omega arith) (λ at. omega arith) (λ at. omega arith)) (shape.follows 0 (omega arith)))
 
-  each : (e : ℕ) → e < new used_word → Stays class image new (s.listed 0) (s.listed 0) e
-  each e taken = elim (cases_eq e d) as (λ _. Stays class image new (s.listed 0) (s.listed 0) e) [
-    | inl one ↦ inl (subst (λ x. new (info_word x) ≡ class) (sym one) cut.info)
-    | inr apart ↦ let raised = used in let below : e < d = omega arith in inr (omega arith, info e below, λ p. p)
-  ]
+      each : (e : ℕ) → e < new used_word → Stays class image new (s.listed 0) (s.listed 0) e
+      each e taken = elim (cases_eq e d) as (λ _. Stays class image new (s.listed 0) (s.listed 0) e) [
+        | inl one ↦ inl (subst (λ x. new (info_word x) ≡ class) (sym one) cut.info)
+        | inr apart ↦ let raised = used in let below : e < d = omega arith in inr (omega arith, info e below, λ p. p)
+      ]
 
 -- a block of a class has a part in its superblock, and in no other
 part_of_class : (capacity class d index : ℕ) (b : Block) → IsClass class → IsBlockOfClass capacity class d index b → HasPartIn capacity b d
@@ -295,10 +302,13 @@ hand_out_drains capacity class w image held now s ws is shape cached adds = reco
       | inr none ↦ inr (beside a e i is_class free.taken (subst (λ x. image (info_word x) ≡ class) (sym one) of_class.info) of none
           (λ still. still.empty b adds.has (subst (HasPartIn capacity b) (sym one) (part_of_class capacity class d index b is is_of))))
     ]
-    | inr apart ↦ inr (freed a e i is_class (record { taken = free.taken; empty = λ h p part. elim (adds.only h p) as (λ _. ⊥) [
-      | inl same ↦ apart (part_in_one capacity class d index e b is is_of (subst (λ x. HasPartIn capacity x e) same part))
-      | inr before ↦ free.empty h before part
-    ] }) of)
+    | inr apart ↦ inr (freed a e i is_class (record {
+      taken = free.taken;
+      empty = λ h p part. elim (adds.only h p) as (λ _. ⊥) [
+        | inl same ↦ apart (part_in_one capacity class d index e b is is_of (subst (λ x. HasPartIn capacity x e) same part))
+        | inr before ↦ free.empty h before part
+      ];
+    }) of)
   ]
   rest a (fresh _ e i is_class past within of) = inr (fresh a e i is_class past within of)
 
@@ -345,15 +355,15 @@ drained_none capacity class image held s is shape cached listed free past tidy b
       absurd (omega arith)
   all_held d is_full full place taken info index below =
       owner (of_class.owned index below) where
-    of_class : IsOfClass capacity image s held class d
-    of_class = subst (λ c. IsOfClass capacity image s held c d) info full.of_class
+        of_class : IsOfClass capacity image s held class d
+        of_class = subst (λ c. IsOfClass capacity image s held c d) info full.of_class
 
-    owner : HasOneOwner s held class d (first_of capacity class d index) → HoldsAt held (first_of capacity class d index)
-    owner (a_held none at) = at
-    owner (a_free once unheld) =
-        let no_chain : times (first_of capacity class d index) (s.chain d) ≡ 0 = ap (times (first_of capacity class d index)) full.none in
-        let no_cache : times (first_of capacity class d index) (s.cached class) ≡ 0 = ap (times (first_of capacity class d index)) cached in
-        absurd (omega arith)
+        owner : HasOneOwner s held class d (first_of capacity class d index) → HoldsAt held (first_of capacity class d index)
+        owner (a_held none at) = at
+        owner (a_free once unheld) =
+            let no_chain : times (first_of capacity class d index) (s.chain d) ≡ 0 = ap (times (first_of capacity class d index)) full.none in
+            let no_cache : times (first_of capacity class d index) (s.cached class) ≡ 0 = ap (times (first_of capacity class d index)) cached in
+            absurd (omega arith)
   all_held d in_large large place taken info index below = absurd (large.no_class (subst IsClass (sym info) is))
   all_held d is_new new place taken info index below = let never = new.past in absurd (omega arith)
 
@@ -366,9 +376,9 @@ drained_none capacity class image held s is shape cached listed free past tidy b
   given a (beside _ d index is_class taken info of unkept not_free) =
       let at = holds d taken info index of.below in
       let is_of : IsBlockOf (layout_at capacity image) a d index (words_of_class class) (blocks_of class) =
-        record { taken = taken; begins = of_class class info is; below = of.below; at = of.at; size = of.size } in
+      record { taken = taken; begins = of_class class info is; below = of.below; at = of.at; size = of.size } in
       let block : IsBlock (layout_at capacity image) a =
-        record { superblock = d; index = index; words = words_of_class class; count = blocks_of class; is_of = is_of } in
+      record { superblock = d; index = index; words = words_of_class class; count = blocks_of class; is_of = is_of } in
       let same = same_first (layout_at capacity image) at.block a (shape.named at.block at.holds) block (at.at ∙ sym of.at) in
       unkept (subst (Contains held) same at.holds)
   given a (freed _ d index is_class none of) = elim (tidy.each d none.taken none.empty) as (λ _. ⊥) [

@@ -40,14 +40,14 @@ of_class_same capacity d image new s t held now class same raised is = record {
   owned = λ index below.
       let inside = first_inside capacity class d (first_of capacity class d index) is.is_class (record { index = index; below = below; at = refl }) in
       let chain : times (first_of capacity class d index) (t.chain d) ≡ times (first_of capacity class d index) (s.chain d) =
-          ap (times (first_of capacity class d index)) same.chain in
+      ap (times (first_of capacity class d index)) same.chain in
       let cached = same.cached class (first_of capacity class d index) is.is_class inside in
       owner_same s t held now class d (first_of capacity class d index) (omega arith) (same.holds _ inside) (same.held_before _ inside) (is.owned index below);
   blocks = λ word p. is.blocks word (subst (λ ws. Contains ws word) same.chain p);
   walks = subst (λ ws. Walks new (first_of capacity class d (anchor_first (new (anchor_word d)))) ws) (sym same.chain)
       (subst (λ a. Walks new (first_of capacity class d (anchor_first a)) (s.chain d)) (sym same.anchor)
       (walks_same image new (first_of capacity class d (anchor_first (image (anchor_word d)))) (s.chain d)
-          (λ w p. same.inside w (first_inside capacity class d w is.is_class (is.blocks w p))) is.walks));
+      (λ w p. same.inside w (first_inside capacity class d w is.is_class (is.blocks w p))) is.walks));
   count = ap anchor_count same.anchor ∙ is.count ∙ ap length (sym same.chain);
 }
 
@@ -65,9 +65,9 @@ frame capacity d image new s t held now (in_list (suc c)) same raised untaken is
       some = let some = is.some in omega arith;
       state = elim is.state as (λ _. ((anchor_state (new (anchor_word d)) ≡ empty_state) × (length (t.chain d) ≡ blocks_of (suc c)))
           ⊎ ((anchor_state (new (anchor_word d)) ≡ partial_state) × (length (t.chain d) < blocks_of (suc c)))) [
-        | inl all ↦ inl (anchor ∙ all.0, long ∙ all.1)
-        | inr some ↦ inr (anchor ∙ some.0, let less = some.1 in omega arith)
-      ];
+            | inl all ↦ inl (anchor ∙ all.0, long ∙ all.1)
+            | inr some ↦ inr (anchor ∙ some.0, let less = some.1 in omega arith)
+          ];
     }
 frame capacity d image new s t held now is_full same raised untaken is = record {
   of_class = subst (λ c. IsOfClass capacity new t now c d) (sym same.info)

@@ -39,9 +39,11 @@ walk_behind next from (x ∷ before) last rest walks = walk_behind next (next x)
 walk_joined : (image new : ℕ → ℕ) (from : ℕ) (before : List ℕ) (last : ℕ) (rest chain : List ℕ) → ((w : ℕ) → Contains before w → new w ≡ image w)
     → Walks image from ((before ++ last ∷ []) ++ rest) → Walks new (new last) chain → Walks new from ((before ++ last ∷ []) ++ chain)
 walk_joined image new from [] last rest chain same walks tail = (walks.0, tail)
-walk_joined image new from (x ∷ before) last rest chain same walks tail =
-    (walks.0, subst (λ y. Walks new y ((before ++ last ∷ []) ++ chain)) (sym (same x (in_head x before)))
-    (walk_joined image new (image x) before last rest chain (λ w p. same w (in_rest x w before p)) walks.1 tail))
+walk_joined image new from (x ∷ before) last rest chain same walks tail = (
+  walks.0,
+  subst (λ y. Walks new y ((before ++ last ∷ []) ++ chain)) (sym (same x (in_head x before)))
+      (walk_joined image new (image x) before last rest chain (λ w p. same w (in_rest x w before p)) walks.1 tail),
+)
 
 -- the parts of an anchor
 anchor_parts : (state first count : ℕ) → state < 4 → first < 2147483648
@@ -112,7 +114,7 @@ module _ (capacity class d : ℕ) (image new : Image) (held : List Block) (s : S
       let found = shape.cached c w is_c p in
       let of_c = cached_of_class capacity image held s shape c w is_c p in
       let one : found.superblock ≡ d = inside_one capacity found.superblock d last
-          (subst (λ x. IsInSuperblock capacity found.superblock x) same (first_inside capacity c found.superblock w is_c found.is_first)) last_inside in
+      (subst (λ x. IsInSuperblock capacity found.superblock x) same (first_inside capacity c found.superblock w is_c found.is_first)) last_inside in
       other (sym of_c.info ∙ ap (λ e. image (info_word e)) one ∙ of.info)
 
   before_cached : (c w : ℕ) → Contains (with_at s.cached class rest c) w → Contains (s.cached c) w

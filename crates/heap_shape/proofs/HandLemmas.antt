@@ -110,19 +110,19 @@ replaced capacity image new s t held now class d (in_list zero) place is info an
     absurd (elim place as (λ _. ⊥) [ inl e ↦ let none : 0 ≡ class = cc in let some = is.some in omega arith | inr both ↦ cc ])
 replaced capacity image new s t held now class d (in_list (suc c)) place is info anchor chain of listed = elim place as (λ _. IsListed capacity new t now (suc c) d) [
   | inl e ↦ let same : suc c ≡ class = cc in record {
-      of_class = subst (λ k. IsOfClass capacity new t now k d) (sym same) of;
-      some = subst (λ xs. 1 ≤ length xs) (sym chain) listed.some;
-      state = rw (chain, anchor) listed.state;
-    }
+    of_class = subst (λ k. IsOfClass capacity new t now k d) (sym same) of;
+    some = subst (λ xs. 1 ≤ length xs) (sym chain) listed.some;
+    state = rw (chain, anchor) listed.state;
+  }
   | inr both ↦ absurd (cc)
 ]
 replaced capacity image new s t held now class d is_full place is info anchor chain of full = elim place as (λ _. IsFull capacity new t now d) [
   | inl e ↦ absurd (cc)
   | inr both ↦ record {
-      of_class = subst (λ k. IsOfClass capacity new t now k d) (sym (info ∙ both.1)) of;
-      none = chain ∙ full.none;
-      anchor = anchor ∙ full.anchor;
-    }
+    of_class = subst (λ k. IsOfClass capacity new t now k d) (sym (info ∙ both.1)) of;
+    none = chain ∙ full.none;
+    anchor = anchor ∙ full.anchor;
+  }
 ]
 replaced capacity image new s t held now class d in_large place is info anchor chain of large = absurd (elim place as (λ _. ⊥) [ inl e ↦ cc | inr both ↦ cc ])
 replaced capacity image new s t held now class d is_new place is info anchor chain of fresh = absurd (elim place as (λ _. ⊥) [ inl e ↦ cc | inr both ↦ cc ])
@@ -246,7 +246,7 @@ module _ (capacity class w : ℕ) (image : Image) (held now : List Block) (s : S
     places = place_after;
     cached = λ c word is_c p.
         let before : Contains (s.cached c) word = at_or_other (λ k xs. Contains xs word → Contains (s.cached k) word) s.cached class ws c
-            (λ q. subst (λ xs. Contains xs word) (sym cached) (in_rest w word ws q)) (λ _ q. q) p in
+        (λ q. subst (λ xs. Contains xs word) (sym cached) (in_rest w word ws q)) (λ _ q. q) p in
         let found = shape.cached c word is_c before in
         record { superblock = found.superblock; within = found.within; is_first = found.is_first; place = found.place };
     walks = λ c is_c. at_or_other_two (λ k first words. Walks image first words) s.start s.cached class (image w) ws c
@@ -402,9 +402,11 @@ module _ (capacity class d : ℕ) (image new : Image) (held now : List Block) (s
     cached = λ c word is_c p. at_or_other (λ k xs. IsClass k → Contains xs word → IsCachedIn capacity new freed k word) s.cached class (b.first_word ∷ s.cached class) c
         (λ _ q. elim (head_or_rest b.first_word word (s.cached class) q) [
           | inl same ↦ record {
-              superblock = d; within = within; is_first = subst (λ x. IsFirstOf capacity class d x) same first_here;
-              place = elim place_here [ inl in_class ↦ inl in_class | inr full ↦ inr (full.0, low_word (info_word d) (omega arith) ∙ full.1) ];
-            }
+            superblock = d;
+            within = within;
+            is_first = subst (λ x. IsFirstOf capacity class d x) same first_here;
+            place = elim place_here [ inl in_class ↦ inl in_class | inr full ↦ inr (full.0, low_word (info_word d) (omega arith) ∙ full.1) ];
+          }
           | inr before ↦ cached_still class word is before
         ]) (λ _ is_k q. cached_still c word is_k q) is_c p;
     walks = λ c is_c. at_or_other_two (λ k first words. IsClass k → Walks new first words) s.start s.cached class b.first_word (b.first_word ∷ s.cached class) c
@@ -421,7 +423,9 @@ module _ (capacity class d : ℕ) (image new : Image) (held now : List Block) (s
         let found = shape.cached c word is_c p in
         let below = found.within in
         record {
-          superblock = found.superblock; within = found.within; is_first = found.is_first;
+          superblock = found.superblock;
+          within = found.within;
+          is_first = found.is_first;
           place = elim found.place [ inl in_class ↦ inl in_class | inr full ↦ inr (full.0, low_word (info_word found.superblock) (omega arith) ∙ full.1) ];
         }
 

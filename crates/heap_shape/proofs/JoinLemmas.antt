@@ -154,7 +154,7 @@ join capacity n d image middle new held now s shape past some within set info ad
     no_class = λ is. let last = is.last in let least = is.some in elim (cases_eq e d) as (λ _. ⊥) [
       | inl one ↦ let here : new (info_word e) ≡ large_info n = ap (λ k. new (info_word k)) one ∙ info.at in omega arith
       | inr differs ↦ let none : new (info_word e) ≡ 0 = same (info_word e) (λ at. differs (omega arith)) (λ at. omega arith)
-            ∙ (was_new e from until).info in omega arith
+          ∙ (was_new e from until).info in omega arith
     ];
   }
 
@@ -162,7 +162,7 @@ join capacity n d image middle new held now s shape past some within set info ad
   cached c word is_c p =
       let at = shape.cached c word is_c p in
       let not_one : (at.superblock < d) ⊎ (d + n ≤ at.superblock) =
-          other at.superblock (λ new_place. elim at.place as (λ _. ⊥) [ inl in_class ↦ (cc) | inr full ↦ let is_one = full.0 in (cc) ]) in
+      other at.superblock (λ new_place. elim at.place as (λ _. ⊥) [ inl in_class ↦ (cc) | inr full ↦ let is_one = full.0 in (cc) ]) in
       let stays_there = other_place s d n at.superblock not_one in
       record {
         superblock = at.superblock;
@@ -170,9 +170,9 @@ join capacity n d image middle new held now s shape past some within set info ad
         is_first = at.is_first;
         place = elim at.place as (λ _. ((after_join s d n).place at.superblock ≡ in_list c)
             ⊎ (((after_join s d n).place at.superblock ≡ is_full) × (new (info_word at.superblock) ≡ c))) [
-          | inl in_class ↦ inl (stays_there ∙ in_class)
-          | inr full ↦ inr (stays_there ∙ full.0, infos at.superblock not_one ∙ full.1)
-        ];
+              | inl in_class ↦ inl (stays_there ∙ in_class)
+              | inr full ↦ inr (stays_there ∙ full.0, infos at.superblock not_one ∙ full.1)
+            ];
       }
 
   joined : IsShape capacity new now (after_join s d n)
@@ -186,9 +186,9 @@ join capacity n d image middle new held now s shape past some within set info ad
         (λ e p. link e) (shape.follows list less));
     listed = λ list e less. shape.listed list e less
         ∙ (elim (cases_joined d n e) as (λ _. stands_in (s.place e) list ≡ stands_in ((after_join s d n).place e) list) [
-      | inl one ↦ ap (λ p. stands_in p list) (place e one.0 one.1) ∙ sym (ap (λ p. stands_in p list) (joined_place s d n e one.0 one.1))
-      | inr not_one ↦ sym (ap (λ p. stands_in p list) (other_place s d n e not_one))
-    ]);
+          | inl one ↦ ap (λ p. stands_in p list) (place e one.0 one.1) ∙ sym (ap (λ p. stands_in p list) (joined_place s d n e one.0 one.1))
+          | inr not_one ↦ sym (ap (λ p. stands_in p list) (other_place s d n e not_one))
+        ]);
     places = λ e below. elim (cases_joined d n e) as (λ _. IsAs capacity new (after_join s d n) now e ((after_join s d n).place e)) [
       | inl one ↦ subst (λ p. IsAs capacity new (after_join s d n) now e p) (sym (joined_place s d n e one.0 one.1)) (is_taken e one.0 one.1)
       | inr not_one ↦ subst (λ p. IsAs capacity new (after_join s d n) now e p) (sym (other_place s d n e not_one)) (stays e below not_one)

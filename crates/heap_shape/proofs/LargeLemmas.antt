@@ -64,10 +64,10 @@ drop_large capacity image held now s b shape holds long takes = (is_shape, none_
     holds = λ word inside at. record {
       block = at.block;
       holds = takes.keeps at.block at.holds (λ same. apart (
-        let first : b.first_word ≡ word = ap (λ (x : Block). x.first_word) (sym same) ∙ at.at in
-        let from = inside.from in
-        let until = inside.until in
-        record { begins = omega arith; ends = omega arith }));
+          let first : b.first_word ≡ word = ap (λ (x : Block). x.first_word) (sym same) ∙ at.at in
+          let from = inside.from in
+          let until = inside.until in
+          record { begins = omega arith; ends = omega arith }));
       at = at.at;
     };
     held_before = λ word inside at. record { block = at.block; holds = takes.only at.block at.holds; at = at.at };
@@ -166,7 +166,7 @@ module _ (capacity d : ℕ) (image middle new : Image) (held : List Block) (s : 
       let small = shape.small in
       let head : new (head_word 0) ≡ d + 1 + 16777216 * pushed.pops = pushed.head.at in
       let link : new (link_word d) ≡ head_first (image (head_word 0)) =
-          pushed.head.others (link_word d) (λ q. omega arith) ∙ pushed.link.at ∙ ap head_first (set.others (head_word 0) (λ q. omega arith)) in
+      pushed.head.others (link_word d) (λ q. omega arith) ∙ pushed.link.at ∙ ap head_first (set.others (head_word 0) (λ q. omega arith)) in
       let rest = links_same 0 (head_first (image (head_word 0))) (omega arith) (shape.follows 0 (omega arith)) in
       (omega arith, within, subst (λ from. Leads new capacity from (s.listed 0)) (sym link) rest)
 
@@ -188,7 +188,7 @@ module _ (capacity d : ℕ) (image middle new : Image) (held : List Block) (s : 
         let here : one_if (nat_eq d e) ≡ 0 = one_if_false (nat_eq d e) (λ test. other (sym (eqb-true d e test))) in
         let rest = shape.listed 0 e (omega arith) in
         let there : stands_in (with_at s.place d (in_list 0) e) 0 ≡ stands_in (s.place e) 0 =
-            ap (λ p. stands_in p 0) (with_at_other s.place d (in_list 0) e other) in
+        ap (λ p. stands_in p 0) (with_at_other s.place d (in_list 0) e other) in
         omega arith
   ]
 
@@ -197,7 +197,7 @@ module _ (capacity d : ℕ) (image middle new : Image) (held : List Block) (s : 
     | inl same ↦ subst (λ x. times x (s.listed list) ≡ stands_in (with_at s.place d (in_list 0) x) list) (sym same) (
         let rest = not_listed list less in
         let there : stands_in (with_at s.place d (in_list 0) d) list ≡ one_if (nat_eq 0 list) =
-            ap (λ p. stands_in p list) (with_at_same s.place d (in_list 0)) in
+        ap (λ p. stands_in p list) (with_at_same s.place d (in_list 0)) in
         let is : one_if (nat_eq 0 list) ≡ 0 = one_if_false (nat_eq 0 list) (λ test. more (sym (eqb-true 0 list test))) in
         omega arith)
     | inr other ↦ shape.listed list e less ∙ ap (λ p. stands_in p list) (sym (with_at_other s.place d (in_list 0) e other))
@@ -220,16 +220,16 @@ module _ (capacity d : ℕ) (image middle new : Image) (held : List Block) (s : 
   place_other e below other =
       let same = same_used in
       frame capacity e image new s (after_split s d) held held (s.place e) (same_other e other) (omega arith)
-          (λ is. let fresh = subst (λ p. IsAs capacity image s held e p) is (shape.places e below) in let past = fresh.past in (omega arith, same_link e other))
-          (shape.places e below)
+      (λ is. let fresh = subst (λ p. IsAs capacity image s held e p) is (shape.places e below) in let past = fresh.past in (omega arith, same_link e other))
+      (shape.places e below)
 
   -- a cached block is in none that was in a large block
   cached_other : (class word : ℕ) → IsClass class → Contains (s.cached class) word → IsCachedIn capacity new (after_split s d) class word
   cached_other class word is p =
       let cached = shape.cached class word is p in
       let other : cached.superblock ≢ d = λ same.
-          let there : s.place cached.superblock ≡ in_large = ap s.place same ∙ place in
-          elim cached.place as (λ _. ⊥) [ inl listed ↦ list_not_large class (sym listed ∙ there) | inr full ↦ full_not_large (sym full.0 ∙ there) ] in
+      let there : s.place cached.superblock ≡ in_large = ap s.place same ∙ place in
+      elim cached.place as (λ _. ⊥) [ inl listed ↦ list_not_large class (sym listed ∙ there) | inr full ↦ full_not_large (sym full.0 ∙ there) ] in
       record {
         superblock = cached.superblock;
         within = cached.within;
@@ -246,7 +246,7 @@ module _ (capacity d : ℕ) (image middle new : Image) (held : List Block) (s : 
     | inl is_free ↦ subst (λ x. Leads new capacity (head_first (new (head_word x))) ((after_split s d).listed x)) (sym is_free) follows_free
     | inr other ↦
         subst (λ ds. Leads new capacity (head_first (new (head_word list))) ds) (sym (with_at_other s.listed 0 (d ∷ s.listed 0) list other))
-            (follows_other list less other)
+        (follows_other list less other)
   ]
 
   listed_now : (list e : ℕ) → list < lists → times e ((after_split s d).listed list) ≡ stands_in ((after_split s d).place e) list

@@ -177,7 +177,7 @@ module _ (image : Image) (held : List Block) (shaped : IsShaped image held) (nam
             a_held (omega arith) (record { block = found.0; holds = found.1; at = found.2 })
         | inr none ↦ a_free (omega arith) (λ at.
             let within : Contains (firsts_of held) word =
-                subst (λ w. Contains (firsts_of held) w) at.at (map_in (λ (h : Block). h.first_word) held at.block at.holds) in
+            subst (λ w. Contains (firsts_of held) w) at.at (map_in (λ (h : Block). h.first_word) held at.block at.holds) in
             let counts = times_in word (firsts_of held) within in omega arith)
       ]
 
@@ -188,12 +188,12 @@ module _ (image : Image) (held : List Block) (shaped : IsShaped image held) (nam
       let of = shaped.in_class class d is some in
       let anchored = of.2 in
       let firsts : (word : ℕ) → Contains (shaped.chains d) word → IsFirstOf (capacity_of image) class d word = λ word p.
-          let found = anchored.linked.blocks word p in record { index = found.0; below = found.1.below; at = found.1.at } in
+      let found = anchored.linked.blocks word p in record { index = found.0; below = found.1.below; at = found.1.at } in
       let owned = λ (index : ℕ) (less : index < blocks_of class). owned_at_rest class index is (omega arith) of.0 less in
       let few : length (shaped.chains d) ≤ blocks_of class = few_members (λ k. first_of (capacity_of image) class d k) (blocks_of class) (shaped.chains d)
-          (λ x p. let first = firsts x p in (first.index, first.below, first.at))
-          (λ k less.
-          let one = one_at_rest class k is (omega arith) of.0 less in omega arith) in
+      (λ x p. let first = firsts x p in (first.index, first.below, first.at))
+      (λ k less.
+      let one = one_at_rest class k is (omega arith) of.0 less in omega arith) in
       record {
         of_class = record {
           is_class = is;

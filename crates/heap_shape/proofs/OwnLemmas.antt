@@ -34,7 +34,7 @@ chained_apart capacity class d w image held s b shape is chained holds is_in =
     let from = is_in.from in
     let until = is_in.until in
     let is_block : IsBlock (layout_at capacity image) free =
-        a_class_block (layout_at capacity image) class d first.index free is.taken is.info is.is_class (record { below = first.below; at = first.at; size = refl }) in
+    a_class_block (layout_at capacity image) class d first.index free is.taken is.info is.is_class (record { below = first.below; at = first.at; size = refl }) in
     elim (is.owned first.index first.below) as (λ _. ⊥) [
       | a_held none at ↦ omega arith
       | a_free once unheld ↦ elim (never_overlap (layout_at capacity image) free b is_block (shape.named b holds)) as (λ _. ⊥) [

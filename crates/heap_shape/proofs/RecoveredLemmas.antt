@@ -1,5 +1,5 @@
 -- What recovery leaves is tidy, and what is then to be drained is what the image had to give.
-use Rattle.std.proofs.Common.{◌≡◌, ℕ, ◌+◌, ◌<◌, ◌≤◌, ◌↔◌, inl, inr, List, Contains, refl, sym, subst, ◌∙◌, arith}
+use Rattle.std.proofs.Common.{◌≡◌, ℕ, ◌<◌, ◌≤◌, ◌↔◌, inl, inr, List, Contains, refl, sym, subst, ◌∙◌, arith}
 use Rattle.std.proofs.lemmas.Bool.{cases_eq}
 use Rattle.heap_model.specs.declared.block.Block.{Block}
 use Rattle.heap_model.specs.Geometry.{head_word, info_word, link_word, used_word, largest_capacity}
@@ -7,12 +7,14 @@ use Rattle.heap_model.specs.Image.{Image}
 use Rattle.heap_model.specs.Header.{capacity_of}
 use Rattle.heap_model.specs.Words.{head_first}
 use Rattle.heap_model.specs.Blocks.{layout_of, IsBlock}
+use Rattle.heap_model.specs.Reach.{Links, IsReached}
 use Rattle.heap_model.specs.Recovered.{HasPartIn, IsFreeSuperblock, IsDrained, beside, freed, fresh}
 use Rattle.heap_model.specs.Chains.{Follows}
 use Rattle.heap_model.specs.Recovery.{HoldsKept, IsRecovered, first_number, in_header}
+use Rattle.heap_model.proofs.ReachLemmas.{reached_block}
 use Rattle.heap_model.proofs.PartLemmas.{cases_held, cases_parts, cases_class, part_taken}
 use Rattle.heap_shape.specs.Standing.{HasNoHeld}
-use Rattle.heap_shape.specs.Draining.{IsInFreeList, IsTidy, IsToDrain}
+use Rattle.heap_shape.specs.Draining.{IsTidy, IsToDrain}
 use Rattle.heap_shape.proofs.OpenLemmas.{head_at_rest}
 use Rattle.heap_shape.proofs.OwnLemmas.{one_following}
 
@@ -40,18 +42,18 @@ module _ (old new : Image) (kept : Block → Type 0) (held : List Block) (recove
         | inl is ↦ elim (cases_eq (new (info_word d)) (old (info_word d))) as (λ _. new (info_word d) ≡ old (info_word d)) [
           | inl same ↦ same
           | inr other ↦ (recovered.full (old (info_word d)) d is (record {
-              taken = taken;
-              info_is = refl;
-              all = λ index a of. elim (cases_held held a) as (λ _. kept a) [
-                | inl held_too ↦ (are_held a).0 held_too
-                | inr unheld ↦ absurd (other (recovered.partial (old (info_word d)) d is (record {
-                    taken = taken;
-                    info_is = refl;
-                    holds = here;
-                    spare = (a.first_word, record { index = index; block = a; is_block = of; first = refl; unkept = λ too. unheld ((are_held a).1 too) });
-                  })).words.info_is)
-              ];
-            })).info_is
+            taken = taken;
+            info_is = refl;
+            all = λ index a of. elim (cases_held held a) as (λ _. kept a) [
+              | inl held_too ↦ (are_held a).0 held_too
+              | inr unheld ↦ absurd (other (recovered.partial (old (info_word d)) d is (record {
+                taken = taken;
+                info_is = refl;
+                holds = here;
+                spare = (a.first_word, record { index = index; block = a; is_block = of; first = refl; unkept = λ too. unheld ((are_held a).1 too) });
+              })).words.info_is)
+            ];
+          })).info_is
         ]
       ]
 
@@ -91,3 +93,15 @@ module _ (old new : Image) (kept : Block → Type 0) (held : List Block) (recove
 
   pub recovered_drains : (b : Block) (class : ℕ) → IsDrained (layout_of old) kept class b ↔ IsToDrain (capacity_of old) new held class b
   recovered_drains b class = (still_given b class, given_before b class)
+
+-- the same where the kept blocks are the reached ones, which are blocks of the image
+pub reached_tidy : (old new : Image) (kinds : ℕ → ℕ) (links : Links) (held : List Block) (class : ℕ) → IsRecovered old new (IsReached old kinds links)
+    → ((b : Block) → Contains held b ↔ IsReached old kinds links b) → capacity_of old ≤ largest_capacity → IsTidy (capacity_of old) new held class
+reached_tidy old new kinds links held class recovered are_held small =
+    recovered_tidy old new (IsReached old kinds links) held recovered (λ b is. reached_block old kinds links b is.kind is.reach) are_held small class
+
+pub reached_drains : (old new : Image) (kinds : ℕ → ℕ) (links : Links) (held : List Block) (class : ℕ) → IsRecovered old new (IsReached old kinds links)
+    → ((b : Block) → Contains held b ↔ IsReached old kinds links b) → (b : Block)
+    → IsDrained (layout_of old) (IsReached old kinds links) class b ↔ IsToDrain (capacity_of old) new held class b
+reached_drains old new kinds links held class recovered are_held b =
+    recovered_drains old new (IsReached old kinds links) held recovered (λ a is. reached_block old kinds links a is.kind is.reach) are_held b class

@@ -109,10 +109,13 @@ recycle capacity class d image middle new held s ds is shape list state popped p
       let small = shape.small in
       let set = pushed.head.at in
       let head : middle (head_word 0) ≡ image (head_word 0) = popped.set.others (head_word 0) (λ q. not_free (omega arith)) in
-      let link : new (link_word d) ≡ head_first (image (head_word 0)) = pushed.head.others (link_word d) (λ q. omega arith) ∙ pushed.link.at ∙ ap head_first head in
-      (omega arith, within, subst (λ x. Follows (λ e. new (link_word e)) capacity x (s.listed 0)) (sym link)
-      (follows_same (λ e. image (link_word e)) (λ e. new (link_word e)) capacity (head_first (image (head_word 0))) (s.listed 0)
-      (other_links 0 (omega arith) (λ q. not_free (sym q))) (shape.follows 0 (omega arith))))
+      let link : new (link_word d) ≡ head_first (image (head_word 0)) = pushed.head.others (link_word d) (λ q. omega arith) ∙ pushed.link.at ∙ ap head_first head in (
+        omega arith,
+        within,
+        subst (λ x. Follows (λ e. new (link_word e)) capacity x (s.listed 0)) (sym link)
+            (follows_same (λ e. image (link_word e)) (λ e. new (link_word e)) capacity (head_first (image (head_word 0))) (s.listed 0)
+            (other_links 0 (omega arith) (λ q. not_free (sym q))) (shape.follows 0 (omega arith))),
+      )
 
   class_follows : Follows (λ e. new (link_word e)) capacity (head_first (new (head_word class))) ds
   class_follows =
@@ -120,10 +123,10 @@ recycle capacity class d image middle new held s ds is shape list state popped p
       let small = shape.small in
       let gone = at.2 in
       let before : Follows (λ e. image (link_word e)) capacity (head_first (image (head_word class))) (d ∷ ds) =
-        subst (λ xs. Follows (λ e. image (link_word e)) capacity (head_first (image (head_word class))) xs) list (shape.follows class below) in
+      subst (λ xs. Follows (λ e. image (link_word e)) capacity (head_first (image (head_word class))) xs) list (shape.follows class below) in
       let few = follows_from (λ e. image (link_word e)) capacity (image (link_word d)) ds before.2 in
       let set : new (head_word class) ≡ head_of (head_first (image (link_word d))) popped.pops =
-        pushed.head.others (head_word class) (λ q. not_free (omega arith)) ∙ pushed.link.others (head_word class) (λ q. omega arith) ∙ popped.set.at in
+      pushed.head.others (head_word class) (λ q. not_free (omega arith)) ∙ pushed.link.others (head_word class) (λ q. omega arith) ∙ popped.set.at in
       let first : head_first (new (head_word class)) ≡ image (link_word d) = omega arith in
       subst (λ x. Follows (λ e. new (link_word e)) capacity x ds) (sym first)
       (follows_same (λ e. image (link_word e)) (λ e. new (link_word e)) capacity (image (link_word d)) ds

@@ -25,59 +25,59 @@ pub take : (capacity class d : ℕ) (image middle new : Image) (held : List Bloc
     → IsShape capacity new held (after_take s class d ds (first_of capacity class d (anchor_first (image (anchor_word d)))))
 take capacity class d image middle new held s ds is shape list empty popped set =
     refill capacity class d image new held s (with_at s.listed class ds) (s.chain d)
-        (first_of capacity class d (anchor_first (image (anchor_word d)))) is shape taken where
-  below : class < lists
-  below = let last = is.last in omega arith
+    (first_of capacity class d (anchor_first (image (anchor_word d)))) is shape taken where
+      below : class < lists
+      below = let last = is.last in omega arith
 
-  first : (s.place d ≡ in_list class) × (d < capacity) × (times d ds ≡ 0)
-  first = first_place capacity image held s shape class d ds below list
+      first : (s.place d ≡ in_list class) × (d < capacity) × (times d ds ≡ 0)
+      first = first_place capacity image held s shape class d ds below list
 
-  of : IsOfClass capacity image s held class d
-  of = (in_class_list capacity image held s shape class d is first.1 first.0).of_class
+      of : IsOfClass capacity image s held class d
+      of = (in_class_list capacity image held s shape class d is first.1 first.0).of_class
 
-  -- the words but two are as before
-  same : (word : ℕ) → word ≢ anchor_word d → word ≢ head_word class → new word ≡ image word
-  same word not_anchor not_head = set.others word not_anchor ∙ popped.set.others word not_head
+      -- the words but two are as before
+      same : (word : ℕ) → word ≢ anchor_word d → word ≢ head_word class → new word ≡ image word
+      same word not_anchor not_head = set.others word not_anchor ∙ popped.set.others word not_head
 
-  used : new used_word ≡ image used_word
-  used = same used_word (λ e. omega arith) (λ e. omega arith)
+      used : new used_word ≡ image used_word
+      used = same used_word (λ e. omega arith) (λ e. omega arith)
 
-  inside : (e word : ℕ) → IsInSuperblock capacity e word → new word ≡ image word
-  inside e word within = same word (λ e. let from = within.from in let less = first.1 in omega arith) (λ e. let from = within.from in omega arith)
+      inside : (e word : ℕ) → IsInSuperblock capacity e word → new word ≡ image word
+      inside e word within = same word (λ e. let from = within.from in let less = first.1 in omega arith) (λ e. let from = within.from in omega arith)
 
-  owned : (index : ℕ) → index < blocks_of class → HasOneOwner s held class d (first_of capacity class d index)
-      → ((times (first_of capacity class d index) (s.chain d) ≡ 1) × (HoldsAt held (first_of capacity class d index) → ⊥))
-      ⊎ ((times (first_of capacity class d index) (s.chain d) ≡ 0) × HoldsAt held (first_of capacity class d index))
-  owned index less (a_free once unheld) =
-      let none : times (first_of capacity class d index) (s.cached class) ≡ 0 = ap (times (first_of capacity class d index)) empty in inl (omega arith, unheld)
-  owned index less (a_held never at) = inr (omega arith, at)
+      owned : (index : ℕ) → index < blocks_of class → HasOneOwner s held class d (first_of capacity class d index)
+          → ((times (first_of capacity class d index) (s.chain d) ≡ 1) × (HoldsAt held (first_of capacity class d index) → ⊥))
+          ⊎ ((times (first_of capacity class d index) (s.chain d) ≡ 0) × HoldsAt held (first_of capacity class d index))
+      owned index less (a_free once unheld) =
+          let none : times (first_of capacity class d index) (s.cached class) ≡ 0 = ap (times (first_of capacity class d index)) empty in inl (omega arith, unheld)
+      owned index less (a_held never at) = inr (omega arith, at)
 
-  taken : IsRefilled capacity class d image new held s (with_at s.listed class ds) (s.chain d) (first_of capacity class d (anchor_first (image (anchor_word d))))
-  taken = record {
-    within = first.1;
-    stood = λ c is_c at. let place = first.0 in cc;
-    not_full = λ full. let place = first.0 in cc;
-    empty = empty;
-    used = let most = shape.used in omega arith;
-    raised = omega arith;
-    taken = let less = of.taken in omega arith;
-    untaken = λ e within apart place. let is_now : IsNew image e = subst (λ p. IsAs capacity image s held e p) place (shape.places e within) in
-        let past = is_now.past in omega arith;
-    info = same (info_word d) (λ e. omega arith) (λ e. omega arith) ∙ of.info;
-    anchor = set.at;
-    other_info = λ e within apart. same (info_word e) (λ e. omega arith) (λ e. omega arith);
-    other_anchor = λ e within apart. same (anchor_word e) (λ at. apart (omega arith)) (λ e. omega arith);
-    links = λ e within. same (link_word e) (λ e. omega arith) (λ e. omega arith);
-    others = λ e word within apart at. inside e word at;
-    unheld = λ b p part. same (info_word d) (λ e. omega arith) (λ e. omega arith);
-    firsts = of.blocks;
-    owned = λ index less. owned index less (of.owned index less);
-    walks = walks_same image new (first_of capacity class d (anchor_first (image (anchor_word d)))) (s.chain d)
-        (λ w p. inside d w (first_inside capacity class d w is (of.blocks w p))) of.walks;
-    follows = follows_popped capacity image held s shape middle new class d ds below list popped (λ other less. set.others (head_word other) (λ e. omega arith))
-        (λ e within. same (link_word e) (λ e. omega arith) (λ e. omega arith));
-    in_lists = λ other e less. listed_popped capacity image held s shape class d ds below list other e less;
-  }
+      taken : IsRefilled capacity class d image new held s (with_at s.listed class ds) (s.chain d) (first_of capacity class d (anchor_first (image (anchor_word d))))
+      taken = record {
+        within = first.1;
+        stood = λ c is_c at. let place = first.0 in cc;
+        not_full = λ full. let place = first.0 in cc;
+        empty = empty;
+        used = let most = shape.used in omega arith;
+        raised = omega arith;
+        taken = let less = of.taken in omega arith;
+        untaken = λ e within apart place. let is_now : IsNew image e = subst (λ p. IsAs capacity image s held e p) place (shape.places e within) in
+            let past = is_now.past in omega arith;
+        info = same (info_word d) (λ e. omega arith) (λ e. omega arith) ∙ of.info;
+        anchor = set.at;
+        other_info = λ e within apart. same (info_word e) (λ e. omega arith) (λ e. omega arith);
+        other_anchor = λ e within apart. same (anchor_word e) (λ at. apart (omega arith)) (λ e. omega arith);
+        links = λ e within. same (link_word e) (λ e. omega arith) (λ e. omega arith);
+        others = λ e word within apart at. inside e word at;
+        unheld = λ b p part. same (info_word d) (λ e. omega arith) (λ e. omega arith);
+        firsts = of.blocks;
+        owned = λ index less. owned index less (of.owned index less);
+        walks = walks_same image new (first_of capacity class d (anchor_first (image (anchor_word d)))) (s.chain d)
+            (λ w p. inside d w (first_inside capacity class d w is (of.blocks w p))) of.walks;
+        follows = follows_popped capacity image held s shape middle new class d ds below list popped (λ other less. set.others (head_word other) (λ e. omega arith))
+            (λ e within. same (link_word e) (λ e. omega arith) (λ e. omega arith));
+        in_lists = λ other e less. listed_popped capacity image held s shape class d ds below list other e less;
+      }
 
 -- what both ways to cut a superblock need: no held block has a part in it, and the first words of the image alone are others before
 record IsCuttable (capacity class d : ℕ) (image middle new : Image) (held : List Block) (s : Shape) (listed : ℕ → List ℕ) : Type 0 where
@@ -107,47 +107,47 @@ cut_any : (capacity class d : ℕ) (image middle new : Image) (held : List Block
     → IsShape capacity new held (refilled s class d listed (all_firsts capacity class d) (first_of capacity class d 0))
 cut_any capacity class d image middle new held s listed is shape able =
     refill capacity class d image new held s listed (all_firsts capacity class d) (first_of capacity class d 0) is shape cut where
-  unheld : (index : ℕ) → index < blocks_of class → HoldsAt held (first_of capacity class d index) → ⊥
-  unheld index less at =
-      let inside = first_inside capacity class d (first_of capacity class d index) is (record { index = index; below = less; at = refl }) in
-      let from = inside.from in
-      let until = inside.until in
-      let same = at.at in
-      let long = block_words (layout_at capacity image) at.block (shape.named at.block at.holds) in
-      able.none at.block at.holds (record { begins = omega arith; ends = omega arith })
+      unheld : (index : ℕ) → index < blocks_of class → HoldsAt held (first_of capacity class d index) → ⊥
+      unheld index less at =
+          let inside = first_inside capacity class d (first_of capacity class d index) is (record { index = index; below = less; at = refl }) in
+          let from = inside.from in
+          let until = inside.until in
+          let same = at.at in
+          let long = block_words (layout_at capacity image) at.block (shape.named at.block at.holds) in
+          able.none at.block at.holds (record { begins = omega arith; ends = omega arith })
 
-  used : new used_word ≡ middle used_word
-  used = cut_before capacity class d middle new used_word able.cut (omega arith) (λ e. omega arith) (λ e. omega arith)
+      used : new used_word ≡ middle used_word
+      used = cut_before capacity class d middle new used_word able.cut (omega arith) (λ e. omega arith) (λ e. omega arith)
 
-  cut : IsRefilled capacity class d image new held s listed (all_firsts capacity class d) (first_of capacity class d 0)
-  cut = record {
-    within = able.within;
-    stood = λ c is_c at. absurd (able.no_class c is_c at);
-    not_full = able.not_full;
-    empty = able.empty;
-    used = let same = used in let most = able.used in omega arith;
-    raised = let same = used in let more = able.raised in omega arith;
-    taken = let same = used in let less = able.taken in omega arith;
-    untaken = λ e within apart place. let same = used in let past = able.untaken e within apart place in omega arith;
-    info = able.cut.info;
-    anchor = able.cut.anchor;
-    other_info = λ e within apart. cut_before capacity class d middle new (info_word e) able.cut (omega arith) (λ at. apart (omega arith)) (λ at. omega arith)
-        ∙ able.kept (info_word e) (omega arith);
-    other_anchor = λ e within apart. cut_before capacity class d middle new (anchor_word e) able.cut (omega arith) (λ at. omega arith) (λ at. apart (omega arith))
-        ∙ able.kept (anchor_word e) (omega arith);
-    links = λ e within. cut_before capacity class d middle new (link_word e) able.cut (omega arith) (λ at. omega arith) (λ at. omega arith)
-        ∙ able.kept (link_word e) (omega arith);
-    others = λ e word within apart inside.
-        let from = inside.from in
-        let less = able.within in
-        able.cut.others word (λ at. apart (inside_one capacity e d word inside at)) (λ at. omega arith) (λ at. omega arith) ∙ able.kept word (omega arith);
-    unheld = λ b p part. absurd (able.none b p part);
-    firsts = λ w p. firsts_are capacity class d 0 (blocks_of class) w (omega arith) p;
-    owned = λ index less. inl (firsts_once capacity class d index 0 (blocks_of class) is (omega arith) (omega arith), unheld index less);
-    walks = firsts_walk capacity class d new 0 (blocks_of class) able.cut.linked (omega arith);
-    follows = able.follows;
-    in_lists = able.in_lists;
-  }
+      cut : IsRefilled capacity class d image new held s listed (all_firsts capacity class d) (first_of capacity class d 0)
+      cut = record {
+        within = able.within;
+        stood = λ c is_c at. absurd (able.no_class c is_c at);
+        not_full = able.not_full;
+        empty = able.empty;
+        used = let same = used in let most = able.used in omega arith;
+        raised = let same = used in let more = able.raised in omega arith;
+        taken = let same = used in let less = able.taken in omega arith;
+        untaken = λ e within apart place. let same = used in let past = able.untaken e within apart place in omega arith;
+        info = able.cut.info;
+        anchor = able.cut.anchor;
+        other_info = λ e within apart. cut_before capacity class d middle new (info_word e) able.cut (omega arith) (λ at. apart (omega arith)) (λ at. omega arith)
+            ∙ able.kept (info_word e) (omega arith);
+        other_anchor = λ e within apart. cut_before capacity class d middle new (anchor_word e) able.cut (omega arith) (λ at. omega arith) (λ at. apart (omega arith))
+            ∙ able.kept (anchor_word e) (omega arith);
+        links = λ e within. cut_before capacity class d middle new (link_word e) able.cut (omega arith) (λ at. omega arith) (λ at. omega arith)
+            ∙ able.kept (link_word e) (omega arith);
+        others = λ e word within apart inside.
+            let from = inside.from in
+            let less = able.within in
+            able.cut.others word (λ at. apart (inside_one capacity e d word inside at)) (λ at. omega arith) (λ at. omega arith) ∙ able.kept word (omega arith);
+        unheld = λ b p part. absurd (able.none b p part);
+        firsts = λ w p. firsts_are capacity class d 0 (blocks_of class) w (omega arith) p;
+        owned = λ index less. inl (firsts_once capacity class d index 0 (blocks_of class) is (omega arith) (omega arith), unheld index less);
+        walks = firsts_walk capacity class d new 0 (blocks_of class) able.cut.linked (omega arith);
+        follows = able.follows;
+        in_lists = able.in_lists;
+      }
 
 -- the first superblock of the free list is cut
 pub cut_free : (capacity class d : ℕ) (image middle new : Image) (held : List Block) (s : Shape) (ds : List ℕ) → IsClass class → IsShape capacity image held s
@@ -155,35 +155,35 @@ pub cut_free : (capacity class d : ℕ) (image middle new : Image) (held : List 
     → IsPoppedOf image middle 0 d → IsCut capacity middle new class d → IsShape capacity new held (after_cut s capacity class d ds)
 cut_free capacity class d image middle new held s ds is shape list empty popped cut =
     cut_any capacity class d image middle new held s (with_at s.listed 0 ds) is shape able where
-  first : (s.place d ≡ in_list 0) × (d < capacity) × (times d ds ≡ 0)
-  first = first_place capacity image held s shape 0 d ds (omega arith) list
+      first : (s.place d ≡ in_list 0) × (d < capacity) × (times d ds ≡ 0)
+      first = first_place capacity image held s shape 0 d ds (omega arith) list
 
-  free : IsFree capacity image held d
-  free = in_free_list capacity image held s shape d first.1 first.0
+      free : IsFree capacity image held d
+      free = in_free_list capacity image held s shape d first.1 first.0
 
-  used : middle used_word ≡ image used_word
-  used = popped.set.others used_word (λ e. omega arith)
+      used : middle used_word ≡ image used_word
+      used = popped.set.others used_word (λ e. omega arith)
 
-  able : IsCuttable capacity class d image middle new held s (with_at s.listed 0 ds)
-  able = record {
-    within = first.1;
-    no_class = λ c is_c at. let place = first.0 in let none : c ≡ 0 = cc in let some = is_c.some in omega arith;
-    not_full = λ full. let place = first.0 in cc;
-    empty = empty;
-    none = free.none;
-    kept = λ word from. popped.set.others word (λ e. omega arith);
-    used = let most = shape.used in omega arith;
-    raised = omega arith;
-    taken = let less = free.taken in omega arith;
-    untaken = λ e within apart place. let is_now : IsNew image e = subst (λ p. IsAs capacity image s held e p) place (shape.places e within) in
-        let past = is_now.past in omega arith;
-    cut = cut;
-    follows = follows_popped capacity image held s shape middle new 0 d ds (omega arith) list popped
-        (λ other less. cut_before capacity class d middle new (head_word other) cut (omega arith) (λ e. omega arith) (λ e. omega arith))
-        (λ e within. cut_before capacity class d middle new (link_word e) cut (omega arith) (λ at. omega arith) (λ at. omega arith)
+      able : IsCuttable capacity class d image middle new held s (with_at s.listed 0 ds)
+      able = record {
+        within = first.1;
+        no_class = λ c is_c at. let place = first.0 in let none : c ≡ 0 = cc in let some = is_c.some in omega arith;
+        not_full = λ full. let place = first.0 in cc;
+        empty = empty;
+        none = free.none;
+        kept = λ word from. popped.set.others word (λ e. omega arith);
+        used = let most = shape.used in omega arith;
+        raised = omega arith;
+        taken = let less = free.taken in omega arith;
+        untaken = λ e within apart place. let is_now : IsNew image e = subst (λ p. IsAs capacity image s held e p) place (shape.places e within) in
+            let past = is_now.past in omega arith;
+        cut = cut;
+        follows = follows_popped capacity image held s shape middle new 0 d ds (omega arith) list popped
+            (λ other less. cut_before capacity class d middle new (head_word other) cut (omega arith) (λ e. omega arith) (λ e. omega arith))
+            (λ e within. cut_before capacity class d middle new (link_word e) cut (omega arith) (λ at. omega arith) (λ at. omega arith)
             ∙ popped.set.others (link_word e) (λ at. omega arith));
-    in_lists = λ other e less. listed_popped capacity image held s shape 0 d ds (omega arith) list other e less;
-  }
+        in_lists = λ other e less. listed_popped capacity image held s shape 0 d ds (omega arith) list other e less;
+      }
 
 -- a superblock that was never taken is cut
 pub cut_fresh : (capacity class d : ℕ) (image middle new : Image) (held : List Block) (s : Shape) → IsClass class → IsShape capacity image held s

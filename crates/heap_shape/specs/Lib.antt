@@ -4,3 +4,4 @@ pub mod Whole
 pub mod Effects
 pub mod Moves
 pub mod Draining
+pub mod Examples

@@ -1,7 +1,7 @@
 -- What the shape of a heap is after each row of steps.
-use Rattle.std.specs.Prelude.{◌≡◌, ◌≢◌, ℕ, ◌+◌, ◌<◌, ◌≤◌, ◌⊎◌, ◌&&◌, cond, nat_lt, nat_le, List, [], ◌∷◌, ◌++◌, Contains}
+use Rattle.std.specs.Prelude.{◌≡◌, ◌≢◌, ℕ, ◌+◌, ◌⊎◌, ◌&&◌, cond, nat_lt, nat_le, List, [], ◌∷◌, ◌++◌, Contains}
 use Rattle.heap_model.specs.declared.block.Block.{Block}
-use Rattle.heap_shape.specs.Shape.{Place, in_list, is_full, in_large, Shape, with_at}
+use Rattle.heap_shape.specs.Shape.{in_list, is_full, in_large, Shape, with_at}
 use Rattle.heap_shape.specs.Standing.{first_of}
 use Rattle.heap_shape.specs.Effects.{all_firsts}
 

@@ -1,5 +1,5 @@
 -- Where each superblock and each free block of a running heap is.
-use Rattle.std.specs.Prelude.{ℕ, zero, suc, cond, nat_eq, List, []}
+use Rattle.std.specs.Prelude.{ℕ, cond, nat_eq, List}
 use Rattle.heap_model.specs.Counting.{one_if}
 
 -- where a superblock is: in a list, in none since no block of its chain is free, taken by a held large block, or never taken

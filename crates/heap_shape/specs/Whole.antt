@@ -1,5 +1,5 @@
 -- The shape of a running heap, of which nothing is in hand.
-use Rattle.std.specs.Prelude.{◌≡◌, ℕ, ◌+◌, ◌<◌, ◌≤◌, ◌⊎◌, List, Contains}
+use Rattle.std.specs.Prelude.{◌≡◌, ℕ, ◌<◌, ◌≤◌, ◌⊎◌, List, Contains}
 use Rattle.heap_model.specs.declared.block.Block.{Block}
 use Rattle.heap_model.specs.Geometry.{lists, head_word, info_word, link_word, used_word, largest_capacity}
 use Rattle.heap_model.specs.Image.{Image}
@@ -8,7 +8,7 @@ use Rattle.heap_model.specs.Words.{head_first}
 use Rattle.heap_model.specs.Blocks.{Layout, IsBlock}
 use Rattle.heap_model.specs.Chains.{Follows, Walks}
 use Rattle.heap_model.specs.Counting.{times}
-use Rattle.heap_shape.specs.Shape.{Place, in_list, is_full, Shape, stands_in}
+use Rattle.heap_shape.specs.Shape.{in_list, is_full, Shape, stands_in}
 use Rattle.heap_shape.specs.Standing.{IsFirstOf, IsAs}
 
 -- the layout of a heap of so many superblocks

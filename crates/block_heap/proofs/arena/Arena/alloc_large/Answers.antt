@@ -12,7 +12,7 @@ returns-in_default-clause-running g c =
 pub overflow_add-self : goal.overflow_add-self
 overflow_add-self g c =
     let few = taken_fits (parts_of c.args.self.now) c.args.count c.in-Some.d c.in_ok-fresh.fresh (medium_view c.take_fresh.new.self) c.by-self.result
-        c.requires.running c.in_ok-fresh.ensures.ok c.in-Some.is in
+    c.requires.running c.in_ok-fresh.ensures.ok c.in-Some.is in
     omega arith
 
 pub returns-in_err-join-clause-serves : goal.returns-in_err-join-clause-serves

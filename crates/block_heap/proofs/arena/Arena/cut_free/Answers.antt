@@ -2,8 +2,9 @@ use Rattle.std.proofs.Common.{refl, arith}
 use Rattle.block_heap.specs.MediumView.{medium_view}
 use Rattle.block_heap.specs.Parts.{parts_of}
 use Rattle.block_heap.proofs.RunningLemmas.{is_head}
-use Rattle.block_heap.proofs.RefillLemmas.{head_moved, serves_moved, emptied_fills, emptied_serves, emptied_finds}
-use Rattle.block_heap.proofs.CutStepLemmas.{free_within, free_unmarked, free_serves, free_fills, free_found}
+use Rattle.block_heap.proofs.RefillLemmas.{head_moved, serves_moved, emptied_fills, emptied, emptied_serves, popped_none}
+use Rattle.block_heap.proofs.SpendLemmas.{spends_none}
+use Rattle.block_heap.proofs.CutStepLemmas.{free_within, free_unmarked, free_serves, free_fills, free_found, free_spends}
 use Rattle.block_heap.proofs.arena.Arena.cut_free.Goals as goal
 
 pub pop-requires-clause-head : goal.pop-requires-clause-head
@@ -16,52 +17,60 @@ returns-in_err-popped-clause-serves g c =
     serves_moved p (record p { words = medium_view c.pop.new.self }) c.requires.running
     (head_moved p.capacity 0 p.words (medium_view c.pop.new.self) (omega arith) c.pop.ensures.others) refl refl refl
 
-pub returns-in_default-clause-ok : goal.returns-in_default-clause-ok
-returns-in_default-clause-ok g c =
-    (c.requires.empty, emptied_finds (parts_of c.args.self.now) c.args.class 0 c.in_ok-popped.popped (medium_view c.pop.new.self) c.by.result
-        c.requires.running (omega arith) c.in_ok-popped.ensures.ok c.pop.ensures.others c.in_default.is
-    c.next_ticket-ticket.result c.next_ticket-ticket.ensures c.by.ensures.seen c.by.ensures.ticket c.by.ensures.taken, c.in_ok-popped.ensures.ok.goes.few)
-
 pub returns-in_default-clause-fills : goal.returns-in_default-clause-fills
 returns-in_default-clause-fills g c =
     emptied_fills (parts_of c.args.self.now) c.args.class 0 c.in_ok-popped.popped (medium_view c.pop.new.self) c.by.result c.requires.running (omega arith)
-        c.in_ok-popped.ensures.ok c.pop.ensures.others c.in_default.is
+    c.in_ok-popped.ensures.ok c.pop.ensures.others c.in_default.is
 
 pub returns-in_default-clause-serves : goal.returns-in_default-clause-serves
 returns-in_default-clause-serves g c =
     emptied_serves (parts_of c.args.self.now) c.args.class 0 c.in_ok-popped.popped (medium_view c.pop.new.self) c.by.result c.requires.running (omega arith)
-        c.in_ok-popped.ensures.ok c.pop.ensures.others c.in_default.is
+    c.in_ok-popped.ensures.ok c.pop.ensures.others c.in_default.is
 
 pub cut-requires-clause-superblock : goal.cut-requires-clause-superblock
 cut-requires-clause-superblock g c =
     free_within (parts_of c.args.self.now) c.args.class c.in-Some.d c.in_ok-popped.popped (medium_view c.pop.new.self) c.by.result c.requires.running
-        c.requires.class c.in_ok-popped.ensures.ok c.pop.ensures.others c.in-Some.is
+    c.requires.class c.in_ok-popped.ensures.ok c.pop.ensures.others c.in-Some.is
 
 pub cut-requires-clause-none : goal.cut-requires-clause-none
 cut-requires-clause-none g c =
     free_unmarked (parts_of c.args.self.now) c.args.class c.in-Some.d c.in_ok-popped.popped (medium_view c.pop.new.self) c.by.result c.requires.running
-        c.requires.class c.in_ok-popped.ensures.ok c.pop.ensures.others c.in-Some.is
+    c.requires.class c.in_ok-popped.ensures.ok c.pop.ensures.others c.in-Some.is
 
 pub returns-in_err-cut-clause-serves : goal.returns-in_err-cut-clause-serves
 returns-in_err-cut-clause-serves g c =
     free_serves (parts_of c.args.self.now) c.args.class c.in-Some.d c.in_ok-popped.popped (medium_view c.pop.new.self) c.by.result c.requires.running
-        c.requires.class c.in_ok-popped.ensures.ok c.pop.ensures.others c.in-Some.is
+    c.requires.class c.in_ok-popped.ensures.ok c.pop.ensures.others c.in-Some.is
     (parts_of c.cut.new.self) c.cut.ensures.others c.cut.ensures.same
 
 pub returns-clause-ok : goal.returns-clause-ok
 returns-clause-ok g c =
     free_found (parts_of c.args.self.now) c.args.class c.in-Some.d c.in_ok-popped.popped (medium_view c.pop.new.self) c.by.result c.requires.running
-        c.requires.class c.in_ok-popped.ensures.ok c.pop.ensures.others c.in-Some.is
+    c.requires.class c.in_ok-popped.ensures.ok c.pop.ensures.others c.in-Some.is
     (parts_of c.cut.new.self) c.cut.ensures.others c.cut.ensures.same c.requires.empty c.in_ok-cut.ensures.ok
 
 pub returns-clause-fills : goal.returns-clause-fills
 returns-clause-fills g c =
     free_fills (parts_of c.args.self.now) c.args.class c.in-Some.d c.in_ok-popped.popped (medium_view c.pop.new.self) c.by.result c.requires.running
-        c.requires.class c.in_ok-popped.ensures.ok c.pop.ensures.others c.in-Some.is
+    c.requires.class c.in_ok-popped.ensures.ok c.pop.ensures.others c.in-Some.is
     (parts_of c.cut.new.self) c.cut.ensures.others c.cut.ensures.same c.requires.empty c.in_ok-cut.ensures.ok
 
 pub returns-clause-serves : goal.returns-clause-serves
 returns-clause-serves g c =
     free_serves (parts_of c.args.self.now) c.args.class c.in-Some.d c.in_ok-popped.popped (medium_view c.pop.new.self) c.by.result c.requires.running
-        c.requires.class c.in_ok-popped.ensures.ok c.pop.ensures.others c.in-Some.is
+    c.requires.class c.in_ok-popped.ensures.ok c.pop.ensures.others c.in-Some.is
     (parts_of c.cut.new.self) c.cut.ensures.others c.cut.ensures.same
+
+pub returns-in_default-clause-left : goal.returns-in_default-clause-left
+returns-in_default-clause-left g c =
+    let p = parts_of c.args.self.now in
+    spends_none c.args.class p (emptied p c.args.class 0 c.in_ok-popped.popped (medium_view c.pop.new.self) c.by.result c.requires.running (omega arith)
+        c.in_ok-popped.ensures.ok c.pop.ensures.others c.in_default.is) refl
+    (popped_none p 0 c.in_ok-popped.popped (medium_view c.pop.new.self) c.requires.running (omega arith) c.in_ok-popped.ensures.ok c.pop.ensures.others
+        c.in_default.is).1
+
+pub returns-clause-left : goal.returns-clause-left
+returns-clause-left g c =
+    free_spends (parts_of c.args.self.now) c.args.class c.in-Some.d c.in_ok-popped.popped (medium_view c.pop.new.self) c.by.result c.requires.running
+        c.requires.class c.in_ok-popped.ensures.ok c.pop.ensures.others c.in-Some.is
+    (parts_of c.cut.new.self) c.cut.ensures.others c.cut.ensures.same c.requires.empty c.in_ok-cut.ensures.ok

@@ -7,8 +7,8 @@ use Rattle.block_heap.proofs.arena.Arena.flush.Goals as goal
 pub returns-in_err-front-clause-stopped : goal.returns-in_err-front-clause-stopped
 returns-in_err-front-clause-stopped g c =
     let halts = front_halts c.args.class (parts_of c.args.self.now) (parts_of c.loop-self.self)
-        (medium_view c.front.new.self.medium) c.in_err-front.field-0.0.step c.loop-self.invariant c.requires.class c.requires.running
-        c.in_err-front.ensures.stopped in
+    (medium_view c.front.new.self.medium) c.in_err-front.field-0.0.step c.loop-self.invariant c.requires.class c.requires.running
+    c.in_err-front.ensures.stopped in
     let p = err_from_is_err_and c.from_residual.result c.from_residual.ensures.1 in
     rw (p.1, p.2) halts
 
@@ -20,17 +20,17 @@ pub loop-self-preserved : goal.loop-self-preserved
 loop-self-preserved g c =
     flushed_more c.args.class (parts_of c.args.self.now) (parts_of c.loop-self.self) (parts_of c.front.new.self) c.in_ok-front.front c.loop-self.invariant
     c.in_ok-front.ensures.ok c.in_ok-front.ensures.running c.in_ok-front.ensures.keeps c.front.ensures.caches c.in_ok-front.ensures.goes c.front.ensures.held
-        c.front.ensures.serves c.front.ensures.taken
+    c.front.ensures.serves c.front.ensures.taken
     (parts_of c.give.new.self) c.in_ok-give.ensures.running c.in_ok-give.ensures.gives c.in_ok-give.ensures.goes c.give.ensures.held c.give.ensures.serves
-        c.give.ensures.taken
+    c.give.ensures.taken
 
 pub returns-in_err-give-clause-stopped : goal.returns-in_err-give-clause-stopped
 returns-in_err-give-clause-stopped g c =
     let halts = give_halts c.args.class (parts_of c.args.self.now) (parts_of c.loop-self.self)
-        (parts_of c.front.new.self) c.in_ok-front.front c.loop-self.invariant
-        c.in_ok-front.ensures.ok c.in_ok-front.ensures.running c.in_ok-front.ensures.keeps c.front.ensures.caches c.in_ok-front.ensures.goes
-            c.front.ensures.held c.front.ensures.serves c.front.ensures.taken
-        (medium_view c.give.new.self.medium) c.in_err-give.field-0.0.step c.requires.class c.requires.running c.in_err-give.ensures.stopped in
+    (parts_of c.front.new.self) c.in_ok-front.front c.loop-self.invariant
+    c.in_ok-front.ensures.ok c.in_ok-front.ensures.running c.in_ok-front.ensures.keeps c.front.ensures.caches c.in_ok-front.ensures.goes
+    c.front.ensures.held c.front.ensures.serves c.front.ensures.taken
+    (medium_view c.give.new.self.medium) c.in_err-give.field-0.0.step c.requires.class c.requires.running c.in_err-give.ensures.stopped in
     let p = err_from_is_err_and c.from_residual-in_err-give.result c.from_residual-in_err-give.ensures.1 in
     rw (p.1, p.2) halts
 
@@ -38,5 +38,5 @@ pub returns-in_err-give-clause-serves : goal.returns-in_err-give-clause-serves
 returns-in_err-give-clause-serves g c =
     give_serves c.args.class (parts_of c.args.self.now) (parts_of c.loop-self.self) (parts_of c.front.new.self) c.in_ok-front.front c.loop-self.invariant
     c.in_ok-front.ensures.ok c.in_ok-front.ensures.running c.in_ok-front.ensures.keeps c.front.ensures.caches c.in_ok-front.ensures.goes c.front.ensures.held
-        c.front.ensures.serves c.front.ensures.taken
+    c.front.ensures.serves c.front.ensures.taken
     (parts_of c.give.new.self) c.give.ensures.serves

@@ -15,7 +15,7 @@ pub store-requires-clause-within : goal.store-requires-clause-within
 store-requires-clause-within g c =
     let p = parts_of c.args.self.now in
     let below = held_below p c.args.class c.requires.class c.requires.running c.args.b c.requires.holds c.requires.size
-        in let words = c.requires.running.words_open.long in omega arith
+    in let words = c.requires.running.words_open.long in omega arith
 
 pub returns-in_err-store-clause-freed : goal.returns-in_err-store-clause-freed
 returns-in_err-store-clause-freed g c =
@@ -35,8 +35,8 @@ overflow_add-cache g c =
     let is = read_cache p c.args.class c.index-cache.result.now c.requires.class c.requires.running c.index-cache.ensures in
     let few = few_blocks c.args.class c.requires.class in
     let short = count_short p c.args.class c.requires.class c.requires.running c.args.b c.requires.holds c.requires.size
-        c.remove.new.self c.remove.ensures.held c.remove.ensures.words c.remove.ensures.start
-        c.index-cache.result.now is (medium_view c.store.new.self) c.in_ok-store.ensures.ok c.store.ensures.others c.requires.short in
+    c.remove.new.self c.remove.ensures.held c.remove.ensures.words c.remove.ensures.start
+    c.index-cache.result.now is (medium_view c.store.new.self) c.in_ok-store.ensures.ok c.store.ensures.others c.requires.short in
     omega arith
 
 pub overflow_add-cache-2 : goal.overflow_add-cache-2
@@ -45,8 +45,8 @@ overflow_add-cache-2 g c =
     let is = read_cache p c.args.class c.index-cache.result.now c.requires.class c.requires.running c.index-cache.ensures in
     let few = few_blocks c.args.class c.requires.class in
     let short = count_short p c.args.class c.requires.class c.requires.running c.args.b c.requires.holds c.requires.size
-        c.remove.new.self c.remove.ensures.held c.remove.ensures.words c.remove.ensures.start
-        c.index-cache.result.now is (medium_view c.store.new.self) c.in_ok-store.ensures.ok c.store.ensures.others c.requires.short in
+    c.remove.new.self c.remove.ensures.held c.remove.ensures.words c.remove.ensures.start
+    c.index-cache.result.now is (medium_view c.store.new.self) c.in_ok-store.ensures.ok c.store.ensures.others c.requires.short in
     omega arith
 
 pub flush-requires-clause-running : goal.flush-requires-clause-running
@@ -126,7 +126,7 @@ returns-else-cache-blocks_of-clause-short g c =
     freed_short p c.args.class c.requires.class c.requires.running c.args.b c.requires.holds c.requires.size
     c.remove.new.self c.remove.ensures.held c.remove.ensures.words c.remove.ensures.start
     c.index-cache.result.now is (medium_view c.store.new.self) c.in_ok-store.ensures.ok c.store.ensures.others c.requires.short
-        (λ e. c.if-cache-blocks_of.false (e ∙ sym c.blocks_of.ensures))
+    (λ e. c.if-cache-blocks_of.false (e ∙ sym c.blocks_of.ensures))
 
 pub returns-else-cache-blocks_of-clause-freed : goal.returns-else-cache-blocks_of-clause-freed
 returns-else-cache-blocks_of-clause-freed g c =

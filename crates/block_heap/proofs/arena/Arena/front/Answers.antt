@@ -39,9 +39,9 @@ superblock_of-requires g c =
     let p = parts_of c.args.self.now in
     let inv = c.loop-count.invariant in
     let at = next_placed p c.args.class c.requires.class c.requires.running c.index-cache.result.now inv.cache_is c.superblock_of-d.result c.loop-count.last
-        c.loop-count.next c.loop-count.count inv.walked c.loop-count-test.true in
+    c.loop-count.next c.loop-count.count inv.walked c.loop-count-test.true in
     let capacity : c.loop-count.self.geometry.capacity ≡ c.args.self.now.geometry.capacity = loaded_capacity (parts_of c.args.self.now)
-        (parts_of c.loop-count.self) c.loop-count.count inv.loaded in
+    (parts_of c.loop-count.self) c.loop-count.count inv.loaded in
     subst (λ n. start_word n 0 ≤ c.loop-count.next) (sym capacity)
     (first_from p c.args.class at.d c.loop-count.next c.requires.class c.requires.running at.within at.first)
 
@@ -50,7 +50,7 @@ load-requires-in-loop-count-clause-within g c =
     let p = parts_of c.args.self.now in
     let inv = c.loop-count.invariant in
     let at = next_placed p c.args.class c.requires.class c.requires.running c.index-cache.result.now inv.cache_is c.superblock_of-d.result c.loop-count.last
-        c.loop-count.next c.loop-count.count inv.walked c.loop-count-test.true in
+    c.loop-count.next c.loop-count.count inv.walked c.loop-count-test.true in
     let below = first_below p c.args.class at.d c.loop-count.next c.requires.class c.requires.running at.within at.first in
     let long = c.requires.running.words_open.long in
     let words = inv.loaded.stores.words in
@@ -59,7 +59,7 @@ load-requires-in-loop-count-clause-within g c =
 pub returns-in_err-next-2-clause-serves : goal.returns-in_err-next-2-clause-serves
 returns-in_err-next-2-clause-serves g c =
     stopped_serves (parts_of c.args.self.now) (parts_of c.loop-count.self) c.loop-count.count c.requires.running c.loop-count.invariant.loaded _ refl
-        c.load-in-loop-count.ensures.unchanged
+    c.load-in-loop-count.ensures.unchanged
 
 pub loop-count-preserved : goal.loop-count-preserved
 loop-count-preserved g c =
@@ -67,9 +67,9 @@ loop-count-preserved g c =
     let q = parts_of c.loop-count.self in
     let inv = c.loop-count.invariant in
     let capacity : c.loop-count.self.geometry.capacity ≡ c.args.self.now.geometry.capacity = loaded_capacity (parts_of c.args.self.now)
-        (parts_of c.loop-count.self) c.loop-count.count inv.loaded in
+    (parts_of c.loop-count.self) c.loop-count.count inv.loaded in
     let at : (c.loop-count.next - start_word p.capacity 0) / 8192 ≡ c.superblock_of-d.result =
-        ap (λ n. (c.loop-count.next - start_word n 0) / 8192) (sym capacity) ∙ sym c.superblock_of.ensures ∙ c.if-superblock_of-d.true in
+    ap (λ n. (c.loop-count.next - start_word n 0) / 8192) (sym capacity) ∙ sym c.superblock_of.ensures ∙ c.if-superblock_of-d.true in
     record {
       loaded = loaded_more p q _ c.loop-count.count c.loop-count.next c.in_ok-next-2.next inv.loaded refl c.in_ok-next-2.ensures.ok
           c.load-in-loop-count.ensures.unchanged;
@@ -85,9 +85,9 @@ overflow_sub-result g c =
     let p = parts_of c.args.self.now in
     let inv = c.loop-count.invariant in
     let capacity : c.loop-count.self.geometry.capacity ≡ c.args.self.now.geometry.capacity = loaded_capacity (parts_of c.args.self.now)
-        (parts_of c.loop-count.self) c.loop-count.count inv.loaded in
+    (parts_of c.loop-count.self) c.loop-count.count inv.loaded in
     let behind = first_behind p c.args.class c.requires.class c.requires.running c.index-cache.result.now inv.cache_is c.superblock_of-d.result
-        c.loop-count.last c.loop-count.next c.loop-count.count inv.walked in
+    c.loop-count.last c.loop-count.next c.loop-count.count inv.walked in
     let start = c.start.ensures in
     omega arith
 
@@ -103,10 +103,10 @@ returns-clause-ok g c =
     let q = parts_of c.loop-count.self in
     let inv = c.loop-count.invariant in
     let capacity : c.loop-count.self.geometry.capacity ≡ c.args.self.now.geometry.capacity = loaded_capacity (parts_of c.args.self.now)
-        (parts_of c.loop-count.self) c.loop-count.count inv.loaded in
+    (parts_of c.loop-count.self) c.loop-count.count inv.loaded in
     loaded_front p q c.loop-count.count c.requires.running inv.loaded c.args.class _
     (walked_front p c.args.class c.requires.class c.requires.running c.index-cache.result.now inv.cache_is c.superblock_of-d.result c.loop-count.last
-        c.loop-count.next c.loop-count.count inv.walked
+    c.loop-count.next c.loop-count.count inv.walked
     c.start.result (c.size_of-words.result / 8) (c.start.ensures ∙ ap (λ n. start_word n c.superblock_of-d.result) capacity)
     (words_by_bytes c.args.class c.size_of-words.result c.requires.class c.size_of-words.ensures))
 

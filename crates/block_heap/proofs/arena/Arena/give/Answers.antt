@@ -25,13 +25,13 @@ give_blocks-requires-clause-fits g c = front_fits (parts_of c.args.self.now) c.a
 pub returns-in_err-anchor-clause-serves : goal.returns-in_err-anchor-clause-serves
 returns-in_err-anchor-clause-serves g c =
     gave_serves (parts_of c.args.self.now) c.args.class c.requires.class c.requires.running c.args.front c.requires.front _ refl refl refl
-        c.give_blocks.ensures.others
+    c.give_blocks.ensures.others
 
 pub returns-in_err-push-clause-serves : goal.returns-in_err-push-clause-serves
 returns-in_err-push-clause-serves g c =
     pushed_serves (parts_of c.args.self.now) c.args.class c.requires.class c.requires.running c.args.front c.requires.front
-        (medium_view c.give_blocks.new.self) c.if-all.list _ (let last = c.requires.class.last in elim c.if-all.branch as (λ _. c.if-all.list < lists)
-        [ then-all w ↦ let e = w.list-is in omega arith | else-all w ↦ let e = w.list-is in omega arith ])
+    (medium_view c.give_blocks.new.self) c.if-all.list _ (let last = c.requires.class.last in elim c.if-all.branch as (λ _. c.if-all.list < lists)
+    [ then-all w ↦ let e = w.list-is in omega arith | else-all w ↦ let e = w.list-is in omega arith ])
     refl refl refl c.give_blocks.ensures.others c.push.ensures.others
 
 pub returns-in_ok-push-clause-running : goal.returns-in_ok-push-clause-running
@@ -43,32 +43,32 @@ returns-in_ok-push-clause-running g c =
     elim c.if-all.branch as (λ _. IsRunning (changed p (medium_view c.push.new.self) (set p.caches c.args.class c.args.front.rest) c.args.self.now.held)) [
       | then-all w ↦
           pushed_all p c.args.class c.requires.class c.requires.running c.args.front c.requires.front
-              (medium_view c.give_blocks.new.self) c.in_ok-anchor.anchor
+          (medium_view c.give_blocks.new.self) c.in_ok-anchor.anchor
           c.in_ok-anchor.ensures.ok c.give_blocks.ensures.others full c.if-all.list (medium_view c.push.new.self) c.in_ok-push.ensures.ok
-              c.push.ensures.others
+          c.push.ensures.others
           (let e = w.if-all.true in omega arith) w.list-is
       | else-all w ↦
           pushed_some p c.args.class c.requires.class c.requires.running c.args.front c.requires.front
-              (medium_view c.give_blocks.new.self) c.in_ok-anchor.anchor
+          (medium_view c.give_blocks.new.self) c.in_ok-anchor.anchor
           c.in_ok-anchor.ensures.ok c.give_blocks.ensures.others full c.if-all.list (medium_view c.push.new.self) c.in_ok-push.ensures.ok
-              c.push.ensures.others
+          c.push.ensures.others
           (let e = w.if-all.false in λ f. e (f ∙ sym all)) w.list-is
     ]
 
 pub returns-in_ok-push-clause-serves : goal.returns-in_ok-push-clause-serves
 returns-in_ok-push-clause-serves g c =
     pushed_serves (parts_of c.args.self.now) c.args.class c.requires.class c.requires.running c.args.front c.requires.front
-        (medium_view c.give_blocks.new.self) c.if-all.list _ (let last = c.requires.class.last in elim c.if-all.branch as (λ _. c.if-all.list < lists)
-        [ then-all w ↦ let e = w.list-is in omega arith | else-all w ↦ let e = w.list-is in omega arith ])
+    (medium_view c.give_blocks.new.self) c.if-all.list _ (let last = c.requires.class.last in elim c.if-all.branch as (λ _. c.if-all.list < lists)
+    [ then-all w ↦ let e = w.list-is in omega arith | else-all w ↦ let e = w.list-is in omega arith ])
     refl refl refl c.give_blocks.ensures.others c.push.ensures.others
 
 pub returns-else-eq-clause-running : goal.returns-else-eq-clause-running
 returns-else-eq-clause-running g c =
     gave_running (parts_of c.args.self.now) c.args.class c.requires.class c.requires.running c.args.front c.requires.front
-        (medium_view c.give_blocks.new.self) c.in_ok-anchor.anchor
+    (medium_view c.give_blocks.new.self) c.in_ok-anchor.anchor
     c.in_ok-anchor.ensures.ok c.give_blocks.ensures.others (λ e. search rules)
 
 pub returns-else-eq-clause-serves : goal.returns-else-eq-clause-serves
 returns-else-eq-clause-serves g c =
     gave_serves (parts_of c.args.self.now) c.args.class c.requires.class c.requires.running c.args.front c.requires.front _ refl refl refl
-        c.give_blocks.ensures.others
+    c.give_blocks.ensures.others

@@ -19,7 +19,7 @@ add-requires g c =
     let is = read_cache p c.args.class c.index-cache.result.now c.requires.class c.requires.running c.index-cache.ensures in
     let front = first_cached p c.args.class c.requires.class c.requires.running c.index-cache.result.now is c.requires.some in
     first_mark p c.args.class front.d c.index-cache.result.now.first c.requires.class c.requires.running front.within front.is_first c.args.self.now.held refl
-        refl
+    refl
 
 pub at-requires : goal.at-requires
 at-requires g c =
@@ -27,14 +27,14 @@ at-requires g c =
     let is = read_cache p c.args.class c.index-cache.result.now c.requires.class c.requires.running c.index-cache.ensures in
     let front = first_cached p c.args.class c.requires.class c.requires.running c.index-cache.result.now is c.requires.some in
     first_mark p c.args.class front.d c.index-cache.result.now.first c.requires.class c.requires.running front.within front.is_first c.add.new.self
-        c.add.ensures.start c.add.ensures.words
+    c.add.ensures.start c.add.ensures.words
 
 pub returns-clause-ok : goal.returns-clause-ok
 returns-clause-ok g c =
     let p = parts_of c.args.self.now in
     let is = read_cache p c.args.class c.index-cache.result.now c.requires.class c.requires.running c.index-cache.ensures in
     handed p c.args.class c.requires.class c.requires.running c.index-cache.result.now is c.requires.some
-        (medium_view c.load.new.self) c.in_ok-next.next c.add.new.self
+    (medium_view c.load.new.self) c.in_ok-next.next c.add.new.self
     c.in_ok-next.ensures.ok c.load.ensures.unchanged c.add.ensures.held c.add.ensures.words c.add.ensures.start c.at.result c.at.ensures
 
 pub returns-clause-serves : goal.returns-clause-serves
@@ -42,5 +42,5 @@ returns-clause-serves g c =
     let p = parts_of c.args.self.now in
     let is = read_cache p c.args.class c.index-cache.result.now c.requires.class c.requires.running c.index-cache.ensures in
     handed_serves p c.args.class c.requires.class c.requires.running c.index-cache.result.now is c.requires.some
-        (medium_view c.load.new.self) c.in_ok-next.next c.add.new.self
+    (medium_view c.load.new.self) c.in_ok-next.next c.add.new.self
     c.in_ok-next.ensures.ok c.load.ensures.unchanged c.add.ensures.held c.add.ensures.words c.add.ensures.start

@@ -18,9 +18,9 @@ returns g c =
     let looks : length c.loop-list.head_looks.items ≡ lists = omega arith in
     let view : medium_view c.in_ok-new.field-0 ≡ opened words c.args.budget = c.in_ok-new.ensures ∙ ap (λ ws. opened ws c.args.budget) same in
     let seen : c.opening_look-used_look.result.seen ≡ slice_index words used_word =
-        c.opening_look-used_look.ensures.seen ∙ c.index.ensures ∙ ap (λ ws. get_or ws used_word c.index.result.now) same
-            ∙ used_there words c.args.ready.held c.index.result.now c.into_parts-words.ensures.ready in
+    c.opening_look-used_look.ensures.seen ∙ c.index.ensures ∙ ap (λ ws. get_or ws used_word c.index.result.now) same
+    ∙ used_there words c.args.ready.held c.index.result.now c.into_parts-words.ensures.ready in
     let is : IsHeldOf words c.args.ready.held c.in_ok-held.held = c.in_ok-held.ensures in
     opens_with words c.args.ready.held c.args.budget c.in_ok-held.held c.in_ok-vec.field-0.items c.opening_look-used_look.result c.loop-list.head_looks.items
-        c.into_parts-words.ensures.ready c.requires is caches looks seen c.opening_look-used_look.ensures.taken
-        (medium_view c.in_ok-new.field-0) c.geometry-geometry.result.capacity view c.geometry-geometry.ensures
+    c.into_parts-words.ensures.ready c.requires is caches looks seen c.opening_look-used_look.ensures.taken
+    (medium_view c.in_ok-new.field-0) c.geometry-geometry.result.capacity view c.geometry-geometry.ensures

@@ -1,11 +1,13 @@
-use Rattle.std.proofs.Common.{sym, subst, ◌∙◌}
+use Rattle.std.proofs.Common.{sym, subst, ◌∙◌, arith}
 use Rattle.std.proofs.lemmas.Result.{IfOk-weaker, on_ok_weaker}
+use Rattle.heap_model.specs.Counting.{one_if}
 use Rattle.block_heap.specs.declared.arena.Arena.{Arena}
 use Rattle.block_heap.specs.Parts.{parts_of, held_in}
 use Rattle.block_heap.specs.Refill.{FindsPartial, FindsFree}
 use Rattle.block_heap.specs.Running.{Serves}
-use Rattle.block_heap.specs.Steps.{Fills}
+use Rattle.block_heap.specs.Steps.{Fills, Spends}
 use Rattle.block_heap.proofs.RefillLemmas.{serves_then}
+use Rattle.block_heap.proofs.SpendLemmas.{spends_then}
 use Rattle.block_heap.proofs.PartialLemmas.{fills_then, fresh_refills}
 use Rattle.block_heap.proofs.arena.Arena.refill.Goals.{then-branch-via-then-branch, then-branch-via-else-branch+in_ok-cut_free+then-branch-2}
 use Rattle.block_heap.proofs.arena.Arena.refill.Goals as goal
@@ -13,7 +15,7 @@ use Rattle.block_heap.proofs.arena.Arena.refill.Goals as goal
 pub returns-in_err-cut_free-clause-serves : goal.returns-in_err-cut_free-clause-serves
 returns-in_err-cut_free-clause-serves g c =
     serves_then (parts_of c.args.self.now) (parts_of c.take_partial.new.self) (parts_of c.cut_free.new.self) c.take_partial.ensures.held
-        c.take_partial.ensures.serves c.cut_free.ensures.serves
+    c.take_partial.ensures.serves c.cut_free.ensures.serves
 
 pub returns-then-branch-clause-fills : goal.returns-then-branch-clause-fills
 returns-then-branch-clause-fills g c =
@@ -22,7 +24,7 @@ returns-then-branch-clause-fills g c =
       | then-branch-via-then-branch w ↦ subst (λ (a : Arena _). Fills c.args.class p (parts_of a)) (sym w.self-is) c.in_ok-take_partial.ensures.fills
       | then-branch-via-else-branch+in_ok-cut_free+then-branch-2 w ↦ subst (λ (a : Arena _). Fills c.args.class p (parts_of a)) (sym w.self-is)
           (fills_then c.args.class p (parts_of c.take_partial.new.self) (parts_of w.cut_free.new.self) c.take_partial.ensures.serves.capacity
-              c.in_ok-take_partial.ensures.fills w.in_ok-cut_free.ensures.fills)
+          c.in_ok-take_partial.ensures.fills w.in_ok-cut_free.ensures.fills)
     ]
 
 pub returns-then-branch-clause-serves : goal.returns-then-branch-clause-serves
@@ -32,7 +34,7 @@ returns-then-branch-clause-serves g c =
       | then-branch-via-then-branch w ↦ subst (λ (a : Arena _). Serves (held_in p) p (parts_of a)) (sym w.self-is) c.take_partial.ensures.serves
       | then-branch-via-else-branch+in_ok-cut_free+then-branch-2 w ↦ subst (λ (a : Arena _). Serves (held_in p) p (parts_of a)) (sym w.self-is)
           (serves_then p (parts_of c.take_partial.new.self) (parts_of w.cut_free.new.self) c.take_partial.ensures.held c.take_partial.ensures.serves
-              w.cut_free.ensures.serves)
+          w.cut_free.ensures.serves)
     ]
 
 pub returns-clause-ok : goal.returns-clause-ok
@@ -42,7 +44,7 @@ returns-clause-ok g c =
     let b = parts_of c.cut_free.new.self in
     IfOk-weaker c.cut_fresh.result _ _
     (fresh_refills c.args.class p a b c.requires.class c.take_partial.ensures.serves c.in_ok-take_partial.ensures.taken c.cut_free.ensures.serves
-        (parts_of c.cut_fresh.new.self) c.in_ok-cut_free.ensures.taken c.cut_fresh.ensures.serves
+    (parts_of c.cut_fresh.new.self) c.in_ok-cut_free.ensures.taken c.cut_fresh.ensures.serves
     (subst (λ some. FindsPartial c.args.class some p a) c.if-branch.false c.in_ok-take_partial.ensures.ok)
     (subst (λ some. FindsFree c.args.class some a b) c.if-branch-2.false c.in_ok-cut_free.ensures.ok) c.requires.empty)
     c.cut_fresh.ensures.ok
@@ -54,11 +56,41 @@ returns-clause-fills g c =
     let b = parts_of c.cut_free.new.self in
     let then = fills_then c.args.class p a b c.take_partial.ensures.serves.capacity c.in_ok-take_partial.ensures.fills c.in_ok-cut_free.ensures.fills in
     on_ok_weaker c.cut_fresh.result (fills_then c.args.class p b (parts_of c.cut_fresh.new.self)
-        (c.cut_free.ensures.serves.capacity ∙ c.take_partial.ensures.serves.capacity) then) c.cut_fresh.ensures.fills
+    (c.cut_free.ensures.serves.capacity ∙ c.take_partial.ensures.serves.capacity) then) c.cut_fresh.ensures.fills
 
 pub returns-clause-serves : goal.returns-clause-serves
 returns-clause-serves g c =
     serves_then (parts_of c.args.self.now) (parts_of c.cut_free.new.self) (parts_of c.cut_fresh.new.self)
-        (c.cut_free.ensures.held ∙ c.take_partial.ensures.held)
+    (c.cut_free.ensures.held ∙ c.take_partial.ensures.held)
     (serves_then (parts_of c.args.self.now) (parts_of c.take_partial.new.self) (parts_of c.cut_free.new.self) c.take_partial.ensures.held
+<<<<<<< HEAD
+    c.take_partial.ensures.serves c.cut_free.ensures.serves) c.cut_fresh.ensures.serves
+=======
         c.take_partial.ensures.serves c.cut_free.ensures.serves) c.cut_fresh.ensures.serves
+
+pub returns-then-branch-clause-left : goal.returns-then-branch-clause-left
+returns-then-branch-clause-left g c =
+    let p = parts_of c.args.self.now in
+    let class = c.args.class in
+    elim c.then-branch.branch as (λ _. Spends 1 class p (parts_of c.then-branch.self)) [
+      | then-branch-via-then-branch w ↦ subst (λ (a : Arena _). Spends 1 class p (parts_of a)) (sym w.self-is)
+          (subst (λ some. Spends (one_if some) class p (parts_of c.take_partial.new.self)) w.if-branch.true c.in_ok-take_partial.ensures.left)
+      | then-branch-via-else-branch+in_ok-cut_free+then-branch-2 w ↦ subst (λ (a : Arena _). Spends 1 class p (parts_of a)) (sym w.self-is)
+          (spends_then 1 (one_if c.in_ok-take_partial.field-0) 1 class p (parts_of c.take_partial.new.self) (parts_of w.cut_free.new.self) (omega arith)
+          c.in_ok-take_partial.ensures.left
+          (subst (λ some. Spends (one_if some) class (parts_of c.take_partial.new.self) (parts_of w.cut_free.new.self)) w.if-branch-2.true
+          w.in_ok-cut_free.ensures.left))
+    ]
+
+pub returns-clause-left : goal.returns-clause-left
+returns-clause-left g c =
+    let p = parts_of c.args.self.now in
+    let a = parts_of c.take_partial.new.self in
+    let b = parts_of c.cut_free.new.self in
+    let class = c.args.class in
+    IfOk-weaker c.cut_fresh.result _ _
+    (λ some spends. spends_then (one_if some) 0 (one_if some) class p b (parts_of c.cut_fresh.new.self) (omega arith)
+        (spends_then 0 (one_if c.in_ok-take_partial.field-0) (one_if c.in_ok-cut_free.field-0) class p a b (omega arith) c.in_ok-take_partial.ensures.left
+        c.in_ok-cut_free.ensures.left) spends)
+    c.cut_fresh.ensures.left
+>>>>>>> 721adec2cc9e89152f8d2c3944c102931e58556d

@@ -1,9 +1,11 @@
-use Rattle.std.proofs.Common.{set, refl, arith}
+use Rattle.std.proofs.Common.{◌<◌, set, refl, arith}
+use Rattle.heap_model.specs.Geometry.{lists}
 use Rattle.block_heap.specs.MediumView.{medium_view}
 use Rattle.block_heap.specs.Parts.{parts_of}
 use Rattle.block_heap.proofs.RunningLemmas.{is_head}
-use Rattle.block_heap.proofs.RefillLemmas.{head_moved, serves_moved, emptied_fills, emptied_serves, emptied_finds}
-use Rattle.block_heap.proofs.TakeLemmas.{first_within, first_anchor, take_moved, taken_some, taken_fills, taken_serves, recycled_serves, recycled_fills, recycled_first}
+use Rattle.block_heap.proofs.RefillLemmas.{head_moved, serves_moved, emptied, emptied_fills, emptied_serves, popped_none}
+use Rattle.block_heap.proofs.SpendLemmas.{spends_none}
+use Rattle.block_heap.proofs.TakeLemmas.{first_within, first_anchor, take_moved, taken_some, taken_fills, taken_serves, taken_spends, recycled_serves, recycled_fills, recycled_first, recycled_spends}
 use Rattle.block_heap.proofs.arena.Arena.take_first.Goals as goal
 
 pub pop-requires-clause-head : goal.pop-requires-clause-head
@@ -14,90 +16,110 @@ returns-in_err-popped-clause-serves g c =
     let p = parts_of c.args.self.now in
     serves_moved p (record p { words = medium_view c.pop.new.self }) c.requires.running
     (head_moved p.capacity c.args.class p.words (medium_view c.pop.new.self) (let last = c.requires.class.last in omega arith) c.pop.ensures.others) refl
-        refl refl
-
-pub returns-in_default-clause-ok : goal.returns-in_default-clause-ok
-returns-in_default-clause-ok g c =
-    (c.requires.empty, emptied_finds (parts_of c.args.self.now) c.args.class c.args.class c.in_ok-popped.popped (medium_view c.pop.new.self) c.by.result
-        c.requires.running (let last = c.requires.class.last in omega arith) c.in_ok-popped.ensures.ok c.pop.ensures.others c.in_default.is
-    c.next_ticket-ticket.result c.next_ticket-ticket.ensures c.by.ensures.seen c.by.ensures.ticket c.by.ensures.taken, refl)
+    refl refl
 
 pub returns-in_default-clause-fills : goal.returns-in_default-clause-fills
 returns-in_default-clause-fills g c =
     emptied_fills (parts_of c.args.self.now) c.args.class c.args.class c.in_ok-popped.popped (medium_view c.pop.new.self) c.by.result c.requires.running
-        (let last = c.requires.class.last in omega arith) c.in_ok-popped.ensures.ok c.pop.ensures.others c.in_default.is
+    (let last = c.requires.class.last in omega arith) c.in_ok-popped.ensures.ok c.pop.ensures.others c.in_default.is
 
 pub returns-in_default-clause-serves : goal.returns-in_default-clause-serves
 returns-in_default-clause-serves g c =
     emptied_serves (parts_of c.args.self.now) c.args.class c.args.class c.in_ok-popped.popped (medium_view c.pop.new.self) c.by.result c.requires.running
-        (let last = c.requires.class.last in omega arith) c.in_ok-popped.ensures.ok c.pop.ensures.others c.in_default.is
+    (let last = c.requires.class.last in omega arith) c.in_ok-popped.ensures.ok c.pop.ensures.others c.in_default.is
 
 pub take_blocks-requires-clause-superblock : goal.take_blocks-requires-clause-superblock
 take_blocks-requires-clause-superblock g c =
     first_within (parts_of c.args.self.now) c.args.class c.in-Some.d c.in_ok-popped.popped (medium_view c.pop.new.self) c.by.result c.requires.running
-        c.requires.class c.in_ok-popped.ensures.ok c.pop.ensures.others c.in-Some.is
+    c.requires.class c.in_ok-popped.ensures.ok c.pop.ensures.others c.in-Some.is
 
 pub take_blocks-requires-clause-anchor : goal.take_blocks-requires-clause-anchor
 take_blocks-requires-clause-anchor g c =
     first_anchor (parts_of c.args.self.now) c.args.class c.in-Some.d c.in_ok-popped.popped (medium_view c.pop.new.self) c.by.result c.requires.running
-        c.requires.class c.in_ok-popped.ensures.ok c.pop.ensures.others c.in-Some.is
+    c.requires.class c.in_ok-popped.ensures.ok c.pop.ensures.others c.in-Some.is
 
 pub returns-in_err-cache-clause-serves : goal.returns-in_err-cache-clause-serves
 returns-in_err-cache-clause-serves g c =
     let p = parts_of c.args.self.now in
     serves_moved p (record p { words = medium_view c.take_blocks.new.self; head_looks = set p.head_looks c.args.class c.by.result }) c.requires.running
     (take_moved (parts_of c.args.self.now) c.args.class c.in-Some.d c.in_ok-popped.popped (medium_view c.pop.new.self) c.by.result c.requires.running
-        c.requires.class c.in_ok-popped.ensures.ok c.pop.ensures.others c.in-Some.is
+    c.requires.class c.in_ok-popped.ensures.ok c.pop.ensures.others c.in-Some.is
     (medium_view c.take_blocks.new.self) c.take_blocks.ensures.others) refl refl refl
 
 pub returns-in-Some-2-clause-ok : goal.returns-in-Some-2-clause-ok
 returns-in-Some-2-clause-ok g c =
     taken_some (parts_of c.args.self.now) c.args.class c.in-Some.d c.in_ok-popped.popped (medium_view c.pop.new.self) c.by.result c.requires.running
-        c.requires.class c.in_ok-popped.ensures.ok c.pop.ensures.others c.in-Some.is
+    c.requires.class c.in_ok-popped.ensures.ok c.pop.ensures.others c.in-Some.is
     (medium_view c.take_blocks.new.self) c.take_blocks.ensures.others c.in-Some-2.cache c.in_ok-cache.field-0 c.in-Some-2.is c.requires.empty
-        c.in_ok-cache.ensures.ok
+    c.in_ok-cache.ensures.ok
 
 pub returns-in-Some-2-clause-fills : goal.returns-in-Some-2-clause-fills
 returns-in-Some-2-clause-fills g c =
     taken_fills (parts_of c.args.self.now) c.args.class c.in-Some.d c.in_ok-popped.popped (medium_view c.pop.new.self) c.by.result c.requires.running
-        c.requires.class c.in_ok-popped.ensures.ok c.pop.ensures.others c.in-Some.is
+    c.requires.class c.in_ok-popped.ensures.ok c.pop.ensures.others c.in-Some.is
     (medium_view c.take_blocks.new.self) c.take_blocks.ensures.others c.in-Some-2.cache c.in_ok-cache.field-0 c.in-Some-2.is c.requires.empty
-        c.in_ok-cache.ensures.ok
+    c.in_ok-cache.ensures.ok
 
 pub returns-in-Some-2-clause-serves : goal.returns-in-Some-2-clause-serves
 returns-in-Some-2-clause-serves g c =
     taken_serves (parts_of c.args.self.now) c.args.class c.in-Some.d c.in_ok-popped.popped (medium_view c.pop.new.self) c.by.result c.requires.running
-        c.requires.class c.in_ok-popped.ensures.ok c.pop.ensures.others c.in-Some.is
+    c.requires.class c.in_ok-popped.ensures.ok c.pop.ensures.others c.in-Some.is
     (medium_view c.take_blocks.new.self) c.take_blocks.ensures.others c.in-Some-2.cache c.in_ok-cache.field-0 c.in-Some-2.is c.requires.empty
-        c.in_ok-cache.ensures.ok
+    c.in_ok-cache.ensures.ok
 
 pub push-requires-clause-descriptor : goal.push-requires-clause-descriptor
 push-requires-clause-descriptor g c =
     first_within (parts_of c.args.self.now) c.args.class c.in-Some.d c.in_ok-popped.popped (medium_view c.pop.new.self) c.by.result c.requires.running
-        c.requires.class c.in_ok-popped.ensures.ok c.pop.ensures.others c.in-Some.is
+    c.requires.class c.in_ok-popped.ensures.ok c.pop.ensures.others c.in-Some.is
 
 pub returns-in_err-push-clause-serves : goal.returns-in_err-push-clause-serves
 returns-in_err-push-clause-serves g c =
     recycled_serves (parts_of c.args.self.now) c.args.class c.in-Some.d c.in_ok-popped.popped (medium_view c.pop.new.self) c.by.result c.requires.running
-        c.requires.class c.in_ok-popped.ensures.ok c.pop.ensures.others c.in-Some.is
+    c.requires.class c.in_ok-popped.ensures.ok c.pop.ensures.others c.in-Some.is
     (medium_view c.take_blocks.new.self) c.take_blocks.ensures.others (medium_view c.push.new.self) c.push.ensures.others
 
 pub returns-clause-ok : goal.returns-clause-ok
-returns-clause-ok g c =
-    (c.requires.empty, recycled_first (parts_of c.args.self.now) c.args.class c.in-Some.d c.in_ok-popped.popped (medium_view c.pop.new.self) c.by.result
-        c.requires.running c.requires.class c.in_ok-popped.ensures.ok c.pop.ensures.others c.in-Some.is
-    (medium_view c.take_blocks.new.self) c.take_blocks.ensures.others (medium_view c.push.new.self) c.push.ensures.others c.in_ok-cache.field-0
-        c.in_default-2.is c.in_ok-cache.ensures.ok c.in_ok-push.ensures.ok, refl)
+returns-clause-ok g c = (
+  c.requires.empty,
+  recycled_first (parts_of c.args.self.now) c.args.class c.in-Some.d c.in_ok-popped.popped (medium_view c.pop.new.self) c.by.result
+      c.requires.running c.requires.class c.in_ok-popped.ensures.ok c.pop.ensures.others c.in-Some.is
+      (medium_view c.take_blocks.new.self) c.take_blocks.ensures.others (medium_view c.push.new.self) c.push.ensures.others c.in_ok-cache.field-0
+      c.in_default-2.is c.in_ok-cache.ensures.ok c.in_ok-push.ensures.ok,
+  refl,
+)
 
 pub returns-clause-fills : goal.returns-clause-fills
 returns-clause-fills g c =
     recycled_fills (parts_of c.args.self.now) c.args.class c.in-Some.d c.in_ok-popped.popped (medium_view c.pop.new.self) c.by.result c.requires.running
-        c.requires.class c.in_ok-popped.ensures.ok c.pop.ensures.others c.in-Some.is
+    c.requires.class c.in_ok-popped.ensures.ok c.pop.ensures.others c.in-Some.is
     (medium_view c.take_blocks.new.self) c.take_blocks.ensures.others (medium_view c.push.new.self) c.push.ensures.others c.in_ok-cache.field-0
-        c.in_default-2.is c.in_ok-cache.ensures.ok c.in_ok-push.ensures.ok
+    c.in_default-2.is c.in_ok-cache.ensures.ok c.in_ok-push.ensures.ok
 
 pub returns-clause-serves : goal.returns-clause-serves
 returns-clause-serves g c =
     recycled_serves (parts_of c.args.self.now) c.args.class c.in-Some.d c.in_ok-popped.popped (medium_view c.pop.new.self) c.by.result c.requires.running
-        c.requires.class c.in_ok-popped.ensures.ok c.pop.ensures.others c.in-Some.is
+    c.requires.class c.in_ok-popped.ensures.ok c.pop.ensures.others c.in-Some.is
     (medium_view c.take_blocks.new.self) c.take_blocks.ensures.others (medium_view c.push.new.self) c.push.ensures.others
+
+pub returns-in_default-clause-left : goal.returns-in_default-clause-left
+returns-in_default-clause-left g c =
+    let p = parts_of c.args.self.now in
+    let below : c.args.class < lists = let last = c.requires.class.last in omega arith in
+    spends_none c.args.class p (emptied p c.args.class c.args.class c.in_ok-popped.popped (medium_view c.pop.new.self) c.by.result c.requires.running below
+        c.in_ok-popped.ensures.ok c.pop.ensures.others c.in_default.is) refl
+    (popped_none p c.args.class c.in_ok-popped.popped (medium_view c.pop.new.self) c.requires.running below
+        c.in_ok-popped.ensures.ok c.pop.ensures.others c.in_default.is).1
+
+pub returns-in-Some-2-clause-left : goal.returns-in-Some-2-clause-left
+returns-in-Some-2-clause-left g c =
+    taken_spends (parts_of c.args.self.now) c.args.class c.in-Some.d c.in_ok-popped.popped (medium_view c.pop.new.self) c.by.result c.requires.running
+        c.requires.class c.in_ok-popped.ensures.ok c.pop.ensures.others c.in-Some.is
+    (medium_view c.take_blocks.new.self) c.take_blocks.ensures.others c.in-Some-2.cache c.in_ok-cache.field-0 c.in-Some-2.is c.requires.empty
+        c.in_ok-cache.ensures.ok
+
+pub returns-clause-left : goal.returns-clause-left
+returns-clause-left g c =
+    recycled_spends (parts_of c.args.self.now) c.args.class c.in-Some.d c.in_ok-popped.popped (medium_view c.pop.new.self) c.by.result c.requires.running
+        c.requires.class c.in_ok-popped.ensures.ok c.pop.ensures.others c.in-Some.is
+    (medium_view c.take_blocks.new.self) c.take_blocks.ensures.others (medium_view c.push.new.self) c.push.ensures.others c.in_ok-cache.field-0
+        c.in_default-2.is c.in_ok-cache.ensures.ok c.in_ok-push.ensures.ok

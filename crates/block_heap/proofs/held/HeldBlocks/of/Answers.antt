@@ -22,10 +22,11 @@ loop-d-preserved c =
     let all : c.capacity-d-end.result ≡ capacity_of (slice_index words) = c.capacity-d-end.ensures ∙ c.geometry-geometry.ensures in
     let within : d < capacity_of (slice_index words) = subst (λ n. d < n) all c.loop-d-test.true in
     let info : get_or c.words.result.now c.info.result 0 ≡ slice_index words (info_word d) =
-        ap (λ xs. get_or xs c.info.result 0) c.words.ensures.words ∙ ap (λ i. get_or words i 0) c.info.ensures in
-    let begun = subst (λ i. IsBegun i size) info c.words_begun.ensures in
-    (c.divide.ensures.held ∙ c.loop-d.invariant.0,
-    knows_more words c.loop-d.blocks c.divide.new.self d size c.loop-d.invariant.1 within begun c.divide.ensures.start c.divide.ensures.words)
+    ap (λ xs. get_or xs c.info.result 0) c.words.ensures.words ∙ ap (λ i. get_or words i 0) c.info.ensures in
+    let begun = subst (λ i. IsBegun i size) info c.words_begun.ensures in (
+      c.divide.ensures.held ∙ c.loop-d.invariant.0,
+      knows_more words c.loop-d.blocks c.divide.new.self d size c.loop-d.invariant.1 within begun c.divide.ensures.start c.divide.ensures.words,
+    )
 
 -- each held block has a mark
 pub add-requires : goal.add-requires
@@ -50,9 +51,10 @@ loop-b-preserved c =
     let none : Block = record { first_word = 0; words = 0 } in
     let same = c.held-b-items.ensures.held in
     let within : i < length held = subst (λ xs. i < length xs) same c.loop-b-test.true in
-    let adds = subst (λ xs. AddsTo (at_mark h (get_or xs i none).first_word) (held_of h) (held_of new)) same c.add.ensures.held in
-    (knows_same words h new (capacity_of (slice_index words)) c.add.ensures.start c.add.ensures.words c.loop-b.invariant.0,
-    next_held words held i none h c.held-b-items.ensures.ready within c.loop-b.invariant.0 new c.loop-b.invariant.1 adds)
+    let adds = subst (λ xs. AddsTo (at_mark h (get_or xs i none).first_word) (held_of h) (held_of new)) same c.add.ensures.held in (
+      knows_same words h new (capacity_of (slice_index words)) c.add.ensures.start c.add.ensures.words c.loop-b.invariant.0,
+      next_held words held i none h c.held-b-items.ensures.ready within c.loop-b.invariant.0 new c.loop-b.invariant.1 adds,
+    )
 
 -- now all are
 pub returns : goal.returns

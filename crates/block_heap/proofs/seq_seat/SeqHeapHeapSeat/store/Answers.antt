@@ -21,8 +21,8 @@ store-answer-requires-clause-within g c =
 pub invariant_of-self-inside : goal.invariant_of-self-inside
 invariant_of-self-inside g c = (
   ∣ small_lasts (parts_of c.self.inside.arena) (medium_view c.store-answer.new.self) (λ other. other ≡ c.word_of.result) c.self.inside.stopped c.stop_of-self-inside.result c.self.invariant.lasts c.store-answer.ensures.others
-    (λ word e. subst (IsOwn (held_in (parts_of c.self.inside.arena)) all_roots) (sym e) (own_at _ c.args.self.now c.args.s c.word_of.result c.self.invariant c.self.view_is c.word_of.ensures c.requires))
-    (stop_above c.store-answer.result c.stop_of-self-inside.result 1 (medium_view c.self.inside.arena.medium) (medium_view c.store-answer.new.self) c.stop_of-self-inside.ensures.ok c.stop_of-self-inside.ensures.stopped c.store-answer.ensures.stopped) ∣₁,
+      (λ word e. subst (IsOwn (held_in (parts_of c.self.inside.arena)) all_roots) (sym e) (own_at _ c.args.self.now c.args.s c.word_of.result c.self.invariant c.self.view_is c.word_of.ensures c.requires))
+      (stop_above c.store-answer.result c.stop_of-self-inside.result 1 (medium_view c.self.inside.arena.medium) (medium_view c.store-answer.new.self) c.stop_of-self-inside.ensures.ok c.stop_of-self-inside.ensures.stopped c.store-answer.ensures.stopped) ∣₁,
   tt,
 )
 

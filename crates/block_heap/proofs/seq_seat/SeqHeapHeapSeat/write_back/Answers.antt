@@ -21,7 +21,7 @@ write_back-answer-requires-clause-within g c =
 pub invariant_of-self-inside : goal.invariant_of-self-inside
 invariant_of-self-inside g c = (
   ∣ small_lasts (parts_of c.self.inside.arena) (medium_view c.write_back-answer.new.self) (λ _. ⊥) c.self.inside.stopped c.stop_of-self-inside.result c.self.invariant.lasts c.write_back-answer.ensures.unchanged (λ word t. absurd t)
-    (stop_above c.write_back-answer.result c.stop_of-self-inside.result 1 (medium_view c.self.inside.arena.medium) (medium_view c.write_back-answer.new.self) c.stop_of-self-inside.ensures.ok c.stop_of-self-inside.ensures.stopped c.write_back-answer.ensures.stopped) ∣₁,
+      (stop_above c.write_back-answer.result c.stop_of-self-inside.result 1 (medium_view c.self.inside.arena.medium) (medium_view c.write_back-answer.new.self) c.stop_of-self-inside.ensures.ok c.stop_of-self-inside.ensures.stopped c.write_back-answer.ensures.stopped) ∣₁,
   tt,
 )
 

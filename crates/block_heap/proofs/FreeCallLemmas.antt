@@ -1,0 +1,67 @@
+-- What a free leaves of a heap for one thread.
+use Rattle.std.proofs.Common.{◌≡◌, ℕ, Option, None, Some, Result, Ok, Err, OnOk, IfErr, refl, ap, sym, subst, ◌∙◌}
+use Rattle.heap_model.specs.declared.block.Block.{Block}
+use Rattle.heap_model.specs.Blocks.{IsIn}
+use Rattle.heap_shape.specs.Moves.{TakesFrom}
+use Rattle.line_memory.specs.declared.memory.Stopped.{Stopped}
+use Rattle.block_heap.specs.Free.{MayFree, Frees}
+use Rattle.block_heap.specs.Medium.{Goes, Halts}
+use Rattle.block_heap.specs.Parts.{Parts, held_in}
+use Rattle.block_heap.specs.Running.{Serves}
+use Rattle.block_heap.specs.Works.{IsAllocatorWord, IsStable, IsLasting}
+use Rattle.block_heap.specs.SeqState.{SeqState, IsSeqHeap, all_roots, seat_of}
+use Rattle.block_heap.specs.Words.{IsOwn, in_block, in_root}
+use Rattle.block_heap.proofs.RequestLemmas.{large_lasts, large_view, word_kept, pending_kept}
+use Rattle.block_heap.proofs.StableLemmas.{not_own, stable_kept, stable_fewer}
+
+-- held blocks are stable after a free
+pub free_stable : (p q : Parts) (b : Block) → IsStable p.capacity p.words (held_in p) → TakesFrom b (held_in p) (held_in q) → Serves (held_in q) p q
+    → IsStable q.capacity q.words (held_in q)
+free_stable p q b stable takes serves =
+    subst (λ n. IsStable n q.words (held_in q)) (sym serves.capacity)
+    (stable_kept p.capacity (held_in q) p.words q.words (stable_fewer p.capacity (held_in p) (held_in q) p.words takes.only stable) serves.works)
+
+-- what lasts over a free
+pub free_lasts : (r : Result Unit Stopped) (p q : Parts) (b : Block) (old o : Option ℕ) → IsLasting p.capacity p.words (held_in p) old
+    → TakesFrom b (held_in p) (held_in q) → Serves (held_in q) p q
+    → OnOk r (o ≡ None) → IfErr r (λ e. o ≡ Some e.step) → IfErr r (λ e. Halts e.step 40000 p.words q.words) → IsLasting q.capacity q.words (held_in q) o
+free_lasts r p q b old o lasts takes serves none stops halts =
+    large_lasts r p q (held_in q) 40000 old o lasts serves (free_stable p q b lasts.stable takes serves) none stops halts
+
+-- both hold of an answer
+pub on_ok_both : {T : Type 0} (r : Result T Stopped) (A B : Type 0) → OnOk r A → OnOk r B → OnOk r (A × B)
+on_ok_both (Ok t) A B a b = (a, b)
+on_ok_both (Err e) A B a b = tt
+
+module _ (s : SeqState) (q : Parts) (o : Option ℕ) (b : Block) (heap : IsSeqHeap s)
+    (takes : TakesFrom b (held_in s.parts) (held_in q)) (serves : Serves (held_in q) s.parts q) where
+  -- an own word outside the block is own after it
+  still_own : (word : ℕ) → (IsIn b word → ⊥) → IsOwn (held_in s.parts) all_roots word → IsOwn (held_in q) all_roots word
+  still_own _ out (in_block a word holds in_a) = in_block a word (takes.keeps a holds (λ e. out (subst (λ x. IsIn x word) e in_a))) in_a
+  still_own _ out (in_root i word p same) = in_root i word p same
+
+  -- so it isn't stored to
+  not_stored : (word : ℕ) → IsOwn (held_in s.parts) all_roots word → (IsIn b word → ⊥) → IsAllocatorWord s.parts.capacity (held_in q) word → ⊥
+  not_stored word own out may =
+      not_own s.parts.capacity (held_in q) s.parts.words word heap.lasts.small
+      (stable_fewer s.parts.capacity (held_in s.parts) (held_in q) s.parts.words takes.only heap.lasts.stable) may (still_own word out own)
+
+  -- what a free leaves at each exit
+  pub may_free : (seen : SeqState) → s ≡ seen → MayFree b (seat_of seen) (large_view s q o)
+  may_free seen same = subst (λ t. MayFree b (seat_of t) (large_view s q o)) same (record {
+    only = takes.only;
+    keeps = takes.keeps;
+    roots = refl;
+    words = λ word own out. word_kept s q o (IsAllocatorWord s.parts.capacity (held_in q)) word serves.works.stores (not_stored word own out);
+    refusals = record { count = refl; bytes = refl; looks = refl };
+  })
+
+  -- and where it was done
+  pub frees : (r : Result Unit Stopped) (seen : SeqState) (most : ℕ) → s ≡ seen → seen.stopped ≡ None → OnOk r (o ≡ None)
+      → OnOk r (Goes most s.parts.words q.words) → OnOk r (Frees b (seat_of seen) (large_view s q o))
+  frees (Ok t) seen most same ran runs goes = subst (λ t. Frees b (seat_of t) (large_view s q o)) same (record {
+    runs = record { ran = ap (λ (t : SeqState). t.stopped) same ∙ ran; running = runs; drew = goes.drew; below = goes.below };
+    gone = takes.gone;
+    pending = λ word own out. pending_kept s q o (IsAllocatorWord s.parts.capacity (held_in q)) word serves.works.stores (not_stored word own out);
+  })
+  frees (Err e) seen most same ran runs goes = tt

@@ -1,0 +1,44 @@
+use Rattle.std.proofs.Common.{◌≡◌, ◌<◌, ℕ, IfOk, Option, refl, sym, subst, arith}
+use Rattle.std.proofs.lemmas.Result.{IfOk-weaker}
+use Rattle.heap_model.specs.declared.block.Block.{Block}
+use Rattle.heap_model.specs.Sizes.{largest_small, span_of, size_of}
+use Rattle.heap_model.proofs.SizeLemmas.{few_words, size_of-words}
+use Rattle.block_heap.specs.Parts.{parts_of}
+use Rattle.block_heap.specs.Running.{IsRunning}
+use Rattle.block_heap.specs.Large.{JoinsAs}
+use Rattle.block_heap.specs.Serving.{Answers, AnswersInClass, DrainsAs}
+use Rattle.block_heap.proofs.AllocLemmas.{answers_small, answers_large, least_of_size, both_ok}
+use Rattle.block_heap.proofs.arena.Arena.alloc.Goals as goal
+
+pub returns-in-Some-clause-ok : goal.returns-in-Some-clause-ok
+returns-in-Some-clause-ok g c =
+    let p = parts_of c.args.self.now in
+    let q = parts_of c.alloc_small.new.self in
+    IfOk-weaker c.alloc_small.result (λ answer. AnswersInClass c.in-Some.class answer p q) (λ answer. Answers c.args.bytes answer p q)
+    (λ answer. answers_small c.args.bytes c.in-Some.class answer p q c.in-Some.ensures.some) c.alloc_small.ensures.ok
+
+pub returns-in-Some-clause-drains : goal.returns-in-Some-clause-drains
+returns-in-Some-clause-drains g c =
+    let p = parts_of c.args.self.now in
+    let q = parts_of c.alloc_small.new.self in
+    λ class is same. subst (λ (k : ℕ). IfOk c.alloc_small.result (λ answer. DrainsAs k answer p q))
+    (sym (least_of_size c.args.bytes c.in-Some.class class c.in-Some.ensures.some is same)) c.alloc_small.ensures.drains
+
+pub returns-in-None-clause-ok : goal.returns-in-None-clause-ok
+returns-in-None-clause-ok g c =
+    let p = parts_of c.args.self.now in
+    let q = parts_of c.alloc_large.new.self in
+    let large : largest_small < c.args.bytes = c.in-None.ensures.none.0 refl in
+    let joins : IfOk c.alloc_large.result (λ answer. JoinsAs (span_of c.args.bytes) answer p q) =
+    subst (λ (count : ℕ). IfOk c.alloc_large.result (λ answer. JoinsAs count answer p q)) c.span_of.ensures c.alloc_large.ensures.ok in
+    both_ok c.alloc_large.result (λ answer. JoinsAs (span_of c.args.bytes) answer p q) (λ answer. Answers c.args.bytes answer p q) (IsRunning q)
+    (λ answer join running. answers_large c.args.bytes answer p q large c.requires.short join running c.alloc_large.ensures.caches
+    c.alloc_large.ensures.serves.capacity) joins c.alloc_large.ensures.running
+
+pub returns-in-None-clause-drains : goal.returns-in-None-clause-drains
+returns-in-None-clause-drains g c =
+    let large : largest_small < c.args.bytes = c.in-None.ensures.none.0 refl in
+    λ class is same.
+    let few = few_words class is in
+    let words = size_of-words class is in
+    absurd (omega arith)

@@ -1,0 +1,38 @@
+use Rattle.std.proofs.Common.{Bool, subst}
+use Rattle.block_heap.specs.Parts.{parts_of}
+use Rattle.block_heap.specs.Refill.{Refills}
+use Rattle.block_heap.proofs.AllocLemmas.{drains_nothing, gets_in_class, drains_block, serves_all}
+use Rattle.block_heap.proofs.SpendLemmas.{costs_of}
+use Rattle.block_heap.proofs.arena.Arena.alloc_small.Goals as goal
+
+pub returns-then-not-branch-clause-drains : goal.returns-then-not-branch-clause-drains
+returns-then-not-branch-clause-drains g c =
+    let p = parts_of c.args.self.now in
+    let q = parts_of c.stock.new.self in
+    drains_nothing c.args.class p q c.requires.class c.stock.ensures.serves.capacity c.in_ok-stock.ensures.fills
+    (subst (λ (some : Bool). Refills c.args.class some p q) c.if-not-branch.true c.in_ok-stock.ensures.ok)
+
+pub returns-in_err-hand_out-clause-serves : goal.returns-in_err-hand_out-clause-serves
+returns-in_err-hand_out-clause-serves g c =
+    serves_all (parts_of c.args.self.now) (parts_of c.stock.new.self) (parts_of c.hand_out.new.self) c.stock.ensures.held c.stock.ensures.serves c.hand_out.ensures.serves
+
+pub returns-clause-serves : goal.returns-clause-serves
+returns-clause-serves g c =
+    serves_all (parts_of c.args.self.now) (parts_of c.stock.new.self) (parts_of c.hand_out.new.self) c.stock.ensures.held c.stock.ensures.serves c.hand_out.ensures.serves
+
+pub returns-clause-ok : goal.returns-clause-ok
+returns-clause-ok g c =
+    let p = parts_of c.args.self.now in
+    let q = parts_of c.stock.new.self in
+    let found = subst (λ (some : Bool). Refills c.args.class some p q) c.if-not-branch.false c.in_ok-stock.ensures.ok in
+    gets_in_class c.args.class c.in_ok-hand_out.field-0 p q (parts_of c.hand_out.new.self) c.requires.class c.requires.short c.in_ok-stock.ensures.fills found.1
+    c.in_ok-hand_out.ensures.ok
+
+pub returns-clause-drains : goal.returns-clause-drains
+returns-clause-drains g c =
+    let p = parts_of c.args.self.now in
+    let q = parts_of c.stock.new.self in
+    let r = parts_of c.hand_out.new.self in
+    (drains_block c.args.class c.in_ok-hand_out.field-0 p q r c.stock.ensures.serves.capacity c.in_ok-stock.ensures.fills c.in_ok-hand_out.ensures.ok,
+    costs_of c.args.class c.in_ok-stock.field-0 p q r c.if-not-branch.false c.in_ok-stock.ensures.left c.in_ok-stock.ensures.steps
+    c.hand_out.ensures.serves.capacity c.in_ok-hand_out.ensures.ok.volatile c.in_ok-hand_out.ensures.goes.few)

@@ -1,0 +1,100 @@
+-- Worked examples by computation: one superblock of class 20, of words 1072 to 9263 and four blocks of 1792 words, in a heap of one.
+use Rattle.std.specs.Prelude.{◌≡◌, ◌+◌, ◌*◌, ◌<◌, List, [], ◌∷◌, map, refl}
+use Rattle.std.proofs.Common.{arith, inl, inr, subst, sym}
+use Rattle.heap_model.specs.declared.block.Block.{Block}
+use Rattle.heap_model.specs.Image.{Image}
+use Rattle.heap_model.specs.Sizes.{class_sizes, words_of_class, blocks_of}
+use Rattle.heap_model.specs.Examples.{image_with}
+use Rattle.heap_shape.specs.Shape.{in_list, is_full, in_large, is_new, Shape, stands_in, with_at}
+use Rattle.heap_shape.specs.Standing.{first_of, IsFirstOf, HoldsAt, times_free}
+use Rattle.heap_shape.specs.Effects.{IsInSuperblock, all_firsts}
+use Rattle.heap_shape.specs.Moves.{after_take, after_recycle, after_cut, after_join, after_give_all}
+use Rattle.heap_shape.specs.Draining.{IsTidy}
+
+-- a place is one list, or none
+places : map (λ place. stands_in place 3) (in_list 3 ∷ in_list 2 ∷ is_full ∷ in_large ∷ is_new ∷ []) ≡ 1 ∷ 0 ∷ 0 ∷ 0 ∷ 0 ∷ []
+places = refl
+
+-- a function with another value at 2
+changed : map (with_at (λ n. n + 5) 2 9) (1 ∷ 2 ∷ 3 ∷ []) ≡ 6 ∷ 9 ∷ 8 ∷ []
+changed = refl
+
+-- the blocks, and two words that none begins with: a second one, and the first one behind the last block
+firsts : (all_firsts 1 20 0 ≡ 1072 ∷ 2864 ∷ 4656 ∷ 6448 ∷ []) × (first_of 2 20 1 3 ≡ 14648)
+unfolding blocks_of words_of_class class_sizes
+firsts = (refl, refl)
+
+second_block : IsFirstOf 1 20 0 2864
+unfolding blocks_of words_of_class class_sizes
+second_block = record { index = 1; below = omega arith; at = refl }
+
+second_word : IsFirstOf 1 20 0 1073 → ⊥
+unfolding words_of_class class_sizes
+second_word is = let at : 1073 ≡ 1072 + is.index * 1792 = is.at in omega arith
+
+behind_last : IsFirstOf 1 20 0 8240 → ⊥
+unfolding blocks_of words_of_class class_sizes
+behind_last is = let at : 8240 ≡ 1072 + is.index * 1792 = is.at in let four : is.index < 4 = is.below in omega arith
+
+-- the first word of the superblock and its last, and the words beside them
+borders : IsInSuperblock 1 0 1072 × IsInSuperblock 1 0 9263
+borders = (record { from = omega arith; until = omega arith }, record { from = omega arith; until = omega arith })
+
+beside_borders : (IsInSuperblock 1 0 1071 → ⊥) × (IsInSuperblock 1 0 9264 → ⊥)
+beside_borders = (λ before. let from = before.from in omega arith, λ behind. let until = behind.until in omega arith)
+
+-- blocks 0 and 2 are held, and blocks 1 and 3 free in the superblock's chain
+abbrev held : List Block
+held = record { first_word = 1072; words = 1792 } ∷ record { first_word = 4656; words = 1792 } ∷ []
+
+abbrev partial : Shape
+partial = record {
+  place = with_at (λ _. is_new) 0 (in_list 20);
+  listed = with_at (λ _. []) 20 (0 ∷ []);
+  chain = with_at (λ _. []) 0 (2864 ∷ 6448 ∷ []);
+  cached = λ _. [];
+  start = λ _. 0;
+}
+
+holds_third : HoldsAt held 4656
+holds_third = record { block = record { first_word = 4656; words = 1792 }; holds = (1, omega arith, refl); at = refl }
+
+-- the chain goes to the cache, where its blocks are as free as before
+abbrev taken : Shape
+taken = after_take partial 20 0 [] 2864
+
+take_moves : (taken.place 0 ≡ is_full) × (taken.listed 20 ≡ []) × (taken.chain 0 ≡ []) × (taken.cached 20 ≡ 2864 ∷ 6448 ∷ []) × (taken.cached 19 ≡ [])
+take_moves = (refl, refl, refl, refl, refl)
+
+free_once : times_free partial 20 0 6448 ∷ times_free taken 20 0 6448 ∷ times_free taken 20 0 4656 ∷ [] ≡ 1 ∷ 1 ∷ 0 ∷ []
+free_once = refl
+
+-- the superblock is freed and cut again, all its blocks are given back, and it is free again
+abbrev cut : Shape
+cut = after_cut (after_recycle partial 20 0 []) 1 20 0 []
+
+cut_moves : (cut.place 0 ≡ is_full) × (cut.listed 0 ≡ []) × (cut.chain 0 ≡ []) × (cut.cached 20 ≡ all_firsts 1 20 0) × (cut.start 20 ≡ first_of 1 20 0 0)
+cut_moves = (refl, refl, refl, refl, refl)
+
+abbrev all_given : Shape
+all_given = after_give_all cut 20 0 (cut.cached 20) [] 0
+
+give_all_moves : (all_given.place 0 ≡ in_list 0) × (all_given.listed 0 ≡ 0 ∷ []) × (all_given.listed 20 ≡ []) × (all_given.cached 20 ≡ [])
+give_all_moves = (refl, refl, refl, refl)
+
+-- superblocks 1 and 2 become a large block, and no other
+join_moves : map (after_join partial 1 2).place (0 ∷ 1 ∷ 2 ∷ 3 ∷ []) ≡ in_list 20 ∷ in_large ∷ in_large ∷ is_new ∷ []
+join_moves = refl
+
+-- an empty superblock of class 20 that is in no list: draining may begin with class 20, and with no other
+abbrev unlisted : Image
+unlisted = image_with ((8, 1) ∷ (1064, 20) ∷ [])
+
+tidy_for_own : IsTidy 1 unlisted [] 20
+tidy_for_own = record { each = λ d taken none. let only : d ≡ 0 = omega arith in inl (subst (λ e. unlisted (1064 + 8 * e) ≡ 20) (sym only) refl) }
+
+untidy_for_other : IsTidy 1 unlisted [] 19 → ⊥
+untidy_for_other tidy = elim (tidy.each 0 (omega arith) (λ b holds part. let none = holds.1 in omega arith)) as (λ _. ⊥) [
+  | inl info ↦ omega arith
+  | inr in_free ↦ let none = (in_free [] refl).1 in omega arith
+]
