@@ -1,29 +1,26 @@
 -- Which requests a class serves, what the answer to a request is, and which free a held block gets.
-use Rattle.std.proofs.Common.{◌≡◌, ◌≢◌, ℕ, ◌+◌, ◌*◌, ◌<◌, ◌≤◌, ◌⊎◌, inl, inr, true, cond, nat_eq, nat_le, Option, None, Some, Result, Ok, Err, IfOk, OnOk, List, [], ◌∷◌, length, get_or, Contains, refl, ap, sym, subst, ◌∙◌, arith}
+use Rattle.std.proofs.Common.{◌≡◌, ◌≢◌, ℕ, ◌+◌, ◌*◌, ◌<◌, ◌≤◌, inl, inr, true, cond, nat_le, Option, None, Some, Result, Ok, Err, IfOk, OnOk, List, [], ◌∷◌, length, get_or, Contains, refl, ap, sym, subst, ◌∙◌, arith}
 use Rattle.std.proofs.lemmas.Bool.{agree_below, cases_eq, cond-true, le-leb, leb-true}
 use Rattle.heap_model.specs.declared.block.Block.{Block}
-use Rattle.heap_model.specs.Geometry.{link_word, used_word, largest_capacity, superblock_words}
-use Rattle.heap_model.specs.Image.{Image}
+use Rattle.heap_model.specs.Geometry.{link_word}
 use Rattle.heap_model.specs.Sizes.{IsClass, IsLeastClassFor, class_sizes, size_of, words_of_class, blocks_of, largest_small, span_of}
 use Rattle.heap_model.specs.Words.{head_first}
 use Rattle.heap_model.specs.Blocks.{Begins, of_class, as_large, IsBlock}
 use Rattle.heap_model.specs.Chains.{Follows}
 use Rattle.heap_model.proofs.BlockLemmas.{block_inside}
-use Rattle.heap_model.proofs.SizeLemmas.{at_class, few_words, four_blocks, size_of-words}
-use Rattle.heap_shape.specs.Shape.{Shape}
+use Rattle.heap_model.proofs.SizeLemmas.{at_class, few_words, size_of-words}
 use Rattle.heap_shape.specs.Whole.{layout_at, IsShape}
 use Rattle.heap_shape.specs.Moves.{AddsTo}
-use Rattle.heap_shape.specs.Draining.{IsTidy, IsToDrain, DrainsSame, DrainsOne}
+use Rattle.heap_shape.specs.Draining.{DrainsSame, DrainsOne}
 use Rattle.heap_shape.proofs.DrainLemmas.{drained_none}
-use Rattle.line_memory.specs.View.{volatile_at}
 use Rattle.block_heap.specs.declared.cache.Cache.{Cache}
 use Rattle.block_heap.specs.Alloc.{IsSizeFor, of_class as size_of_class, of_superblocks}
 use Rattle.block_heap.specs.Parts.{Parts, image_of, held_in, cache_at}
 use Rattle.block_heap.specs.Running.{IsRunning, AreShort, Serves}
-use Rattle.block_heap.specs.Steps.{IsEmptyList, head_at, Fills, HandsOut}
+use Rattle.block_heap.specs.Steps.{head_at, Fills, HandsOut}
 use Rattle.block_heap.specs.Large.{JoinsAs}
 use Rattle.block_heap.proofs.SplitLemmas.{serves_then}
-use Rattle.block_heap.specs.Serving.{HasRoom, HasRoomFor, for_class, for_large, LookedInClass, FindsNone, MissesInClass, GetsInClass, AnswersInClass, Misses, Gets, Answers, DrainsTo, DrainsNone, DrainsAs}
+use Rattle.block_heap.specs.Serving.{HasRoom, HasRoomFor, for_class, for_large, LookedInClass, FindsNone, GetsInClass, AnswersInClass, Answers, DrainsTo, DrainsNone}
 
 -- a request that a class serves is small
 pub least_small : (bytes class : ℕ) → IsLeastClassFor bytes class → bytes ≤ largest_small

@@ -1,5 +1,5 @@
 -- A held block is the block of its mark.
-use Rattle.std.proofs.Common.{◌≡◌, ℕ, ◌+◌, ◌-◌, ◌*◌, ◌/◌, ◌<◌, ◌≤◌, List, length, Contains, refl, ap, sym, subst, ◌∙◌, arith}
+use Rattle.std.proofs.Common.{◌≡◌, ◌+◌, ◌*◌, Contains, ap, sym, ◌∙◌, arith}
 use Rattle.heap_model.specs.declared.block.Block.{Block}
 use Rattle.line_memory.specs.Marks.{marked_words}
 use Rattle.line_memory.specs.Marked.{marked_words-only, is_marked_within}

@@ -259,13 +259,7 @@ module _ (p : Parts) (class d : ℕ) (popped : Popped) (w : View) (look : Look) 
           (settled_kept p.capacity (IsMoved p.capacity) p.words w moved (λ e within m. moved_info p.capacity e (info_word e) m refl)
           (λ m. moved_used p.capacity used_word m refl) run.settled)
           (λ e within. moved.volatile (info_word e) (λ m. moved_info p.capacity e (info_word e) m refl))
-<<<<<<< HEAD
-          (cut_free p.capacity class d (image_of p) (λ word. volatile_at w word) (image_of q) (held_in p) run.shape rest is run.is listed
-          (none_cached p class run is empty)
-          (popped_of p 0 popped w run zero_list pop pop_stores d some) image_cut)
-=======
           free_shape
->>>>>>> 721adec2cc9e89152f8d2c3944c102931e58556d
           refl refl refl
           (λ list less.
           let before = run.pops list less in
@@ -296,9 +290,9 @@ module _ (p : Parts) (class d : ℕ) (popped : Popped) (w : View) (look : Look) 
           let long : length (run.shape.listed 0) ≡ length (d ∷ rest) = ap length listed in
           let used = free_serves.works.used in
           spends_by 1 class p q run (run.shape.listed class) rest is free_running same.capacity
-              (free_list class (run.shape.listed class) (let last = is.last in omega arith)
-              (with_at_other run.shape.listed 0 rest class (λ e. let from = is.some in omega arith)))
-              (free_list 0 rest (omega arith) (with_at_same run.shape.listed 0 rest)) (omega arith)
+          (free_list class (run.shape.listed class) (let last = is.last in omega arith)
+          (with_at_other run.shape.listed 0 rest class (λ e. let from = is.some in omega arith)))
+          (free_list 0 rest (omega arith) (with_at_same run.shape.listed 0 rest)) (omega arith)
 
       pub free_found : (1 ≤ (cache_at q.caches class).count) × (IsEmptyList p 0 → ⊥)
       free_found = (
@@ -428,12 +422,7 @@ module _ (p : Parts) (w : View) (run : IsRunning p) (stores : StoresOnly (λ wor
           fresh_running = cut_running p class d w p.head_looks look (p.taken + 1) q run is within cut_stores same cuts
               (after_fresh run.shape p.capacity class d) stores.words stores.budget run.looks_long settled
               (λ e less. stores.volatile (info_word e) (λ at. omega arith))
-<<<<<<< HEAD
-              (cut_fresh p.capacity class d (image_of p) (λ word. volatile_at w word) (image_of q) (held_in p) run.shape is run.is past within
-              (none_cached p class run is empty) used_set fresh_image)
-=======
               fresh_shape
->>>>>>> 721adec2cc9e89152f8d2c3944c102931e58556d
               refl refl refl
               (λ list less.
               let before = run.pops list less in
@@ -462,9 +451,9 @@ module _ (p : Parts) (w : View) (run : IsRunning p) (stores : StoresOnly (λ wor
               let at = past in
               let now : volatile_at w used_word ≡ d + 1 = used_set.at in
               let kept : image_of q used_word ≡ volatile_at w used_word =
-                cut_stores.volatile used_word (divide_before p.capacity d used_word (omega arith)) in
+              cut_stores.volatile used_word (divide_before p.capacity d used_word (omega arith)) in
               spends_by 1 class p q run (run.shape.listed class) (run.shape.listed 0) is fresh_running same.capacity
-                  (fresh_list class (let last = is.last in omega arith)) (fresh_list 0 (omega arith)) (omega arith)
+              (fresh_list class (let last = is.last in omega arith)) (fresh_list 0 (omega arith)) (omega arith)
 
           pub fresh_found : (1 ≤ (cache_at q.caches class).count) × (image_of p used_word + 1 ≤ p.capacity)
           fresh_found = (cut_some p class d w p.head_looks look (p.taken + 1) q run is within cut_stores same cuts, fresh_room)

@@ -1,25 +1,18 @@
 -- How superblocks that were never taken become a large block.
-use Rattle.std.proofs.Common.{◌≡◌, ◌≢◌, ℕ, zero, suc, ◌+◌, ◌-◌, ◌*◌, ◌/◌, ◌<◌, ◌≤◌, ◌^◌, ◌⊎◌, inl, inr, Bool, true, false, cond, nat_le, nat_lt, ◌&&◌, Option, None, Some, MatchOption, List, ◌∷◌, length, get_or, set, Contains, refl, ap, sym, subst, ◌∙◌, arith, length-set, get_or-set_same, get_or-set_other}
-use Rattle.std.proofs.lemmas.Bool.{cases_eq, eq-eqb}
+use Rattle.std.proofs.Common.{◌≡◌, ◌≢◌, ℕ, ◌+◌, ◌-◌, ◌*◌, ◌/◌, ◌<◌, ◌≤◌, ◌^◌, ◌⊎◌, inl, inr, Bool, true, false, cond, nat_le, nat_lt, ◌&&◌, Option, None, Some, MatchOption, List, length, get_or, set, Contains, refl, ap, sym, subst, ◌∙◌, arith, length-set, get_or-set_same, get_or-set_other}
+use Rattle.std.proofs.lemmas.Bool.{cases_eq}
 use Rattle.heap_model.specs.declared.block.Block.{Block}
-use Rattle.heap_model.specs.Geometry.{lists, head_word, info_word, anchor_word, link_word, used_word, image_words, start_word, superblock_words}
-use Rattle.heap_model.specs.Image.{Image}
+use Rattle.heap_model.specs.Geometry.{head_word, info_word, used_word, start_word, superblock_words}
 use Rattle.heap_model.specs.Sizes.{IsClass, words_of_class}
-use Rattle.heap_model.specs.Words.{head_first, head_of, head_pops, large_info}
-use Rattle.heap_model.specs.Chains.{Follows}
+use Rattle.heap_model.specs.Words.{head_pops, large_info}
 use Rattle.heap_model.proofs.BlockLemmas.{block_words, block_inside}
-use Rattle.heap_model.proofs.CountingLemmas.{times_some}
-use Rattle.heap_model.proofs.MemberLemmas.{in_head, in_rest, head_or_rest}
 use Rattle.heap_model.proofs.PartLemmas.{same_fields}
-use Rattle.heap_shape.specs.Shape.{Place, in_list, is_full, in_large, is_new, Shape, stands_in}
-use Rattle.heap_shape.specs.Standing.{HasNoHeld, IsAs}
+use Rattle.heap_shape.specs.Shape.{Place, in_list, is_full, in_large}
 use Rattle.heap_shape.specs.Whole.{layout_at, IsShape}
-use Rattle.heap_shape.specs.Effects.{IsSet, IsPushedOn}
-use Rattle.heap_shape.specs.Moves.{after_split, after_join, AddsTo}
-use Rattle.heap_shape.proofs.BasicLemmas.{with_at_same, with_at_other}
+use Rattle.heap_shape.specs.Effects.{IsSet}
+use Rattle.heap_shape.specs.Moves.{after_join, AddsTo}
 use Rattle.heap_shape.proofs.JoinLemmas.{join}
-use Rattle.heap_shape.proofs.LargeLemmas.{split_one}
-use Rattle.heap_shape.proofs.OwnLemmas.{one_following, none_past}
+use Rattle.heap_shape.proofs.OwnLemmas.{none_past}
 use Rattle.line_memory.specs.View.{View, word_count, volatile_at, durable_at}
 use Rattle.line_memory.specs.Crash.{MayStore}
 use Rattle.line_memory.specs.Marks.{marked_words, IsMarked}
@@ -28,15 +21,12 @@ use Rattle.block_heap.specs.declared.held.HeldBlocks.{HeldBlocks}
 use Rattle.block_heap.specs.declared.look.Look.{Look}
 use Rattle.block_heap.specs.declared.superblocks.Fresh.{Fresh}
 use Rattle.block_heap.specs.Held.{held_of, at_mark, block_of_mark}
-use Rattle.block_heap.specs.Links.{IsOpen, IsPushed, IsPushWord, IsFresh}
-use Rattle.block_heap.specs.Medium.{StoresOnly, Goes, IsStored, IsPersisted}
+use Rattle.block_heap.specs.Links.{IsFresh}
+use Rattle.block_heap.specs.Medium.{StoresOnly, IsPersisted}
 use Rattle.block_heap.specs.Parts.{Parts, image_of, held_in}
-use Rattle.block_heap.specs.Running.{IsRunning, IsCacheOf, KnowsSizes, IsSettled, Serves}
-use Rattle.block_heap.specs.Steps.{head_at, LeadsAlong}
-use Rattle.block_heap.specs.Large.{IsDropped}
-use Rattle.block_heap.specs.Works.{IsAllocatorWord, is_head, is_info, is_anchor, is_link}
-use Rattle.block_heap.proofs.MediumLemmas.{stores_then, stores_more}
-use Rattle.block_heap.proofs.RunningLemmas.{set_is, settled_kept, running_words}
+use Rattle.block_heap.specs.Running.{IsRunning, IsSettled, Serves}
+use Rattle.block_heap.specs.Works.{is_info}
+use Rattle.block_heap.proofs.RunningLemmas.{set_is, running_words}
 use Rattle.block_heap.proofs.HeldLemmas.{has_map}
 use Rattle.block_heap.proofs.StableLemmas.{works_of, works_then, works_raised}
 

@@ -1,5 +1,5 @@
 -- A heap for one thread that was opened at rest: what lasts, and that it is right.
-use Rattle.std.proofs.Common.{◌≡◌, ℕ, ◌<◌, ◌≤◌, None, Option, List, get_or, ap, sym, ◌∙◌, arith}
+use Rattle.std.proofs.Common.{ℕ, ◌≤◌, None, List, get_or, ap, sym, ◌∙◌, arith}
 use Rattle.heap_model.specs.declared.block.Block.{Block}
 use Rattle.heap_model.specs.Geometry.{largest_capacity, capacity_word}
 use Rattle.heap_model.proofs.SizeLemmas.{four_blocks}
@@ -8,7 +8,7 @@ use Rattle.block_heap.specs.declared.fault.Looks.{Looks}
 use Rattle.block_heap.specs.Opening.{Opens}
 use Rattle.block_heap.specs.Parts.{Parts, held_in}
 use Rattle.block_heap.specs.Works.{IsLasting}
-use Rattle.block_heap.specs.SeqState.{SeqState, IsSeqHeap}
+use Rattle.block_heap.specs.SeqState.{IsSeqHeap}
 use Rattle.block_heap.proofs.RunningLemmas.{running_stable}
 
 pub opened_lasts : (words : List ℕ) (held : List Block) (budget : ℕ) (p : Parts) → 1 ≤ p.capacity → p.capacity ≤ largest_capacity → Opens words held budget p → IsLasting p.capacity p.words (held_in p) None

@@ -1,11 +1,10 @@
 -- What the small calls of a heap for one thread leave.
-use Rattle.std.proofs.Common.{◌≡◌, ◌≢◌, ℕ, ◌+◌, ◌*◌, ◌<◌, ◌≤◌, ◌⊎◌, inl, inr, Option, None, Some, Result, Ok, Err, OnOk, IfOk, IfErr, List, length, get_or, get_or-set_same, Contains, refl, ap, sym, subst, ◌∙◌, arith}
-use Rattle.heap_model.specs.Geometry.{info_word, used_word, image_words}
+use Rattle.std.proofs.Common.{◌≡◌, ℕ, ◌+◌, ◌<◌, ◌≤◌, Option, None, Some, Result, Ok, Err, OnOk, IfOk, IfErr, get_or, get_or-set_same, Contains, ap, sym, subst, ◌∙◌, arith}
+use Rattle.heap_model.specs.Geometry.{image_words}
 use Rattle.line_memory.specs.View.{View, word_count, volatile_at, durable_at, line_of}
 use Rattle.line_memory.specs.declared.memory.Stopped.{Stopped}
 use Rattle.block_heap.specs.Medium.{StoresOnly, Goes, Halts, IsLoaded, IsStored, IsWritten}
 use Rattle.block_heap.specs.Parts.{Parts, held_in}
-use Rattle.block_heap.specs.Running.{IsRunning, AreShort}
 use Rattle.block_heap.specs.Works.{IsLasting}
 use Rattle.block_heap.specs.SeqState.{SeqState, IsSeqHeap, all_roots, seat_of}
 use Rattle.block_heap.specs.Words.{IsOwn, in_block, in_root, IsOwnSpot}

@@ -34,12 +34,15 @@ has_most class p is run cs fs is_cs is_fs =
 
 -- as many are left where loads see the same words
 pub spends_none : (class : ℕ) (p q : Parts) → q.capacity ≡ p.capacity → q.words.volatile ≡ p.words.volatile → Spends 0 class p q
-spends_none class p q capacity same n most = (n, omega arith,
-    subst (λ k. (cs fs : List ℕ) → Follows (λ d. image_of q (link_word d)) k (head_first (head_at q class)) cs
-        → Follows (λ d. image_of q (link_word d)) k (head_first (head_at q 0)) fs → length cs + length fs + k ≤ n + image_of q used_word) (sym capacity)
-    (subst (λ (xs : List ℕ). (cs fs : List ℕ) → Follows (λ d. get_or xs (link_word d) 0) p.capacity (head_first (get_or xs (head_word class) 0)) cs
-        → Follows (λ d. get_or xs (link_word d) 0) p.capacity (head_first (get_or xs (head_word 0) 0)) fs
-        → length cs + length fs + p.capacity ≤ n + get_or xs used_word 0) (sym same) most))
+spends_none class p q capacity same n most = (
+  n,
+  omega arith,
+  subst (λ k. (cs fs : List ℕ) → Follows (λ d. image_of q (link_word d)) k (head_first (head_at q class)) cs
+      → Follows (λ d. image_of q (link_word d)) k (head_first (head_at q 0)) fs → length cs + length fs + k ≤ n + image_of q used_word) (sym capacity)
+      (subst (λ (xs : List ℕ). (cs fs : List ℕ) → Follows (λ d. get_or xs (link_word d) 0) p.capacity (head_first (get_or xs (head_word class) 0)) cs
+      → Follows (λ d. get_or xs (link_word d) 0) p.capacity (head_first (get_or xs (head_word 0) 0)) fs
+      → length cs + length fs + p.capacity ≤ n + get_or xs used_word 0) (sym same) most),
+)
 
 -- two rows of steps
 pub spends_then : (count first second class : ℕ) (p u q : Parts) → count ≤ first + second → Spends first class p u → Spends second class u q
@@ -56,11 +59,14 @@ pub spends_by : (count class : ℕ) (p q : Parts) (run : IsRunning p) (cs fs : L
     → Spends count class p q
 spends_by count class p q run cs fs is now capacity leads_class leads_free fewer n most =
     let before = most (run.shape.listed class) (run.shape.listed 0) (run.is.follows class (let last = is.last in omega arith)) (run.is.follows 0 (omega arith)) in
-    let used = now.is.used in
-    (n - count, omega arith, λ ds es is_ds is_es.
-      let of_class = long_as q class cs ds leads_class is_ds in
-      let free = long_as q 0 fs es leads_free is_es in
-      omega arith)
+    let used = now.is.used in (
+      n - count,
+      omega arith,
+      λ ds es is_ds is_es.
+          let of_class = long_as q class cs ds leads_class is_ds in
+          let free = long_as q 0 fs es leads_free is_es in
+          omega arith,
+    )
 
 -- what a block cost that was handed out after that
 pub costs_of : (class : ℕ) (some : Bool) (p q r : Parts) → some ≡ true → Stocks class some p q → q.words.drawn ≤ p.words.drawn + 10000

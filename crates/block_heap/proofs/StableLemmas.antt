@@ -1,22 +1,16 @@
 -- What an allocator stores to leaves held blocks, roots and reserved words alone, so that every image left names the held blocks.
-use Rattle.std.proofs.Common.{◌≡◌, ℕ, zero, suc, ◌+◌, ◌<◌, ◌≤◌, ◌⊎◌, inl, inr, List, ◌∷◌, Contains, refl, sym, subst, ◌∙◌, arith}
-use Rattle.std.proofs.lemmas.Bool.{cases_eq}
+use Rattle.std.proofs.Common.{◌≡◌, ℕ, ◌<◌, ◌≤◌, ◌⊎◌, inl, inr, List, Contains, refl, sym, subst, ◌∙◌, arith}
 use Rattle.heap_model.specs.declared.block.Block.{Block}
-use Rattle.heap_model.specs.Geometry.{roots, largest_capacity, root_word, info_word, used_word, capacity_word, state_word, start_word, IsReserved, in_header, in_descriptor}
-use Rattle.heap_model.specs.Image.{Image, words_from}
-use Rattle.heap_model.specs.Blocks.{Layout, layout_of, Begins, of_class, as_large, IsBlock, IsIn, AreOneOrApart}
-use Rattle.heap_model.specs.Durability.{IsTransient, is_head as head_lost, is_anchor as anchor_lost, is_link as link_lost}
+use Rattle.heap_model.specs.Geometry.{roots, largest_capacity, root_word, info_word, used_word, capacity_word, start_word, IsReserved, in_header, in_descriptor}
+use Rattle.heap_model.specs.Image.{words_from}
+use Rattle.heap_model.specs.Blocks.{IsIn}
 use Rattle.heap_model.specs.Recovered.{HasPartIn}
-use Rattle.heap_model.proofs.BlockLemmas.{never_overlap, block_words, block_inside}
-use Rattle.heap_model.proofs.MemberLemmas.{in_none, in_head, in_rest, head_or_rest}
 use Rattle.heap_model.proofs.PartLemmas.{part_taken}
-use Rattle.heap_model.proofs.PlaceLemmas.{same_there}
 use Rattle.line_memory.specs.View.{View, volatile_at, durable_at}
-use Rattle.line_memory.specs.Crash.{IsValueOf, MayStore}
+use Rattle.line_memory.specs.Crash.{MayStore}
 use Rattle.block_heap.specs.Medium.{StoresOnly}
-use Rattle.block_heap.specs.Words.{IsOwn, in_block, in_root, NamesAll}
-use Rattle.block_heap.specs.Sound.{IsPlaced}
-use Rattle.block_heap.specs.Stable.{root_below, block_more, low_layout, lies, own_where}
+use Rattle.block_heap.specs.Words.{IsOwn, in_block, in_root}
+use Rattle.block_heap.specs.Stable.{root_below, block_more, low_layout, own_where}
 use Rattle.block_heap.specs.Works.{IsAllocatorWord, is_used, is_head, is_info, is_anchor, is_link, is_inside, Works, IsStable}
 use Rattle.block_heap.proofs.MediumLemmas.{stores_then, stores_more, stores_nothing}
 

@@ -1,5 +1,5 @@
 -- What a store to an own word of a heap for one thread leaves.
-use Rattle.std.proofs.Common.{◌≡◌, ◌≢◌, ℕ, ◌+◌, ◌*◌, ◌<◌, ◌≤◌, ◌^◌, ◌⊎◌, inl, inr, Option, None, Some, Result, Ok, Err, OnOk, OnErr, IfErr, List, length, length-set, get_or, Contains, refl, ap, sym, subst, ◌∙◌, arith}
+use Rattle.std.proofs.Common.{◌≡◌, ℕ, ◌+◌, ◌*◌, ◌<◌, ◌≤◌, ◌^◌, ◌⊎◌, inl, inr, Option, None, Some, Result, Ok, Err, OnOk, OnErr, IfErr, get_or, refl, ap, sym, subst, ◌∙◌, arith}
 use Rattle.heap_model.specs.Geometry.{lists, head_word, info_word, used_word, root_word, start_word}
 use Rattle.heap_model.specs.Words.{head_pops}
 use Rattle.heap_model.specs.Image.{Image}
@@ -8,8 +8,8 @@ use Rattle.heap_shape.specs.Effects.{IsSet}
 use Rattle.heap_shape.specs.Whole.{IsShape}
 use Rattle.heap_shape.specs.Shape.{Shape}
 use Rattle.heap_shape.proofs.OwnLemmas.{store_inside, store_root}
-use Rattle.line_memory.specs.View.{View, word_count, volatile_at, durable_at, IsPending}
-use Rattle.line_memory.specs.Crash.{MayStore as MayStoreWord, IsValueOf}
+use Rattle.line_memory.specs.View.{View, word_count, volatile_at, durable_at}
+use Rattle.line_memory.specs.Crash.{MayStore as MayStoreWord}
 use Rattle.line_memory.specs.declared.memory.Stopped.{Stopped}
 use Rattle.block_heap.specs.declared.held.HeldBlocks.{HeldBlocks}
 use Rattle.block_heap.specs.Medium.{StoresOnly, Goes, Halts, IsStored}
@@ -18,8 +18,7 @@ use Rattle.block_heap.specs.Running.{IsRunning, KnowsSizes}
 use Rattle.block_heap.specs.Works.{IsLasting}
 use Rattle.block_heap.specs.Stable.{root_below, own_where}
 use Rattle.block_heap.specs.SeqState.{SeqState, IsSeqHeap, all_roots, seat_of}
-use Rattle.block_heap.specs.View.{View as SeatView}
-use Rattle.block_heap.specs.Words.{IsOwn, in_block, in_root, KeepsOwn, KeepsWord, MayStore, MayRead}
+use Rattle.block_heap.specs.Words.{IsOwn, in_block, in_root, KeepsOwn, MayStore, MayRead}
 use Rattle.block_heap.proofs.RunningLemmas.{set_is, settled_kept}
 use Rattle.block_heap.proofs.SeatLemmas.{stop_above, done_of, drew, small_lasts, small_view}
 

@@ -162,11 +162,11 @@ module _ (p : Parts) (class d : ℕ) (popped : Popped) (w : View) (look : Look) 
       taken_spends =
           let long : length (run.shape.listed class) ≡ length (d ∷ rest) = ap length listed in
           let same : volatile_at u used_word ≡ image_of p used_word =
-            take_moved.volatile used_word (λ m. moved_used p.capacity used_word m refl) in
+          take_moved.volatile used_word (λ m. moved_used p.capacity used_word m refl) in
           spends_by 1 class p taken_parts run rest (run.shape.listed 0) is taken_fills.running refl
-              (taken_list class rest below (with_at_same run.shape.listed class rest))
-              (taken_list 0 (run.shape.listed 0) (omega arith)
-              (with_at_other run.shape.listed class rest 0 (λ e. let from = is.some in omega arith))) (omega arith)
+          (taken_list class rest below (with_at_same run.shape.listed class rest))
+          (taken_list 0 (run.shape.listed 0) (omega arith)
+          (with_at_other run.shape.listed class rest 0 (λ e. let from = is.some in omega arith))) (omega arith)
 
     -- or it goes to the free list
     module _ (v : View) (push_stores : StoresOnly (IsPushWord 0 d) u v) where
@@ -314,5 +314,5 @@ module _ (p : Parts) (class d : ℕ) (popped : Popped) (w : View) (look : Look) 
             let long : length (run.shape.listed class) ≡ length (d ∷ rest) = ap length listed in
             let same : volatile_at v used_word ≡ image_of p used_word = push_moved.volatile used_word (λ m. moved_used p.capacity used_word m refl) in
             spends_by 0 class p recycled run rest (d ∷ run.shape.listed 0) is recycled_fills.running refl
-                (subst (λ (ds : List ℕ). LeadsAlong recycled class ds) now_rest (made_recycled.is.follows class below))
-                (subst (λ (ds : List ℕ). LeadsAlong recycled 0 ds) now_free (made_recycled.is.follows 0 (omega arith))) (omega arith)
+            (subst (λ (ds : List ℕ). LeadsAlong recycled class ds) now_rest (made_recycled.is.follows class below))
+            (subst (λ (ds : List ℕ). LeadsAlong recycled 0 ds) now_free (made_recycled.is.follows 0 (omega arith))) (omega arith)

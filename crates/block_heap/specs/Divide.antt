@@ -1,6 +1,6 @@
 -- How a superblock is divided into the blocks of a class.
-use Rattle.std.specs.Prelude.{◌≡◌, ℕ, ◌+◌, ◌*◌, ◌<◌, ◌≤◌, ◌⊎◌}
-use Rattle.heap_model.specs.Geometry.{start_word, info_word, anchor_word, superblock_words}
+use Rattle.std.specs.Prelude.{◌≡◌, ℕ, ◌+◌, ◌*◌, ◌<◌, ◌⊎◌}
+use Rattle.heap_model.specs.Geometry.{start_word, info_word, anchor_word}
 use Rattle.heap_model.specs.Sizes.{words_of_class, blocks_of}
 use Rattle.heap_model.specs.Words.{full_anchor}
 use Rattle.line_memory.specs.View.{View, volatile_at, durable_at}

@@ -1,10 +1,10 @@
 -- How a cache is given back to the superblocks.
-use Rattle.std.specs.Prelude.{◌≡◌, ◌≢◌, ℕ, ◌+◌, ◌<◌, ◌≤◌, List, [], ◌∷◌, ◌++◌, length, Contains}
+use Rattle.std.specs.Prelude.{◌≡◌, ◌≢◌, ℕ, ◌+◌, ◌<◌, List, [], ◌∷◌, ◌++◌, length, Contains}
 use Rattle.heap_model.specs.Sizes.{IsClass}
 use Rattle.heap_model.specs.Chains.{Walks}
 use Rattle.heap_shape.specs.Standing.{first_of, IsFirstOf}
 use Rattle.block_heap.specs.declared.small.Front.{Front}
-use Rattle.block_heap.specs.Parts.{Parts, image_of, held_in, cache_at}
+use Rattle.block_heap.specs.Parts.{Parts, image_of, cache_at}
 
 -- the cache leads along blocks of superblock d, which the batch has, and then along the rest, of which so many are left
 pub record IsFront (class : ℕ) (front : Front) (p : Parts) : Type 0 where

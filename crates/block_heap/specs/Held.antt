@@ -1,5 +1,5 @@
 -- The held blocks, as marks where they begin.
-use Rattle.std.specs.Prelude.{◌≡◌, ◌≢◌, ℕ, ◌+◌, ◌-◌, ◌*◌, ◌/◌, ◌%◌, ◌<◌, ◌≤◌, ◌⊎◌, Bool, List, map, length, slice_index, Contains}
+use Rattle.std.specs.Prelude.{◌≡◌, ℕ, ◌+◌, ◌-◌, ◌*◌, ◌/◌, ◌%◌, ◌<◌, ◌≤◌, Bool, List, map, length, slice_index}
 use Rattle.heap_model.specs.declared.block.Block.{Block}
 use Rattle.line_memory.specs.Marks.{marked_words}
 use Rattle.block_heap.specs.declared.held.HeldBlocks.{HeldBlocks}

@@ -1,7 +1,7 @@
 -- How superblocks become a large block, and when one of them is free again.
-use Rattle.std.specs.Prelude.{◌≡◌, ◌≢◌, ℕ, ◌+◌, ◌*◌, ◌<◌, ◌≤◌, Option, MatchOption, List, Contains}
+use Rattle.std.specs.Prelude.{◌≡◌, ℕ, ◌+◌, ◌*◌, ◌<◌, ◌≤◌, Option, MatchOption, List, Contains}
 use Rattle.heap_model.specs.declared.block.Block.{Block}
-use Rattle.heap_model.specs.Geometry.{used_word, info_word, link_word, superblock_words}
+use Rattle.heap_model.specs.Geometry.{used_word, info_word, superblock_words}
 use Rattle.heap_model.specs.Sizes.{IsClass}
 use Rattle.heap_shape.specs.Standing.{HasNoHeld}
 use Rattle.heap_shape.specs.Moves.{AddsTo}

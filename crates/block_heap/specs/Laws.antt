@@ -1,19 +1,17 @@
 -- The laws of a seat, of a heap for one thread: each is a fact that can be decided, so that it follows from what lasts.
-use Rattle.std.proofs.Common.{◌≡◌, ℕ, zero, suc, ◌+◌, ◌-◌, ◌*◌, ◌/◌, ◌<◌, ◌≤◌, ◌^◌, ◌⊎◌, inl, inr, Some, Contains, refl, ap, sym, subst, ◌∙◌, arith}
+use Rattle.std.proofs.Common.{◌≡◌, ℕ, zero, suc, ◌+◌, ◌-◌, ◌*◌, ◌/◌, ◌<◌, ◌≤◌, ◌^◌, ◌⊎◌, inl, inr, refl, ap, sym, subst, ◌∙◌, arith}
 use Rattle.std.proofs.lemmas.Bool.{cases_eq, cases_lt}
 use Rattle.std.proofs.Math.Logic.{∥∥₁_elim}
 use Rattle.heap_model.specs.declared.block.Block.{Block}
 use Rattle.heap_model.specs.Geometry.{start_word, fixed_words, superblock_words}
 use Rattle.heap_model.specs.Image.{Image}
 use Rattle.heap_model.specs.Sizes.{IsClass, words_of_class, blocks_of}
-use Rattle.heap_model.specs.Words.{large_info}
-use Rattle.heap_model.specs.Blocks.{Layout, layout_of, Begins, of_class, as_large, IsBlock, IsBlockOf, AreOneOrApart, Names}
+use Rattle.heap_model.specs.Blocks.{Layout, layout_of, Begins, of_class, as_large, IsBlock, AreOneOrApart}
 use Rattle.heap_model.proofs.BlockLemmas.{block_begins, block_inside, same_begins}
 use Rattle.heap_model.proofs.PartLemmas.{cases_class, same_fields}
 use Rattle.line_memory.specs.View.{volatile_at, durable_at}
-use Rattle.block_heap.specs.View.{View}
 use Rattle.block_heap.specs.Sound.{IsSeat, IsPlaced}
-use Rattle.block_heap.specs.Words.{IsOwn, MixesOwn, NamesAll, MayRead}
+use Rattle.block_heap.specs.Words.{MixesOwn, NamesAll, MayRead}
 use Rattle.block_heap.specs.Works.{IsLasting}
 use Rattle.block_heap.specs.Parts.{held_in}
 use Rattle.block_heap.specs.SeqState.{SeqState, seat_of, MayLeave}

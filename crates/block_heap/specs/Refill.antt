@@ -1,5 +1,5 @@
 -- Where the cache of a class is filled from.
-use Rattle.std.specs.Prelude.{◌≡◌, ◌≢◌, ℕ, ◌+◌, ◌<◌, ◌≤◌, ◌⊎◌, Bool, true, false, slice_set}
+use Rattle.std.specs.Prelude.{◌≡◌, ℕ, ◌+◌, ◌<◌, ◌≤◌, ◌⊎◌, Bool, true, false, slice_set}
 use Rattle.heap_model.specs.Counting.{one_if}
 use Rattle.heap_model.specs.Geometry.{used_word, start_word}
 use Rattle.heap_model.specs.Sizes.{words_of_class, blocks_of}

@@ -1,12 +1,11 @@
 -- What contracts see of a heap for one thread.
-use Rattle.std.specs.Prelude.{◌≡◌, ℕ, ◌+◌, ◌<◌, ◌≤◌, ◌⊎◌, List, Option, None, Some, slice_index_or}
+use Rattle.std.specs.Prelude.{◌≡◌, ℕ, ◌+◌, ◌≤◌, List, Option, None, Some, slice_index_or}
 use Rattle.heap_model.specs.Geometry.{roots, state_word}
 use Rattle.heap_model.specs.Image.{Image, words_from}
 use Rattle.heap_model.specs.Durability.{IsTransient}
 use Rattle.line_memory.specs.View.{volatile_at, durable_at}
 use Rattle.line_memory.specs.Crash.{IsValueOf}
 use Rattle.block_heap.specs.declared.fault.Looks.{Looks}
-use Rattle.block_heap.specs.declared.look.Look.{Look}
 use Rattle.block_heap.specs.View.{View}
 use Rattle.block_heap.specs.Parts.{Parts, held_in}
 use Rattle.block_heap.specs.Running.{IsRunning, AreShort}

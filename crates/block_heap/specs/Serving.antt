@@ -1,13 +1,11 @@
 -- What requests make of the parts of a heap.
-use Rattle.std.specs.Prelude.{◌≡◌, ◌≢◌, ℕ, ◌+◌, ◌*◌, ◌<◌, ◌≤◌, ◌⊎◌, Option, None, Some, MatchOption, Contains}
+use Rattle.std.specs.Prelude.{◌≡◌, ℕ, ◌+◌, ◌*◌, ◌<◌, ◌≤◌, ◌⊎◌, Option, MatchOption, Contains}
 use Rattle.heap_model.specs.declared.block.Block.{Block}
 use Rattle.heap_model.specs.Geometry.{used_word}
 use Rattle.heap_model.specs.Sizes.{IsLeastClassFor, largest_small, span_of, words_of_class}
-use Rattle.heap_model.specs.Words.{head_first}
-use Rattle.heap_shape.specs.Moves.{AddsTo, TakesFrom}
-use Rattle.heap_shape.specs.Draining.{IsToDrain, IsTidy, DrainsOne}
+use Rattle.heap_shape.specs.Moves.{AddsTo}
+use Rattle.heap_shape.specs.Draining.{IsToDrain, IsTidy}
 use Rattle.block_heap.specs.declared.fault.Looks.{Looks}
-use Rattle.block_heap.specs.declared.look.Look.{Look}
 use Rattle.block_heap.specs.Alloc.{IsSizeFor}
 use Rattle.block_heap.specs.Parts.{Parts, image_of, held_in, cache_at}
 use Rattle.block_heap.specs.Running.{IsRunning, AreShort}
@@ -91,6 +89,7 @@ DrainsNone class p = IsTidy p.capacity (image_of p) (held_in p) class → (b : B
 abbrev pub Costs : ℕ → Parts → Parts → Type 0
 Costs class p q = (Spends 0 class p q × (q.words.drawn ≤ p.words.drawn + 1)) ⊎ (Spends 1 class p q × (q.words.drawn ≤ p.words.drawn + 10001))
 
+-- what a drain needs of the answer
 abbrev pub DrainsAs : ℕ → Option Block → Parts → Parts → Type 0
 DrainsAs class answer p q = MatchOption answer (DrainsNone class p) (λ b. DrainsTo class b p q × Costs class p q)
 

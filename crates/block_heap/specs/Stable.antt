@@ -1,10 +1,10 @@
 -- Held blocks that are stable: where they lie, and that every image that may be left names them.
-use Rattle.std.proofs.Common.{◌≡◌, ℕ, zero, suc, ◌+◌, ◌<◌, ◌≤◌, ◌⊎◌, inl, inr, List, ◌∷◌, Contains, refl, sym, subst, ◌∙◌, arith}
+use Rattle.std.proofs.Common.{◌≡◌, ℕ, zero, suc, ◌+◌, ◌<◌, ◌≤◌, ◌⊎◌, inl, inr, List, ◌∷◌, Contains, refl, subst, ◌∙◌, arith}
 use Rattle.std.proofs.lemmas.Bool.{cases_eq}
 use Rattle.heap_model.specs.declared.block.Block.{Block}
 use Rattle.heap_model.specs.Geometry.{roots, largest_capacity, root_word, info_word, used_word, capacity_word, state_word, start_word}
 use Rattle.heap_model.specs.Image.{Image, words_from}
-use Rattle.heap_model.specs.Blocks.{Layout, layout_of, Begins, of_class, as_large, IsBlock, IsIn, AreOneOrApart}
+use Rattle.heap_model.specs.Blocks.{Layout, layout_of, Begins, of_class, as_large, IsBlock, AreOneOrApart}
 use Rattle.heap_model.specs.Durability.{IsTransient, is_head as head_lost, is_anchor as anchor_lost, is_link as link_lost}
 use Rattle.heap_model.specs.Recovered.{HasPartIn}
 use Rattle.heap_model.proofs.BlockLemmas.{never_overlap, block_words, block_inside}

@@ -1,5 +1,5 @@
 -- What the parts of a heap are after rows of steps that are done.
-use Rattle.std.specs.Prelude.{◌≡◌, ◌≢◌, ℕ, ◌+◌, ◌*◌, ◌<◌, ◌≤◌, ◌⊎◌, List, ◌∷◌, length, Option, None, Some, Contains, slice_index_or}
+use Rattle.std.specs.Prelude.{◌≡◌, ◌≢◌, ℕ, ◌+◌, ◌<◌, ◌≤◌, List, ◌∷◌, length, None, Some, Contains, slice_index_or}
 use Rattle.heap_model.specs.declared.block.Block.{Block}
 use Rattle.heap_model.specs.Geometry.{head_word, link_word, used_word}
 use Rattle.heap_model.specs.Sizes.{IsClass, words_of_class}
@@ -10,7 +10,6 @@ use Rattle.heap_shape.specs.Draining.{DrainsSame, DrainsOne}
 use Rattle.block_heap.specs.declared.look.Look.{Look}
 use Rattle.block_heap.specs.declared.refill.Found.{Found}
 use Rattle.block_heap.specs.declared.refill.Found.TheVariants.{Blocks, Recycled, Nothing}
-use Rattle.block_heap.specs.Medium.{Goes}
 use Rattle.block_heap.specs.Parts.{Parts, image_of, held_in, cache_at}
 use Rattle.block_heap.specs.Running.{IsRunning}
 

@@ -31,6 +31,3 @@ pub use look::Look;
 pub use seat::HeapSeat;
 pub use seq_heap::{DrainFault, SeqHeap};
 pub use spot::Spot;
-
-#[cfg(test)]
-mod tests;

@@ -37,6 +37,7 @@ pub trait HeapSeat {
     // What is so of a seat that gives a block to a request of so many bytes, and of one that
     // refuses it for want of room. By default nothing more than what its looks tell.
     ghost has_room: { Self → ℕ → Type 0 } = { λ _ _. ⊤ };
+
     ghost has_none: { Self → ℕ → Type 0 } = { λ _ _. ⊤ };
 
     /// A block of at least so many bytes. What its words hold is not known.

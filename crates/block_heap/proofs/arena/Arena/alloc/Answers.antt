@@ -1,7 +1,6 @@
-use Rattle.std.proofs.Common.{◌≡◌, ◌<◌, ℕ, IfOk, Option, refl, sym, subst, arith}
+use Rattle.std.proofs.Common.{◌<◌, ℕ, IfOk, refl, sym, subst, arith}
 use Rattle.std.proofs.lemmas.Result.{IfOk-weaker}
-use Rattle.heap_model.specs.declared.block.Block.{Block}
-use Rattle.heap_model.specs.Sizes.{largest_small, span_of, size_of}
+use Rattle.heap_model.specs.Sizes.{largest_small, span_of}
 use Rattle.heap_model.proofs.SizeLemmas.{few_words, size_of-words}
 use Rattle.block_heap.specs.Parts.{parts_of}
 use Rattle.block_heap.specs.Running.{IsRunning}

@@ -32,7 +32,8 @@ pub returns-clause-drains : goal.returns-clause-drains
 returns-clause-drains g c =
     let p = parts_of c.args.self.now in
     let q = parts_of c.stock.new.self in
-    let r = parts_of c.hand_out.new.self in
-    (drains_block c.args.class c.in_ok-hand_out.field-0 p q r c.stock.ensures.serves.capacity c.in_ok-stock.ensures.fills c.in_ok-hand_out.ensures.ok,
-    costs_of c.args.class c.in_ok-stock.field-0 p q r c.if-not-branch.false c.in_ok-stock.ensures.left c.in_ok-stock.ensures.steps
-    c.hand_out.ensures.serves.capacity c.in_ok-hand_out.ensures.ok.volatile c.in_ok-hand_out.ensures.goes.few)
+    let r = parts_of c.hand_out.new.self in (
+      drains_block c.args.class c.in_ok-hand_out.field-0 p q r c.stock.ensures.serves.capacity c.in_ok-stock.ensures.fills c.in_ok-hand_out.ensures.ok,
+      costs_of c.args.class c.in_ok-stock.field-0 p q r c.if-not-branch.false c.in_ok-stock.ensures.left c.in_ok-stock.ensures.steps
+          c.hand_out.ensures.serves.capacity c.in_ok-hand_out.ensures.ok.volatile c.in_ok-hand_out.ensures.goes.few,
+    )

@@ -65,12 +65,12 @@ pub returns-in_default-clause-left : goal.returns-in_default-clause-left
 returns-in_default-clause-left g c =
     let p = parts_of c.args.self.now in
     spends_none c.args.class p (emptied p c.args.class 0 c.in_ok-popped.popped (medium_view c.pop.new.self) c.by.result c.requires.running (omega arith)
-        c.in_ok-popped.ensures.ok c.pop.ensures.others c.in_default.is) refl
+    c.in_ok-popped.ensures.ok c.pop.ensures.others c.in_default.is) refl
     (popped_none p 0 c.in_ok-popped.popped (medium_view c.pop.new.self) c.requires.running (omega arith) c.in_ok-popped.ensures.ok c.pop.ensures.others
-        c.in_default.is).1
+    c.in_default.is).1
 
 pub returns-clause-left : goal.returns-clause-left
 returns-clause-left g c =
     free_spends (parts_of c.args.self.now) c.args.class c.in-Some.d c.in_ok-popped.popped (medium_view c.pop.new.self) c.by.result c.requires.running
-        c.requires.class c.in_ok-popped.ensures.ok c.pop.ensures.others c.in-Some.is
+    c.requires.class c.in_ok-popped.ensures.ok c.pop.ensures.others c.in-Some.is
     (parts_of c.cut.new.self) c.cut.ensures.others c.cut.ensures.same c.requires.empty c.in_ok-cut.ensures.ok

@@ -53,12 +53,12 @@ returns-clause-serves g c =
 pub returns-in_default-clause-left : goal.returns-in_default-clause-left
 returns-in_default-clause-left g c =
     none_spends (parts_of c.args.self.now) (medium_view c.take_fresh.new.self) c.requires.running c.take_fresh.ensures.others c.take_fresh.ensures.crash
-        c.args.class c.in_ok-fresh.fresh c.by-self.result c.in_ok-fresh.ensures.ok
+    c.args.class c.in_ok-fresh.fresh c.by-self.result c.in_ok-fresh.ensures.ok
     c.by-self.ensures.seen c.by-self.ensures.taken c.in_default.is
 
 pub returns-clause-left : goal.returns-clause-left
 returns-clause-left g c =
     fresh_spends (parts_of c.args.self.now) (medium_view c.take_fresh.new.self) c.requires.running c.take_fresh.ensures.others c.take_fresh.ensures.crash
-        c.args.class c.in_ok-fresh.fresh c.by-self.result c.in_ok-fresh.ensures.ok
+    c.args.class c.in_ok-fresh.fresh c.by-self.result c.in_ok-fresh.ensures.ok
     c.by-self.ensures.seen c.by-self.ensures.taken c.in-Some.d c.in-Some.is (parts_of c.cut.new.self) c.cut.ensures.others c.cut.ensures.same
-        c.requires.class c.requires.empty c.in_ok-cut.ensures.ok
+    c.requires.class c.requires.empty c.in_ok-cut.ensures.ok

@@ -63,10 +63,7 @@ returns-clause-serves g c =
     serves_then (parts_of c.args.self.now) (parts_of c.cut_free.new.self) (parts_of c.cut_fresh.new.self)
     (c.cut_free.ensures.held ∙ c.take_partial.ensures.held)
     (serves_then (parts_of c.args.self.now) (parts_of c.take_partial.new.self) (parts_of c.cut_free.new.self) c.take_partial.ensures.held
-<<<<<<< HEAD
     c.take_partial.ensures.serves c.cut_free.ensures.serves) c.cut_fresh.ensures.serves
-=======
-        c.take_partial.ensures.serves c.cut_free.ensures.serves) c.cut_fresh.ensures.serves
 
 pub returns-then-branch-clause-left : goal.returns-then-branch-clause-left
 returns-then-branch-clause-left g c =
@@ -90,7 +87,6 @@ returns-clause-left g c =
     let class = c.args.class in
     IfOk-weaker c.cut_fresh.result _ _
     (λ some spends. spends_then (one_if some) 0 (one_if some) class p b (parts_of c.cut_fresh.new.self) (omega arith)
-        (spends_then 0 (one_if c.in_ok-take_partial.field-0) (one_if c.in_ok-cut_free.field-0) class p a b (omega arith) c.in_ok-take_partial.ensures.left
-        c.in_ok-cut_free.ensures.left) spends)
+    (spends_then 0 (one_if c.in_ok-take_partial.field-0) (one_if c.in_ok-cut_free.field-0) class p a b (omega arith) c.in_ok-take_partial.ensures.left
+    c.in_ok-cut_free.ensures.left) spends)
     c.cut_fresh.ensures.left
->>>>>>> 721adec2cc9e89152f8d2c3944c102931e58556d

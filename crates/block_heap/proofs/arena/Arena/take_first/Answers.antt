@@ -106,20 +106,20 @@ returns-in_default-clause-left g c =
     let p = parts_of c.args.self.now in
     let below : c.args.class < lists = let last = c.requires.class.last in omega arith in
     spends_none c.args.class p (emptied p c.args.class c.args.class c.in_ok-popped.popped (medium_view c.pop.new.self) c.by.result c.requires.running below
-        c.in_ok-popped.ensures.ok c.pop.ensures.others c.in_default.is) refl
+    c.in_ok-popped.ensures.ok c.pop.ensures.others c.in_default.is) refl
     (popped_none p c.args.class c.in_ok-popped.popped (medium_view c.pop.new.self) c.requires.running below
-        c.in_ok-popped.ensures.ok c.pop.ensures.others c.in_default.is).1
+    c.in_ok-popped.ensures.ok c.pop.ensures.others c.in_default.is).1
 
 pub returns-in-Some-2-clause-left : goal.returns-in-Some-2-clause-left
 returns-in-Some-2-clause-left g c =
     taken_spends (parts_of c.args.self.now) c.args.class c.in-Some.d c.in_ok-popped.popped (medium_view c.pop.new.self) c.by.result c.requires.running
-        c.requires.class c.in_ok-popped.ensures.ok c.pop.ensures.others c.in-Some.is
+    c.requires.class c.in_ok-popped.ensures.ok c.pop.ensures.others c.in-Some.is
     (medium_view c.take_blocks.new.self) c.take_blocks.ensures.others c.in-Some-2.cache c.in_ok-cache.field-0 c.in-Some-2.is c.requires.empty
-        c.in_ok-cache.ensures.ok
+    c.in_ok-cache.ensures.ok
 
 pub returns-clause-left : goal.returns-clause-left
 returns-clause-left g c =
     recycled_spends (parts_of c.args.self.now) c.args.class c.in-Some.d c.in_ok-popped.popped (medium_view c.pop.new.self) c.by.result c.requires.running
-        c.requires.class c.in_ok-popped.ensures.ok c.pop.ensures.others c.in-Some.is
+    c.requires.class c.in_ok-popped.ensures.ok c.pop.ensures.others c.in-Some.is
     (medium_view c.take_blocks.new.self) c.take_blocks.ensures.others (medium_view c.push.new.self) c.push.ensures.others c.in_ok-cache.field-0
-        c.in_default-2.is c.in_ok-cache.ensures.ok c.in_ok-push.ensures.ok
+    c.in_default-2.is c.in_ok-cache.ensures.ok c.in_ok-push.ensures.ok

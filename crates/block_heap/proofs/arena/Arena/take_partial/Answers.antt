@@ -40,13 +40,8 @@ returns-in-Blocks-clause-serves g c =
 pub loop-preserved : goal.loop-preserved
 loop-preserved g c =
     walk_more c.args.class (parts_of c.args.self.now) (parts_of c.loop.self) (parts_of c.take_first.new.self) c.requires.class c.loop.invariant
-<<<<<<< HEAD
     c.take_first.ensures.serves c.take_first.ensures.held c.take_first.ensures.taken c.in_ok-take_first.ensures.fills c.in_ok-take_first.ensures.goes
-    c.in_ok-take_first.field-0 c.in-Recycled.is c.in_ok-take_first.ensures.ok
-=======
-        c.take_first.ensures.serves c.take_first.ensures.held c.take_first.ensures.taken c.in_ok-take_first.ensures.fills c.in_ok-take_first.ensures.goes
-        c.in_ok-take_first.field-0 c.in-Recycled.is c.in_ok-take_first.ensures.ok c.in_ok-take_first.ensures.left
->>>>>>> 721adec2cc9e89152f8d2c3944c102931e58556d
+    c.in_ok-take_first.field-0 c.in-Recycled.is c.in_ok-take_first.ensures.ok c.in_ok-take_first.ensures.left
 
 pub returns-in-Nothing-clause-fills : goal.returns-in-Nothing-clause-fills
 returns-in-Nothing-clause-fills g c =
@@ -61,20 +56,16 @@ returns-in-Nothing-clause-goes g c =
 pub returns-in-Nothing-clause-serves : goal.returns-in-Nothing-clause-serves
 returns-in-Nothing-clause-serves g c =
     walk_serves c.args.class (parts_of c.args.self.now) (parts_of c.loop.self) (parts_of c.take_first.new.self) c.requires.class c.loop.invariant
-<<<<<<< HEAD
     c.take_first.ensures.serves c.take_first.ensures.held c.take_first.ensures.taken
-=======
-        c.take_first.ensures.serves c.take_first.ensures.held c.take_first.ensures.taken
 
 pub returns-in-Blocks-clause-left : goal.returns-in-Blocks-clause-left
 returns-in-Blocks-clause-left g c =
     walk_left c.args.class (parts_of c.args.self.now) (parts_of c.loop.self) (parts_of c.take_first.new.self) c.requires.class c.loop.invariant
-        c.take_first.ensures.serves c.take_first.ensures.held c.take_first.ensures.taken 1 c.in_ok-take_first.field-0 c.in_ok-take_first.ensures.left
-        (subst (λ found. 1 ≤ used_up found) (sym c.in-Blocks.is) (omega arith))
+    c.take_first.ensures.serves c.take_first.ensures.held c.take_first.ensures.taken 1 c.in_ok-take_first.field-0 c.in_ok-take_first.ensures.left
+    (subst (λ found. 1 ≤ used_up found) (sym c.in-Blocks.is) (omega arith))
 
 pub returns-in-Nothing-clause-left : goal.returns-in-Nothing-clause-left
 returns-in-Nothing-clause-left g c =
     walk_left c.args.class (parts_of c.args.self.now) (parts_of c.loop.self) (parts_of c.take_first.new.self) c.requires.class c.loop.invariant
-        c.take_first.ensures.serves c.take_first.ensures.held c.take_first.ensures.taken 0 c.in_ok-take_first.field-0 c.in_ok-take_first.ensures.left
-        (subst (λ found. 0 ≤ used_up found) (sym c.in-Nothing.is) (omega arith))
->>>>>>> 721adec2cc9e89152f8d2c3944c102931e58556d
+    c.take_first.ensures.serves c.take_first.ensures.held c.take_first.ensures.taken 0 c.in_ok-take_first.field-0 c.in_ok-take_first.ensures.left
+    (subst (λ found. 0 ≤ used_up found) (sym c.in-Nothing.is) (omega arith))

@@ -1,5 +1,3 @@
-use Rattle.std.proofs.Common.{◌≡◌, subst, sym}
-use Rattle.block_heap.specs.SeqState.{SeqState, MayLeave}
 use Rattle.block_heap.specs.Laws.{named_law}
 use Rattle.block_heap.proofs.seq_heap.SeqHeap.finish.Goals as goal
 

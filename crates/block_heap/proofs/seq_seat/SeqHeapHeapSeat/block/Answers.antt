@@ -1,4 +1,4 @@
-use Rattle.std.proofs.Common.{◌≡◌, ℕ, ◌*◌, ◌/◌, Contains, ap, ◌∙◌, subst, sym, arith}
+use Rattle.std.proofs.Common.{◌≡◌, ◌/◌, Contains, ap, ◌∙◌, subst, sym, arith}
 use Rattle.heap_model.specs.declared.block.Block.{Block}
 use Rattle.block_heap.specs.Held.{held_of, HasMark, at_mark}
 use Rattle.block_heap.specs.Parts.{held_in}

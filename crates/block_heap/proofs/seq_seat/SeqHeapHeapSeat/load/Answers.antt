@@ -1,8 +1,6 @@
-use Rattle.std.proofs.Common.{◌≡◌, ◌<◌, ℕ, ap, ◌∙◌, subst, sym, IfOk}
-use Rattle.std.proofs.lemmas.Result.{on_ok_weaker, IfOk-weaker}
+use Rattle.std.proofs.Common.{◌<◌, ap, ◌∙◌, subst, sym, IfOk}
 use Rattle.block_heap.specs.MediumView.{medium_view}
 use Rattle.line_memory.specs.View.{word_count}
-use Rattle.block_heap.specs.Calls.{Loads}
 use Rattle.block_heap.specs.Medium.{IsLoaded}
 use Rattle.block_heap.specs.Parts.{parts_of}
 use Rattle.block_heap.specs.View.{word_of}

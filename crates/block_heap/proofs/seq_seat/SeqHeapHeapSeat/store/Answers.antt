@@ -1,4 +1,4 @@
-use Rattle.std.proofs.Common.{◌≡◌, ◌<◌, ℕ, ap, ◌∙◌, subst, sym, OnOk}
+use Rattle.std.proofs.Common.{◌≡◌, ◌<◌, ap, ◌∙◌, subst, sym, OnOk}
 use Rattle.block_heap.specs.MediumView.{medium_view}
 use Rattle.line_memory.specs.View.{word_count}
 use Rattle.line_memory.specs.Crash.{MayStore as MayStoreWord}

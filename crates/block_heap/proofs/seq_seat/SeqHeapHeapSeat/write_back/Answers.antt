@@ -1,10 +1,9 @@
-use Rattle.std.proofs.Common.{◌≡◌, ◌<◌, ℕ, ap, ◌∙◌, subst, sym, OnOk}
+use Rattle.std.proofs.Common.{◌<◌, ap, ◌∙◌, subst, sym, OnOk}
 use Rattle.std.proofs.lemmas.Result.{on_ok_weaker}
 use Rattle.block_heap.specs.MediumView.{medium_view}
 use Rattle.line_memory.specs.View.{word_count}
 use Rattle.block_heap.specs.Medium.{IsWritten}
 use Rattle.block_heap.specs.Parts.{parts_of}
-use Rattle.block_heap.specs.View.{word_of}
 use Rattle.block_heap.specs.Words.{IsOwnSpot}
 use Rattle.block_heap.specs.SeqState.{SeqState, seat_of}
 use Rattle.block_heap.proofs.SeatLemmas.{small_lasts, stop_above, quiet_heap, own_short, own_within, write_back_ok}
