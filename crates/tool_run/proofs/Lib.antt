@@ -4,6 +4,7 @@ pub mod ImageLemmas
 pub mod RecoveryLemmas
 pub mod OffsetLemmas
 pub mod DrainLemmas
+pub mod OpenedLemmas
 pub mod CallLemmas
 pub mod StatusLemmas
 pub mod OutsideLemmas

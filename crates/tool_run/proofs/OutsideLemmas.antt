@@ -50,16 +50,22 @@ refused command contents name at get_failed status (Malformed cause) named has i
     absurd (cc)
 refused command contents name at get_failed status (Outside place value) named has is why = inl is
 
+-- a command that gets such an image makes nothing
+pub none_made : (words : List (List ℕ)) (command : Command) (contents : Contents) (image : Option (List ℕ)) (text : List ℕ) → Asks words command → Makes command contents image text
+    → (name : List ℕ) (at : ℕ) → AsksToGet words name → HoldsOutside contents name at → ⊥
+none_made words command contents image text asked made name at asks has =
+    let same : asks.command ≡ command = one_command words asks.command command asks.asked asked in
+    not_made command contents name at image text (subst Gets same asks.gets) (subst (λ (c : Command). image_name c ≡ name) same asks.is_named) has made
+
 -- why a command stopped
 pub stops_outside : (words : List (List ℕ)) (command : Command) (old new : Contents) (store_failed sink_failed : Type 0) (taken taken' : Option (List ℕ)) (status : ℕ) (fault : Fault)
     → Asks words command → IsStopped command old new store_failed sink_failed taken taken' fault → status ≡ status_of fault
     → (name : List ℕ) (at : ℕ) → AsksToGet words name → HoldsOutside old name at
     → (status ≡ outside) ⊎ (status ≡ out_of_memory) ⊎ (status ≡ read_fault)
 stops_outside words command old new store_failed sink_failed taken taken' status fault asked stopped is name at asks has =
-    let same : asks.command ≡ command = one_command words asks.command command asks.asked asked in
-    let gets : Gets command = subst Gets same asks.gets in
-    let named : image_name command ≡ name = subst (λ (c : Command). image_name c ≡ name) same asks.is_named in
     elim stopped.cause as (λ _. (status ≡ outside) ⊎ (status ≡ out_of_memory) ⊎ (status ≡ read_fault)) [
-      | inl (why, untouched) ↦ refused command old name at store_failed status fault named has is why
-      | inr (image, text, made, why) ↦ absurd (not_made command old name at image text gets named has made)
+      | inl (why, untouched) ↦
+          let same : asks.command ≡ command = one_command words asks.command command asks.asked asked in
+          refused command old name at store_failed status fault (subst (λ (c : Command). image_name c ≡ name) same asks.is_named) has is why
+      | inr (image, text, made, why) ↦ absurd (none_made words command old image text asked made name at asks has)
     ]
