@@ -5,6 +5,7 @@ pub mod Begun
 pub mod Calls
 pub mod Closing
 pub mod Divide
+pub mod Examples
 pub mod Flush
 pub mod Free
 pub mod Held
