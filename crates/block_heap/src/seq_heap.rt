@@ -84,7 +84,9 @@ impl From<Stopped> for DrainFault {
 impl<C: Chance> SeqHeap<C> {
     ghost use Rattle.std.specs.Prelude.{◌≡◌, ◌+◌, ◌<◌, ◌≤◌, ◌^◌, IfOk, IfErr, None, Some};
     ghost use Rattle.line_memory.specs.ClosedWords.{volatile_words, durable_words};
+    ghost use Rattle.line_memory.specs.View.{volatile_at, durable_at};
     ghost use Rattle.line_memory.specs.declared.memory.Stopped.{Stopped};
+    ghost use Rattle.heap_model.specs.Geometry.{used_word};
     ghost use Rattle.heap_model.specs.Image.{Image};
     ghost use Rattle.heap_model.specs.Sizes.{IsClass};
     ghost use Rattle.block_heap.specs.Parts.{held_in};
@@ -117,6 +119,8 @@ impl<C: Chance> SeqHeap<C> {
     pub fn finish(self) -> Closed
         ensures volatile { volatile_words result ≡ self.parts.words.volatile }
         ensures durable { durable_words result ≡ self.parts.words.durable }
+        ensures used { volatile_at self.parts.words used_word ≤ self.parts.capacity }
+        ensures used_durable { durable_at self.parts.words used_word ≤ self.parts.capacity }
         ensures named { (image : Image) → MayLeave self image
             → NamesAll image (held_in self.parts) }
     {
