@@ -93,7 +93,7 @@ impl<C: Chance> SeqHeap<C> {
     ghost use Rattle.block_heap.specs.Requests.{IsTidyFor, Drains};
     ghost use Rattle.block_heap.specs.SeqState.{MayLeave};
     ghost use Rattle.block_heap.specs.Words.{NamesAll};
-    ghost use Rattle.block_heap.specs.Closing.{IsOpened};
+    ghost use Rattle.block_heap.specs.Closing.{IsOpened, KeepsFixed};
 
     /// Opens the heap with a budget of so many steps.
     pub fn new(alloc: Global, heap: Ready, budget: u64, chance: C) -> Result<SeqHeap<C>, AllocError>
@@ -138,6 +138,7 @@ impl<C: Chance> SeqHeap<C> {
         ensures above { IfErr result (λ fault. (e : Stopped) → fault ≡ DrainFault.Stopped e
             → self.old.stopped ≡ None → (self.old.parts.words.budget ≤ e.step)
             × (e.step < self.old.parts.words.drawn + 2 ^ 32)) }
+        ensures kept { KeepsFixed self.old self.new }
     {
         let most = self.arena.geometry.capacity() * blocks_of(class);
         let mut offsets = Vec::with_capacity(alloc, most as usize)?;
