@@ -1,5 +1,5 @@
 -- The words that every call of a heap for one thread leaves as they are.
-use Rattle.std.proofs.Common.{◌≡◌, ℕ, inl, inr, Option, List, Contains, refl, ap, sym, subst, ◌∙◌, get_or}
+use Rattle.std.proofs.Common.{◌≡◌, ℕ, inl, inr, List, refl, ap, sym, subst, ◌∙◌, get_or}
 use Rattle.std.specs.Prelude.{slice_index}
 use Rattle.heap_model.specs.declared.block.Block.{Block}
 use Rattle.heap_model.specs.Header.{capacity_of}
@@ -7,11 +7,11 @@ use Rattle.heap_shape.specs.Moves.{TakesFrom}
 use Rattle.line_memory.specs.View.{View, volatile_at, durable_at}
 use Rattle.block_heap.specs.Closing.{IsOpened, KeepsFixed}
 use Rattle.block_heap.specs.Medium.{StoresOnly}
-use Rattle.block_heap.specs.Parts.{Parts, held_in}
+use Rattle.block_heap.specs.Parts.{held_in}
 use Rattle.block_heap.specs.Running.{Serves}
 use Rattle.block_heap.specs.SeqState.{SeqState, IsSeqHeap, all_roots}
 use Rattle.block_heap.specs.Words.{IsOwn}
-use Rattle.block_heap.specs.Works.{IsAllocatorWord, IsFixed, IsStable}
+use Rattle.block_heap.specs.Works.{IsAllocatorWord, IsFixed}
 use Rattle.block_heap.proofs.StableLemmas.{not_fixed, own_not_fixed, stable_fewer}
 
 -- no call at all, and two rows of calls

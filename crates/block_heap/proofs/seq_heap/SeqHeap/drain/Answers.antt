@@ -33,10 +33,10 @@ loop-offsets-init g c = (
 
 pub loop-offsets-preserved : goal.loop-offsets-preserved
 loop-offsets-preserved g c = (
-    draining_more c.args.class c.size_of.result _ c.args.self.now c.loop-offsets.self c.request.new.self c.loop-offsets.offsets.items c.push.new.self.items
-    c.in_ok-b.field-0 c.in-Some.b c.in-Ok.ensures.items c.loop-offsets.invariant.0 c.in-Some.is c.in_ok-b.ensures.ok
-    (c.in_ok-b.ensures.drains c.args.class c.requires c.size_of.ensures) c.in_ok-b.ensures.runs c.request.ensures.counted,
-    fixed_then c.args.self.now c.loop-offsets.self c.request.new.self c.loop-offsets.invariant.1 c.request.ensures.kept,
+  draining_more c.args.class c.size_of.result _ c.args.self.now c.loop-offsets.self c.request.new.self c.loop-offsets.offsets.items c.push.new.self.items
+      c.in_ok-b.field-0 c.in-Some.b c.in-Ok.ensures.items c.loop-offsets.invariant.0 c.in-Some.is c.in_ok-b.ensures.ok
+      (c.in_ok-b.ensures.drains c.args.class c.requires c.size_of.ensures) c.in_ok-b.ensures.runs c.request.ensures.counted,
+  fixed_then c.args.self.now c.loop-offsets.self c.request.new.self c.loop-offsets.invariant.1 c.request.ensures.kept,
 )
 
 pub returns-clause-ok : goal.returns-clause-ok
