@@ -45,8 +45,8 @@ fixed_opened words held budget s t opened keeps word is = (seen, keeps.durable w
   seen = keeps.volatile word fixed ∙ was
 
 -- a call keeps them that stores to none of them
-pub fixed_by : (to : ℕ → Type 0) (s seen t : SeqState) → s ≡ seen → t.parts.capacity ≡ s.parts.capacity → StoresOnly to s.parts.words t.parts.words
-    → ((word : ℕ) → to word → IsFixed s.parts.capacity word → ⊥) → KeepsFixed seen t
+pub fixed_by : (to : ℕ → Type 0) (s seen t : SeqState) → s ≡ seen → t.parts.capacity ≡ s.parts.capacity
+    → StoresOnly to s.parts.words t.parts.words → ((word : ℕ) → to word → IsFixed s.parts.capacity word → ⊥) → KeepsFixed seen t
 fixed_by to s seen t same capacity stores none = subst (λ m. KeepsFixed m t) same (record {
   capacity = capacity;
   volatile = λ word is. stores.volatile word (λ may. none word may is);
@@ -58,23 +58,20 @@ fixed_by to s seen t same capacity stores none = subst (λ m. KeepsFixed m t) sa
       ];
 })
 
--- one that stores nothing
-pub fixed_quiet : (s seen t : SeqState) → s ≡ seen → t.parts.capacity ≡ s.parts.capacity → StoresOnly (λ _. ⊥) s.parts.words t.parts.words → KeepsFixed seen t
-fixed_quiet s seen t same capacity stores = fixed_by (λ _. ⊥) s seen t same capacity stores (λ word none is. none)
-
 -- a store to an own word
-pub fixed_store : (s seen t : SeqState) (word : ℕ) → IsSeqHeap s → s ≡ seen → t.parts.capacity ≡ s.parts.capacity → IsOwn (held_in s.parts) all_roots word
-    → StoresOnly (λ other. other ≡ word) s.parts.words t.parts.words → KeepsFixed seen t
+pub fixed_store : (s seen t : SeqState) (word : ℕ) → IsSeqHeap s → s ≡ seen → t.parts.capacity ≡ s.parts.capacity
+    → IsOwn (held_in s.parts) all_roots word → StoresOnly (λ other. other ≡ word) s.parts.words t.parts.words → KeepsFixed seen t
 fixed_store s seen t word heap same capacity own stores = fixed_by (λ other. other ≡ word) s seen t same capacity stores (λ other at is.
     own_not_fixed s.parts.capacity (held_in s.parts) s.parts.words other heap.lasts.stable (subst (IsOwn (held_in s.parts) all_roots) (sym at) own) is)
 
 -- a request, and a free
 pub fixed_request : (s seen t : SeqState) → IsSeqHeap s → s ≡ seen → Serves (held_in s.parts) s.parts t.parts → KeepsFixed seen t
-fixed_request s seen t heap same serves = fixed_by (IsAllocatorWord s.parts.capacity (held_in s.parts)) s seen t same serves.capacity serves.works.stores (λ word may is.
+fixed_request s seen t heap same serves =
+    fixed_by (IsAllocatorWord s.parts.capacity (held_in s.parts)) s seen t same serves.capacity serves.works.stores (λ word may is.
     not_fixed s.parts.capacity (held_in s.parts) s.parts.words word heap.lasts.stable may is)
 
-pub fixed_free : (s seen t : SeqState) (b : Block) → IsSeqHeap s → s ≡ seen → TakesFrom b (held_in s.parts) (held_in t.parts) → Serves (held_in t.parts) s.parts t.parts
-    → KeepsFixed seen t
+pub fixed_free : (s seen t : SeqState) (b : Block) → IsSeqHeap s → s ≡ seen → TakesFrom b (held_in s.parts) (held_in t.parts)
+    → Serves (held_in t.parts) s.parts t.parts → KeepsFixed seen t
 fixed_free s seen t b heap same takes serves =
     let stable = stable_fewer s.parts.capacity (held_in s.parts) (held_in t.parts) s.parts.words takes.only heap.lasts.stable in
     fixed_by (IsAllocatorWord s.parts.capacity (held_in t.parts)) s seen t same serves.capacity serves.works.stores (λ word may is.

@@ -14,7 +14,7 @@ pub record IsOpened (words : List ℕ) (held : List Block) (budget : ℕ) (s : S
   pub large : s.large_calls ≡ 0
   pub refusals : s.refusals ≡ 0
 
--- the first four words of the header, and those that have no meaning, stay as loads see them, and stay durable
+-- the first four words of the header, and those that have no meaning, stay as loads see them; where such a word was durable as loads see it, it still is
 pub record KeepsFixed (s t : SeqState) : Type 0 where
   pub capacity : t.parts.capacity ≡ s.parts.capacity
   pub volatile : (word : ℕ) → IsFixed s.parts.capacity word → volatile_at t.parts.words word ≡ volatile_at s.parts.words word

@@ -8,15 +8,6 @@ use Rattle.heap_shape.specs.Standing.{HasNoHeld}
 use Rattle.line_memory.specs.View.{View, volatile_at, durable_at}
 use Rattle.block_heap.specs.Medium.{StoresOnly}
 
--- a word that an allocator may store to while these blocks are held: `used`, heads and descriptors, but no info of a superblock that a held block has a part in; and words of superblocks that no held block has
-pub data IsAllocatorWord (capacity : ℕ) (held : List Block) (word : ℕ) : Type 0 where
-  is_used : word ≡ used_word → IsAllocatorWord capacity held word
-  is_head : (list : ℕ) → list < lists → word ≡ head_word list → IsAllocatorWord capacity held word
-  is_info : (d : ℕ) → d < capacity → HasNoHeld capacity held d → word ≡ info_word d → IsAllocatorWord capacity held word
-  is_anchor : (d : ℕ) → d < capacity → word ≡ anchor_word d → IsAllocatorWord capacity held word
-  is_link : (d : ℕ) → d < capacity → word ≡ link_word d → IsAllocatorWord capacity held word
-  is_inside : start_word capacity 0 ≤ word → ((b : Block) → Contains held b → IsIn b word → ⊥) → IsAllocatorWord capacity held word
-
 -- a word that neither the allocator nor its caller stores to: the first four words of the header, and those that have no meaning
 abbrev pub IsFixed : ℕ → ℕ → Type 0
 IsFixed capacity word = (word < 4) ⊎ IsReserved capacity word
@@ -25,6 +16,15 @@ IsFixed capacity word = (word < 4) ⊎ IsReserved capacity word
 pub record UsedFits (capacity : ℕ) (v : View) : Type 0 where
   pub volatile : volatile_at v used_word ≤ capacity
   pub durable : durable_at v used_word ≤ capacity
+
+-- a word that an allocator may store to while these blocks are held: `used`, heads and descriptors, but no info of a superblock that a held block has a part in; and words of superblocks that no held block has
+pub data IsAllocatorWord (capacity : ℕ) (held : List Block) (word : ℕ) : Type 0 where
+  is_used : word ≡ used_word → IsAllocatorWord capacity held word
+  is_head : (list : ℕ) → list < lists → word ≡ head_word list → IsAllocatorWord capacity held word
+  is_info : (d : ℕ) → d < capacity → HasNoHeld capacity held d → word ≡ info_word d → IsAllocatorWord capacity held word
+  is_anchor : (d : ℕ) → d < capacity → word ≡ anchor_word d → IsAllocatorWord capacity held word
+  is_link : (d : ℕ) → d < capacity → word ≡ link_word d → IsAllocatorWord capacity held word
+  is_inside : start_word capacity 0 ≤ word → ((b : Block) → Contains held b → IsIn b word → ⊥) → IsAllocatorWord capacity held word
 
 -- it stores to no other word, and `used` rises, of what loads see and of what is durable, and not past the capacity
 pub record Works (capacity : ℕ) (held : List Block) (v w : View) : Type 0 where
