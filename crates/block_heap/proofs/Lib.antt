@@ -28,3 +28,4 @@ pub mod DrainStepLemmas
 pub mod SpendLemmas
 pub mod DrawnLemmas
 pub mod ReopenLemmas
+pub mod FixedLemmas
