@@ -29,3 +29,4 @@ pub mod SpendLemmas
 pub mod DrawnLemmas
 pub mod ReopenLemmas
 pub mod FixedLemmas
+pub mod DrainKeepLemmas
