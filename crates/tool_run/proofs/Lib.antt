@@ -5,6 +5,7 @@ pub mod RecoveryLemmas
 pub mod OffsetLemmas
 pub mod DrainLemmas
 pub mod OpenedLemmas
+pub mod WordLemmas
 pub mod CallLemmas
 pub mod StatusLemmas
 pub mod OutsideLemmas

@@ -6,7 +6,7 @@ use Rattle.tool_run.specs.Command.{Command, format_image, show_image, drain_imag
 use Rattle.tool_run.specs.declared.fault.Fault.{Fault}
 use Rattle.tool_run.specs.declared.fault.Fault.TheVariants.{Usage, Memory, ReadFault, WriteFault, Absent, Malformed, Outside}
 use Rattle.tool_run.specs.Examples.{one_command}
-use Rattle.tool_run.specs.Inside.{Refuses, IsStopped, status_of}
+use Rattle.tool_run.specs.Inside.{Refuses, IsCarriedOut, IsStopped, status_of}
 use Rattle.tool_run.specs.Making.{Makes, Gets, PointsOutside, fault_of}
 use Rattle.tool_run.specs.Outcome.{AsksToGet, HoldsOutside}
 use Rattle.tool_run.specs.Status.{out_of_memory, read_fault, outside}
@@ -51,11 +51,16 @@ refused command contents name at get_failed status (Malformed cause) named has i
 refused command contents name at get_failed status (Outside place value) named has is why = inl is
 
 -- a command that gets such an image makes nothing
-pub none_made : (words : List (List ℕ)) (command : Command) (contents : Contents) (image : Option (List ℕ)) (text : List ℕ) → Asks words command → Makes command contents image text
+none_made : (words : List (List ℕ)) (command : Command) (contents : Contents) (image : Option (List ℕ)) (text : List ℕ) → Asks words command → Makes command contents image text
     → (name : List ℕ) (at : ℕ) → AsksToGet words name → HoldsOutside contents name at → ⊥
 none_made words command contents image text asked made name at asks has =
     let same : asks.command ≡ command = one_command words asks.command command asks.asked asked in
     not_made command contents name at image text (subst Gets same asks.gets) (subst (λ (c : Command). image_name c ≡ name) same asks.is_named) has made
+
+-- so it is not done
+pub not_done : (words : List (List ℕ)) (command : Command) (old new : Contents) (taken taken' : Option (List ℕ)) (status : ℕ) → Asks words command → IsCarriedOut command old new taken taken'
+    → (name : List ℕ) (at : ℕ) → AsksToGet words name → HoldsOutside old name at → (status ≡ outside) ⊎ (status ≡ out_of_memory) ⊎ (status ≡ read_fault)
+not_done words command old new taken taken' status asked done name at asks has = absurd (none_made words command old done.image done.text asked done.made name at asks has)
 
 -- why a command stopped
 pub stops_outside : (words : List (List ℕ)) (command : Command) (old new : Contents) (store_failed sink_failed : Type 0) (taken taken' : Option (List ℕ)) (status : ℕ) (fault : Fault)

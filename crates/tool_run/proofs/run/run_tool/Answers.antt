@@ -1,5 +1,5 @@
 use Rattle.tool_run.proofs.StatusLemmas.{has_status, is_read_fault, is_write_fault, is_bad_header, is_outside}
-use Rattle.tool_run.proofs.OutsideLemmas.{stops_outside, none_made}
+use Rattle.tool_run.proofs.OutsideLemmas.{stops_outside, not_done}
 use Rattle.tool_run.proofs.run.run_tool.Goals as goal
 
 pub returns-in-Err-clause-known : goal.returns-in-Err-clause-known
@@ -30,6 +30,4 @@ returns-in-Err-clause-always_outside g c =
     stops_outside _ _ _ _ _ _ _ _ _ c.in-Err.fault c.in-Some.ensures.some c.in-Err.ensures.err c.tell-in-Err.ensures.status
 
 pub returns-in-Ok-clause-always_outside : goal.returns-in-Ok-clause-always_outside
-returns-in-Ok-clause-always_outside g c name at asks has =
-    let done = c.in-Ok.ensures.ok in
-    absurd (none_made _ _ _ done.image done.text c.in-Some.ensures.some done.made name at asks has)
+returns-in-Ok-clause-always_outside g c = not_done _ _ _ _ _ _ _ c.in-Some.ensures.some c.in-Ok.ensures.ok
