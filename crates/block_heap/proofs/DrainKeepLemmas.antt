@@ -7,8 +7,7 @@ use Rattle.heap_model.proofs.MemberLemmas.{in_none, in_head, head_or_rest}
 use Rattle.heap_model.proofs.SizeLemmas.{size_of-words, few_words}
 use Rattle.line_memory.specs.View.{volatile_at}
 use Rattle.line_memory.specs.declared.memory.Stopped.{Stopped}
-use Rattle.block_heap.specs.declared.seq_heap.DrainFault.{DrainFault}
-use Rattle.block_heap.specs.declared.seq_heap.DrainFault.TheVariants.{Stopped as StoppedFault, Memory as MemoryFault}
+use Rattle.block_heap.specs.declared.seq_heap.DrainFault.TheVariants.{Stopped as StoppedFault}
 use Rattle.block_heap.specs.Alloc.{IsSizeFor, of_class, of_superblocks}
 use Rattle.block_heap.specs.Parts.{held_in}
 use Rattle.block_heap.specs.Requests.{KeepsWords, KeepsHeld, IsNewAt, HoldsDrained, StopsDrain}
@@ -18,6 +17,7 @@ use Rattle.block_heap.specs.Tickets.{Runs, Stops}
 use Rattle.block_heap.specs.Words.{IsOwn, in_block, in_root, KeepsWord, IsDurable}
 use Rattle.block_heap.proofs.AllocLemmas.{least_of_size}
 use Rattle.block_heap.proofs.CallerLemmas.{keeps_word_then, stays_durable}
+use Rattle.block_heap.proofs.DrawnLemmas.{step_of}
 
 -- more blocks have more own words
 own_more : (held more : List Block) (roots : List ℕ) (word : ℕ) → ((b : Block) → Contains held b → Contains more b) → IsOwn held roots word → IsOwn more roots word
@@ -178,16 +178,10 @@ kept_done class bytes s t u offsets answer has is answers words runs =
     let misses : Misses bytes t.parts u.parts = subst (λ (o : Option Block). Answers bytes o t.parts u.parts) is answers in
     (kept_last class s t u offsets has words misses.held, kept_all class s t u offsets has words bytes misses runs)
 
--- the ticket of a fault
-step_of : DrainFault → ℕ
-step_of (StoppedFault stopped) = stopped.step
-step_of MemoryFault = 0
-
 -- a request stopped
 pub kept_stops : (class : ℕ) (stopped e : Stopped) (s t u : SeqState) (offsets : List ℕ) → HasKept class s t offsets
     → Stops stopped.step (seat_of t) (seat_of u) → ((at : ℕ) → t.stopped ≡ Some at → u ≡ t)
     → StoppedFault stopped ≡ StoppedFault e → StopsDrain e.step s u
-unfolding step_of
 kept_stops class stopped e s t u offsets has stops idle one = subst (λ n. StopsDrain n s u) (ap step_of one) (record {
   stops = record {
     stopped = stops.stopped;
