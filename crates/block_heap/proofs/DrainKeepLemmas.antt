@@ -126,12 +126,12 @@ module _ (class : ℕ) (s t u : SeqState) (offsets : List ℕ) (has : HasKept cl
             record { block = found.block; at = found.at; size = found.size; holds = gets.adds.keeps found.block found.holds; new = found.new }
         | inr last ↦ elim (head_or_rest (8 * b.first_word) x [] last) as (λ _. IsNewAt class x s u) [
           | inl same ↦ record {
-              block = b;
-              at = sym same;
-              size = let size = class_of class bytes (8 * b.words) is at gets.size in omega arith;
-              holds = gets.adds.has;
-              new = λ holds. gets.new (has.keeps.held b holds);
-            }
+            block = b;
+            at = sym same;
+            size = let size = class_of class bytes (8 * b.words) is at gets.size in omega arith;
+            holds = gets.adds.has;
+            new = λ holds. gets.new (has.keeps.held b holds);
+          }
           | inr none ↦ absurd (in_none x none)
         ]
       ]

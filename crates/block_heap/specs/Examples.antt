@@ -233,10 +233,12 @@ module _ (s : SeqState) (one : s.parts.capacity ≡ 1) (untaken : image_of s.par
   unfolding blocks_of words_of_class class_sizes
   drains_four = record {
     sound = λ offset p.
-        let at : offset ≡ 8576 + 14336 * p.0 = sym p.2 ∙ offset_at p.0 offset p.1 in
-        (record { first_word = 1072 + 1792 * p.0; words = 1792 }, omega arith,
-        fresh _ 0 p.0 (record { some = omega arith; last = omega arith }) (omega arith) (omega arith)
-        (record { below = p.1; at = omega arith; size = refl }));
+        let at : offset ≡ 8576 + 14336 * p.0 = sym p.2 ∙ offset_at p.0 offset p.1 in (
+          record { first_word = 1072 + 1792 * p.0; words = 1792 },
+          omega arith,
+          fresh _ 0 p.0 (record { some = omega arith; last = omega arith }) (omega arith) (omega arith)
+              (record { below = p.1; at = omega arith; size = refl }),
+        );
     complete = λ b of.
         let found = given_is _ _ b one untaken of in
         (found.0, found.1, offset_at found.0 (8 * b.first_word) found.1 ∙ sym found.2);
