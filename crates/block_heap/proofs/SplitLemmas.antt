@@ -13,7 +13,7 @@ use Rattle.heap_shape.specs.Standing.{HasNoHeld, IsInLarge, IsAs}
 use Rattle.heap_shape.specs.Whole.{IsShape}
 use Rattle.heap_shape.specs.Effects.{IsSet, IsPushedOn}
 use Rattle.heap_shape.specs.Moves.{after_split, TakesFrom}
-use Rattle.heap_shape.specs.Draining.{HasUse, for_later}
+use Rattle.heap_shape.specs.Draining.{for_later}
 use Rattle.heap_shape.proofs.AccountLemmas.{free_follows, use_kept, use_without}
 use Rattle.heap_shape.proofs.BasicLemmas.{with_at_same, with_at_other, member_place}
 use Rattle.heap_shape.proofs.LargeLemmas.{large_places, drop_large, split_one}
