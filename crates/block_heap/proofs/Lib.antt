@@ -28,3 +28,4 @@ pub mod FreeCallLemmas
 pub mod DrainStepLemmas
 pub mod SpendLemmas
 pub mod DrawnLemmas
+pub mod FixedLemmas

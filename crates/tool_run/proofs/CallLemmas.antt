@@ -1,12 +1,12 @@
 -- From the contracts of the two steps of a command to the command, and to the status of the call.
-use Rattle.std.proofs.Common.{◌≡◌, ℕ, ◌≤◌, List, Option, Result, Ok, Err, IfErr, inr, subst, arith}
+use Rattle.std.proofs.Common.{◌≡◌, ℕ, ◌≤◌, List, Option, Result, Ok, Err, IfErr, inr, sym, subst, arith}
 use Rattle.tool_ports.specs.Causes.{Rose}
 use Rattle.tool_ports.specs.Contents.{Contents}
 use Rattle.tool_run.specs.Command.{Command, image_name}
 use Rattle.tool_run.specs.declared.fault.Fault.{Fault}
 use Rattle.tool_run.specs.declared.fault.Fault.TheVariants.{Usage, Memory, ReadFault, WriteFault, Absent, Malformed, Outside}
-use Rattle.tool_run.specs.Inside.{DeliveryFails, IsStopped}
-use Rattle.tool_run.specs.Making.{Makes}
+use Rattle.tool_run.specs.Inside.{DeliveryFails, IsStopped, Refuses}
+use Rattle.tool_run.specs.Making.{Makes, Gets}
 use Rattle.tool_run.specs.Outcome.{IsCutOff, while_putting, while_printing}
 
 -- a count that rose after an earlier moment rose since then, and before a later one too
@@ -53,3 +53,9 @@ stops_at_delivery command name text image old mid new first second third print_f
 pub if_error : {T E : Type 0} (P Q : E → Type 0) (result : Result T E) → IfErr result P → ((e : E) → P e → Q e) → IfErr result Q
 if_error P Q (Ok x) is next = tt
 if_error P Q (Err e) is next = next e is
+
+-- what a failed recovery is for the command that asked for it
+pub refuses : (command : Command) (name : List ℕ) (contents : Contents) (get_failed : Type 0) (fault cause : Fault) → fault ≡ cause → Gets command → image_name command ≡ name
+    → ((other : Command) → Gets other → image_name other ≡ name → Refuses other contents get_failed cause) → Refuses command contents get_failed fault
+refuses command name contents get_failed fault cause is gets named why =
+    subst (λ (f : Fault). Refuses command contents get_failed f) (sym is) (why command gets named)

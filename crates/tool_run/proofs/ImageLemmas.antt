@@ -17,16 +17,18 @@ use Rattle.heap_recover.specs.declared.answer.Was.TheVariants.{Clean, Dirty}
 use Rattle.heap_recover.specs.declared.fault.RecoverFault.{RecoverFault}
 use Rattle.heap_recover.specs.declared.fault.RecoverFault.TheVariants.{Header, Outside as OutsideFound, Memory as RecoverMemory}
 use Rattle.region_header.proofs.SameHeader.{SameHeader, same_fault}
-use Rattle.tool_ports.specs.Contents.{Contents, Holds, HoldsFirst}
+use Rattle.tool_ports.specs.Contents.{Contents, Holds, HoldsFirst, Lacks}
+use Rattle.tool_ports.specs.declared.image_store.GetFault.{GetFault}
+use Rattle.tool_ports.specs.declared.image_store.GetFault.TheVariants.{Absent as NoSuchImage, Failed as GetFailed, Memory as GetMemory}
 use Rattle.trace_text.specs.Report.{report_of}
 use Rattle.trace_text.specs.HeapMap.{map_of}
 use Rattle.trace_text.specs.Recovered.{is_clean}
 use Rattle.tool_run.specs.declared.fault.Fault.{Fault}
 use Rattle.tool_run.specs.declared.fault.Fault.TheVariants.{Malformed}
-use Rattle.tool_run.specs.Command.{show_image}
-use Rattle.tool_run.specs.Inside.{Refuses, fault_of_recovery}
-use Rattle.tool_run.specs.Making.{fault_of, Shows, IsMalformed, PointsOutside, shown_text}
-use Rattle.tool_run.specs.Recovering.{IsRecoveryOf, IsRecoveryFault, text_of}
+use Rattle.tool_run.specs.Command.{Command, image_name}
+use Rattle.tool_run.specs.Inside.{Refuses, fault_of_recovery, fault_of_get}
+use Rattle.tool_run.specs.Making.{Gets, fault_of, Shows, IsMalformed, HasOutside, PointsOutside, shown_text}
+use Rattle.tool_run.specs.Recovering.{IsRecovered, IsRecoveryOf, IsRecoveryFault, text_of}
 
 -- one more byte than the longest image has
 abbrev most : ℕ
@@ -112,18 +114,29 @@ whole_image (Some image_of) name got first good =
 pub whole_shown : (contents : Contents) (name got shown : List ℕ) → HoldsFirst contents name most got → shown ≡ got → IsWellFormed (length shown) (image_of_bytes shown) → IsWhole contents name got
 whole_shown contents name got shown first are good = whole_image contents name got first (subst (λ (l : List ℕ). IsWellFormed (length l) (image_of_bytes l)) are good)
 
--- what the tool tells of a recovery that failed
-pub is_refused : (contents : Contents) (name got shown : List ℕ) (with_map : Bool) (get_failed : Type 0) (cause : RecoverFault) (fault : Fault)
+-- what the tool tells of a recovery that failed, where a command gets the image
+pub is_refused : (contents : Contents) (name got shown : List ℕ) (get_failed : Type 0) (cause : RecoverFault) (fault : Fault)
     → fault ≡ fault_of_recovery cause → IsWhole contents name got → shown ≡ got → IsRecoveryFault (image_of_bytes shown) cause
-    → Refuses (show_image name with_map) contents get_failed fault
-is_refused contents name got shown with_map get_failed (Header cause) fault is whole are why = absurd why
-is_refused contents name got shown with_map get_failed RecoverMemory fault is whole are why =
-    subst (λ (f : Fault). Refuses (show_image name with_map) contents get_failed f) (sym is) tt
-is_refused contents name got shown with_map get_failed (OutsideFound at value) fault is whole are why =
+    → (command : Command) → Gets command → image_name command ≡ name → Refuses command contents get_failed fault
+is_refused contents name got shown get_failed (Header cause) fault is whole are why command gets named = absurd why
+is_refused contents name got shown get_failed RecoverMemory fault is whole are why command gets named =
+    subst (λ (f : Fault). Refuses command contents get_failed f) (sym is) tt
+is_refused contents name got shown get_failed (OutsideFound at value) fault is whole are why command gets named =
     let here : PointsOutside (image_of_bytes got) at = subst (λ (l : List ℕ). PointsOutside (image_of_bytes l) at) are why.0 in
     let there : value ≡ image_of_bytes got at = why.1 ∙ ap (λ (l : List ℕ). image_of_bytes l at) are in
-    subst (λ (f : Fault). Refuses (show_image name with_map) contents get_failed f) (sym is)
-    (tt, record { bytes = got; is_there = whole.is_there; good = whole.good; points = here; value_is = there })
+    let has : HasOutside contents name at value = record { bytes = got; is_there = whole.is_there; good = whole.good; points = here; value_is = there } in
+    subst (λ (f : Fault). Refuses command contents get_failed f) (sym is) (gets, subst (λ (n : List ℕ). HasOutside contents n at value) (sym named) has)
+
+-- the same of a failed get
+pub is_not_got : (contents : Contents) (name : List ℕ) (get_failed : Type 0) (cause : GetFault) (fault : Fault)
+    → fault ≡ fault_of_get cause → (cause ≡ NoSuchImage → Lacks contents name) → (cause ≡ GetFailed → get_failed)
+    → (command : Command) → Gets command → image_name command ≡ name → Refuses command contents get_failed fault
+is_not_got contents name get_failed NoSuchImage fault is lacks failed command gets named =
+    subst (λ (f : Fault). Refuses command contents get_failed f) (sym is) (gets, subst (λ (n : List ℕ). Lacks contents n) (sym named) (lacks refl))
+is_not_got contents name get_failed GetFailed fault is lacks failed command gets named =
+    subst (λ (f : Fault). Refuses command contents get_failed f) (sym is) (gets, failed refl)
+is_not_got contents name get_failed GetMemory fault is lacks failed command gets named =
+    subst (λ (f : Fault). Refuses command contents get_failed f) (sym is) tt
 
 -- a test that holds exactly where two numbers are equal
 same_test : (was : Was) (m n : ℕ) → (was ≡ Clean) ↔ (m ≡ n) → is_clean was ≡ nat_eq m n
@@ -139,29 +152,37 @@ same_text image recovered with_map is =
     ap (λ n. report_of n (is_clean recovered.was) recovered.heap.held ++ (if with_map then map_of (slice_index recovered.heap.words) recovered.heap.held recovered.free.items else [])) capacity
     ∙ ap (λ b. report_of (capacity_of image) b recovered.heap.held ++ (if with_map then map_of (slice_index recovered.heap.words) recovered.heap.held recovered.free.items else [])) state
 
--- the report on an image that was recovered
-pub shows : (contents : Contents) (name got shown text : List ℕ) (with_map : Bool) (recovered : Recovered) → IsWhole contents name got → shown ≡ got
-    → IsRecoveryOf (image_of_bytes shown) recovered → ((at : ℕ) → PointsOutside (image_of_bytes shown) at → ⊥)
-    → text ≡ text_of recovered with_map → Shows contents name with_map text
-shows contents name got shown text with_map recovered whole are is inside text_is =
-    let here : IsRecoveryOf (image_of_bytes got) recovered = subst (λ (l : List ℕ). IsRecoveryOf (image_of_bytes l) recovered) are is in
-    let clear : (at : ℕ) → PointsOutside (image_of_bytes got) at → ⊥ = subst (λ (l : List ℕ). (at : ℕ) → PointsOutside (image_of_bytes l) at → ⊥) are inside in
-    record {
-      bytes = got;
-      is_there = whole.is_there;
-      good = whole.good;
-      inside = clear;
-      held = recovered.heap.held;
-      free = recovered.free.items;
-      words = slice_index recovered.heap.words;
-      recovered = here.recovers;
-      text_is = text_is ∙ same_text (image_of_bytes got) recovered with_map here;
-    }
+-- an image that was recovered
+pub is_recovered : (contents : Contents) (name got shown : List ℕ) (recovered : Recovered) → IsWhole contents name got → shown ≡ got
+    → IsRecoveryOf (image_of_bytes shown) recovered → ((at : ℕ) → PointsOutside (image_of_bytes shown) at → ⊥) → IsRecovered contents name recovered
+is_recovered contents name got shown recovered whole are is inside = record {
+  bytes = got;
+  is_there = whole.is_there;
+  good = whole.good;
+  inside = subst (λ (l : List ℕ). (at : ℕ) → PointsOutside (image_of_bytes l) at → ⊥) are inside;
+  is = subst (λ (l : List ℕ). IsRecoveryOf (image_of_bytes l) recovered) are is;
+}
 
--- the cause of a bad header
-pub is_malformed : (contents : Contents) (name got shown : List ℕ) (with_map : Bool) (get_failed : Type 0) (cause : BadHeader) (fault : Fault) → fault ≡ Malformed cause
-    → HoldsFirst contents name most got → shown ≡ got → Some cause ≡ fault_of shown → Refuses (show_image name with_map) contents get_failed fault
-is_malformed contents name got shown with_map get_failed cause fault is first are at =
+-- the report on it
+pub shows : (contents : Contents) (name text : List ℕ) (with_map : Bool) (recovered : Recovered) → IsRecovered contents name recovered
+    → text ≡ text_of recovered with_map → Shows contents name with_map text
+shows contents name text with_map recovered is text_is = record {
+  bytes = is.bytes;
+  is_there = is.is_there;
+  good = is.good;
+  inside = is.inside;
+  held = recovered.heap.held;
+  free = recovered.free.items;
+  words = slice_index recovered.heap.words;
+  recovered = is.is.recovers;
+  text_is = text_is ∙ same_text (image_of_bytes is.bytes) recovered with_map is.is;
+}
+
+-- the cause of a bad header, where a command gets the image
+pub is_malformed : (contents : Contents) (name got shown : List ℕ) (get_failed : Type 0) (cause : BadHeader) (fault : Fault) → fault ≡ Malformed cause
+    → HoldsFirst contents name most got → shown ≡ got → Some cause ≡ fault_of shown
+    → (command : Command) → Gets command → image_name command ≡ name → Refuses command contents get_failed fault
+is_malformed contents name got shown get_failed cause fault is first are at command gets named =
     let image : IsGot contents name got = got_image contents name got first in
     let bad : IsMalformed contents name cause = record { bytes = image.bytes; held = image.held; fault = sym image.fault_is ∙ ap fault_of (sym are) ∙ sym at } in
-    subst (λ (f : Fault). Refuses (show_image name with_map) contents get_failed f) (sym is) (tt, bad)
+    subst (λ (f : Fault). Refuses command contents get_failed f) (sym is) (gets, subst (λ (n : List ℕ). IsMalformed contents n cause) (sym named) bad)

@@ -2,5 +2,10 @@ pub mod PrintLemmas
 pub mod DeliveryLemmas
 pub mod ImageLemmas
 pub mod RecoveryLemmas
+pub mod OffsetLemmas
+pub mod DrainLemmas
+pub mod OpenedLemmas
+pub mod WordLemmas
 pub mod CallLemmas
 pub mod StatusLemmas
+pub mod OutsideLemmas

@@ -3,16 +3,19 @@ use Rattle.std.specs.Prelude.{◌≡◌, ◌≢◌, ℕ, ◌<◌, ◌≤◌, Boo
 use Rattle.std.specs.declared.alloc.Global.{Global}
 use Rattle.std.specs.Str.Parse.{IsNumeral, digits_value}
 use Rattle.heap_model.specs.Geometry.{largest_capacity}
+use Rattle.heap_model.specs.Sizes.{IsClass}
 
 -- what the tool can be asked for, each with the name of an image
 pub data Command : Type 0 where
   format_image : (image : List ℕ) → (capacity : ℕ) → Command
   show_image : (image : List ℕ) → (with_map : Bool) → Command
+  drain_image : (image : List ℕ) → (class : ℕ) → Command
 
 -- the image that a command is about
 abbrev pub image_name : Command → List ℕ
 image_name (format_image image capacity) = image
 image_name (show_image image with_map) = image
+image_name (drain_image image class) = image
 
 -- the bytes of each word
 abbrev pub texts : List (String Global) → List (List ℕ)
@@ -51,10 +54,19 @@ pub record AsksToShow (words : List (List ℕ)) (image : List ℕ) (with_map : B
   pub words_are : words ≡ codes "show" ∷ image ∷ map_option with_map
   pub named : IsImageName image
 
+-- the words 'drain IMAGE CLASS'
+pub record AsksToDrain (words : List (List ℕ)) (image : List ℕ) (class : ℕ) : Type 0 where
+  pub number : List ℕ
+  pub words_are : words ≡ codes "drain" ∷ image ∷ number ∷ []
+  pub named : IsImageName image
+  pub counted : IsNumber number class
+  pub is_class : IsClass class
+
 -- the words ask for this command
 abbrev pub Asks : List (List ℕ) → Command → Type 0
 Asks words (format_image image capacity) = AsksToFormat words image capacity
 Asks words (show_image image with_map) = AsksToShow words image with_map
+Asks words (drain_image image class) = AsksToDrain words image class
 
 -- the words ask for no command
 abbrev pub IsUsage : List (List ℕ) → Type 0

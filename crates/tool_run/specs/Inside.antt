@@ -9,10 +9,10 @@ use Rattle.heap_recover.specs.declared.fault.RecoverFault.{RecoverFault}
 use Rattle.heap_recover.specs.declared.fault.RecoverFault.TheVariants.{Header, Outside as OutsideFound, Memory as RecoverMemory}
 use Rattle.tool_ports.specs.Taken.{taken_with}
 use Rattle.tool_run.specs.declared.command.Invocation.{Invocation}
-use Rattle.tool_run.specs.declared.command.Invocation.TheVariants.{Format, Show}
+use Rattle.tool_run.specs.declared.command.Invocation.TheVariants.{Format, Show, Drain}
 use Rattle.tool_run.specs.declared.fault.Fault.{Fault}
 use Rattle.tool_run.specs.declared.fault.Fault.TheVariants.{Usage, Memory, ReadFault, WriteFault, Absent, Malformed, Outside}
-use Rattle.tool_run.specs.Command.{Command, format_image, show_image, image_name}
+use Rattle.tool_run.specs.Command.{Command, format_image, show_image, drain_image, image_name}
 use Rattle.tool_run.specs.Lines.{usage_line, memory_line, read_line, write_line, no_image_line, bad_header_line, outside_line}
 use Rattle.tool_run.specs.Making.{Makes, Gets, IsMalformed, HasOutside}
 use Rattle.tool_run.specs.Outcome.{Puts, IsCutOff}
@@ -22,6 +22,7 @@ use Rattle.tool_run.specs.Status.{usage, out_of_memory, read_fault, write_fault,
 abbrev pub command_of : Invocation → Command
 command_of (Format image layout) = format_image image.now layout.capacity
 command_of (Show image with_map) = show_image image.now with_map
+command_of (Drain image class) = drain_image image.now class.number
 
 -- the status of a fault
 abbrev pub status_of : Fault → ℕ

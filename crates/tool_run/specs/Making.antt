@@ -1,19 +1,21 @@
 -- What a command is to put and to print.
 use Rattle.std.specs.Prelude.{◌≡◌, ℕ, ◌*◌, Bool, List, [], ◌++◌, length, nat_eq, if◌then◌else◌, Option, Some, None, codes, decimal, slice_index}
+use Rattle.std.specs.List.{flat_map}
 use Rattle.heap_model.specs.declared.header.BadHeader.{BadHeader}
 use Rattle.heap_model.specs.declared.block.Block.{Block}
 use Rattle.heap_model.specs.Blocks.{layout_of}
 use Rattle.heap_model.specs.Reach.{IsReached, IsOutside}
-use Rattle.heap_model.specs.Recovered.{IsFreeSuperblock, AreAscending}
+use Rattle.heap_model.specs.Recovered.{IsFreeSuperblock, IsDrained, AreAscending}
 use Rattle.heap_model.specs.Recovery.{IsRecovered}
 use Rattle.dictionary.specs.DictLinks.{dict_links, root_kinds}
 use Rattle.heap_model.specs.Geometry.{clean, image_words}
 use Rattle.heap_model.specs.Image.{Image, image_of_bytes, bytes_of_words}
+use Rattle.heap_model.specs.Sizes.{size_of}
 use Rattle.heap_model.specs.Header.{capacity_of, state_of, header_fault, empty_words}
 use Rattle.tool_ports.specs.Contents.{Contents, Holds}
 use Rattle.trace_text.specs.Report.{line_feed, report_of}
 use Rattle.trace_text.specs.HeapMap.{map_of}
-use Rattle.tool_run.specs.Command.{Command, format_image, show_image}
+use Rattle.tool_run.specs.Command.{Command, format_image, show_image, drain_image}
 
 -- what `format` prints: the capacity, and the length of the image in bytes
 abbrev pub formatted_line : ℕ → List ℕ
@@ -43,6 +45,25 @@ abbrev pub shown_text : Image → Bool → List Block → List ℕ → Image →
 shown_text image with_map held free words =
     report_of (capacity_of image) (nat_eq (state_of image) clean) held ++ (if with_map then map_of words held free else [])
 
+-- the line on a class that gives blocks at these byte offsets
+abbrev pub class_line : ℕ → List ℕ → List ℕ
+class_line class offsets = codes "class " ++ decimal class ++ codes " size " ++ decimal (size_of class)
+    ++ codes " blocks " ++ decimal (length offsets) ++ line_feed
+
+-- the line of an offset
+abbrev pub offset_line : ℕ → List ℕ
+offset_line offset = decimal offset ++ line_feed
+
+-- the line on a class, and one for each offset
+abbrev pub drained_text : ℕ → List ℕ → List ℕ
+drained_text class offsets = class_line class offsets ++ flat_map offset_line offsets
+
+-- the byte offset of a block that draining the class gives once the image is recovered
+pub record IsOffsetDrained (image : Image) (class : ℕ) (offset : ℕ) : Type 0 where
+  pub block : Block
+  pub is_drained : IsDrained (layout_of image) (IsKept image) class block
+  pub at : offset ≡ 8 * block.first_word
+
 -- an empty image, and the line that tells of it
 pub record IsFormatted (capacity : ℕ) (put : Option (List ℕ)) (text : List ℕ) : Type 0 where
   pub image_is : put ≡ Some (bytes_of_words (empty_words capacity))
@@ -59,6 +80,16 @@ pub record Shows (contents : Contents) (name : List ℕ) (with_map : Bool) (text
   pub words : Image
   pub recovered : Recovers (image_of_bytes bytes) held free words
   pub text_is : text ≡ shown_text (image_of_bytes bytes) with_map held free words
+
+-- the text on what the class gives of a named image that can be recovered
+pub record Drains (contents : Contents) (name : List ℕ) (class : ℕ) (text : List ℕ) : Type 0 where
+  pub bytes : List ℕ
+  pub is_there : Holds contents name bytes
+  pub good : fault_of bytes ≡ None
+  pub inside : (at : ℕ) → PointsOutside (image_of_bytes bytes) at → ⊥
+  pub offsets : List ℕ
+  pub drained : AreAscending (λ offset. offset) (IsOffsetDrained (image_of_bytes bytes) class) offsets
+  pub text_is : text ≡ drained_text class offsets
 
 -- the bytes of a named image, whose header has this cause first
 pub record IsMalformed (contents : Contents) (name : List ℕ) (cause : BadHeader) : Type 0 where
@@ -78,8 +109,10 @@ pub record HasOutside (contents : Contents) (name : List ℕ) (at value : ℕ) :
 abbrev pub Makes : Command → Contents → Option (List ℕ) → List ℕ → Type 0
 Makes (format_image image capacity) contents put text = IsFormatted capacity put text
 Makes (show_image image with_map) contents put text = (put ≡ None) × Shows contents image with_map text
+Makes (drain_image image class) contents put text = (put ≡ None) × Drains contents image class text
 
 -- the command gets the image that it names
 abbrev pub Gets : Command → Type 0
 Gets (format_image image capacity) = ⊥
 Gets (show_image image with_map) = Unit {0}
+Gets (drain_image image class) = Unit {0}

@@ -4,7 +4,7 @@ use Rattle.std.specs.Prelude.{◌≡◌, ℕ, List, Option, Some, None}
 use Rattle.heap_model.specs.declared.header.BadHeader.{BadHeader}
 use Rattle.tool_ports.specs.Contents.{Contents, Holds, HoldsOldOrNew, KeepsOthers, Lacks, told_of}
 use Rattle.tool_ports.specs.Taken.{taken_with, TakesPart}
-use Rattle.tool_run.specs.Command.{Command, format_image, show_image, image_name, Asks}
+use Rattle.tool_run.specs.Command.{Command, format_image, show_image, drain_image, image_name, Asks}
 use Rattle.tool_run.specs.Lines.{no_image_line, bad_header_line, outside_line}
 use Rattle.tool_run.specs.Making.{Makes, Gets, IsMalformed, HasOutside, PointsOutside, fault_of}
 use Rattle.heap_model.specs.Image.{image_of_bytes}
@@ -106,3 +106,4 @@ pub record HoldsGood (contents : Contents) (name : List ℕ) : Type 0 where
 abbrev pub CanBeDone : Command → Contents → Type 0
 CanBeDone (format_image image capacity) contents = Unit {0}
 CanBeDone (show_image image with_map) contents = HoldsGood contents image
+CanBeDone (drain_image image class) contents = HoldsGood contents image

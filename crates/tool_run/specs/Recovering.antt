@@ -1,21 +1,33 @@
--- What recovery of an image gives the tool, and the text on it.
-use Rattle.std.specs.Prelude.{◌≡◌, ◌↔◌, ℕ, Bool, List, [], ◌++◌, slice_index, if◌then◌else◌}
+-- What recovery of an image gives the tool, the text on it, and what draining a class of it gives.
+use Rattle.std.specs.Prelude.{◌≡◌, ◌≢◌, ◌↔◌, ℕ, ◌*◌, Bool, List, [], ◌++◌, None, Contains, AllPairs, slice_index, if◌then◌else◌}
+use Rattle.heap_model.specs.declared.block.Block.{Block}
 use Rattle.heap_model.specs.Geometry.{clean}
-use Rattle.heap_model.specs.Image.{Image}
+use Rattle.heap_model.specs.Image.{Image, image_of_bytes}
 use Rattle.heap_model.specs.Header.{capacity_of, state_of}
+use Rattle.heap_model.specs.Recovered.{AreAscending}
 use Rattle.heap_recover.specs.declared.answer.Recovered.{Recovered}
 use Rattle.heap_recover.specs.declared.answer.Was.TheVariants.{Clean}
 use Rattle.heap_recover.specs.declared.fault.RecoverFault.{RecoverFault}
 use Rattle.heap_recover.specs.declared.fault.RecoverFault.TheVariants.{Header, Outside, Memory}
+use Rattle.heap_shape.specs.Draining.{IsTidy, IsToDrain}
+use Rattle.tool_ports.specs.Contents.{Contents, Holds}
 use Rattle.trace_text.specs.Report.{report_of}
 use Rattle.trace_text.specs.HeapMap.{map_of}
 use Rattle.trace_text.specs.Recovered.{is_clean}
-use Rattle.tool_run.specs.Making.{Recovers, PointsOutside}
+use Rattle.tool_run.specs.Making.{Recovers, PointsOutside, fault_of, drained_text}
 
 -- the heap is what recovery of the image gives
 pub record IsRecoveryOf (image : Image) (recovered : Recovered) : Type 0 where
   pub recovers : Recovers image recovered.heap.held recovered.free.items (slice_index recovered.heap.words)
   pub was : (recovered.was ≡ Clean) ↔ (state_of image ≡ clean)
+
+-- the heap is what recovery of the image of this name gives
+pub record IsRecovered (contents : Contents) (name : List ℕ) (recovered : Recovered) : Type 0 where
+  pub bytes : List ℕ
+  pub is_there : Holds contents name bytes
+  pub good : fault_of bytes ≡ None
+  pub inside : (at : ℕ) → PointsOutside (image_of_bytes bytes) at → ⊥
+  pub is : IsRecoveryOf (image_of_bytes bytes) recovered
 
 -- why an image with a good header is not recovered
 abbrev pub IsRecoveryFault : Image → RecoverFault → Type 0
@@ -28,3 +40,29 @@ abbrev pub text_of : Recovered → Bool → List ℕ
 text_of recovered with_map =
     report_of (capacity_of (slice_index recovered.heap.words)) (is_clean recovered.was) recovered.heap.held
     ++ (if with_map then map_of (slice_index recovered.heap.words) recovered.heap.held recovered.free.items else [])
+
+-- each superblock of a heap at rest that holds no part of a held block is in its free list, or is cut for the class
+abbrev pub IsTidyAtRest : List ℕ → List Block → ℕ → Type 0
+IsTidyAtRest words held class = IsTidy (capacity_of (slice_index words)) (slice_index words) held class
+
+-- draining the class of a heap at rest gives the block
+abbrev pub IsGiven : List ℕ → List Block → ℕ → Block → Type 0
+IsGiven words held class b = IsToDrain (capacity_of (slice_index words)) (slice_index words) held class b
+
+-- the byte offset of such a block
+pub record IsOffsetGiven (words : List ℕ) (held : List Block) (class : ℕ) (offset : ℕ) : Type 0 where
+  pub block : Block
+  pub is_given : IsGiven words held class block
+  pub at : offset ≡ 8 * block.first_word
+
+-- exactly these offsets, each once
+pub record AreGiven (words : List ℕ) (held : List Block) (class : ℕ) (offsets : List ℕ) : Type 0 where
+  pub sound : (offset : ℕ) → Contains offsets offset → IsOffsetGiven words held class offset
+  pub complete : (offset : ℕ) → IsOffsetGiven words held class offset → Contains offsets offset
+  pub once : AllPairs (λ x y. x ≢ y) offsets
+
+-- the text on them, in ascending order
+pub record IsGivenText (words : List ℕ) (held : List Block) (class : ℕ) (text : List ℕ) : Type 0 where
+  pub offsets : List ℕ
+  pub given : AreAscending (λ offset. offset) (IsOffsetGiven words held class) offsets
+  pub text_is : text ≡ drained_text class offsets

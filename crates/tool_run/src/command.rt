@@ -1,16 +1,17 @@
 //! The words of the command line, read by hand.
 ghost use Rattle.std.specs.Prelude.{◌≡◌, ◌≢◌, ℕ, ◌≤◌, ◌∷◌, [], codes, IsTrue, ◌↔◌, IfSome, IfNone};
-ghost use Rattle.heap_model.specs.Geometry.{largest_capacity};
 ghost use Rattle.tool_run.specs.Command.{Asks, IsUsage, IsImageName, IsNumber, texts, image_name};
 ghost use Rattle.tool_run.specs.Inside.{command_of};
 
-use super_block::{Geometry, LARGEST_CAPACITY};
+use crate::size_class::SizeClass;
+use super_block::{Geometry, LARGEST_CAPACITY, LAST_CLASS};
 
 /// What the words ask for.
 #[derive(Clone, Copy)]
 pub enum Invocation<'a> {
     Format { image: &'a str, layout: Geometry },
     Show { image: &'a str, with_map: bool },
+    Drain { image: &'a str, class: SizeClass },
 }
 
 impl<'a> Invocation<'a> {
@@ -21,6 +22,7 @@ impl<'a> Invocation<'a> {
         match self {
             Invocation::Format { image, layout: _ } => image,
             Invocation::Show { image, with_map: _ } => image,
+            Invocation::Drain { image, class: _ } => image,
         }
     }
 }
@@ -45,6 +47,9 @@ fn parse_three<'a>(command: &str, image: &'a str, last: &str) -> Option<Invocati
     if command == "show" {
         return parse_show_map(image, last);
     }
+    if command == "drain" {
+        return parse_drain(image, last);
+    }
     parse_format(command, image, last)
 }
 
@@ -66,12 +71,27 @@ fn parse_show_map<'a>(image: &'a str, option: &str) -> Option<Invocation<'a>>
 fn parse_format<'a>(command: &str, image: &'a str, number: &str) -> Option<Invocation<'a>>
     ensures some { IfSome result
         (λ invocation. Asks (command.now ∷ image.now ∷ number.now ∷ []) (command_of invocation)) }
-    ensures none { command.now ≢ codes "show" → IfNone result (IsUsage (command.now ∷ image.now ∷ number.now ∷ [])) }
+    ensures none { command.now ≢ codes "show" → command.now ≢ codes "drain"
+        → IfNone result (IsUsage (command.now ∷ image.now ∷ number.now ∷ [])) }
 {
-    let capacity = parse_capacity(number)?;
+    let capacity = parse_number(number, LARGEST_CAPACITY)?;
     if command == "format" && is_image_name(image) {
         let layout = Geometry::new(capacity);
         Some(Invocation::Format { image, layout })
+    } else {
+        None
+    }
+}
+
+fn parse_drain<'a>(image: &'a str, number: &str) -> Option<Invocation<'a>>
+    ensures some { IfSome result
+        (λ invocation. Asks (codes "drain" ∷ image.now ∷ number.now ∷ []) (command_of invocation)) }
+    ensures none { IfNone result (IsUsage (codes "drain" ∷ image.now ∷ number.now ∷ [])) }
+{
+    let class = parse_number(number, LAST_CLASS)?;
+    if is_image_name(image) {
+        let class = SizeClass::new(class as u8);
+        Some(Invocation::Drain { image, class })
     } else {
         None
     }
@@ -101,17 +121,16 @@ fn is_image_name(word: &str) -> bool
     }
 }
 
-// The parser of std takes a plus sign too, which is no digit.
-fn parse_capacity(word: &str) -> Option<u64>
-    ensures some { IfSome result (λ n. IsNumber word.now n × (1 ≤ n) × (n ≤ largest_capacity)) }
-    ensures none { IfNone result
-        ((n : ℕ) → IsNumber word.now n → 1 ≤ n → n ≤ largest_capacity → ⊥) }
+// A number of 1 to `most`. The parser of std takes a plus sign too, which is no digit.
+fn parse_number(word: &str, most: u64) -> Option<u64>
+    ensures some { IfSome result (λ n. IsNumber word.now n × (1 ≤ n) × (n ≤ most)) }
+    ensures none { IfNone result ((n : ℕ) → IsNumber word.now n → 1 ≤ n → n ≤ most → ⊥) }
 {
     if word.as_bytes().first() == Some(&b'+') {
         return None;
     }
     match word.parse::<u64>() {
-        Ok(capacity) if 1 <= capacity && capacity <= LARGEST_CAPACITY => Some(capacity),
+        Ok(number) if 1 <= number && number <= most => Some(number),
         _ => None,
     }
 }

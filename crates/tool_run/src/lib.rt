@@ -3,9 +3,13 @@
 
 mod command;
 mod delivery;
+mod drained;
+mod draining;
 mod fault;
 mod making;
+mod recovering;
 mod run;
+mod size_class;
 mod status;
 
 pub use run::run_tool;

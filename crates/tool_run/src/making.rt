@@ -1,25 +1,21 @@
 //! What each command makes, all of it before anything is put or printed.
-ghost use Rattle.std.specs.Prelude.{◌≡◌, ◌≤◌, ℕ, length, IfOk, IfErr, OnOk};
-ghost use Rattle.heap_model.specs.Image.{image_of_bytes};
-ghost use Rattle.heap_model.specs.Header.{IsWellFormed};
+ghost use Rattle.std.specs.Prelude.{◌≡◌, ◌≤◌, IfOk, IfErr};
 ghost use Rattle.tool_ports.specs.Causes.{Rose};
 ghost use Rattle.tool_run.specs.Inside.{command_of, Refuses};
 ghost use Rattle.tool_run.specs.Command.{show_image};
-ghost use Rattle.tool_run.specs.Making.{Makes, IsFormatted, Shows, PointsOutside};
-ghost use Rattle.tool_run.specs.Recovering.{IsRecoveryOf, IsRecoveryFault, text_of};
+ghost use Rattle.tool_run.specs.Making.{Makes, IsFormatted, Shows};
+ghost use Rattle.tool_run.specs.Recovering.{text_of};
 
 use crate::command::Invocation;
+use crate::draining::drain_image;
 use crate::fault::Fault;
-use dictionary::{DictFilter, root_kinds};
-use heap_recover::{RecoverFault, Recovered, recover};
-use region_header::{Bytes, bytes_to_words, check_bytes, format, words_to_bytes};
+use crate::recovering::recover_image;
+use heap_recover::Recovered;
+use region_header::{Bytes, format, words_to_bytes};
 use std::alloc::{AllocError, Global};
-use super_block::{Geometry, LONGEST_IMAGE, WORD_BYTES};
+use super_block::{Geometry, WORD_BYTES};
 use tool_ports::ImageStore;
 use trace_text::{map_text, report_text};
-
-/// How many bytes of an image are asked for: one more than the longest image has.
-const MOST_BYTES: usize = LONGEST_IMAGE as usize + 1;
 
 /// What a command has made: the image that is to be put, if any, and the text to be printed.
 #[derive(Drop)]
@@ -44,6 +40,7 @@ pub fn make<I: ImageStore>(
     match command {
         Invocation::Format { image: _, layout } => Ok(empty_image(alloc, layout)?),
         Invocation::Show { image, with_map } => report(alloc, image, with_map, images),
+        Invocation::Drain { image, class } => drain_image(alloc, image, class, images),
     }
 }
 
@@ -77,22 +74,9 @@ fn report<I: ImageStore>(
     ensures unchanged { I.contents images.new ≡ I.contents images.old }
     ensures later { I.faults images.old ≤ I.faults images.new }
 {
-    let image = images.get(alloc, name, MOST_BYTES)?;
-    check_bytes(&image)?;
-    let recovered = recover_bytes(alloc, &image)?;
+    let recovered = recover_image(alloc, name, images)?;
     let text = recovered_text(alloc, &recovered, with_map)?;
     Ok(Product { image: None, text })
-}
-
-// Recovers an image of these bytes, whose header is good.
-fn recover_bytes(alloc: Global, bytes: &[u8]) -> Result<Recovered, RecoverFault>
-    requires { IsWellFormed (length bytes.now) (image_of_bytes bytes.now) }
-    ensures ok { IfOk result (IsRecoveryOf (image_of_bytes bytes.now)) }
-    ensures none { OnOk result ((at : ℕ) → PointsOutside (image_of_bytes bytes.now) at → ⊥) }
-    ensures err { IfErr result (IsRecoveryFault (image_of_bytes bytes.now)) }
-{
-    let words = bytes_to_words(alloc, bytes)?;
-    recover(alloc, &words, &root_kinds(), &DictFilter)
 }
 
 // The report on a recovered heap, and its map where that is asked for.

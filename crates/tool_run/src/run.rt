@@ -17,9 +17,10 @@ use std::alloc::Global;
 use tool_ports::{ImageStore, Sink};
 
 /// Does what the words ask for. They are those after the program's name: `format IMAGE S` puts an
-/// empty image of S superblocks, `show IMAGE` recovers an image and prints a report on it, and
-/// `show IMAGE --map` prints a map too. Where there is no result,
-/// a line tells why; one that the sink refuses is lost.
+/// empty image of S superblocks, `show IMAGE` recovers an image and prints a report on it,
+/// `show IMAGE --map` prints a map too, and `drain IMAGE CLASS` recovers an image and prints the
+/// offsets of the blocks that the class then gives. Where there is no result, a line tells why; one
+/// that the sink refuses is lost.
 pub fn run_tool<R, I: ImageStore, O: Sink>(
     _rt: &R,
     alloc: Global,

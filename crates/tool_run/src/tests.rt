@@ -115,6 +115,18 @@ fn words_of_another_form_are_usage(rt: HostRuntime) -> Result<(), Fail> {
         "show h --mapp",
         "show --map h",
         "show h --map 1",
+        "drain",
+        "drain h",
+        "drain h 0",
+        "drain h 21",
+        "drain h 18446744073709551617",
+        "drain h +4",
+        "drain h 4x",
+        "drain h 4 4",
+        "drain h --map",
+        "drain -h 4",
+        "drain  4",
+        "drain 4 h",
     ] {
         let (status, out) = call(alloc, line, &mut images, &[])?;
         assert_eq!(rt; status, 2, "{line}");
@@ -172,6 +184,7 @@ fn a_failing_store_is_told_and_has_the_old_bytes_or_the_new(rt: HostRuntime) -> 
     let alloc = rt.alloc();
     for (failing, line, failed_put, status, text, length) in [
         (1, "show h", FailedPut::LeavesOld, 4, "read fault\n", 3),
+        (1, "drain h 4", FailedPut::LeavesOld, 4, "read fault\n", 3),
         (1, "format h 1", FailedPut::LeavesOld, 5, "write fault\n", 3),
         (
             1,
@@ -217,6 +230,8 @@ fn a_failing_sink_is_told_behind_what_it_took(rt: HostRuntime) -> Result<(), Fai
         ("show h", 0, 1, 5, ""),
         ("show h", 1, 9, 5, "heap 1 cwrite fault\n"),
         ("show h", 2, 9, 0, "heap 1 clean\n"),
+        ("drain h 20", 0, 9, 5, "write fault\n"),
+        ("drain h 20", 3, 9, 5, "class 20 size 14336 blocwrite fault\n"),
     ] {
         let (code, out) = call(alloc, line, &mut images, &[first, second])?;
         assert_eq!(rt; code, status, "{line}, writes {first} and {second} fail");
@@ -339,4 +354,87 @@ fn superblocks_of_two_kinds_are_shown(rt: HostRuntime) -> Result<(), Fail> {
     let small = [(8, 1), (1_064, 4), (48, 0x5250_0000_0000_21c0)];
     let map = "heap 2 clean\nheld 64 1\nused 1 free 0 fresh 1\nsb 0 class 4 held 0\n";
     shows(&rt, true, &small, "show h --map", 0, map)
+}
+
+// The text on a class that gives so many blocks, one behind the other.
+fn drained_text(
+    alloc: Global,
+    class: u64,
+    size: u64,
+    first: u64,
+    count: u64,
+) -> Result<String, AllocError> {
+    let mut text = format!(in alloc; "class {class} size {size} blocks {count}\n")?;
+    let mut offset = first;
+    for _ in 0..count {
+        writeln!(text, "{offset}")?;
+        offset = offset.wrapping_add(size);
+    }
+    Ok(text)
+}
+
+#[test]
+fn what_a_class_gives_is_listed(rt: HostRuntime) -> Result<(), Fail> {
+    let alloc = rt.alloc();
+    let one_held = [(8, 1), (1_064, 4), (48, 0x5250_0000_0000_21c0)];
+    for (class, size, first, count) in [(4, 64, 8_704, 2_047), (12, 1_024, 74_176, 64)] {
+        let text = drained_text(alloc, class, size, first, count)?;
+        let line = format!(in alloc; "drain h {class}")?;
+        shows(&rt, true, &one_held, &line, 0, &text)?;
+    }
+    let all = drained_text(alloc, 1, 16, 8_640, 8_192)?;
+    shows(&rt, true, &[(3, 2)], "drain h 01", 0, &all)?;
+    let second = "class 2 size 32 blocks 0\n";
+    let large = [(8, 2), (1_064, 767), (48, 0x5250_0000_0000_21c0)];
+    shows(&rt, true, &large, "drain h 2", 0, second)
+}
+
+#[test]
+fn free_superblocks_are_cut_for_any_class(rt: HostRuntime) -> Result<(), Fail> {
+    let last = "class 20 size 14336 blocks 4\n8576\n22912\n37248\n51584\n";
+    let one_less = "class 20 size 14336 blocks 3\n8576\n37248\n51584\n";
+    let [used, info, root] = TABLE;
+    for (changes, text) in [
+        ([(3, 1); 3], last),
+        ([used, info, (3, 1)], last),
+        ([used, info, root], "class 20 size 14336 blocks 0\n"),
+        ([used, (1_064, 20), (48, 0x5250_0000_0000_5980)], one_less),
+    ] {
+        shows(&rt, false, &changes, "drain h 20", 0, text)?;
+    }
+    Ok(())
+}
+
+#[test]
+fn what_is_refused_by_show_is_refused_by_drain(rt: HostRuntime) -> Result<(), Fail> {
+    let [used, info, root] = TABLE;
+    for (changes, status, text) in [
+        ([used, info, (3, 0)], 7, "bad header state\n"),
+        (
+            [used, root, (1_064, 0)],
+            8,
+            "pointer outside at 40 value 5250000000002180\n",
+        ),
+    ] {
+        shows(&rt, false, &changes, "drain h 12", status, text)?;
+    }
+    let alloc = rt.alloc();
+    let mut images = MapStore::new(alloc, Vec::new(alloc), FailedPut::LeavesOld);
+    let (status, out) = call(alloc, "drain none.img 12", &mut images, &[])?;
+    assert_eq!(rt; status, 6);
+    assert_eq!(rt; out.bytes(), b"no image none.img\n".as_slice());
+    Ok(())
+}
+
+// Each block of a class of the largest heap.
+#[test]
+fn the_largest_heap_is_drained(rt: HostRuntime) -> Result<(), Fail> {
+    let alloc = rt.alloc();
+    let mut images = MapStore::new(alloc, Vec::new(alloc), FailedPut::LeavesOld);
+    call(alloc, "format h 256", &mut images, &[])?;
+    let (status, out) = call(alloc, "drain h 10", &mut images, &[])?;
+    let text = drained_text(alloc, 10, 512, 24_896, 32_768)?;
+    assert_eq!(rt; status, 0);
+    assert!(rt; out.bytes() == text.as_bytes());
+    Ok(())
 }

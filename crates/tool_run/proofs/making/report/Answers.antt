@@ -1,20 +1,14 @@
 use Rattle.std.proofs.Common.{refl}
-use Rattle.tool_run.proofs.ImageLemmas.{shows, is_malformed, is_refused, whole_shown}
+use Rattle.tool_run.specs.Command.{show_image}
+use Rattle.tool_run.proofs.CallLemmas.{refuses}
 use Rattle.tool_run.proofs.DeliveryLemmas.{at_cause}
+use Rattle.tool_run.proofs.ImageLemmas.{shows}
 use Rattle.tool_run.proofs.making.report.Goals as goal
-
-pub returns-in_err-check_bytes-clause-err : goal.returns-in_err-check_bytes-clause-err
-returns-in_err-check_bytes-clause-err g c =
-    at_cause _ c.from_residual-in_err-check_bytes.result c.from_residual-in_err-check_bytes.ensures
-    (λ fault is. is_malformed _ _ _ _ c.args.with_map _ _ fault is c.in_ok-image.ensures.ok c.deref.ensures.value c.in_err-check_bytes.ensures.cause)
 
 pub returns-in_err-recovered-clause-err : goal.returns-in_err-recovered-clause-err
 returns-in_err-recovered-clause-err g c =
-    let whole = whole_shown _ _ _ _ c.in_ok-image.ensures.ok c.deref.ensures.value c.in_ok-check_bytes.ensures.well_formed in
-    at_cause _ c.from_residual-in_err-recovered.result c.from_residual-in_err-recovered.ensures
-    (λ fault is. is_refused _ _ _ _ c.args.with_map _ _ fault is whole c.deref-2.ensures.value c.in_err-recovered.ensures.err)
+    at_cause _ c.from_residual.result c.from_residual.ensures
+    (λ fault is. refuses (show_image c.args.name.now c.args.with_map) _ _ _ fault _ is tt refl c.in_err-recovered.ensures.err)
 
 pub returns-clause-ok : goal.returns-clause-ok
-returns-clause-ok g c =
-    let whole = whole_shown _ _ _ _ c.in_ok-image.ensures.ok c.deref.ensures.value c.in_ok-check_bytes.ensures.well_formed in
-    (refl, shows _ _ _ _ _ _ _ whole c.deref-2.ensures.value c.in_ok-recovered.ensures.ok c.in_ok-recovered.ensures.none c.in_ok-text.ensures.ok)
+returns-clause-ok g c = (refl, shows _ _ _ _ _ c.in_ok-recovered.ensures.ok c.in_ok-text.ensures.ok)

@@ -1,4 +1,5 @@
 use Rattle.tool_run.proofs.StatusLemmas.{has_status, is_read_fault, is_write_fault, is_bad_header, is_outside}
+use Rattle.tool_run.proofs.OutsideLemmas.{stops_outside, not_done}
 use Rattle.tool_run.proofs.run.run_tool.Goals as goal
 
 pub returns-in-Err-clause-known : goal.returns-in-Err-clause-known
@@ -23,3 +24,10 @@ pub returns-in-Err-clause-outside : goal.returns-in-Err-clause-outside
 returns-in-Err-clause-outside g c =
     is_outside _ _ _ _ _ _ _ _ _ _ _ _ c.in-Some.ensures.some c.carry_out.ensures.later_sink c.tell-in-Err.ensures.later
     c.in-Err.fault _ c.in-Err.ensures.err c.tell-in-Err.ensures.status c.tell-in-Err.ensures.told
+
+pub returns-in-Err-clause-always_outside : goal.returns-in-Err-clause-always_outside
+returns-in-Err-clause-always_outside g c =
+    stops_outside _ _ _ _ _ _ _ _ _ c.in-Err.fault c.in-Some.ensures.some c.in-Err.ensures.err c.tell-in-Err.ensures.status
+
+pub returns-in-Ok-clause-always_outside : goal.returns-in-Ok-clause-always_outside
+returns-in-Ok-clause-always_outside g c = not_done _ _ _ _ _ _ _ c.in-Some.ensures.some c.in-Ok.ensures.ok

@@ -1,7 +1,7 @@
 use Rattle.std.proofs.Common.{List, ℕ, subst, sym}
 use Rattle.region_header.specs.Words.{AreWordsOf}
 use Rattle.tool_run.proofs.RecoveryLemmas.{small_kinds, recovery_of, none_outside, recovery_fault}
-use Rattle.tool_run.proofs.making.recover_bytes.Goals as goal
+use Rattle.tool_run.proofs.recovering.recover_bytes.Goals as goal
 
 pub recover-requires-clause-kinds : goal.recover-requires-clause-kinds
 recover-requires-clause-kinds c = small_kinds c.root_kinds.result c.root_kinds.ensures

@@ -1,0 +1,76 @@
+-- What a command that gets an image comes to, where the store tells that a word of it points outside.
+use Rattle.std.proofs.Common.{◌≡◌, ◌⊎◌, ℕ, List, Option, Some, None, IfSome, inl, inr, sym, subst}
+use Rattle.tool_ports.specs.Contents.{Contents, Holds, Lacks, told_of}
+use Rattle.heap_model.specs.Image.{image_of_bytes}
+use Rattle.tool_run.specs.Command.{Command, format_image, show_image, drain_image, image_name, Asks}
+use Rattle.tool_run.specs.declared.fault.Fault.{Fault}
+use Rattle.tool_run.specs.declared.fault.Fault.TheVariants.{Usage, Memory, ReadFault, WriteFault, Absent, Malformed, Outside}
+use Rattle.tool_run.specs.Examples.{one_command}
+use Rattle.tool_run.specs.Inside.{Refuses, IsCarriedOut, IsStopped, status_of}
+use Rattle.tool_run.specs.Making.{Makes, Gets, PointsOutside, fault_of}
+use Rattle.tool_run.specs.Outcome.{AsksToGet, HoldsOutside}
+use Rattle.tool_run.specs.Status.{out_of_memory, read_fault, outside}
+
+-- what holds where the store tells of a name, holds of what it tells
+of_told : (P : Option (List ℕ) → Type 0) (contents : Contents) (n name : List ℕ) (image : Option (List ℕ)) → n ≡ name
+    → IfSome (told_of contents n) P → told_of contents name ≡ Some image → P image
+of_told P contents n name image named holds told =
+    subst (λ (o : Option (Option (List ℕ))). IfSome o P) told (subst (λ (m : List ℕ). IfSome (told_of contents m) P) named holds)
+
+same_bytes : (contents : Contents) (n name a b : List ℕ) → n ≡ name → Holds contents n a → told_of contents name ≡ Some (Some b) → a ≡ b
+same_bytes contents n name a b named holds told =
+    let same : Some b ≡ Some a = of_told (λ image. image ≡ Some a) contents n name (Some b) named holds told in cc
+
+-- nothing is made then
+not_made : (command : Command) (contents : Contents) (name : List ℕ) (at : ℕ) (image : Option (List ℕ)) (text : List ℕ)
+    → Gets command → image_name command ≡ name → HoldsOutside contents name at → Makes command contents image text → ⊥
+not_made (format_image n capacity) contents name at image text gets named has made = gets
+not_made (show_image n with_map) contents name at image text gets named has made =
+    let same : made.1.bytes ≡ has.bytes = same_bytes contents n name made.1.bytes has.bytes named made.1.is_there has.held in
+    made.1.inside at (subst (λ (l : List ℕ). PointsOutside (image_of_bytes l) at) (sym same) has.points)
+not_made (drain_image n class) contents name at image text gets named has made =
+    let same : made.1.bytes ≡ has.bytes = same_bytes contents n name made.1.bytes has.bytes named made.1.is_there has.held in
+    made.1.inside at (subst (λ (l : List ℕ). PointsOutside (image_of_bytes l) at) (sym same) has.points)
+
+-- want of memory, a failed get, or that
+refused : (command : Command) (contents : Contents) (name : List ℕ) (at : ℕ) (get_failed : Type 0) (status : ℕ) (fault : Fault)
+    → image_name command ≡ name → HoldsOutside contents name at → status ≡ status_of fault → Refuses command contents get_failed fault
+    → (status ≡ outside) ⊎ (status ≡ out_of_memory) ⊎ (status ≡ read_fault)
+refused command contents name at get_failed status Usage named has is why = absurd why
+refused command contents name at get_failed status Memory named has is why = inr (inl is)
+refused command contents name at get_failed status ReadFault named has is why = inr (inr is)
+refused command contents name at get_failed status WriteFault named has is why = absurd why
+refused command contents name at get_failed status Absent named has is why =
+    let none : Some has.bytes ≡ None = of_told (λ image. image ≡ None) contents (image_name command) name (Some has.bytes) named why.1 has.held in
+    absurd (cc)
+refused command contents name at get_failed status (Malformed cause) named has is why =
+    let same : why.1.bytes ≡ has.bytes = same_bytes contents (image_name command) name why.1.bytes has.bytes named why.1.held has.held in
+    let bad : fault_of has.bytes ≡ Some cause = subst (λ (l : List ℕ). fault_of l ≡ Some cause) same why.1.fault in
+    let good : fault_of has.bytes ≡ None = has.good in
+    absurd (cc)
+refused command contents name at get_failed status (Outside place value) named has is why = inl is
+
+-- a command that gets such an image makes nothing
+none_made : (words : List (List ℕ)) (command : Command) (contents : Contents) (image : Option (List ℕ)) (text : List ℕ) → Asks words command → Makes command contents image text
+    → (name : List ℕ) (at : ℕ) → AsksToGet words name → HoldsOutside contents name at → ⊥
+none_made words command contents image text asked made name at asks has =
+    let same : asks.command ≡ command = one_command words asks.command command asks.asked asked in
+    not_made command contents name at image text (subst Gets same asks.gets) (subst (λ (c : Command). image_name c ≡ name) same asks.is_named) has made
+
+-- so it is not done
+pub not_done : (words : List (List ℕ)) (command : Command) (old new : Contents) (taken taken' : Option (List ℕ)) (status : ℕ) → Asks words command → IsCarriedOut command old new taken taken'
+    → (name : List ℕ) (at : ℕ) → AsksToGet words name → HoldsOutside old name at → (status ≡ outside) ⊎ (status ≡ out_of_memory) ⊎ (status ≡ read_fault)
+not_done words command old new taken taken' status asked done name at asks has = absurd (none_made words command old done.image done.text asked done.made name at asks has)
+
+-- why a command stopped
+pub stops_outside : (words : List (List ℕ)) (command : Command) (old new : Contents) (store_failed sink_failed : Type 0) (taken taken' : Option (List ℕ)) (status : ℕ) (fault : Fault)
+    → Asks words command → IsStopped command old new store_failed sink_failed taken taken' fault → status ≡ status_of fault
+    → (name : List ℕ) (at : ℕ) → AsksToGet words name → HoldsOutside old name at
+    → (status ≡ outside) ⊎ (status ≡ out_of_memory) ⊎ (status ≡ read_fault)
+stops_outside words command old new store_failed sink_failed taken taken' status fault asked stopped is name at asks has =
+    elim stopped.cause as (λ _. (status ≡ outside) ⊎ (status ≡ out_of_memory) ⊎ (status ≡ read_fault)) [
+      | inl (why, untouched) ↦
+          let same : asks.command ≡ command = one_command words asks.command command asks.asked asked in
+          refused command old name at store_failed status fault (subst (λ (c : Command). image_name c ≡ name) same asks.is_named) has is why
+      | inr (image, text, made, why) ↦ absurd (none_made words command old image text asked made name at asks has)
+    ]

@@ -1,0 +1,17 @@
+use Rattle.std.proofs.Common.{refl}
+use Rattle.tool_run.specs.Command.{drain_image}
+use Rattle.tool_run.proofs.CallLemmas.{refuses}
+use Rattle.tool_run.proofs.DeliveryLemmas.{at_cause}
+use Rattle.tool_run.proofs.DrainLemmas.{tidy_at_rest, drains}
+use Rattle.tool_run.proofs.draining.drain_image.Goals as goal
+
+pub heap_text-requires : goal.heap_text-requires
+heap_text-requires g c = tidy_at_rest _ _ _ c.in_ok-recovered.ensures.ok c.args.class.number
+
+pub returns-in_err-recovered-clause-err : goal.returns-in_err-recovered-clause-err
+returns-in_err-recovered-clause-err g c =
+    at_cause _ c.from_residual.result c.from_residual.ensures
+    (λ fault is. refuses (drain_image c.args.name.now c.args.class.number) _ _ _ fault _ is tt refl c.in_err-recovered.ensures.err)
+
+pub returns-clause-ok : goal.returns-clause-ok
+returns-clause-ok g c = (refl, drains _ _ _ c.in_ok-recovered.ensures.ok c.args.class.number _ c.in_ok-text.ensures)

@@ -1,0 +1,37 @@
+//! Drains a class of a recovered heap.
+ghost use Rattle.std.specs.Prelude.{◌≡◌, IfOk};
+ghost use Rattle.tool_run.specs.Recovering.{IsTidyAtRest, AreGiven};
+
+use crate::size_class::SizeClass;
+use block_heap::{Chance, DrainFault, SeqHeap};
+use std::alloc::{AllocError, Global};
+use super_block::Ready;
+
+/// The greatest budget that a heap can be opened with. Draining a class takes less.
+const BUDGET: u64 = (1 << 40) - 1;
+
+// A source of chance that always gives 0.
+#[derive(Drop)]
+struct Never;
+
+impl Chance for Never {
+    ghost draw_gives = { λ _ number _. number ≡ 0 };
+
+    fn draw(&mut self) -> u64 {
+        0
+    }
+}
+
+/// The offsets of the blocks that the class of a heap gives until nothing is left, in the order in
+/// which it gives them.
+pub fn drain_heap(alloc: Global, heap: Ready, class: SizeClass) -> Result<Vec<u64>, AllocError>
+    requires { IsTidyAtRest heap.words heap.held class.number }
+    ensures { IfOk result (λ offsets. AreGiven heap.words heap.held class.number offsets.items) }
+{
+    let mut heap = SeqHeap::new(alloc, heap, BUDGET, Never)?;
+    match heap.drain(alloc, class.number) {
+        Ok(offsets) => Ok(offsets),
+        Err(DrainFault::Memory) => Err(AllocError),
+        Err(DrainFault::Stopped(_)) => unreachable!(),
+    }
+}

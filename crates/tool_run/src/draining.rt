@@ -1,0 +1,68 @@
+//! What draining a class of an image gives, once the image is recovered.
+ghost use Rattle.std.specs.Prelude.{◌≡◌, ◌≤◌, ℕ, IfOk, IfErr};
+ghost use Rattle.tool_ports.specs.Causes.{Rose};
+ghost use Rattle.tool_run.specs.Command.{drain_image};
+ghost use Rattle.tool_run.specs.Inside.{Refuses};
+ghost use Rattle.tool_run.specs.Making.{Drains, drained_text};
+ghost use Rattle.tool_run.specs.Recovering.{IsTidyAtRest, IsGivenText};
+
+use crate::drained::drain_heap;
+use crate::fault::Fault;
+use crate::making::Product;
+use crate::recovering::recover_image;
+use crate::size_class::SizeClass;
+use heap_recover::Recovered;
+use region_header::Bytes;
+use size_table::size_of;
+use std::alloc::{AllocError, Global};
+use super_block::Ready;
+use tool_ports::ImageStore;
+
+/// The offsets of the blocks that the class of an image gives until nothing is left.
+pub fn drain_image<I: ImageStore>(
+    alloc: Global,
+    name: &str,
+    class: SizeClass,
+    images: &mut I,
+) -> Result<Product, Fault>
+    ensures ok { IfOk result (λ product. (product.image ≡ None)
+        × Drains (I.contents images.old) name.now class.number product.text) }
+    ensures err { IfErr result (λ fault. Refuses (drain_image name.now class.number)
+        (I.contents images.old) (Rose (I.faults images.old) (I.faults images.new)) fault) }
+    ensures unchanged { I.contents images.new ≡ I.contents images.old }
+    ensures later { I.faults images.old ≤ I.faults images.new }
+{
+    let recovered = recover_image(alloc, name, images)?;
+    let Recovered {
+        heap,
+        was: _,
+        free: _,
+    } = recovered;
+    let text = heap_text(alloc, heap, class)?;
+    Ok(Product { image: None, text })
+}
+
+// The text on what a heap gives.
+fn heap_text(alloc: Global, heap: Ready, class: SizeClass) -> Result<Bytes, AllocError>
+    requires { IsTidyAtRest heap.words heap.held class.number }
+    ensures { IfOk result (IsGivenText heap.words heap.held class.number) }
+{
+    let mut offsets = drain_heap(alloc, heap, class)?;
+    offsets.sort_unstable();
+    offsets_text(alloc, class, &offsets)
+}
+
+// The line on a class, and a line for each of these offsets.
+fn offsets_text(alloc: Global, class: SizeClass, offsets: &[u64]) -> Result<Bytes, AllocError>
+    ensures { IfOk result (λ text. text ≡ drained_text class.number offsets.now) }
+{
+    let number = class.number;
+    let size = size_of(number);
+    let count = offsets.len();
+    let mut text = String::new(alloc);
+    writeln!(text, "class {number} size {size} blocks {count}")?;
+    for offset in offsets {
+        writeln!(text, "{offset}")?;
+    }
+    Ok(Bytes::from_vec(text.into_bytes()))
+}

@@ -1,0 +1,50 @@
+//! Gets the image that a command names, and recovers it.
+ghost use Rattle.std.specs.Prelude.{◌≡◌, ◌≤◌, ℕ, length, IfOk, IfErr, OnOk};
+ghost use Rattle.heap_model.specs.Image.{image_of_bytes};
+ghost use Rattle.heap_model.specs.Header.{IsWellFormed};
+ghost use Rattle.tool_ports.specs.Causes.{Rose};
+ghost use Rattle.tool_run.specs.Command.{Command, image_name};
+ghost use Rattle.tool_run.specs.Inside.{Refuses};
+ghost use Rattle.tool_run.specs.Making.{Gets, PointsOutside};
+ghost use Rattle.tool_run.specs.Recovering.{IsRecovered, IsRecoveryOf, IsRecoveryFault};
+
+use crate::fault::Fault;
+use dictionary::{DictFilter, root_kinds};
+use heap_recover::{RecoverFault, Recovered, recover};
+use region_header::{bytes_to_words, check_bytes};
+use std::alloc::Global;
+use super_block::LONGEST_IMAGE;
+use tool_ports::ImageStore;
+
+/// How many bytes of an image are asked for: one more than the longest image has.
+const MOST_BYTES: usize = LONGEST_IMAGE as usize + 1;
+
+/// Recovers the image of this name.
+pub fn recover_image<I: ImageStore>(
+    alloc: Global,
+    name: &str,
+    images: &mut I,
+) -> Result<Recovered, Fault>
+    ensures ok { IfOk result (IsRecovered (I.contents images.old) name.now) }
+    ensures err { IfErr result (λ fault. (command : Command) → Gets command
+        → image_name command ≡ name.now → Refuses command (I.contents images.old)
+        (Rose (I.faults images.old) (I.faults images.new)) fault) }
+    ensures unchanged { I.contents images.new ≡ I.contents images.old }
+    ensures later { I.faults images.old ≤ I.faults images.new }
+{
+    let image = images.get(alloc, name, MOST_BYTES)?;
+    check_bytes(&image)?;
+    let recovered = recover_bytes(alloc, &image)?;
+    Ok(recovered)
+}
+
+// Recovers an image of these bytes, whose header is good.
+fn recover_bytes(alloc: Global, bytes: &[u8]) -> Result<Recovered, RecoverFault>
+    requires { IsWellFormed (length bytes.now) (image_of_bytes bytes.now) }
+    ensures ok { IfOk result (IsRecoveryOf (image_of_bytes bytes.now)) }
+    ensures none { OnOk result ((at : ℕ) → PointsOutside (image_of_bytes bytes.now) at → ⊥) }
+    ensures err { IfErr result (IsRecoveryFault (image_of_bytes bytes.now)) }
+{
+    let words = bytes_to_words(alloc, bytes)?;
+    recover(alloc, &words, &root_kinds(), &DictFilter)
+}
