@@ -1,5 +1,5 @@
 -- No superblock is lost: those of a heap at rest have a use, and keep one over each row of steps.
-use Rattle.std.proofs.Common.{◌≡◌, ◌≢◌, ℕ, ◌+◌, ◌*◌, ◌<◌, ◌⊎◌, inl, inr, List, [], ◌∷◌, Contains, sym, subst, ◌∙◌, arith}
+use Rattle.std.proofs.Common.{◌≡◌, ◌≢◌, ℕ, ◌+◌, ◌*◌, ◌<◌, ◌⊎◌, inl, inr, List, [], ◌∷◌, Contains, refl, sym, subst, ◌∙◌, arith}
 use Rattle.std.proofs.lemmas.Bool.{cases_lt}
 use Rattle.heap_model.specs.declared.block.Block.{Block}
 use Rattle.heap_model.specs.Geometry.{head_word, info_word, link_word, used_word, start_word, superblock_words}
@@ -10,11 +10,13 @@ use Rattle.heap_model.specs.Recovered.{HasPartIn}
 use Rattle.heap_model.specs.Chains.{Follows}
 use Rattle.heap_model.proofs.MemberLemmas.{in_none, in_head, head_or_rest}
 use Rattle.heap_model.proofs.PartLemmas.{cases_held}
-use Rattle.heap_shape.specs.Shape.{Shape}
+use Rattle.heap_shape.specs.Shape.{Place, in_list, is_full, in_large, is_new, Shape}
+use Rattle.heap_shape.specs.Standing.{IsAs}
 use Rattle.heap_shape.specs.Whole.{IsShape}
 use Rattle.heap_shape.specs.Effects.{IsSet}
 use Rattle.heap_shape.specs.Moves.{AddsTo, TakesFrom}
 use Rattle.heap_shape.specs.Draining.{IsInFreeList, HasUse, for_class, for_held, for_later, IsAccounted}
+use Rattle.heap_shape.proofs.BasicLemmas.{member_place}
 use Rattle.heap_shape.proofs.OwnLemmas.{one_following}
 
 -- what has its link in front of a list is on the list that the head leads along
@@ -94,3 +96,22 @@ accounted_joined capacity n d image middle new held now s t shape after listed p
     | inr fresh ↦ let below : e < d + n = omega (arith, used) in
         for_held (record { first_word = start_word capacity d; words = superblock_words * n }) adds.has (record { begins = omega arith; ends = omega arith })
   ]
+
+-- a taken superblock that is in no list and full for no class has a part of a held block
+pub lies_in_held : (capacity d : ℕ) (image : Image) (held : List Block) (s : Shape) → IsShape capacity image held s → IsAccounted capacity image held
+    → d < image used_word → ((list : ℕ) → s.place d ≡ in_list list → ⊥) → (s.place d ≡ is_full → ⊥) → (b : Block) × Contains held b × HasPartIn capacity b d
+lies_in_held capacity d image held s shape accounted taken unlisted not_full = by_use (accounted.each d taken) where
+  within : d < capacity
+  within = let most = shape.used in omega arith
+
+  no_class : (p : Place) → s.place d ≡ p → IsAs capacity image s held d p → IsClass (image (info_word d)) → ⊥
+  no_class (in_list list) at is is_class = unlisted list at
+  no_class is_full at is is_class = not_full at
+  no_class in_large at is is_class = is.no_class is_class
+  no_class is_new at is is_class = let past = is.past in omega arith
+
+  by_use : HasUse capacity image held d → (b : Block) × Contains held b × HasPartIn capacity b d
+  by_use (for_class is) = absurd (no_class (s.place d) refl (shape.places d within) is)
+  by_use (for_held b holds part) = (b, holds, part)
+  by_use (for_later in_free) =
+      absurd (unlisted 0 (member_place capacity image held s shape 0 d (omega arith) (in_free (s.listed 0) (shape.follows 0 (omega arith)))).0)
