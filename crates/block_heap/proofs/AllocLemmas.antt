@@ -220,6 +220,7 @@ pub both_ok : {T E : Type 0} (r : Result T E) (P Q : T → Type 0) (R : Type 0) 
 both_ok (Ok x) P Q R both p q = both x p q
 both_ok (Err e) P Q R both p q = p
 
+-- both hold of an answer
 pub on_ok_both : {T E : Type 0} (r : Result T E) (A B : Type 0) → OnOk r A → OnOk r B → OnOk r (A × B)
 on_ok_both (Ok t) A B a b = (a, b)
 on_ok_both (Err e) A B a b = tt

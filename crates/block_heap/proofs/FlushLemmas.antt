@@ -308,6 +308,7 @@ module _ (p : Parts) (class : ℕ) (is : IsClass class) (run : IsRunning p) (fro
     caches_now t cached start = caches_set p run class t (image_of p front.batch.last) split.0 front.rest is is_front.next
         (sym rest_long) few_rest cached start
 
+    -- infos and `used` stay, the shape is kept, and no superblock is lost
     gave_fixed : KeepsFixed p w
     gave_fixed =
         let within = is_front.within in
@@ -376,6 +377,7 @@ module _ (p : Parts) (class : ℕ) (is : IsClass class) (run : IsRunning p) (fro
           push_other l l_below other (inl at) = other (omega arith)
           push_other l l_below other (inr at) = omega arith
 
+      -- infos and `used` stay here too, and so no superblock is lost
       listed_fixed : list < lists → KeepsFixed p x
       listed_fixed below =
           let within = is_front.within in

@@ -147,6 +147,7 @@ module _ (p : Parts) (class : ℕ) (is : IsClass class) (run : IsRunning p) (b :
       abbrev t : Shape
       t = with_cache run.shape class b.first_word (b.first_word ∷ run.shape.cached class)
 
+      -- infos and `used` stay, and the shape is kept
       freed_fixed : KeepsFixed p w
       freed_fixed = keeps_fixed p w (λ word. word ≡ b.first_word) run stores stored.goes.running stored.goes.below
           (λ d d_below. not_first (info_word d) (omega arith)) (not_first used_word (omega arith))
@@ -171,6 +172,7 @@ module _ (p : Parts) (class : ℕ) (is : IsClass class) (run : IsRunning p) (b :
         | inr all ↦ absurd (let long = all.long in let few = few_words class is in omega arith)
       ]
 
+      -- so no superblock is lost
       pub freed_accounted : AreAccounted p → AreAccounted freed_parts
       freed_accounted before = accounted_without p.capacity (λ word. volatile_at w word) (held_in p) (held_of h) b taken_back still_class
           (accounted_kept p.capacity (image_of p) (λ word. volatile_at w word) (held_in p) run.shape t (held_of h) run.is freed_shape

@@ -46,6 +46,7 @@ module _ (p q : Parts) (most : ℕ) (run : IsRunning p) (loaded : HasLoaded most
   pub loaded_run : IsRunning q
   loaded_run = subst (λ x. IsRunning x) (sym loaded.same) loaded_running
 
+  -- and keep what is said of it
   pub loaded_keeps : (class : ℕ) → KeepsAll class p q
   loaded_keeps class = record {
     caches = λ c is other. ap (λ (x : Parts). cache_at x.caches c) loaded.same;

@@ -72,6 +72,7 @@ running_looked p count fresh u look run is none seen when =
       few = now.few;
     }
 
+-- and no superblock is lost
 pub looked_accounted : (p : Parts) (count : ℕ) (fresh : Fresh) (u : View) (look : Look) → IsFresh p.capacity count fresh p.words u → fresh.first ≡ None
     → AreAccounted p → AreAccounted (record p { words = u; used_look = look })
 looked_accounted p count fresh u look is none =
@@ -193,6 +194,7 @@ module _ (p : Parts) (count d : ℕ) (fresh : Fresh) (u : View) (look : Look) (r
         joined = join p.capacity count d (image_of p) (volatile_at u) (volatile_at w) (held_in p) (held_of added) run.shape run.is was_used some
             (omega (arith, got.0, got.1)) used_set info_set adds_block
 
+        -- those that were taken have parts of the block
         pub join_accounted : AreAccounted p → AreAccounted (record p { words = w; blocks = added; taken = p.taken + count; used_look = look })
         join_accounted = accounted_joined p.capacity count d (image_of p) (volatile_at u) (volatile_at w) (held_in p) (held_of added) run.shape
             (after_join run.shape d count) run.is joined.0 refl was_used used_set info_set adds_block

@@ -19,7 +19,7 @@ use Rattle.heap_shape.specs.Draining.{IsInFreeList, HasUse, for_class, for_held,
 use Rattle.heap_shape.proofs.BasicLemmas.{member_place}
 use Rattle.heap_shape.proofs.OwnLemmas.{one_following}
 
--- what has its link in front of a list is on the list that the head leads along
+-- what is in the list that the head of list 0 leads along is in the free list
 pub free_follows : (capacity e : ℕ) (image : Image) (free : List ℕ) → Follows (λ k. image (link_word k)) capacity (head_first (image (head_word 0))) free
     → Contains free e → IsInFreeList capacity image e
 free_follows capacity e image free follows p ds leads =
