@@ -1,3 +1,4 @@
+pub mod AccountLemmas
 pub mod AllocLemmas
 pub mod AnchorLemmas
 pub mod CallerLemmas

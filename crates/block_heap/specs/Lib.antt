@@ -1,3 +1,4 @@
+pub mod Accounts
 pub mod Alloc
 pub mod Anchors
 pub mod Batches
