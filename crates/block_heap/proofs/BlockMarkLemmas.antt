@@ -1,5 +1,5 @@
 -- A held block is the block of its mark.
-use Rattle.std.proofs.Common.{◌≡◌, ◌+◌, ◌*◌, Contains, ap, sym, ◌∙◌, arith, subst, length, ℕ, ◌-◌, ◌/◌, ◌<◌}
+use Rattle.std.proofs.Common.{◌≡◌, ◌+◌, ◌*◌, Contains, ap, sym, ◌∙◌, arith, subst, ℕ, ◌-◌, ◌/◌}
 use Rattle.heap_model.specs.declared.block.Block.{Block}
 use Rattle.line_memory.specs.Marks.{marked_words, IsMarked}
 use Rattle.line_memory.specs.Marked.{marked_words-has, marked_words-only, is_marked_within}

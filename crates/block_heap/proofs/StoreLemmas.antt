@@ -80,14 +80,14 @@ own_accounted p w o word value run lasts own within stored stores =
     accounted_kept p.capacity (λ at. get_or p.words.volatile at 0) (λ at. get_or w.volatile at 0) (held_in p) run.shape run.shape (held_in p) run.is
     (own_shape p.capacity word value (λ at. get_or p.words.volatile at 0) (λ at. get_or w.volatile at 0) p run.shape run.is own (set_is p.words.volatile w.volatile word value within stored.volatile))
     (stores.volatile used_word not_used) (λ d below. stores.volatile (info_word d) (not_info d below)) (λ e p. p) where
-  at : ((root_word 0 ≤ word) × (word < info_word 0)) ⊎ (start_word p.capacity 0 ≤ word)
-  at = own_where p.capacity (held_in p) p.words word lasts.stable own
+      at : ((root_word 0 ≤ word) × (word < info_word 0)) ⊎ (start_word p.capacity 0 ≤ word)
+      at = own_where p.capacity (held_in p) p.words word lasts.stable own
 
-  not_info : (d : ℕ) → d < p.capacity → info_word d ≡ word → ⊥
-  not_info d below e = elim at as (λ _. ⊥) [ inl root ↦ omega (arith, root.1) | inr inside ↦ omega arith ]
+      not_info : (d : ℕ) → d < p.capacity → info_word d ≡ word → ⊥
+      not_info d below e = elim at as (λ _. ⊥) [ inl root ↦ omega (arith, root.1) | inr inside ↦ omega arith ]
 
-  not_used : used_word ≡ word → ⊥
-  not_used e = elim at as (λ _. ⊥) [ inl root ↦ omega (arith, root.0) | inr inside ↦ omega arith ]
+      not_used : used_word ≡ word → ⊥
+      not_used e = elim at as (λ _. ⊥) [ inl root ↦ omega (arith, root.0) | inr inside ↦ omega arith ]
 
 -- a store to an own word keeps the heap
 pub store_heap : (r : Result Unit Stopped) (s : SeqState) (w : View) (o : Option ℕ) (l : ∥ IsLasting s.parts.capacity w (held_in s.parts) o ∥₁) (word value : ℕ) → IsSeqHeap s → s.stopped ≡ None

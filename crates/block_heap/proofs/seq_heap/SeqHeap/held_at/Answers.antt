@@ -1,4 +1,4 @@
-use Rattle.std.proofs.Common.{◌≡◌, ◌≢◌, ◌*◌, ◌/◌, Contains, Option, None, Some, IfNone, arith, subst, sym}
+use Rattle.std.proofs.Common.{Contains, Option, None, Some, IfNone, arith, subst, sym}
 use Rattle.heap_model.specs.declared.block.Block.{Block}
 use Rattle.block_heap.specs.Held.{held_of}
 use Rattle.block_heap.specs.Parts.{held_in}
