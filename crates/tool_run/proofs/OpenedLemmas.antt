@@ -1,12 +1,12 @@
 -- What a heap gives that was opened over a heap at rest, in words on the heap at rest.
-use Rattle.std.proofs.Common.{◌≡◌, ◌↔◌, ℕ, ◌+◌, ◌*◌, ◌^◌, ◌-◌, ◌<◌, ◌≤◌, List, Contains, slice_index, sym, ap, ◌∙◌, subst, arith}
+use Rattle.std.proofs.Common.{◌≡◌, ◌↔◌, ℕ, ◌+◌, ◌^◌, ◌-◌, ◌<◌, ◌≤◌, List, Contains, slice_index, sym, ap, ◌∙◌, subst, arith}
 use Rattle.heap_model.specs.declared.block.Block.{Block}
 use Rattle.heap_model.specs.Image.{Image}
 use Rattle.heap_model.specs.Header.{capacity_of}
 use Rattle.heap_model.specs.Blocks.{Layout}
 use Rattle.heap_model.specs.Recovered.{IsFreeSuperblock, IsDrained, beside, freed, fresh}
 use Rattle.heap_shape.specs.Whole.{layout_at}
-use Rattle.heap_shape.specs.Draining.{IsTidy, IsToDrain}
+use Rattle.heap_shape.specs.Draining.{IsTidy}
 use Rattle.line_memory.specs.View.{View, volatile_at}
 use Rattle.block_heap.specs.Closing.{IsOpened}
 use Rattle.block_heap.specs.Parts.{image_of, held_in}
@@ -47,9 +47,10 @@ module _ (words : List ℕ) (held : List Block) (budget : ℕ) (s : SeqState) (i
   given_at class b =
       let layout_is : layout_at s.parts.capacity (image_of s.parts) ≡ layout_at (capacity_of (slice_index words)) (slice_index words) =
       ap (λ n. layout_at n (image_of s.parts)) is.opens.capacity ∙ ap (λ (image : Image). layout_at (capacity_of (slice_index words)) image) image_is in
-      subst (λ (l : Layout). IsDrained l (Contains (held_in s.parts)) class b ↔ IsGiven words held class b) (sym layout_is)
-      ( same_drained (layout_at (capacity_of (slice_index words)) (slice_index words)) (Contains (held_in s.parts)) (Contains held) is.opens.same class b
-      , same_drained (layout_at (capacity_of (slice_index words)) (slice_index words)) (Contains held) (Contains (held_in s.parts)) (λ a. ((is.opens.same a).1, (is.opens.same a).0)) class b)
+      subst (λ (l : Layout). IsDrained l (Contains (held_in s.parts)) class b ↔ IsGiven words held class b) (sym layout_is) (
+        same_drained (layout_at (capacity_of (slice_index words)) (slice_index words)) (Contains (held_in s.parts)) (Contains held) is.opens.same class b,
+        same_drained (layout_at (capacity_of (slice_index words)) (slice_index words)) (Contains held) (Contains (held_in s.parts)) (λ a. ((is.opens.same a).1, (is.opens.same a).0)) class b,
+      )
 
   -- what it gives is what the heap at rest must give
   pub given_opened : (class : ℕ) (offsets : List ℕ) → Drains class offsets s → AreGiven words held class offsets

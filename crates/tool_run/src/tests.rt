@@ -231,7 +231,13 @@ fn a_failing_sink_is_told_behind_what_it_took(rt: HostRuntime) -> Result<(), Fai
         ("show h", 1, 9, 5, "heap 1 cwrite fault\n"),
         ("show h", 2, 9, 0, "heap 1 clean\n"),
         ("drain h 20", 0, 9, 5, "write fault\n"),
-        ("drain h 20", 3, 9, 5, "class 20 size 14336 blocwrite fault\n"),
+        (
+            "drain h 20",
+            3,
+            9,
+            5,
+            "class 20 size 14336 blocwrite fault\n",
+        ),
     ] {
         let (code, out) = call(alloc, line, &mut images, &[first, second])?;
         assert_eq!(rt; code, status, "{line}, writes {first} and {second} fail");
