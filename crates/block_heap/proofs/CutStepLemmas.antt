@@ -34,7 +34,7 @@ use Rattle.block_heap.specs.Parts.{Parts, image_of, held_in, cache_at}
 use Rattle.block_heap.specs.Refill.{SameBut, Cuts}
 use Rattle.block_heap.specs.Running.{IsRunning, IsCacheOf, KnowsSizes, IsSettled, Serves}
 use Rattle.block_heap.specs.Steps.{head_at, IsEmptyList, LeadsAlong, Fills, Spends}
-use Rattle.block_heap.specs.Works.{Works, IsAllocatorWord, is_info, is_anchor, is_inside}
+use Rattle.block_heap.specs.Works.{UsedFits, Works, IsAllocatorWord, is_info, is_anchor, is_inside}
 use Rattle.block_heap.proofs.HeldLemmas.{has_map}
 use Rattle.block_heap.proofs.MediumLemmas.{stores_then, stores_more}
 use Rattle.block_heap.proofs.RunningLemmas.{set_is, settled_kept, running_words}
@@ -302,9 +302,9 @@ module _ (p : Parts) (class d : ℕ) (popped : Popped) (w : View) (look : Look) 
 
 -- one that was never taken
 module _ (p : Parts) (w : View) (run : IsRunning p) (stores : StoresOnly (λ word. word ≡ used_word) p.words w)
-    (crash : MayStore used_word (image_of p used_word + 1) p.words w) where
+    (crash : MayStore used_word (image_of p used_word + 1) p.words w) (fits : UsedFits p.capacity p.words → UsedFits p.capacity w) where
   raised : Works p.capacity (held_in p) p.words w
-  raised = works_raised p.capacity (held_in p) (image_of p used_word + 1) p.words w stores crash run.settled.used (omega arith)
+  raised = works_raised p.capacity (held_in p) (image_of p used_word + 1) p.words w stores crash run.settled.used (omega arith) fits
 
   -- it may stop within
   pub fresh_stops : Serves (held_in p) p (record p { words = w })

@@ -25,7 +25,7 @@ use Rattle.block_heap.specs.Links.{IsFresh}
 use Rattle.block_heap.specs.Medium.{StoresOnly, IsPersisted}
 use Rattle.block_heap.specs.Parts.{Parts, image_of, held_in}
 use Rattle.block_heap.specs.Running.{IsRunning, IsSettled, Serves}
-use Rattle.block_heap.specs.Works.{is_info}
+use Rattle.block_heap.specs.Works.{UsedFits, is_info}
 use Rattle.block_heap.proofs.RunningLemmas.{set_is, running_words}
 use Rattle.block_heap.proofs.HeldLemmas.{has_map}
 use Rattle.block_heap.proofs.StableLemmas.{works_of, works_then, works_raised}
@@ -126,7 +126,7 @@ module _ (p : Parts) (count d : ℕ) (fresh : Fresh) (u : View) (look : Look) (r
     fresh_unmarked mark marked = no_mark_past p d mark run (let e = was_used in omega arith) marked
 
     module _ (w : View) (some : 1 ≤ count) (stores : StoresOnly (λ word. word ≡ used_word) p.words u) (may : MayStore used_word (image_of p used_word + count) p.words u)
-        (seen : look.seen ≡ fresh.used) (when : look.taken ≡ p.taken) (info_stores : StoresOnly (λ word. word ≡ info_word d) u w) where
+        (fits : UsedFits p.capacity p.words → UsedFits p.capacity u) (seen : look.seen ≡ fresh.used) (when : look.taken ≡ p.taken) (info_stores : StoresOnly (λ word. word ≡ info_word d) u w) where
       raised : volatile_at u used_word ≡ d + count
       raised =
           let inside : used_word < word_count p.words = let long = run.words_open.long in omega arith in
@@ -137,7 +137,7 @@ module _ (p : Parts) (count d : ℕ) (fresh : Fresh) (u : View) (look : Look) (r
       join_serves blocks = record {
         capacity = refl;
         works = works_then p.capacity (held_in p) p.words u w
-            (works_raised p.capacity (held_in p) (image_of p used_word + count) p.words u stores may run.settled.used (omega arith))
+            (works_raised p.capacity (held_in p) (image_of p used_word + count) p.words u stores may run.settled.used (omega arith) fits)
             (works_of p.capacity (held_in p) (λ word. word ≡ info_word d) u w
             (λ word e. is_info d (fresh_within some) (none_past p.capacity d (image_of p) (held_in p) run.shape run.is (let at = was_used in omega arith)) e)
             (λ e. omega arith) info_stores (let at = raised in omega (arith, got.0, got.3))).0;

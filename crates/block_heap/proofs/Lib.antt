@@ -27,3 +27,4 @@ pub mod FreeCallLemmas
 pub mod DrainStepLemmas
 pub mod SpendLemmas
 pub mod DrawnLemmas
+pub mod FixedLemmas

@@ -18,6 +18,10 @@ opened_lasts words held budget p some small opens = record {
   stable = running_stable p opens.running
       (ap (λ (v : View). get_or v.volatile capacity_word 0) opens.words_are ∙ sym opens.capacity)
       (ap (λ (v : View). get_or v.durable capacity_word 0) opens.words_are ∙ sym opens.capacity);
+  used = record {
+    volatile = opens.running.is.used;
+    durable = let same = opens.running.settled.used in let fits = opens.running.is.used in omega arith;
+  };
   stopping = λ ticket at. absurd (cc);
 }
 

@@ -18,7 +18,7 @@ use Rattle.block_heap.specs.Running.{IsRunning, AreShort, Serves}
 use Rattle.block_heap.specs.Serving.{Answers, Misses, IsLooksOf}
 use Rattle.block_heap.specs.Steps.{IsEmptyList, look_at, head_at, IsLook}
 use Rattle.block_heap.specs.Tickets.{Runs}
-use Rattle.block_heap.specs.Works.{IsAllocatorWord, IsStable, IsLasting}
+use Rattle.block_heap.specs.Works.{IsAllocatorWord, UsedFits, IsStable, IsLasting}
 use Rattle.block_heap.specs.SeqState.{SeqState, IsSeqHeap, all_roots, seat_of}
 use Rattle.block_heap.specs.Words.{IsOwn, IsDurable, MayRead, KeepsWord, KeepsPending}
 use Rattle.block_heap.specs.Requests.{KeepsWords}
@@ -69,6 +69,7 @@ large_lasts r p q held most old o lasts serves stable none stops halts = record 
   some = let same = serves.capacity in let some = lasts.some in omega arith;
   small = let same = serves.capacity in let small = lasts.small in omega arith;
   stable = stable;
+  used = subst (λ n. UsedFits n q.words) (sym serves.capacity) (serves.works.fits lasts.used);
   stopping = stop_above r o most p.words q.words none stops halts;
 }
 

@@ -1,6 +1,6 @@
 -- What the small calls of a heap for one thread leave.
 use Rattle.std.proofs.Common.{◌≡◌, ℕ, ◌+◌, ◌<◌, ◌≤◌, Option, None, Some, Result, Ok, Err, OnOk, IfOk, IfErr, get_or, get_or-set_same, Contains, ap, sym, subst, ◌∙◌, arith}
-use Rattle.heap_model.specs.Geometry.{image_words}
+use Rattle.heap_model.specs.Geometry.{used_word, image_words}
 use Rattle.line_memory.specs.View.{View, word_count, volatile_at, durable_at, line_of}
 use Rattle.line_memory.specs.declared.memory.Stopped.{Stopped}
 use Rattle.block_heap.specs.Medium.{StoresOnly, Goes, Halts, IsLoaded, IsStored, IsWritten}
@@ -15,7 +15,7 @@ use Rattle.block_heap.specs.Calls.{Loads, Stores, WritesBack, IsWrittenWith}
 use Rattle.block_heap.specs.Tickets.{Runs}
 use Rattle.block_heap.specs.Stable.{root_below, lies}
 use Rattle.block_heap.proofs.CallerLemmas.{own_spot}
-use Rattle.block_heap.proofs.StableLemmas.{stable_own}
+use Rattle.block_heap.proofs.StableLemmas.{stable_own, own_not_used, fits_kept}
 use Rattle.block_heap.proofs.RunningLemmas.{running_words}
 
 -- the ticket of a stop is not allowed
@@ -45,6 +45,7 @@ small_lasts p w to old o lasts stores own above = record {
   some = lasts.some;
   small = lasts.small;
   stable = stable_own p.capacity (held_in p) to p.words w lasts.small own lasts.stable stores;
+  used = fits_kept p.capacity (held_in p) to p.words w (λ t. own_not_used p.capacity (held_in p) p.words lasts.stable (own used_word t)) stores lasts.used;
   stopping = above;
 }
 

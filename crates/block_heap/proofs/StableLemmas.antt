@@ -11,7 +11,7 @@ use Rattle.line_memory.specs.Crash.{MayStore}
 use Rattle.block_heap.specs.Medium.{StoresOnly}
 use Rattle.block_heap.specs.Words.{IsOwn, in_block, in_root}
 use Rattle.block_heap.specs.Stable.{root_below, block_more, low_layout, own_where}
-use Rattle.block_heap.specs.Works.{IsAllocatorWord, is_used, is_head, is_info, is_anchor, is_link, is_inside, Works, IsStable}
+use Rattle.block_heap.specs.Works.{IsAllocatorWord, is_used, is_head, is_info, is_anchor, is_link, is_inside, IsFixed, UsedFits, Works, IsStable}
 use Rattle.block_heap.proofs.MediumLemmas.{stores_then, stores_more, stores_nothing}
 
 module _ (capacity : ℕ) (held : List Block) where
@@ -21,6 +21,7 @@ module _ (capacity : ℕ) (held : List Block) where
     stores = stores_nothing (IsAllocatorWord capacity held) v;
     used = omega arith;
     used_durable = omega arith;
+    fits = λ fits. fits;
   }
 
   pub works_then : (v u w : View) → Works capacity held v u → Works capacity held u w → Works capacity held v w
@@ -28,6 +29,7 @@ module _ (capacity : ℕ) (held : List Block) where
     stores = stores_then (IsAllocatorWord capacity held) v u w a.stores b.stores;
     used = let p = a.used in let q = b.used in omega arith;
     used_durable = let p = a.used_durable in let q = b.used_durable in omega arith;
+    fits = λ fits. b.fits (a.fits fits);
   }
 
   fewer_word : (fewer : List Block) (word : ℕ) → ((b : Block) → Contains fewer b → Contains held b)
@@ -44,6 +46,7 @@ module _ (capacity : ℕ) (held : List Block) where
     stores = stores_more (IsAllocatorWord capacity held) (IsAllocatorWord capacity fewer) v w (λ word may. fewer_word fewer word are may) works.stores;
     used = works.used;
     used_durable = works.used_durable;
+    fits = works.fits;
   }
 
   -- steps that store to such words, but not to `used`, which is durable as loads see it
@@ -53,22 +56,39 @@ module _ (capacity : ℕ) (held : List Block) where
       let same : volatile_at w used_word ≡ volatile_at v used_word = stores.volatile used_word not_used in
       let durable : durable_at w used_word ≡ volatile_at v used_word =
       elim (stores.durable used_word not_used) as (λ _. durable_at w used_word ≡ volatile_at v used_word) [ inl e ↦ e ∙ settled | inr e ↦ e ] in (
-        record { stores = stores_more to (IsAllocatorWord capacity held) v w are stores; used = omega arith; used_durable = omega arith },
+        record {
+          stores = stores_more to (IsAllocatorWord capacity held) v w are stores;
+          used = omega arith;
+          used_durable = omega arith;
+          fits = λ fits. let low = fits.volatile in record { volatile = omega arith; durable = omega arith };
+        },
         durable ∙ sym same,
         same,
       )
 
   -- steps that raise `used`
   pub works_raised : (value : ℕ) (v w : View) → StoresOnly (λ word. word ≡ used_word) v w → MayStore used_word value v w → durable_at v used_word ≡ volatile_at v used_word → volatile_at v used_word ≤ value
-      → Works capacity held v w
-  works_raised value v w stores may settled more = record {
+      → (UsedFits capacity v → UsedFits capacity w) → Works capacity held v w
+  works_raised value v w stores may settled more fits = record {
     stores = stores_more (λ word. word ≡ used_word) (IsAllocatorWord capacity held) v w (λ word e. is_used e) stores;
     used = elim may.seen as (λ _. volatile_at v used_word ≤ volatile_at w used_word) [ inl e ↦ omega arith | inr e ↦ omega arith ];
     used_durable = elim may.left as (λ _. durable_at v used_word ≤ durable_at w used_word) [
       | inl e ↦ omega arith
       | inr old ↦ elim old as (λ _. durable_at v used_word ≤ durable_at w used_word) [ inl e ↦ omega arith | inr e ↦ omega arith ]
     ];
+    fits = fits;
   }
+
+  -- `used` stays at most the capacity where it isn't stored to
+  pub fits_kept : (to : ℕ → Type 0) (v w : View) → (to used_word → ⊥) → StoresOnly to v w → UsedFits capacity v → UsedFits capacity w
+  fits_kept to v w not_used stores fits =
+      let seen = fits.volatile in
+      let left = fits.durable in
+      let same : volatile_at w used_word ≡ volatile_at v used_word = stores.volatile used_word not_used in
+      record {
+        volatile = omega arith;
+        durable = elim (stores.durable used_word not_used) as (λ _. durable_at w used_word ≤ capacity) [ inl e ↦ omega arith | inr e ↦ omega arith ];
+      }
 
   -- an allocator stores to no own word of the seat
   pub not_own : (v : View) (word : ℕ) → capacity ≤ largest_capacity → IsStable capacity v held → IsAllocatorWord capacity held word → IsOwn held (words_from (λ n. n) 0 roots) word → ⊥
@@ -117,8 +137,24 @@ module _ (capacity : ℕ) (held : List Block) where
   not_reserved _ (in_descriptor d at word below low high is) (is_link c less e) = omega arith
   not_reserved _ (in_descriptor d at word below low high is) (is_inside from none) = omega arith
 
-  pub not_fixed : (v : View) (word : ℕ) → IsStable capacity v held → IsAllocatorWord capacity held word → (word < 4) ⊎ IsReserved capacity word → ⊥
+  pub not_fixed : (v : View) (word : ℕ) → IsStable capacity v held → IsAllocatorWord capacity held word → IsFixed capacity word → ⊥
   not_fixed v word stable may fixed = elim fixed as (λ _. ⊥) [ inl few ↦ not_first word may few | inr reserved ↦ not_reserved word reserved may ]
+
+  -- nor is an own word one of these, or `used`
+  own_apart : (v : View) (word : ℕ) → IsStable capacity v held → IsOwn held (words_from (λ n. n) 0 roots) word
+      → (word < root_word 0) ⊎ ((info_word 0 ≤ word) × (word < start_word capacity 0)) → ⊥
+  own_apart v word stable own at = elim (own_where capacity held v word stable own) as (λ _. ⊥) [
+    | inl at_root ↦ elim at as (λ _. ⊥) [ inl before ↦ omega (arith, at_root.0) | inr behind ↦ omega (arith, at_root.1, behind.0) ]
+    | inr inside ↦ elim at as (λ _. ⊥) [ inl before ↦ omega arith | inr behind ↦ omega (arith, behind.1) ]
+  ]
+
+  pub own_not_used : (v : View) → IsStable capacity v held → IsOwn held (words_from (λ n. n) 0 roots) used_word → ⊥
+  own_not_used v stable own = own_apart v used_word stable own (inl (omega arith))
+
+  pub own_not_fixed : (v : View) (word : ℕ) → IsStable capacity v held → IsOwn held (words_from (λ n. n) 0 roots) word → IsFixed capacity word → ⊥
+  own_not_fixed v word stable own (inl few) = own_apart v word stable own (inl (omega arith))
+  own_not_fixed v _ stable own (inr (in_header word low high used_not lists_not)) = own_apart v word stable own (inl (omega arith))
+  own_not_fixed v _ stable own (inr (in_descriptor d at word below low high is)) = own_apart v word stable own (inr (omega arith, omega arith))
 
   -- held blocks stay named where neither the capacity nor an info of theirs is stored to, and both values of `used` stay above them
   stable_by : (to : ℕ → Type 0) (v w : View) (stable : IsStable capacity v held) → StoresOnly to v w → (to capacity_word → ⊥)

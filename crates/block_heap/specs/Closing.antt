@@ -1,8 +1,10 @@
 -- What a heap for one thread is as it is opened, and what it leaves.
 use Rattle.std.specs.Prelude.{◌≡◌, ℕ, List, None}
+use Rattle.line_memory.specs.View.{volatile_at, durable_at}
 use Rattle.heap_model.specs.declared.block.Block.{Block}
 use Rattle.block_heap.specs.Opening.{Opens}
 use Rattle.block_heap.specs.SeqState.{SeqState}
+use Rattle.block_heap.specs.Works.{IsFixed}
 
 -- it was opened with these words, held blocks and budget
 pub record IsOpened (words : List ℕ) (held : List Block) (budget : ℕ) (s : SeqState) : Type 0 where
@@ -11,3 +13,10 @@ pub record IsOpened (words : List ℕ) (held : List Block) (budget : ℕ) (s : S
   pub small : s.small_calls ≡ 0
   pub large : s.large_calls ≡ 0
   pub refusals : s.refusals ≡ 0
+
+-- the first four words of the header, and those that have no meaning, stay as loads see them; where such a word was durable as loads see it, it still is
+pub record KeepsFixed (s t : SeqState) : Type 0 where
+  pub capacity : t.parts.capacity ≡ s.parts.capacity
+  pub volatile : (word : ℕ) → IsFixed s.parts.capacity word → volatile_at t.parts.words word ≡ volatile_at s.parts.words word
+  pub durable : (word : ℕ) → IsFixed s.parts.capacity word → durable_at s.parts.words word ≡ volatile_at s.parts.words word
+      → durable_at t.parts.words word ≡ volatile_at t.parts.words word

@@ -1,12 +1,21 @@
 -- What an allocator may store to, and what stays of the held blocks whatever it does.
-use Rattle.std.specs.Prelude.{◌≡◌, ℕ, ◌<◌, ◌≤◌, List, Option, Some, Contains}
+use Rattle.std.specs.Prelude.{◌≡◌, ℕ, ◌<◌, ◌≤◌, ◌⊎◌, List, Option, Some, Contains}
 use Rattle.heap_model.specs.declared.block.Block.{Block}
-use Rattle.heap_model.specs.Geometry.{lists, largest_capacity, head_word, info_word, anchor_word, link_word, used_word, capacity_word, start_word}
+use Rattle.heap_model.specs.Geometry.{lists, largest_capacity, head_word, info_word, anchor_word, link_word, used_word, capacity_word, start_word, IsReserved}
 use Rattle.heap_model.specs.Blocks.{IsBlock, IsIn}
 use Rattle.heap_model.specs.Recovered.{HasPartIn}
 use Rattle.heap_shape.specs.Standing.{HasNoHeld}
 use Rattle.line_memory.specs.View.{View, volatile_at, durable_at}
 use Rattle.block_heap.specs.Medium.{StoresOnly}
+
+-- a word that neither the allocator nor its caller stores to: the first four words of the header, and those that have no meaning
+abbrev pub IsFixed : ℕ → ℕ → Type 0
+IsFixed capacity word = (word < 4) ⊎ IsReserved capacity word
+
+-- `used` is at most the capacity, as loads see it and as it is durable
+pub record UsedFits (capacity : ℕ) (v : View) : Type 0 where
+  pub volatile : volatile_at v used_word ≤ capacity
+  pub durable : durable_at v used_word ≤ capacity
 
 -- a word that an allocator may store to while these blocks are held: `used`, heads and descriptors, but no info of a superblock that a held block has a part in; and words of superblocks that no held block has
 pub data IsAllocatorWord (capacity : ℕ) (held : List Block) (word : ℕ) : Type 0 where
@@ -17,11 +26,12 @@ pub data IsAllocatorWord (capacity : ℕ) (held : List Block) (word : ℕ) : Typ
   is_link : (d : ℕ) → d < capacity → word ≡ link_word d → IsAllocatorWord capacity held word
   is_inside : start_word capacity 0 ≤ word → ((b : Block) → Contains held b → IsIn b word → ⊥) → IsAllocatorWord capacity held word
 
--- it stores to no other word, and `used` rises, of what loads see and of what is durable
+-- it stores to no other word, and `used` rises, of what loads see and of what is durable, and not past the capacity
 pub record Works (capacity : ℕ) (held : List Block) (v w : View) : Type 0 where
   pub stores : StoresOnly (IsAllocatorWord capacity held) v w
   pub used : volatile_at v used_word ≤ volatile_at w used_word
   pub used_durable : durable_at v used_word ≤ durable_at w used_word
+  pub fits : UsedFits capacity v → UsedFits capacity w
 
 -- each held block is named whichever of its two values each word has: its infos are durable, and it ends below both values of `used`
 pub record IsStable (capacity : ℕ) (v : View) (held : List Block) : Type 0 where
@@ -39,4 +49,5 @@ pub record IsLasting (capacity : ℕ) (v : View) (held : List Block) (stopped : 
   pub some : 1 ≤ capacity
   pub small : capacity ≤ largest_capacity
   pub stable : IsStable capacity v held
+  pub used : UsedFits capacity v
   pub stopping : (ticket : ℕ) → stopped ≡ Some ticket → v.budget ≤ ticket

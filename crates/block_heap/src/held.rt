@@ -21,7 +21,7 @@ pub(crate) struct HeldBlocks {
 }
 
 impl HeldBlocks {
-    ghost use Rattle.std.specs.Prelude.{◌≡◌, ◌≢◌, ◌≤◌, ◌<◌, ◌+◌, ◌*◌, ◌/◌, ◌-◌, ◌%◌, ℕ, [], IfOk, length, slice_index, slice_set, Contains};
+    ghost use Rattle.std.specs.Prelude.{◌≡◌, ◌≢◌, ◌≤◌, ◌<◌, ◌+◌, ◌*◌, ◌/◌, ◌-◌, ◌%◌, ℕ, [], IfOk, IfSome, IfNone, length, slice_index, slice_set, Contains};
     ghost use Rattle.heap_model.specs.Geometry.{start_word};
     ghost use Rattle.heap_model.specs.declared.block.Block.{Block};
     ghost use Rattle.line_memory.specs.Marks.{IsMarked};
@@ -103,6 +103,25 @@ impl HeldBlocks {
         Block {
             first_word,
             words: self.words[d as usize],
+        }
+    }
+
+    /// The held block that begins at the word, if one does.
+    pub(crate) fn find(&self, first_word: u64) -> Option<Block>
+        ensures some { IfSome result (λ b. Contains (held_of self.now) b
+            × (b.first_word ≡ first_word)) }
+        ensures none { IfNone result ((b : Block) → Contains (held_of self.now) b
+            → b.first_word ≢ first_word) }
+    {
+        if first_word < self.start {
+            return None;
+        }
+        let behind = first_word - self.start;
+        let mark = (behind / SMALLEST_WORDS) as usize;
+        if behind % SMALLEST_WORDS == 0 && mark < self.marks.len() && self.marks[mark] {
+            Some(self.at(first_word))
+        } else {
+            None
         }
     }
 

@@ -40,6 +40,9 @@ pub trait HeapSeat {
 
     ghost has_none: { Self → ℕ → Type 0 } = { λ _ _. ⊤ };
 
+    // What else of the heap every call leaves as it is. By default nothing.
+    ghost keeps: { Self → Self → Type 0 } = { λ _ _. ⊤ };
+
     /// A block of at least so many bytes. What its words hold is not known.
     fn alloc(&mut self, bytes: u64) -> Result<Block, AllocFault>
         ensures ok { IfOk result (λ b. Allocates bytes b (view self.old) (view self.new)) }
@@ -50,7 +53,8 @@ pub trait HeapSeat {
             → has_none self.old bytes) }
         ensures unchanged { OnErr result (KeepsOwn (view self.old) (view self.new)) }
         ensures counted { IsLargeCall (span_of bytes) (view self.old) (view self.new) }
-        ensures draws { large_draws ((view self.new).next - (view self.old).next) };
+        ensures draws { large_draws ((view self.new).next - (view self.old).next) }
+        ensures kept { keeps self.old self.new };
 
     /// Gives a held block back. After `Stopped` it may be held or not.
     fn free(&mut self, b: Block) -> Result<(), Stopped>
@@ -59,7 +63,8 @@ pub trait HeapSeat {
         ensures stopped { IfErr result (λ e. Stops e.step (view self.old) (view self.new)) }
         ensures others { MayFree b (view self.old) (view self.new) }
         ensures counted { IsLargeCall 0 (view self.old) (view self.new) }
-        ensures draws { large_draws ((view self.new).next - (view self.old).next) };
+        ensures draws { large_draws ((view self.new).next - (view self.old).next) }
+        ensures kept { keeps self.old self.new };
 
     /// The word at the spot.
     fn load(&mut self, s: Spot) -> Result<u64, Stopped>
@@ -69,7 +74,8 @@ pub trait HeapSeat {
         ensures stopped { IfErr result (λ e. Stops e.step (view self.old) (view self.new)) }
         ensures unchanged { KeepsOwn (view self.old) (view self.new) }
         ensures counted { IsSmallCall (view self.old) (view self.new) }
-        ensures draws { small_draws ((view self.new).next - (view self.old).next) };
+        ensures draws { small_draws ((view self.new).next - (view self.old).next) }
+        ensures kept { keeps self.old self.new };
 
     /// Changes what loads see of the word at the spot. A crash may still leave its old value.
     fn store(&mut self, s: Spot, value: u64) -> Result<(), Stopped>
@@ -79,7 +85,8 @@ pub trait HeapSeat {
         ensures unchanged { OnErr result (KeepsOwn (view self.old) (view self.new)) }
         ensures crash { MayStore (word_of s) value (view self.old) (view self.new) }
         ensures counted { IsSmallCall (view self.old) (view self.new) }
-        ensures draws { small_draws ((view self.new).next - (view self.old).next) };
+        ensures draws { small_draws ((view self.new).next - (view self.old).next) }
+        ensures kept { keeps self.old self.new };
 
     /// Asks for the words of the spot's block that share its line, or for the root, to be made
     /// durable, which the next fence awaits.
@@ -89,7 +96,8 @@ pub trait HeapSeat {
         ensures stopped { IfErr result (λ e. Stops e.step (view self.old) (view self.new)) }
         ensures unchanged { KeepsOwn (view self.old) (view self.new) }
         ensures counted { IsSmallCall (view self.old) (view self.new) }
-        ensures draws { small_draws ((view self.new).next - (view self.old).next) };
+        ensures draws { small_draws ((view self.new).next - (view self.old).next) }
+        ensures kept { keeps self.old self.new };
 
     /// Waits until each own word that was written back, and not stored to since, is durable.
     fn fence(&mut self) -> Result<(), Stopped>
@@ -97,7 +105,8 @@ pub trait HeapSeat {
         ensures stopped { IfErr result (λ e. Stops e.step (view self.old) (view self.new)) }
         ensures unchanged { KeepsOwn (view self.old) (view self.new) }
         ensures counted { IsSmallCall (view self.old) (view self.new) }
-        ensures draws { small_draws ((view self.new).next - (view self.old).next) };
+        ensures draws { small_draws ((view self.new).next - (view self.old).next) }
+        ensures kept { keeps self.old self.new };
 
     /// The held block that begins at the byte offset. Draws no ticket.
     fn block(&self, offset: u64) -> Block

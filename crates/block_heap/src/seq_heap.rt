@@ -7,6 +7,7 @@ ghost use Rattle.block_heap.specs.Works.{IsLasting};
 
 use crate::arena::Arena;
 use crate::fault::Looks;
+use heap_model::Block;
 use line_memory::{Chance, Closed, Stopped};
 use size_table::{blocks_of, size_of};
 use std::alloc::{AllocError, Global};
@@ -82,16 +83,19 @@ impl From<Stopped> for DrainFault {
 }
 
 impl<C: Chance> SeqHeap<C> {
-    ghost use Rattle.std.specs.Prelude.{◌≡◌, ◌+◌, ◌<◌, ◌≤◌, ◌^◌, IfOk, IfErr, None, Some};
+    ghost use Rattle.std.specs.Prelude.{◌≡◌, ◌≢◌, ◌+◌, ◌*◌, ◌<◌, ◌≤◌, ◌^◌, IfOk, IfErr, IfSome, IfNone, None, Some, Contains};
+    ghost use Rattle.heap_model.specs.declared.block.Block.{Block};
     ghost use Rattle.line_memory.specs.ClosedWords.{volatile_words, durable_words};
+    ghost use Rattle.line_memory.specs.View.{volatile_at, durable_at};
     ghost use Rattle.line_memory.specs.declared.memory.Stopped.{Stopped};
+    ghost use Rattle.heap_model.specs.Geometry.{used_word};
     ghost use Rattle.heap_model.specs.Image.{Image};
     ghost use Rattle.heap_model.specs.Sizes.{IsClass};
     ghost use Rattle.block_heap.specs.Parts.{held_in};
     ghost use Rattle.block_heap.specs.Requests.{IsTidyFor, Drains};
     ghost use Rattle.block_heap.specs.SeqState.{MayLeave};
     ghost use Rattle.block_heap.specs.Words.{NamesAll};
-    ghost use Rattle.block_heap.specs.Closing.{IsOpened};
+    ghost use Rattle.block_heap.specs.Closing.{IsOpened, KeepsFixed};
 
     /// Opens the heap with a budget of so many steps.
     pub fn new(alloc: Global, heap: Ready, budget: u64, chance: C) -> Result<SeqHeap<C>, AllocError>
@@ -113,10 +117,25 @@ impl<C: Chance> SeqHeap<C> {
         })
     }
 
+    /// The held block that begins at the byte offset, if one does: what `free` and a spot ask for.
+    pub fn held_at(&self, offset: u64) -> Option<Block>
+        ensures some { IfSome result (λ b. Contains (held_in self.now.parts) b
+            × (offset ≡ 8 * b.first_word)) }
+        ensures none { IfNone result ((b : Block) → Contains (held_in self.now.parts) b
+            → offset ≢ 8 * b.first_word) }
+    {
+        if offset % WORD_BYTES != 0 {
+            return None;
+        }
+        self.arena.held.find(offset / WORD_BYTES)
+    }
+
     /// Closes the heap, and gives what loads saw and what a crash would have left.
     pub fn finish(self) -> Closed
         ensures volatile { volatile_words result ≡ self.parts.words.volatile }
         ensures durable { durable_words result ≡ self.parts.words.durable }
+        ensures used { volatile_at self.parts.words used_word ≤ self.parts.capacity }
+        ensures used_durable { durable_at self.parts.words used_word ≤ self.parts.capacity }
         ensures named { (image : Image) → MayLeave self image
             → NamesAll image (held_in self.parts) }
     {
@@ -134,6 +153,7 @@ impl<C: Chance> SeqHeap<C> {
         ensures above { IfErr result (λ fault. (e : Stopped) → fault ≡ DrainFault.Stopped e
             → self.old.stopped ≡ None → (self.old.parts.words.budget ≤ e.step)
             × (e.step < self.old.parts.words.drawn + 2 ^ 32)) }
+        ensures kept { KeepsFixed self.old self.new }
     {
         let most = self.arena.geometry.capacity() * blocks_of(class);
         let mut offsets = Vec::with_capacity(alloc, most as usize)?;

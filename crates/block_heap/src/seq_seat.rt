@@ -14,6 +14,7 @@ impl<C: Chance> HeapSeat for SeqHeap<C> {
     ghost use Rattle.block_heap.specs.SeqState.{seat_of, MayLeave};
     ghost use Rattle.block_heap.specs.Serving.{HasRoomFor};
     ghost use Rattle.block_heap.specs.Laws.{seat_law, mixed_law, named_law};
+    ghost use Rattle.block_heap.specs.Closing.{KeepsFixed};
 
     ghost view = { seat_of };
 
@@ -26,6 +27,8 @@ impl<C: Chance> HeapSeat for SeqHeap<C> {
     ghost has_room = { λ s bytes. HasRoomFor s.parts bytes };
 
     ghost has_none = { λ s bytes. HasRoomFor s.parts bytes → ⊥ };
+
+    ghost keeps = { KeepsFixed };
 
     fn alloc(&mut self, bytes: u64) -> Result<Block, AllocFault> {
         match self.request(bytes)? {
@@ -116,6 +119,7 @@ impl<C: Chance> SeqHeap<C> {
     ghost use Rattle.std.specs.Prelude.{ℕ, ◌+◌, ◌<◌, IfOk, OnErr};
     ghost use Rattle.heap_model.specs.Sizes.{IsClass, size_of, span_of};
     ghost use Rattle.block_heap.specs.Calls.{IsLargeCall};
+    ghost use Rattle.block_heap.specs.Closing.{KeepsFixed};
     ghost use Rattle.block_heap.specs.Parts.{held_in};
     ghost use Rattle.block_heap.specs.Requests.{KeepsWords};
     ghost use Rattle.block_heap.specs.Serving.{Answers, DrainsAs};
@@ -134,6 +138,7 @@ impl<C: Chance> SeqHeap<C> {
         ensures counted { IsLargeCall (span_of bytes) (seat_of self.old) (seat_of self.new) }
         ensures draws { self.new.parts.words.drawn ≤ self.old.parts.words.drawn + 10001 }
         ensures refusable { OnOk result (self.new.refusals < self.new.large_calls) }
+        ensures kept { KeepsFixed self.old self.new }
     {
         self.running()?;
         let answer = self.arena.alloc(bytes);

@@ -20,6 +20,7 @@ impl<C: Chance> Medium<C> {
     ghost use Rattle.block_heap.specs.MediumView.{medium_view};
     ghost use Rattle.block_heap.specs.Medium.{StoresOnly, Halts, IsPersisted};
     ghost use Rattle.block_heap.specs.Links.{IsOpen, IsFresh};
+    ghost use Rattle.block_heap.specs.Works.{UsedFits};
 
     /// Takes so many superblocks that were never taken.
     pub(crate) fn take_fresh(&mut self, geometry: Geometry, count: u64) -> Result<Fresh, Stopped>
@@ -33,6 +34,8 @@ impl<C: Chance> Medium<C> {
             (medium_view self.old) (medium_view self.new) }
         ensures crash { MayStore used_word (volatile_at (medium_view self.old) used_word + count)
             (medium_view self.old) (medium_view self.new) }
+        ensures fits { UsedFits geometry.capacity (medium_view self.old)
+            → UsedFits geometry.capacity (medium_view self.new) }
     {
         let used = self.load(USED_WORD)?;
         if count > geometry.capacity() - used {

@@ -18,7 +18,7 @@ overflow_add-self g c =
 pub returns-in_err-join-clause-serves : goal.returns-in_err-join-clause-serves
 returns-in_err-join-clause-serves g c =
     join_serves (parts_of c.args.self.now) c.args.count c.in-Some.d c.in_ok-fresh.fresh (medium_view c.take_fresh.new.self) c.by-self.result
-    c.requires.running c.in_ok-fresh.ensures.ok c.in-Some.is (medium_view c.join.new.self) c.requires.some c.take_fresh.ensures.others c.take_fresh.ensures.crash
+    c.requires.running c.in_ok-fresh.ensures.ok c.in-Some.is (medium_view c.join.new.self) c.requires.some c.take_fresh.ensures.others c.take_fresh.ensures.crash c.take_fresh.ensures.fits
     c.by-self.ensures.seen c.by-self.ensures.taken c.join.ensures.others c.args.self.now.held
 
 pub divide-requires-clause-none : goal.divide-requires-clause-none
@@ -29,13 +29,13 @@ divide-requires-clause-none g c =
 pub returns-clause-serves : goal.returns-clause-serves
 returns-clause-serves g c =
     join_serves (parts_of c.args.self.now) c.args.count c.in-Some.d c.in_ok-fresh.fresh (medium_view c.take_fresh.new.self) c.by-self.result
-    c.requires.running c.in_ok-fresh.ensures.ok c.in-Some.is (medium_view c.join.new.self) c.requires.some c.take_fresh.ensures.others c.take_fresh.ensures.crash
+    c.requires.running c.in_ok-fresh.ensures.ok c.in-Some.is (medium_view c.join.new.self) c.requires.some c.take_fresh.ensures.others c.take_fresh.ensures.crash c.take_fresh.ensures.fits
     c.by-self.ensures.seen c.by-self.ensures.taken c.join.ensures.others c.add.new.self
 
 pub returns-clause-ok : goal.returns-clause-ok
 returns-clause-ok g c =
     join_answers (parts_of c.args.self.now) c.args.count c.in-Some.d c.in_ok-fresh.fresh (medium_view c.take_fresh.new.self) c.by-self.result
-    c.requires.running c.in_ok-fresh.ensures.ok c.in-Some.is (medium_view c.join.new.self) c.requires.some c.take_fresh.ensures.others c.take_fresh.ensures.crash
+    c.requires.running c.in_ok-fresh.ensures.ok c.in-Some.is (medium_view c.join.new.self) c.requires.some c.take_fresh.ensures.others c.take_fresh.ensures.crash c.take_fresh.ensures.fits
     c.by-self.ensures.seen c.by-self.ensures.taken c.join.ensures.others c.divide.new.self c.add.new.self c.start-first_word.result c.in_ok-join.ensures.ok
     c.divide.ensures.held c.divide.ensures.words c.divide.ensures.start c.start-first_word.ensures c.add.ensures.held c.add.ensures.words c.add.ensures.start
     c.at.result c.at.ensures
@@ -43,7 +43,7 @@ returns-clause-ok g c =
 pub returns-clause-running : goal.returns-clause-running
 returns-clause-running g c =
     join_running (parts_of c.args.self.now) c.args.count c.in-Some.d c.in_ok-fresh.fresh (medium_view c.take_fresh.new.self) c.by-self.result
-    c.requires.running c.in_ok-fresh.ensures.ok c.in-Some.is (medium_view c.join.new.self) c.requires.some c.take_fresh.ensures.others c.take_fresh.ensures.crash
+    c.requires.running c.in_ok-fresh.ensures.ok c.in-Some.is (medium_view c.join.new.self) c.requires.some c.take_fresh.ensures.others c.take_fresh.ensures.crash c.take_fresh.ensures.fits
     c.by-self.ensures.seen c.by-self.ensures.taken c.join.ensures.others c.divide.new.self c.add.new.self c.start-first_word.result c.in_ok-join.ensures.ok
     c.divide.ensures.held c.divide.ensures.words c.divide.ensures.start c.start-first_word.ensures c.add.ensures.held c.add.ensures.words c.add.ensures.start
 

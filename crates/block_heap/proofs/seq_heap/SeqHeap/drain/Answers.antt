@@ -7,6 +7,7 @@ use Rattle.block_heap.specs.Laws.{seat_law}
 use Rattle.block_heap.specs.Serving.{Answers, DrainsAs}
 use Rattle.block_heap.proofs.DrainStepLemmas.{drains_last}
 use Rattle.block_heap.proofs.DrawnLemmas.{draining_first, draining_more, drawn_few, drawn_halts}
+use Rattle.block_heap.proofs.FixedLemmas.{fixed_same, fixed_then}
 use Rattle.block_heap.proofs.seq_heap.SeqHeap.drain.Goals as goal
 
 pub overflow_mul-most : goal.overflow_mul-most
@@ -25,35 +26,39 @@ overflow_mul-b g c =
     omega arith
 
 pub loop-offsets-init : goal.loop-offsets-init
-loop-offsets-init g c =
-    draining_first c.args.class _ c.args.self.now c.in_ok-offsets.offsets.items c.in_ok-offsets.ensures.items c.requires c.self.view_is c.self.invariant
+loop-offsets-init g c = (
+  draining_first c.args.class _ c.args.self.now c.in_ok-offsets.offsets.items c.in_ok-offsets.ensures.items c.requires c.self.view_is c.self.invariant,
+  fixed_same c.args.self.now,
+)
 
 pub loop-offsets-preserved : goal.loop-offsets-preserved
-loop-offsets-preserved g c =
-    draining_more c.args.class c.size_of.result _ c.args.self.now c.loop-offsets.self c.request.new.self c.loop-offsets.offsets.items c.push.new.self.items
-    c.in_ok-b.field-0 c.in-Some.b c.in-Ok.ensures.items c.loop-offsets.invariant c.in-Some.is c.in_ok-b.ensures.ok
-    (c.in_ok-b.ensures.drains c.args.class c.requires c.size_of.ensures) c.in_ok-b.ensures.runs c.request.ensures.counted
+loop-offsets-preserved g c = (
+  draining_more c.args.class c.size_of.result _ c.args.self.now c.loop-offsets.self c.request.new.self c.loop-offsets.offsets.items c.push.new.self.items
+      c.in_ok-b.field-0 c.in-Some.b c.in-Ok.ensures.items c.loop-offsets.invariant.0 c.in-Some.is c.in_ok-b.ensures.ok
+      (c.in_ok-b.ensures.drains c.args.class c.requires c.size_of.ensures) c.in_ok-b.ensures.runs c.request.ensures.counted,
+  fixed_then c.args.self.now c.loop-offsets.self c.request.new.self c.loop-offsets.invariant.1 c.request.ensures.kept,
+)
 
 pub returns-clause-ok : goal.returns-clause-ok
 returns-clause-ok g c = λ tidy.
-    drains_last c.args.class c.args.self.now c.loop-offsets.self c.loop-offsets.offsets.items (c.loop-offsets.invariant.0 tidy)
+    drains_last c.args.class c.args.self.now c.loop-offsets.self c.loop-offsets.offsets.items (c.loop-offsets.invariant.0.0 tidy)
     (subst (λ a. DrainsAs c.args.class a c.loop-offsets.self.parts c.request.new.self.parts) c.in_default.is (c.in_ok-b.ensures.drains c.args.class c.requires c.size_of.ensures))
 
 pub returns-in_err-b-clause-few : goal.returns-in_err-b-clause-few
 returns-in_err-b-clause-few g c =
-    drawn_few c.args.class c.args.self.now c.loop-offsets.self c.request.new.self c.loop-offsets.offsets.items c.loop-offsets.invariant.1 c.request.ensures.draws
+    drawn_few c.args.class c.args.self.now c.loop-offsets.self c.request.new.self c.loop-offsets.offsets.items c.loop-offsets.invariant.0.1 c.request.ensures.draws
 
 pub returns-in-Err-clause-few : goal.returns-in-Err-clause-few
 returns-in-Err-clause-few g c =
-    drawn_few c.args.class c.args.self.now c.loop-offsets.self c.request.new.self c.loop-offsets.offsets.items c.loop-offsets.invariant.1 c.request.ensures.draws
+    drawn_few c.args.class c.args.self.now c.loop-offsets.self c.request.new.self c.loop-offsets.offsets.items c.loop-offsets.invariant.0.1 c.request.ensures.draws
 
 pub returns-clause-few : goal.returns-clause-few
 returns-clause-few g c =
-    drawn_few c.args.class c.args.self.now c.loop-offsets.self c.request.new.self c.loop-offsets.offsets.items c.loop-offsets.invariant.1 c.request.ensures.draws
+    drawn_few c.args.class c.args.self.now c.loop-offsets.self c.request.new.self c.loop-offsets.offsets.items c.loop-offsets.invariant.0.1 c.request.ensures.draws
 
 pub returns-in_err-b-clause-above : goal.returns-in_err-b-clause-above
 returns-in_err-b-clause-above g c =
     let told = err_from_is_err_and c.from_residual-in_err-b.result c.from_residual-in_err-b.ensures.1 in
     rw (told.1, told.2)
     (λ e one running. drawn_halts c.args.class _ c.in_err-b.field-0.0 e c.args.self.now c.loop-offsets.self c.request.new.self c.loop-offsets.offsets.items
-    c.loop-offsets.invariant.1 c.request.ensures.draws c.request.ensures.counted c.in_err-b.ensures.stopped one running)
+    c.loop-offsets.invariant.0.1 c.request.ensures.draws c.request.ensures.counted c.in_err-b.ensures.stopped one running)

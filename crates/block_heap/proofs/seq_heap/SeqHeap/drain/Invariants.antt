@@ -1,9 +1,10 @@
 use Rattle.std.proofs.Common.{◌-◌}
+use Rattle.block_heap.specs.Closing.{KeepsFixed}
 use Rattle.block_heap.proofs.DrawnLemmas.{Draining}
 use Rattle.block_heap.proofs.seq_heap.SeqHeap.drain.Given as goal
 
 abbrev pub invariant-loop-offsets : goal.invariant-loop-offsets
-invariant-loop-offsets g l = Draining l.class l.fn.self l.self l.offsets.items
+invariant-loop-offsets g l = Draining l.class l.fn.self l.self l.offsets.items × KeepsFixed l.fn.self l.self
 
 abbrev pub decreases-loop-offsets : goal.decreases-loop-offsets
 decreases-loop-offsets g l = l.self.parts.words.budget - l.self.parts.words.drawn

@@ -3,6 +3,7 @@ use Rattle.block_heap.specs.Parts.{parts_of}
 use Rattle.block_heap.specs.SeqState.{SeqState}
 use Rattle.block_heap.specs.Serving.{DrainsAs}
 use Rattle.block_heap.proofs.RequestLemmas.{request_lasts, request_runs, request_words, large_heap}
+use Rattle.block_heap.proofs.FixedLemmas.{fixed_request}
 use Rattle.block_heap.proofs.seq_heap.SeqHeap.request.Goals as goal
 
 pub invariant_of-self-inside : goal.invariant_of-self-inside
@@ -25,3 +26,6 @@ returns-clause-drains g c = λ class is at.
 
 pub returns-clause-words : goal.returns-clause-words
 returns-clause-words g c = request_words _ c.args.self.now (parts_of c.alloc-answer.new.self) c.stop_of-self-inside.result c.self.invariant c.self.view_is c.alloc-answer.ensures.serves
+
+pub returns-clause-kept : goal.returns-clause-kept
+returns-clause-kept g c = fixed_request _ c.args.self.now _ c.self.invariant c.self.view_is c.alloc-answer.ensures.serves

@@ -2,6 +2,7 @@ use Rattle.block_heap.specs.Parts.{parts_of}
 use Rattle.block_heap.specs.Running.{IsRunning, AreShort}
 use Rattle.block_heap.proofs.RequestLemmas.{large_heap}
 use Rattle.block_heap.proofs.FreeCallLemmas.{free_lasts, on_ok_both, may_free, frees}
+use Rattle.block_heap.proofs.FixedLemmas.{fixed_free}
 use Rattle.block_heap.proofs.seq_seat.SeqHeapHeapSeat.free.Goals as goal
 
 pub invariant_of-self-inside : goal.invariant_of-self-inside
@@ -27,3 +28,6 @@ returns-clause-ok g c =
 pub returns-clause-others : goal.returns-clause-others
 returns-clause-others g c =
     may_free _ (parts_of c.free-answer.new.self) c.stop_of-self-inside.result c.args.b c.self.invariant c.free-answer.ensures.freed c.free-answer.ensures.serves c.args.self.now c.self.view_is
+
+pub returns-clause-kept : goal.returns-clause-kept
+returns-clause-kept g c = fixed_free _ c.args.self.now _ c.args.b c.self.invariant c.self.view_is c.free-answer.ensures.freed c.free-answer.ensures.serves

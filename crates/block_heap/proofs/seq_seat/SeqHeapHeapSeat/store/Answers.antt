@@ -1,4 +1,4 @@
-use Rattle.std.proofs.Common.{◌≡◌, ◌<◌, ap, ◌∙◌, subst, sym, OnOk}
+use Rattle.std.proofs.Common.{◌≡◌, ◌<◌, refl, ap, ◌∙◌, subst, sym, OnOk}
 use Rattle.block_heap.specs.MediumView.{medium_view}
 use Rattle.line_memory.specs.View.{word_count}
 use Rattle.line_memory.specs.Crash.{MayStore as MayStoreWord}
@@ -9,6 +9,7 @@ use Rattle.block_heap.specs.Words.{IsOwn, IsOwnSpot}
 use Rattle.block_heap.specs.SeqState.{SeqState, seat_of, all_roots}
 use Rattle.block_heap.proofs.SeatLemmas.{small_lasts, stop_above, own_short, at_within, own_at, store_ok}
 use Rattle.block_heap.proofs.StoreLemmas.{store_heap, store_keeps, store_refused}
+use Rattle.block_heap.proofs.FixedLemmas.{fixed_store}
 use Rattle.block_heap.proofs.seq_seat.SeqHeapHeapSeat.store.Goals as goal
 
 pub word_of-requires : goal.word_of-requires
@@ -47,3 +48,8 @@ returns-clause-crash g c =
     store_keeps _ c.args.self.now (medium_view c.store-answer.new.self) c.stop_of-self-inside.result (word_of c.args.s) c.args.value c.self.view_is
     (subst (λ word. StoresOnly (λ other. other ≡ word) (medium_view c.self.inside.arena.medium) (medium_view c.store-answer.new.self)) c.word_of.ensures c.store-answer.ensures.others)
     (subst (λ word. MayStoreWord word c.args.value (medium_view c.self.inside.arena.medium) (medium_view c.store-answer.new.self)) c.word_of.ensures c.store-answer.ensures.crash)
+
+pub returns-clause-kept : goal.returns-clause-kept
+returns-clause-kept g c =
+    fixed_store _ c.args.self.now _ c.word_of.result c.self.invariant c.self.view_is refl
+    (own_at _ c.args.self.now c.args.s c.word_of.result c.self.invariant c.self.view_is c.word_of.ensures c.requires) c.store-answer.ensures.others

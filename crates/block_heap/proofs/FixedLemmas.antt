@@ -1,0 +1,78 @@
+-- The words that every call of a heap for one thread leaves as they are.
+use Rattle.std.proofs.Common.{◌≡◌, ℕ, inl, inr, List, refl, ap, sym, subst, ◌∙◌, get_or}
+use Rattle.std.specs.Prelude.{slice_index}
+use Rattle.heap_model.specs.declared.block.Block.{Block}
+use Rattle.heap_model.specs.Header.{capacity_of}
+use Rattle.heap_shape.specs.Moves.{TakesFrom}
+use Rattle.line_memory.specs.View.{View, volatile_at, durable_at}
+use Rattle.block_heap.specs.Closing.{IsOpened, KeepsFixed}
+use Rattle.block_heap.specs.Medium.{StoresOnly}
+use Rattle.block_heap.specs.Parts.{held_in}
+use Rattle.block_heap.specs.Running.{Serves}
+use Rattle.block_heap.specs.SeqState.{SeqState, IsSeqHeap, all_roots}
+use Rattle.block_heap.specs.Words.{IsOwn}
+use Rattle.block_heap.specs.Works.{IsAllocatorWord, IsFixed}
+use Rattle.block_heap.proofs.StableLemmas.{not_fixed, own_not_fixed, stable_fewer}
+
+-- no call at all, and two rows of calls
+pub fixed_same : (s : SeqState) → KeepsFixed s s
+fixed_same s = record { capacity = refl; volatile = λ word is. refl; durable = λ word is same. same }
+
+pub fixed_then : (s t u : SeqState) → KeepsFixed s t → KeepsFixed t u → KeepsFixed s u
+fixed_then s t u a b = record {
+  capacity = b.capacity ∙ a.capacity;
+  volatile = λ word is. b.volatile word (then word is) ∙ a.volatile word is;
+  durable = λ word is same. b.durable word (then word is) (a.durable word is same);
+} where
+  then : (word : ℕ) → IsFixed s.parts.capacity word → IsFixed t.parts.capacity word
+  then word is = subst (λ n. IsFixed n word) (sym a.capacity) is
+
+-- they are those of the image that was opened
+pub fixed_opened : (words : List ℕ) (held : List Block) (budget : ℕ) (s t : SeqState) → IsOpened words held budget s → KeepsFixed s t
+    → (word : ℕ) → IsFixed (capacity_of (slice_index words)) word
+    → (volatile_at t.parts.words word ≡ slice_index words word) × (durable_at t.parts.words word ≡ slice_index words word)
+fixed_opened words held budget s t opened keeps word is = (seen, keeps.durable word fixed (left ∙ sym was) ∙ seen) where
+  fixed : IsFixed s.parts.capacity word
+  fixed = subst (λ n. IsFixed n word) (sym opened.opens.capacity) is
+
+  was : volatile_at s.parts.words word ≡ slice_index words word
+  was = ap (λ (v : View). get_or v.volatile word 0) opened.opens.words_are
+
+  left : durable_at s.parts.words word ≡ slice_index words word
+  left = ap (λ (v : View). get_or v.durable word 0) opened.opens.words_are
+
+  seen : volatile_at t.parts.words word ≡ slice_index words word
+  seen = keeps.volatile word fixed ∙ was
+
+-- a call keeps them that stores to none of them
+pub fixed_by : (to : ℕ → Type 0) (s seen t : SeqState) → s ≡ seen → t.parts.capacity ≡ s.parts.capacity
+    → StoresOnly to s.parts.words t.parts.words → ((word : ℕ) → to word → IsFixed s.parts.capacity word → ⊥) → KeepsFixed seen t
+fixed_by to s seen t same capacity stores none = subst (λ m. KeepsFixed m t) same (record {
+  capacity = capacity;
+  volatile = λ word is. stores.volatile word (λ may. none word may is);
+  durable = λ word is settled.
+      let now = stores.volatile word (λ may. none word may is) in
+      elim (stores.durable word (λ may. none word may is)) as (λ _. durable_at t.parts.words word ≡ volatile_at t.parts.words word) [
+        | inl old ↦ old ∙ settled ∙ sym now
+        | inr old ↦ old ∙ sym now
+      ];
+})
+
+-- a store to an own word
+pub fixed_store : (s seen t : SeqState) (word : ℕ) → IsSeqHeap s → s ≡ seen → t.parts.capacity ≡ s.parts.capacity
+    → IsOwn (held_in s.parts) all_roots word → StoresOnly (λ other. other ≡ word) s.parts.words t.parts.words → KeepsFixed seen t
+fixed_store s seen t word heap same capacity own stores = fixed_by (λ other. other ≡ word) s seen t same capacity stores (λ other at is.
+    own_not_fixed s.parts.capacity (held_in s.parts) s.parts.words other heap.lasts.stable (subst (IsOwn (held_in s.parts) all_roots) (sym at) own) is)
+
+-- a request, and a free
+pub fixed_request : (s seen t : SeqState) → IsSeqHeap s → s ≡ seen → Serves (held_in s.parts) s.parts t.parts → KeepsFixed seen t
+fixed_request s seen t heap same serves =
+    fixed_by (IsAllocatorWord s.parts.capacity (held_in s.parts)) s seen t same serves.capacity serves.works.stores (λ word may is.
+    not_fixed s.parts.capacity (held_in s.parts) s.parts.words word heap.lasts.stable may is)
+
+pub fixed_free : (s seen t : SeqState) (b : Block) → IsSeqHeap s → s ≡ seen → TakesFrom b (held_in s.parts) (held_in t.parts)
+    → Serves (held_in t.parts) s.parts t.parts → KeepsFixed seen t
+fixed_free s seen t b heap same takes serves =
+    let stable = stable_fewer s.parts.capacity (held_in s.parts) (held_in t.parts) s.parts.words takes.only heap.lasts.stable in
+    fixed_by (IsAllocatorWord s.parts.capacity (held_in t.parts)) s seen t same serves.capacity serves.works.stores (λ word may is.
+    not_fixed s.parts.capacity (held_in t.parts) s.parts.words word stable may is)
