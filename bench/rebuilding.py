@@ -8,31 +8,16 @@ usage: rebuilding.py [RUNS]      (make comes first)
 """
 import os
 import pathlib
-import re
-import shutil
 import subprocess
 import sys
 import tempfile
 import time
 
-HERE = pathlib.Path(__file__).resolve().parent
-TOOL = HERE.parent / "bin" / "heap_tool"
+from scratch import HERE, TOP, build
+
+TOOL = TOP / "bin" / "heap_tool"
+CRATES = "tool_run tool_ports dictionary heap_recover filter_trace region_header super_block"
 CALLS = 10
-
-
-def build(room):
-    """The program of timed_recovery.txt, built in a clone in this folder."""
-    clone = room / "clone"
-    subprocess.run(["git", "clone", "-q", HERE.parent, clone], check=True)
-    crate = clone / "crates" / "heap_tool"
-    shutil.copy(HERE / "timed_recovery.txt", crate / "src" / "main.rt")
-    crates = (clone / "crates.txt").read_text()
-    below = re.search(r"^tool_run: (.*)$", crates, re.M)[1]
-    (clone / "crates.txt").write_text(re.sub(r"^heap_tool: .*$", "heap_tool: tool_run " + below, crates, flags=re.M))
-    made = subprocess.run(["rt", "run", "--", "trace", room / "full", "1"], cwd=crate, capture_output=True, text=True)
-    if made.returncode != 0:
-        sys.exit(made.stdout + made.stderr)
-    return crate / "out" / "heap_tool"
 
 
 def took(arguments):
@@ -75,7 +60,7 @@ def main(runs):
         subprocess.run([TOOL, "format", room / "empty", "256"], check=True, stdout=subprocess.DEVNULL)
         for name, superblocks in (("half", 128), ("full", 256)):
             subprocess.run([HERE / "full_image.py", room / name, str(superblocks)], check=True)
-        timed = build(room)
+        timed = build(room, "timed_recovery.txt", CRATES, ["trace", room / "full", 1], adapters=True)
         for name in ("empty", "half", "full"):
             measure(timed, room / name, runs)
 

@@ -11,9 +11,10 @@ use Rattle.heap_model.proofs.BlockLemmas.{block_inside}
 use Rattle.heap_model.proofs.SizeLemmas.{at_class, few_words, size_of-words}
 use Rattle.heap_shape.specs.Whole.{layout_at, IsShape}
 use Rattle.heap_shape.specs.Moves.{AddsTo}
-use Rattle.heap_shape.specs.Draining.{DrainsSame, DrainsOne}
+use Rattle.heap_shape.specs.Draining.{IsAccounted, DrainsSame, DrainsOne}
 use Rattle.heap_shape.proofs.DrainLemmas.{drained_none}
 use Rattle.block_heap.specs.declared.cache.Cache.{Cache}
+use Rattle.block_heap.specs.Accounts.{AreAccounted}
 use Rattle.block_heap.specs.Alloc.{IsSizeFor, of_class as size_of_class, of_superblocks}
 use Rattle.block_heap.specs.Parts.{Parts, image_of, held_in, cache_at}
 use Rattle.block_heap.specs.Running.{IsRunning, AreShort, Serves}
@@ -97,8 +98,9 @@ drains_nothing class p q is capacity fills finds tidy b drained =
     (fills.drains.has b drained)
 
 -- a request of a class that got a block
-pub gets_in_class : (class : ℕ) (b : Block) (p q r : Parts) → IsClass class → AreShort p 0 → Fills class p q → HasRoom p class → HandsOut class b q r → GetsInClass class b p r
-gets_in_class class b p q r is short fills room hands = record {
+pub gets_in_class : (class : ℕ) (b : Block) (p q r : Parts) → IsClass class → AreShort p 0 → q.capacity ≡ p.capacity → r.capacity ≡ q.capacity → Fills class p q → HasRoom p class
+    → HandsOut class b q r → GetsInClass class b p r
+gets_in_class class b p q r is short capacity same fills room hands = record {
   running = hands.running;
   short = short_but class p r short (λ c is_c other. hands.caches c is_c other ∙ fills.caches c is_c other)
       (let count = hands.count in let most = (fills.running.caches class is).most in omega arith);
@@ -106,6 +108,11 @@ gets_in_class class b p q r is short fills room hands = record {
   adds = subst (λ held. AddsTo b held (held_in r)) fills.held hands.adds;
   new = λ holds. hands.new (subst (λ held. Contains held b) (sym fills.held) holds);
   room = room;
+  accounted = λ before.
+      let filled : AreAccounted q = subst (λ n. IsAccounted n (image_of q) (held_in q)) (sym capacity)
+      (subst (λ (held : List Block). IsAccounted p.capacity (image_of q) held) (sym fills.held) (fills.drains.accounted before)) in
+      subst (λ n. IsAccounted n (image_of r) (held_in r)) (sym same)
+      (subst (λ (xs : List ℕ). IsAccounted q.capacity (λ word. get_or xs word 0) (held_in r)) (sym hands.volatile) (hands.drains.accounted filled));
 }
 
 -- it was one of those to be drained
@@ -140,6 +147,7 @@ answers_small bytes class None p q least misses = record {
   none = λ room. no_room room;
   in_class = λ other is_least. subst (λ k. LookedInClass k p.words.drawn q) (one_least bytes class other least is_least) misses.looked;
   at_used = λ large. absurd (let small = least_small bytes class least in omega arith);
+  accounted = misses.accounted;
 } where
   no_room : HasRoomFor p bytes → ⊥
   no_room (for_class other is_least room) = misses.none (subst (HasRoom p) (one_least bytes other class is_least least) room)
@@ -151,12 +159,13 @@ answers_small bytes class (Some b) p q least gets = record {
   adds = gets.adds;
   new = gets.new;
   room = for_class class least gets.room;
+  accounted = gets.accounted;
 }
 
 -- the answer to one that takes superblocks of its own
 pub answers_large : (bytes : ℕ) (answer : Option Block) (p q : Parts) → largest_small < bytes → AreShort p 0 → JoinsAs (span_of bytes) answer p q → IsRunning q
-    → q.caches ≡ p.caches → q.capacity ≡ p.capacity → Answers bytes answer p q
-answers_large bytes None p q large short joins running caches capacity = record {
+    → (AreAccounted p → AreAccounted q) → q.caches ≡ p.caches → q.capacity ≡ p.capacity → Answers bytes answer p q
+answers_large bytes None p q large short joins running accounted caches capacity = record {
   running = running;
   short = short_same p q caches short;
   held = joins.0;
@@ -164,11 +173,12 @@ answers_large bytes None p q large short joins running caches capacity = record 
   none = λ room. no_room room;
   in_class = λ class least. absurd (let small = least_small bytes class least in omega arith);
   at_used = λ _. record { used_look = joins.3; past = let same = joins.2 in let past = joins.1 in omega arith };
+  accounted = accounted;
 } where
   no_room : HasRoomFor p bytes → ⊥
   no_room (for_class class least room) = let small = least_small bytes class least in omega arith
   no_room (for_large _ fits) = let past = joins.1 in omega arith
-answers_large bytes (Some b) p q large short joins running caches capacity = record {
+answers_large bytes (Some b) p q large short joins running accounted caches capacity = record {
   running = running;
   short = short_same p q caches short;
   size =
@@ -178,6 +188,7 @@ answers_large bytes (Some b) p q large short joins running caches capacity = rec
   adds = joins.1;
   new = joins.2;
   room = for_large large joins.3;
+  accounted = accounted;
 }
 
 -- a held block of a class has the size of that class
@@ -208,3 +219,8 @@ few_held p b run holds =
 pub both_ok : {T E : Type 0} (r : Result T E) (P Q : T → Type 0) (R : Type 0) → ((x : T) → P x → R → Q x) → IfOk r P → OnOk r R → IfOk r Q
 both_ok (Ok x) P Q R both p q = both x p q
 both_ok (Err e) P Q R both p q = p
+
+-- both hold of an answer
+pub on_ok_both : {T E : Type 0} (r : Result T E) (A B : Type 0) → OnOk r A → OnOk r B → OnOk r (A × B)
+on_ok_both (Ok t) A B a b = (a, b)
+on_ok_both (Err e) A B a b = tt

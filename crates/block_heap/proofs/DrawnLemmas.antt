@@ -152,7 +152,7 @@ pub drawn_few : (class : ℕ) (s t u : SeqState) (offsets : List ℕ) → HasDra
 drawn_few class s t u offsets has draws = let short = has.short in let few = has.few in omega arith
 
 -- the ticket of a fault
-step_of : DrainFault → ℕ
+abbrev pub step_of : DrainFault → ℕ
 step_of (StoppedFault stopped) = stopped.step
 step_of MemoryFault = 0
 
@@ -161,7 +161,6 @@ pub drawn_halts : (class most : ℕ) (stopped e : Stopped) (s t u : SeqState) (o
     → u.parts.words.drawn ≤ t.parts.words.drawn + 10001 → IsLargeCall most (seat_of t) (seat_of u) → Stops stopped.step (seat_of t) (seat_of u)
     → StoppedFault stopped ≡ StoppedFault e → s.stopped ≡ None
     → (s.parts.words.budget ≤ e.step) × (e.step < s.parts.words.drawn + 2 ^ 32)
-unfolding step_of
 drawn_halts class most stopped e s t u offsets has draws counted stops one running =
     let few = drawn_few class s t u offsets has draws in
     let above : u.parts.words.budget ≤ stopped.step = stops.above in

@@ -7,12 +7,13 @@ use Rattle.heap_model.specs.Sizes.{IsClass, words_of_class, blocks_of}
 use Rattle.heap_model.specs.Blocks.{IsIn}
 use Rattle.heap_model.specs.Words.{head_of, head_first, head_pops, anchor_of, anchor_state, anchor_first, anchor_count, empty_state, partial_state}
 use Rattle.heap_model.specs.Chains.{Walks}
-use Rattle.heap_model.proofs.MemberLemmas.{in_head}
+use Rattle.heap_model.proofs.MemberLemmas.{in_head, in_rest}
 use Rattle.heap_shape.specs.Shape.{Shape, in_list, is_full, with_at}
 use Rattle.heap_shape.specs.Standing.{first_of, IsOfClass}
 use Rattle.heap_shape.specs.Whole.{IsShape}
 use Rattle.heap_shape.specs.Effects.{IsPushedOn, IsGivenBack, IsInSuperblock}
 use Rattle.heap_shape.specs.Moves.{after_give, after_give_full, after_give_all}
+use Rattle.heap_shape.proofs.AccountLemmas.{accounted_kept}
 use Rattle.heap_shape.proofs.BasicLemmas.{with_at_other, first_inside, first_injective, inside_one, cached_of_class, in_class_list, in_full}
 use Rattle.heap_shape.proofs.CountLemmas.{few_given}
 use Rattle.heap_shape.proofs.GiveLemmas.{give, give_full, give_all}
@@ -23,6 +24,7 @@ use Rattle.anchor_word.specs.declared.anchor.State.{State}
 use Rattle.anchor_word.specs.declared.anchor.State.TheVariants.{Empty, Partial, Full}
 use Rattle.anchor_word.specs.Anchor.{state_number}
 use Rattle.block_heap.specs.declared.small.Front.{Front}
+use Rattle.block_heap.specs.Accounts.{AreAccounted}
 use Rattle.block_heap.specs.Batches.{IsGiven, IsGiveWord, linked_words, given_to}
 use Rattle.block_heap.specs.Flush.{IsFront}
 use Rattle.block_heap.specs.Links.{IsPushed, IsPushWord}
@@ -32,7 +34,7 @@ use Rattle.block_heap.specs.Running.{IsRunning, IsCacheOf, Serves}
 use Rattle.block_heap.specs.Works.{IsAllocatorWord, is_head, is_anchor, is_link, is_inside}
 use Rattle.block_heap.proofs.MediumLemmas.{stores_then, stores_more}
 use Rattle.block_heap.proofs.RunningLemmas.{set_is}
-use Rattle.block_heap.proofs.SmallLemmas.{changed, keeps_fixed, running_after, caches_set, serves_of}
+use Rattle.block_heap.proofs.SmallLemmas.{changed, KeepsFixed, keeps_fixed, running_after, caches_set, serves_of}
 
 -- a walk along fewer blocks from where a longer one begins goes along its front
 pub walk_front : (next : ℕ → ℕ) (from : ℕ) (xs ys : List ℕ) → Walks next from xs → Walks next from ys → length xs ≤ length ys
@@ -306,16 +308,29 @@ module _ (p : Parts) (class : ℕ) (is : IsClass class) (run : IsRunning p) (fro
     caches_now t cached start = caches_set p run class t (image_of p front.batch.last) split.0 front.rest is is_front.next
         (sym rest_long) few_rest cached start
 
+    -- infos and `used` stay, the shape is kept, and no superblock is lost
+    gave_fixed : KeepsFixed p w
+    gave_fixed =
+        let within = is_front.within in
+        keeps_fixed p w (IsGiveWord front.d front.batch) run stores given.goes.running given.goes.below
+        (λ e below. give_low (info_word e) (omega arith) (omega arith)) (give_low used_word (omega arith) (omega arith))
+        (λ list below. ap head_pops (stores.volatile (head_word list) (give_low (head_word list) (omega arith) (omega arith))))
+
+    gave_shape : anchor.state ≢ Full → IsShape p.capacity (λ word. volatile_at w word) (held_in p)
+        (after_give s class front.d blocks split.0 (image_of p front.batch.last))
+    gave_shape other =
+        give p.capacity class front.d (image_of p) (λ word. volatile_at w word) (held_in p) s is_front.before split.0 front.batch.last is run.is
+        is_front.within split.1 is_front.firsts (gave_listed other) given_back
+
+    pub gave_accounted : anchor.state ≢ Full → AreAccounted p → AreAccounted (changed p w (set p.caches class front.rest) p.blocks)
+    gave_accounted other = accounted_kept p.capacity (image_of p) (λ word. volatile_at w word) (held_in p) s
+        (after_give s class front.d blocks split.0 (image_of p front.batch.last)) (held_in p) run.is (gave_shape other) gave_fixed.used gave_fixed.infos
+        (λ e p. p)
+
     pub gave_running : anchor.state ≢ Full → IsRunning (changed p w (set p.caches class front.rest) p.blocks)
     gave_running other =
-        let within = is_front.within in
         running_after p w (set p.caches class front.rest) p.blocks (after_give s class front.d blocks split.0 (image_of p front.batch.last)) run
-        (keeps_fixed p w (IsGiveWord front.d front.batch) run stores given.goes.running given.goes.below
-        (λ e below. give_low (info_word e) (omega arith) (omega arith)) (give_low used_word (omega arith) (omega arith))
-        (λ list below. ap head_pops (stores.volatile (head_word list) (give_low (head_word list) (omega arith) (omega arith)))))
-        (length-set p.caches class front.rest ∙ run.caches_long) refl refl
-        (give p.capacity class front.d (image_of p) (λ word. volatile_at w word) (held_in p) s is_front.before split.0 front.batch.last is run.is
-        is_front.within split.1 is_front.firsts (gave_listed other) given_back)
+        gave_fixed (length-set p.caches class front.rest ∙ run.caches_long) refl refl (gave_shape other)
         (caches_now (after_give s class front.d blocks split.0 (image_of p front.batch.last)) (λ c. refl) (λ c. refl))
         (λ e below is_class place. place)
 
@@ -362,16 +377,25 @@ module _ (p : Parts) (class : ℕ) (is : IsClass class) (run : IsRunning p) (fro
           push_other l l_below other (inl at) = other (omega arith)
           push_other l l_below other (inr at) = omega arith
 
+      -- infos and `used` stay here too, and so no superblock is lost
+      listed_fixed : list < lists → KeepsFixed p x
+      listed_fixed below =
+          let within = is_front.within in
+          keeps_fixed p x (IsEitherWord list) run (both_stores w x list stores push_stores) pushed.goes.running pushed.goes.below
+          (λ e e_below. both_low list (info_word e) (omega arith) (omega arith) (omega arith) (omega arith))
+          (both_low list used_word (omega arith) (omega arith) (omega arith) (omega arith)) (pops_now below)
+
+      listed_accounted : (t : Shape) → list < lists → IsShape p.capacity (λ word. volatile_at x word) (held_in p) t
+          → ((e : ℕ) → Contains (s.listed 0) e → Contains (t.listed 0) e) → AreAccounted p → AreAccounted now_listed
+      listed_accounted t below shape listed =
+          accounted_kept p.capacity (image_of p) (λ word. volatile_at x word) (held_in p) s t (held_in p) run.is shape
+          (listed_fixed below).used (listed_fixed below).infos listed
+
       listed_running : (t : Shape) (list_place : ℕ) → list < lists → IsShape p.capacity (λ word. volatile_at x word) (held_in p) t
           → ((c : ℕ) → t.cached c ≡ with_at s.cached class split.0 c) → ((c : ℕ) → t.start c ≡ with_at s.start class (image_of p front.batch.last) c)
           → ((e : ℕ) → t.place e ≡ with_at s.place front.d (in_list list_place) e) → IsRunning now_listed
       listed_running t list_place below shape cached start place =
-          let within = is_front.within in
-          running_after p x (set p.caches class front.rest) p.blocks t run
-          (keeps_fixed p x (IsEitherWord list) run (both_stores w x list stores push_stores) pushed.goes.running pushed.goes.below
-          (λ e e_below. both_low list (info_word e) (omega arith) (omega arith) (omega arith) (omega arith))
-          (both_low list used_word (omega arith) (omega arith) (omega arith) (omega arith)) (pops_now below))
-          (length-set p.caches class front.rest ∙ run.caches_long) refl refl shape (caches_now t cached start) places
+          running_after p x (set p.caches class front.rest) p.blocks t run (listed_fixed below) (length-set p.caches class front.rest ∙ run.caches_long) refl refl shape (caches_now t cached start) places
         where
           places : (e : ℕ) → e < p.capacity → IsClass (image_of p (info_word e)) → (t.place e ≡ in_list (image_of p (info_word e))) ⊎ (t.place e ≡ is_full)
               → (s.place e ≡ in_list (image_of p (info_word e))) ⊎ (s.place e ≡ is_full)
@@ -386,26 +410,34 @@ module _ (p : Parts) (class : ℕ) (is : IsClass class) (run : IsRunning p) (fro
       none_before = ap (λ (xs : List ℕ). length xs) (gave_full full).3
 
       -- that of the free ones
-      pub pushed_all : front.batch.count ≡ blocks_of class → list ≡ 0 → IsRunning now_listed
-      pushed_all all same =
+      all_shape : front.batch.count ≡ blocks_of class → list ≡ 0 → IsShape p.capacity (λ word. volatile_at x word) (held_in p)
+          (after_give_all s class front.d blocks split.0 (image_of p front.batch.last))
+      all_shape all same =
           let count = is_front.count in
           let none = none_before in
           let total : length blocks + length (s.chain front.d) ≡ blocks_of class = omega arith in
           let empty : state_now ≡ empty_state = cond-true (nat_eq (length blocks + length (s.chain front.d)) (blocks_of class)) empty_state partial_state
           (eq-eqb (length blocks + length (s.chain front.d)) (blocks_of class) total) in
           let is_state = gave_full full in
-          listed_running (after_give_all s class front.d blocks split.0 (image_of p front.batch.last)) 0 (omega arith)
-          (give_all p.capacity class front.d (image_of p) (λ word. volatile_at w word) (held_in p) s is_front.before split.0 front.batch.last is run.is
+          give_all p.capacity class front.d (image_of p) (λ word. volatile_at w word) (held_in p) s is_front.before split.0 front.batch.last is run.is
           is_front.within split.1 is_front.firsts
           (λ word. volatile_at x word) is_state.0 is_state.1 (omega arith)
           (subst (λ state. IsGivenBack p.capacity (image_of p) (λ word. volatile_at w word) s class front.d is_front.before front.batch.last state) empty
           given_back)
-          (subst (λ l. IsPushedOn (λ word. volatile_at w word) (λ word. volatile_at x word) l front.d) same (pushed_on (omega arith))))
-          (λ c. refl) (λ c. refl) (λ e. refl)
+          (subst (λ l. IsPushedOn (λ word. volatile_at w word) (λ word. volatile_at x word) l front.d) same (pushed_on (omega arith)))
+
+      pub pushed_all : front.batch.count ≡ blocks_of class → list ≡ 0 → IsRunning now_listed
+      pushed_all all same = listed_running (after_give_all s class front.d blocks split.0 (image_of p front.batch.last)) 0 (omega arith)
+          (all_shape all same) (λ c. refl) (λ c. refl) (λ e. refl)
+
+      pub all_accounted : front.batch.count ≡ blocks_of class → list ≡ 0 → AreAccounted p → AreAccounted now_listed
+      all_accounted all same = listed_accounted (after_give_all s class front.d blocks split.0 (image_of p front.batch.last)) (omega arith)
+          (all_shape all same) (λ e. in_rest front.d e (s.listed 0))
 
       -- that of the class
-      pub pushed_some : front.batch.count ≢ blocks_of class → list ≡ class → IsRunning now_listed
-      pushed_some not_all same =
+      some_shape : front.batch.count ≢ blocks_of class → list ≡ class → IsShape p.capacity (λ word. volatile_at x word) (held_in p)
+          (after_give_full s class front.d blocks split.0 (image_of p front.batch.last))
+      some_shape not_all same =
           let last_class = is.last in
           let count = is_front.count in
           let none = none_before in
@@ -414,11 +446,19 @@ module _ (p : Parts) (class : ℕ) (is : IsClass class) (run : IsRunning p) (fro
           let partial : state_now ≡ partial_state = cond-false (nat_eq (length blocks + length (s.chain front.d)) (blocks_of class)) empty_state partial_state
           (ne_eqb (length blocks + length (s.chain front.d)) (blocks_of class) differs) in
           let is_state = gave_full full in
-          listed_running (after_give_full s class front.d blocks split.0 (image_of p front.batch.last)) class (omega arith)
-          (give_full p.capacity class front.d (image_of p) (λ word. volatile_at w word) (held_in p) s is_front.before split.0 front.batch.last is run.is
+          give_full p.capacity class front.d (image_of p) (λ word. volatile_at w word) (held_in p) s is_front.before split.0 front.batch.last is run.is
           is_front.within split.1 is_front.firsts
           (λ word. volatile_at x word) is_state.0 is_state.1 (omega arith)
           (subst (λ state. IsGivenBack p.capacity (image_of p) (λ word. volatile_at w word) s class front.d is_front.before front.batch.last state) partial
           given_back)
-          (subst (λ l. IsPushedOn (λ word. volatile_at w word) (λ word. volatile_at x word) l front.d) same (pushed_on (omega arith))))
-          (λ c. refl) (λ c. refl) (λ e. refl)
+          (subst (λ l. IsPushedOn (λ word. volatile_at w word) (λ word. volatile_at x word) l front.d) same (pushed_on (omega arith)))
+
+      pub pushed_some : front.batch.count ≢ blocks_of class → list ≡ class → IsRunning now_listed
+      pushed_some not_all same = let last_class = is.last in
+          listed_running (after_give_full s class front.d blocks split.0 (image_of p front.batch.last)) class (omega arith)
+          (some_shape not_all same) (λ c. refl) (λ c. refl) (λ e. refl)
+
+      pub some_accounted : front.batch.count ≢ blocks_of class → list ≡ class → AreAccounted p → AreAccounted now_listed
+      some_accounted not_all same = let last_class = is.last in let some_class = is.some in
+          listed_accounted (after_give_full s class front.d blocks split.0 (image_of p front.batch.last)) (omega arith) (some_shape not_all same)
+          (λ e. subst (λ xs. Contains xs e) (sym (with_at_other s.listed class (front.d ∷ s.listed class) 0 (λ q. omega arith))))

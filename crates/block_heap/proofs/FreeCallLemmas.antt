@@ -4,10 +4,11 @@ use Rattle.heap_model.specs.declared.block.Block.{Block}
 use Rattle.heap_model.specs.Blocks.{IsIn}
 use Rattle.heap_shape.specs.Moves.{TakesFrom}
 use Rattle.line_memory.specs.declared.memory.Stopped.{Stopped}
+use Rattle.block_heap.specs.Accounts.{AreAccounted}
 use Rattle.block_heap.specs.Free.{MayFree, Frees}
 use Rattle.block_heap.specs.Medium.{Goes, Halts}
 use Rattle.block_heap.specs.Parts.{Parts, held_in}
-use Rattle.block_heap.specs.Running.{Serves}
+use Rattle.block_heap.specs.Running.{IsRunning, AreShort, Serves}
 use Rattle.block_heap.specs.Works.{IsAllocatorWord, IsStable, IsLasting}
 use Rattle.block_heap.specs.SeqState.{SeqState, IsSeqHeap, all_roots, seat_of}
 use Rattle.block_heap.specs.Words.{IsOwn, in_block, in_root}
@@ -28,10 +29,11 @@ pub free_lasts : (r : Result Unit Stopped) (p q : Parts) (b : Block) (old o : Op
 free_lasts r p q b old o lasts takes serves none stops halts =
     large_lasts r p q (held_in q) 40000 old o lasts serves (free_stable p q b lasts.stable takes serves) none stops halts
 
--- both hold of an answer
-pub on_ok_both : {T : Type 0} (r : Result T Stopped) (A B : Type 0) → OnOk r A → OnOk r B → OnOk r (A × B)
-on_ok_both (Ok t) A B a b = (a, b)
-on_ok_both (Err e) A B a b = tt
+-- the parts after a free that was done
+pub free_runs : (r : Result Unit Stopped) (p q : Parts) → AreAccounted p → OnOk r (IsRunning q) → OnOk r (AreShort q 0)
+    → OnOk r (AreAccounted p → AreAccounted q) → OnOk r (IsRunning q × AreShort q 0 × AreAccounted q)
+free_runs (Ok t) p q before run short accounted = (run, short, accounted before)
+free_runs (Err e) p q before run short accounted = tt
 
 module _ (s : SeqState) (q : Parts) (o : Option ℕ) (b : Block) (heap : IsSeqHeap s)
     (takes : TakesFrom b (held_in s.parts) (held_in q)) (serves : Serves (held_in q) s.parts q) where

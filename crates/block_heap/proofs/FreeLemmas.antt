@@ -9,18 +9,20 @@ use Rattle.heap_model.specs.Blocks.{IsBlock, IsIn}
 use Rattle.heap_model.specs.Recovered.{HasPartIn}
 use Rattle.heap_model.specs.Words.{head_pops}
 use Rattle.heap_model.proofs.BlockLemmas.{block_inside, never_overlap}
-use Rattle.heap_model.proofs.PartLemmas.{part_taken, same_fields}
-use Rattle.heap_model.proofs.SizeLemmas.{two_words, four_blocks, few_blocks}
+use Rattle.heap_model.proofs.PartLemmas.{cases_of_part, part_taken, same_fields}
+use Rattle.heap_model.proofs.SizeLemmas.{two_words, few_words, four_blocks, few_blocks}
 use Rattle.heap_shape.specs.Shape.{Place, in_list, is_full, in_large, is_new, Shape}
 use Rattle.heap_shape.specs.Standing.{HasNoHeld, IsAs}
-use Rattle.heap_shape.specs.Whole.{layout_at}
+use Rattle.heap_shape.specs.Whole.{layout_at, IsShape}
 use Rattle.heap_shape.specs.Effects.{IsInSuperblock}
 use Rattle.heap_shape.specs.Moves.{TakesFrom, with_cache}
+use Rattle.heap_shape.proofs.AccountLemmas.{accounted_kept, accounted_without}
 use Rattle.heap_shape.proofs.HandLemmas.{take_back}
 use Rattle.heap_shape.proofs.OwnLemmas.{class_block}
 use Rattle.line_memory.specs.View.{View, volatile_at}
 use Rattle.block_heap.specs.declared.cache.Cache.{Cache}
 use Rattle.block_heap.specs.declared.held.HeldBlocks.{HeldBlocks}
+use Rattle.block_heap.specs.Accounts.{AreAccounted}
 use Rattle.block_heap.specs.Held.{held_of, HasMark, at_mark}
 use Rattle.block_heap.specs.Medium.{StoresOnly, IsStored, Goes}
 use Rattle.block_heap.specs.Parts.{Parts, image_of, held_in, cache_at}
@@ -28,7 +30,7 @@ use Rattle.block_heap.specs.Running.{IsRunning, AreShort, Serves}
 use Rattle.block_heap.specs.Flush.{KeepsAll}
 use Rattle.block_heap.specs.Works.{IsAllocatorWord, is_inside}
 use Rattle.block_heap.proofs.RunningLemmas.{set_is}
-use Rattle.block_heap.proofs.SmallLemmas.{changed, keeps_fixed, running_after, caches_set, other_cache, serves_of, serves_then, even_words, even_product}
+use Rattle.block_heap.proofs.SmallLemmas.{changed, KeepsFixed, keeps_fixed, running_after, caches_set, other_cache, serves_of, serves_then, even_words, even_product}
 
 -- a superblock of a class with a held block stands in the list of its class, or is full
 place_known : (capacity : ℕ) (image : Image) (s : Shape) (held : List Block) (d : ℕ) (place : Place) → IsClass (image (info_word d)) → d < image used_word
@@ -142,21 +144,46 @@ module _ (p : Parts) (class : ℕ) (is : IsClass class) (run : IsRunning p) (b :
           let e : cache.count ≡ (cache_at p.caches class).count = ap (λ (x : Cache). x.count) cache_is in
           omega arith
 
-      pub freed_running : IsRunning freed_parts
-      freed_running =
+      abbrev t : Shape
+      t = with_cache run.shape class b.first_word (b.first_word ∷ run.shape.cached class)
+
+      -- infos and `used` stay, and the shape is kept
+      freed_fixed : KeepsFixed p w
+      freed_fixed = keeps_fixed p w (λ word. word ≡ b.first_word) run stores stored.goes.running stored.goes.below
+          (λ d d_below. not_first (info_word d) (omega arith)) (not_first used_word (omega arith))
+          (λ list list_below. ap head_pops (stores.volatile (head_word list) (not_first (head_word list) (omega arith))))
+
+      freed_shape : IsShape p.capacity (λ word. volatile_at w word) (held_of h) t
+      freed_shape =
           let below = held_below in
           let long = run.words_open.long in
-          let few = count_short in
-          let count = count_is in
-          running_after p w (set p.caches class freed_cache) h (with_cache run.shape class b.first_word (b.first_word ∷ run.shape.cached class)) run
-          (keeps_fixed p w (λ word. word ≡ b.first_word) run stores stored.goes.running stored.goes.below (λ d d_below. not_first (info_word d) (omega arith))
-          (not_first used_word (omega arith))
-          (λ list list_below. ap head_pops (stores.volatile (head_word list) (not_first (head_word list) (omega arith)))))
-          (length-set p.caches class freed_cache ∙ run.caches_long) start words
-          (take_back p.capacity class where_is.0 (image_of p) (λ word. volatile_at w word) (held_in p)
+          take_back p.capacity class where_is.0 (image_of p) (λ word. volatile_at w word) (held_in p)
           (held_of h) run.shape b is run.is holds where_is.1 where_is.2 where_is.3 taken_back
           (set_is p.words.volatile w.volatile b.first_word (run.shape.start class) (omega arith)
-          (stored.volatile ∙ ap (λ x. set p.words.volatile b.first_word x) first_is)))
+          (stored.volatile ∙ ap (λ x. set p.words.volatile b.first_word x) first_is))
+
+      -- its superblock is cut for the class still
+      still_class : (e : ℕ) → HasPartIn p.capacity b e → IsClass (volatile_at w (info_word e))
+      still_class e has = elim (cases_of_part (layout_at p.capacity (image_of p)) b e named has) as (λ _. IsClass (volatile_at w (info_word e))) [
+        | inl one ↦
+            let taken = part_taken (layout_at p.capacity (image_of p)) b e named has in
+            let most = run.is.used in
+            subst IsClass (sym (freed_fixed.infos e (omega arith) ∙ one.info_is)) one.is_class
+        | inr all ↦ absurd (let long = all.long in let few = few_words class is in omega arith)
+      ]
+
+      -- so no superblock is lost
+      pub freed_accounted : AreAccounted p → AreAccounted freed_parts
+      freed_accounted before = accounted_without p.capacity (λ word. volatile_at w word) (held_in p) (held_of h) b taken_back still_class
+          (accounted_kept p.capacity (image_of p) (λ word. volatile_at w word) (held_in p) run.shape t (held_of h) run.is freed_shape
+          freed_fixed.used freed_fixed.infos (λ e p. p) before)
+
+      pub freed_running : IsRunning freed_parts
+      freed_running =
+          let few = count_short in
+          let count = count_is in
+          running_after p w (set p.caches class freed_cache) h t run freed_fixed
+          (length-set p.caches class freed_cache ∙ run.caches_long) start words freed_shape
           (caches_set p run class (with_cache run.shape class b.first_word (b.first_word ∷ run.shape.cached class)) b.first_word
           (b.first_word ∷ run.shape.cached class) freed_cache is refl (omega arith) (omega arith) (λ c. refl) (λ c. refl))
           (λ d d_below is_class place. place)

@@ -15,6 +15,7 @@ use Rattle.block_heap.specs.Flush.{IsFront, KeepsAll, GivesBack}
 use Rattle.block_heap.specs.Medium.{StoresOnly, Goes, Halts, IsLoaded}
 use Rattle.block_heap.specs.Parts.{Parts, image_of, held_in, cache_at}
 use Rattle.block_heap.specs.Running.{IsRunning, Serves}
+use Rattle.block_heap.proofs.AccountLemmas.{accounted_same}
 use Rattle.block_heap.proofs.MediumLemmas.{stores_then}
 use Rattle.block_heap.proofs.RunningLemmas.{running_words}
 use Rattle.block_heap.proofs.SmallLemmas.{first_cached, first_of_d, serves_of, serves_none, serves_then}
@@ -44,6 +45,15 @@ module _ (p q : Parts) (most : ℕ) (run : IsRunning p) (loaded : HasLoaded most
 
   pub loaded_run : IsRunning q
   loaded_run = subst (λ x. IsRunning x) (sym loaded.same) loaded_running
+
+  -- and keep what is said of it
+  pub loaded_keeps : (class : ℕ) → KeepsAll class p q
+  loaded_keeps class = record {
+    caches = λ c is other. ap (λ (x : Parts). cache_at x.caches c) loaded.same;
+    used_look = ap (λ (x : Parts). x.used_look) loaded.same;
+    head_looks = ap (λ (x : Parts). x.head_looks) loaded.same;
+    accounted = accounted_same p q (ap (λ (x : Parts). x.capacity) loaded.same) loaded.volatile (ap (λ (x : Parts). held_in x) loaded.same);
+  }
 
   pub loaded_serves : Serves (held_in p) p q
   loaded_serves = serves_of p q (held_in p) (λ _. ⊥) run (ap (λ x. x.capacity) loaded.same) (ap (λ x. x.used_look) loaded.same)
@@ -240,7 +250,7 @@ pub record IsFlushed (class : ℕ) (p q : Parts) : Type 0 where
 pub flushed_none : (class : ℕ) (p : Parts) → IsRunning p → IsFlushed class p p
 flushed_none class p run = record {
   running = run;
-  keeps = record { caches = λ c is other. refl; used_look = refl; head_looks = refl };
+  keeps = record { caches = λ c is other. refl; used_look = refl; head_looks = refl; accounted = λ before. before };
   more = omega arith;
   few = omega arith;
   held = refl;
@@ -253,6 +263,7 @@ keeps_then class p q r a b = record {
   caches = λ c is other. b.caches c is other ∙ a.caches c is other;
   used_look = b.used_look ∙ a.used_look;
   head_looks = b.head_looks ∙ a.head_looks;
+  accounted = λ before. b.accounted (a.accounted before);
 }
 
 pub flushed_serves : (class : ℕ) (p q r : Parts) → IsFlushed class p q → Serves (held_in q) q r → Serves (held_in p) p r

@@ -11,6 +11,7 @@ use Rattle.heap_shape.specs.Shape.{Place, in_list, is_full, in_large}
 use Rattle.heap_shape.specs.Whole.{layout_at, IsShape}
 use Rattle.heap_shape.specs.Effects.{IsSet}
 use Rattle.heap_shape.specs.Moves.{after_join, AddsTo}
+use Rattle.heap_shape.proofs.AccountLemmas.{accounted_joined}
 use Rattle.heap_shape.proofs.JoinLemmas.{join}
 use Rattle.heap_shape.proofs.OwnLemmas.{none_past}
 use Rattle.line_memory.specs.View.{View, word_count, volatile_at, durable_at}
@@ -20,12 +21,14 @@ use Rattle.line_memory.specs.Marked.{marked_words-has}
 use Rattle.block_heap.specs.declared.held.HeldBlocks.{HeldBlocks}
 use Rattle.block_heap.specs.declared.look.Look.{Look}
 use Rattle.block_heap.specs.declared.superblocks.Fresh.{Fresh}
+use Rattle.block_heap.specs.Accounts.{AreAccounted}
 use Rattle.block_heap.specs.Held.{held_of, at_mark, block_of_mark}
 use Rattle.block_heap.specs.Links.{IsFresh}
 use Rattle.block_heap.specs.Medium.{StoresOnly, IsPersisted}
 use Rattle.block_heap.specs.Parts.{Parts, image_of, held_in}
 use Rattle.block_heap.specs.Running.{IsRunning, IsSettled, Serves}
 use Rattle.block_heap.specs.Works.{UsedFits, is_info}
+use Rattle.block_heap.proofs.AccountLemmas.{accounted_same}
 use Rattle.block_heap.proofs.RunningLemmas.{set_is, running_words}
 use Rattle.block_heap.proofs.HeldLemmas.{has_map}
 use Rattle.block_heap.proofs.StableLemmas.{works_of, works_then, works_raised}
@@ -68,6 +71,12 @@ running_looked p count fresh u look run is none seen when =
       knows = omega arith;
       few = now.few;
     }
+
+-- and no superblock is lost
+pub looked_accounted : (p : Parts) (count : ℕ) (fresh : Fresh) (u : View) (look : Look) → IsFresh p.capacity count fresh p.words u → fresh.first ≡ None
+    → AreAccounted p → AreAccounted (record p { words = u; used_look = look })
+looked_accounted p count fresh u look is none =
+    accounted_same p (record p { words = u; used_look = look }) refl (fresh_none p.capacity count fresh p.words u is none).0 refl
 
 pub serves_looked : (p : Parts) (count : ℕ) (fresh : Fresh) (u : View) (look : Look) → IsRunning p → IsFresh p.capacity count fresh p.words u → fresh.first ≡ None
     → look.seen ≡ fresh.used → look.taken ≡ p.taken → Serves (held_in p) p (record p { words = u; used_look = look })
@@ -184,6 +193,11 @@ module _ (p : Parts) (count d : ℕ) (fresh : Fresh) (u : View) (look : Look) (r
         joined : IsShape p.capacity (volatile_at w) (held_of added) (after_join run.shape d count) × (Contains (held_in p) block → ⊥)
         joined = join p.capacity count d (image_of p) (volatile_at u) (volatile_at w) (held_in p) (held_of added) run.shape run.is was_used some
             (omega (arith, got.0, got.1)) used_set info_set adds_block
+
+        -- those that were taken have parts of the block
+        pub join_accounted : AreAccounted p → AreAccounted (record p { words = w; blocks = added; taken = p.taken + count; used_look = look })
+        join_accounted = accounted_joined p.capacity count d (image_of p) (volatile_at u) (volatile_at w) (held_in p) (held_of added) run.shape
+            (after_join run.shape d count) run.is joined.0 refl was_used used_set info_set adds_block
 
         -- the words but two are as before
         same_word : (word : ℕ) → word ≢ used_word → word ≢ info_word d → volatile_at w word ≡ image_of p word

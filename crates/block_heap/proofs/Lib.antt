@@ -1,3 +1,4 @@
+pub mod AccountLemmas
 pub mod AllocLemmas
 pub mod AnchorLemmas
 pub mod CallerLemmas
@@ -27,4 +28,6 @@ pub mod FreeCallLemmas
 pub mod DrainStepLemmas
 pub mod SpendLemmas
 pub mod DrawnLemmas
+pub mod ReopenLemmas
 pub mod FixedLemmas
+pub mod DrainKeepLemmas

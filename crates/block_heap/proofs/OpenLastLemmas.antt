@@ -29,7 +29,7 @@ pub opened_heap : (words : List ℕ) (held : List Block) (budget : ℕ) (p : Par
     → IsSeqHeap (record { parts = p; stopped = None; small_calls = 0; large_calls = 0; refusals = 0; refused_bytes = 0; refused_looks = looks; lasts = l })
 opened_heap words held budget p looks l some small opens = record {
   lasts = opened_lasts words held budget p some small opens;
-  running = λ runs. (opens.running, record { each = λ class is other. let none = opens.empty class is in let more = four_blocks class is in omega arith });
+  running = λ runs. (opens.running, record { each = λ class is other. let none = opens.empty class is in let more = four_blocks class is in omega arith }, opens.accounted);
   calls = omega arith;
   refused = omega arith;
 }

@@ -13,8 +13,9 @@ use Rattle.heap_model.specs.Rest.{IsReady}
 use Rattle.heap_shape.specs.Shape.{Shape}
 use Rattle.heap_shape.specs.Standing.{IsAs}
 use Rattle.heap_shape.specs.Whole.{IsShape}
+use Rattle.heap_shape.specs.Draining.{HasUse, for_class, for_held, for_later}
 use Rattle.heap_shape.proofs.FrameLemmas.{SameThere, frame}
-use Rattle.heap_shape.proofs.OpenLemmas.{opens}
+use Rattle.heap_shape.proofs.OpenLemmas.{opens, opens_accounted}
 use Rattle.heap_shape.proofs.OwnLemmas.{same_held}
 use Rattle.line_memory.specs.View.{View, opened}
 use Rattle.block_heap.specs.declared.cache.Cache.{Cache}
@@ -131,13 +132,19 @@ module _ (words : List ℕ) (held : List Block) (budget : ℕ) (h : HeldBlocks) 
   opens_parts : Opens words held budget parts
   opens_parts = record {
     running = running;
+    accounted = record { each = λ d within. by_use d ((opens_accounted words held ready).each d within) };
     empty = λ class is_class. ap (λ (c : Cache). c.count) (cache_is class is_class);
     words_are = refl;
     capacity = refl;
     same = is.same;
     taken = refl;
     used = seen;
-  }
+  } where
+    by_use : (d : ℕ) → HasUse (capacity_of (slice_index words)) (slice_index words) held d
+        → HasUse (capacity_of (slice_index words)) (slice_index words) (held_of h) d
+    by_use d (for_class is_class) = for_class is_class
+    by_use d (for_held b holds part) = for_held b ((is.same b).1 holds) part
+    by_use d (for_later in_free) = for_later in_free
 
   -- with words and capacity that are told by equations
   pub opens_with : (v : View) (capacity : ℕ) → v ≡ opened words budget → capacity ≡ capacity_of (slice_index words)

@@ -11,6 +11,7 @@ use Rattle.line_memory.specs.declared.memory.Stopped.{Stopped}
 use Rattle.block_heap.specs.Medium.{StoresOnly, Goes, Halts}
 use Rattle.block_heap.specs.declared.fault.Looks.{Looks}
 use Rattle.block_heap.specs.declared.look.Look.{Look}
+use Rattle.block_heap.specs.Accounts.{AreAccounted}
 use Rattle.block_heap.specs.Alloc.{Refuses}
 use Rattle.block_heap.specs.Looks.{IsLastSeen, FoundEmpty, FoundNoRoom}
 use Rattle.block_heap.specs.Parts.{Parts, image_of, held_in}
@@ -45,9 +46,9 @@ large_view s q o = record (seat_of s) {
 }
 
 -- the parts that an answer leaves run
-pub answer_runs : (answer : Option Block) (bytes : ℕ) (p q : Parts) → Answers bytes answer p q → IsRunning q × AreShort q 0
-answer_runs None bytes p q misses = (misses.running, misses.short)
-answer_runs (Some b) bytes p q gets = (gets.running, gets.short)
+pub answer_runs : (answer : Option Block) (bytes : ℕ) (p q : Parts) → Answers bytes answer p q → IsRunning q × AreShort q 0 × (AreAccounted p → AreAccounted q)
+answer_runs None bytes p q misses = (misses.running, misses.short, misses.accounted)
+answer_runs (Some b) bytes p q gets = (gets.running, gets.short, gets.accounted)
 
 -- held blocks are stable after a request
 pub request_stable : (r : Result (Option Block) Stopped) (p q : Parts) (bytes : ℕ) → IsStable p.capacity p.words (held_in p) → Serves (held_in p) p q
@@ -85,7 +86,7 @@ request_lasts r p q bytes old o lasts serves answers held none stops halts =
 -- a request or a free keeps the heap
 pub large_heap : {T : Type 0} (r : Result T Stopped) (s : SeqState) (q : Parts) (most : ℕ) (o : Option ℕ) (l : ∥ IsLasting q.capacity q.words (held_in q) o ∥₁)
     → IsSeqHeap s
-    → IsLasting q.capacity q.words (held_in q) o → OnOk r (IsRunning q × AreShort q 0) → OnOk r (Goes most s.parts.words q.words)
+    → IsLasting q.capacity q.words (held_in q) o → OnOk r (IsRunning q × AreShort q 0 × AreAccounted q) → OnOk r (Goes most s.parts.words q.words)
     → IfErr r (λ e. Halts e.step most s.parts.words q.words) → IfErr r (λ e. o ≡ Some e.step)
     → IsSeqHeap (record {
       parts = q;
@@ -99,7 +100,7 @@ pub large_heap : {T : Type 0} (r : Result T Stopped) (s : SeqState) (q : Parts) 
     })
 large_heap r s q most o l heap lasts runs goes halts stops = record {
   lasts = lasts;
-  running = λ running. done_of r o (IsRunning q × AreShort q 0) runs stops running;
+  running = λ running. done_of r o (IsRunning q × AreShort q 0 × AreAccounted q) runs stops running;
   calls = let few = heap.calls in let more = drew r most s.parts.words q.words goes halts in omega arith;
   refused = let few = heap.refused in omega arith;
 }
@@ -133,9 +134,10 @@ request_words s seen q o heap same serves = subst (λ t. KeepsWords (seat_of t) 
   out word own may = not_own s.parts.capacity (held_in s.parts) s.parts.words word heap.lasts.small heap.lasts.stable may own
 
 -- the parts of a request that was done
-pub request_runs : (r : Result (Option Block) Stopped) (bytes : ℕ) (p q : Parts) → IfOk r (λ answer. Answers bytes answer p q) → OnOk r (IsRunning q × AreShort q 0)
-request_runs (Ok answer) bytes p q answers = answer_runs answer bytes p q answers
-request_runs (Err e) bytes p q answers = tt
+pub request_runs : (r : Result (Option Block) Stopped) (bytes : ℕ) (p q : Parts) → AreAccounted p → IfOk r (λ answer. Answers bytes answer p q)
+    → OnOk r (IsRunning q × AreShort q 0 × AreAccounted q)
+request_runs (Ok answer) bytes p q before answers = let runs = answer_runs answer bytes p q answers in (runs.0, runs.1, runs.2 before)
+request_runs (Err e) bytes p q before answers = tt
 
 -- the least class, from `from` on, whose blocks hold so many bytes
 least_from : (bytes from more : ℕ) → 1 ≤ from → from + more ≡ 20 → bytes ≤ size_of 20 → ((other : ℕ) → IsClass other → other < from → bytes ≤ size_of other → ⊥)

@@ -1,5 +1,5 @@
 -- What the small calls of a heap for one thread leave.
-use Rattle.std.proofs.Common.{◌≡◌, ℕ, ◌+◌, ◌<◌, ◌≤◌, Option, None, Some, Result, Ok, Err, OnOk, IfOk, IfErr, get_or, get_or-set_same, Contains, ap, sym, subst, ◌∙◌, arith}
+use Rattle.std.proofs.Common.{◌≡◌, ℕ, ◌+◌, ◌<◌, ◌≤◌, Option, None, Some, Result, Ok, Err, OnOk, IfOk, IfErr, get_or, get_or-set_same, Contains, refl, ap, sym, subst, ◌∙◌, arith}
 use Rattle.heap_model.specs.Geometry.{used_word, image_words}
 use Rattle.line_memory.specs.View.{View, word_count, volatile_at, durable_at, line_of}
 use Rattle.line_memory.specs.declared.memory.Stopped.{Stopped}
@@ -16,6 +16,7 @@ use Rattle.block_heap.specs.Tickets.{Runs}
 use Rattle.block_heap.specs.Stable.{root_below, lies}
 use Rattle.block_heap.proofs.CallerLemmas.{own_spot}
 use Rattle.block_heap.proofs.StableLemmas.{stable_own, own_not_used, fits_kept}
+use Rattle.block_heap.proofs.AccountLemmas.{accounted_same}
 use Rattle.block_heap.proofs.RunningLemmas.{running_words}
 
 -- the ticket of a stop is not allowed
@@ -61,6 +62,7 @@ quiet_heap r s w o l heap ran goes same halts stores none stops = record {
       let went = done_of r o (Goes 1 s.parts.words w) goes stops running in (
         running_words s.parts w (λ _. ⊥) before.0 went.running (done_of r o (w.volatile ≡ s.parts.words.volatile) same stops running) stores (λ d below t. t) (λ t. t) went.below,
         record { each = before.1.each },
+        accounted_same s.parts (record s.parts { words = w }) refl (done_of r o (w.volatile ≡ s.parts.words.volatile) same stops running) refl before.2,
       );
   calls = let few = heap.calls in let more = drew r 1 s.parts.words w goes halts in omega arith;
   refused = heap.refused;

@@ -7,12 +7,14 @@ use Rattle.heap_model.specs.Sizes.{IsClass, words_of_class}
 use Rattle.heap_model.specs.Words.{head_first, head_of, head_pops}
 use Rattle.heap_model.specs.Chains.{Follows}
 use Rattle.heap_model.proofs.CountingLemmas.{times_some}
-use Rattle.heap_model.proofs.MemberLemmas.{head_or_rest}
+use Rattle.heap_model.proofs.MemberLemmas.{in_head, in_rest, head_or_rest}
 use Rattle.heap_shape.specs.Shape.{Place, in_list, is_full, in_large, is_new, Shape, stands_in}
 use Rattle.heap_shape.specs.Standing.{HasNoHeld, IsInLarge, IsAs}
 use Rattle.heap_shape.specs.Whole.{IsShape}
 use Rattle.heap_shape.specs.Effects.{IsSet, IsPushedOn}
 use Rattle.heap_shape.specs.Moves.{after_split, TakesFrom}
+use Rattle.heap_shape.specs.Draining.{for_later}
+use Rattle.heap_shape.proofs.AccountLemmas.{free_follows, use_kept, use_without}
 use Rattle.heap_shape.proofs.BasicLemmas.{with_at_same, with_at_other, member_place}
 use Rattle.heap_shape.proofs.LargeLemmas.{large_places, drop_large, split_one}
 use Rattle.heap_shape.proofs.OwnLemmas.{one_following, large_block}
@@ -20,6 +22,7 @@ use Rattle.line_memory.specs.View.{View, word_count, volatile_at, durable_at}
 use Rattle.line_memory.specs.Marks.{marked_words}
 use Rattle.block_heap.specs.declared.held.HeldBlocks.{HeldBlocks}
 use Rattle.block_heap.specs.Held.{held_of, at_mark, block_of_mark, HasMark}
+use Rattle.block_heap.specs.Accounts.{IsUsed, AreAccounted, GivesUse}
 use Rattle.block_heap.specs.Links.{IsOpen, IsPushed, IsPushWord}
 use Rattle.block_heap.specs.Medium.{StoresOnly, Goes, IsStored}
 use Rattle.block_heap.specs.Parts.{Parts, image_of, held_in}
@@ -198,6 +201,15 @@ module _ (p : Parts) (d anchor : ℕ) (u w : View) (run : IsRunning p) (dropped 
         few = let used = used_same in let few = run.few in omega arith;
       }
 
+      -- it is in the free list, and the others keep their uses
+      pub split_gives : GivesUse d p (record p { words = w })
+      split_gives = record { used = used_same; uses = uses } where
+        uses : (e : ℕ) → (e ≡ d) ⊎ IsUsed p e → IsUsed (record p { words = w }) e
+        uses e (inl same) = for_later (free_follows p.capacity e (volatile_at w) ((after_split s d).listed 0) (is_shape.follows 0 (omega arith))
+            (subst (λ x. Contains (d ∷ s.listed 0) x) (sym same) (in_head d (s.listed 0))))
+        uses e (inr before) = use_kept p.capacity e (image_of p) (volatile_at w) (held_in p) s (after_split s d) (held_in p) run.is is_shape
+            (info_same e) (in_rest d e (s.listed 0)) before
+
       -- the other dropped superblocks stay so
       pub split_others : (e : ℕ) → e ≢ d → IsDropped p e → IsDropped (record p { words = w }) e
       split_others e other is = record {
@@ -240,6 +252,8 @@ pub record IsFreed (first d end : ℕ) (p q : Parts) : Type 0 where
   pub most : end ≤ first + 256
   pub running : IsRunning q
   pub left : (e : ℕ) → d ≤ e → e < end → IsDropped q e
+  pub used : image_of q used_word ≡ image_of p used_word
+  pub uses : (e : ℕ) → ((first ≤ e) × (e < d)) ⊎ IsUsed p e → IsUsed q e
   pub serves : Serves (held_in p) p q
   pub blocks : q.blocks ≡ p.blocks
   pub caches : q.caches ≡ p.caches
@@ -258,19 +272,27 @@ serves_then held p q r a b = record {
 
 -- one superblock more is in the free list
 pub freed_more : (first d end : ℕ) (p q r : Parts) → d < end → IsFreed first d end p q → IsRunning r → ((e : ℕ) → e ≢ d → IsDropped q e → IsDropped r e)
-    → Goes 4 q.words r.words → r.blocks ≡ q.blocks → Serves (held_in q) q r → r.caches ≡ q.caches → r.taken ≡ q.taken → IsFreed first (d + 1) end p r
-freed_more first d end p q r below freed running others goes blocks serves caches taken = record {
+    → GivesUse d q r → Goes 4 q.words r.words → r.blocks ≡ q.blocks → Serves (held_in q) q r → r.caches ≡ q.caches → r.taken ≡ q.taken → IsFreed first (d + 1) end p r
+freed_more first d end p q r below freed running others gives goes blocks serves caches taken = record {
   some = freed.some;
   most = freed.most;
   running = running;
   left = λ e from until. others e (λ same. omega arith) (freed.left e (omega arith) until);
+  used = gives.used ∙ freed.used;
+  uses = uses;
   serves = serves_then (held_in p) p q r freed.serves (subst (λ (h : HeldBlocks). Serves (held_of h) q r) freed.blocks serves);
   blocks = blocks ∙ freed.blocks;
   caches = caches ∙ freed.caches;
   taken = taken ∙ freed.taken;
   few = let before = freed.few in let more = goes.few in omega arith;
   drew = let before = freed.drew in let more = goes.drew in omega arith;
-}
+} where
+  uses : (e : ℕ) → ((first ≤ e) × (e < d + 1)) ⊎ IsUsed p e → IsUsed r e
+  uses e (inr before) = gives.uses e (inr (freed.uses e (inr before)))
+  uses e (inl done) = elim (cases_eq e d) as (λ _. IsUsed r e) [
+    | inl same ↦ gives.uses e (inl same)
+    | inr other ↦ gives.uses e (inr (freed.uses e (inl (done.0, omega (arith, done.1)))))
+  ]
 
 -- the parts serve the blocks that are held still
 pub freed_serves : (first d end : ℕ) (h : HeldBlocks) (p q r : Parts) → IsFreed first d end (record p { blocks = h }) q → r.blocks ≡ q.blocks → Serves (held_in q) q r
@@ -374,6 +396,8 @@ module _ (p : Parts) (b : Block) (run : IsRunning p) (holds : Contains (held_in 
           most = omega arith;
           running = drop_running;
           left = λ e from until. drop_left e (omega arith) (omega arith);
+          used = refl;
+          uses = λ e before. elim before as (λ _. IsUsed (record p { blocks = h }) e) [ inl none ↦ absurd (omega (arith, none.0, none.1)) | inr same ↦ same ];
           serves = record { capacity = refl; works = works_none p.capacity (held_of h) p.words; knows = refl; taken = omega arith };
           blocks = refl;
           caches = refl;
@@ -381,3 +405,22 @@ module _ (p : Parts) (b : Block) (run : IsRunning p) (holds : Contains (held_in 
           few = omega arith;
           drew = omega arith;
         }
+
+    -- and where all are, none is lost
+    pub freed_accounted : (first d : ℕ) (q : Parts) → first ≡ (b.first_word - start_word p.capacity 0) / 8192 → first + b.words / 8192 ≤ d
+        → IsFreed first d (first + b.words / 8192) (record p { blocks = h }) q → AreAccounted p → AreAccounted q
+    freed_accounted first d q is past freed before = record { each = each } where
+      whole : IsWhole p.capacity b
+      whole = lies
+
+      each : (e : ℕ) → e < image_of q used_word → IsUsed q e
+      each e taken =
+          let same = freed.used in
+          let at = whole.at in
+          let size = whole.size in
+          let one : first ≡ whole.first = omega arith in
+          let count : b.words / 8192 ≡ whole.count = omega arith in
+          elim (use_without p.capacity e (image_of p) (held_in p) (held_of h) b takes_block (before.each e (omega arith))) as (λ _. IsUsed q e) [
+            | inl still ↦ freed.uses e (inr still)
+            | inr part ↦ let begins = part.begins in let ends = part.ends in freed.uses e (inl (omega arith, omega arith))
+          ]

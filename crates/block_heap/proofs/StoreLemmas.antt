@@ -8,11 +8,13 @@ use Rattle.heap_shape.specs.Effects.{IsSet}
 use Rattle.heap_shape.specs.Whole.{IsShape}
 use Rattle.heap_shape.specs.Shape.{Shape}
 use Rattle.heap_shape.proofs.OwnLemmas.{store_inside, store_root}
+use Rattle.heap_shape.proofs.AccountLemmas.{accounted_kept}
 use Rattle.line_memory.specs.View.{View, word_count, volatile_at, durable_at}
 use Rattle.line_memory.specs.Crash.{MayStore as MayStoreWord}
 use Rattle.line_memory.specs.declared.memory.Stopped.{Stopped}
 use Rattle.block_heap.specs.declared.held.HeldBlocks.{HeldBlocks}
 use Rattle.block_heap.specs.Medium.{StoresOnly, Goes, Halts, IsStored}
+use Rattle.block_heap.specs.Accounts.{AreAccounted}
 use Rattle.block_heap.specs.Parts.{Parts, held_in}
 use Rattle.block_heap.specs.Running.{IsRunning, KnowsSizes}
 use Rattle.block_heap.specs.Works.{IsLasting}
@@ -71,6 +73,22 @@ own_stored p w o word value run lasts own within stored stores = record {
   not_head : (list : ℕ) → list < lists → head_word list ≡ word → ⊥
   not_head list less e = elim at as (λ _. ⊥) [ inl root ↦ omega (arith, root.0) | inr inside ↦ omega arith ]
 
+-- and no superblock is lost
+pub own_accounted : (p : Parts) (w : View) (o : Option ℕ) (word value : ℕ) → IsRunning p → IsLasting p.capacity p.words (held_in p) o → IsOwn (held_in p) all_roots word → word < word_count p.words
+    → IsStored word value p.words w → StoresOnly (λ other. other ≡ word) p.words w → AreAccounted p → AreAccounted (record p { words = w })
+own_accounted p w o word value run lasts own within stored stores =
+    accounted_kept p.capacity (λ at. get_or p.words.volatile at 0) (λ at. get_or w.volatile at 0) (held_in p) run.shape run.shape (held_in p) run.is
+    (own_shape p.capacity word value (λ at. get_or p.words.volatile at 0) (λ at. get_or w.volatile at 0) p run.shape run.is own (set_is p.words.volatile w.volatile word value within stored.volatile))
+    (stores.volatile used_word not_used) (λ d below. stores.volatile (info_word d) (not_info d below)) (λ e p. p) where
+  at : ((root_word 0 ≤ word) × (word < info_word 0)) ⊎ (start_word p.capacity 0 ≤ word)
+  at = own_where p.capacity (held_in p) p.words word lasts.stable own
+
+  not_info : (d : ℕ) → d < p.capacity → info_word d ≡ word → ⊥
+  not_info d below e = elim at as (λ _. ⊥) [ inl root ↦ omega (arith, root.1) | inr inside ↦ omega arith ]
+
+  not_used : used_word ≡ word → ⊥
+  not_used e = elim at as (λ _. ⊥) [ inl root ↦ omega (arith, root.0) | inr inside ↦ omega arith ]
+
 -- a store to an own word keeps the heap
 pub store_heap : (r : Result Unit Stopped) (s : SeqState) (w : View) (o : Option ℕ) (l : ∥ IsLasting s.parts.capacity w (held_in s.parts) o ∥₁) (word value : ℕ) → IsSeqHeap s → s.stopped ≡ None
     → IsOwn (held_in s.parts) all_roots word → word < word_count s.parts.words → OnOk r (IsStored word value s.parts.words w) → IfErr r (λ e. Halts e.step 1 s.parts.words w)
@@ -83,6 +101,7 @@ store_heap r s w o l word value heap ran own within stored halts stores none sto
       let done = done_of r o (IsStored word value s.parts.words w) stored stops running in (
         own_stored s.parts w s.stopped word value before.0 heap.lasts own within done stores,
         record { each = before.1.each },
+        own_accounted s.parts w s.stopped word value before.0 heap.lasts own within done stores before.2,
       );
   calls = let few = heap.calls in let more = drew r 1 s.parts.words w (stored_goes r stored) halts in omega arith;
   refused = heap.refused;

@@ -27,12 +27,14 @@ pub record SameRefusals (v w : View) : Type 0 where
   pub bytes : w.refused_bytes ≡ v.refused_bytes
   pub looks : w.refused_looks ≡ v.refused_looks
 
--- a call of load, store, write_back or fence: it takes no superblock, and no request is refused
+-- a call of load, store, write_back or fence: it takes no superblock, no request is refused, and the last looks stay
 pub record IsSmallCall (v w : View) : Type 0 where
   pub goes_on : GoesOn v w
   pub small : w.small_calls ≡ counted v.stopped v.small_calls
   pub large : w.large_calls ≡ v.large_calls
   pub taken : w.taken ≡ v.taken
+  pub used_look : w.used_look ≡ v.used_look
+  pub head_look : (list : ℕ) → w.head_look list ≡ v.head_look list
   pub refusals : SameRefusals v w
 
 -- a call of alloc or free, which takes at most so many superblocks

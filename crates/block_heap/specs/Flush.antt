@@ -4,6 +4,7 @@ use Rattle.heap_model.specs.Sizes.{IsClass}
 use Rattle.heap_model.specs.Chains.{Walks}
 use Rattle.heap_shape.specs.Standing.{first_of, IsFirstOf}
 use Rattle.block_heap.specs.declared.small.Front.{Front}
+use Rattle.block_heap.specs.Accounts.{AreAccounted}
 use Rattle.block_heap.specs.Parts.{Parts, image_of, cache_at}
 
 -- the cache leads along blocks of superblock d, which the batch has, and then along the rest, of which so many are left
@@ -17,11 +18,12 @@ pub record IsFront (class : ℕ) (front : Front) (p : Parts) : Type 0 where
   pub next : front.rest.first ≡ image_of p front.batch.last
   pub rest : front.rest.count + front.batch.count ≡ (cache_at p.caches class).count
 
--- the other caches, and what was read and taken, stay
+-- the other caches, and what was read and taken, stay, and no superblock is lost
 pub record KeepsAll (class : ℕ) (p q : Parts) : Type 0 where
   pub caches : (c : ℕ) → IsClass c → c ≢ class → cache_at q.caches c ≡ cache_at p.caches c
   pub used_look : q.used_look ≡ p.used_look
   pub head_looks : q.head_looks ≡ p.head_looks
+  pub accounted : AreAccounted p → AreAccounted q
 
 -- the cache is what was behind the front
 pub record GivesBack (class : ℕ) (front : Front) (p q : Parts) : Type 0 where

@@ -1,3 +1,4 @@
+pub mod Accounts
 pub mod Alloc
 pub mod Anchors
 pub mod Batches
@@ -5,6 +6,7 @@ pub mod Begun
 pub mod Calls
 pub mod Closing
 pub mod Divide
+pub mod Examples
 pub mod Flush
 pub mod Free
 pub mod Held
@@ -17,6 +19,7 @@ pub mod MediumView
 pub mod Opening
 pub mod Parts
 pub mod Refill
+pub mod Reopening
 pub mod Requests
 pub mod Running
 pub mod SeqState

@@ -6,6 +6,7 @@ use Rattle.heap_model.specs.Header.{capacity_of, used_of}
 use Rattle.heap_model.specs.Sizes.{IsClass}
 use Rattle.line_memory.specs.View.{opened}
 use Rattle.block_heap.specs.declared.held.HeldBlocks.{HeldBlocks}
+use Rattle.block_heap.specs.Accounts.{AreAccounted}
 use Rattle.block_heap.specs.Begun.{IsBegun}
 use Rattle.block_heap.specs.Held.{held_of}
 use Rattle.block_heap.specs.Parts.{Parts, held_in, cache_at}
@@ -21,6 +22,7 @@ pub record IsHeldOf (words : List ℕ) (held : List Block) (h : HeldBlocks) : Ty
 -- the parts of a heap that was opened with these words, held blocks and budget
 pub record Opens (words : List ℕ) (held : List Block) (budget : ℕ) (p : Parts) : Type 0 where
   pub running : IsRunning p
+  pub accounted : AreAccounted p
   pub empty : (class : ℕ) → IsClass class → (cache_at p.caches class).count ≡ 0
   pub words_are : p.words ≡ opened words budget
   pub capacity : p.capacity ≡ capacity_of (slice_index words)

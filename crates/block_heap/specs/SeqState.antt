@@ -7,6 +7,7 @@ use Rattle.line_memory.specs.View.{volatile_at, durable_at}
 use Rattle.line_memory.specs.Crash.{IsValueOf}
 use Rattle.block_heap.specs.declared.fault.Looks.{Looks}
 use Rattle.block_heap.specs.View.{View}
+use Rattle.block_heap.specs.Accounts.{AreAccounted}
 use Rattle.block_heap.specs.Parts.{Parts, held_in}
 use Rattle.block_heap.specs.Running.{IsRunning, AreShort}
 use Rattle.block_heap.specs.Works.{IsLasting}
@@ -51,9 +52,9 @@ seat_of s = record {
 pub record MayLeave (s : SeqState) (image : Image) : Type 0 where
   pub others : (word : ℕ) → (word ≡ state_word → ⊥) → (IsTransient s.parts.capacity word → ⊥) → IsValueOf s.parts.words word (image word)
 
--- a heap for one thread: its held blocks are stable, and until it stops its parts are right
+-- a heap for one thread: its held blocks are stable, and until it stops its parts are right and no superblock is lost
 pub record IsSeqHeap (s : SeqState) : Type 0 where
   pub lasts : IsLasting s.parts.capacity s.parts.words (held_in s.parts) s.stopped
-  pub running : s.stopped ≡ None → IsRunning s.parts × AreShort s.parts 0
+  pub running : s.stopped ≡ None → IsRunning s.parts × AreShort s.parts 0 × AreAccounted s.parts
   pub calls : s.small_calls + s.large_calls ≤ s.parts.words.drawn
   pub refused : s.refusals ≤ s.large_calls

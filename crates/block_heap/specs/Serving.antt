@@ -6,6 +6,7 @@ use Rattle.heap_model.specs.Sizes.{IsLeastClassFor, largest_small, span_of, word
 use Rattle.heap_shape.specs.Moves.{AddsTo}
 use Rattle.heap_shape.specs.Draining.{IsToDrain, IsTidy}
 use Rattle.block_heap.specs.declared.fault.Looks.{Looks}
+use Rattle.block_heap.specs.Accounts.{AreAccounted}
 use Rattle.block_heap.specs.Alloc.{IsSizeFor}
 use Rattle.block_heap.specs.Parts.{Parts, image_of, held_in, cache_at}
 use Rattle.block_heap.specs.Running.{IsRunning, AreShort}
@@ -52,6 +53,7 @@ pub record Gets (bytes : ℕ) (b : Block) (p q : Parts) : Type 0 where
   pub adds : AddsTo b (held_in p) (held_in q)
   pub new : Contains (held_in p) b → ⊥
   pub room : HasRoomFor p bytes
+  pub accounted : AreAccounted p → AreAccounted q
 
 -- a block of the class that draining it was to give
 abbrev pub DrainsTo : ℕ → Block → Parts → Parts → Type 0
@@ -69,6 +71,7 @@ pub record MissesInClass (class : ℕ) (p q : Parts) : Type 0 where
   pub taken : q.taken ≡ p.taken
   pub none : HasRoom p class → ⊥
   pub looked : LookedInClass class p.words.drawn q
+  pub accounted : AreAccounted p → AreAccounted q
 
 pub record GetsInClass (class : ℕ) (b : Block) (p q : Parts) : Type 0 where
   pub running : IsRunning q
@@ -77,6 +80,7 @@ pub record GetsInClass (class : ℕ) (b : Block) (p q : Parts) : Type 0 where
   pub adds : AddsTo b (held_in p) (held_in q)
   pub new : Contains (held_in p) b → ⊥
   pub room : HasRoom p class
+  pub accounted : AreAccounted p → AreAccounted q
 
 abbrev pub AnswersInClass : ℕ → Option Block → Parts → Parts → Type 0
 AnswersInClass class answer p q = MatchOption answer (MissesInClass class p q) (λ b. GetsInClass class b p q)
@@ -102,6 +106,7 @@ pub record Misses (bytes : ℕ) (p q : Parts) : Type 0 where
   pub none : HasRoomFor p bytes → ⊥
   pub in_class : (class : ℕ) → IsLeastClassFor bytes class → LookedInClass class p.words.drawn q
   pub at_used : largest_small < bytes → LookedAtUsed (span_of bytes) p.words.drawn q
+  pub accounted : AreAccounted p → AreAccounted q
 
 -- the answer to a request
 abbrev pub Answers : ℕ → Option Block → Parts → Parts → Type 0

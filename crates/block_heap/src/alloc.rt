@@ -10,6 +10,7 @@ impl<C: Chance> Arena<C> {
     ghost use Rattle.std.specs.Prelude.{◌≡◌, ◌<◌, ◌≤◌, ◌+◌, ℕ, Contains, Some, length, IfOk, OnOk, IfErr, OnErr};
     ghost use Rattle.heap_model.specs.Sizes.{IsClass, IsLeastClassFor, size_of, span_of};
     ghost use Rattle.heap_shape.specs.Moves.{TakesFrom};
+    ghost use Rattle.block_heap.specs.Accounts.{AreAccounted};
     ghost use Rattle.block_heap.specs.Medium.{Goes, Halts};
     ghost use Rattle.block_heap.specs.Parts.{parts_of, held_in};
     ghost use Rattle.block_heap.specs.Running.{IsRunning, AreShort, Serves};
@@ -106,6 +107,8 @@ impl<C: Chance> Arena<C> {
         ensures serves { Serves (held_in (parts_of self.new))
             (parts_of self.old) (parts_of self.new) }
         ensures taken { (parts_of self.new).taken ≡ (parts_of self.old).taken }
+        ensures accounted { OnOk result (AreAccounted (parts_of self.old)
+            → AreAccounted (parts_of self.new)) }
     {
         match class_of(WORD_BYTES * b.words) {
             Some(class) => self.free_small(b, class),

@@ -10,6 +10,7 @@ impl<C: Chance> Arena<C> {
     ghost use Rattle.heap_model.specs.Geometry.{superblock_words, start_word};
     ghost use Rattle.heap_model.specs.Sizes.{IsClass, words_of_class};
     ghost use Rattle.heap_shape.specs.Moves.{TakesFrom};
+    ghost use Rattle.block_heap.specs.Accounts.{AreAccounted, GivesUse};
     ghost use Rattle.block_heap.specs.Medium.{Goes, Halts};
     ghost use Rattle.block_heap.specs.Parts.{parts_of, held_in};
     ghost use Rattle.block_heap.specs.Running.{IsRunning, AreShort, Serves};
@@ -32,6 +33,8 @@ impl<C: Chance> Arena<C> {
             (held_in (parts_of self.new) ≡ held_in (parts_of self.old)) }
         ensures caches { (parts_of self.new).caches ≡ (parts_of self.old).caches }
         ensures few { (parts_of self.new).taken ≤ (parts_of self.old).taken + count }
+        ensures accounted { OnOk result (AreAccounted (parts_of self.old)
+            → AreAccounted (parts_of self.new)) }
     {
         let ticket = self.medium.next_ticket();
         let fresh = self.medium.take_fresh(self.geometry, count)?;
@@ -62,6 +65,8 @@ impl<C: Chance> Arena<C> {
             (parts_of self.old) (parts_of self.new) }
         ensures caches { (parts_of self.new).caches ≡ (parts_of self.old).caches }
         ensures taken { (parts_of self.new).taken ≡ (parts_of self.old).taken }
+        ensures accounted { OnOk result (AreAccounted (parts_of self.old)
+            → AreAccounted (parts_of self.new)) }
     {
         self.held.remove(b.first_word);
         let first = self.superblock_of(b.first_word);
@@ -80,6 +85,7 @@ impl<C: Chance> Arena<C> {
         ensures running { OnOk result (IsRunning (parts_of self.new)) }
         ensures others { OnOk result ((e : ℕ) → e ≢ d → IsDropped (parts_of self.old) e
             → IsDropped (parts_of self.new) e) }
+        ensures gives { OnOk result (GivesUse d (parts_of self.old) (parts_of self.new)) }
         ensures goes { OnOk result (Goes 4
             (parts_of self.old).words (parts_of self.new).words) }
         ensures stopped { IfErr result (λ e. Halts e.step 4

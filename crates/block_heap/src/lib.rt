@@ -27,7 +27,7 @@ mod superblocks;
 pub use durable::{keep_first, persist};
 pub use fault::{AllocFault, Looks};
 pub use heap_model::Block;
-pub use laws::fixed_words_stay;
+pub use laws::{a_recovered_heap_drains_what_the_image_says, fixed_words_stay};
 pub use line_memory::{Chance, Closed, Stopped};
 pub use look::Look;
 pub use seat::HeapSeat;

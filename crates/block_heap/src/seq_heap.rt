@@ -92,7 +92,7 @@ impl<C: Chance> SeqHeap<C> {
     ghost use Rattle.heap_model.specs.Image.{Image};
     ghost use Rattle.heap_model.specs.Sizes.{IsClass};
     ghost use Rattle.block_heap.specs.Parts.{held_in};
-    ghost use Rattle.block_heap.specs.Requests.{IsTidyFor, Drains};
+    ghost use Rattle.block_heap.specs.Requests.{IsTidyFor, Drains, KeepsHeld, HoldsDrained, StopsDrain};
     ghost use Rattle.block_heap.specs.SeqState.{MayLeave};
     ghost use Rattle.block_heap.specs.Words.{NamesAll};
     ghost use Rattle.block_heap.specs.Closing.{IsOpened, KeepsFixed};
@@ -154,6 +154,11 @@ impl<C: Chance> SeqHeap<C> {
             → self.old.stopped ≡ None → (self.old.parts.words.budget ≤ e.step)
             × (e.step < self.old.parts.words.drawn + 2 ^ 32)) }
         ensures kept { KeepsFixed self.old self.new }
+        ensures stops { IfErr result (λ fault. (e : Stopped) → fault ≡ DrainFault.Stopped e
+            → StopsDrain e.step self.old self.new) }
+        ensures keeps { KeepsHeld self.old self.new }
+        ensures holds { IfOk result (λ offsets.
+            HoldsDrained class offsets.items self.old self.new) }
     {
         let most = self.arena.geometry.capacity() * blocks_of(class);
         let mut offsets = Vec::with_capacity(alloc, most as usize)?;

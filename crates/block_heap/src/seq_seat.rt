@@ -139,6 +139,7 @@ impl<C: Chance> SeqHeap<C> {
         ensures draws { self.new.parts.words.drawn ≤ self.old.parts.words.drawn + 10001 }
         ensures refusable { OnOk result (self.new.refusals < self.new.large_calls) }
         ensures kept { KeepsFixed self.old self.new }
+        ensures idle { (ticket : ℕ) → self.old.stopped ≡ Some ticket → self.new ≡ self.old }
     {
         self.running()?;
         let answer = self.arena.alloc(bytes);

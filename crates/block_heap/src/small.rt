@@ -22,6 +22,7 @@ impl<C: Chance> Arena<C> {
     ghost use Rattle.heap_model.specs.Geometry.{start_word};
     ghost use Rattle.heap_model.specs.Sizes.{IsClass, words_of_class, blocks_of};
     ghost use Rattle.heap_shape.specs.Moves.{TakesFrom};
+    ghost use Rattle.block_heap.specs.Accounts.{AreAccounted};
     ghost use Rattle.block_heap.specs.Medium.{Goes, Halts};
     ghost use Rattle.block_heap.specs.Parts.{parts_of, held_in, cache_at};
     ghost use Rattle.block_heap.specs.Running.{IsRunning, AreShort, Serves};
@@ -74,6 +75,8 @@ impl<C: Chance> Arena<C> {
         ensures serves { Serves (held_in (parts_of self.new))
             (parts_of self.old) (parts_of self.new) }
         ensures taken { (parts_of self.new).taken ≡ (parts_of self.old).taken }
+        ensures accounted { OnOk result (AreAccounted (parts_of self.old)
+            → AreAccounted (parts_of self.new)) }
     {
         let cache = self.caches[class as usize];
         self.held.remove(b.first_word);

@@ -20,7 +20,7 @@ use Rattle.heap_shape.specs.Standing.{first_of, HoldsAt, HasOneOwner, a_free, a_
 use Rattle.heap_shape.specs.Whole.{layout_at, IsShape}
 use Rattle.heap_shape.specs.Effects.{IsSet, IsPoppedOf, IsPushedOn, IsCut}
 use Rattle.heap_shape.specs.Moves.{with_cache, AddsTo}
-use Rattle.heap_shape.specs.Draining.{IsInFreeList, IsTidy, IsToDrain, DrainsSame, DrainsOne}
+use Rattle.heap_shape.specs.Draining.{IsInFreeList, HasUse, for_class, for_held, for_later, IsTidy, IsAccounted, IsToDrain, DrainsSame, DrainsOne}
 use Rattle.heap_shape.proofs.BasicLemmas.{follows_same, one_list, first_place, member_place, in_free_list, cached_of_class}
 use Rattle.heap_shape.proofs.CutLemmas.{follows_popped}
 use Rattle.heap_shape.proofs.HandLemmas.{hand_out}
@@ -62,21 +62,34 @@ module _ (capacity class : ℕ) (image new : Image) (held : List Block) (s : Sha
   -- and the heap stays tidy where a superblock gets the class, or keeps its info and stays in the free list
   drains_same : (free : List ℕ) → Follows (λ e. new (link_word e)) capacity (head_first (new (head_word 0))) free
       → ((e : ℕ) → e < new used_word → Stays class image new (s.listed 0) free e)
-      → DrainsSame capacity class held image new
-  drains_same free follows each = record {
+      → IsClass class → DrainsSame capacity class held image new
+  drains_same free follows each is = record {
     has = still_drained;
     only = drained_before;
     tidy = λ tidy. record { each = λ e taken none. still_tidy tidy e none (each e taken) };
+    accounted = λ before. record { each = λ e taken. still_used before e (each e taken) };
   } where
+    -- in the free list as before
+    still_free : (e : ℕ) → (Contains (s.listed 0) e → Contains free e) → IsInFreeList capacity image e → IsInFreeList capacity new e
+    still_free e stays in_free ds leads =
+        subst (λ xs. Contains xs e) (one_following (λ k. new (link_word k)) capacity (head_first (new (head_word 0))) free ds follows leads)
+        (stays (in_free (s.listed 0) (shape.follows 0 (omega arith))))
+
+    still_used : IsAccounted capacity image held → (e : ℕ) → Stays class image new (s.listed 0) free e → HasUse capacity new held e
+    still_used before e (inl cut) = for_class (subst IsClass (sym cut) is)
+    still_used before e (inr stays) = by_use (before.each e stays.0) where
+      by_use : HasUse capacity image held e → HasUse capacity new held e
+      by_use (for_class is_class) = for_class (subst IsClass (sym stays.1) is_class)
+      by_use (for_held b holds part) = for_held b holds part
+      by_use (for_later in_free) = for_later (still_free e stays.2 in_free)
+
     still_tidy : IsTidy capacity image held class → (e : ℕ) → HasNoHeld capacity held e
         → Stays class image new (s.listed 0) free e
         → (new (info_word e) ≡ class) ⊎ IsInFreeList capacity new e
     still_tidy tidy e none (inl cut) = inl cut
     still_tidy tidy e none (inr stays) = elim (tidy.each e stays.0 none) as (λ _. (new (info_word e) ≡ class) ⊎ IsInFreeList capacity new e) [
       | inl info ↦ inl (stays.1 ∙ info)
-      | inr in_free ↦ inr (λ ds leads.
-          subst (λ xs. Contains xs e) (one_following (λ k. new (link_word k)) capacity (head_first (new (head_word 0))) free ds follows leads)
-          (stays.2 (in_free (s.listed 0) (shape.follows 0 (omega arith)))))
+      | inr in_free ↦ inr (still_free e stays.2 in_free)
     ]
 
 -- the cache was filled from a partial superblock
@@ -84,7 +97,7 @@ pub take_drains : (capacity class d : ℕ) (image middle new : Image) (held : Li
     → IsPoppedOf image middle class d → IsSet middle new (anchor_word d) full_anchor → DrainsSame capacity class held image new
 take_drains capacity class d image middle new held s ds is shape list popped set =
     drains_same capacity class image new held s shape (omega (arith, used)) (omega (arith, used, shape.used)) (λ b e holds part. info e) (s.listed 0) leads
-    (λ e taken. inr (omega (arith, used), info e, λ p. p)) where
+    (λ e taken. inr (omega (arith, used), info e, λ p. p)) is where
       -- the words but two are as before
       same : (word : ℕ) → word ≢ anchor_word d → word ≢ head_word class → new word ≡ image word
       same word not_anchor not_head = set.others word not_anchor ∙ popped.set.others word not_head
@@ -109,7 +122,7 @@ pub recycle_drains : (capacity class d : ℕ) (image middle new : Image) (held :
     → IsPoppedOf image middle class d → IsPushedOn middle new 0 d → DrainsSame capacity class held image new
 recycle_drains capacity class d image middle new held s ds is shape list popped pushed =
     drains_same capacity class image new held s shape (omega (arith, used)) (omega (arith, used, shape.used)) (λ b e holds part. info e) (d ∷ s.listed 0) leads
-    (λ e taken. inr (omega (arith, used), info e, in_rest d e (s.listed 0))) where
+    (λ e taken. inr (omega (arith, used), info e, in_rest d e (s.listed 0))) is where
       -- the words but three are as before
       same : (word : ℕ) → word ≢ head_word class → word ≢ link_word d → word ≢ head_word 0 → new word ≡ image word
       same word no_class_head no_link no_head = pushed.head.others word no_head ∙ pushed.link.others word no_link ∙ popped.set.others word no_class_head
@@ -160,7 +173,7 @@ cut_free_drains capacity class d image middle new held s ds is shape list popped
     drains_same capacity class image new held s shape (omega (arith, used)) (omega (arith, used, shape.used)) held_info ds
     (follows_popped capacity image held s shape middle new 0 d ds (omega arith) list popped
     (λ other less. cut_keeps capacity class d middle new (head_word other) cut (omega arith) (λ e. omega arith) (λ e. omega arith))
-    (λ e within. same (link_word e) (omega arith) (λ at. omega arith) (λ at. omega arith) (λ at. omega arith)) 0 (omega arith)) each where
+    (λ e within. same (link_word e) (omega arith) (λ at. omega arith) (λ at. omega arith) (λ at. omega arith)) 0 (omega arith)) each is where
       -- the words outside superblocks but three are as before
       same : (word : ℕ) → word < start_word capacity 0 → word ≢ info_word d → word ≢ anchor_word d → word ≢ head_word 0 → new word ≡ image word
       same word less not_info not_anchor not_head = cut_keeps capacity class d middle new word cut less not_info not_anchor ∙ popped.set.others word not_head
@@ -200,7 +213,7 @@ cut_free_drains capacity class d image middle new held s ds is shape list popped
 pub cut_fresh_drains : (capacity class d : ℕ) (image middle new : Image) (held : List Block) (s : Shape) → IsClass class → IsShape capacity image held s → image used_word ≡ d → d < capacity
     → IsSet image middle used_word (d + 1) → IsCut capacity middle new class d → DrainsSame capacity class held image new
 cut_fresh_drains capacity class d image middle new held s is shape past within set cut =
-    drains_same capacity class image new held s shape (omega (arith, used)) (omega (arith, used)) held_info (s.listed 0) leads each where
+    drains_same capacity class image new held s shape (omega (arith, used)) (omega (arith, used)) held_info (s.listed 0) leads each is where
       -- the words outside superblocks but three are as before
       same : (word : ℕ) → word < start_word capacity 0 → word ≢ info_word d → word ≢ anchor_word d → word ≢ used_word → new word ≡ image word
       same word less not_info not_anchor not_used = cut_keeps capacity class d middle new word cut less not_info not_anchor ∙ set.others word not_used
@@ -251,7 +264,7 @@ part_in_one capacity class d index e b is of part =
 -- a cached block was handed out
 pub hand_out_drains : (capacity class w : ℕ) (image : Image) (held now : List Block) (s : Shape) (ws : List ℕ) → IsClass class → IsShape capacity image held s → s.cached class ≡ w ∷ ws
     → AddsTo (record { first_word = w; words = words_of_class class }) held now → DrainsOne capacity class image held now (record { first_word = w; words = words_of_class class })
-hand_out_drains capacity class w image held now s ws is shape cached adds = record { was = was; rest = rest; only = only; gone = gone; tidy = tidy } where
+hand_out_drains capacity class w image held now s ws is shape cached adds = record { was = was; rest = rest; only = only; gone = gone; tidy = tidy; accounted = accounted } where
   b : Block
   b = record { first_word = w; words = words_of_class class }
 
@@ -332,6 +345,13 @@ hand_out_drains capacity class w image held now s ws is shape cached adds = reco
 
   tidy : IsTidy capacity image held class → IsTidy capacity image now class
   tidy before = record { each = λ e taken none. before.each e taken (λ h p part. none h (adds.keeps h p) part) }
+
+  accounted : IsAccounted capacity image held → IsAccounted capacity image now
+  accounted before = record { each = λ e taken. by_use e (before.each e taken) } where
+    by_use : (e : ℕ) → HasUse capacity image held e → HasUse capacity image now e
+    by_use e (for_class is_class) = for_class is_class
+    by_use e (for_held h holds part) = for_held h (adds.keeps h holds) part
+    by_use e (for_later in_free) = for_later in_free
 
 -- nothing is left where cache, class list and free list are empty and every superblock was taken
 pub drained_none : (capacity class : ℕ) (image : Image) (held : List Block) (s : Shape) → IsClass class → IsShape capacity image held s → s.cached class ≡ [] → s.listed class ≡ [] → s.listed 0 ≡ []

@@ -11,4 +11,5 @@ pub mod GiveLemmas
 pub mod LargeLemmas
 pub mod OwnLemmas
 pub mod DrainLemmas
+pub mod AccountLemmas
 pub mod RecoveredLemmas

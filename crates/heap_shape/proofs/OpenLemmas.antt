@@ -18,7 +18,9 @@ use Rattle.heap_model.proofs.LeftLemmas.{counts_large}
 use Rattle.heap_shape.specs.Shape.{Place, in_list, is_full, in_large, is_new, Shape, stands_in}
 use Rattle.heap_shape.specs.Standing.{first_of, IsFirstOf, HasOneOwner, a_free, a_held, IsListed, IsFull, IsAs}
 use Rattle.heap_shape.specs.Whole.{IsShape}
+use Rattle.heap_shape.specs.Draining.{HasUse, for_class, for_held, for_later, IsAccounted}
 use Rattle.heap_shape.proofs.CountLemmas.{few_members}
+use Rattle.heap_shape.proofs.AccountLemmas.{free_follows}
 
 -- a member counts in a sum
 total_member : {X : Type 0} (of : X → ℕ) (xs : List X) (x : X) → Contains xs x → of x ≤ total of xs
@@ -273,3 +275,26 @@ opens words held ready = (
   rest_is_shape (slice_index words) held (8 * length words) ready.shaped ready.formed ready.blocks,
   λ class. refl,
 )
+
+-- and none of its superblocks is lost
+pub opens_accounted : (words : List ℕ) (held : List Block) → IsReady words held → IsAccounted (capacity_of (slice_index words)) (slice_index words) held
+opens_accounted words held ready = record { each = λ d taken. by_rest d taken (rests_at image held shaped d) } where
+  image : Image
+  image = slice_index words
+
+  shaped : IsShaped image held
+  shaped = ready.shaped
+
+  by_rest : (d : ℕ) → d < used_of image → RestsAt image held shaped d → HasUse (capacity_of image) image held d
+  by_rest d taken (untaken past) = absurd (omega arith)
+  by_rest d taken (listed zero less some) =
+      let leads = head_at_rest (λ e. image (link_word e)) (capacity_of image) (image (head_word 0)) (shaped.descriptors 0) ready.formed.small
+      (shaped.follows 0 less) in
+      for_later (free_follows (capacity_of image) d image (shaped.descriptors 0) leads (times_some d (shaped.descriptors 0) some))
+  by_rest d taken (listed (suc c) less some) =
+      let is : IsClass (suc c) = record { some = omega arith; last = omega arith } in
+      for_class (subst IsClass (sym (shaped.in_class (suc c) d is some).0) is)
+  by_rest d taken (full some) = for_class (shaped.is_full d some).0
+  by_rest d taken (large some) =
+      let found = total_some (large_part (capacity_of image) d) held some in
+      for_held found.0 found.1 (counts_large (capacity_of image) d found.0 found.2).1

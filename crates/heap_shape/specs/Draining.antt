@@ -3,9 +3,10 @@ use Rattle.std.specs.Prelude.{◌≡◌, ℕ, ◌<◌, ◌⊎◌, List, Contains
 use Rattle.heap_model.specs.declared.block.Block.{Block}
 use Rattle.heap_model.specs.Geometry.{info_word, link_word, head_word, used_word}
 use Rattle.heap_model.specs.Image.{Image}
+use Rattle.heap_model.specs.Sizes.{IsClass}
 use Rattle.heap_model.specs.Words.{head_first}
 use Rattle.heap_model.specs.Chains.{Follows}
-use Rattle.heap_model.specs.Recovered.{IsDrained}
+use Rattle.heap_model.specs.Recovered.{HasPartIn, IsDrained}
 use Rattle.heap_shape.specs.Standing.{HasNoHeld}
 use Rattle.heap_shape.specs.Whole.{layout_at}
 
@@ -17,15 +18,26 @@ IsInFreeList capacity image d = (ds : List ℕ) → Follows (λ e. image (link_w
 pub record IsTidy (capacity : ℕ) (image : Image) (held : List Block) (class : ℕ) : Type 0 where
   pub each : (d : ℕ) → d < image used_word → HasNoHeld capacity held d → (image (info_word d) ≡ class) ⊎ IsInFreeList capacity image d
 
+-- a superblock is cut for a class, a held block has a part in it, or it is in the free list
+pub data HasUse (capacity : ℕ) (image : Image) (held : List Block) (d : ℕ) : Type 0 where
+  for_class : IsClass (image (info_word d)) → HasUse capacity image held d
+  for_held : (b : Block) → Contains held b → HasPartIn capacity b d → HasUse capacity image held d
+  for_later : IsInFreeList capacity image d → HasUse capacity image held d
+
+-- each taken superblock has a use: none is lost
+pub record IsAccounted (capacity : ℕ) (image : Image) (held : List Block) : Type 0 where
+  pub each : (d : ℕ) → d < image used_word → HasUse capacity image held d
+
 -- what draining the class must give
 abbrev pub IsToDrain : ℕ → Image → List Block → ℕ → Block → Type 0
 IsToDrain capacity image held class = IsDrained (layout_at capacity image) (Contains held) class
 
--- the same blocks are to be given, and the heap stays tidy
+-- the same blocks are to be given, the heap stays tidy, and no superblock is lost
 pub record DrainsSame (capacity class : ℕ) (held : List Block) (image new : Image) : Type 0 where
   pub has : (b : Block) → IsToDrain capacity image held class b → IsToDrain capacity new held class b
   pub only : (b : Block) → IsToDrain capacity new held class b → IsToDrain capacity image held class b
   pub tidy : IsTidy capacity image held class → IsTidy capacity new held class
+  pub accounted : IsAccounted capacity image held → IsAccounted capacity new held
 
 -- a block of those to be given is held now, and the others are still to be given
 pub record DrainsOne (capacity class : ℕ) (image : Image) (held now : List Block) (b : Block) : Type 0 where
@@ -34,3 +46,4 @@ pub record DrainsOne (capacity class : ℕ) (image : Image) (held now : List Blo
   pub only : (a : Block) → IsToDrain capacity image now class a → IsToDrain capacity image held class a
   pub gone : IsToDrain capacity image now class b → ⊥
   pub tidy : IsTidy capacity image held class → IsTidy capacity image now class
+  pub accounted : IsAccounted capacity image held → IsAccounted capacity image now

@@ -9,7 +9,7 @@ use Rattle.heap_shape.specs.Shape.{in_list, is_full, in_large, is_new, Shape, st
 use Rattle.heap_shape.specs.Standing.{first_of, IsFirstOf, HoldsAt, times_free}
 use Rattle.heap_shape.specs.Effects.{IsInSuperblock, all_firsts}
 use Rattle.heap_shape.specs.Moves.{after_take, after_recycle, after_cut, after_join, after_give_all}
-use Rattle.heap_shape.specs.Draining.{IsTidy}
+use Rattle.heap_shape.specs.Draining.{for_class, for_held, for_later, IsTidy, IsAccounted}
 
 -- a place is one list, or none
 places : map (λ place. stands_in place 3) (in_list 3 ∷ in_list 2 ∷ is_full ∷ in_large ∷ is_new ∷ []) ≡ 1 ∷ 0 ∷ 0 ∷ 0 ∷ 0 ∷ []
@@ -97,4 +97,22 @@ untidy_for_other : IsTidy 1 unlisted [] 19 → ⊥
 untidy_for_other tidy = elim (tidy.each 0 (omega arith) (λ b holds part. let none = holds.1 in omega arith)) as (λ _. ⊥) [
   | inl info ↦ omega arith
   | inr in_free ↦ let none = (in_free [] refl).1 in omega arith
+]
+
+-- a superblock of a large block: none is lost while the block is held, and this one is where nothing is held and the free list is empty
+abbrev large : Image
+large = image_with ((8, 1) ∷ (1064, 511) ∷ [])
+
+held_accounted : IsAccounted 1 large (record { first_word = 1072; words = 8192 } ∷ [])
+held_accounted = record {
+  each = λ d taken.
+      let only : d ≡ 0 = omega arith in
+      for_held (record { first_word = 1072; words = 8192 }) (0, omega arith, refl) (record { begins = omega arith; ends = omega arith });
+}
+
+dropped_lost : IsAccounted 1 large [] → ⊥
+dropped_lost accounted = elim (accounted.each 0 (omega arith)) as (λ _. ⊥) [
+  | for_class is ↦ let last = is.last in omega arith
+  | for_held b holds part ↦ let none = holds.1 in omega arith
+  | for_later in_free ↦ let none = (in_free [] refl).1 in omega arith
 ]

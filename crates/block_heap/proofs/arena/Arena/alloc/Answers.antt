@@ -2,11 +2,12 @@ use Rattle.std.proofs.Common.{◌<◌, ℕ, IfOk, refl, sym, subst, arith}
 use Rattle.std.proofs.lemmas.Result.{IfOk-weaker}
 use Rattle.heap_model.specs.Sizes.{largest_small, span_of}
 use Rattle.heap_model.proofs.SizeLemmas.{few_words, size_of-words}
+use Rattle.block_heap.specs.Accounts.{AreAccounted}
 use Rattle.block_heap.specs.Parts.{parts_of}
 use Rattle.block_heap.specs.Running.{IsRunning}
 use Rattle.block_heap.specs.Large.{JoinsAs}
 use Rattle.block_heap.specs.Serving.{Answers, AnswersInClass, DrainsAs}
-use Rattle.block_heap.proofs.AllocLemmas.{answers_small, answers_large, least_of_size, both_ok}
+use Rattle.block_heap.proofs.AllocLemmas.{answers_small, answers_large, least_of_size, both_ok, on_ok_both}
 use Rattle.block_heap.proofs.arena.Arena.alloc.Goals as goal
 
 pub returns-in-Some-clause-ok : goal.returns-in-Some-clause-ok
@@ -30,9 +31,11 @@ returns-in-None-clause-ok g c =
     let large : largest_small < c.args.bytes = c.in-None.ensures.none.0 refl in
     let joins : IfOk c.alloc_large.result (λ answer. JoinsAs (span_of c.args.bytes) answer p q) =
     subst (λ (count : ℕ). IfOk c.alloc_large.result (λ answer. JoinsAs count answer p q)) c.span_of.ensures c.alloc_large.ensures.ok in
-    both_ok c.alloc_large.result (λ answer. JoinsAs (span_of c.args.bytes) answer p q) (λ answer. Answers c.args.bytes answer p q) (IsRunning q)
-    (λ answer join running. answers_large c.args.bytes answer p q large c.requires.short join running c.alloc_large.ensures.caches
-    c.alloc_large.ensures.serves.capacity) joins c.alloc_large.ensures.running
+    both_ok c.alloc_large.result (λ answer. JoinsAs (span_of c.args.bytes) answer p q) (λ answer. Answers c.args.bytes answer p q)
+    (IsRunning q × (AreAccounted p → AreAccounted q))
+    (λ answer join runs. answers_large c.args.bytes answer p q large c.requires.short join runs.0 runs.1 c.alloc_large.ensures.caches
+    c.alloc_large.ensures.serves.capacity) joins
+    (on_ok_both c.alloc_large.result (IsRunning q) (AreAccounted p → AreAccounted q) c.alloc_large.ensures.running c.alloc_large.ensures.accounted)
 
 pub returns-in-None-clause-drains : goal.returns-in-None-clause-drains
 returns-in-None-clause-drains g c =

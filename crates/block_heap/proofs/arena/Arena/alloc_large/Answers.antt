@@ -1,7 +1,7 @@
 use Rattle.std.proofs.Common.{arith}
 use Rattle.block_heap.specs.Parts.{parts_of}
 use Rattle.block_heap.specs.MediumView.{medium_view}
-use Rattle.block_heap.proofs.LargeStepLemmas.{running_looked, taken_fits, fresh_unmarked, join_serves, join_running, join_answers, serves_looked}
+use Rattle.block_heap.proofs.LargeStepLemmas.{running_looked, taken_fits, fresh_unmarked, join_serves, join_running, join_answers, join_accounted, serves_looked, looked_accounted}
 use Rattle.block_heap.proofs.arena.Arena.alloc_large.Goals as goal
 
 pub returns-in_default-clause-running : goal.returns-in_default-clause-running
@@ -51,3 +51,15 @@ pub returns-in_default-clause-serves : goal.returns-in_default-clause-serves
 returns-in_default-clause-serves g c =
     serves_looked (parts_of c.args.self.now) c.args.count c.in_ok-fresh.fresh (medium_view c.take_fresh.new.self) c.by-self.result
     c.requires.running c.in_ok-fresh.ensures.ok c.in_default.is c.by-self.ensures.seen c.by-self.ensures.taken
+
+pub returns-in_default-clause-accounted : goal.returns-in_default-clause-accounted
+returns-in_default-clause-accounted g c =
+    looked_accounted (parts_of c.args.self.now) c.args.count c.in_ok-fresh.fresh (medium_view c.take_fresh.new.self) c.by-self.result
+    c.in_ok-fresh.ensures.ok c.in_default.is
+
+pub returns-clause-accounted : goal.returns-clause-accounted
+returns-clause-accounted g c =
+    join_accounted (parts_of c.args.self.now) c.args.count c.in-Some.d c.in_ok-fresh.fresh (medium_view c.take_fresh.new.self) c.by-self.result
+    c.requires.running c.in_ok-fresh.ensures.ok c.in-Some.is (medium_view c.join.new.self) c.requires.some c.take_fresh.ensures.others c.take_fresh.ensures.crash c.take_fresh.ensures.fits
+    c.by-self.ensures.seen c.by-self.ensures.taken c.join.ensures.others c.divide.new.self c.add.new.self c.start-first_word.result c.in_ok-join.ensures.ok
+    c.divide.ensures.held c.divide.ensures.words c.divide.ensures.start c.start-first_word.ensures c.add.ensures.held c.add.ensures.words c.add.ensures.start

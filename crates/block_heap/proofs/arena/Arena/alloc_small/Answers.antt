@@ -25,7 +25,8 @@ returns-clause-ok g c =
     let p = parts_of c.args.self.now in
     let q = parts_of c.stock.new.self in
     let found = subst (λ (some : Bool). Refills c.args.class some p q) c.if-not-branch.false c.in_ok-stock.ensures.ok in
-    gets_in_class c.args.class c.in_ok-hand_out.field-0 p q (parts_of c.hand_out.new.self) c.requires.class c.requires.short c.in_ok-stock.ensures.fills found.1
+    gets_in_class c.args.class c.in_ok-hand_out.field-0 p q (parts_of c.hand_out.new.self) c.requires.class c.requires.short
+    c.stock.ensures.serves.capacity c.hand_out.ensures.serves.capacity c.in_ok-stock.ensures.fills found.1
     c.in_ok-hand_out.ensures.ok
 
 pub returns-clause-drains : goal.returns-clause-drains

@@ -3,7 +3,7 @@ use Rattle.heap_model.proofs.SizeLemmas.{few_blocks}
 use Rattle.block_heap.specs.MediumView.{medium_view}
 use Rattle.block_heap.specs.Parts.{parts_of}
 use Rattle.block_heap.proofs.SmallLemmas.{read_cache}
-use Rattle.block_heap.proofs.FreeLemmas.{held_mark, held_below, taken_back, freed_serves, count_short, freed_running, freed_short, flushed_short, flushed_held, flushed_serve, flushed_goes}
+use Rattle.block_heap.proofs.FreeLemmas.{held_mark, held_below, taken_back, freed_serves, count_short, freed_running, freed_accounted, freed_short, flushed_short, flushed_held, flushed_serve, flushed_goes}
 use Rattle.block_heap.proofs.arena.Arena.free_small.Goals as goal
 
 pub remove-requires : goal.remove-requires
@@ -139,3 +139,19 @@ returns-else-cache-blocks_of-clause-serves g c =
     let p = parts_of c.args.self.now in
     freed_serves p c.args.class c.requires.class c.requires.running c.args.b c.requires.holds c.requires.size
     c.remove.new.self c.remove.ensures.held c.remove.ensures.words c.remove.ensures.start _ refl refl refl c.store.ensures.others
+
+pub returns-in_ok-flush-clause-accounted : goal.returns-in_ok-flush-clause-accounted
+returns-in_ok-flush-clause-accounted g c = λ before.
+    let p = parts_of c.args.self.now in
+    let is = read_cache p c.args.class c.index-cache.result.now c.requires.class c.requires.running c.index-cache.ensures in
+    c.in_ok-flush.ensures.keeps.accounted (freed_accounted p c.args.class c.requires.class c.requires.running c.args.b c.requires.holds c.requires.size
+    c.remove.new.self c.remove.ensures.held c.remove.ensures.words c.remove.ensures.start
+    c.index-cache.result.now is (medium_view c.store.new.self) c.in_ok-store.ensures.ok c.store.ensures.others c.requires.short before)
+
+pub returns-else-cache-blocks_of-clause-accounted : goal.returns-else-cache-blocks_of-clause-accounted
+returns-else-cache-blocks_of-clause-accounted g c =
+    let p = parts_of c.args.self.now in
+    let is = read_cache p c.args.class c.index-cache.result.now c.requires.class c.requires.running c.index-cache.ensures in
+    freed_accounted p c.args.class c.requires.class c.requires.running c.args.b c.requires.holds c.requires.size
+    c.remove.new.self c.remove.ensures.held c.remove.ensures.words c.remove.ensures.start
+    c.index-cache.result.now is (medium_view c.store.new.self) c.in_ok-store.ensures.ok c.store.ensures.others c.requires.short

@@ -4,7 +4,7 @@ use Rattle.block_heap.specs.Parts.{parts_of}
 use Rattle.block_heap.proofs.AnchorLemmas.{words_by_bytes}
 use Rattle.heap_model.proofs.SizeLemmas.{two_words}
 use Rattle.block_heap.proofs.SmallLemmas.{read_cache, first_from, first_below}
-use Rattle.block_heap.proofs.FrontLemmas.{cache_first, walked_one, next_placed, walked_more, first_behind, walked_front, loaded_run, loaded_serves, stopped_serves, loaded_front, loaded_more, loaded_capacity}
+use Rattle.block_heap.proofs.FrontLemmas.{cache_first, walked_one, next_placed, walked_more, first_behind, walked_front, loaded_run, loaded_keeps, loaded_serves, stopped_serves, loaded_front, loaded_more, loaded_capacity}
 use Rattle.block_heap.proofs.arena.Arena.front.Goals as goal
 
 pub superblock_of-d-requires : goal.superblock_of-d-requires
@@ -117,3 +117,7 @@ returns-clause-running g c = loaded_run (parts_of c.args.self.now) (parts_of c.l
 pub returns-clause-serves : goal.returns-clause-serves
 returns-clause-serves g c = loaded_serves (parts_of c.args.self.now) (parts_of c.loop-count.self) c.loop-count.count c.requires.running
     c.loop-count.invariant.loaded
+
+pub returns-clause-keeps : goal.returns-clause-keeps
+returns-clause-keeps g c = loaded_keeps (parts_of c.args.self.now) (parts_of c.loop-count.self) c.loop-count.count c.requires.running
+    c.loop-count.invariant.loaded c.args.class

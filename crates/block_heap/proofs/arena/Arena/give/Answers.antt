@@ -2,10 +2,12 @@ use Rattle.std.proofs.Common.{rules, ◌≡◌, ◌<◌, set, refl, arith, ◌�
 use Rattle.anchor_word.specs.declared.anchor.State.TheVariants.{Full}
 use Rattle.heap_model.specs.Geometry.{lists}
 use Rattle.block_heap.specs.MediumView.{medium_view}
+use Rattle.block_heap.specs.Accounts.{AreAccounted}
 use Rattle.block_heap.specs.Parts.{parts_of}
 use Rattle.block_heap.specs.Running.{IsRunning}
 use Rattle.block_heap.proofs.SmallLemmas.{changed}
-use Rattle.block_heap.proofs.FlushLemmas.{front_anchor, front_first, front_last, front_fits, gave_serves, pushed_serves, gave_running, pushed_all, pushed_some}
+use Rattle.block_heap.proofs.FlushLemmas.{front_anchor, front_first, front_last, front_fits, gave_serves, pushed_serves, gave_running, gave_accounted, pushed_all, all_accounted, pushed_some, some_accounted}
+use Rattle.block_heap.proofs.AccountLemmas.{gives_back}
 use Rattle.block_heap.proofs.arena.Arena.give.Goals as goal
 use Rattle.block_heap.proofs.arena.Arena.give.Goals.{then-all, else-all}
 
@@ -72,3 +74,32 @@ pub returns-else-eq-clause-serves : goal.returns-else-eq-clause-serves
 returns-else-eq-clause-serves g c =
     gave_serves (parts_of c.args.self.now) c.args.class c.requires.class c.requires.running c.args.front c.requires.front _ refl refl refl
     c.give_blocks.ensures.others
+
+pub returns-in_ok-push-clause-gives : goal.returns-in_ok-push-clause-gives
+returns-in_ok-push-clause-gives g c =
+    let p = parts_of c.args.self.now in
+    let all = c.blocks_of.ensures in
+    let same = c.eq.ensures in
+    let full : c.in_ok-anchor.anchor.state ≡ Full = search rules in
+    gives_back p c.args.class c.args.front (medium_view c.push.new.self) c.requires.class c.requires.running
+    (elim c.if-all.branch as (λ _. AreAccounted p → AreAccounted (changed p (medium_view c.push.new.self) (set p.caches c.args.class c.args.front.rest) c.args.self.now.held)) [
+      | then-all w ↦
+          all_accounted p c.args.class c.requires.class c.requires.running c.args.front c.requires.front
+          (medium_view c.give_blocks.new.self) c.in_ok-anchor.anchor
+          c.in_ok-anchor.ensures.ok c.give_blocks.ensures.others full c.if-all.list (medium_view c.push.new.self) c.in_ok-push.ensures.ok
+          c.push.ensures.others
+          (let e = w.if-all.true in omega arith) w.list-is
+      | else-all w ↦
+          some_accounted p c.args.class c.requires.class c.requires.running c.args.front c.requires.front
+          (medium_view c.give_blocks.new.self) c.in_ok-anchor.anchor
+          c.in_ok-anchor.ensures.ok c.give_blocks.ensures.others full c.if-all.list (medium_view c.push.new.self) c.in_ok-push.ensures.ok
+          c.push.ensures.others
+          (let e = w.if-all.false in λ f. e (f ∙ sym all)) w.list-is
+    ])
+
+pub returns-else-eq-clause-gives : goal.returns-else-eq-clause-gives
+returns-else-eq-clause-gives g c =
+    gives_back (parts_of c.args.self.now) c.args.class c.args.front (medium_view c.give_blocks.new.self) c.requires.class c.requires.running
+    (gave_accounted (parts_of c.args.self.now) c.args.class c.requires.class c.requires.running c.args.front c.requires.front
+    (medium_view c.give_blocks.new.self) c.in_ok-anchor.anchor
+    c.in_ok-anchor.ensures.ok c.give_blocks.ensures.others (λ e. search rules))

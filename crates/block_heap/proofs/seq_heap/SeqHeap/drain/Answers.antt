@@ -5,6 +5,7 @@ use Rattle.heap_model.specs.Sizes.{blocks_of}
 use Rattle.heap_model.proofs.SizeLemmas.{few_blocks}
 use Rattle.block_heap.specs.Laws.{seat_law}
 use Rattle.block_heap.specs.Serving.{Answers, DrainsAs}
+use Rattle.block_heap.proofs.DrainKeepLemmas.{kept_first, kept_pushed, kept_unpushed, kept_last, kept_done, kept_stops}
 use Rattle.block_heap.proofs.DrainStepLemmas.{drains_last}
 use Rattle.block_heap.proofs.DrawnLemmas.{draining_first, draining_more, drawn_few, drawn_halts}
 use Rattle.block_heap.proofs.FixedLemmas.{fixed_same, fixed_then}
@@ -29,6 +30,7 @@ pub loop-offsets-init : goal.loop-offsets-init
 loop-offsets-init g c = (
   draining_first c.args.class _ c.args.self.now c.in_ok-offsets.offsets.items c.in_ok-offsets.ensures.items c.requires c.self.view_is c.self.invariant,
   fixed_same c.args.self.now,
+  kept_first c.args.class c.args.self.now c.in_ok-offsets.offsets.items c.in_ok-offsets.ensures.items,
 )
 
 pub loop-offsets-preserved : goal.loop-offsets-preserved
@@ -37,6 +39,9 @@ loop-offsets-preserved g c = (
       c.in_ok-b.field-0 c.in-Some.b c.in-Ok.ensures.items c.loop-offsets.invariant.0 c.in-Some.is c.in_ok-b.ensures.ok
       (c.in_ok-b.ensures.drains c.args.class c.requires c.size_of.ensures) c.in_ok-b.ensures.runs c.request.ensures.counted,
   fixed_then c.args.self.now c.loop-offsets.self c.request.new.self c.loop-offsets.invariant.1 c.request.ensures.kept,
+  kept_pushed c.args.class c.size_of.result c.args.self.now c.loop-offsets.self c.request.new.self c.loop-offsets.offsets.items c.push.new.self.items
+      c.in_ok-b.field-0 c.in-Some.b c.in-Ok.ensures.items c.loop-offsets.invariant.2 c.in-Some.is c.in_ok-b.ensures.ok c.request.ensures.words
+      c.requires c.size_of.ensures c.in_ok-b.ensures.runs,
 )
 
 pub returns-clause-ok : goal.returns-clause-ok
@@ -62,3 +67,30 @@ returns-in_err-b-clause-above g c =
     rw (told.1, told.2)
     (λ e one running. drawn_halts c.args.class _ c.in_err-b.field-0.0 e c.args.self.now c.loop-offsets.self c.request.new.self c.loop-offsets.offsets.items
     c.loop-offsets.invariant.0.1 c.request.ensures.draws c.request.ensures.counted c.in_err-b.ensures.stopped one running)
+
+pub returns-in_err-b-clause-stops : goal.returns-in_err-b-clause-stops
+returns-in_err-b-clause-stops g c =
+    let told = err_from_is_err_and c.from_residual-in_err-b.result c.from_residual-in_err-b.ensures.1 in
+    rw (told.1, told.2)
+    (λ e one. kept_stops c.args.class c.in_err-b.field-0.0 e c.args.self.now c.loop-offsets.self c.request.new.self c.loop-offsets.offsets.items
+    c.loop-offsets.invariant.2 c.in_err-b.ensures.stopped c.request.ensures.idle one)
+
+pub returns-in_err-b-clause-keeps : goal.returns-in_err-b-clause-keeps
+returns-in_err-b-clause-keeps g c =
+    kept_last c.args.class c.args.self.now c.loop-offsets.self c.request.new.self c.loop-offsets.offsets.items
+    c.loop-offsets.invariant.2 c.request.ensures.words c.in_err-b.ensures.held
+
+pub returns-in-Err-clause-keeps : goal.returns-in-Err-clause-keeps
+returns-in-Err-clause-keeps g c =
+    kept_unpushed c.args.class c.size_of.result c.args.self.now c.loop-offsets.self c.request.new.self c.loop-offsets.offsets.items
+    c.in_ok-b.field-0 c.in-Some.b c.loop-offsets.invariant.2 c.in-Some.is c.in_ok-b.ensures.ok c.request.ensures.words
+
+pub returns-clause-keeps : goal.returns-clause-keeps
+returns-clause-keeps g c =
+    (kept_done c.args.class c.size_of.result c.args.self.now c.loop-offsets.self c.request.new.self c.loop-offsets.offsets.items
+    c.in_ok-b.field-0 c.loop-offsets.invariant.2 c.in_default.is c.in_ok-b.ensures.ok c.request.ensures.words c.in_ok-b.ensures.runs).0
+
+pub returns-clause-holds : goal.returns-clause-holds
+returns-clause-holds g c =
+    (kept_done c.args.class c.size_of.result c.args.self.now c.loop-offsets.self c.request.new.self c.loop-offsets.offsets.items
+    c.in_ok-b.field-0 c.loop-offsets.invariant.2 c.in_default.is c.in_ok-b.ensures.ok c.request.ensures.words c.in_ok-b.ensures.runs).1

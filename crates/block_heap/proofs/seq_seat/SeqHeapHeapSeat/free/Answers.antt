@@ -1,7 +1,8 @@
+use Rattle.std.proofs.Common.{ap, ◌∙◌}
 use Rattle.block_heap.specs.Parts.{parts_of}
-use Rattle.block_heap.specs.Running.{IsRunning, AreShort}
+use Rattle.block_heap.specs.SeqState.{SeqState}
 use Rattle.block_heap.proofs.RequestLemmas.{large_heap}
-use Rattle.block_heap.proofs.FreeCallLemmas.{free_lasts, on_ok_both, may_free, frees}
+use Rattle.block_heap.proofs.FreeCallLemmas.{free_lasts, free_runs, may_free, frees}
 use Rattle.block_heap.proofs.FixedLemmas.{fixed_free}
 use Rattle.block_heap.proofs.seq_seat.SeqHeapHeapSeat.free.Goals as goal
 
@@ -17,7 +18,9 @@ invariant_of-self g c =
     large_heap c.free-answer.result _ (parts_of c.free-answer.new.self) 40000 c.stop_of-self-inside.result _ c.self.invariant
     (free_lasts c.free-answer.result (parts_of c.self.inside.arena) (parts_of c.free-answer.new.self) c.args.b c.self.inside.stopped c.stop_of-self-inside.result c.self.invariant.lasts
     c.free-answer.ensures.freed c.free-answer.ensures.serves c.stop_of-self-inside.ensures.ok c.stop_of-self-inside.ensures.stopped c.free-answer.ensures.stopped)
-    (on_ok_both c.free-answer.result (IsRunning (parts_of c.free-answer.new.self)) (AreShort (parts_of c.free-answer.new.self) 0) c.free-answer.ensures.running c.free-answer.ensures.short)
+    (free_runs c.free-answer.result (parts_of c.self.inside.arena) (parts_of c.free-answer.new.self)
+    (c.self.invariant.running (ap (λ (s : SeqState). s.stopped) c.self.view_is ∙ c.in_ok-running.ensures.ok)).2
+    c.free-answer.ensures.running c.free-answer.ensures.short c.free-answer.ensures.accounted)
     c.free-answer.ensures.goes c.free-answer.ensures.stopped c.stop_of-self-inside.ensures.stopped
 
 pub returns-clause-ok : goal.returns-clause-ok

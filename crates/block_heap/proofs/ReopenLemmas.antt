@@ -1,0 +1,47 @@
+-- What a heap is to give that was opened over a recovered image: what that image had to give.
+use Rattle.std.proofs.Common.{◌≡◌, ◌↔◌, ℕ, List, Contains, slice_index, inl, inr, refl, ap, sym, subst, ◌∙◌}
+use Rattle.heap_model.specs.declared.block.Block.{Block}
+use Rattle.heap_model.specs.Geometry.{capacity_word}
+use Rattle.heap_model.specs.Image.{Image}
+use Rattle.heap_model.specs.Header.{capacity_of}
+use Rattle.heap_model.specs.Blocks.{layout_of}
+use Rattle.heap_model.specs.Reach.{Links, IsReached}
+use Rattle.heap_model.specs.Recovered.{IsDrained}
+use Rattle.heap_model.specs.Recovery.{in_header}
+use Rattle.heap_model.proofs.HeaderLemmas.{well_formed}
+use Rattle.heap_shape.specs.Draining.{IsTidy, IsToDrain}
+use Rattle.heap_shape.proofs.RecoveredLemmas.{reached_tidy, reached_drains}
+use Rattle.line_memory.specs.View.{View, volatile_at}
+use Rattle.block_heap.specs.Parts.{image_of, held_in}
+use Rattle.block_heap.specs.Reopening.{IsReopened}
+use Rattle.block_heap.specs.Requests.{IsTidyFor, IsDrainedOf}
+use Rattle.block_heap.specs.SeqState.{SeqState}
+
+module _ (bytes : ℕ) (old : Image) (kinds : ℕ → ℕ) (links : Links) (words : List ℕ) (held : List Block) (budget : ℕ) (s : SeqState)
+    (is : IsReopened bytes old kinds links words held budget s) where
+  -- loads see the words that it was opened with
+  image_is : image_of s.parts ≡ slice_index words
+  image_is = ap (λ (v : View). λ word. volatile_at v word) is.opened.opens.words_are
+
+  capacity_is : s.parts.capacity ≡ capacity_of old
+  capacity_is = is.opened.opens.capacity ∙ is.recovered.same capacity_word (in_header capacity_word (inr (inr (inl refl))))
+
+  -- the held blocks are the reached ones
+  held_are : (b : Block) → Contains (held_in s.parts) b ↔ IsReached old kinds links b
+  held_are b =
+      let same = is.opened.opens.same b in
+      (λ holds. is.held_are.sound b (same.0 holds), λ reached. same.1 (is.held_are.complete b reached))
+
+  pub reopened_tidy : (class : ℕ) → IsTidyFor class s
+  reopened_tidy class =
+      let here : IsTidy (capacity_of old) (slice_index words) (held_in s.parts) class =
+      reached_tidy old (slice_index words) kinds links (held_in s.parts) class is.recovered held_are (well_formed bytes old is.good).small in
+      subst (λ (image : Image). IsTidy s.parts.capacity image (held_in s.parts) class) (sym image_is)
+      (subst (λ n. IsTidy n (slice_index words) (held_in s.parts) class) (sym capacity_is) here)
+
+  pub reopened_drains : (class : ℕ) (b : Block) → IsDrained (layout_of old) (IsReached old kinds links) class b ↔ IsDrainedOf class s b
+  reopened_drains class b =
+      let here : IsDrained (layout_of old) (IsReached old kinds links) class b ↔ IsToDrain (capacity_of old) (slice_index words) (held_in s.parts) class b =
+      reached_drains old (slice_index words) kinds links (held_in s.parts) class is.recovered held_are b in
+      subst (λ (image : Image). IsDrained (layout_of old) (IsReached old kinds links) class b ↔ IsToDrain s.parts.capacity image (held_in s.parts) class b) (sym image_is)
+      (subst (λ n. IsDrained (layout_of old) (IsReached old kinds links) class b ↔ IsToDrain n (slice_index words) (held_in s.parts) class b) (sym capacity_is) here)
