@@ -1,11 +1,11 @@
 -- What draining a class of a recovered heap gives is what the image says that it must give.
-use Rattle.std.proofs.Common.{◌≡◌, ◌↔◌, ℕ, ◌≤◌, List, Contains, slice_index, inl, inr, refl, sym, subst, ◌∙◌, arith}
+use Rattle.std.proofs.Common.{◌≡◌, ◌↔◌, ℕ, ◌≤◌, List, Contains, slice_index, inl, inr, refl, sym, subst}
 use Rattle.heap_model.specs.declared.block.Block.{Block}
 use Rattle.heap_model.specs.Geometry.{largest_capacity, capacity_word}
 use Rattle.heap_model.specs.Image.{Image, image_of_bytes}
-use Rattle.heap_model.specs.Header.{IsWellFormed, capacity_of}
+use Rattle.heap_model.specs.Header.{capacity_of}
 use Rattle.heap_model.specs.Blocks.{layout_of, IsBlock}
-use Rattle.heap_model.specs.Recovered.{IsDrained, AreAscending}
+use Rattle.heap_model.specs.Recovered.{IsDrained}
 use Rattle.heap_model.specs.Recovery.{in_header}
 use Rattle.heap_model.proofs.HeaderLemmas.{well_formed}
 use Rattle.heap_model.proofs.ReachLemmas.{reached_block}

@@ -1,12 +1,12 @@
 -- What a heap gives that was opened over a heap at rest, in words on the heap at rest.
-use Rattle.std.proofs.Common.{◌≡◌, ◌↔◌, ℕ, ◌+◌, ◌*◌, ◌^◌, ◌-◌, ◌<◌, ◌≤◌, List, Contains, slice_index, sym, ap, ◌∙◌, subst, arith}
+use Rattle.std.proofs.Common.{◌≡◌, ◌↔◌, ℕ, ◌+◌, ◌^◌, ◌-◌, ◌<◌, ◌≤◌, List, Contains, slice_index, sym, ap, ◌∙◌, subst, arith}
 use Rattle.heap_model.specs.declared.block.Block.{Block}
 use Rattle.heap_model.specs.Image.{Image}
 use Rattle.heap_model.specs.Header.{capacity_of}
 use Rattle.heap_model.specs.Blocks.{Layout}
 use Rattle.heap_model.specs.Recovered.{IsFreeSuperblock, IsDrained, beside, freed, fresh}
 use Rattle.heap_shape.specs.Whole.{layout_at}
-use Rattle.heap_shape.specs.Draining.{IsTidy, IsToDrain}
+use Rattle.heap_shape.specs.Draining.{IsTidy}
 use Rattle.line_memory.specs.View.{View, volatile_at}
 use Rattle.block_heap.specs.Closing.{IsOpened}
 use Rattle.block_heap.specs.Parts.{image_of, held_in}

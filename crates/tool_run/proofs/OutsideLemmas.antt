@@ -1,6 +1,6 @@
 -- What a command that gets an image comes to, where the store tells that a word of it points outside.
 use Rattle.std.proofs.Common.{◌≡◌, ◌⊎◌, ℕ, List, Option, Some, None, IfSome, inl, inr, sym, subst}
-use Rattle.tool_ports.specs.Contents.{Contents, Holds, Lacks, told_of}
+use Rattle.tool_ports.specs.Contents.{Contents, Holds, told_of}
 use Rattle.heap_model.specs.Image.{image_of_bytes}
 use Rattle.tool_run.specs.Command.{Command, format_image, show_image, drain_image, image_name, Asks}
 use Rattle.tool_run.specs.declared.fault.Fault.{Fault}

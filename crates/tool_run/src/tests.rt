@@ -92,48 +92,65 @@ fn an_image_is_made_and_shown(rt: HostRuntime) -> Result<(), Fail> {
     Ok(())
 }
 
-#[test]
-fn words_of_another_form_are_usage(rt: HostRuntime) -> Result<(), Fail> {
+// Calls with the words of each line, which ask for nothing.
+fn are_usage(rt: &(impl Abort + AllocGlobal), lines: &[&str]) -> Result<(), Fail> {
     let alloc = rt.alloc();
     let mut images = MapStore::new(alloc, Vec::new(alloc), FailedPut::LeavesOld);
-    for line in [
-        "",
-        "run h --workers 9",
-        "format h",
-        "format h 0",
-        "format h 257",
-        "format h 18446744073709551617",
-        "format h +1",
-        "format h 1x",
-        "format h 1 1",
-        "format  1",
-        "format -h 1",
-        "Format h 1",
-        "show",
-        "show -h",
-        "show h h",
-        "show h --mapp",
-        "show --map h",
-        "show h --map 1",
-        "drain",
-        "drain h",
-        "drain h 0",
-        "drain h 21",
-        "drain h 18446744073709551617",
-        "drain h +4",
-        "drain h 4x",
-        "drain h 4 4",
-        "drain h --map",
-        "drain -h 4",
-        "drain  4",
-        "drain 4 h",
-    ] {
+    for line in lines {
         let (status, out) = call(alloc, line, &mut images, &[])?;
         assert_eq!(rt; status, 2, "{line}");
         assert_eq!(rt; out.bytes(), b"usage\n".as_slice(), "{line}");
     }
     assert_eq!(rt; images.image("h"), None);
     Ok(())
+}
+
+#[test]
+fn words_of_another_form_are_usage(rt: HostRuntime) -> Result<(), Fail> {
+    are_usage(
+        &rt,
+        &[
+            "",
+            "run h --workers 9",
+            "format h",
+            "format h 0",
+            "format h 257",
+            "format h 18446744073709551617",
+            "format h +1",
+            "format h 1x",
+            "format h 1 1",
+            "format  1",
+            "format -h 1",
+            "Format h 1",
+            "show",
+            "show -h",
+            "show h h",
+            "show h --mapp",
+            "show --map h",
+            "show h --map 1",
+        ],
+    )
+}
+
+#[test]
+fn words_that_name_no_class_are_usage(rt: HostRuntime) -> Result<(), Fail> {
+    are_usage(
+        &rt,
+        &[
+            "drain",
+            "drain h",
+            "drain h 0",
+            "drain h 21",
+            "drain h 18446744073709551617",
+            "drain h +4",
+            "drain h 4x",
+            "drain h 4 4",
+            "drain h --map",
+            "drain -h 4",
+            "drain  4",
+            "drain 4 h",
+        ],
+    )
 }
 
 #[test]

@@ -1,4 +1,3 @@
-use Rattle.std.proofs.Common.{refl}
 use Rattle.tool_run.specs.Making.{class_line, offset_line}
 use Rattle.tool_run.proofs.OffsetLemmas.{lines_more}
 use Rattle.tool_run.proofs.draining.offsets_text.Goals as goal

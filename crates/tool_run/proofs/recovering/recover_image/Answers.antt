@@ -1,4 +1,4 @@
-use Rattle.tool_run.proofs.ImageLemmas.{is_recovered, is_malformed, is_refused, is_not_got, whole_shown}
+use Rattle.tool_run.proofs.ImageLemmas.{is_recovered, is_malformed, is_refused, whole_shown}
 use Rattle.tool_run.proofs.DeliveryLemmas.{at_cause}
 use Rattle.tool_run.proofs.recovering.recover_image.Goals as goal
 
