@@ -1,6 +1,6 @@
 # make         builds the proved heap_tool and says where it lies
 # make check   every check: the gate
-# make bench   times the program beside the system's tools
+# make bench   times the program beside the system's tools, and the heap for one thread
 # make clean   removes what these made
 .PHONY: all check bench clean
 
@@ -18,6 +18,7 @@ check:
 
 bench: bin/heap_tool
 	bench/run
+	if command -v python3 >/dev/null; then bench/pairs.py; fi
 
 clean:
 	rm -rf bin crates/*/out
