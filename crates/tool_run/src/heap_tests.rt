@@ -73,25 +73,60 @@ const ONE_HELD: [(usize, u64); 3] = [(8, 1), (1_064, 4), (48, 0x5250_0000_0000_2
 fn what_recovery_left_free_is_drained(rt: HostRuntime) -> Result<(), Fail> {
     let alloc = rt.alloc();
     let [used, info, root] = ONE_HELD;
+    let second = (49, 0x5250_0000_0001_21c0);
     for (words, class, count, first, last) in [
-        ([used, info, root, (3, 1)], 4, 2_047, 8_704, 139_648),
-        // The other blocks of the superblock are of no other class.
-        ([used, info, root, (3, 1)], 5, 682, 74_176, 139_552),
-        // The one that nothing reaches was freed.
-        ([(8, 2), info, root, (1_072, 20)], 4, 2_047, 8_704, 139_648),
-        ([(8, 2), info, root, (1_072, 4)], 4, 2_047, 8_704, 139_648),
-        // A large block of both is left as it is.
-        ([(8, 2), (1_064, 767), root, (1_072, 0)], 4, 0, 0, 0),
+        ([used, info, root, (3, 1), (3, 1)], 4, 2_047, 8_704, 139_648),
+        // The free blocks of a superblock of which one is held are of no other class.
+        ([used, info, root, (3, 1), (3, 1)], 5, 682, 74_176, 139_552),
+        // A superblock of which nothing is reached is free, whatever its info was.
         (
-            [(8, 2), (1_064, 511), root, (1_072, 511)],
+            [(8, 2), info, root, (1_072, 20), (3, 1)],
+            4,
+            2_047,
+            8_704,
+            139_648,
+        ),
+        (
+            [(8, 2), info, root, (1_072, 4), (3, 2)],
+            4,
+            2_047,
+            8_704,
+            139_648,
+        ),
+        // One block is held in each.
+        (
+            [(8, 2), info, root, (1_072, 4), second],
+            4,
+            2_046,
+            8_704,
+            139_648,
+        ),
+        (
+            [(8, 2), info, root, (1_072, 20), second],
+            20,
+            3,
+            88_512,
+            117_184,
+        ),
+        // Large blocks, of both and of the first.
+        ([(8, 2), (1_064, 767), root, (3, 1), (3, 1)], 4, 0, 0, 0),
+        (
+            [(8, 2), (1_064, 511), root, (1_072, 511), (3, 1)],
             20,
             4,
             74_176,
             117_184,
         ),
         // Nothing is held.
-        ([used, info, (48, 0), (3, 2)], 4, 2_048, 8_640, 139_648),
+        (
+            [used, info, (3, 1), (3, 1), (3, 1)],
+            4,
+            2_048,
+            8_640,
+            139_648,
+        ),
     ] {
+        assert!(rt; 1 <= class && class <= 20);
         let ready = recovered(alloc, 2, &words)?;
         let mut heap = SeqHeap::new(alloc, ready, MANY, Always(1))?;
         let mut offsets = heap.drain(alloc, class)?;
@@ -218,9 +253,7 @@ fn nth_freed(order: u64, nth: usize, count: usize) -> usize {
         0 => nth,
         1 => count.wrapping_sub(nth).wrapping_sub(1),
         _ if twice < count => twice,
-        _ => twice
-            .wrapping_sub(count | 1)
-            .wrapping_add(if count % 2 == 0 { 2 } else { 1 }),
+        _ => twice.wrapping_sub(count) | 1,
     }
 }
 
