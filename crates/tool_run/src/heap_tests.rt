@@ -74,58 +74,23 @@ fn what_recovery_left_free_is_drained(rt: HostRuntime) -> Result<(), Fail> {
     let alloc = rt.alloc();
     let [used, info, root] = ONE_HELD;
     let second = (49, 0x5250_0000_0001_21c0);
-    for (words, class, count, first, last) in [
-        ([used, info, root, (3, 1), (3, 1)], 4, 2_047, 8_704, 139_648),
+    for ([a, b, c], class, count, first, last) in [
+        ([(3, 1), (3, 1), (3, 1)], 4, 2_047, 8_704, 139_648),
         // The free blocks of a superblock of which one is held are of no other class.
-        ([used, info, root, (3, 1), (3, 1)], 5, 682, 74_176, 139_552),
+        ([(3, 1), (3, 1), (3, 1)], 5, 682, 74_176, 139_552),
         // A superblock of which nothing is reached is free, whatever its info was.
-        (
-            [(8, 2), info, root, (1_072, 20), (3, 1)],
-            4,
-            2_047,
-            8_704,
-            139_648,
-        ),
-        (
-            [(8, 2), info, root, (1_072, 4), (3, 2)],
-            4,
-            2_047,
-            8_704,
-            139_648,
-        ),
+        ([(8, 2), (1_072, 20), (3, 1)], 4, 2_047, 8_704, 139_648),
+        ([(8, 2), (1_072, 4), (3, 2)], 4, 2_047, 8_704, 139_648),
         // One block is held in each.
-        (
-            [(8, 2), info, root, (1_072, 4), second],
-            4,
-            2_046,
-            8_704,
-            139_648,
-        ),
-        (
-            [(8, 2), info, root, (1_072, 20), second],
-            20,
-            3,
-            88_512,
-            117_184,
-        ),
+        ([(8, 2), (1_072, 4), second], 4, 2_046, 8_704, 139_648),
+        ([(8, 2), (1_072, 20), second], 20, 3, 88_512, 117_184),
         // Large blocks, of both and of the first.
-        ([(8, 2), (1_064, 767), root, (3, 1), (3, 1)], 4, 0, 0, 0),
-        (
-            [(8, 2), (1_064, 511), root, (1_072, 511), (3, 1)],
-            20,
-            4,
-            74_176,
-            117_184,
-        ),
+        ([(8, 2), (1_064, 767), (3, 1)], 4, 0, 0, 0),
+        ([(8, 2), (1_064, 511), (1_072, 9)], 20, 4, 74_176, 117_184),
         // Nothing is held.
-        (
-            [used, info, (3, 1), (3, 1), (3, 1)],
-            4,
-            2_048,
-            8_640,
-            139_648,
-        ),
+        ([(48, 0), (3, 1), (3, 1)], 4, 2_048, 8_640, 139_648),
     ] {
+        let words = [used, info, root, a, b, c];
         assert!(rt; 1 <= class && class <= 20);
         let ready = recovered(alloc, 2, &words)?;
         let mut heap = SeqHeap::new(alloc, ready, MANY, Always(1))?;
