@@ -16,4 +16,6 @@ pub use run::run_tool;
 pub use status::Status;
 
 #[cfg(test)]
+mod heap_tests;
+#[cfg(test)]
 mod tests;
