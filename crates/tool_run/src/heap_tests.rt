@@ -97,16 +97,8 @@ fn what_recovery_left_free_is_drained(rt: HostRuntime) -> Result<(), Fail> {
         let mut offsets = heap.drain(alloc, class)?;
         offsets.sort()?;
         assert_eq!(rt; offsets.len(), count, "{words:?} for {class}");
-        assert_eq!(rt;
-            offsets.first().copied().unwrap_or(0),
-            first,
-            "{words:?} for {class}"
-        );
-        assert_eq!(rt;
-            offsets.last().copied().unwrap_or(0),
-            last,
-            "{words:?} for {class}"
-        );
+        let ends = [offsets.first(), offsets.last()].map(|end| end.copied().unwrap_or(0));
+        assert_eq!(rt; ends, [first, last], "{words:?} for {class}");
         offsets.dedup();
         assert_eq!(rt; offsets.len(), count, "{words:?} for {class}");
     }
