@@ -1,9 +1,13 @@
--- Why a port answers that the outside failed: it has counted a failure.
+-- How the counts of a port go on, and why a port answers that the outside failed: it has counted a failure.
 use Rattle.std.specs.Prelude.{◌≡◌, ℕ, ◌+◌, ◌-◌, ◌^◌, ◌≤◌, min, refl}
+
+-- a count after one event more, which stands at its last value
+abbrev pub one_more : ℕ → ℕ
+one_more count = min (count + 1) (2 ^ 64 - 1)
 
 -- the count of faults rose, or it stands at its last value
 abbrev pub Rose : ℕ → ℕ → Type 0
-Rose before now = min (before + 1) (2 ^ 64 - 1) ≤ now
+Rose before now = one_more before ≤ now
 
 -- The count of faults never falls. It rises at the answer that tells of a failure, and stays at
 -- every other.
@@ -12,6 +16,10 @@ pub record HasCause (before now : ℕ) (failed : Type 0) : Type 0 where
   pub rose : failed → Rose before now
   pub steady : ¬ failed → now ≡ before
 
+-- one event is counted
+first_is_counted : one_more 0 ≡ 1
+first_is_counted = refl
+
 -- at the last value the count can't rise, and stands
-last_value_stands : min ((2 ^ 64 - 1) + 1) (2 ^ 64 - 1) ≡ 2 ^ 64 - 1
+last_value_stands : one_more (2 ^ 64 - 1) ≡ 2 ^ 64 - 1
 last_value_stands = refl

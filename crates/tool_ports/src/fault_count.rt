@@ -1,5 +1,6 @@
 //! The count of failures that each port keeps.
-ghost use Rattle.std.specs.Prelude.{◌≡◌, ◌+◌, ◌-◌, ◌^◌, ◌<◌, min};
+ghost use Rattle.std.specs.Prelude.{◌≡◌, ◌^◌, ◌<◌};
+ghost use Rattle.tool_ports.specs.Causes.{one_more};
 
 /// How many calls of a port have failed by the outside. It stops at its last value.
 #[derive(Drop)]
@@ -19,7 +20,7 @@ impl FaultCount {
 
     /// Counts one failure.
     pub fn rise(&mut self)
-        ensures { self.new.count ≡ min (self.old.count + 1) (2 ^ 64 - 1) }
+        ensures { self.new.count ≡ one_more self.old.count }
     {
         self.count = self.count.saturating_add(1);
     }

@@ -1,12 +1,13 @@
 //! A store of heap images under names, as the tool sees it.
 ghost use Rattle.std.specs.Prelude.{◌≡◌, ◌^◌, ◌<◌, ◌≤◌, ℕ, List, Option, length, IfOk, OnOk, OnErr, IsErrOf};
+ghost use Rattle.tool_ports.specs.Calls.{with_get, with_put};
 ghost use Rattle.tool_ports.specs.Causes.{HasCause};
 ghost use Rattle.tool_ports.specs.Contents.{HoldsFirst, Lacks, Holds, HoldsOldOrNew, KeepsOthers};
-ghost use Rattle.tool_ports.specs.declared.image_store.GetFault.TheVariants.{Memory as GetMemory, Failed as GetFailed};
-ghost use Rattle.tool_ports.specs.declared.image_store.PutImageFault.TheVariants.{Memory as PutMemory, Failed as PutFailed};
+ghost use Rattle.tool_ports.specs.declared.store_calls.StoreCalls.{StoreCalls};
+ghost use Rattle.tool_ports.specs.declared.image_store.GetFault.TheVariants.{Memory as GetMemory};
+ghost use Rattle.tool_ports.specs.declared.image_store.PutImageFault.TheVariants.{Memory as PutMemory};
 
-use crate::sink::Failed;
-use std::alloc::{AllocError, AllocFailed, Global};
+use std::alloc::{AllocError, Global};
 
 /// Why a store gave no image.
 #[derive(Clone, Copy, Debug, PartialEq, Eq)]
@@ -36,6 +37,10 @@ pub trait ImageStore {
     /// How many of its calls have failed by the outside; it stops at 2^64 - 1.
     ghost faults: { Self → ℕ };
 
+    /// How often it was called, and the greatest number of bytes that a get asked for. Each count
+    /// stops at 2^64 - 1.
+    ghost calls: { Self → StoreCalls };
+
     /// The image's first `most` bytes, or all if it has fewer.
     fn get(&mut self, alloc: Global, name: &str, most: usize) -> Result<Vec<u8>, GetFault>
         ensures ok { IfOk result (λ v. HoldsFirst (contents self.old) name.now most v.items) }
@@ -43,29 +48,27 @@ pub trait ImageStore {
         ensures none { IsErrOf result GetFault.Absent → Lacks (contents self.old) name.now }
         ensures unchanged { contents self.new ≡ contents self.old }
         ensures cause { HasCause (faults self.old) (faults self.new)
-            (IsErrOf result GetFault.Failed) };
+            (IsErrOf result GetFault.Failed) }
+        ensures counted { calls self.new ≡ with_get most (calls self.old) };
 
-    /// Puts these bytes under the name, in the place of what was there.
+    /// Puts these bytes under the name, in the place of what was there. A call for which memory
+    /// ran out is not counted.
     fn put(&mut self, alloc: Global, name: &str, bytes: &[u8]) -> Result<(), PutImageFault>
         ensures ok { OnOk result (Holds (contents self.new) name.now bytes.now) }
         ensures err { OnErr result (HoldsOldOrNew name.now bytes.now
             (contents self.old) (contents self.new)) }
         ensures unchanged { IsErrOf result PutImageFault.Memory →
             contents self.new ≡ contents self.old }
+        ensures not_counted { IsErrOf result PutImageFault.Memory →
+            calls self.new ≡ calls self.old }
         ensures others { KeepsOthers name.now (contents self.old) (contents self.new) }
         ensures cause { HasCause (faults self.old) (faults self.new)
-            (IsErrOf result PutImageFault.Failed) };
+            (IsErrOf result PutImageFault.Failed) }
+        ensures counted { ¬ (IsErrOf result PutImageFault.Memory) →
+            calls self.new ≡ with_put (calls self.old) };
 
     /// The last value at which the count of faults stands is 2^64 - 1.
     ghost faults_fit: { (store : Self) → faults store < 2 ^ 64 };
-}
-
-impl From<Failed> for GetFault {
-    ghost from_gives = { λ _ e. e ≡ GetFailed };
-
-    fn from(_: Failed) -> Self {
-        GetFault::Failed
-    }
 }
 
 impl From<AllocError> for GetFault {

@@ -78,7 +78,7 @@ fn all_is_written_in_pieces_up_to_the_call_that_fails(rt: HostRuntime) -> Result
         (3, Ok(()), "abcde"),
     ];
     for (failing, answer, want) in cases {
-        let mut sink = VecSink::new(alloc, vec![in alloc; failing]?, 2);
+        let mut sink = VecSink::new(alloc, vec![in alloc; failing]?, 2, 5)?;
         assert_eq!(rt; write_all(&mut sink, b"abcde"), answer);
         assert_eq!(rt; sink.bytes(), want.as_bytes());
     }
@@ -88,9 +88,36 @@ fn all_is_written_in_pieces_up_to_the_call_that_fails(rt: HostRuntime) -> Result
 #[test]
 fn nothing_is_written_without_a_call(rt: HostRuntime) -> Result<(), Fail> {
     let alloc = rt.alloc();
-    let mut sink = VecSink::new(alloc, vec![in alloc; 0]?, 2);
+    let mut sink = VecSink::new(alloc, vec![in alloc; 0]?, 2, 1)?;
     assert_eq!(rt; write_all(&mut sink, b""), Ok(()));
     assert_eq!(rt; write_all(&mut sink, b"a"), Err(Failed));
     assert_eq!(rt; write_all(&mut sink, b"a"), Ok(()));
+    Ok(())
+}
+
+#[test]
+fn a_sink_without_room_fails(rt: HostRuntime) -> Result<(), Fail> {
+    let alloc = rt.alloc();
+    for (room, answer, want) in [
+        (0, Err(Failed), ""),
+        (3, Err(Failed), "abc"),
+        (5, Ok(()), "abcde"),
+    ] {
+        let mut sink = VecSink::new(alloc, Vec::new(alloc), 2, room)?;
+        assert_eq!(rt; write_all(&mut sink, b"abcde"), answer);
+        assert_eq!(rt; sink.bytes(), want.as_bytes());
+    }
+    Ok(())
+}
+
+#[test]
+fn each_call_of_a_store_is_counted(rt: HostRuntime) -> Result<(), Fail> {
+    let alloc = rt.alloc();
+    let mut store = MapStore::new(alloc, vec![in alloc; 2]?, FailedPut::LeavesOld);
+    let _ = get(&mut store, alloc, "heap", 9);
+    assert_eq!(rt; put(&mut store, alloc, "heap", b"abc"), Ok(()));
+    let _ = get(&mut store, alloc, "heap", 4);
+    let calls = store.calls();
+    assert_eq!(rt; (calls.gets, calls.puts, calls.most), (2, 1, 9));
     Ok(())
 }
