@@ -8,7 +8,7 @@ use Rattle.byteorder.specs.Numbers.{little_from-take}
 use Rattle.heap_model.specs.declared.header.BadHeader.{BadHeader}
 use Rattle.heap_model.specs.Image.{Image, image_of_bytes}
 use Rattle.heap_model.specs.Header.{header_fault, has_fault, IsWellFormed, capacity_of, state_of}
-use Rattle.heap_model.specs.Geometry.{image_words, clean, capacity_word}
+use Rattle.heap_model.specs.Geometry.{image_words, largest_capacity, clean, capacity_word}
 use Rattle.heap_model.specs.Recovery.{in_header}
 use Rattle.heap_model.proofs.HeaderLemmas.{no_fault}
 use Rattle.heap_recover.specs.declared.answer.Recovered.{Recovered}
@@ -25,31 +25,32 @@ use Rattle.trace_text.specs.HeapMap.{map_of}
 use Rattle.trace_text.specs.Recovered.{is_clean}
 use Rattle.tool_run.specs.declared.fault.Fault.{Fault}
 use Rattle.tool_run.specs.declared.fault.Fault.TheVariants.{Malformed}
+use Rattle.tool_run.specs.Calls.{get_limit}
 use Rattle.tool_run.specs.Command.{Command, image_name}
 use Rattle.tool_run.specs.Inside.{Refuses, fault_of_recovery, fault_of_get}
 use Rattle.tool_run.specs.Making.{Gets, fault_of, Shows, IsMalformed, HasOutside, PointsOutside, shown_text}
 use Rattle.tool_run.specs.Recovering.{IsRecovered, IsRecoveryOf, IsRecoveryFault, text_of}
 
--- one more byte than the longest image has
-abbrev most : ℕ
-most = 16802113
+-- as many first bytes under another name
+pub first_limited : (contents : Contents) (name got : List ℕ) (most : ℕ) → most ≡ get_limit → HoldsFirst contents name most got → HoldsFirst contents name get_limit got
+first_limited contents name got most is first = subst (λ (n : ℕ). HoldsFirst contents name n got) is first
 
 -- the words in the first bytes are those of all
-first_words : (bytes : List ℕ) → SameHeader (image_of_bytes (take most bytes)) (image_of_bytes bytes)
+first_words : (bytes : List ℕ) → SameHeader (image_of_bytes (take get_limit bytes)) (image_of_bytes bytes)
 first_words bytes i below =
-    let whole : most ≡ 8 * i + (most - 8 * i) = omega arith in
-    let front : drop (8 * i) (take most bytes) ≡ take (most - 8 * i) (drop (8 * i) bytes) =
-    ap (λ n. drop (8 * i) (take n bytes)) whole ∙ drop-take (8 * i) (most - 8 * i) bytes in
-    ap (little_number 8) front ∙ little_from-take 0 8 (most - 8 * i) (drop (8 * i) bytes) (omega arith)
+    let whole : get_limit ≡ 8 * i + (get_limit - 8 * i) = omega arith in
+    let front : drop (8 * i) (take get_limit bytes) ≡ take (get_limit - 8 * i) (drop (8 * i) bytes) =
+    ap (λ n. drop (8 * i) (take n bytes)) whole ∙ drop-take (8 * i) (get_limit - 8 * i) bytes in
+    ap (little_number 8) front ∙ little_from-take 0 8 (get_limit - 8 * i) (drop (8 * i) bytes) (omega arith)
 
 -- images of the same words that are too long have the same fault
-long_fault : (m n : ℕ) (image : Image) (wide : Bool) → most ≤ m → most ≤ n → (nat_eq (image 2) 0 || nat_lt 256 (image 2)) ≡ wide → header_fault m image ≡ header_fault n image
+long_fault : (m n : ℕ) (image : Image) (wide : Bool) → get_limit ≤ m → get_limit ≤ n → (nat_eq (image 2) 0 || nat_lt largest_capacity (image 2)) ≡ wide → header_fault m image ≡ header_fault n image
 unfolding header_fault has_fault
 long_fault m n image true long longer is =
     rw (le-ltb m 8512 (omega arith), le-ltb n 8512 (omega arith), is) refl
 long_fault m n image false long longer is =
-    let range = or_parts (nat_eq (image 2) 0) (nat_lt 256 (image 2)) is in
-    let small = ltb-false 256 (image 2) range.1 in
+    let range = or_parts (nat_eq (image 2) 0) (nat_lt largest_capacity (image 2)) is in
+    let small = ltb-false largest_capacity (image 2) range.1 in
     rw (
       le-ltb m 8512 (omega arith),
       le-ltb n 8512 (omega arith),
@@ -59,12 +60,12 @@ long_fault m n image false long longer is =
     ) refl
 
 -- the first bytes have the fault that all have
-first_fault : (bytes : List ℕ) → fault_of (take most bytes) ≡ fault_of bytes
-first_fault bytes = elim (cases_lt (length bytes) most) [
-  | inl short ↦ ap fault_of (take_all most bytes (omega arith))
+first_fault : (bytes : List ℕ) → fault_of (take get_limit bytes) ≡ fault_of bytes
+first_fault bytes = elim (cases_lt (length bytes) get_limit) [
+  | inl short ↦ ap fault_of (take_all get_limit bytes (omega arith))
   | inr long ↦
-      same_fault (length (take most bytes)) (image_of_bytes (take most bytes)) (image_of_bytes bytes) (first_words bytes)
-      ∙ long_fault (length (take most bytes)) (length bytes) (image_of_bytes bytes) _ (omega (arith, length-take-le most bytes long)) long refl
+      same_fault (length (take get_limit bytes)) (image_of_bytes (take get_limit bytes)) (image_of_bytes bytes) (first_words bytes)
+      ∙ long_fault (length (take get_limit bytes)) (length bytes) (image_of_bytes bytes) _ (omega (arith, length-take-le get_limit bytes long)) long refl
 ]
 
 -- The bytes that a store gave are the first of those of an image which, where the store tells, is the one it has.
@@ -74,12 +75,12 @@ record IsGot (contents : Contents) (name got : List ℕ) : Type 0 where
   fault_is : fault_of got ≡ fault_of bytes
   same : SameHeader (image_of_bytes got) (image_of_bytes bytes)
 
-held_image : (image : Option (List ℕ)) (got : List ℕ) → IsSomeAnd image (λ held. got ≡ take most held)
-    → (bytes : List ℕ) × (image ≡ Some bytes) × (got ≡ take most bytes)
+held_image : (image : Option (List ℕ)) (got : List ℕ) → IsSomeAnd image (λ held. got ≡ take get_limit held)
+    → (bytes : List ℕ) × (image ≡ Some bytes) × (got ≡ take get_limit bytes)
 held_image None got first = absurd first
 held_image (Some bytes) got first = (bytes, refl, first)
 
-got_image : (contents : Contents) (name got : List ℕ) → HoldsFirst contents name most got → IsGot contents name got
+got_image : (contents : Contents) (name got : List ℕ) → HoldsFirst contents name get_limit got → IsGot contents name got
 got_image None name got first = record { bytes = got; held = tt; fault_is = refl; same = λ i below. refl }
 got_image (Some image_of) name got first =
     let at = held_image (image_of name) got first in
@@ -91,27 +92,27 @@ got_image (Some image_of) name got first =
     }
 
 -- the bytes that a store gave, where their header is good, are those of an image that it has, where it tells
-short_whole : (bytes : List ℕ) → length (take most bytes) < most → length bytes ≤ most
-short_whole bytes short = elim (cases_lt (length bytes) most) as (λ _. length bytes ≤ most) [
+short_whole : (bytes : List ℕ) → length (take get_limit bytes) < get_limit → length bytes ≤ get_limit
+short_whole bytes short = elim (cases_lt (length bytes) get_limit) as (λ _. length bytes ≤ get_limit) [
   | inl below ↦ omega arith
-  | inr long ↦ let cut = length-take-le most bytes long in omega (arith, cut)
+  | inr long ↦ let cut = length-take-le get_limit bytes long in omega (arith, cut)
 ]
 
 pub record IsWhole (contents : Contents) (name got : List ℕ) : Type 0 where
   pub is_there : Holds contents name got
   pub good : fault_of got ≡ None
 
-pub whole_image : (contents : Contents) (name got : List ℕ) → HoldsFirst contents name most got → IsWellFormed (length got) (image_of_bytes got) → IsWhole contents name got
+pub whole_image : (contents : Contents) (name got : List ℕ) → HoldsFirst contents name get_limit got → IsWellFormed (length got) (image_of_bytes got) → IsWhole contents name got
 whole_image None name got first good = record { is_there = tt; good = no_fault (length got) (image_of_bytes got) good }
 whole_image (Some image_of) name got first good =
     let at = held_image (image_of name) got first in
-    let short : length got < most = let length_is = good.length_is in let small = good.small in omega arith in
-    let cut : length (take most at.0) < most = subst (λ (l : List ℕ). length l < most) at.2 short in
-    let whole : got ≡ at.0 = at.2 ∙ take_all most at.0 (short_whole at.0 cut) in
+    let short : length got < get_limit = let length_is = good.length_is in let small = good.small in omega arith in
+    let cut : length (take get_limit at.0) < get_limit = subst (λ (l : List ℕ). length l < get_limit) at.2 short in
+    let whole : got ≡ at.0 = at.2 ∙ take_all get_limit at.0 (short_whole at.0 cut) in
     record { is_there = at.1 ∙ ap (λ (l : List ℕ). Some l) (sym whole); good = no_fault (length got) (image_of_bytes got) good }
 
 -- the same, where the header of other bytes that are these was looked at
-pub whole_shown : (contents : Contents) (name got shown : List ℕ) → HoldsFirst contents name most got → shown ≡ got → IsWellFormed (length shown) (image_of_bytes shown) → IsWhole contents name got
+pub whole_shown : (contents : Contents) (name got shown : List ℕ) → HoldsFirst contents name get_limit got → shown ≡ got → IsWellFormed (length shown) (image_of_bytes shown) → IsWhole contents name got
 whole_shown contents name got shown first are good = whole_image contents name got first (subst (λ (l : List ℕ). IsWellFormed (length l) (image_of_bytes l)) are good)
 
 -- what the tool tells of a recovery that failed, where a command gets the image
@@ -180,7 +181,7 @@ shows contents name text with_map recovered is text_is = record {
 
 -- the cause of a bad header, where a command gets the image
 pub is_malformed : (contents : Contents) (name got shown : List ℕ) (get_failed : Type 0) (cause : BadHeader) (fault : Fault) → fault ≡ Malformed cause
-    → HoldsFirst contents name most got → shown ≡ got → Some cause ≡ fault_of shown
+    → HoldsFirst contents name get_limit got → shown ≡ got → Some cause ≡ fault_of shown
     → (command : Command) → Gets command → image_name command ≡ name → Refuses command contents get_failed fault
 is_malformed contents name got shown get_failed cause fault is first are at command gets named =
     let image : IsGot contents name got = got_image contents name got first in

@@ -7,10 +7,10 @@ use Rattle.tool_run.specs.Command.{Command, image_name, Asks}
 use Rattle.tool_run.specs.declared.fault.Fault.{Fault}
 use Rattle.tool_run.specs.declared.fault.Fault.TheVariants.{Usage, Memory, ReadFault, WriteFault, Absent, Malformed, Outside}
 use Rattle.tool_run.specs.Inside.{IsStopped, status_of, line_of}
-use Rattle.tool_run.specs.Lines.{Tells, write_line}
+use Rattle.tool_run.specs.Lines.{Tells}
 use Rattle.tool_run.specs.Outcome.{AsksToGet, IsWriteFault, IsBadHeader, IsOutsideAt}
 use Rattle.tool_run.specs.Status.{statuses, read_fault, write_fault, bad_header, outside}
-use Rattle.tool_run.proofs.CallLemmas.{rose_since, wider_cut}
+use Rattle.tool_run.proofs.CallLemmas.{rose_since}
 
 -- a fault has a status
 pub has_status : (fault : Fault) (status : ℕ) → status ≡ status_of fault → Contains statuses status
@@ -47,7 +47,7 @@ module _ (words : List (List ℕ)) (command : Command) (old new : Contents) (sto
   -- the result was cut off
   pub is_write_fault : (fault : Fault) (name : List ℕ) → IsStopped command old new store_failed (Rose first second) taken mid fault → status ≡ status_of fault
       → Tells (line_of fault name) second third mid final
-      → status ≡ write_fault → IsWriteFault words old new store_failed (Rose first third) taken (λ before. Tells write_line first third before final)
+      → status ≡ write_fault → IsWriteFault words old new store_failed first third taken final
   is_write_fault WriteFault name stopped is told five = elim stopped.cause [
     | inl (why, same) ↦ absurd why
     | inr (image, text, made, why) ↦ record {
@@ -57,9 +57,10 @@ module _ (words : List (List ℕ)) (command : Command) (old new : Contents) (sto
       text = text;
       made = made;
       before = mid;
-      left = wider_cut (image_name command) image text old new store_failed (Rose first second) store_failed (Rose first third) taken mid (λ failed. failed)
-          (rose_since first first second third (omega arith) high) why;
-      told = tells_since write_line first second third mid mid final low refl told;
+      between = second;
+      later = low;
+      left = why;
+      told = told;
     }
   ]
   is_write_fault Usage name stopped is told five = absurd (omega arith)

@@ -1,11 +1,12 @@
 -- What a call of the tool has done, by its status. `old` is what the store held before it, `new` what
 -- it holds after it; `taken` and `taken'` are what the sink had taken.
-use Rattle.std.specs.Prelude.{◌≡◌, ℕ, List, Option, Some, None}
+use Rattle.std.specs.Prelude.{◌≡◌, ℕ, ◌≤◌, List, Option, Some, None}
 use Rattle.heap_model.specs.declared.header.BadHeader.{BadHeader}
+use Rattle.tool_ports.specs.Causes.{Rose}
 use Rattle.tool_ports.specs.Contents.{Contents, Holds, HoldsOldOrNew, KeepsOthers, Lacks, told_of}
 use Rattle.tool_ports.specs.Taken.{taken_with, TakesPart}
 use Rattle.tool_run.specs.Command.{Command, format_image, show_image, drain_image, image_name, Asks}
-use Rattle.tool_run.specs.Lines.{no_image_line, bad_header_line, outside_line}
+use Rattle.tool_run.specs.Lines.{Tells, write_line, no_image_line, bad_header_line, outside_line}
 use Rattle.tool_run.specs.Making.{Makes, Gets, IsMalformed, HasOutside, PointsOutside, fault_of}
 use Rattle.heap_model.specs.Image.{image_of_bytes}
 
@@ -36,17 +37,21 @@ pub data IsCutOff (name : List ℕ) (image : Option (List ℕ)) (text : List ℕ
   while_printing : sink_failed → Puts name image old new → TakesPart text taken taken'
       → IsCutOff name image text old new store_failed sink_failed taken taken'
 
--- the words ask for a command, and its result was cut off; `Told` is what was printed after that
-pub record IsWriteFault (words : List (List ℕ)) (old new : Contents) (store_failed sink_failed : Type 0)
-    (taken : Option (List ℕ)) (Told : Option (List ℕ) → Type 0) : Type 0 where
+-- The words ask for a command, and its result was cut off. `faults` and `faults'` are the sink's count of
+-- failures before and after the call. The line was tried after that: `before` and `between` are what the
+-- sink had taken and counted by then.
+pub record IsWriteFault (words : List (List ℕ)) (old new : Contents) (store_failed : Type 0)
+    (faults faults' : ℕ) (taken taken' : Option (List ℕ)) : Type 0 where
   pub command : Command
   pub asked : Asks words command
   pub image : Option (List ℕ)
   pub text : List ℕ
   pub made : Makes command old image text
   pub before : Option (List ℕ)
-  pub left : IsCutOff (image_name command) image text old new store_failed sink_failed taken before
-  pub told : Told before
+  pub between : ℕ
+  pub later : faults ≤ between
+  pub left : IsCutOff (image_name command) image text old new store_failed (Rose faults between) taken before
+  pub told : Tells write_line between faults' before taken'
 
 -- the words ask for a command that gets the image of this name
 pub record AsksToGet (words : List (List ℕ)) (name : List ℕ) : Type 0 where

@@ -1,6 +1,8 @@
 //! What draining a class of an image gives, once the image is recovered.
 ghost use Rattle.std.specs.Prelude.{◌≡◌, ◌≤◌, ℕ, IfOk, IfErr};
+ghost use Rattle.tool_ports.specs.Calls.{with_get};
 ghost use Rattle.tool_ports.specs.Causes.{Rose};
+ghost use Rattle.tool_run.specs.Calls.{get_limit};
 ghost use Rattle.tool_run.specs.Command.{drain_image};
 ghost use Rattle.tool_run.specs.Inside.{Refuses};
 ghost use Rattle.tool_run.specs.Making.{Drains, drained_text};
@@ -31,6 +33,7 @@ pub fn drain_image<I: ImageStore>(
         (I.contents images.old) (Rose (I.faults images.old) (I.faults images.new)) fault) }
     ensures unchanged { I.contents images.new ≡ I.contents images.old }
     ensures later { I.faults images.old ≤ I.faults images.new }
+    ensures calls { I.calls images.new ≡ with_get get_limit (I.calls images.old) }
 {
     let recovered = recover_image(alloc, name, images)?;
     let Recovered {

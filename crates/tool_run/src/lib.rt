@@ -12,9 +12,11 @@ mod run;
 mod size_class;
 mod status;
 
-pub use run::run_tool;
+pub use run::{run_tool, tell_out_of_memory};
 pub use status::Status;
 
+#[cfg(test)]
+mod harness;
 #[cfg(test)]
 mod heap_tests;
 #[cfg(test)]

@@ -1,6 +1,8 @@
 //! What each command makes, all of it before anything is put or printed.
 ghost use Rattle.std.specs.Prelude.{◌≡◌, ◌≤◌, IfOk, IfErr};
+ghost use Rattle.tool_ports.specs.Calls.{with_get};
 ghost use Rattle.tool_ports.specs.Causes.{Rose};
+ghost use Rattle.tool_run.specs.Calls.{get_limit, with_making};
 ghost use Rattle.tool_run.specs.Inside.{command_of, Refuses};
 ghost use Rattle.tool_run.specs.Command.{show_image};
 ghost use Rattle.tool_run.specs.Making.{Makes, IsFormatted, Shows};
@@ -36,6 +38,8 @@ pub fn make<I: ImageStore>(
         (Rose (I.faults images.old) (I.faults images.new)) fault) }
     ensures unchanged { I.contents images.new ≡ I.contents images.old }
     ensures later { I.faults images.old ≤ I.faults images.new }
+    ensures calls { I.calls images.new
+        ≡ with_making (command_of command.entry) (I.calls images.old) }
 {
     match command {
         Invocation::Format { image: _, layout } => Ok(empty_image(alloc, layout)?),
@@ -73,6 +77,7 @@ fn report<I: ImageStore>(
         (I.contents images.old) (Rose (I.faults images.old) (I.faults images.new)) fault) }
     ensures unchanged { I.contents images.new ≡ I.contents images.old }
     ensures later { I.faults images.old ≤ I.faults images.new }
+    ensures calls { I.calls images.new ≡ with_get get_limit (I.calls images.old) }
 {
     let recovered = recover_image(alloc, name, images)?;
     let text = recovered_text(alloc, &recovered, with_map)?;

@@ -2,7 +2,9 @@
 ghost use Rattle.std.specs.Prelude.{◌≡◌, ◌≤◌, ℕ, length, IfOk, IfErr, OnOk};
 ghost use Rattle.heap_model.specs.Image.{image_of_bytes};
 ghost use Rattle.heap_model.specs.Header.{IsWellFormed};
+ghost use Rattle.tool_ports.specs.Calls.{with_get};
 ghost use Rattle.tool_ports.specs.Causes.{Rose};
+ghost use Rattle.tool_run.specs.Calls.{get_limit};
 ghost use Rattle.tool_run.specs.Command.{Command, image_name};
 ghost use Rattle.tool_run.specs.Inside.{Refuses};
 ghost use Rattle.tool_run.specs.Making.{Gets, PointsOutside};
@@ -16,9 +18,6 @@ use std::alloc::Global;
 use super_block::LONGEST_IMAGE;
 use tool_ports::ImageStore;
 
-/// How many bytes of an image are asked for: one more than the longest image has.
-const MOST_BYTES: usize = LONGEST_IMAGE as usize + 1;
-
 /// Recovers the image of this name.
 pub fn recover_image<I: ImageStore>(
     alloc: Global,
@@ -31,11 +30,19 @@ pub fn recover_image<I: ImageStore>(
         (Rose (I.faults images.old) (I.faults images.new)) fault) }
     ensures unchanged { I.contents images.new ≡ I.contents images.old }
     ensures later { I.faults images.old ≤ I.faults images.new }
+    ensures calls { I.calls images.new ≡ with_get get_limit (I.calls images.old) }
 {
-    let image = images.get(alloc, name, MOST_BYTES)?;
+    let image = images.get(alloc, name, most_bytes())?;
     check_bytes(&image)?;
     let recovered = recover_bytes(alloc, &image)?;
     Ok(recovered)
+}
+
+// How many bytes of an image are asked for: one more than the longest has, so that a longer one shows.
+fn most_bytes() -> usize
+    ensures { result ≡ get_limit }
+{
+    LONGEST_IMAGE as usize + 1
 }
 
 // Recovers an image of these bytes, whose header is good.

@@ -1,10 +1,12 @@
 //! The top call.
-ghost use Rattle.std.specs.Prelude.{◌≡◌, ◌↔◌, ◌⊎◌, ◌≤◌, Option, List, ℕ, OnOk, IfErr, IfSome, Contains};
+ghost use Rattle.std.specs.Prelude.{◌≡◌, ◌≢◌, ◌↔◌, ◌⊎◌, ◌≤◌, Option, List, ℕ, OnOk, IfErr, IfSome, Contains};
+ghost use Rattle.tool_ports.specs.Calls.{with_get, with_put};
 ghost use Rattle.tool_ports.specs.Causes.{Rose};
 ghost use Rattle.tool_ports.specs.Contents.{told_of};
-ghost use Rattle.tool_run.specs.Command.{Command, Asks, IsUsage, texts};
-ghost use Rattle.tool_run.specs.Inside.{command_of, IsCarriedOut, IsStopped};
-ghost use Rattle.tool_run.specs.Lines.{Tells, write_line};
+ghost use Rattle.tool_run.specs.Calls.{get_limit, with_command, with_status};
+ghost use Rattle.tool_run.specs.Command.{Command, Asks, AsksToFormat, IsUsage, texts};
+ghost use Rattle.tool_run.specs.Inside.{command_of, status_of, IsCarriedOut, IsStopped};
+ghost use Rattle.tool_run.specs.Lines.{Tells, memory_line};
 ghost use Rattle.tool_run.specs.Outcome.{IsDone, IsWriteFault, AsksToGet, IsAbsent, IsBadHeader, IsOutsideAt, HoldsMalformed, HoldsOutside, CanBeDone};
 ghost use Rattle.tool_run.specs.Status.{done, usage, out_of_memory, read_fault, write_fault, no_image, bad_header, outside, statuses, LeavesStore, own_line};
 
@@ -39,8 +41,7 @@ pub fn run_tool<R, I: ImageStore, O: Sink>(
     ensures write_fault { result ≡ write_fault → IsWriteFault (texts words.now)
         (I.contents images.old) (I.contents images.new)
         (Rose (I.faults images.old) (I.faults images.new))
-        (Rose (O.faults out.old) (O.faults out.new)) (O.taken out.old)
-        (λ taken. Tells write_line (O.faults out.old) (O.faults out.new) taken (O.taken out.new)) }
+        (O.faults out.old) (O.faults out.new) (O.taken out.old) (O.taken out.new) }
     ensures absent { result ≡ no_image → IsAbsent (texts words.now) (I.contents images.old)
         (λ line. Tells line (O.faults out.old) (O.faults out.new)
         (O.taken out.old) (O.taken out.new)) }
@@ -52,6 +53,15 @@ pub fn run_tool<R, I: ImageStore, O: Sink>(
         (λ line. Tells line (O.faults out.old) (O.faults out.new)
         (O.taken out.old) (O.taken out.new)) }
     ensures unchanged { LeavesStore result → I.contents images.new ≡ I.contents images.old }
+
+    // How often the store is called: not at all, or for one get, or for one put.
+    ensures no_call { IsUsage (texts words.now) → I.calls images.new ≡ I.calls images.old }
+    ensures one_get { (name : List ℕ) → AsksToGet (texts words.now) name
+        → I.calls images.new ≡ with_get get_limit (I.calls images.old) }
+    ensures one_put { (image : List ℕ) (capacity : ℕ) → AsksToFormat (texts words.now) image capacity
+        → result ≢ out_of_memory → I.calls images.new ≡ with_put (I.calls images.old) }
+    ensures no_put { (image : List ℕ) (capacity : ℕ) → AsksToFormat (texts words.now) image capacity
+        → result ≡ out_of_memory → I.calls images.new ≡ I.calls images.old }
 
     // When a status comes: nothing else does, but want of memory or a failure before it.
     ensures always_absent { (name : List ℕ) → AsksToGet (texts words.now) name
@@ -78,6 +88,15 @@ pub fn run_tool<R, I: ImageStore, O: Sink>(
     }
 }
 
+/// Tells that memory ran out before there were words, and answers that status.
+pub fn tell_out_of_memory<O: Sink>(out: &mut O) -> Status
+    ensures status { result ≡ out_of_memory }
+    ensures line { Tells memory_line (O.faults out.old) (O.faults out.new)
+        (O.taken out.old) (O.taken out.new) }
+{
+    Fault::Memory.tell("", out)
+}
+
 // Makes the whole result first, then puts and prints it.
 fn carry_out<I: ImageStore, O: Sink>(
     alloc: Global,
@@ -93,6 +112,10 @@ fn carry_out<I: ImageStore, O: Sink>(
         (Rose (O.faults out.old) (O.faults out.new)) (O.taken out.old) (O.taken out.new)) }
     ensures later_store { I.faults images.old ≤ I.faults images.new }
     ensures later_sink { O.faults out.old ≤ O.faults out.new }
+    ensures calls { OnOk result
+        (I.calls images.new ≡ with_command (command_of command.entry) (I.calls images.old)) }
+    ensures calls_err { IfErr result (λ fault. I.calls images.new
+        ≡ with_status (command_of command.entry) (status_of fault) (I.calls images.old)) }
 {
     let product = make(alloc, command, images)?;
     deliver(alloc, command.image(), &product, images, out)

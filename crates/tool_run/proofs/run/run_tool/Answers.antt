@@ -1,5 +1,6 @@
 use Rattle.tool_run.proofs.StatusLemmas.{has_status, is_read_fault, is_write_fault, is_bad_header, is_outside}
 use Rattle.tool_run.proofs.OutsideLemmas.{stops_outside, not_done}
+use Rattle.tool_run.specs.Command.{format_image}
 use Rattle.tool_run.proofs.run.run_tool.Goals as goal
 
 pub returns-in-Err-clause-known : goal.returns-in-Err-clause-known
@@ -31,3 +32,6 @@ returns-in-Err-clause-always_outside g c =
 
 pub returns-in-Ok-clause-always_outside : goal.returns-in-Ok-clause-always_outside
 returns-in-Ok-clause-always_outside g c = not_done _ _ _ _ _ _ _ c.in-Some.ensures.some c.in-Ok.ensures.ok
+
+pub returns-in_default-clause-one_put : goal.returns-in_default-clause-one_put
+returns-in_default-clause-one_put g c image capacity asks = absurd (c.in_default.ensures.none (format_image image capacity) asks)
