@@ -1,14 +1,16 @@
 //! A store of images in files: a name is a path.
-ghost use Rattle.std.specs.Prelude.{◌≡◌, ◌<◌, ◌≤◌, ◌+◌, None, false, length, IfOk, IfSome, OnOk, IsErrOf, take};
-ghost use Rattle.std.specs.Io.KnownBytes.{IsAtEnd};
+ghost use Rattle.std.specs.Prelude.{◌≡◌, ◌↔◌, ◌<◌, ◌≤◌, ◌+◌, None, false, length, IfOk, IsOkAnd, IfSome, IsOk, OnOk, IsErrOf, IsErrAnd, take};
+ghost use Rattle.std.specs.IoError.{error_kind};
+ghost use Rattle.std.specs.Io.KnownBytes.{Appends, IsAtEnd};
 ghost use Rattle.heap_tool.specs.Reading.{ReadsOn};
+ghost use Rattle.tool_ports.specs.Calls.{no_calls};
 
 use std::alloc::Global;
 use std::fs::{File, OpenFile};
 use std::io::{ErrorKind, Read, Write};
 use std::rt::Files;
 use std::{fs, io};
-use tool_ports::{FaultCount, GetFault, ImageStore, PutImageFault};
+use tool_ports::{FaultCount, GetFault, ImageStore, PutImageFault, StoreCalls};
 
 /// A `put` writes a file of this ending and a number beside the named one before it takes its place.
 const TEMPORARY: &str = ".new";
@@ -24,16 +26,19 @@ const PIECE: usize = 4096;
 pub struct FileStore<'a, R: Files> {
     rt: &'a R,
     faults: FaultCount,
+    calls: StoreCalls,
 }
 
 impl<'a, R: Files> FileStore<'a, R> {
-    /// The files that the runtime reaches, and no failure yet.
+    /// The files that the runtime reaches, with no call and no failure yet.
     pub fn new(rt: &'a R) -> Self
-        ensures { result.faults.count ≡ 0 }
+        ensures faults { result.faults.count ≡ 0 }
+        ensures calls { result.calls ≡ no_calls }
     {
         FileStore {
             rt,
             faults: FaultCount::new(),
+            calls: StoreCalls::new(),
         }
     }
 }
@@ -43,10 +48,13 @@ impl<'a, R: Files> ImageStore for FileStore<'a, R> {
 
     ghost faults = { λ s. s.faults.count };
 
+    ghost calls = { λ s. s.calls };
+
     ghost faults_fit = { λ s. s.faults.fits };
 
     fn get(&mut self, alloc: Global, name: &str, most: usize) -> Result<Vec<u8>, GetFault> {
-        let result = read_image(self.rt, alloc, name, most);
+        self.calls.count_get(most);
+        let result = read_opened(alloc, fs::open(self.rt, name), most);
         if let Err(GetFault::Failed) = &result {
             self.faults.rise();
         }
@@ -58,14 +66,26 @@ impl<'a, R: Files> ImageStore for FileStore<'a, R> {
         if let Err(PutImageFault::Failed) = &result {
             self.faults.rise();
         }
+        if result != Err(PutImageFault::Memory) {
+            self.calls.count_put();
+        }
         result
     }
 }
 
-fn read_image<R: Files>(rt: &R, alloc: Global, name: &str, most: usize) -> Result<Vec<u8>, GetFault>
+// The first `most` bytes of a file that was to be opened, or all.
+fn read_opened<F: Read + Drop>(
+    alloc: Global,
+    opened: io::Result<F>,
+    most: usize,
+) -> Result<Vec<u8>, GetFault>
+    ensures ok { IfOk result (λ v. IsOkAnd opened (λ file.
+        IfSome (F.remaining file) (λ left. v.items ≡ take most left))) }
     ensures short { IfOk result (λ v. length v.items ≤ most) }
+    ensures absent { IsErrOf result GetFault.Absent ↔
+        IsErrAnd opened (λ e. error_kind e ≡ ErrorKind.NotFound) }
 {
-    match fs::open(rt, name) {
+    match opened {
         Ok(mut file) => read_first(alloc, &mut file, most),
         Err(e) if e.kind() == ErrorKind::NotFound => Err(GetFault::Absent),
         Err(_) => Err(GetFault::Failed),
@@ -130,21 +150,37 @@ fn put_image<R: Files>(
 // The old file stays whole until the new one is, and is on the disk.
 fn replace_file<R: Files>(
     rt: &R,
-    file: R::File,
+    mut file: R::File,
     temporary: &str,
     name: &str,
     bytes: &[u8],
 ) -> Result<(), PutImageFault> {
-    if write_file(file, bytes).is_ok() && fs::rename(rt, temporary, name).is_ok() {
+    let written = write_file(&mut file, bytes);
+    move_file(rt, written, temporary, name)
+}
+
+// Writes the bytes, and waits until they are on the disk.
+fn write_file<F: OpenFile + Write>(file: &mut F, bytes: &[u8]) -> io::Result<()>
+    ensures { OnOk result (Appends (F.contents file.old) (F.contents file.new) bytes.now) }
+{
+    file.write_all(bytes)?;
+    file.sync_all()
+}
+
+// Gives a file that was written the name that it is for, and removes one that was not.
+fn move_file<R: Files>(
+    rt: &R,
+    written: io::Result<()>,
+    temporary: &str,
+    name: &str,
+) -> Result<(), PutImageFault>
+    ensures { OnOk result (IsOk written) }
+{
+    if written.is_ok() && fs::rename(rt, temporary, name).is_ok() {
         return Ok(());
     }
     let _ = fs::remove_file(rt, temporary);
     Err(PutImageFault::Failed)
-}
-
-fn write_file<F: OpenFile + Write + Drop>(mut file: F, bytes: &[u8]) -> io::Result<()> {
-    file.write_all(bytes)?;
-    file.sync_all()
 }
 
 #[cfg(test)]

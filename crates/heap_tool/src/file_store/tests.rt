@@ -1,6 +1,7 @@
 //! The store over real files, and its loop of reads over a reader that fails in the middle. All
 //! tests run in one folder, so each has names of its own.
 use super::*;
+use std::fs::Metadata;
 use std::test::Fail;
 
 fn get<I: ImageStore>(store: &mut I, alloc: Global, name: &str) -> Result<Vec<u8>, GetFault> {
@@ -28,6 +29,22 @@ fn an_image_is_put_in_a_file_and_got_back(rt: HostRuntime) -> Result<(), Fail> {
     }
     assert_eq!(rt; fs::exists(&rt, "image.new0")?, false);
     assert_eq!(rt; store.faults.count, 0);
+    Ok(())
+}
+
+#[test]
+fn a_long_file_gives_its_first_bytes(rt: HostRuntime) -> Result<(), Fail> {
+    let alloc = rt.alloc();
+    let mut store = FileStore::new(&rt);
+    let first = vec![in alloc; 7; 10_000]?;
+    let mut long = vec![in alloc; 7; 10_000]?;
+    long.push(8)?;
+    assert_eq!(rt; put(&mut store, alloc, "long", &long), Ok(()));
+    let image = get(&mut store, alloc, "long").ok();
+    assert!(rt; image.is_some_and(|got| got.as_slice() == first.as_slice()));
+    assert_eq!(rt; fs::metadata(&rt, "long")?.len(), 10_001);
+    let calls = store.calls;
+    assert_eq!(rt; (calls.gets, calls.puts, calls.most), (1, 1, 10_000));
     Ok(())
 }
 
@@ -104,5 +121,78 @@ fn a_read_that_fails_in_the_middle_has_failed(rt: HostRuntime) -> Result<(), Fai
     };
     let image = read_first(alloc, &mut file, 8).ok();
     assert!(rt; image.is_some_and(|got| got.as_slice() == b"xxxxxxxx".as_slice()));
+    Ok(())
+}
+
+// A file that takes bytes until it fails, and fails to be synced where it is told so.
+#[derive(Drop)]
+struct FaultyFile {
+    room: usize,
+    sync_fails: bool,
+}
+
+impl Write for FaultyFile {
+    fn write(&mut self, buf: &[u8]) -> io::Result<usize> {
+        let count = buf.len().min(self.room);
+        self.room -= count;
+        Ok(count)
+    }
+
+    fn flush(&mut self) -> io::Result<()> {
+        Ok(())
+    }
+}
+
+impl OpenFile for FaultyFile {
+    fn metadata(&self) -> io::Result<Metadata> {
+        Ok(Metadata::of_file(0))
+    }
+
+    fn set_len(&self, _size: u64) -> io::Result<()> {
+        Ok(())
+    }
+
+    fn sync_all(&self) -> io::Result<()> {
+        if self.sync_fails {
+            return Err(io::Error::from(ErrorKind::Other));
+        }
+        Ok(())
+    }
+
+    fn sync_data(&self) -> io::Result<()> {
+        self.sync_all()
+    }
+}
+
+#[test]
+fn a_write_or_sync_that_fails_is_told(rt: HostRuntime) -> Result<(), Fail> {
+    for (room, sync_fails, written, left) in [
+        (9, false, true, 6),
+        (3, false, true, 0),
+        (2, false, false, 0),
+        (0, false, false, 0),
+        (9, true, false, 6),
+    ] {
+        let mut file = FaultyFile { room, sync_fails };
+        assert_eq!(rt; write_file(&mut file, b"abc").is_ok(), written);
+        assert_eq!(rt; file.room, left);
+    }
+    Ok(())
+}
+
+#[test]
+fn a_file_that_was_not_written_takes_no_place(rt: HostRuntime) -> Result<(), Fail> {
+    let alloc = rt.alloc();
+    let mut store = FileStore::new(&rt);
+    assert_eq!(rt; put(&mut store, alloc, "kept", b"old"), Ok(()));
+    assert_eq!(rt; put(&mut store, alloc, "kept.new7", b"half"), Ok(()));
+    let failed = Err(io::Error::from(ErrorKind::Other));
+    assert_eq!(rt;
+        move_file(&rt, failed, "kept.new7", "kept"),
+        Err(PutImageFault::Failed)
+    );
+    let image = get(&mut store, alloc, "kept").ok();
+    assert!(rt; image.is_some_and(|got| got.as_slice() == b"old".as_slice()));
+    assert_eq!(rt; fs::exists(&rt, "kept.new7")?, false);
     Ok(())
 }
