@@ -145,7 +145,7 @@ module _ (capacity class d : ℕ) (v u t w : View) (info anchor value : ℕ) (is
       let more = drawn_more in
       let from = halts.from in
       let most = halts.few in
-      record { stopped = halts.stopped; above = halts.above; from = omega arith; until = halts.until; few = omega arith }
+      record { stopped = halts.stopped; above = halts.above; from = omega arith; until = halts.until; last = halts.last; few = omega arith }
 
   pub divided : IsStored anchor value t w → IsDivided capacity class d v w
   divided stored =

@@ -186,6 +186,7 @@ kept_stops class stopped e s t u offsets has stops idle one = subst (λ n. Stops
   stops = record {
     stopped = stops.stopped;
     above = stops.above;
+    last = stops.last;
     now = λ ran.
         let drawn = stops.now (has.runs ran) in
         let from : t.parts.words.drawn ≤ stopped.step = drawn.from in

@@ -1,5 +1,5 @@
 -- The words that every call of a heap for one thread leaves as they are.
-use Rattle.std.proofs.Common.{◌≡◌, ℕ, inl, inr, List, refl, ap, sym, subst, ◌∙◌, get_or}
+use Rattle.std.proofs.Common.{◌≡◌, ℕ, ◌+◌, ◌*◌, ◌≤◌, inl, inr, List, refl, ap, sym, subst, ◌∙◌, get_or, arith}
 use Rattle.std.specs.Prelude.{slice_index}
 use Rattle.heap_model.specs.declared.block.Block.{Block}
 use Rattle.heap_model.specs.Header.{capacity_of}
@@ -16,13 +16,15 @@ use Rattle.block_heap.proofs.StableLemmas.{not_fixed, own_not_fixed, stable_fewe
 
 -- no call at all, and two rows of calls
 pub fixed_same : (s : SeqState) → KeepsFixed s s
-fixed_same s = record { capacity = refl; volatile = λ word is. refl; durable = λ word is same. same }
+fixed_same s = record { capacity = refl; volatile = λ word is. refl; durable = λ word is same. same; looks = refl; draws = omega arith }
 
 pub fixed_then : (s t u : SeqState) → KeepsFixed s t → KeepsFixed t u → KeepsFixed s u
 fixed_then s t u a b = record {
   capacity = b.capacity ∙ a.capacity;
   volatile = λ word is. b.volatile word (then word is) ∙ a.volatile word is;
   durable = λ word is same. b.durable word (then word is) (a.durable word is same);
+  looks = let p = a.looks in let q = b.looks in omega arith;
+  draws = let p = a.draws in let q = b.draws in omega arith;
 } where
   then : (word : ℕ) → IsFixed s.parts.capacity word → IsFixed t.parts.capacity word
   then word is = subst (λ n. IsFixed n word) (sym a.capacity) is
@@ -46,8 +48,10 @@ fixed_opened words held budget s t opened keeps word is = (seen, keeps.durable w
 
 -- a call keeps them that stores to none of them
 pub fixed_by : (to : ℕ → Type 0) (s seen t : SeqState) → s ≡ seen → t.parts.capacity ≡ s.parts.capacity
-    → StoresOnly to s.parts.words t.parts.words → ((word : ℕ) → to word → IsFixed s.parts.capacity word → ⊥) → KeepsFixed seen t
-fixed_by to s seen t same capacity stores none = subst (λ m. KeepsFixed m t) same (record {
+    → StoresOnly to s.parts.words t.parts.words → ((word : ℕ) → to word → IsFixed s.parts.capacity word → ⊥)
+    → s.parts.used_look.seen + t.parts.used_look.taken ≡ t.parts.used_look.seen + s.parts.used_look.taken
+    → t.parts.words.drawn + (s.small_calls + 131072 * s.large_calls) ≤ s.parts.words.drawn + (t.small_calls + 131072 * t.large_calls) → KeepsFixed seen t
+fixed_by to s seen t same capacity stores none looks draws = subst (λ m. KeepsFixed m t) same (record {
   capacity = capacity;
   volatile = λ word is. stores.volatile word (λ may. none word may is);
   durable = λ word is settled.
@@ -56,23 +60,29 @@ fixed_by to s seen t same capacity stores none = subst (λ m. KeepsFixed m t) sa
         | inl old ↦ old ∙ settled ∙ sym now
         | inr old ↦ old ∙ sym now
       ];
+  looks = looks;
+  draws = draws;
 })
 
 -- a store to an own word
 pub fixed_store : (s seen t : SeqState) (word : ℕ) → IsSeqHeap s → s ≡ seen → t.parts.capacity ≡ s.parts.capacity
-    → IsOwn (held_in s.parts) all_roots word → StoresOnly (λ other. other ≡ word) s.parts.words t.parts.words → KeepsFixed seen t
-fixed_store s seen t word heap same capacity own stores = fixed_by (λ other. other ≡ word) s seen t same capacity stores (λ other at is.
-    own_not_fixed s.parts.capacity (held_in s.parts) s.parts.words other heap.lasts.stable (subst (IsOwn (held_in s.parts) all_roots) (sym at) own) is)
+    → IsOwn (held_in s.parts) all_roots word → StoresOnly (λ other. other ≡ word) s.parts.words t.parts.words
+    → s.parts.used_look.seen + t.parts.used_look.taken ≡ t.parts.used_look.seen + s.parts.used_look.taken
+    → t.parts.words.drawn + (s.small_calls + 131072 * s.large_calls) ≤ s.parts.words.drawn + (t.small_calls + 131072 * t.large_calls) → KeepsFixed seen t
+fixed_store s seen t word heap same capacity own stores looks draws = fixed_by (λ other. other ≡ word) s seen t same capacity stores (λ other at is.
+    own_not_fixed s.parts.capacity (held_in s.parts) s.parts.words other heap.lasts.stable (subst (IsOwn (held_in s.parts) all_roots) (sym at) own) is) looks draws
 
 -- a request, and a free
-pub fixed_request : (s seen t : SeqState) → IsSeqHeap s → s ≡ seen → Serves (held_in s.parts) s.parts t.parts → KeepsFixed seen t
-fixed_request s seen t heap same serves =
+pub fixed_request : (s seen t : SeqState) → IsSeqHeap s → s ≡ seen → Serves (held_in s.parts) s.parts t.parts
+    → t.parts.words.drawn + (s.small_calls + 131072 * s.large_calls) ≤ s.parts.words.drawn + (t.small_calls + 131072 * t.large_calls) → KeepsFixed seen t
+fixed_request s seen t heap same serves draws =
     fixed_by (IsAllocatorWord s.parts.capacity (held_in s.parts)) s seen t same serves.capacity serves.works.stores (λ word may is.
-    not_fixed s.parts.capacity (held_in s.parts) s.parts.words word heap.lasts.stable may is)
+    not_fixed s.parts.capacity (held_in s.parts) s.parts.words word heap.lasts.stable may is) serves.knows draws
 
 pub fixed_free : (s seen t : SeqState) (b : Block) → IsSeqHeap s → s ≡ seen → TakesFrom b (held_in s.parts) (held_in t.parts)
-    → Serves (held_in t.parts) s.parts t.parts → KeepsFixed seen t
-fixed_free s seen t b heap same takes serves =
+    → Serves (held_in t.parts) s.parts t.parts
+    → t.parts.words.drawn + (s.small_calls + 131072 * s.large_calls) ≤ s.parts.words.drawn + (t.small_calls + 131072 * t.large_calls) → KeepsFixed seen t
+fixed_free s seen t b heap same takes serves draws =
     let stable = stable_fewer s.parts.capacity (held_in s.parts) (held_in t.parts) s.parts.words takes.only heap.lasts.stable in
     fixed_by (IsAllocatorWord s.parts.capacity (held_in t.parts)) s seen t same serves.capacity serves.works.stores (λ word may is.
-    not_fixed s.parts.capacity (held_in t.parts) s.parts.words word stable may is)
+    not_fixed s.parts.capacity (held_in t.parts) s.parts.words word stable may is) serves.knows draws

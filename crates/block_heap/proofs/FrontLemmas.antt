@@ -331,6 +331,7 @@ module _ (class : ℕ) (p q r : Parts) (front : Front) (before : IsFlushed class
     above = halts.above;
     from = let a = before.more in let b = goes.drew in let c = halts.from in omega arith;
     until = halts.until;
+    last = halts.last;
     few =
         let a = front_few in
         let some = some_given in
@@ -349,6 +350,7 @@ front_halts class p q w ticket before is first halts = record {
   above = halts.above;
   from = let a = before.more in let c = halts.from in omega arith;
   until = halts.until;
+  last = halts.last;
   few =
       let a = before.few in
       let b = halts.few in

@@ -98,6 +98,7 @@ refused_halts gives ticket v w running refused =
             above = omega arith;
             from = omega arith;
             until = omega arith;
+            last = omega arith;
             few = omega arith;
           })
     ]

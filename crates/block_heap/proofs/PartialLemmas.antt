@@ -104,7 +104,7 @@ module _ (class : ℕ) (p q r : Parts) (is : IsClass class) (walked : Walked cla
       let few = halts.few in
       let first = begun in
       let most = so_far in
-      record { stopped = halts.stopped; above = halts.above; from = omega arith; until = halts.until; few = omega arith }
+      record { stopped = halts.stopped; above = halts.above; from = omega arith; until = halts.until; last = halts.last; few = omega arith }
 
   pub walk_held : held_in r ≡ held_in p
   walk_held = held ∙ walked.fills.held

@@ -16,7 +16,9 @@ use Rattle.block_heap.specs.Alloc.{Refuses}
 use Rattle.block_heap.specs.Looks.{IsLastSeen, FoundEmpty, FoundNoRoom}
 use Rattle.block_heap.specs.Parts.{Parts, image_of, held_in}
 use Rattle.block_heap.specs.Running.{IsRunning, AreShort, Serves}
-use Rattle.block_heap.specs.Serving.{Answers, Misses, IsLooksOf}
+use Rattle.block_heap.specs.Serving.{Answers, Misses, IsLooksOf, RefusesAs}
+use Rattle.block_heap.specs.declared.fault.AllocFault.{AllocFault}
+use Rattle.block_heap.specs.declared.fault.AllocFault.TheVariants.{Full, Stopped as StoppedFault}
 use Rattle.block_heap.specs.Steps.{IsEmptyList, look_at, head_at, IsLook}
 use Rattle.block_heap.specs.Tickets.{Runs}
 use Rattle.block_heap.specs.Works.{IsAllocatorWord, UsedFits, IsStable, IsLasting}
@@ -231,6 +233,29 @@ module _ (bytes : ℕ) (looks : Looks) (s t : SeqState) (misses : Misses bytes s
     looks_are = refl;
     pending = keeps.pending;
   }
+
+abbrev looks_in : AllocFault → Looks
+looks_in (Full looks) = looks
+looks_in (StoppedFault stopped) = record { class_head = 0; free_head = 0; used = 0 }
+
+-- its looks are the words as they are
+pub refused_as : (bytes : ℕ) (looks : Looks) (p q : Parts) → Misses bytes p q → IsLooksOf bytes looks q → RefusesAs bytes looks p q
+refused_as bytes looks p q misses are = record {
+  none = misses.none;
+  used = elim (cases_lt largest_small bytes) as (λ _. looks.used ≡ image_of q used_word) [
+    | inl large ↦ are.used ∙ (misses.at_used large).used_look.seen_is
+    | inr not ↦ let least = least_class bytes (omega arith) in are.used ∙ (misses.in_class least.0 least.1).used_look.seen_is
+  ];
+  class = λ c least. are.class c least ∙ (misses.in_class c least).class_look.seen_is;
+  free = λ small. let least = least_class bytes small in are.free small ∙ (misses.in_class least.0 least.1).free_look.seen_is;
+}
+
+pub refused_by_as : (bytes : ℕ) (looks given : Looks) (answer : Option Block) (p q r : Parts) → r ≡ q → answer ≡ None → Answers bytes answer p q → IsLooksOf bytes looks r
+    → Full looks ≡ Full given → RefusesAs bytes given p r
+refused_by_as bytes looks given answer p q r same none answers are one =
+    let e : looks ≡ given = ap looks_in one in
+    subst (λ l. RefusesAs bytes l p r) e
+    (refused_as bytes looks p r (subst (λ m. Misses bytes p m) (sym same) (subst (λ a. Answers bytes a p q) none answers)) are)
 
 -- the refusal is counted
 pub refused_heap : (s : SeqState) (bytes : ℕ) (looks : Looks) (l : ∥ IsLasting s.parts.capacity s.parts.words (held_in s.parts) s.stopped ∥₁) → IsSeqHeap s

@@ -21,18 +21,24 @@ use Rattle.block_heap.proofs.RunningLemmas.{running_words}
 
 -- the ticket of a stop is not allowed
 pub stop_above : {T : Type 0} (r : Result T Stopped) (o : Option ℕ) (most : ℕ) (v w : View) → OnOk r (o ≡ None) → IfErr r (λ e. o ≡ Some e.step) → IfErr r (λ e. Halts e.step most v w)
-    → (ticket : ℕ) → o ≡ Some ticket → w.budget ≤ ticket
+    → (ticket : ℕ) → o ≡ Some ticket → (w.budget ≤ ticket) × (w.drawn ≡ ticket + 1)
 stop_above (Ok x) o most v w none stops halts ticket at = absurd (cc)
 stop_above (Err e) o most v w none stops halts ticket at =
     let same : Some e.step ≡ Some ticket = sym stops ∙ at in
     let one : e.step ≡ ticket = cc in
     let above = halts.above in
-    omega arith
+    let last = halts.last in
+    (omega arith, omega arith)
 
 -- a call that ran drew a ticket
 pub drew : {T : Type 0} (r : Result T Stopped) (most : ℕ) (v w : View) → OnOk r (Goes most v w) → IfErr r (λ e. Halts e.step most v w) → v.drawn < w.drawn
 drew (Ok x) most v w goes halts = goes.drew
 drew (Err e) most v w goes halts = let from = halts.from in let until = halts.until in omega arith
+
+-- and few
+pub few_drawn : {T : Type 0} (r : Result T Stopped) (most : ℕ) (v w : View) → OnOk r (Goes most v w) → IfErr r (λ e. Halts e.step most v w) → w.drawn ≤ v.drawn + most
+few_drawn (Ok x) most v w goes halts = goes.few
+few_drawn (Err e) most v w goes halts = halts.few
 
 -- no stop, so it was done
 pub done_of : {T : Type 0} (r : Result T Stopped) (o : Option ℕ) (P : Type 0) → OnOk r P → IfErr r (λ e. o ≡ Some e.step) → o ≡ None → P
@@ -41,7 +47,7 @@ done_of (Err e) o P ok stops none = absurd (cc)
 
 -- what lasts over a small call
 pub small_lasts : (p : Parts) (w : View) (to : ℕ → Type 0) (old o : Option ℕ) → IsLasting p.capacity p.words (held_in p) old → StoresOnly to p.words w → ((word : ℕ) → to word → IsOwn (held_in p) all_roots word)
-    → ((ticket : ℕ) → o ≡ Some ticket → w.budget ≤ ticket) → IsLasting p.capacity w (held_in p) o
+    → ((ticket : ℕ) → o ≡ Some ticket → (w.budget ≤ ticket) × (w.drawn ≡ ticket + 1)) → IsLasting p.capacity w (held_in p) o
 small_lasts p w to old o lasts stores own above = record {
   some = lasts.some;
   small = lasts.small;

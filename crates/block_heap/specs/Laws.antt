@@ -11,7 +11,10 @@ use Rattle.heap_model.proofs.BlockLemmas.{block_begins, block_inside, same_begin
 use Rattle.heap_model.proofs.PartLemmas.{cases_class, same_fields}
 use Rattle.line_memory.specs.View.{volatile_at, durable_at}
 use Rattle.block_heap.specs.Sound.{IsSeat, IsPlaced}
-use Rattle.block_heap.specs.Words.{MixesOwn, NamesAll, MayRead}
+use Rattle.block_heap.specs.Words.{MixesOwn, NamesAll, MayRead, HasPicked}
+use Rattle.std.specs.Prelude.{Bool, true, false, cond, Some}
+use Rattle.block_heap.specs.Closing.{KeepsFixed}
+use Rattle.block_heap.specs.Works.{IsFixed}
 use Rattle.block_heap.specs.Works.{IsLasting}
 use Rattle.block_heap.specs.Parts.{held_in}
 use Rattle.block_heap.specs.SeqState.{SeqState, seat_of, MayLeave}
@@ -135,7 +138,7 @@ seat_law s = record {
   placed = λ b holds. decided (is_placed b) (λ (lasts : Lasts s). stable_placed s.parts.capacity (held_in s.parts) s.parts.words b lasts.some lasts.small lasts.stable holds) s.lasts;
   apart = λ a b in_a in_b. decided (one_or_apart a b) (λ (lasts : Lasts s). stable_apart s.parts.capacity (held_in s.parts) s.parts.words a b lasts.stable in_a in_b) s.lasts;
   roots_are = root_below;
-  stopping = λ ticket at. decided (at_most s.parts.words.budget ticket) (λ (lasts : Lasts s). lasts.stopping ticket at) s.lasts;
+  stopping = λ ticket at. decided (both (at_most s.parts.words.budget ticket) (cases_eq s.parts.words.drawn (ticket + 1))) (λ (lasts : Lasts s). lasts.stopping ticket at) s.lasts;
 }
 
 pub mixed_law : (s : SeqState) (image : Image) → MayLeave s image → MixesOwn (seat_of s) image
@@ -153,3 +156,37 @@ named_law s image left = λ b holds. record {
   begins_at = refl;
   block = decided (is_block (layout_of image) b) (λ (lasts : Lasts s). (stable_names s.parts.capacity (held_in s.parts) s.parts.words image lasts.stable left.others b holds).block) s.lasts;
 }
+
+-- what is kept goes on
+pub keeps_none_law : (s : SeqState) → KeepsFixed s s
+keeps_none_law s = record { capacity = refl; volatile = λ word is. refl; durable = λ word is same. same; looks = refl; draws = omega arith }
+
+pub keeps_row_law : (s t u : SeqState) → KeepsFixed s t → KeepsFixed t u → KeepsFixed s u
+keeps_row_law s t u a b = record {
+  capacity = b.capacity ∙ a.capacity;
+  volatile = λ word is. b.volatile word (then word is) ∙ a.volatile word is;
+  durable = λ word is same. b.durable word (then word is) (a.durable word is same);
+  looks = let p = a.looks in let q = b.looks in omega arith;
+  draws = let p = a.draws in let q = b.draws in omega arith;
+} where
+  then : (word : ℕ) → IsFixed s.parts.capacity word → IsFixed t.parts.capacity word
+  then word is = subst (λ n. IsFixed n word) (sym a.capacity) is
+
+-- one of the two values of each word
+abbrev picked : SeqState → (ℕ → Bool) → ℕ → ℕ
+picked s pick word = cond (pick word) (volatile_at s.parts.words word) (durable_at s.parts.words word)
+
+is_value : (b : Bool) (x y : ℕ) → (cond b x y ≡ y) ⊎ (cond b x y ≡ x)
+is_value true x y = inr refl
+is_value false x y = inl refl
+
+is_picked : (b : Bool) (x y value : ℕ) → cond b (Some x) (Some y) ≡ Some value → cond b x y ≡ value
+is_picked true x y value e = cc
+is_picked false x y value e = cc
+
+pub may_be_law : (s : SeqState) (pick : ℕ → Bool) → ∥ ((image : Image) × MayLeave s image × HasPicked (seat_of s) pick image) ∥₁
+may_be_law s pick = ∣ (
+  picked s pick,
+  record { others = λ word not_state kept. is_value (pick word) (volatile_at s.parts.words word) (durable_at s.parts.words word) },
+  record { each = λ word value own e. is_picked (pick word) (volatile_at s.parts.words word) (durable_at s.parts.words word) value e },
+) ∣₁

@@ -29,6 +29,7 @@ pub record Halts (ticket most : ℕ) (v w : View) : Type 0 where
   pub above : w.budget ≤ ticket
   pub from : v.drawn ≤ ticket
   pub until : ticket < w.drawn
+  pub last : w.drawn ≡ ticket + 1
   pub few : w.drawn ≤ v.drawn + most
 
 pub record IsLoaded (word value : ℕ) (v w : View) : Type 0 where

@@ -118,3 +118,10 @@ pub record IsLooksOf (bytes : ℕ) (looks : Looks) (p : Parts) : Type 0 where
   pub class : (class : ℕ) → IsLeastClassFor bytes class → looks.class_head ≡ (look_at p class).seen
   pub free : bytes ≤ largest_small → looks.free_head ≡ (look_at p 0).seen
   pub large : largest_small < bytes → (looks.class_head ≡ 0) × (looks.free_head ≡ 0)
+
+-- a refusal: there was no room, and each look is the word as it is
+pub record RefusesAs (bytes : ℕ) (looks : Looks) (p q : Parts) : Type 0 where
+  pub none : HasRoomFor p bytes → ⊥
+  pub used : looks.used ≡ image_of q used_word
+  pub class : (class : ℕ) → IsLeastClassFor bytes class → looks.class_head ≡ head_at q class
+  pub free : bytes ≤ largest_small → looks.free_head ≡ head_at q 0

@@ -16,4 +16,4 @@ pub record IsSeat (v : View) : Type 0 where
   pub placed : (b : Block) → Contains v.held b → IsPlaced b
   pub apart : (a b : Block) → Contains v.held a → Contains v.held b → AreOneOrApart a b
   pub roots_are : (i : ℕ) → Contains v.roots i → i < roots
-  pub stopping : (ticket : ℕ) → v.stopped ≡ Some ticket → v.budget ≤ ticket
+  pub stopping : (ticket : ℕ) → v.stopped ≡ Some ticket → (v.budget ≤ ticket) × (v.next ≡ ticket + 1)

@@ -1,5 +1,5 @@
 -- Tickets, and what a call does with them.
-use Rattle.std.specs.Prelude.{◌≡◌, ℕ, ◌<◌, ◌≤◌, None, Some}
+use Rattle.std.specs.Prelude.{◌≡◌, ℕ, ◌+◌, ◌<◌, ◌≤◌, None, Some}
 use Rattle.block_heap.specs.View.{View}
 
 -- the ticket was drawn by the call between these views: a seat's tickets rise
@@ -18,5 +18,6 @@ pub record Runs (v w : View) : Type 0 where
 pub record Stops (ticket : ℕ) (v w : View) : Type 0 where
   pub stopped : w.stopped ≡ Some ticket
   pub above : w.budget ≤ ticket
+  pub last : w.next ≡ ticket + 1
   pub now : v.stopped ≡ None → IsDrawn v w ticket
   pub before : (at : ℕ) → v.stopped ≡ Some at → (ticket ≡ at) × (w ≡ v)

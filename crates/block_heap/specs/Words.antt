@@ -1,5 +1,5 @@
 -- A seat's own words, what can be read of them, and what a call leaves of them.
-use Rattle.std.specs.Prelude.{◌≡◌, ◌≢◌, ℕ, ◌*◌, ◌<◌, ◌⊎◌, List, Option, None, Some, Contains}
+use Rattle.std.specs.Prelude.{◌≡◌, ◌≢◌, ℕ, ◌*◌, ◌<◌, ◌⊎◌, List, Option, None, Some, Contains, Bool, cond}
 use Rattle.heap_model.specs.declared.block.Block.{Block}
 use Rattle.heap_model.specs.Geometry.{root_word}
 use Rattle.heap_model.specs.Image.{Image}
@@ -60,3 +60,7 @@ IsDurable w word = (value : ℕ) → w.volatile word ≡ Some value → w.durabl
 -- a pending write-back of the word stays, or a fence came in between
 abbrev pub KeepsPending : View → View → ℕ → Type 0
 KeepsPending v w word = Contains v.pending word → Contains w.pending word ⊎ IsDurable w word
+
+-- each own word has the value picked of its two, where that is known: what loads see for true
+pub record HasPicked (v : View) (pick : ℕ → Bool) (image : Image) : Type 0 where
+  pub each : (word value : ℕ) → IsOwn v.held v.roots word → cond (pick word) (v.volatile word) (v.durable word) ≡ Some value → image word ≡ value

@@ -1,5 +1,5 @@
 -- What an allocator may store to, and what stays of the held blocks whatever it does.
-use Rattle.std.specs.Prelude.{◌≡◌, ℕ, ◌<◌, ◌≤◌, ◌⊎◌, List, Option, Some, Contains}
+use Rattle.std.specs.Prelude.{◌≡◌, ℕ, ◌+◌, ◌<◌, ◌≤◌, ◌⊎◌, List, Option, Some, Contains}
 use Rattle.heap_model.specs.declared.block.Block.{Block}
 use Rattle.heap_model.specs.Geometry.{lists, largest_capacity, head_word, info_word, anchor_word, link_word, used_word, capacity_word, start_word, IsReserved}
 use Rattle.heap_model.specs.Blocks.{IsBlock, IsIn}
@@ -50,4 +50,4 @@ pub record IsLasting (capacity : ℕ) (v : View) (held : List Block) (stopped : 
   pub small : capacity ≤ largest_capacity
   pub stable : IsStable capacity v held
   pub used : UsedFits capacity v
-  pub stopping : (ticket : ℕ) → stopped ≡ Some ticket → v.budget ≤ ticket
+  pub stopping : (ticket : ℕ) → stopped ≡ Some ticket → (v.budget ≤ ticket) × (v.drawn ≡ ticket + 1)

@@ -1,12 +1,12 @@
 //! What every open heap promises to the thread that works on it.
-ghost use Rattle.std.specs.Prelude.{◌≡◌, ℕ, ◌-◌, ◌*◌, ⊤, IfOk, OnOk, IfErr, OnErr, Contains};
+ghost use Rattle.std.specs.Prelude.{◌≡◌, ℕ, ◌-◌, ◌*◌, ⊤, IfOk, OnOk, IfErr, OnErr, Contains, Bool};
 ghost use Rattle.heap_model.specs.declared.block.Block.{Block};
 ghost use Rattle.heap_model.specs.Image.{Image};
 ghost use Rattle.heap_model.specs.Sizes.{span_of};
 ghost use Rattle.block_heap.specs.declared.fault.AllocFault.TheVariants.{Full};
 ghost use Rattle.block_heap.specs.declared.fault.Looks.{Looks};
 ghost use Rattle.block_heap.specs.View.{View, word_of};
-ghost use Rattle.block_heap.specs.Words.{IsOwnSpot, KeepsOwn, MayStore, MixesOwn, NamesAll};
+ghost use Rattle.block_heap.specs.Words.{IsOwnSpot, KeepsOwn, MayStore, MixesOwn, NamesAll, HasPicked};
 ghost use Rattle.block_heap.specs.Tickets.{Stops};
 ghost use Rattle.block_heap.specs.Calls.{IsSmallCall, IsLargeCall, Loads, Stores, WritesBack, Fences};
 ghost use Rattle.block_heap.specs.Alloc.{Allocates, FailsBy};
@@ -38,7 +38,7 @@ pub trait HeapSeat {
     // refuses it for want of room. By default nothing more than what its looks tell.
     ghost has_room: { Self → ℕ → Type 0 } = { λ _ _. ⊤ };
 
-    ghost has_none: { Self → ℕ → Type 0 } = { λ _ _. ⊤ };
+    ghost has_none: { Self → Self → ℕ → Looks → Type 0 } = { λ _ _ _ _. ⊤ };
 
     // What else of the heap every call leaves as it is. By default nothing.
     ghost keeps: { Self → Self → Type 0 } = { λ _ _. ⊤ };
@@ -50,7 +50,7 @@ pub trait HeapSeat {
             (view self.old) (view self.new)) }
         ensures room { OnOk result (has_room self.old bytes) }
         ensures none { IfErr result (λ fault. (looks : Looks) → fault ≡ Full looks
-            → has_none self.old bytes) }
+            → has_none self.old self.new bytes looks) }
         ensures unchanged { OnErr result (KeepsOwn (view self.old) (view self.new)) }
         ensures counted { IsLargeCall (span_of bytes) (view self.old) (view self.new) }
         ensures draws { large_draws ((view self.new).next - (view self.old).next) }
@@ -119,4 +119,14 @@ pub trait HeapSeat {
     ghost mixed: { (s : Self) (image : Image) → images s image → MixesOwn (view s) image };
 
     ghost named: { (s : Self) (image : Image) → images s image → NamesAll image (view s).held };
+
+    // What is kept goes on from call to call.
+    ghost keeps_none: { (s : Self) → keeps s s };
+
+    ghost keeps_row: { (s t u : Self) → keeps s t → keeps t u → keeps s u };
+
+    // However one of the two values of each own word is picked, an image may be left that has it,
+    // where it is known: so there are such images.
+    ghost may_be: { (s : Self) (pick : ℕ → Bool) → ∥ ((image : Image) × images s image
+        × HasPicked (view s) pick image) ∥₁ };
 }

@@ -12,8 +12,8 @@ use super_block::{ROOT_WORD, WORD_BYTES};
 
 impl<C: Chance> HeapSeat for SeqHeap<C> {
     ghost use Rattle.block_heap.specs.SeqState.{seat_of, MayLeave};
-    ghost use Rattle.block_heap.specs.Serving.{HasRoomFor};
-    ghost use Rattle.block_heap.specs.Laws.{seat_law, mixed_law, named_law};
+    ghost use Rattle.block_heap.specs.Serving.{HasRoomFor, RefusesAs};
+    ghost use Rattle.block_heap.specs.Laws.{seat_law, mixed_law, named_law, keeps_none_law, keeps_row_law, may_be_law};
     ghost use Rattle.block_heap.specs.Closing.{KeepsFixed};
 
     ghost view = { seat_of };
@@ -26,7 +26,7 @@ impl<C: Chance> HeapSeat for SeqHeap<C> {
 
     ghost has_room = { λ s bytes. HasRoomFor s.parts bytes };
 
-    ghost has_none = { λ s bytes. HasRoomFor s.parts bytes → ⊥ };
+    ghost has_none = { λ s t bytes looks. RefusesAs bytes looks s.parts t.parts };
 
     ghost keeps = { KeepsFixed };
 
@@ -91,6 +91,12 @@ impl<C: Chance> HeapSeat for SeqHeap<C> {
     ghost mixed = { mixed_law };
 
     ghost named = { named_law };
+
+    ghost keeps_none = { keeps_none_law };
+
+    ghost keeps_row = { keeps_row_law };
+
+    ghost may_be = { may_be_law };
 }
 
 /// The word of the spot.

@@ -94,3 +94,6 @@ pub returns-clause-holds : goal.returns-clause-holds
 returns-clause-holds g c =
     (kept_done c.args.class c.size_of.result c.args.self.now c.loop-offsets.self c.request.new.self c.loop-offsets.offsets.items
     c.in_ok-b.field-0 c.loop-offsets.invariant.2 c.in_default.is c.in_ok-b.ensures.ok c.request.ensures.words c.in_ok-b.ensures.runs).1
+
+pub returns-in-Err-clause-kept : goal.returns-in-Err-clause-kept
+returns-in-Err-clause-kept g c = fixed_then c.args.self.now c.loop-offsets.self c.request.new.self c.loop-offsets.invariant.1 c.request.ensures.kept

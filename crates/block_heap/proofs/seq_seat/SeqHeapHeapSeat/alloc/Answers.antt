@@ -1,7 +1,7 @@
-use Rattle.std.proofs.Common.{◌<◌, subst, sym}
+use Rattle.std.proofs.Common.{◌<◌, subst, sym, ap}
 use Rattle.block_heap.specs.SeqState.{SeqState}
 use Rattle.block_heap.specs.Serving.{Answers}
-use Rattle.block_heap.proofs.RequestLemmas.{refused_by, refused_heap}
+use Rattle.block_heap.proofs.RequestLemmas.{refused_by, refused_heap, refused_by_as}
 use Rattle.block_heap.proofs.seq_seat.SeqHeapHeapSeat.alloc.Goals as goal
 
 pub invariant_of-self : goal.invariant_of-self
@@ -17,4 +17,5 @@ returns-in-Some-clause-room g c = (subst (λ answer. Answers c.args.bytes answer
 
 pub returns-in-None-clause-none : goal.returns-in-None-clause-none
 returns-in-None-clause-none g c =
-    λ looks same. (subst (λ answer. Answers c.args.bytes answer c.args.self.now.parts c.request.new.self.parts) c.in-None.is c.in_ok-block.ensures.ok).none
+    λ looks same. refused_by_as c.args.bytes c.looks-self-inside.result looks c.in_ok-block.field-0 c.args.self.now.parts c.request.new.self.parts _ (ap (λ (m : SeqState). m.parts) c.self.view_is) c.in-None.is
+    c.in_ok-block.ensures.ok c.looks-self-inside.ensures same

@@ -1,4 +1,5 @@
-use Rattle.std.proofs.Common.{ap, ◌∙◌}
+use Rattle.block_heap.proofs.SeatLemmas.{few_drawn}
+use Rattle.std.proofs.Common.{arith, ap, ◌∙◌}
 use Rattle.block_heap.specs.Parts.{parts_of}
 use Rattle.block_heap.specs.SeqState.{SeqState}
 use Rattle.block_heap.proofs.RequestLemmas.{large_heap}
@@ -34,3 +35,4 @@ returns-clause-others g c =
 
 pub returns-clause-kept : goal.returns-clause-kept
 returns-clause-kept g c = fixed_free _ c.args.self.now _ c.args.b c.self.invariant c.self.view_is c.free-answer.ensures.freed c.free-answer.ensures.serves
+    (let few = few_drawn c.free-answer.result 40000 _ _ c.free-answer.ensures.goes c.free-answer.ensures.stopped in omega arith)

@@ -1,4 +1,6 @@
-use Rattle.std.proofs.Common.{◌≡◌, ◌<◌, refl, ap, ◌∙◌, subst, sym, OnOk}
+use Rattle.block_heap.proofs.SeatLemmas.{few_drawn}
+use Rattle.std.proofs.lemmas.Result.{on_ok_weaker}
+use Rattle.std.proofs.Common.{arith, ◌≡◌, ◌<◌, refl, ap, ◌∙◌, subst, sym, OnOk}
 use Rattle.block_heap.specs.MediumView.{medium_view}
 use Rattle.line_memory.specs.View.{word_count}
 use Rattle.line_memory.specs.Crash.{MayStore as MayStoreWord}
@@ -53,3 +55,4 @@ pub returns-clause-kept : goal.returns-clause-kept
 returns-clause-kept g c =
     fixed_store _ c.args.self.now _ c.word_of.result c.self.invariant c.self.view_is refl
     (own_at _ c.args.self.now c.args.s c.word_of.result c.self.invariant c.self.view_is c.word_of.ensures c.requires) c.store-answer.ensures.others
+    refl (let few = few_drawn c.store-answer.result 1 _ _ (on_ok_weaker c.store-answer.result (λ f. f.goes) c.store-answer.ensures.ok) c.store-answer.ensures.stopped in omega arith)
