@@ -15,7 +15,7 @@ use Rattle.heap_shape.specs.Draining.{IsAccounted, DrainsSame, DrainsOne}
 use Rattle.heap_shape.proofs.DrainLemmas.{drained_none}
 use Rattle.block_heap.specs.declared.cache.Cache.{Cache}
 use Rattle.block_heap.specs.Accounts.{AreAccounted}
-use Rattle.block_heap.specs.Alloc.{IsSizeFor, of_class as size_of_class, of_superblocks}
+use Rattle.heap_seat.specs.Alloc.{IsSizeFor, of_class as size_of_class, of_superblocks}
 use Rattle.block_heap.specs.Parts.{Parts, image_of, held_in, cache_at}
 use Rattle.block_heap.specs.Running.{IsRunning, AreShort, Serves}
 use Rattle.block_heap.specs.Steps.{head_at, Fills, HandsOut}

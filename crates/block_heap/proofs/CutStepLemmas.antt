@@ -24,7 +24,7 @@ use Rattle.line_memory.specs.Marks.{IsMarked, marked_words}
 use Rattle.line_memory.specs.Marked.{marked_words-has}
 use Rattle.block_heap.specs.declared.cache.Cache.{Cache}
 use Rattle.block_heap.specs.declared.lists.Popped.{Popped}
-use Rattle.block_heap.specs.declared.look.Look.{Look}
+use Rattle.heap_seat.specs.declared.look.Look.{Look}
 use Rattle.block_heap.specs.declared.superblocks.Fresh.{Fresh}
 use Rattle.block_heap.specs.Divide.{IsDivideWord, IsDivided}
 use Rattle.block_heap.specs.Held.{block_of_mark}

@@ -5,31 +5,23 @@ use Rattle.heap_model.specs.declared.block.Block.{Block}
 use Rattle.heap_model.specs.Sizes.{IsClass, size_of, words_of_class}
 use Rattle.heap_model.proofs.MemberLemmas.{in_none, in_head, head_or_rest}
 use Rattle.heap_model.proofs.SizeLemmas.{size_of-words, few_words}
-use Rattle.line_memory.specs.View.{volatile_at}
 use Rattle.line_memory.specs.declared.memory.Stopped.{Stopped}
 use Rattle.block_heap.specs.declared.seq_heap.DrainFault.TheVariants.{Stopped as StoppedFault}
-use Rattle.block_heap.specs.Alloc.{IsSizeFor, of_class, of_superblocks}
+use Rattle.heap_seat.specs.Alloc.{IsSizeFor, of_class, of_superblocks}
 use Rattle.block_heap.specs.Parts.{held_in}
 use Rattle.block_heap.specs.Requests.{KeepsWords, KeepsHeld, IsNewAt, HoldsDrained, StopsDrain}
 use Rattle.block_heap.specs.SeqState.{SeqState, all_roots, seat_of}
 use Rattle.block_heap.specs.Serving.{Gets, Answers, Misses}
-use Rattle.block_heap.specs.Tickets.{Runs, Stops}
-use Rattle.block_heap.specs.Words.{IsOwn, in_block, in_root, KeepsWord, IsDurable}
+use Rattle.heap_seat.specs.Tickets.{Runs, Stops}
+use Rattle.heap_seat.specs.Words.{IsOwn, in_block, in_root}
 use Rattle.block_heap.proofs.AllocLemmas.{least_of_size}
-use Rattle.block_heap.proofs.CallerLemmas.{keeps_word_then, stays_durable}
+use Rattle.heap_seat.proofs.CallerLemmas.{keeps_word_then, pending_then}
 use Rattle.block_heap.proofs.DrawnLemmas.{step_of}
 
 -- more blocks have more own words
 own_more : (held more : List Block) (roots : List ℕ) (word : ℕ) → ((b : Block) → Contains held b → Contains more b) → IsOwn held roots word → IsOwn more roots word
 own_more held more roots _ keeps (in_block b word holds inside) = in_block b word (keeps b holds) inside
 own_more held more roots _ keeps (in_root i word has at) = in_root i word has at
-
--- a word that is durable as loads see it stays so
-still_durable : (t u : SeqState) (word : ℕ) → KeepsWord (seat_of t) (seat_of u) word → IsDurable (seat_of t) word → IsDurable (seat_of u) word
-still_durable t u word keeps durable value at =
-    let seen : Some (volatile_at u.parts.words word) ≡ Some (volatile_at t.parts.words word) = keeps.volatile (volatile_at t.parts.words word) refl in
-    let same : volatile_at t.parts.words word ≡ value = cc in
-    stays_durable (seat_of t) (seat_of u) word value keeps (ap Some same) (durable value (ap Some same))
 
 -- rows of requests go together
 pub held_then : (s t u : SeqState) → KeepsHeld s t → KeepsHeld t u → KeepsHeld s u
@@ -38,10 +30,8 @@ held_then s t u a b = record {
   words = record {
     roots = b.words.roots ∙ a.words.roots;
     words = λ word own. keeps_word_then (seat_of s) (seat_of t) (seat_of u) word (a.words.words word own) (b.words.words word (more word own));
-    pending = λ word own p. elim (a.words.pending word own p) as (λ _. Contains (seat_of u).pending word ⊎ IsDurable (seat_of u) word) [
-      | inl still ↦ b.words.pending word (more word own) still
-      | inr durable ↦ inr (still_durable t u word (b.words.words word (more word own)) durable)
-    ];
+    pending = λ word own.
+        pending_then (seat_of s) (seat_of t) (seat_of u) word (a.words.pending word own) (b.words.words word (more word own)) (b.words.pending word (more word own));
     refusals = record {
       count = b.words.refusals.count ∙ a.words.refusals.count;
       bytes = b.words.refusals.bytes ∙ a.words.refusals.bytes;

@@ -15,14 +15,14 @@ use Rattle.heap_shape.proofs.CountLemmas.{few_members}
 use Rattle.line_memory.specs.declared.memory.Stopped.{Stopped}
 use Rattle.block_heap.specs.declared.seq_heap.DrainFault.{DrainFault}
 use Rattle.block_heap.specs.declared.seq_heap.DrainFault.TheVariants.{Stopped as StoppedFault, Memory as MemoryFault}
-use Rattle.block_heap.specs.Calls.{IsLargeCall}
+use Rattle.heap_seat.specs.Calls.{IsLargeCall}
 use Rattle.block_heap.specs.Laws.{seat_law}
 use Rattle.block_heap.specs.Parts.{image_of, held_in}
 use Rattle.block_heap.specs.Requests.{IsTidyFor}
 use Rattle.block_heap.specs.SeqState.{SeqState, IsSeqHeap, seat_of}
 use Rattle.block_heap.specs.Serving.{Gets, Answers, DrainsTo, Costs, DrainsAs}
 use Rattle.block_heap.specs.Steps.{HasAtMost}
-use Rattle.block_heap.specs.Tickets.{Runs, Stops}
+use Rattle.heap_seat.specs.Tickets.{Runs, Stops}
 use Rattle.block_heap.proofs.DrainStepLemmas.{HasDrained, drains_first, drains_more}
 use Rattle.block_heap.proofs.SpendLemmas.{has_most}
 

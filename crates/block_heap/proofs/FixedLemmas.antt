@@ -10,7 +10,7 @@ use Rattle.block_heap.specs.Medium.{StoresOnly}
 use Rattle.block_heap.specs.Parts.{held_in}
 use Rattle.block_heap.specs.Running.{Serves}
 use Rattle.block_heap.specs.SeqState.{SeqState, IsSeqHeap, all_roots}
-use Rattle.block_heap.specs.Words.{IsOwn}
+use Rattle.heap_seat.specs.Words.{IsOwn}
 use Rattle.block_heap.specs.Works.{IsAllocatorWord, IsFixed}
 use Rattle.block_heap.proofs.StableLemmas.{not_fixed, own_not_fixed, stable_fewer}
 

@@ -5,13 +5,13 @@ use Rattle.heap_model.specs.Blocks.{IsIn}
 use Rattle.heap_shape.specs.Moves.{TakesFrom}
 use Rattle.line_memory.specs.declared.memory.Stopped.{Stopped}
 use Rattle.block_heap.specs.Accounts.{AreAccounted}
-use Rattle.block_heap.specs.Free.{MayFree, Frees}
+use Rattle.heap_seat.specs.Free.{MayFree, Frees}
 use Rattle.block_heap.specs.Medium.{Goes, Halts}
 use Rattle.block_heap.specs.Parts.{Parts, held_in}
 use Rattle.block_heap.specs.Running.{IsRunning, AreShort, Serves}
 use Rattle.block_heap.specs.Works.{IsAllocatorWord, IsStable, IsLasting}
 use Rattle.block_heap.specs.SeqState.{SeqState, IsSeqHeap, all_roots, seat_of}
-use Rattle.block_heap.specs.Words.{IsOwn, in_block, in_root}
+use Rattle.heap_seat.specs.Words.{IsOwn, in_block, in_root}
 use Rattle.block_heap.proofs.RequestLemmas.{large_lasts, large_view, word_kept, pending_kept}
 use Rattle.block_heap.proofs.StableLemmas.{not_own, stable_kept, stable_fewer}
 

@@ -19,7 +19,7 @@ use Rattle.line_memory.specs.Crash.{MayStore}
 use Rattle.line_memory.specs.Marks.{marked_words, IsMarked}
 use Rattle.line_memory.specs.Marked.{marked_words-has}
 use Rattle.block_heap.specs.declared.held.HeldBlocks.{HeldBlocks}
-use Rattle.block_heap.specs.declared.look.Look.{Look}
+use Rattle.heap_seat.specs.declared.look.Look.{Look}
 use Rattle.block_heap.specs.declared.superblocks.Fresh.{Fresh}
 use Rattle.block_heap.specs.Accounts.{AreAccounted}
 use Rattle.block_heap.specs.Held.{held_of, at_mark, block_of_mark}

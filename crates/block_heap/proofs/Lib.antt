@@ -1,7 +1,6 @@
 pub mod AccountLemmas
 pub mod AllocLemmas
 pub mod AnchorLemmas
-pub mod CallerLemmas
 pub mod DivideLemmas
 pub mod HeldLemmas
 pub mod LargeStepLemmas

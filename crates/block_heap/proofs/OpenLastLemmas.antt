@@ -4,7 +4,7 @@ use Rattle.heap_model.specs.declared.block.Block.{Block}
 use Rattle.heap_model.specs.Geometry.{largest_capacity, capacity_word}
 use Rattle.heap_model.proofs.SizeLemmas.{four_blocks}
 use Rattle.line_memory.specs.View.{View}
-use Rattle.block_heap.specs.declared.fault.Looks.{Looks}
+use Rattle.heap_seat.specs.declared.fault.Looks.{Looks}
 use Rattle.block_heap.specs.Opening.{Opens}
 use Rattle.block_heap.specs.Parts.{Parts, held_in}
 use Rattle.block_heap.specs.Works.{IsLasting}

@@ -20,7 +20,7 @@ use Rattle.heap_shape.proofs.OwnLemmas.{same_held}
 use Rattle.line_memory.specs.View.{View, opened}
 use Rattle.block_heap.specs.declared.cache.Cache.{Cache}
 use Rattle.block_heap.specs.declared.held.HeldBlocks.{HeldBlocks}
-use Rattle.block_heap.specs.declared.look.Look.{Look}
+use Rattle.heap_seat.specs.declared.look.Look.{Look}
 use Rattle.block_heap.specs.Held.{held_of}
 use Rattle.block_heap.specs.Opening.{IsHeldOf, Opens}
 use Rattle.block_heap.specs.Parts.{Parts, cache_at}

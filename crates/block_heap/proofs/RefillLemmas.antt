@@ -18,7 +18,7 @@ use Rattle.line_memory.specs.View.{View, word_count, volatile_at}
 use Rattle.block_heap.specs.declared.cache.Cache.{Cache}
 use Rattle.block_heap.specs.declared.held.HeldBlocks.{HeldBlocks}
 use Rattle.block_heap.specs.declared.lists.Popped.{Popped}
-use Rattle.block_heap.specs.declared.look.Look.{Look}
+use Rattle.heap_seat.specs.declared.look.Look.{Look}
 use Rattle.block_heap.specs.Links.{link_of, IsPopped}
 use Rattle.block_heap.specs.Medium.{StoresOnly}
 use Rattle.block_heap.specs.Parts.{Parts, image_of, held_in, cache_at}

@@ -1,6 +1,6 @@
 -- What a request and a free leave of a heap for one thread.
 use Rattle.std.proofs.Common.{◌≡◌, ℕ, zero, suc, ◌+◌, ◌<◌, ◌≤◌, ◌⊎◌, inl, inr, Option, None, Some, Result, Ok, Err, OnOk, OnErr, IfOk, IfErr, List, Contains, refl, ap, sym, subst, ◌∙◌, arith}
-use Rattle.std.specs.Prelude.{slice_index_or}
+use Rattle.std.specs.Prelude.{slice_index_or, ⊤}
 use Rattle.std.proofs.lemmas.Bool.{cases_lt}
 use Rattle.heap_model.specs.declared.block.Block.{Block}
 use Rattle.heap_model.specs.Geometry.{used_word}
@@ -9,23 +9,23 @@ use Rattle.heap_model.specs.Words.{head_first}
 use Rattle.line_memory.specs.View.{volatile_at, durable_at}
 use Rattle.line_memory.specs.declared.memory.Stopped.{Stopped}
 use Rattle.block_heap.specs.Medium.{StoresOnly, Goes, Halts}
-use Rattle.block_heap.specs.declared.fault.Looks.{Looks}
-use Rattle.block_heap.specs.declared.look.Look.{Look}
+use Rattle.heap_seat.specs.declared.fault.Looks.{Looks}
+use Rattle.heap_seat.specs.declared.look.Look.{Look}
 use Rattle.block_heap.specs.Accounts.{AreAccounted}
-use Rattle.block_heap.specs.Alloc.{Refuses}
-use Rattle.block_heap.specs.Looks.{IsLastSeen, FoundEmpty, FoundNoRoom}
+use Rattle.heap_seat.specs.Alloc.{Refuses}
+use Rattle.heap_seat.specs.Looks.{IsLastSeen, FoundNone, FoundNoRoom}
 use Rattle.block_heap.specs.Parts.{Parts, image_of, held_in}
 use Rattle.block_heap.specs.Running.{IsRunning, AreShort, Serves}
 use Rattle.block_heap.specs.Serving.{Answers, Misses, IsLooksOf, RefusesAs}
-use Rattle.block_heap.specs.declared.fault.AllocFault.{AllocFault}
-use Rattle.block_heap.specs.declared.fault.AllocFault.TheVariants.{Full, Stopped as StoppedFault}
+use Rattle.heap_seat.specs.declared.fault.AllocFault.{AllocFault}
+use Rattle.heap_seat.specs.declared.fault.AllocFault.TheVariants.{Full, Stopped as StoppedFault}
 use Rattle.block_heap.specs.Steps.{IsEmptyList, look_at, head_at, IsLook}
-use Rattle.block_heap.specs.Tickets.{Runs}
+use Rattle.heap_seat.specs.Tickets.{Runs}
 use Rattle.block_heap.specs.Works.{IsAllocatorWord, UsedFits, IsStable, IsLasting}
 use Rattle.block_heap.specs.SeqState.{SeqState, IsSeqHeap, all_roots, seat_of}
-use Rattle.block_heap.specs.Words.{IsOwn, IsDurable, MayRead, KeepsWord, KeepsPending}
+use Rattle.heap_seat.specs.Words.{IsOwn, IsDurable, MayRead, KeepsWord, KeepsPending}
 use Rattle.block_heap.specs.Requests.{KeepsWords}
-use Rattle.block_heap.specs.View.{View}
+use Rattle.heap_seat.specs.View.{View}
 use Rattle.block_heap.proofs.SeatLemmas.{stop_above, done_of, drew}
 use Rattle.block_heap.proofs.StableLemmas.{not_own, stable_kept}
 use Rattle.block_heap.proofs.RunningLemmas.{running_stable}
@@ -120,7 +120,7 @@ pub pending_kept : (s : SeqState) (q : Parts) (o : Option ℕ) (to : ℕ → Typ
     → KeepsPending (seat_of s) (large_view s q o) word
 pending_kept s q o to word stores out = λ p. elim (stores.pending word out p) as (λ _. Contains q.words.pending word ⊎ IsDurable (large_view s q o) word) [
   | inl still ↦ inl still
-  | inr same ↦ inr (λ value at. ap Some same ∙ at)
+  | inr same ↦ inr (record { value = volatile_at q.words word; seen = refl; left = ap Some same })
 ]
 
 -- a request keeps all own words
@@ -190,14 +190,17 @@ module _ (bytes : ℕ) (looks : Looks) (s t : SeqState) (misses : Misses bytes s
   }
 
   found_empty : (list now : ℕ) → IsLook s.parts.words.drawn t.parts (look_at t.parts list) (head_at t.parts list) → IsEmptyList t.parts list
-      → now ≡ (look_at t.parts list).seen → FoundEmpty (seat_of s) refused_view list now
+      → now ≡ (look_at t.parts list).seen → FoundNone (λ _. ⊤) (seat_of s) refused_view list now
   found_empty list now is empty same = record {
-    last = seen (look_at t.parts list) (head_at t.parts list) now is same;
-    empty = ap head_first (same ∙ is.seen_is) ∙ empty;
+    found = λ read. record {
+      last = seen (look_at t.parts list) (head_at t.parts list) now is same;
+      empty = ap head_first (same ∙ is.seen_is) ∙ empty;
+    };
+    unread = λ unread. absurd (unread tt);
   }
 
   -- why it found no room
-  found : FoundNoRoom bytes looks (seat_of s) refused_view
+  found : FoundNoRoom (λ _. ⊤) bytes looks (seat_of s) refused_view
   found = record {
     used = used.0;
     past = used.1;
@@ -223,7 +226,7 @@ module _ (bytes : ℕ) (looks : Looks) (s t : SeqState) (misses : Misses bytes s
     ]
 
   -- a request that found no room is refused
-  pub refuses : Runs (seat_of s) (seat_of t) → KeepsWords (seat_of s) (seat_of t) → Refuses bytes looks (seat_of s) refused_view
+  pub refuses : Runs (seat_of s) (seat_of t) → KeepsWords (seat_of s) (seat_of t) → Refuses (λ _. ⊤) bytes looks (seat_of s) refused_view
   refuses runs keeps = record {
     runs = record { ran = runs.ran; running = runs.running; drew = runs.drew; below = runs.below };
     found = found;
@@ -231,7 +234,10 @@ module _ (bytes : ℕ) (looks : Looks) (s t : SeqState) (misses : Misses bytes s
     count = ap (λ n. n + 1) keeps.refusals.count;
     bytes_are = refl;
     looks_are = refl;
-    pending = keeps.pending;
+    pending = λ word own was. elim (keeps.pending word own was) as (λ _. Contains t.parts.words.pending word ⊎ IsDurable refused_view word) [
+      | inl still ↦ inl still
+      | inr durable ↦ inr (record { value = durable.value; seen = durable.seen; left = durable.left })
+    ];
   }
 
 abbrev looks_in : AllocFault → Looks
@@ -276,7 +282,7 @@ refused_heap s bytes looks l heap room = record { lasts = heap.lasts; running = 
 pub refused_by : (bytes : ℕ) (looks : Looks) (answer : Option Block) (s seen t : SeqState) → t ≡ seen → answer ≡ None → Answers bytes answer s.parts seen.parts
     → Runs (seat_of s) (seat_of seen) → KeepsWords (seat_of s) (seat_of seen)
     → IsLooksOf bytes looks t.parts
-    → Refuses bytes looks (seat_of s) (record (seat_of t) { refusals = t.refusals + 1; refused_bytes = bytes; refused_looks = looks })
+    → Refuses (λ _. ⊤) bytes looks (seat_of s) (record (seat_of t) { refusals = t.refusals + 1; refused_bytes = bytes; refused_looks = looks })
 refused_by bytes looks answer s seen t same none answers runs keeps are =
     refuses bytes looks s t (subst (λ m. Misses bytes s.parts m.parts) (sym same) (subst (λ a. Answers bytes a s.parts seen.parts) none answers)) are
     (subst (λ m. Runs (seat_of s) (seat_of m)) (sym same) runs) (subst (λ m. KeepsWords (seat_of s) (seat_of m)) (sym same) keeps)

@@ -3,18 +3,18 @@ use Rattle.std.proofs.Common.{◌≡◌, ℕ, ◌+◌, ◌<◌, ◌≤◌, Optio
 use Rattle.heap_model.specs.Geometry.{used_word, image_words}
 use Rattle.line_memory.specs.View.{View, word_count, volatile_at, durable_at, line_of}
 use Rattle.line_memory.specs.declared.memory.Stopped.{Stopped}
-use Rattle.block_heap.specs.Medium.{StoresOnly, Goes, Halts, IsLoaded, IsStored, IsWritten}
+use Rattle.block_heap.specs.Medium.{StoresOnly, Goes, Halts, IsLoaded, IsStored, IsWritten, IsFenced}
 use Rattle.block_heap.specs.Parts.{Parts, held_in}
 use Rattle.block_heap.specs.Works.{IsLasting}
 use Rattle.block_heap.specs.SeqState.{SeqState, IsSeqHeap, all_roots, seat_of}
-use Rattle.block_heap.specs.Words.{IsOwn, in_block, in_root, IsOwnSpot}
-use Rattle.block_heap.specs.declared.spot.Spot.{Spot}
-use Rattle.block_heap.specs.declared.spot.Spot.TheVariants.{InBlock, Root}
-use Rattle.block_heap.specs.View.{View as SeatView, word_of}
-use Rattle.block_heap.specs.Calls.{Loads, Stores, WritesBack, IsWrittenWith}
-use Rattle.block_heap.specs.Tickets.{Runs}
+use Rattle.heap_seat.specs.Words.{IsOwn, in_block, in_root, IsOwnSpot}
+use Rattle.heap_seat.specs.declared.spot.Spot.{Spot}
+use Rattle.heap_seat.specs.declared.spot.Spot.TheVariants.{InBlock, Root}
+use Rattle.heap_seat.specs.View.{View as SeatView, word_of}
+use Rattle.heap_seat.specs.Calls.{Loads, Stores, WritesBack, Fences, IsWrittenWith}
+use Rattle.heap_seat.specs.Tickets.{Runs}
 use Rattle.block_heap.specs.Stable.{root_below, lies}
-use Rattle.block_heap.proofs.CallerLemmas.{own_spot}
+use Rattle.heap_seat.proofs.CallerLemmas.{own_spot}
 use Rattle.block_heap.proofs.StableLemmas.{stable_own, own_not_used, fits_kept}
 use Rattle.block_heap.proofs.AccountLemmas.{accounted_same}
 use Rattle.block_heap.proofs.RunningLemmas.{running_words}
@@ -154,6 +154,14 @@ write_back_ok (Ok t) s seen w o spot heap same ran own runs written = subst (λ 
       let long : word_count s.parts.words ≡ image_words s.parts.capacity = (heap.running ran_before).0.words_open.long in
       written.line word (omega arith) p.1
 write_back_ok (Err e) s seen w o spot heap same ran own runs written = tt
+
+pub fence_ok : (r : Result Unit Stopped) (s seen : SeqState) (w : View) (o : Option ℕ) → s ≡ seen → seen.stopped ≡ None → OnOk r (o ≡ None)
+    → OnOk r (IsFenced s.parts.words w) → OnOk r (Fences (seat_of seen) (small_view s w o))
+fence_ok (Ok t) s seen w o same ran runs fenced = subst (λ t. Fences (seat_of t) (small_view s w o)) same (record {
+  runs = runs_of s w o (ap (λ (t : SeqState). t.stopped) same ∙ ran) runs fenced.goes;
+  durable = λ word own pending. record { value = volatile_at w word; seen = refl; left = ap Some (fenced.durable word pending) };
+})
+fence_ok (Err e) s seen w o same ran runs fenced = tt
 
 -- of a load that was done
 pub loaded_goes : (r : Result ℕ Stopped) (word : ℕ) (v w : View) → IfOk r (λ value. IsLoaded word value v w) → OnOk r (Goes 1 v w)

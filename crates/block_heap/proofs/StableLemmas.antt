@@ -9,7 +9,7 @@ use Rattle.heap_model.proofs.PartLemmas.{part_taken}
 use Rattle.line_memory.specs.View.{View, volatile_at, durable_at}
 use Rattle.line_memory.specs.Crash.{MayStore}
 use Rattle.block_heap.specs.Medium.{StoresOnly}
-use Rattle.block_heap.specs.Words.{IsOwn, in_block, in_root}
+use Rattle.heap_seat.specs.Words.{IsOwn, in_block, in_root}
 use Rattle.block_heap.specs.Stable.{root_below, block_more, low_layout, own_where}
 use Rattle.block_heap.specs.Works.{IsAllocatorWord, is_used, is_head, is_info, is_anchor, is_link, is_inside, IsFixed, UsedFits, Works, IsStable}
 use Rattle.block_heap.proofs.MediumLemmas.{stores_then, stores_more, stores_nothing}

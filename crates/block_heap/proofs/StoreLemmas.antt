@@ -20,7 +20,7 @@ use Rattle.block_heap.specs.Running.{IsRunning, KnowsSizes}
 use Rattle.block_heap.specs.Works.{IsLasting}
 use Rattle.block_heap.specs.Stable.{root_below, own_where}
 use Rattle.block_heap.specs.SeqState.{SeqState, IsSeqHeap, all_roots, seat_of}
-use Rattle.block_heap.specs.Words.{IsOwn, in_block, in_root, KeepsOwn, MayStore, MayRead}
+use Rattle.heap_seat.specs.Words.{IsOwn, in_block, in_root, KeepsOwn, MayStore, MayRead}
 use Rattle.block_heap.proofs.RunningLemmas.{set_is, settled_kept}
 use Rattle.block_heap.proofs.SeatLemmas.{stop_above, done_of, drew, small_lasts, small_view}
 

@@ -17,7 +17,7 @@ use Rattle.heap_shape.proofs.DrainLemmas.{take_drains, recycle_drains}
 use Rattle.line_memory.specs.View.{View, volatile_at}
 use Rattle.block_heap.specs.declared.cache.Cache.{Cache}
 use Rattle.block_heap.specs.declared.lists.Popped.{Popped}
-use Rattle.block_heap.specs.declared.look.Look.{Look}
+use Rattle.heap_seat.specs.declared.look.Look.{Look}
 use Rattle.block_heap.specs.Anchors.{IsTakenFrom}
 use Rattle.block_heap.specs.Links.{IsPopped, IsPushed, IsPushWord}
 use Rattle.block_heap.specs.Medium.{StoresOnly}

@@ -10,8 +10,8 @@ use Rattle.heap_model.specs.Blocks.{Layout, layout_of, Begins, of_class, as_larg
 use Rattle.heap_model.proofs.BlockLemmas.{block_begins, block_inside, same_begins}
 use Rattle.heap_model.proofs.PartLemmas.{cases_class, same_fields}
 use Rattle.line_memory.specs.View.{volatile_at, durable_at}
-use Rattle.block_heap.specs.Sound.{IsSeat, IsPlaced}
-use Rattle.block_heap.specs.Words.{MixesOwn, NamesAll, MayRead, HasPicked}
+use Rattle.heap_seat.specs.Sound.{IsSeat, IsPlaced}
+use Rattle.heap_seat.specs.Words.{MixesOwn, NamesAll, MayRead, HasPicked}
 use Rattle.std.specs.Prelude.{Bool, true, false, cond, Some}
 use Rattle.block_heap.specs.Closing.{KeepsFixed}
 use Rattle.block_heap.specs.Works.{IsFixed}

@@ -6,7 +6,7 @@ use Rattle.line_memory.specs.View.{View, volatile_at}
 use Rattle.block_heap.specs.declared.arena.Arena.{Arena}
 use Rattle.block_heap.specs.declared.cache.Cache.{Cache}
 use Rattle.block_heap.specs.declared.held.HeldBlocks.{HeldBlocks}
-use Rattle.block_heap.specs.declared.look.Look.{Look}
+use Rattle.heap_seat.specs.declared.look.Look.{Look}
 use Rattle.block_heap.specs.Held.{held_of}
 use Rattle.block_heap.specs.MediumView.{medium_view}
 

@@ -3,12 +3,12 @@ use Rattle.std.specs.Prelude.{◌≡◌, ◌≢◌, ℕ, ◌*◌, ◌⊎◌, Lis
 use Rattle.heap_model.specs.declared.block.Block.{Block}
 use Rattle.heap_model.specs.Sizes.{words_of_class}
 use Rattle.heap_shape.specs.Draining.{IsTidy, IsToDrain}
-use Rattle.block_heap.specs.Calls.{SameRefusals}
-use Rattle.block_heap.specs.Words.{IsOwn, KeepsWord, KeepsPending}
-use Rattle.block_heap.specs.View.{View}
+use Rattle.heap_seat.specs.Calls.{SameRefusals}
+use Rattle.heap_seat.specs.Words.{IsOwn, KeepsWord, KeepsPending}
+use Rattle.heap_seat.specs.View.{View}
 use Rattle.block_heap.specs.Parts.{image_of, held_in}
 use Rattle.block_heap.specs.SeqState.{SeqState, seat_of}
-use Rattle.block_heap.specs.Tickets.{Stops}
+use Rattle.heap_seat.specs.Tickets.{Stops}
 
 -- own words, roots and refusals stay
 pub record KeepsWords (v w : View) : Type 0 where

@@ -5,8 +5,8 @@ use Rattle.heap_model.specs.Image.{Image, words_from}
 use Rattle.heap_model.specs.Durability.{IsTransient}
 use Rattle.line_memory.specs.View.{volatile_at, durable_at}
 use Rattle.line_memory.specs.Crash.{IsValueOf}
-use Rattle.block_heap.specs.declared.fault.Looks.{Looks}
-use Rattle.block_heap.specs.View.{View}
+use Rattle.heap_seat.specs.declared.fault.Looks.{Looks}
+use Rattle.heap_seat.specs.View.{View}
 use Rattle.block_heap.specs.Accounts.{AreAccounted}
 use Rattle.block_heap.specs.Parts.{Parts, held_in}
 use Rattle.block_heap.specs.Running.{IsRunning, AreShort}

@@ -5,9 +5,9 @@ use Rattle.heap_model.specs.Geometry.{used_word}
 use Rattle.heap_model.specs.Sizes.{IsLeastClassFor, largest_small, span_of, words_of_class}
 use Rattle.heap_shape.specs.Moves.{AddsTo}
 use Rattle.heap_shape.specs.Draining.{IsToDrain, IsTidy}
-use Rattle.block_heap.specs.declared.fault.Looks.{Looks}
+use Rattle.heap_seat.specs.declared.fault.Looks.{Looks}
 use Rattle.block_heap.specs.Accounts.{AreAccounted}
-use Rattle.block_heap.specs.Alloc.{IsSizeFor}
+use Rattle.heap_seat.specs.Alloc.{IsSizeFor}
 use Rattle.block_heap.specs.Parts.{Parts, image_of, held_in, cache_at}
 use Rattle.block_heap.specs.Running.{IsRunning, AreShort}
 use Rattle.block_heap.specs.Steps.{head_at, IsEmptyList, look_at, IsLook, Spends}

@@ -12,8 +12,8 @@ use Rattle.heap_model.proofs.MemberLemmas.{in_none, in_head, in_rest, head_or_re
 use Rattle.heap_model.proofs.PlaceLemmas.{same_there}
 use Rattle.line_memory.specs.View.{View, volatile_at}
 use Rattle.line_memory.specs.Crash.{IsValueOf}
-use Rattle.block_heap.specs.Words.{IsOwn, in_block, in_root, NamesAll}
-use Rattle.block_heap.specs.Sound.{IsPlaced}
+use Rattle.heap_seat.specs.Words.{IsOwn, in_block, in_root, NamesAll}
+use Rattle.heap_seat.specs.Sound.{IsPlaced}
 use Rattle.block_heap.specs.Works.{IsStable}
 
 -- the `count` numbers from a number on: each stands among them, and no other does

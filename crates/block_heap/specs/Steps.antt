@@ -7,7 +7,7 @@ use Rattle.heap_model.specs.Words.{head_first}
 use Rattle.heap_model.specs.Chains.{Follows}
 use Rattle.heap_shape.specs.Moves.{AddsTo}
 use Rattle.heap_shape.specs.Draining.{DrainsSame, DrainsOne}
-use Rattle.block_heap.specs.declared.look.Look.{Look}
+use Rattle.heap_seat.specs.declared.look.Look.{Look}
 use Rattle.block_heap.specs.declared.refill.Found.{Found}
 use Rattle.block_heap.specs.declared.refill.Found.TheVariants.{Blocks, Recycled, Nothing}
 use Rattle.block_heap.specs.Parts.{Parts, image_of, held_in, cache_at}

@@ -1,7 +1,7 @@
 //! A request of any size.
 use crate::arena::Arena;
-use crate::fault::Looks;
 use heap_model::Block;
+use heap_seat::Looks;
 use line_memory::{Chance, Stopped};
 use size_table::{class_of, span_of};
 use super_block::WORD_BYTES;

@@ -4,8 +4,8 @@ ghost use Rattle.std.specs.Prelude.{◌≡◌};
 
 use crate::cache::Cache;
 use crate::held::HeldBlocks;
-use crate::look::Look;
 use crate::medium::Medium;
+use heap_seat::Look;
 use line_memory::Chance;
 use std::alloc::{AllocError, Global};
 use super_block::{Geometry, HEAD_WORD, LISTS, Ready, USED_WORD};

@@ -1,7 +1,7 @@
 //! Blocks that take superblocks of their own.
 use crate::arena::Arena;
-use crate::look::Look;
 use heap_model::Block;
+use heap_seat::Look;
 use line_memory::{Chance, Stopped};
 use super_block::SUPERBLOCK_WORDS;
 

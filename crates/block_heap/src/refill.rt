@@ -1,7 +1,7 @@
 //! Where a request of a class finds blocks when its cache is empty.
 use crate::arena::Arena;
 use crate::cache::Cache;
-use crate::look::Look;
+use heap_seat::Look;
 use line_memory::{Chance, Stopped};
 use size_table::{blocks_of, size_of};
 use super_block::WORD_BYTES;

@@ -6,8 +6,8 @@ ghost use Rattle.block_heap.specs.MediumView.{medium_view};
 ghost use Rattle.block_heap.specs.Works.{IsLasting};
 
 use crate::arena::Arena;
-use crate::fault::Looks;
 use heap_model::Block;
+use heap_seat::Looks;
 use line_memory::{Chance, Closed, Stopped};
 use size_table::{blocks_of, size_of};
 use std::alloc::{AllocError, Global};
@@ -94,7 +94,7 @@ impl<C: Chance> SeqHeap<C> {
     ghost use Rattle.block_heap.specs.Parts.{held_in};
     ghost use Rattle.block_heap.specs.Requests.{IsTidyFor, Drains, KeepsHeld, HoldsDrained, StopsDrain};
     ghost use Rattle.block_heap.specs.SeqState.{MayLeave};
-    ghost use Rattle.block_heap.specs.Words.{NamesAll};
+    ghost use Rattle.heap_seat.specs.Words.{NamesAll};
     ghost use Rattle.block_heap.specs.Closing.{IsOpened, KeepsFixed};
 
     /// Opens the heap with a budget of so many steps.

@@ -1,12 +1,10 @@
 //! The calls of the heap for one thread.
 ghost use Rattle.std.specs.Prelude.{◌≡◌, ◌<◌, ◌≤◌, ◌^◌, OnOk, IfErr, None, Some};
-ghost use Rattle.block_heap.specs.View.{word_of as spot_word};
+ghost use Rattle.heap_seat.specs.View.{word_of as spot_word};
 
-use crate::fault::AllocFault;
-use crate::seat::HeapSeat;
 use crate::seq_heap::SeqHeap;
-use crate::spot::Spot;
 use heap_model::Block;
+use heap_seat::{AllocFault, HeapSeat, Spot};
 use line_memory::{Chance, Stopped};
 use super_block::{ROOT_WORD, WORD_BYTES};
 
@@ -20,11 +18,7 @@ impl<C: Chance> HeapSeat for SeqHeap<C> {
 
     ghost images = { MayLeave };
 
-    ghost small_draws = { λ n. n ≤ 1 };
-
-    ghost large_draws = { λ n. n ≤ 131072 };
-
-    ghost has_room = { λ s bytes. HasRoomFor s.parts bytes };
+    ghost has_room = { λ s t bytes. HasRoomFor s.parts bytes };
 
     ghost has_none = { λ s t bytes looks. RefusesAs bytes looks s.parts t.parts };
 
@@ -124,13 +118,13 @@ fn stop_of<T>(answer: &Result<T, Stopped>) -> Option<u64>
 impl<C: Chance> SeqHeap<C> {
     ghost use Rattle.std.specs.Prelude.{ℕ, ◌+◌, ◌<◌, IfOk, OnErr};
     ghost use Rattle.heap_model.specs.Sizes.{IsClass, size_of, span_of};
-    ghost use Rattle.block_heap.specs.Calls.{IsLargeCall};
+    ghost use Rattle.heap_seat.specs.Calls.{IsLargeCall};
     ghost use Rattle.block_heap.specs.Closing.{KeepsFixed};
     ghost use Rattle.block_heap.specs.Parts.{held_in};
     ghost use Rattle.block_heap.specs.Requests.{KeepsWords};
     ghost use Rattle.block_heap.specs.Serving.{Answers, DrainsAs};
     ghost use Rattle.block_heap.specs.SeqState.{seat_of};
-    ghost use Rattle.block_heap.specs.Tickets.{Runs, Stops};
+    ghost use Rattle.heap_seat.specs.Tickets.{Runs, Stops};
 
     /// A block of at least so many bytes, if there is room. A refusal is not counted.
     pub(crate) fn request(&mut self, bytes: u64) -> Result<Option<Block>, Stopped>

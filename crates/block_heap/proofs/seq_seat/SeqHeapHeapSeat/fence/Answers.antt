@@ -3,7 +3,7 @@ use Rattle.std.proofs.lemmas.Result.{on_ok_weaker}
 use Rattle.block_heap.specs.MediumView.{medium_view}
 use Rattle.block_heap.specs.Parts.{parts_of}
 use Rattle.block_heap.specs.SeqState.{SeqState}
-use Rattle.block_heap.proofs.SeatLemmas.{small_lasts, stop_above, quiet_heap}
+use Rattle.block_heap.proofs.SeatLemmas.{small_lasts, stop_above, quiet_heap, fence_ok}
 use Rattle.block_heap.proofs.seq_seat.SeqHeapHeapSeat.fence.Goals as goal
 
 pub invariant_of-self-inside : goal.invariant_of-self-inside
@@ -18,3 +18,8 @@ invariant_of-self g c =
     quiet_heap c.fence-answer.result _ (medium_view c.fence-answer.new.self) c.stop_of-self-inside.result _ c.self.invariant (ap (λ (s : SeqState). s.stopped) c.self.view_is ∙ c.in_ok-running.ensures.ok)
     (on_ok_weaker c.fence-answer.result (λ f. f.goes) c.fence-answer.ensures.ok) (on_ok_weaker c.fence-answer.result (λ f. f.volatile) c.fence-answer.ensures.ok)
     c.fence-answer.ensures.stopped c.fence-answer.ensures.unchanged c.stop_of-self-inside.ensures.ok c.stop_of-self-inside.ensures.stopped
+
+pub returns-clause-ok : goal.returns-clause-ok
+returns-clause-ok g c =
+    fence_ok c.fence-answer.result _ c.args.self.now (medium_view c.fence-answer.new.self) c.stop_of-self-inside.result c.self.view_is c.in_ok-running.ensures.ok
+    c.stop_of-self-inside.ensures.ok c.fence-answer.ensures.ok

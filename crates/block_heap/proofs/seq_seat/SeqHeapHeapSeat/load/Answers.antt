@@ -3,8 +3,8 @@ use Rattle.block_heap.specs.MediumView.{medium_view}
 use Rattle.line_memory.specs.View.{word_count}
 use Rattle.block_heap.specs.Medium.{IsLoaded}
 use Rattle.block_heap.specs.Parts.{parts_of}
-use Rattle.block_heap.specs.View.{word_of}
-use Rattle.block_heap.specs.Words.{IsOwnSpot}
+use Rattle.heap_seat.specs.View.{word_of}
+use Rattle.heap_seat.specs.Words.{IsOwnSpot}
 use Rattle.block_heap.specs.SeqState.{SeqState, seat_of}
 use Rattle.block_heap.proofs.SeatLemmas.{small_lasts, stop_above, quiet_heap, own_short, own_within, load_ok, loaded_goes, loaded_same}
 use Rattle.block_heap.proofs.seq_seat.SeqHeapHeapSeat.load.Goals as goal

@@ -6,8 +6,8 @@ use Rattle.line_memory.specs.View.{word_count}
 use Rattle.line_memory.specs.Crash.{MayStore as MayStoreWord}
 use Rattle.block_heap.specs.Medium.{IsStored, StoresOnly}
 use Rattle.block_heap.specs.Parts.{parts_of, held_in}
-use Rattle.block_heap.specs.View.{word_of}
-use Rattle.block_heap.specs.Words.{IsOwn, IsOwnSpot}
+use Rattle.heap_seat.specs.View.{word_of}
+use Rattle.heap_seat.specs.Words.{IsOwn, IsOwnSpot}
 use Rattle.block_heap.specs.SeqState.{SeqState, seat_of, all_roots}
 use Rattle.block_heap.proofs.SeatLemmas.{small_lasts, stop_above, own_short, at_within, own_at, store_ok}
 use Rattle.block_heap.proofs.StoreLemmas.{store_heap, store_keeps, store_refused}

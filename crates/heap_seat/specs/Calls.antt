@@ -2,12 +2,12 @@
 use Rattle.std.specs.Prelude.{◌≡◌, ◌≢◌, ℕ, ◌+◌, ◌≤◌, Option, None, Some, Contains}
 use Rattle.heap_model.specs.Blocks.{IsIn}
 use Rattle.line_memory.specs.View.{line_of}
-use Rattle.block_heap.specs.declared.spot.Spot.{Spot}
-use Rattle.block_heap.specs.declared.spot.Spot.TheVariants.{InBlock, Root}
-use Rattle.block_heap.specs.View.{View, word_of}
-use Rattle.block_heap.specs.Words.{IsOwn, IsDurable}
-use Rattle.block_heap.specs.Tickets.{Runs}
-use Rattle.block_heap.specs.Looks.{KnowsNoLess}
+use Rattle.heap_seat.specs.declared.spot.Spot.{Spot}
+use Rattle.heap_seat.specs.declared.spot.Spot.TheVariants.{InBlock, Root}
+use Rattle.heap_seat.specs.View.{View, word_of}
+use Rattle.heap_seat.specs.Words.{IsOwn, IsDurable}
+use Rattle.heap_seat.specs.Tickets.{Runs}
+use Rattle.heap_seat.specs.Looks.{KnowsNoLess}
 
 -- one call more, unless the seat had stopped
 abbrev pub counted : Option ℕ → ℕ → ℕ

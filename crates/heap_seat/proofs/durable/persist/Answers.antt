@@ -1,7 +1,8 @@
+use Rattle.std.proofs.Common.{◌∙◌, sym}
 use Rattle.std.proofs.lemmas.Result.{on_ok_weaker}
-use Rattle.block_heap.specs.View.{word_of}
-use Rattle.block_heap.proofs.CallerLemmas.{own_spot, own_same, spot_written, seen_then, store_then, keeps_own_then}
-use Rattle.block_heap.proofs.durable.persist.Goals as goal
+use Rattle.heap_seat.specs.View.{word_of}
+use Rattle.heap_seat.proofs.CallerLemmas.{own_spot, own_same, spot_written, seen_then, store_then, keeps_own_then, publish_settles}
+use Rattle.heap_seat.proofs.durable.persist.Goals as goal
 
 pub returns-in_err-write_back-clause-crash : goal.returns-in_err-write_back-clause-crash
 returns-in_err-write_back-clause-crash g c =
@@ -34,8 +35,8 @@ returns-clause-durable g c =
     let both = keeps_own_then u t w c.write_back.ensures.unchanged c.fence.ensures.unchanged in
     on_ok_weaker c.fence.result
     (λ fenced.
-    fenced.durable word still (c.in_ok-write_back.ensures.ok.line word (spot_written v c.args.s c.requires)) c.args.value
-    (seen_then u w word c.args.value own both c.in_ok-store.ensures.ok.seen))
+    let settled = fenced.durable word still (c.in_ok-write_back.ensures.ok.line word (spot_written v c.args.s c.requires)) in
+    settled.left ∙ sym settled.seen ∙ seen_then u w word c.args.value own both c.in_ok-store.ensures.ok.seen)
     c.fence.ensures.ok
 
 pub returns-clause-crash : goal.returns-clause-crash
@@ -47,3 +48,14 @@ returns-clause-crash g c =
     let w = view c.fence.new.self in
     store_then (word_of c.args.s) c.args.value v u w (own_spot v c.args.s c.requires) c.store.ensures.crash
     (keeps_own_then u t w c.write_back.ensures.unchanged c.fence.ensures.unchanged)
+
+pub returns-clause-settled : goal.returns-clause-settled
+returns-clause-settled g c =
+    let view = g.H.HeapSeat.view in
+    let v = view c.args.heap.now in
+    let u = view c.store.new.self in
+    let t = view c.write_back.new.self in
+    let w = view c.fence.new.self in
+    on_ok_weaker c.fence.result
+    (publish_settles c.args.s c.args.value v u t w c.requires c.store.ensures.crash c.in_ok-store.ensures.ok c.write_back.ensures.unchanged c.in_ok-write_back.ensures.ok)
+    c.fence.ensures.ok

@@ -4,9 +4,9 @@ use Rattle.heap_model.specs.declared.block.Block.{Block}
 use Rattle.heap_model.specs.Geometry.{root_word}
 use Rattle.heap_model.specs.Image.{Image}
 use Rattle.heap_model.specs.Blocks.{IsIn, Names}
-use Rattle.block_heap.specs.declared.spot.Spot.{Spot}
-use Rattle.block_heap.specs.declared.spot.Spot.TheVariants.{InBlock, Root}
-use Rattle.block_heap.specs.View.{View}
+use Rattle.heap_seat.specs.declared.spot.Spot.{Spot}
+use Rattle.heap_seat.specs.declared.spot.Spot.TheVariants.{InBlock, Root}
+use Rattle.heap_seat.specs.View.{View}
 
 -- a seat's own words are those of its blocks and its roots
 pub data IsOwn (held : List Block) (roots : List ℕ) : ℕ → Type 0 where
@@ -53,9 +53,11 @@ pub record MayStore (word value : ℕ) (v w : View) : Type 0 where
   pub others : (other : ℕ) → IsOwn v.held v.roots other → other ≢ word → KeepsWord v w other
   pub stored : (read : ℕ) → MayRead w word read → (read ≡ value) ⊎ MayRead v word read
 
--- a fence made the word durable at what loads see
-abbrev pub IsDurable : View → ℕ → Type 0
-IsDurable w word = (value : ℕ) → w.volatile word ≡ Some value → w.durable word ≡ Some value
+-- the word's value is known, and durable as loads see it
+pub record IsDurable (w : View) (word : ℕ) : Type 0 where
+  pub value : ℕ
+  pub seen : w.volatile word ≡ Some value
+  pub left : w.durable word ≡ Some value
 
 -- a pending write-back of the word stays, or a fence came in between
 abbrev pub KeepsPending : View → View → ℕ → Type 0

@@ -1,6 +1,6 @@
 //! Why a request gets no block.
 ghost use Rattle.std.specs.Prelude.{◌≡◌};
-ghost use Rattle.block_heap.specs.declared.fault.AllocFault.TheVariants.{Stopped as StoppedFault};
+ghost use Rattle.heap_seat.specs.declared.fault.AllocFault.TheVariants.{Stopped as StoppedFault};
 
 use line_memory::Stopped;
 

@@ -3,7 +3,7 @@ use Rattle.std.specs.Prelude.{◌≡◌, ℕ, ◌+◌, ◌*◌, ◌^◌, ◌<◌
 use Rattle.heap_model.specs.declared.block.Block.{Block}
 use Rattle.heap_model.specs.Geometry.{fixed_words, roots}
 use Rattle.heap_model.specs.Blocks.{AreOneOrApart}
-use Rattle.block_heap.specs.View.{View}
+use Rattle.heap_seat.specs.View.{View}
 
 -- a block lies behind the roots, has words, and its byte offset fits a pointer
 pub record IsPlaced (b : Block) : Type 0 where

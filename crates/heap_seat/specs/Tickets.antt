@@ -1,6 +1,6 @@
 -- Tickets, and what a call does with them.
 use Rattle.std.specs.Prelude.{◌≡◌, ℕ, ◌+◌, ◌<◌, ◌≤◌, None, Some}
-use Rattle.block_heap.specs.View.{View}
+use Rattle.heap_seat.specs.View.{View}
 
 -- the ticket was drawn by the call between these views: a seat's tickets rise
 pub record IsDrawn (v w : View) (ticket : ℕ) : Type 0 where

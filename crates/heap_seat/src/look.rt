@@ -14,7 +14,7 @@ pub struct Look {
 
 impl Look {
     /// A look by the ticket.
-    pub(crate) fn by(seen: u64, ticket: u64, taken: u64) -> Look
+    pub fn by(seen: u64, ticket: u64, taken: u64) -> Look
         ensures seen { result.seen ≡ seen }
         ensures ticket { result.ticket ≡ Some ticket }
         ensures taken { result.taken ≡ taken }

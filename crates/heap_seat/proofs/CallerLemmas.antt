@@ -1,13 +1,16 @@
 -- How what one call leaves and what the next one leaves go together, for callers of a seat.
-use Rattle.std.proofs.Common.{◌≡◌, ◌≢◌, ℕ, ◌+◌, ◌≤◌, List, Contains, refl, sym, ◌∙◌, subst, arith, inl, inr, None, Some, Option}
+use Rattle.std.proofs.Common.{◌≡◌, ◌≢◌, ℕ, ◌+◌, ◌≤◌, ◌⊎◌, List, Contains, refl, sym, ◌∙◌, subst, arith, inl, inr, None, Some, Option}
 use Rattle.heap_model.specs.declared.block.Block.{Block}
 use Rattle.heap_model.specs.Blocks.{IsIn, AreOneOrApart}
 use Rattle.heap_model.specs.Geometry.{root_word}
-use Rattle.block_heap.specs.declared.spot.Spot.{Spot}
-use Rattle.block_heap.specs.declared.spot.Spot.TheVariants.{InBlock, Root}
-use Rattle.block_heap.specs.View.{View, word_of}
-use Rattle.block_heap.specs.Words.{IsOwn, in_block, in_root, IsOwnSpot, MayBe, MayRead, KeepsWord, KeepsOwn, MayStore}
-use Rattle.block_heap.specs.Calls.{IsWrittenWith}
+use Rattle.heap_seat.specs.declared.spot.Spot.{Spot}
+use Rattle.heap_seat.specs.declared.spot.Spot.TheVariants.{InBlock, Root}
+use Rattle.heap_seat.specs.View.{View, word_of}
+use Rattle.heap_seat.specs.Words.{IsOwn, in_block, in_root, IsOwnSpot, MayBe, MayRead, MixesOwn, KeepsWord, KeepsOwn, MayStore, IsDurable, KeepsPending}
+use Rattle.heap_model.specs.Image.{Image}
+use Rattle.heap_seat.specs.Calls.{IsWrittenWith, Stores, WritesBack, Fences}
+use Rattle.heap_seat.specs.Rows.{Settles}
+use Rattle.std.proofs.lemmas.Bool.{cases_eq}
 
 -- own words are the same where blocks and roots are
 pub own_same : (v w : View) (word : ℕ) → w.held ≡ v.held → w.roots ≡ v.roots → IsOwn v.held v.roots word → IsOwn w.held w.roots word
@@ -124,3 +127,44 @@ first_outside a b some apart differ inside =
 -- a block that is held isn't one that isn't
 pub not_new : (v : View) (a b : Block) → Contains v.held a → (Contains v.held b → ⊥) → a ≢ b
 not_new v a b has new e = new (subst (λ (x : Block). Contains v.held x) e has)
+
+-- a store that is written back and fenced settles its own word, and what was pending before it
+pub publish_settles : (s : Spot) (value : ℕ) (v u t w : View) → IsOwnSpot v s → MayStore (word_of s) value v u → Stores (word_of s) value v u → KeepsOwn u t → WritesBack s u t
+    → Fences t w → Settles v w
+publish_settles s value v u t w at may stored keeps written fenced = record {
+  each = λ word own pending. fenced.durable word
+      (own_same u t word keeps.held keeps.roots (own_same v u word may.held may.roots own))
+      (elim (cases_eq word (word_of s)) as (λ _. Contains t.pending word) [
+        | inl same ↦ written.line word (subst (IsWrittenWith s) (sym same) (spot_written v s at))
+        | inr other ↦ written.pending word (stored.pending word other pending)
+      ]);
+}
+
+-- a word that is durable as loads see it stays so, where it isn't stored to
+pub durable_then : (v w : View) (word : ℕ) → KeepsWord v w word → IsDurable v word → IsDurable w word
+durable_then v w word keeps durable = record {
+  value = durable.value;
+  seen = keeps.volatile durable.value durable.seen;
+  left = stays_durable v w word durable.value keeps durable.seen durable.left;
+}
+
+-- a pending write-back over two calls
+pub pending_then : (v u w : View) (word : ℕ) → KeepsPending v u word → KeepsWord u w word → KeepsPending u w word → KeepsPending v w word
+pending_then v u w word a keeps b = λ was. elim (a was) as (λ _. Contains w.pending word ⊎ IsDurable w word) [
+  | inl still ↦ b still
+  | inr durable ↦ inr (durable_then u w word keeps durable)
+]
+
+-- an image of the later views is one of the earlier view, where no call between stores to an own word
+pub mixes_before : (v w : View) (image : Image) → KeepsOwn v w → MixesOwn w image → MixesOwn v image
+mixes_before v w image keeps mixes = record {
+  each = λ word own. read_before v w word (image word) (keeps.words word own) (mixes.each word (own_same v w word keeps.held keeps.roots own));
+}
+
+-- what is durable as loads see it has that value in every image
+pub durable_in : (v : View) (word value : ℕ) (image : Image) → IsOwn v.held v.roots word → v.volatile word ≡ Some value → v.durable word ≡ Some value → MixesOwn v image → image word ≡ value
+durable_in v word value image own seen left mixes =
+    elim (mixes.each word own) as (λ _. image word ≡ value) [
+      | inl may ↦ may_be_known (v.volatile word) value (image word) seen may
+      | inr may ↦ may_be_known (v.durable word) value (image word) left may
+    ]

@@ -1,17 +1,17 @@
 //! What every open heap promises to the thread that works on it.
-ghost use Rattle.std.specs.Prelude.{◌≡◌, ℕ, ◌-◌, ◌*◌, ⊤, IfOk, OnOk, IfErr, OnErr, Contains, Bool};
+ghost use Rattle.std.specs.Prelude.{◌≡◌, ℕ, ◌*◌, ⊤, IfOk, OnOk, IfErr, OnErr, Contains, Bool, Some};
 ghost use Rattle.heap_model.specs.declared.block.Block.{Block};
 ghost use Rattle.heap_model.specs.Image.{Image};
 ghost use Rattle.heap_model.specs.Sizes.{span_of};
-ghost use Rattle.block_heap.specs.declared.fault.AllocFault.TheVariants.{Full};
-ghost use Rattle.block_heap.specs.declared.fault.Looks.{Looks};
-ghost use Rattle.block_heap.specs.View.{View, word_of};
-ghost use Rattle.block_heap.specs.Words.{IsOwnSpot, KeepsOwn, MayStore, MixesOwn, NamesAll, HasPicked};
-ghost use Rattle.block_heap.specs.Tickets.{Stops};
-ghost use Rattle.block_heap.specs.Calls.{IsSmallCall, IsLargeCall, Loads, Stores, WritesBack, Fences};
-ghost use Rattle.block_heap.specs.Alloc.{Allocates, FailsBy};
-ghost use Rattle.block_heap.specs.Free.{MayFree, Frees};
-ghost use Rattle.block_heap.specs.Sound.{IsSeat};
+ghost use Rattle.heap_seat.specs.declared.fault.AllocFault.TheVariants.{Full};
+ghost use Rattle.heap_seat.specs.declared.fault.Looks.{Looks};
+ghost use Rattle.heap_seat.specs.View.{View, word_of};
+ghost use Rattle.heap_seat.specs.Words.{IsOwnSpot, KeepsOwn, MayStore, MixesOwn, NamesAll, HasPicked};
+ghost use Rattle.heap_seat.specs.Tickets.{Stops};
+ghost use Rattle.heap_seat.specs.Calls.{IsSmallCall, IsLargeCall, Loads, Stores, WritesBack, Fences};
+ghost use Rattle.heap_seat.specs.Alloc.{Allocates, FailsBy};
+ghost use Rattle.heap_seat.specs.Free.{MayFree, Frees};
+ghost use Rattle.heap_seat.specs.Sound.{IsSeat};
 
 use crate::fault::AllocFault;
 use crate::spot::Spot;
@@ -29,16 +29,19 @@ pub trait HeapSeat {
     // so does each mixture of volatile and durable words.
     ghost images: { Self → Image → Type 0 };
 
-    // How many tickets a call on words, and one of alloc or free, may draw. By default any number.
-    ghost small_draws: { ℕ → Type 0 } = { λ _. ⊤ };
-
-    ghost large_draws: { ℕ → Type 0 } = { λ _. ⊤ };
-
-    // What is so of a seat that gives a block to a request of so many bytes, and of one that
-    // refuses it for want of room. By default nothing more than what its looks tell.
-    ghost has_room: { Self → ℕ → Type 0 } = { λ _ _. ⊤ };
+    // What is so of a seat before and after a request of so many bytes that it gives a block to, and
+    // of one that it refuses for want of room, with these looks. By default nothing more than what
+    // its looks tell.
+    ghost has_room: { Self → Self → ℕ → Type 0 } = { λ _ _ _. ⊤ };
 
     ghost has_none: { Self → Self → ℕ → Looks → Type 0 } = { λ _ _ _ _. ⊤ };
+
+    // The lists whose heads a request reads before it is refused: 0 is that of the free superblocks,
+    // then the classes. By default each that it may have a block from.
+    ghost reads: { ℕ → Type 0 } = { λ _. ⊤ };
+
+    // What is so of a seat before and after it took this block back. By default nothing.
+    ghost gives_back: { Self → Self → Block → Type 0 } = { λ _ _ _. ⊤ };
 
     // What else of the heap every call leaves as it is. By default nothing.
     ghost keeps: { Self → Self → Type 0 } = { λ _ _. ⊤ };
@@ -46,24 +49,27 @@ pub trait HeapSeat {
     /// A block of at least so many bytes. What its words hold is not known.
     fn alloc(&mut self, bytes: u64) -> Result<Block, AllocFault>
         ensures ok { IfOk result (λ b. Allocates bytes b (view self.old) (view self.new)) }
-        ensures cause { IfErr result (λ fault. FailsBy bytes fault
+        ensures cause { IfErr result (λ fault. FailsBy reads bytes fault
             (view self.old) (view self.new)) }
-        ensures room { OnOk result (has_room self.old bytes) }
+        ensures room { OnOk result (has_room self.old self.new bytes) }
         ensures none { IfErr result (λ fault. (looks : Looks) → fault ≡ Full looks
             → has_none self.old self.new bytes looks) }
         ensures unchanged { OnErr result (KeepsOwn (view self.old) (view self.new)) }
         ensures counted { IsLargeCall (span_of bytes) (view self.old) (view self.new) }
-        ensures draws { large_draws ((view self.new).next - (view self.old).next) }
+        ensures idle { (ticket : ℕ) → (view self.old).stopped ≡ Some ticket
+            → self.new ≡ self.old }
         ensures kept { keeps self.old self.new };
 
     /// Gives a held block back. After `Stopped` it may be held or not.
     fn free(&mut self, b: Block) -> Result<(), Stopped>
         requires { Contains (view self.old).held b }
         ensures ok { OnOk result (Frees b (view self.old) (view self.new)) }
+        ensures given { OnOk result (gives_back self.old self.new b) }
         ensures stopped { IfErr result (λ e. Stops e.step (view self.old) (view self.new)) }
         ensures others { MayFree b (view self.old) (view self.new) }
         ensures counted { IsLargeCall 0 (view self.old) (view self.new) }
-        ensures draws { large_draws ((view self.new).next - (view self.old).next) }
+        ensures idle { (ticket : ℕ) → (view self.old).stopped ≡ Some ticket
+            → self.new ≡ self.old }
         ensures kept { keeps self.old self.new };
 
     /// The word at the spot.
@@ -74,7 +80,8 @@ pub trait HeapSeat {
         ensures stopped { IfErr result (λ e. Stops e.step (view self.old) (view self.new)) }
         ensures unchanged { KeepsOwn (view self.old) (view self.new) }
         ensures counted { IsSmallCall (view self.old) (view self.new) }
-        ensures draws { small_draws ((view self.new).next - (view self.old).next) }
+        ensures idle { (ticket : ℕ) → (view self.old).stopped ≡ Some ticket
+            → self.new ≡ self.old }
         ensures kept { keeps self.old self.new };
 
     /// Changes what loads see of the word at the spot. A crash may still leave its old value.
@@ -85,7 +92,8 @@ pub trait HeapSeat {
         ensures unchanged { OnErr result (KeepsOwn (view self.old) (view self.new)) }
         ensures crash { MayStore (word_of s) value (view self.old) (view self.new) }
         ensures counted { IsSmallCall (view self.old) (view self.new) }
-        ensures draws { small_draws ((view self.new).next - (view self.old).next) }
+        ensures idle { (ticket : ℕ) → (view self.old).stopped ≡ Some ticket
+            → self.new ≡ self.old }
         ensures kept { keeps self.old self.new };
 
     /// Asks for the words of the spot's block that share its line, or for the root, to be made
@@ -96,7 +104,8 @@ pub trait HeapSeat {
         ensures stopped { IfErr result (λ e. Stops e.step (view self.old) (view self.new)) }
         ensures unchanged { KeepsOwn (view self.old) (view self.new) }
         ensures counted { IsSmallCall (view self.old) (view self.new) }
-        ensures draws { small_draws ((view self.new).next - (view self.old).next) }
+        ensures idle { (ticket : ℕ) → (view self.old).stopped ≡ Some ticket
+            → self.new ≡ self.old }
         ensures kept { keeps self.old self.new };
 
     /// Waits until each own word that was written back, and not stored to since, is durable.
@@ -105,7 +114,8 @@ pub trait HeapSeat {
         ensures stopped { IfErr result (λ e. Stops e.step (view self.old) (view self.new)) }
         ensures unchanged { KeepsOwn (view self.old) (view self.new) }
         ensures counted { IsSmallCall (view self.old) (view self.new) }
-        ensures draws { small_draws ((view self.new).next - (view self.old).next) }
+        ensures idle { (ticket : ℕ) → (view self.old).stopped ≡ Some ticket
+            → self.new ≡ self.old }
         ensures kept { keeps self.old self.new };
 
     /// The held block that begins at the byte offset. Draws no ticket.

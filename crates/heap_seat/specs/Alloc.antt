@@ -2,14 +2,14 @@
 use Rattle.std.specs.Prelude.{◌≡◌, ℕ, ◌+◌, ◌*◌, ◌<◌, ◌⊎◌, Contains}
 use Rattle.heap_model.specs.declared.block.Block.{Block}
 use Rattle.heap_model.specs.Sizes.{IsLeastClassFor, largest_small, span_of, size_of}
-use Rattle.block_heap.specs.declared.fault.AllocFault.{AllocFault}
-use Rattle.block_heap.specs.declared.fault.AllocFault.TheVariants.{Full, Stopped}
-use Rattle.block_heap.specs.declared.fault.Looks.{Looks}
-use Rattle.block_heap.specs.View.{View}
-use Rattle.block_heap.specs.Words.{IsOwn, KeepsWord, KeepsPending}
-use Rattle.block_heap.specs.Tickets.{Runs, Stops}
-use Rattle.block_heap.specs.Looks.{FoundNoRoom}
-use Rattle.block_heap.specs.Calls.{SameRefusals}
+use Rattle.heap_seat.specs.declared.fault.AllocFault.{AllocFault}
+use Rattle.heap_seat.specs.declared.fault.AllocFault.TheVariants.{Full, Stopped}
+use Rattle.heap_seat.specs.declared.fault.Looks.{Looks}
+use Rattle.heap_seat.specs.View.{View}
+use Rattle.heap_seat.specs.Words.{IsOwn, KeepsWord, KeepsPending}
+use Rattle.heap_seat.specs.Tickets.{Runs, Stops}
+use Rattle.heap_seat.specs.Looks.{FoundNoRoom}
+use Rattle.heap_seat.specs.Calls.{SameRefusals}
 
 -- the bytes of the block that a request gets: those of the least class that holds it, or of as many superblocks as it takes
 pub data IsSizeFor (bytes : ℕ) : ℕ → Type 0 where
@@ -34,9 +34,9 @@ pub record Allocates (bytes : ℕ) (b : Block) (v w : View) : Type 0 where
   pub refusals : SameRefusals v w
 
 -- the request was refused for want of room: it took nothing, and it is the last refusal
-pub record Refuses (bytes : ℕ) (looks : Looks) (v w : View) : Type 0 where
+pub record Refuses (reads : ℕ → Type 0) (bytes : ℕ) (looks : Looks) (v w : View) : Type 0 where
   pub runs : Runs v w
-  pub found : FoundNoRoom bytes looks v w
+  pub found : FoundNoRoom reads bytes looks v w
   pub taken : w.taken ≡ v.taken
   pub count : w.refusals ≡ v.refusals + 1
   pub bytes_are : w.refused_bytes ≡ bytes
@@ -44,6 +44,6 @@ pub record Refuses (bytes : ℕ) (looks : Looks) (v w : View) : Type 0 where
   pub pending : (word : ℕ) → IsOwn v.held v.roots word → KeepsPending v w word
 
 -- the cause of each answer that gives no block
-abbrev pub FailsBy : ℕ → AllocFault → View → View → Type 0
-FailsBy bytes (Full looks) v w = Refuses bytes looks v w
-FailsBy bytes (Stopped stopped) v w = Stops stopped.step v w × SameRefusals v w
+abbrev pub FailsBy : (ℕ → Type 0) → ℕ → AllocFault → View → View → Type 0
+FailsBy reads bytes (Full looks) v w = Refuses reads bytes looks v w
+FailsBy reads bytes (Stopped stopped) v w = Stops stopped.step v w × SameRefusals v w

@@ -2,10 +2,10 @@
 use Rattle.std.specs.Prelude.{◌≡◌, ◌≢◌, ℕ, Contains}
 use Rattle.heap_model.specs.declared.block.Block.{Block}
 use Rattle.heap_model.specs.Blocks.{IsIn}
-use Rattle.block_heap.specs.View.{View}
-use Rattle.block_heap.specs.Words.{IsOwn, KeepsWord, KeepsPending}
-use Rattle.block_heap.specs.Tickets.{Runs}
-use Rattle.block_heap.specs.Calls.{SameRefusals}
+use Rattle.heap_seat.specs.View.{View}
+use Rattle.heap_seat.specs.Words.{IsOwn, KeepsWord, KeepsPending}
+use Rattle.heap_seat.specs.Tickets.{Runs}
+use Rattle.heap_seat.specs.Calls.{SameRefusals}
 
 -- at most this block is held no more, and no own word outside it is stored to
 pub record MayFree (b : Block) (v w : View) : Type 0 where

@@ -1,0 +1,168 @@
+-- Worked examples by computation: what a request gets, looks, spots, lines, counts and a refusal.
+use Rattle.std.specs.Prelude.{◌≡◌, ◌+◌, ◌*◌, ◌/◌, ◌<◌, ◌≤◌, ◌⊎◌, ⊤, nat_le, ℕ, [], ◌∷◌, None, Some, refl}
+use Rattle.std.proofs.Common.{arith, inl, inr, ap, ◌∙◌}
+use Rattle.std.proofs.lemmas.Bool.{leb-true}
+use Rattle.heap_model.specs.declared.block.Block.{Block}
+use Rattle.heap_model.specs.Sizes.{IsLeastClassFor, size_of, class_sizes, largest_small, span_of}
+use Rattle.heap_model.proofs.SizeLemmas.{at_class, size_of-words, few_words}
+use Rattle.heap_seat.specs.declared.fault.Looks.{Looks}
+use Rattle.heap_seat.specs.declared.look.Look.{Look}
+use Rattle.heap_seat.specs.declared.spot.Spot.TheVariants.{InBlock, Root}
+use Rattle.heap_seat.specs.Alloc.{IsSizeFor, of_class, of_superblocks}
+use Rattle.heap_seat.specs.Calls.{counted, IsWrittenWith}
+use Rattle.heap_seat.specs.Looks.{FoundNoRoom, FoundNone, KnowsNoLess, IsMade, KeepsLooks}
+use Rattle.heap_seat.specs.View.{View, word_of}
+
+-- the least class for no byte is 1, and that for the most bytes that a class holds is 20
+least_of_none : IsLeastClassFor 0 1
+least_of_none = record {
+  is_class = record { some = omega arith; last = omega arith };
+  holds = omega arith;
+  least = λ other is holds. is.some;
+}
+
+least_of_most : IsLeastClassFor 14336 20
+unfolding size_of class_sizes
+least_of_most = record {
+  is_class = record { some = omega arith; last = omega arith };
+  holds = omega arith;
+  least = λ other is holds.
+      let most : size_of other ≤ 12288 + 2048 * (other / 20) = leb-true (size_of other) (12288 + 2048 * (other / 20)) (at_class (λ c. nat_le (size_of c) (12288 + 2048 * (c / 20))) refl other is) in
+      omega arith;
+}
+
+-- a request of no bytes gets 16, and one of 14,336 gets as many
+sizes_of_class : IsSizeFor 0 16 × IsSizeFor 14336 14336
+unfolding size_of class_sizes
+sizes_of_class = (of_class 1 least_of_none, of_class 20 least_of_most)
+
+-- one byte more takes a superblock, and one byte more than a superblock takes two
+sizes_of_superblocks : IsSizeFor 14337 65536 × IsSizeFor 65537 131072
+sizes_of_superblocks = (of_superblocks (omega arith), of_superblocks (omega arith))
+
+-- a request of no bytes never gets a block of the second class, nor does one that no class holds get one of a class
+size_is : (bytes size : ℕ) → IsSizeFor bytes size → ((c : ℕ) × IsLeastClassFor bytes c × (size ≡ size_of c)) ⊎ ((largest_small < bytes) × (size ≡ 65536 * span_of bytes))
+size_is bytes _ (of_class c least) = inl (c, least, refl)
+size_is bytes _ (of_superblocks large) = inr (large, refl)
+
+not_second_class : IsSizeFor 0 32 → ⊥
+unfolding size_of class_sizes
+not_second_class is = elim (size_is 0 32 is) as (λ _. ⊥) [
+  | inl small ↦
+      let least = small.1 in
+      let some = least.is_class.some in
+      let first = least.least 1 (record { some = omega arith; last = omega arith }) (omega arith) in
+      let one : small.0 ≡ 1 = omega arith in
+      let size : 32 ≡ size_of 1 = small.2 ∙ ap size_of one in
+      omega arith
+  | inr large ↦ omega (arith, large.0)
+]
+
+not_of_class : IsSizeFor 14337 14336 → ⊥
+not_of_class is = elim (size_is 14337 14336 is) as (λ _. ⊥) [
+  | inl small ↦
+      let least = small.1 in
+      let words = few_words small.0 least.is_class in
+      let size = size_of-words small.0 least.is_class in
+      let holds = least.holds in
+      omega arith
+  | inr large ↦ omega (arith, large.1)
+]
+
+-- a seat of a heap of two superblocks with this look at `used`, which draws this ticket next
+abbrev seat_with : Look → ℕ → View
+seat_with look next = record {
+  held = [];
+  roots = [];
+  volatile = λ word. None;
+  durable = λ word. None;
+  pending = [];
+  capacity = 2;
+  budget = 100;
+  next = next;
+  stopped = None;
+  small_calls = 0;
+  large_calls = 0;
+  taken = 1;
+  refusals = 0;
+  refused_bytes = 0;
+  refused_looks = record { class_head = 0; free_head = 0; used = 0 };
+  used_look = look;
+  head_look = λ list. record { seen = 0; ticket = None; taken = 0 };
+}
+
+abbrev look_with : ℕ → ℕ → Look
+look_with seen taken = record { seen = seen; ticket = Some 7; taken = taken }
+
+-- one superblock more of which the seat took one is no less; one that only the seat took is
+knows_no_less : KnowsNoLess (seat_with (look_with 3 1) 0) (seat_with (look_with 5 2) 0) × (KnowsNoLess (seat_with (look_with 3 1) 0) (seat_with (look_with 3 2) 0) → ⊥)
+knows_no_less = (omega arith, λ less. omega arith)
+
+-- two superblocks were asked for, and of two one had been taken, as this call saw
+abbrev one_used : Looks
+one_used = record { class_head = 0; free_head = 0; used = 1 }
+
+two_asked : FoundNoRoom (λ _. ⊤) 65537 one_used (seat_with (look_with 0 0) 7) (seat_with (look_with 1 1) 8)
+two_asked = record {
+  used = record { is = refl; ticket = 7; by = refl; drawn = record { from = omega arith; until = omega arith }; taken = refl };
+  past = omega arith;
+  class = λ c least.
+      let words = few_words c least.is_class in
+      let size = size_of-words c least.is_class in
+      let holds = least.holds in
+      absurd (omega arith);
+  free = λ small. absurd (omega arith);
+  large = λ large. (refl, refl);
+}
+
+-- for one superblock there was room; and a look of an earlier call, or from before the seat took one, shows nothing
+one_asked : (v w : View) → w.capacity ≡ 2 → FoundNoRoom (λ _. ⊤) 14337 one_used v w → ⊥
+one_asked v w two found = let past = found.past in omega arith
+
+seen_earlier : FoundNoRoom (λ _. ⊤) 65537 one_used (seat_with (look_with 1 1) 8) (seat_with (look_with 1 1) 9) → ⊥
+seen_earlier found =
+    let last = found.used in
+    let by : Some 7 ≡ Some last.ticket = last.by in
+    let from : 8 ≤ last.ticket = last.drawn.from in
+    let same : 7 ≡ last.ticket = cc in
+    omega arith
+
+taken_since : FoundNoRoom (λ _. ⊤) 65537 one_used (seat_with (look_with 1 0) 7) (seat_with (look_with 1 0) 8) → ⊥
+taken_since found = absurd (let taken : 0 ≡ 1 = found.used.taken in omega arith)
+
+-- block 1 of class 3, of 6 words, in superblock 0 of a heap of one: the border of a line is behind its second word
+abbrev small_block : Block
+small_block = record { first_word = 1078; words = 6 }
+
+words_of_spots : word_of (InBlock small_block 1) ∷ word_of (Root 2) ∷ [] ≡ 1079 ∷ 42 ∷ []
+words_of_spots = refl
+
+-- a write-back takes the block's words of the line, and neither those behind the border nor those of its neighbour
+written_with : IsWrittenWith (InBlock small_block 1) 1078 × IsWrittenWith (InBlock small_block 2) 1083 × IsWrittenWith (Root 2) 42
+written_with = ((record { from = omega arith; until = omega arith }, refl), (record { from = omega arith; until = omega arith }, refl), refl)
+
+not_written_with : (IsWrittenWith (InBlock small_block 1) 1080 → ⊥) × (IsWrittenWith (InBlock small_block 1) 1077 → ⊥) × (IsWrittenWith (Root 2) 43 → ⊥)
+not_written_with = (λ behind. omega (arith, behind.1), λ neighbour. let from = neighbour.0.from in omega arith, λ other. omega arith)
+
+-- a call counts until the seat stops
+counts : counted None 4 ∷ counted (Some 9) 4 ∷ [] ≡ 5 ∷ 4 ∷ []
+counts = refl
+
+-- a look may be made by a ticket of the calls between, with what was taken by then; an earlier ticket's is none of theirs, nor is one that knows of more taken
+made_between : KeepsLooks (seat_with (look_with 0 0) 7) (seat_with (look_with 1 1) 8) × (IsMade 8 9 1 1 (look_with 1 1) → ⊥) × (IsMade 7 8 1 1 (look_with 1 2) → ⊥)
+made_between = (
+  record {
+    used = inr (record { ticket = 7; by = refl; since = omega arith; below = omega arith; least = omega arith; most = omega arith });
+    heads = λ list. inl refl;
+  },
+  λ made.
+      let by : Some 7 ≡ Some made.ticket = made.by in
+      let since = made.since in
+      let same : 7 ≡ made.ticket = cc in
+      omega arith,
+  λ made. let most = made.most in omega arith,
+)
+
+-- a list that a request doesn't read has 0 for its look, whatever was seen there
+unread_list : FoundNone (λ list. list ≡ 0) (seat_with (look_with 0 0) 7) (seat_with (look_with 0 0) 8) 3 0
+unread_list = record { found = λ read. absurd (omega (arith, read)); unread = λ not. refl }

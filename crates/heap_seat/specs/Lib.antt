@@ -1,0 +1,10 @@
+pub mod Alloc
+pub mod Calls
+pub mod Examples
+pub mod Free
+pub mod Looks
+pub mod Rows
+pub mod Sound
+pub mod Tickets
+pub mod View
+pub mod Words
