@@ -6,10 +6,6 @@ use Rattle.line_memory.specs.View.{View, word_count, volatile_at, durable_at}
 abbrev pub IsValueOf : View → ℕ → ℕ → Type 0
 IsValueOf v word x = (x ≡ durable_at v word) ⊎ (x ≡ volatile_at v word)
 
--- a mixed image has at each word one of its two values
-abbrev pub IsMixed : View → (ℕ → ℕ) → Type 0
-IsMixed v image = (word : ℕ) → IsValueOf v word (image word)
-
 -- each durable value is what it was, or what loads saw before
 abbrev pub OnlyWritesBack : View → View → Type 0
 OnlyWritesBack v w = (word : ℕ) → IsValueOf v word (durable_at w word)
