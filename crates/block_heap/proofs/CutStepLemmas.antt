@@ -40,6 +40,7 @@ use Rattle.block_heap.proofs.MediumLemmas.{stores_then, stores_more}
 use Rattle.block_heap.proofs.RunningLemmas.{set_is, settled_kept, running_words}
 use Rattle.block_heap.proofs.SpendLemmas.{spends_none, spends_by}
 use Rattle.block_heap.proofs.StableLemmas.{works_of, works_then, works_raised}
+use Rattle.block_heap.proofs.LookLemmas.{looks_kept, IsNextLook, looked_at_head, looked_at_used}
 use Rattle.block_heap.proofs.RefillLemmas.{IsMoved, moved_word, moved_info, moved_used, serves_of, drains_none, made, caches_filled, caches_other, none_cached, head_moved, popped_head, popped_of, popped_pops, popped_list, popped_place}
 
 -- a word of a superblock that no held block has a part in, and its info and anchor: an allocator may store to them
@@ -235,15 +236,24 @@ module _ (p : Parts) (class d : ℕ) (popped : Popped) (w : View) (look : Look) 
 
   module _ (q : Parts) (stores : StoresOnly (IsDivideWord p.capacity d) w q.words)
       (same : SameBut (record p { words = w; head_looks = set p.head_looks 0 look }) q) where
-    pub free_serves : Serves (held_in p) p q
-    free_serves = serves_of p q (λ word. IsMoved p.capacity word ⊎ IsDivideWord p.capacity d word) run
+    abbrev IsFreeWord : ℕ → Type 0
+    IsFreeWord word = IsMoved p.capacity word ⊎ IsDivideWord p.capacity d word
+
+    free_stores : StoresOnly IsFreeWord p.words q.words
+    free_stores = stores_then IsFreeWord p.words w q.words
+        (stores_more (IsMoved p.capacity) IsFreeWord p.words w (λ word m. inl m) moved)
+        (stores_more (IsDivideWord p.capacity d) IsFreeWord w q.words (λ word t. inr t) stores)
+
+    free_not_used : IsFreeWord used_word → ⊥
+    free_not_used t = elim t as (λ _. ⊥) [ inl m ↦ moved_used p.capacity used_word m refl | inr t ↦ divide_before p.capacity d used_word (omega arith) t ]
+
+    pub free_serves : IsNextLook p look → Serves (held_in p) p q
+    free_serves next = serves_of p q IsFreeWord run
         (λ word t. elim t as (λ _. IsAllocatorWord p.capacity (held_in p) word)
         [ inl m ↦ moved_word p.capacity (held_in p) word m | inr t ↦ divide_word p.capacity d (held_in p) word free_within free_none t ])
-        (λ t. elim t as (λ _. ⊥) [ inl m ↦ moved_used p.capacity used_word m refl | inr t ↦ divide_before p.capacity d used_word (omega arith) t ])
-        (stores_then (λ word. IsMoved p.capacity word ⊎ IsDivideWord p.capacity d word) p.words w q.words
-        (stores_more (IsMoved p.capacity) (λ word. IsMoved p.capacity word ⊎ IsDivideWord p.capacity d word) p.words w (λ word m. inl m) moved)
-        (stores_more (IsDivideWord p.capacity d) (λ word. IsMoved p.capacity word ⊎ IsDivideWord p.capacity d word) w q.words (λ word t. inr t) stores))
-        same.capacity same.used_look same.taken
+        free_not_used free_stores same.capacity same.used_look same.taken
+        (looked_at_head p q 0 look (let long = run.looks_long in omega arith) next (let drew = pop.goes.drew in let more = stores.drawn in omega arith)
+        (let e : q.taken ≡ p.taken = same.taken in omega arith) same.used_look same.head_looks)
 
     module _ (empty : (cache_at p.caches class).count ≡ 0) (cuts : Cuts class d (record p { words = w; head_looks = set p.head_looks 0 look }) q) where
       image_cut : IsCut p.capacity (λ word. volatile_at w word) (image_of q) class d
@@ -288,7 +298,7 @@ module _ (p : Parts) (class d : ℕ) (popped : Popped) (w : View) (look : Look) 
       pub free_spends : Spends 1 class p q
       free_spends =
           let long : length (run.shape.listed 0) ≡ length (d ∷ rest) = ap length listed in
-          let used = free_serves.works.used in
+          let used : image_of q used_word ≡ image_of p used_word = free_stores.volatile used_word free_not_used in
           spends_by 1 class p q run (run.shape.listed class) rest is free_running same.capacity
           (free_list class (run.shape.listed class) (let last = is.last in omega arith)
           (with_at_other run.shape.listed 0 rest class (λ e. let from = is.some in omega arith)))
@@ -308,7 +318,7 @@ module _ (p : Parts) (w : View) (run : IsRunning p) (stores : StoresOnly (λ wor
 
   -- it may stop within
   pub fresh_stops : Serves (held_in p) p (record p { words = w })
-  fresh_stops = record { capacity = refl; works = raised; knows = refl; taken = omega arith }
+  fresh_stops = record { capacity = refl; works = raised; knows = refl; taken = omega arith; looks = looks_kept p (record p { words = w }) refl }
 
   module _ (class : ℕ) (fresh : Fresh) (look : Look) (took : IsFresh p.capacity 1 fresh p.words w) (seen : look.seen ≡ fresh.used)
       (taken_is : look.taken ≡ p.taken) where
@@ -392,8 +402,8 @@ module _ (p : Parts) (w : View) (run : IsRunning p) (stores : StoresOnly (λ wor
 
       module _ (q : Parts) (cut_stores : StoresOnly (IsDivideWord p.capacity d) w q.words)
           (same : SameBut (record p { words = w; used_look = look; taken = p.taken + 1 }) q) where
-        pub fresh_serves : Serves (held_in p) p q
-        fresh_serves =
+        pub fresh_serves : IsNextLook p look → Serves (held_in p) p q
+        fresh_serves next =
             let seen_now : q.used_look.seen ≡ look.seen = ap (λ (l : Look). l.seen) same.used_look in
             let then : q.used_look.taken ≡ look.taken = ap (λ (l : Look). l.taken) same.used_look in
             let now : q.taken ≡ p.taken + 1 = same.taken in
@@ -407,6 +417,7 @@ module _ (p : Parts) (w : View) (run : IsRunning p) (stores : StoresOnly (λ wor
                   (λ t. divide_before p.capacity d used_word (omega arith) t) cut_stores settled.used).0;
               knows = omega arith;
               taken = omega arith;
+              looks = looked_at_used p q look next (let drew = took.goes.drew in let more = cut_stores.drawn in omega arith) (omega arith) same.used_look same.head_looks;
             }
 
         module _ (is : IsClass class) (empty : (cache_at p.caches class).count ≡ 0)

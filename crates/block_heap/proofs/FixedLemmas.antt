@@ -2,16 +2,18 @@
 use Rattle.std.proofs.Common.{◌≡◌, ℕ, ◌+◌, ◌*◌, ◌≤◌, inl, inr, List, refl, ap, sym, subst, ◌∙◌, get_or, arith}
 use Rattle.std.specs.Prelude.{slice_index}
 use Rattle.heap_model.specs.declared.block.Block.{Block}
-use Rattle.heap_model.specs.Header.{capacity_of}
+use Rattle.heap_model.specs.Header.{capacity_of, used_of}
 use Rattle.heap_shape.specs.Moves.{TakesFrom}
 use Rattle.line_memory.specs.View.{View, volatile_at, durable_at}
 use Rattle.block_heap.specs.Closing.{IsOpened, KeepsFixed}
 use Rattle.block_heap.specs.Medium.{StoresOnly}
-use Rattle.block_heap.specs.Parts.{held_in}
+use Rattle.block_heap.specs.Parts.{held_in, image_of}
 use Rattle.block_heap.specs.Running.{Serves}
-use Rattle.block_heap.specs.SeqState.{SeqState, IsSeqHeap, all_roots}
+use Rattle.block_heap.specs.SeqState.{SeqState, IsSeqHeap, all_roots, seat_of}
 use Rattle.heap_seat.specs.Words.{IsOwn}
 use Rattle.block_heap.specs.Works.{IsAllocatorWord, IsFixed}
+use Rattle.heap_seat.specs.Rows.{IsRow}
+use Rattle.heap_model.specs.Geometry.{used_word}
 use Rattle.block_heap.proofs.StableLemmas.{not_fixed, own_not_fixed, stable_fewer}
 
 -- no call at all, and two rows of calls
@@ -86,3 +88,19 @@ fixed_free s seen t b heap same takes serves draws =
     let stable = stable_fewer s.parts.capacity (held_in s.parts) (held_in t.parts) s.parts.words takes.only heap.lasts.stable in
     fixed_by (IsAllocatorWord s.parts.capacity (held_in t.parts)) s seen t same serves.capacity serves.works.stores (λ word may is.
     not_fixed s.parts.capacity (held_in t.parts) s.parts.words word stable may is) serves.knows draws
+
+-- the last look tells what was taken as the heap was opened
+pub looks_opened : (words : List ℕ) (held : List Block) (budget : ℕ) (s t : SeqState) → IsOpened words held budget s → KeepsFixed s t
+    → t.parts.used_look.seen ≡ used_of (slice_index words) + t.parts.used_look.taken
+looks_opened words held budget s t opened keeps =
+    let looks = keeps.looks in
+    let seen = opened.opens.used in
+    let none = opened.opens.taken in
+    let knows = opened.opens.running.knows in
+    let used : image_of s.parts used_word ≡ used_of (slice_index words) = ap (λ (v : View). volatile_at v used_word) opened.opens.words_are in
+    omega arith
+
+-- a row of calls draws few tickets
+pub row_draws : (small large most : ℕ) (s t : SeqState) → KeepsFixed s t → IsRow small large most (seat_of s) (seat_of t)
+    → t.parts.words.drawn ≤ s.parts.words.drawn + (small + 131072 * large)
+row_draws small large most s t keeps row = let draws = keeps.draws in let few = row.small_few in let some = row.large_few in omega arith

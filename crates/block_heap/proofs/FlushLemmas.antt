@@ -34,6 +34,7 @@ use Rattle.block_heap.specs.Running.{IsRunning, IsCacheOf, Serves}
 use Rattle.block_heap.specs.Works.{IsAllocatorWord, is_head, is_anchor, is_link, is_inside}
 use Rattle.block_heap.proofs.MediumLemmas.{stores_then, stores_more}
 use Rattle.block_heap.proofs.RunningLemmas.{set_is}
+use Rattle.block_heap.proofs.LookLemmas.{looks_of}
 use Rattle.block_heap.proofs.SmallLemmas.{changed, KeepsFixed, keeps_fixed, running_after, caches_set, serves_of}
 
 -- a walk along fewer blocks from where a longer one begins goes along its front
@@ -190,7 +191,7 @@ module _ (p : Parts) (class : ℕ) (is : IsClass class) (run : IsRunning p) (fro
   both_low list word low not_anchor not_link not_head (inr (inl at)) = not_head at
   both_low list word low not_anchor not_link not_head (inr (inr at)) = not_link at
 
-  pub gave_serves : (q : Parts) → q.capacity ≡ p.capacity → q.used_look ≡ p.used_look → q.taken ≡ p.taken
+  pub gave_serves : (q : Parts) → q.capacity ≡ p.capacity → looks_of q ≡ looks_of p → q.taken ≡ p.taken
       → StoresOnly (IsGiveWord front.d front.batch) p.words q.words → Serves (held_in p) p q
   gave_serves q capacity look taken stores = serves_of p q (held_in p) (IsGiveWord front.d front.batch) run capacity look taken give_word
       (λ at. give_low used_word (omega arith) (omega arith) at) stores
@@ -201,7 +202,7 @@ module _ (p : Parts) (class : ℕ) (is : IsClass class) (run : IsRunning p) (fro
       (stores_more (IsGiveWord front.d front.batch) (IsEitherWord list) p.words w (λ word at. inl at) given)
       (stores_more (IsPushWord list front.d) (IsEitherWord list) w x (λ word at. inr at) pushed)
 
-  pub pushed_serves : (w : View) (list : ℕ) (q : Parts) → list < lists → q.capacity ≡ p.capacity → q.used_look ≡ p.used_look → q.taken ≡ p.taken
+  pub pushed_serves : (w : View) (list : ℕ) (q : Parts) → list < lists → q.capacity ≡ p.capacity → looks_of q ≡ looks_of p → q.taken ≡ p.taken
       → StoresOnly (IsGiveWord front.d front.batch) p.words w → StoresOnly (IsPushWord list front.d) w q.words → Serves (held_in p) p q
   pushed_serves w list q below capacity look taken given pushed = serves_of p q (held_in p) (IsEitherWord list) run capacity look taken
       (λ word at. both_word list word below at)

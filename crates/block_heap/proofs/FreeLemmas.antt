@@ -30,6 +30,7 @@ use Rattle.block_heap.specs.Running.{IsRunning, AreShort, Serves}
 use Rattle.block_heap.specs.Flush.{KeepsAll}
 use Rattle.block_heap.specs.Works.{IsAllocatorWord, is_inside}
 use Rattle.block_heap.proofs.RunningLemmas.{set_is}
+use Rattle.block_heap.proofs.LookLemmas.{looks_of}
 use Rattle.block_heap.proofs.SmallLemmas.{changed, KeepsFixed, keeps_fixed, running_after, caches_set, other_cache, serves_of, serves_then, even_words, even_product}
 
 -- a superblock of a class with a held block stands in the list of its class, or is full
@@ -117,7 +118,7 @@ module _ (p : Parts) (class : ℕ) (is : IsClass class) (run : IsRunning p) (b :
     not_first : (word : ℕ) → word < start_word p.capacity 0 → word ≡ b.first_word → ⊥
     not_first word low at = let from = inside.0 in omega arith
 
-    pub freed_serves : (q : Parts) → q.capacity ≡ p.capacity → q.used_look ≡ p.used_look → q.taken ≡ p.taken
+    pub freed_serves : (q : Parts) → q.capacity ≡ p.capacity → looks_of q ≡ looks_of p → q.taken ≡ p.taken
         → StoresOnly (λ word. word ≡ b.first_word) p.words q.words → Serves (held_of h) p q
     freed_serves q capacity look taken stores = serves_of p q (held_of h) (λ word. word ≡ b.first_word) run capacity look taken freed_word
         (λ at. not_first used_word (omega arith) at) stores

@@ -19,6 +19,7 @@ use Rattle.block_heap.proofs.AccountLemmas.{accounted_same}
 use Rattle.block_heap.proofs.MediumLemmas.{stores_then}
 use Rattle.block_heap.proofs.RunningLemmas.{running_words}
 use Rattle.block_heap.proofs.SmallLemmas.{first_cached, first_of_d, serves_of, serves_none, serves_then}
+use Rattle.block_heap.proofs.LookLemmas.{looks_of}
 use Rattle.block_heap.proofs.FlushLemmas.{walk_front}
 
 -- the cache leads along so many blocks of superblock d, up to the last one, which leads to the next
@@ -56,7 +57,7 @@ module _ (p q : Parts) (most : ℕ) (run : IsRunning p) (loaded : HasLoaded most
   }
 
   pub loaded_serves : Serves (held_in p) p q
-  loaded_serves = serves_of p q (held_in p) (λ _. ⊥) run (ap (λ x. x.capacity) loaded.same) (ap (λ x. x.used_look) loaded.same)
+  loaded_serves = serves_of p q (held_in p) (λ _. ⊥) run (ap (λ x. x.capacity) loaded.same) (ap looks_of loaded.same)
       (ap (λ x. x.taken) loaded.same)
       (λ word out. absurd out) (λ out. out) loaded.stores
 
@@ -78,7 +79,7 @@ module _ (p q : Parts) (most : ℕ) (run : IsRunning p) (loaded : HasLoaded most
   pub stopped_serves : (r : Parts) → r ≡ record q { words = r.words } → StoresOnly (λ _. ⊥) q.words r.words → Serves (held_in p) p r
   stopped_serves r same stores = serves_of p r (held_in p) (λ _. ⊥) run
       (ap (λ (x : Parts). x.capacity) same ∙ ap (λ (x : Parts). x.capacity) loaded.same)
-      (ap (λ (x : Parts). x.used_look) same ∙ ap (λ (x : Parts). x.used_look) loaded.same)
+      (ap looks_of same ∙ ap looks_of loaded.same)
       (ap (λ (x : Parts). x.taken) same ∙ ap (λ (x : Parts). x.taken) loaded.same)
       (λ word out. absurd out) (λ out. out) (stores_then (λ _. ⊥) p.words q.words r.words loaded.stores stores)
 

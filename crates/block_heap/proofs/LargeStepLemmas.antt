@@ -31,6 +31,7 @@ use Rattle.block_heap.specs.Works.{UsedFits, is_info}
 use Rattle.block_heap.proofs.AccountLemmas.{accounted_same}
 use Rattle.block_heap.proofs.RunningLemmas.{set_is, running_words}
 use Rattle.block_heap.proofs.HeldLemmas.{has_map}
+use Rattle.block_heap.proofs.LookLemmas.{IsNextLook, looked_at_used, looks_kept}
 use Rattle.block_heap.proofs.StableLemmas.{works_of, works_then, works_raised}
 
 -- what was found where too few superblocks were left, and where there were enough
@@ -79,8 +80,8 @@ looked_accounted p count fresh u look is none =
     accounted_same p (record p { words = u; used_look = look }) refl (fresh_none p.capacity count fresh p.words u is none).0 refl
 
 pub serves_looked : (p : Parts) (count : ℕ) (fresh : Fresh) (u : View) (look : Look) → IsRunning p → IsFresh p.capacity count fresh p.words u → fresh.first ≡ None
-    → look.seen ≡ fresh.used → look.taken ≡ p.taken → Serves (held_in p) p (record p { words = u; used_look = look })
-serves_looked p count fresh u look run is none seen when =
+    → look.seen ≡ fresh.used → look.taken ≡ p.taken → IsNextLook p look → Serves (held_in p) p (record p { words = u; used_look = look })
+serves_looked p count fresh u look run is none seen when next =
     let got = fresh_none p.capacity count fresh p.words u is none in
     let knows = run.knows in
     let used = is.used in
@@ -89,7 +90,19 @@ serves_looked p count fresh u look run is none seen when =
       works = (works_of p.capacity (held_in p) (λ _. ⊥) p.words u (λ word t. absurd t) (λ t. t) got.2 run.settled.used).0;
       knows = omega arith;
       taken = omega arith;
+      looks = looked_at_used p (record p { words = u; used_look = look }) look next is.goes.drew (omega arith) refl refl;
     }
+
+-- raising `used` may stop within
+pub large_stops : (p : Parts) (count : ℕ) (w : View) → IsRunning p → StoresOnly (λ word. word ≡ used_word) p.words w
+    → MayStore used_word (image_of p used_word + count) p.words w → (UsedFits p.capacity p.words → UsedFits p.capacity w) → Serves (held_in p) p (record p { words = w })
+large_stops p count w run stores crash fits = record {
+  capacity = refl;
+  works = works_raised p.capacity (held_in p) (image_of p used_word + count) p.words w stores crash run.settled.used (omega arith) fits;
+  knows = refl;
+  taken = omega arith;
+  looks = looks_kept p (record p { words = w }) refl;
+}
 
 -- a word that is durable as loads see it stays so where it isn't stored to
 word_settled : (to : ℕ → Type 0) (v w : View) (word : ℕ) → StoresOnly to v w → (to word → ⊥) → durable_at v word ≡ volatile_at v word → durable_at w word ≡ volatile_at w word
@@ -142,8 +155,9 @@ module _ (p : Parts) (count d : ℕ) (fresh : Fresh) (u : View) (look : Look) (r
           let at = (set_is p.words.volatile u.volatile used_word (fresh.used + count) inside got.2).at in
           omega (arith, got.0)
 
-      pub join_serves : (blocks : HeldBlocks) → Serves (held_in p) p (record p { words = w; blocks = blocks; taken = p.taken + count; used_look = look })
-      join_serves blocks = record {
+      pub join_serves : (blocks : HeldBlocks) → IsNextLook p look
+          → Serves (held_in p) p (record p { words = w; blocks = blocks; taken = p.taken + count; used_look = look })
+      join_serves blocks next = record {
         capacity = refl;
         works = works_then p.capacity (held_in p) p.words u w
             (works_raised p.capacity (held_in p) (image_of p used_word + count) p.words u stores may run.settled.used (omega arith) fits)
@@ -152,6 +166,8 @@ module _ (p : Parts) (count d : ℕ) (fresh : Fresh) (u : View) (look : Look) (r
             (λ e. omega arith) info_stores (let at = raised in omega (arith, got.0, got.3))).0;
         knows = let knows = run.knows in let used = is_fresh.used in omega arith;
         taken = omega arith;
+        looks = looked_at_used p (record p { words = w; blocks = blocks; taken = p.taken + count; used_look = look }) look next
+            (let drew = is_fresh.goes.drew in let more = info_stores.drawn in omega arith) (omega arith) refl refl;
       }
 
       module _ (divided added : HeldBlocks) (first_word : ℕ) (persisted : IsPersisted (info_word d) (large_info count) u w)

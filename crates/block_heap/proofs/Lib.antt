@@ -4,6 +4,8 @@ pub mod AnchorLemmas
 pub mod DivideLemmas
 pub mod HeldLemmas
 pub mod LargeStepLemmas
+pub mod ImageLemmas
+pub mod LookLemmas
 pub mod MediumLemmas
 pub mod OpeningLemmas
 pub mod OpenedLemmas

@@ -17,6 +17,7 @@ use Rattle.block_heap.specs.Running.{IsRunning, Serves}
 use Rattle.block_heap.specs.Serving.{HasRoom, in_cache, in_class_list, in_free_list, in_fresh}
 use Rattle.block_heap.specs.Steps.{head_at, look_at, IsLook, IsEmptyList, LeadsAlong, Fills, FindsFirst, FindsEmpty, Recycles, Spends, used_up}
 use Rattle.block_heap.proofs.SpendLemmas.{spends_none, spends_then}
+use Rattle.std.proofs.lemmas.Bool.{cases_eq}
 use Rattle.block_heap.proofs.RefillLemmas.{serves_same, serves_then, drains_none, drains_then}
 
 -- nothing done yet, and two rows of steps
@@ -240,3 +241,16 @@ module _ (class : ℕ) (p a b : Parts) (is : IsClass class) (a_serves : Serves (
     pub fresh_refills : (cache_at p.caches class).count ≡ 0 → (some : Bool) → FindsFresh class some b q → Refills class some p q
     fresh_refills empty true fresh = some_fresh fresh
     fresh_refills empty false fresh = none_found fresh empty
+
+-- blocks were found in the list of the class, or in the free list behind it
+pub partial_refills : (class : ℕ) (p a : Parts) → FindsPartial class true p a → Refills class true p a
+partial_refills class p a found = (found.0, in_class_list found.1)
+
+pub free_refills : (class : ℕ) (p a b : Parts) → FindsPartial class false p a → FindsFree class true a b → Refills class true p b
+free_refills class p a b before found = (
+  found.0,
+  elim (cases_eq (head_first (head_at p class)) 0) as (λ _. HasRoom p class) [
+    | inl empty ↦ in_free_list (λ none. found.1 (empty_same p a 0 (before.4 empty) none))
+    | inr some ↦ in_class_list some
+  ],
+)

@@ -22,11 +22,12 @@ use Rattle.heap_seat.specs.declared.look.Look.{Look}
 use Rattle.block_heap.specs.Links.{link_of, IsPopped}
 use Rattle.block_heap.specs.Medium.{StoresOnly}
 use Rattle.block_heap.specs.Parts.{Parts, image_of, held_in, cache_at}
-use Rattle.block_heap.specs.Running.{IsRunning, IsCacheOf, KnowsSizes, IsSettled, Serves}
+use Rattle.block_heap.specs.Running.{IsRunning, IsCacheOf, KnowsSizes, IsSettled, Serves, MakesLooks}
 use Rattle.block_heap.specs.Steps.{head_at, IsEmptyList, Fills}
 use Rattle.block_heap.specs.Works.{Works, IsAllocatorWord, is_head, is_anchor, is_link}
 use Rattle.block_heap.proofs.MediumLemmas.{stores_more}
 use Rattle.block_heap.proofs.RunningLemmas.{set_is, running_words}
+use Rattle.block_heap.proofs.LookLemmas.{looks_kept, looks_then, IsNextLook, looked_at_head}
 use Rattle.block_heap.proofs.StableLemmas.{works_of, works_then, works_none}
 
 -- a head, or the anchor or the link of a superblock
@@ -54,8 +55,8 @@ moved_word capacity held word (a_link d below at) = is_link d below at
 -- a row of steps that doesn't store to `used`; one that stores to such words alone, or none at all; and two rows
 pub serves_of : (p q : Parts) (to : ℕ → Type 0) → IsRunning p → ((word : ℕ) → to word → IsAllocatorWord p.capacity (held_in p) word) → (to used_word → ⊥)
     → StoresOnly to p.words q.words
-    → q.capacity ≡ p.capacity → q.used_look ≡ p.used_look → q.taken ≡ p.taken → Serves (held_in p) p q
-serves_of p q to run are not_used stores capacity look taken =
+    → q.capacity ≡ p.capacity → q.used_look ≡ p.used_look → q.taken ≡ p.taken → MakesLooks p q → Serves (held_in p) p q
+serves_of p q to run are not_used stores capacity look taken looks =
     let seen : q.used_look.seen ≡ p.used_look.seen = ap (λ (l : Look). l.seen) look in
     let then : q.used_look.taken ≡ p.used_look.taken = ap (λ (l : Look). l.taken) look in
     record {
@@ -63,16 +64,17 @@ serves_of p q to run are not_used stores capacity look taken =
       works = (works_of p.capacity (held_in p) to p.words q.words are not_used stores run.settled.used).0;
       knows = omega arith;
       taken = omega arith;
+      looks = looks;
     }
 
 pub serves_moved : (p q : Parts) → IsRunning p → StoresOnly (IsMoved p.capacity) p.words q.words → q.capacity ≡ p.capacity → q.used_look ≡ p.used_look
-    → q.taken ≡ p.taken → Serves (held_in p) p q
-serves_moved p q run stores capacity look taken =
+    → q.taken ≡ p.taken → MakesLooks p q → Serves (held_in p) p q
+serves_moved p q run stores capacity look taken looks =
     serves_of p q (IsMoved p.capacity) run (λ word m. moved_word p.capacity (held_in p) word m) (λ m. moved_used p.capacity used_word m refl) stores capacity
-    look taken
+    look taken looks
 
 pub serves_same : (p : Parts) → Serves (held_in p) p p
-serves_same p = record { capacity = refl; works = works_none p.capacity (held_in p) p.words; knows = refl; taken = omega arith }
+serves_same p = record { capacity = refl; works = works_none p.capacity (held_in p) p.words; knows = refl; taken = omega arith; looks = looks_kept p p refl }
 
 pub serves_then : (p u q : Parts) → held_in u ≡ held_in p → Serves (held_in p) p u → Serves (held_in u) u q → Serves (held_in p) p q
 serves_then p u q held a b =
@@ -87,6 +89,7 @@ serves_then p u q held a b =
           (subst (λ (h : List Block). Works u.capacity h u.words q.words) held b.works));
       knows = omega arith;
       taken = omega arith;
+      looks = looks_then p u q a.works.stores.drawn b.works.stores.drawn a.taken b.taken a.looks b.looks;
     }
 
 -- what is to be drained where nothing changes, and over two rows of steps
@@ -289,8 +292,9 @@ module _ (p : Parts) (class list : ℕ) (popped : Popped) (w : View) (look : Loo
       (running_words p w (IsMoved p.capacity) run pop.goes.running same_words moved (λ d less m. moved_info p.capacity d (info_word d) m refl)
       (λ m. moved_used p.capacity used_word m refl) pop.goes.below)
 
-  pub emptied_serves : Serves (held_in p) p emptied
-  emptied_serves = serves_moved p emptied run moved refl refl refl
+  pub emptied_serves : IsNextLook p look → Serves (held_in p) p emptied
+  emptied_serves next = serves_moved p emptied run moved refl refl refl
+      (looked_at_head p emptied list look (let long = run.looks_long in omega arith) next pop.goes.drew (omega arith) refl refl)
 
   pub emptied_fills : Fills class p emptied
   emptied_fills = record {

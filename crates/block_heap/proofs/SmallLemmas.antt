@@ -28,6 +28,7 @@ use Rattle.block_heap.specs.Running.{IsCacheOf, IsRunning, Serves}
 use Rattle.block_heap.specs.Steps.{HandsOut}
 use Rattle.block_heap.specs.Works.{IsAllocatorWord}
 use Rattle.block_heap.proofs.RunningLemmas.{settled_kept}
+use Rattle.block_heap.proofs.LookLemmas.{looks_of, looks_kept, looks_then}
 use Rattle.block_heap.proofs.StableLemmas.{works_of, works_then, works_none}
 
 -- the parts with other words, caches and held blocks
@@ -152,20 +153,21 @@ pub other_cache : (caches : List Cache) (class : ℕ) (new : Cache) (c : ℕ) �
 other_cache caches class new c other = get_or-set_other caches class c new (record { first = 0; count = 0 }) other
 
 -- steps that store to words of an allocator serve the held blocks
-pub serves_of : (p q : Parts) (held : List Block) (to : ℕ → Type 0) → IsRunning p → q.capacity ≡ p.capacity → q.used_look ≡ p.used_look → q.taken ≡ p.taken
+pub serves_of : (p q : Parts) (held : List Block) (to : ℕ → Type 0) → IsRunning p → q.capacity ≡ p.capacity → looks_of q ≡ looks_of p → q.taken ≡ p.taken
     → ((word : ℕ) → to word → IsAllocatorWord p.capacity held word) → (to used_word → ⊥) → StoresOnly to p.words q.words → Serves held p q
 serves_of p q held to run capacity look taken are not_used stores = record {
   capacity = capacity;
   works = (works_of p.capacity held to p.words q.words are not_used stores run.settled.used).0;
   knows =
-      let seen : q.used_look.seen ≡ p.used_look.seen = ap (λ x. x.seen) look in
-      let count : q.used_look.taken ≡ p.used_look.taken = ap (λ x. x.taken) look in
+      let seen : q.used_look.seen ≡ p.used_look.seen = ap (λ x. x.0.seen) look in
+      let count : q.used_look.taken ≡ p.used_look.taken = ap (λ x. x.0.taken) look in
       omega arith;
   taken = omega arith;
+  looks = looks_kept p q look;
 }
 
 pub serves_none : (p : Parts) (held : List Block) → Serves held p p
-serves_none p held = record { capacity = refl; works = works_none p.capacity held p.words; knows = omega arith; taken = omega arith }
+serves_none p held = record { capacity = refl; works = works_none p.capacity held p.words; knows = omega arith; taken = omega arith; looks = looks_kept p p refl }
 
 pub serves_then : (p q r : Parts) (held : List Block) → Serves held p q → Serves held q r → Serves held p r
 serves_then p q r held a b = record {
@@ -174,6 +176,7 @@ serves_then p q r held a b = record {
       b.works);
   knows = let x = a.knows in let y = b.knows in omega arith;
   taken = let x = a.taken in let y = b.taken in omega arith;
+  looks = looks_then p q r a.works.stores.drawn b.works.stores.drawn a.taken b.taken a.looks b.looks;
 }
 
 -- blocks have an even number of words

@@ -32,6 +32,7 @@ use Rattle.block_heap.specs.Works.{IsAllocatorWord, is_head, is_anchor, is_link,
 use Rattle.block_heap.proofs.MediumLemmas.{stores_then, stores_more}
 use Rattle.block_heap.proofs.RunningLemmas.{set_is, settled_kept}
 use Rattle.block_heap.proofs.HeldLemmas.{only_map, mark_block}
+use Rattle.block_heap.proofs.LookLemmas.{looks_kept, looks_then}
 use Rattle.block_heap.proofs.StableLemmas.{works_none, works_of, works_then}
 
 -- a push, as an image
@@ -77,6 +78,7 @@ serves_words held p to w are not_used stores settled = record {
   works = (works_of p.capacity held to p.words w are not_used stores settled).0;
   knows = refl;
   taken = omega arith;
+  looks = looks_kept p (record p { words = w }) refl;
 }
 
 -- a dropped superblock has the place of one that a large block takes
@@ -268,6 +270,7 @@ serves_then held p q r a b = record {
   works = works_then p.capacity held p.words q.words r.words a.works (subst (λ k. Works k held q.words r.words) a.capacity b.works);
   knows = let x = a.knows in let y = b.knows in omega arith;
   taken = let x = a.taken in let y = b.taken in omega arith;
+  looks = looks_then p q r a.works.stores.drawn b.works.stores.drawn a.taken b.taken a.looks b.looks;
 }
 
 -- one superblock more is in the free list
@@ -300,7 +303,7 @@ pub freed_serves : (first d end : ℕ) (h : HeldBlocks) (p q r : Parts) → IsFr
 freed_serves first d end h p q r freed blocks serves =
     let all = serves_then (held_of h) (record p { blocks = h }) q r freed.serves (subst (λ (x : HeldBlocks). Serves (held_of x) q r) freed.blocks serves) in
     subst (λ (x : HeldBlocks). Serves (held_of x) p r) (sym (blocks ∙ freed.blocks))
-    (record { capacity = all.capacity; works = all.works; knows = all.knows; taken = all.taken })
+    (record { capacity = all.capacity; works = all.works; knows = all.knows; taken = all.taken; looks = record { used = all.looks.used; heads = all.looks.heads } })
 
 -- the block is held no more
 pub freed_takes : (p r : Parts) (b : Block) (h : HeldBlocks) → Contains (held_in p) b → TakesFrom (at_mark p.blocks b.first_word) (held_in p) (held_of h) → r.blocks ≡ h
@@ -398,7 +401,13 @@ module _ (p : Parts) (b : Block) (run : IsRunning p) (holds : Contains (held_in 
           left = λ e from until. drop_left e (omega arith) (omega arith);
           used = refl;
           uses = λ e before. elim before as (λ _. IsUsed (record p { blocks = h }) e) [ inl none ↦ absurd (omega (arith, none.0, none.1)) | inr same ↦ same ];
-          serves = record { capacity = refl; works = works_none p.capacity (held_of h) p.words; knows = refl; taken = omega arith };
+          serves = record {
+            capacity = refl;
+            works = works_none p.capacity (held_of h) p.words;
+            knows = refl;
+            taken = omega arith;
+            looks = looks_kept (record p { blocks = h }) (record p { blocks = h }) refl;
+          };
           blocks = refl;
           caches = refl;
           taken = refl;

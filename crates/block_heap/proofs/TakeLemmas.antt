@@ -22,11 +22,12 @@ use Rattle.block_heap.specs.Anchors.{IsTakenFrom}
 use Rattle.block_heap.specs.Links.{IsPopped, IsPushed, IsPushWord}
 use Rattle.block_heap.specs.Medium.{StoresOnly}
 use Rattle.block_heap.specs.Parts.{Parts, image_of, held_in, cache_at}
-use Rattle.block_heap.specs.Running.{IsRunning, Serves}
+use Rattle.block_heap.specs.Running.{IsRunning, Serves, MakesLooks}
 use Rattle.block_heap.specs.Steps.{head_at, IsEmptyList, LeadsAlong, Fills, Recycles, Spends}
 use Rattle.block_heap.proofs.MediumLemmas.{stores_then, stores_more}
 use Rattle.block_heap.proofs.RunningLemmas.{set_is, settled_kept}
 use Rattle.block_heap.proofs.SpendLemmas.{spends_by}
+use Rattle.block_heap.proofs.LookLemmas.{IsNextLook, looked_at_head}
 use Rattle.block_heap.proofs.RefillLemmas.{IsMoved, a_head, an_anchor, a_link, moved_info, moved_used, serves_moved, IsMade, made, caches_filled, caches_other, sizes_kept, none_cached, pop_moved, popped_head, popped_of, popped_pops, popped_list, popped_place}
 
 module _ (p : Parts) (class d : ℕ) (popped : Popped) (w : View) (look : Look) (run : IsRunning p) (is : IsClass class) (pop : IsPopped class popped p.words w)
@@ -39,6 +40,12 @@ module _ (p : Parts) (class d : ℕ) (popped : Popped) (w : View) (look : Look) 
 
   listed : run.shape.listed class ≡ d ∷ rest
   listed = (popped_list p class popped w run below pop pop_stores d some).1
+
+  -- its head was read
+  pub first_looked : (q : Parts) → IsNextLook p look → w.drawn ≤ q.words.drawn → p.taken ≤ q.taken → q.used_look ≡ p.used_look
+      → q.head_looks ≡ set p.head_looks class look → MakesLooks p q
+  first_looked q next later more used heads =
+      looked_at_head p q class look (let long = run.looks_long in omega arith) next (let drew = pop.goes.drew in omega arith) more used heads
 
   place : run.shape.place d ≡ in_list class
   place = (popped_place p class popped w run below pop pop_stores d some).0
@@ -143,8 +150,8 @@ module _ (p : Parts) (class d : ℕ) (popped : Popped) (w : View) (look : Look) 
             (popped_of p class popped w run below pop pop_stores d some) anchor_set;
       }
 
-      pub taken_serves : Serves (held_in p) p taken_parts
-      taken_serves = serves_moved p taken_parts run take_moved refl refl refl
+      pub taken_serves : IsNextLook p look → Serves (held_in p) p taken_parts
+      taken_serves next = serves_moved p taken_parts run take_moved refl refl refl (first_looked taken_parts next take_stores.drawn (omega arith) refl refl)
 
       pub taken_some : (1 ≤ (cache_at (set p.caches class cache) class).count) × (IsEmptyList p class → ⊥)
       taken_some =
@@ -178,8 +185,9 @@ module _ (p : Parts) (class d : ℕ) (popped : Popped) (w : View) (look : Look) 
       abbrev pub recycled : Parts
       recycled = record p { words = v; head_looks = set p.head_looks class look }
 
-      pub recycled_serves : Serves (held_in p) p recycled
-      recycled_serves = serves_moved p recycled run push_moved refl refl refl
+      pub recycled_serves : IsNextLook p look → Serves (held_in p) p recycled
+      recycled_serves next = serves_moved p recycled run push_moved refl refl refl
+          (first_looked recycled next (let a = take_stores.drawn in let b = push_stores.drawn in omega arith) (omega arith) refl refl)
 
       module _ (answer : Option Cache) (answer_is : answer ≡ None) (took : IsTakenFrom p.capacity class d answer w u) (pushed : IsPushed 0 d u v) where
         not_taken : IsTakenFrom p.capacity class d None w u

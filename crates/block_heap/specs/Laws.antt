@@ -3,7 +3,8 @@ use Rattle.std.proofs.Common.{◌≡◌, ℕ, zero, suc, ◌+◌, ◌-◌, ◌*�
 use Rattle.std.proofs.lemmas.Bool.{cases_eq, cases_lt}
 use Rattle.std.proofs.Math.Logic.{∥∥₁_elim}
 use Rattle.heap_model.specs.declared.block.Block.{Block}
-use Rattle.heap_model.specs.Geometry.{start_word, fixed_words, superblock_words}
+use Rattle.heap_model.specs.Geometry.{start_word, fixed_words, superblock_words, capacity_word, state_word}
+use Rattle.heap_model.specs.Durability.{IsTransient}
 use Rattle.heap_model.specs.Image.{Image}
 use Rattle.heap_model.specs.Sizes.{IsClass, words_of_class, blocks_of}
 use Rattle.heap_model.specs.Blocks.{Layout, layout_of, Begins, of_class, as_large, IsBlock, AreOneOrApart}
@@ -11,14 +12,14 @@ use Rattle.heap_model.proofs.BlockLemmas.{block_begins, block_inside, same_begin
 use Rattle.heap_model.proofs.PartLemmas.{cases_class, same_fields}
 use Rattle.line_memory.specs.View.{volatile_at, durable_at}
 use Rattle.heap_seat.specs.Sound.{IsSeat, IsPlaced}
-use Rattle.heap_seat.specs.Words.{MixesOwn, NamesAll, MayRead, HasPicked}
+use Rattle.heap_seat.specs.Words.{IsOwn, MixesOwn, NamesAll, MayRead, HasPicked}
 use Rattle.std.specs.Prelude.{Bool, true, false, cond, Some}
 use Rattle.block_heap.specs.Closing.{KeepsFixed}
 use Rattle.block_heap.specs.Works.{IsFixed}
 use Rattle.block_heap.specs.Works.{IsLasting}
 use Rattle.block_heap.specs.Parts.{held_in}
-use Rattle.block_heap.specs.SeqState.{SeqState, seat_of, MayLeave}
-use Rattle.block_heap.specs.Stable.{root_below, stable_placed, stable_apart, stable_names, own_value}
+use Rattle.block_heap.specs.SeqState.{SeqState, all_roots, seat_of, MayLeave}
+use Rattle.block_heap.specs.Stable.{root_below, stable_placed, stable_apart, stable_names, own_lasts, own_value}
 
 -- a fact that can be decided, and that does not fail
 decided : {A B : Type 0} → A ⊎ (A → ⊥) → (B → A) → ∥ B ∥₁ → A
@@ -190,3 +191,13 @@ may_be_law s pick = ∣ (
   record { others = λ word not_state kept. is_value (pick word) (volatile_at s.parts.words word) (durable_at s.parts.words word) },
   record { each = λ word value own e. is_picked (pick word) (volatile_at s.parts.words word) (durable_at s.parts.words word) value e },
 ) ∣₁
+
+-- the capacity is durable
+pub durable_capacity : (s : SeqState) → durable_at s.parts.words capacity_word ≡ s.parts.capacity
+durable_capacity s = decided (cases_eq (durable_at s.parts.words capacity_word) s.parts.capacity) (λ (lasts : Lasts s). lasts.stable.capacity_durable) s.lasts
+
+-- a crash keeps an own word
+pub own_law : (s : SeqState) (word : ℕ) → IsOwn (held_in s.parts) all_roots word → (word ≡ state_word → ⊥) × (IsTransient s.parts.capacity word → ⊥)
+own_law s word own = (λ e. truly (λ kept. kept.0 e), λ lost. truly (λ kept. kept.1 lost)) where
+  truly : ((word ≡ state_word → ⊥) × (IsTransient s.parts.capacity word → ⊥) → ⊥) → ⊥
+  truly not = ∥∥₁_elim s.lasts (λ a b. absurd a) (λ (lasts : Lasts s). not (own_lasts s.parts.capacity (held_in s.parts) s.parts.words word lasts.small lasts.stable own))

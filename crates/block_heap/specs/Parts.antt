@@ -1,5 +1,5 @@
 -- What contracts see of the parts of an open heap.
-use Rattle.std.specs.Prelude.{ℕ, List, slice_index_or}
+use Rattle.std.specs.Prelude.{ℕ, List, None, slice_index_or}
 use Rattle.heap_model.specs.declared.block.Block.{Block}
 use Rattle.heap_model.specs.Image.{Image}
 use Rattle.line_memory.specs.View.{View, volatile_at}
@@ -38,6 +38,13 @@ image_of p word = volatile_at p.words word
 
 abbrev pub held_in : Parts → List Block
 held_in p = held_of p.blocks
+
+-- the last look at the head of a list, of these; none was made yet at a list without one
+abbrev pub no_look : Look
+no_look = record { seen = 0; ticket = None; taken = 0 }
+
+abbrev pub head_look : List Look → ℕ → Look
+head_look looks list = slice_index_or looks list no_look
 
 -- the cache of a class
 abbrev pub cache_at : List Cache → ℕ → Cache

@@ -3,6 +3,7 @@ use Rattle.std.specs.Prelude.{◌≡◌, ◌≢◌, ℕ, ◌+◌, ◌*◌, ◌<�
 use Rattle.heap_model.specs.Geometry.{lists, head_word, info_word, used_word, start_word}
 use Rattle.heap_model.specs.Sizes.{IsClass, blocks_of, words_of_class}
 use Rattle.heap_model.specs.Words.{head_pops}
+use Rattle.heap_seat.specs.Looks.{IsMade}
 use Rattle.heap_shape.specs.Shape.{Shape, in_list, is_full}
 use Rattle.heap_shape.specs.Whole.{IsShape}
 use Rattle.line_memory.specs.View.{View, volatile_at, durable_at}
@@ -11,7 +12,7 @@ use Rattle.block_heap.specs.declared.held.HeldBlocks.{HeldBlocks}
 use Rattle.heap_model.specs.declared.block.Block.{Block}
 use Rattle.block_heap.specs.Links.{IsOpen}
 use Rattle.block_heap.specs.Works.{Works}
-use Rattle.block_heap.specs.Parts.{Parts, image_of, held_in, cache_at}
+use Rattle.block_heap.specs.Parts.{Parts, image_of, held_in, cache_at, head_look}
 
 -- the cache is that of the shape, and has no more blocks than a superblock
 pub record IsCacheOf (s : Shape) (class : ℕ) (cache : Cache) : Type 0 where
@@ -50,9 +51,16 @@ pub record IsRunning (p : Parts) : Type 0 where
 pub record AreShort (p : Parts) (but : ℕ) : Type 0 where
   pub each : (class : ℕ) → IsClass class → class ≢ but → (cache_at p.caches class).count < blocks_of class
 
+-- each last look is the one from before, or was made in between
+pub record MakesLooks (p q : Parts) : Type 0 where
+  pub used : (q.used_look ≡ p.used_look) ⊎ IsMade p.words.drawn q.words.drawn p.taken q.taken q.used_look
+  pub heads : (list : ℕ) → (head_look q.head_looks list ≡ head_look p.head_looks list)
+      ⊎ IsMade p.words.drawn q.words.drawn p.taken q.taken (head_look q.head_looks list)
+
 -- the parts work while these blocks are held, and what is known of `used` stays
 pub record Serves (held : List Block) (p q : Parts) : Type 0 where
   pub capacity : q.capacity ≡ p.capacity
   pub works : Works p.capacity held p.words q.words
   pub knows : p.used_look.seen + q.used_look.taken ≡ q.used_look.seen + p.used_look.taken
   pub taken : p.taken ≤ q.taken
+  pub looks : MakesLooks p q

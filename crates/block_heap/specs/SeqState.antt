@@ -1,5 +1,5 @@
 -- What contracts see of a heap for one thread.
-use Rattle.std.specs.Prelude.{◌≡◌, ℕ, ◌+◌, ◌≤◌, List, Option, None, Some, slice_index_or}
+use Rattle.std.specs.Prelude.{◌≡◌, ℕ, ◌+◌, ◌≤◌, List, Option, None, Some}
 use Rattle.heap_model.specs.Geometry.{roots, state_word}
 use Rattle.heap_model.specs.Image.{Image, words_from}
 use Rattle.heap_model.specs.Durability.{IsTransient}
@@ -8,7 +8,7 @@ use Rattle.line_memory.specs.Crash.{IsValueOf}
 use Rattle.heap_seat.specs.declared.fault.Looks.{Looks}
 use Rattle.heap_seat.specs.View.{View}
 use Rattle.block_heap.specs.Accounts.{AreAccounted}
-use Rattle.block_heap.specs.Parts.{Parts, held_in}
+use Rattle.block_heap.specs.Parts.{Parts, held_in, head_look}
 use Rattle.block_heap.specs.Running.{IsRunning, AreShort}
 use Rattle.block_heap.specs.Works.{IsLasting}
 
@@ -45,7 +45,7 @@ seat_of s = record {
   refused_bytes = s.refused_bytes;
   refused_looks = s.refused_looks;
   used_look = s.parts.used_look;
-  head_look = λ list. slice_index_or s.parts.head_looks list (record { seen = 0; ticket = None; taken = 0 });
+  head_look = head_look s.parts.head_looks;
 }
 
 -- each word but transient ones and the state has its volatile or its durable value

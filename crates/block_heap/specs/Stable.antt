@@ -123,10 +123,13 @@ module _ (capacity : ℕ) (held : List Block) where
         let value = left (info_word d) (λ e. omega (arith, e)) (not_transient (info_word d) (inr (d, refl))) in
         elim value as (λ _. image (info_word d) ≡ volatile_at v (info_word d)) [ inl e ↦ e ∙ stable.settled b d holds part | inr e ↦ e ]
 
-  -- each own word has one of its two values in such an image
-  pub own_value : (v : View) (image : Image) (word : ℕ) → capacity ≤ largest_capacity → IsStable capacity v held → ((at : ℕ) → (at ≡ state_word → ⊥) → (IsTransient capacity at → ⊥) → IsValueOf v at (image at))
-      → IsOwn held (words_from (λ n. n) 0 roots) word → IsValueOf v word (image word)
-  own_value v image word small stable left own = left word (λ e. elim (own_where v word stable own) as (λ _. ⊥) [ inl at_root ↦ omega (arith, at_root.0, e) | inr inside ↦ omega (arith, e) ]) (kept (own_where v word stable own)) where
+  -- an own word is not the state, and no transient one
+  pub own_lasts : (v : View) (word : ℕ) → capacity ≤ largest_capacity → IsStable capacity v held → IsOwn held (words_from (λ n. n) 0 roots) word
+      → (word ≡ state_word → ⊥) × (IsTransient capacity word → ⊥)
+  own_lasts v word small stable own = (
+    λ e. elim (own_where v word stable own) as (λ _. ⊥) [ inl at_root ↦ omega (arith, at_root.0, e) | inr inside ↦ omega (arith, e) ],
+    kept (own_where v word stable own),
+  ) where
     kept : ((root_word 0 ≤ word) × (word < info_word 0)) ⊎ (start_word capacity 0 ≤ word) → IsTransient capacity word → ⊥
     kept (inl at_root) (head_lost list other below e) = omega (arith, at_root.0)
     kept (inl at_root) (anchor_lost d other below e) = omega (arith, at_root.1)
@@ -134,3 +137,8 @@ module _ (capacity : ℕ) (held : List Block) where
     kept (inr inside) (head_lost list other below e) = omega arith
     kept (inr inside) (anchor_lost d other below e) = omega arith
     kept (inr inside) (link_lost d other below e) = omega arith
+
+  -- so it has one of its two values in such an image
+  pub own_value : (v : View) (image : Image) (word : ℕ) → capacity ≤ largest_capacity → IsStable capacity v held → ((at : ℕ) → (at ≡ state_word → ⊥) → (IsTransient capacity at → ⊥) → IsValueOf v at (image at))
+      → IsOwn held (words_from (λ n. n) 0 roots) word → IsValueOf v word (image word)
+  own_value v image word small stable left own = let lasts = own_lasts v word small stable own in left word lasts.0 lasts.1

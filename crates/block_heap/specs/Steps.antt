@@ -1,5 +1,5 @@
 -- What the parts of a heap are after rows of steps that are done.
-use Rattle.std.specs.Prelude.{◌≡◌, ◌≢◌, ℕ, ◌+◌, ◌<◌, ◌≤◌, List, ◌∷◌, length, None, Some, Contains, slice_index_or}
+use Rattle.std.specs.Prelude.{◌≡◌, ◌≢◌, ℕ, ◌+◌, ◌<◌, ◌≤◌, List, ◌∷◌, length, Some, Contains}
 use Rattle.heap_model.specs.declared.block.Block.{Block}
 use Rattle.heap_model.specs.Geometry.{head_word, link_word, used_word}
 use Rattle.heap_model.specs.Sizes.{IsClass, words_of_class}
@@ -10,7 +10,7 @@ use Rattle.heap_shape.specs.Draining.{DrainsSame, DrainsOne}
 use Rattle.heap_seat.specs.declared.look.Look.{Look}
 use Rattle.block_heap.specs.declared.refill.Found.{Found}
 use Rattle.block_heap.specs.declared.refill.Found.TheVariants.{Blocks, Recycled, Nothing}
-use Rattle.block_heap.specs.Parts.{Parts, image_of, held_in, cache_at}
+use Rattle.block_heap.specs.Parts.{Parts, image_of, held_in, cache_at, head_look}
 use Rattle.block_heap.specs.Running.{IsRunning}
 
 abbrev pub head_at : Parts → ℕ → ℕ
@@ -39,7 +39,7 @@ used_up Recycled = 0
 used_up Nothing = 0
 
 abbrev pub look_at : Parts → ℕ → Look
-look_at p list = slice_index_or p.head_looks list (record { seen = 0; ticket = None; taken = 0 })
+look_at p list = head_look p.head_looks list
 
 -- the look was by a ticket from `from` on, saw this word, and no superblock was taken since
 pub record IsLook (from : ℕ) (q : Parts) (look : Look) (seen : ℕ) : Type 0 where

@@ -1,18 +1,22 @@
 //! What follows from the definitions, as functions with nothing to run: a caller cites their
 //! clauses.
 
-ghost use Rattle.std.specs.Prelude.{◌≡◌, ◌↔◌, ℕ, List, slice_index};
+ghost use Rattle.std.specs.Prelude.{◌≡◌, ◌↔◌, ℕ, ◌+◌, ◌*◌, ◌≤◌, List, slice_index, Contains, true, false};
 ghost use Rattle.heap_model.specs.declared.block.Block.{Block};
 ghost use Rattle.heap_model.specs.Image.{Image};
-ghost use Rattle.heap_model.specs.Header.{capacity_of};
+ghost use Rattle.heap_model.specs.Durability.{Mixes, IsCrashImage, IsClosedImage, NamesAreDurable};
+ghost use Rattle.heap_model.specs.Header.{capacity_of, used_of};
 ghost use Rattle.heap_model.specs.Blocks.{layout_of};
 ghost use Rattle.heap_model.specs.Reach.{Links, IsReached};
 ghost use Rattle.heap_model.specs.Recovered.{IsDrained};
 ghost use Rattle.line_memory.specs.View.{volatile_at, durable_at};
+ghost use Rattle.heap_seat.specs.Rows.{IsRow};
+ghost use Rattle.heap_seat.specs.Words.{HasPicked};
 ghost use Rattle.block_heap.specs.Closing.{IsOpened, KeepsFixed};
+ghost use Rattle.block_heap.specs.Parts.{held_in};
 ghost use Rattle.block_heap.specs.Reopening.{IsReopened};
 ghost use Rattle.block_heap.specs.Requests.{IsTidyFor, IsDrainedOf};
-ghost use Rattle.block_heap.specs.SeqState.{SeqState};
+ghost use Rattle.block_heap.specs.SeqState.{SeqState, seat_of, MayLeave};
 ghost use Rattle.block_heap.specs.Works.{IsFixed};
 
 /// Calls of a heap for one thread go together: over any row of them, the first four words of the
@@ -26,6 +30,35 @@ pub fn fixed_words_stay()
         → (word : ℕ) → IsFixed (capacity_of (slice_index words)) word
         → (volatile_at t.parts.words word ≡ slice_index words word)
         × (durable_at t.parts.words word ≡ slice_index words word) }
+{}
+
+/// The last look at the mark of taken superblocks tells how many there were as the heap was opened,
+/// by what the heap had taken when it looked; and a row of calls draws few tickets.
+pub fn looks_and_tickets_add_up()
+    ensures looks { (words : List ℕ) (held : List Block) (budget : ℕ) (s t : SeqState)
+        → IsOpened words held budget s → KeepsFixed s t
+        → t.parts.used_look.seen ≡ used_of (slice_index words) + t.parts.used_look.taken }
+    ensures draws { (small large most : ℕ) (s t : SeqState) → KeepsFixed s t
+        → IsRow small large most (seat_of s) (seat_of t)
+        → t.parts.words.drawn ≤ s.parts.words.drawn + (small + 131072 * large) }
+{}
+
+/// What is left of a heap for one thread is one of its images: each mixture of its two values of
+/// each word, each image that a crash leaves, and each that a close leaves. A crash leaves own words
+/// as they are durable, a close as loads see them; and each mixture names each held block.
+pub fn what_is_left_is_an_image()
+    ensures mixed { (s : SeqState) (image : Image)
+        → Mixes (slice_index s.parts.words.volatile) (slice_index s.parts.words.durable) image
+        → MayLeave s image }
+    ensures crashed { (s : SeqState) (image : Image)
+        → IsCrashImage (slice_index s.parts.words.durable) image
+        → MayLeave s image × HasPicked (seat_of s) (λ _. false) image }
+    ensures closed { (s : SeqState) (image : Image)
+        → IsClosedImage (slice_index s.parts.words.volatile) image
+        → MayLeave s image × HasPicked (seat_of s) (λ _. true) image }
+    ensures named { (s : SeqState)
+        → NamesAreDurable (slice_index s.parts.words.volatile)
+        (slice_index s.parts.words.durable) (Contains (held_in s.parts)) }
 {}
 
 /// A heap that is opened over a recovered image, where exactly the reached blocks are held: it is

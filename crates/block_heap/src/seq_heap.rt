@@ -83,8 +83,9 @@ impl From<Stopped> for DrainFault {
 }
 
 impl<C: Chance> SeqHeap<C> {
-    ghost use Rattle.std.specs.Prelude.{◌≡◌, ◌≢◌, ◌+◌, ◌*◌, ◌<◌, ◌≤◌, ◌^◌, IfOk, IfErr, IfSome, IfNone, None, Some, Contains};
+    ghost use Rattle.std.specs.Prelude.{◌≡◌, ◌≢◌, ◌+◌, ◌*◌, ◌<◌, ◌≤◌, ◌^◌, IfOk, IfErr, IfSome, IfNone, None, Some, Contains, slice_index};
     ghost use Rattle.heap_model.specs.declared.block.Block.{Block};
+    ghost use Rattle.heap_model.specs.Durability.{IsCrashImage, IsClosedImage, NamesAreDurable};
     ghost use Rattle.line_memory.specs.ClosedWords.{volatile_words, durable_words};
     ghost use Rattle.line_memory.specs.View.{volatile_at, durable_at};
     ghost use Rattle.line_memory.specs.declared.memory.Stopped.{Stopped};
@@ -138,6 +139,12 @@ impl<C: Chance> SeqHeap<C> {
         ensures used_durable { durable_at self.parts.words used_word ≤ self.parts.capacity }
         ensures named { (image : Image) → MayLeave self image
             → NamesAll image (held_in self.parts) }
+        ensures mixed { NamesAreDurable (slice_index (volatile_words result))
+            (slice_index (durable_words result)) (Contains (held_in self.parts)) }
+        ensures crashed { (image : Image)
+            → IsCrashImage (slice_index (durable_words result)) image → MayLeave self image }
+        ensures closed { (image : Image)
+            → IsClosedImage (slice_index (volatile_words result)) image → MayLeave self image }
     {
         self.arena.medium.finish()
     }

@@ -23,6 +23,7 @@ row_none v = record {
   large_few = omega arith;
   taken = omega arith;
   few = omega arith;
+  looks = looks_none v;
 }
 
 -- one after the other
@@ -70,6 +71,7 @@ row_then small large most smalls larges mosts v u w a b = record {
   large_few = let p = a.large_few in let q = b.large_few in omega arith;
   taken = let p = a.taken in let q = b.taken in omega arith;
   few = let p = a.few in let q = b.few in omega arith;
+  looks = looks_then v u w a.goes_on.tickets b.goes_on.tickets a.taken b.taken a.looks b.looks;
 }
 
 -- wider bounds
@@ -82,6 +84,7 @@ row_more small large most smalls larges mosts v w s l m row = record {
   large_few = let p = row.large_few in omega arith;
   taken = row.taken;
   few = let p = row.few in omega arith;
+  looks = row.looks;
 }
 
 -- a count rises by one at most
@@ -104,6 +107,7 @@ row_small v w call =
       large_few = omega arith;
       taken = omega arith;
       few = omega arith;
+      looks = record { used = inl call.used_look; heads = λ list. inl (call.head_look list) };
     }
 
 pub row_large : (most : ℕ) (v w : View) → IsLargeCall most v w → IsRow 0 1 most v w
@@ -119,6 +123,7 @@ row_large most v w call =
       large_few = omega (arith, one.1);
       taken = call.taken;
       few = call.few;
+      looks = call.looks;
     }
 
 -- calls that were done, and one more that was done or that stopped

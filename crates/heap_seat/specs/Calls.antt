@@ -7,7 +7,7 @@ use Rattle.heap_seat.specs.declared.spot.Spot.TheVariants.{InBlock, Root}
 use Rattle.heap_seat.specs.View.{View, word_of}
 use Rattle.heap_seat.specs.Words.{IsOwn, IsDurable}
 use Rattle.heap_seat.specs.Tickets.{Runs}
-use Rattle.heap_seat.specs.Looks.{KnowsNoLess}
+use Rattle.heap_seat.specs.Looks.{KnowsNoLess, KeepsLooks}
 
 -- one call more, unless the seat had stopped
 abbrev pub counted : Option ℕ → ℕ → ℕ
@@ -44,6 +44,7 @@ pub record IsLargeCall (most : ℕ) (v w : View) : Type 0 where
   pub large : w.large_calls ≡ counted v.stopped v.large_calls
   pub taken : v.taken ≤ w.taken
   pub few : w.taken ≤ v.taken + most
+  pub looks : KeepsLooks v w
 
 -- a load that was done gave this value of the word; what was pending is
 pub record Loads (word value : ℕ) (v w : View) : Type 0 where

@@ -1,10 +1,11 @@
-use Rattle.std.proofs.Common.{refl, arith}
+use Rattle.std.proofs.Common.{refl, arith, ap, ◌∙◌, Some}
 use Rattle.block_heap.specs.MediumView.{medium_view}
 use Rattle.block_heap.specs.Parts.{parts_of}
 use Rattle.block_heap.proofs.RunningLemmas.{is_head}
 use Rattle.block_heap.proofs.RefillLemmas.{head_moved, serves_moved, emptied_fills, emptied, emptied_serves, popped_none}
 use Rattle.block_heap.proofs.SpendLemmas.{spends_none}
 use Rattle.block_heap.proofs.CutStepLemmas.{free_within, free_unmarked, free_serves, free_fills, free_found, free_spends}
+use Rattle.block_heap.proofs.LookLemmas.{looks_kept}
 use Rattle.block_heap.proofs.arena.Arena.cut_free.Goals as goal
 
 pub pop-requires-clause-head : goal.pop-requires-clause-head
@@ -16,6 +17,7 @@ returns-in_err-popped-clause-serves g c =
     let p = parts_of c.args.self.now in
     serves_moved p (record p { words = medium_view c.pop.new.self }) c.requires.running
     (head_moved p.capacity 0 p.words (medium_view c.pop.new.self) (omega arith) c.pop.ensures.others) refl refl refl
+    (looks_kept p (record p { words = medium_view c.pop.new.self }) refl)
 
 pub returns-in_default-clause-fills : goal.returns-in_default-clause-fills
 returns-in_default-clause-fills g c =
@@ -26,6 +28,7 @@ pub returns-in_default-clause-serves : goal.returns-in_default-clause-serves
 returns-in_default-clause-serves g c =
     emptied_serves (parts_of c.args.self.now) c.args.class 0 c.in_ok-popped.popped (medium_view c.pop.new.self) c.by.result c.requires.running (omega arith)
     c.in_ok-popped.ensures.ok c.pop.ensures.others c.in_default.is
+    (record { by = c.by.ensures.ticket ∙ ap Some c.next_ticket-ticket.ensures; taken = c.by.ensures.taken })
 
 pub cut-requires-clause-superblock : goal.cut-requires-clause-superblock
 cut-requires-clause-superblock g c =
@@ -42,6 +45,7 @@ returns-in_err-cut-clause-serves g c =
     free_serves (parts_of c.args.self.now) c.args.class c.in-Some.d c.in_ok-popped.popped (medium_view c.pop.new.self) c.by.result c.requires.running
     c.requires.class c.in_ok-popped.ensures.ok c.pop.ensures.others c.in-Some.is
     (parts_of c.cut.new.self) c.cut.ensures.others c.cut.ensures.same
+    (record { by = c.by.ensures.ticket ∙ ap Some c.next_ticket-ticket.ensures; taken = c.by.ensures.taken })
 
 pub returns-clause-ok : goal.returns-clause-ok
 returns-clause-ok g c =
@@ -60,6 +64,7 @@ returns-clause-serves g c =
     free_serves (parts_of c.args.self.now) c.args.class c.in-Some.d c.in_ok-popped.popped (medium_view c.pop.new.self) c.by.result c.requires.running
     c.requires.class c.in_ok-popped.ensures.ok c.pop.ensures.others c.in-Some.is
     (parts_of c.cut.new.self) c.cut.ensures.others c.cut.ensures.same
+    (record { by = c.by.ensures.ticket ∙ ap Some c.next_ticket-ticket.ensures; taken = c.by.ensures.taken })
 
 pub returns-in_default-clause-left : goal.returns-in_default-clause-left
 returns-in_default-clause-left g c =

@@ -1,10 +1,11 @@
 use Rattle.std.proofs.Common.{◌≡◌, ℕ, ◌-◌, ◌/◌, ◌≤◌, List, get_or, refl, sym, ◌∙◌, ap, subst, arith}
 use Rattle.heap_model.specs.Geometry.{start_word}
-use Rattle.block_heap.specs.Parts.{parts_of}
+use Rattle.block_heap.specs.Parts.{parts_of, held_in}
 use Rattle.block_heap.proofs.AnchorLemmas.{words_by_bytes}
 use Rattle.heap_model.proofs.SizeLemmas.{two_words}
-use Rattle.block_heap.proofs.SmallLemmas.{read_cache, first_from, first_below}
+use Rattle.block_heap.proofs.SmallLemmas.{read_cache, first_from, first_below, serves_of}
 use Rattle.block_heap.proofs.FrontLemmas.{cache_first, walked_one, next_placed, walked_more, first_behind, walked_front, loaded_run, loaded_keeps, loaded_serves, stopped_serves, loaded_front, loaded_more, loaded_capacity}
+use Rattle.block_heap.specs.MediumView.{medium_view}
 use Rattle.block_heap.proofs.arena.Arena.front.Goals as goal
 
 pub superblock_of-d-requires : goal.superblock_of-d-requires
@@ -121,3 +122,9 @@ returns-clause-serves g c = loaded_serves (parts_of c.args.self.now) (parts_of c
 pub returns-clause-keeps : goal.returns-clause-keeps
 returns-clause-keeps g c = loaded_keeps (parts_of c.args.self.now) (parts_of c.loop-count.self) c.loop-count.count c.requires.running
     c.loop-count.invariant.loaded c.args.class
+
+pub returns-in_err-next-clause-serves : goal.returns-in_err-next-clause-serves
+returns-in_err-next-clause-serves g c =
+    let p = parts_of c.args.self.now in
+    serves_of p (record p { words = medium_view c.load.new.self }) (held_in p) (λ _. ⊥) c.requires.running refl refl refl (λ word out. absurd out) (λ out. out)
+    c.load.ensures.unchanged

@@ -1,14 +1,14 @@
-use Rattle.std.proofs.Common.{sym, subst, ◌∙◌, arith}
+use Rattle.std.proofs.Common.{true, sym, subst, ◌∙◌, arith}
 use Rattle.std.proofs.lemmas.Result.{IfOk-weaker, on_ok_weaker}
 use Rattle.heap_model.specs.Counting.{one_if}
 use Rattle.block_heap.specs.declared.arena.Arena.{Arena}
 use Rattle.block_heap.specs.Parts.{parts_of, held_in}
-use Rattle.block_heap.specs.Refill.{FindsPartial, FindsFree}
+use Rattle.block_heap.specs.Refill.{FindsPartial, FindsFree, Refills}
 use Rattle.block_heap.specs.Running.{Serves}
 use Rattle.block_heap.specs.Steps.{Fills, Spends}
 use Rattle.block_heap.proofs.RefillLemmas.{serves_then}
 use Rattle.block_heap.proofs.SpendLemmas.{spends_then}
-use Rattle.block_heap.proofs.PartialLemmas.{fills_then, fresh_refills}
+use Rattle.block_heap.proofs.PartialLemmas.{fills_then, fresh_refills, partial_refills, free_refills}
 use Rattle.block_heap.proofs.arena.Arena.refill.Goals.{then-branch-via-then-branch, then-branch-via-else-branch+in_ok-cut_free+then-branch-2}
 use Rattle.block_heap.proofs.arena.Arena.refill.Goals as goal
 
@@ -90,3 +90,16 @@ returns-clause-left g c =
     (spends_then 0 (one_if c.in_ok-take_partial.field-0) (one_if c.in_ok-cut_free.field-0) class p a b (omega arith) c.in_ok-take_partial.ensures.left
     c.in_ok-cut_free.ensures.left) spends)
     c.cut_fresh.ensures.left
+
+pub returns-then-branch-clause-ok : goal.returns-then-branch-clause-ok
+returns-then-branch-clause-ok g c =
+    let p = parts_of c.args.self.now in
+    let a = parts_of c.take_partial.new.self in
+    elim c.then-branch.branch as (λ _. Refills c.args.class true p (parts_of c.then-branch.self)) [
+      | then-branch-via-then-branch w ↦ subst (λ (m : Arena _). Refills c.args.class true p (parts_of m)) (sym w.self-is)
+          (partial_refills c.args.class p a (subst (λ some. FindsPartial c.args.class some p a) w.if-branch.true c.in_ok-take_partial.ensures.ok))
+      | then-branch-via-else-branch+in_ok-cut_free+then-branch-2 w ↦ subst (λ (m : Arena _). Refills c.args.class true p (parts_of m)) (sym w.self-is)
+          (free_refills c.args.class p a (parts_of w.cut_free.new.self)
+          (subst (λ some. FindsPartial c.args.class some p a) w.if-branch.false c.in_ok-take_partial.ensures.ok)
+          (subst (λ some. FindsFree c.args.class some a (parts_of w.cut_free.new.self)) w.if-branch-2.true w.in_ok-cut_free.ensures.ok))
+    ]

@@ -1,11 +1,12 @@
-use Rattle.std.proofs.Common.{◌<◌, set, refl, arith}
+use Rattle.std.proofs.Common.{◌<◌, set, refl, arith, ap, ◌∙◌, Some}
 use Rattle.heap_model.specs.Geometry.{lists}
 use Rattle.block_heap.specs.MediumView.{medium_view}
 use Rattle.block_heap.specs.Parts.{parts_of}
 use Rattle.block_heap.proofs.RunningLemmas.{is_head}
 use Rattle.block_heap.proofs.RefillLemmas.{head_moved, serves_moved, emptied, emptied_fills, emptied_serves, popped_none}
 use Rattle.block_heap.proofs.SpendLemmas.{spends_none}
-use Rattle.block_heap.proofs.TakeLemmas.{first_within, first_anchor, take_moved, taken_some, taken_fills, taken_serves, taken_spends, recycled_serves, recycled_fills, recycled_first, recycled_spends}
+use Rattle.block_heap.proofs.TakeLemmas.{first_within, first_anchor, take_moved, taken_some, taken_fills, taken_serves, taken_spends, recycled_serves, recycled_fills, recycled_first, recycled_spends, first_looked}
+use Rattle.block_heap.proofs.LookLemmas.{looks_kept}
 use Rattle.block_heap.proofs.arena.Arena.take_first.Goals as goal
 
 pub pop-requires-clause-head : goal.pop-requires-clause-head
@@ -16,7 +17,7 @@ returns-in_err-popped-clause-serves g c =
     let p = parts_of c.args.self.now in
     serves_moved p (record p { words = medium_view c.pop.new.self }) c.requires.running
     (head_moved p.capacity c.args.class p.words (medium_view c.pop.new.self) (let last = c.requires.class.last in omega arith) c.pop.ensures.others) refl
-    refl refl
+    refl refl (looks_kept p (record p { words = medium_view c.pop.new.self }) refl)
 
 pub returns-in_default-clause-fills : goal.returns-in_default-clause-fills
 returns-in_default-clause-fills g c =
@@ -27,6 +28,7 @@ pub returns-in_default-clause-serves : goal.returns-in_default-clause-serves
 returns-in_default-clause-serves g c =
     emptied_serves (parts_of c.args.self.now) c.args.class c.args.class c.in_ok-popped.popped (medium_view c.pop.new.self) c.by.result c.requires.running
     (let last = c.requires.class.last in omega arith) c.in_ok-popped.ensures.ok c.pop.ensures.others c.in_default.is
+    (record { by = c.by.ensures.ticket ∙ ap Some c.next_ticket-ticket.ensures; taken = c.by.ensures.taken })
 
 pub take_blocks-requires-clause-superblock : goal.take_blocks-requires-clause-superblock
 take_blocks-requires-clause-superblock g c =
@@ -45,6 +47,10 @@ returns-in_err-cache-clause-serves g c =
     (take_moved (parts_of c.args.self.now) c.args.class c.in-Some.d c.in_ok-popped.popped (medium_view c.pop.new.self) c.by.result c.requires.running
     c.requires.class c.in_ok-popped.ensures.ok c.pop.ensures.others c.in-Some.is
     (medium_view c.take_blocks.new.self) c.take_blocks.ensures.others) refl refl refl
+    (first_looked p c.args.class c.in-Some.d c.in_ok-popped.popped (medium_view c.pop.new.self) c.by.result c.requires.running
+    c.requires.class c.in_ok-popped.ensures.ok c.pop.ensures.others c.in-Some.is
+    (record p { words = medium_view c.take_blocks.new.self; head_looks = set p.head_looks c.args.class c.by.result })
+    (record { by = c.by.ensures.ticket ∙ ap Some c.next_ticket-ticket.ensures; taken = c.by.ensures.taken }) c.take_blocks.ensures.others.drawn (omega arith) refl refl)
 
 pub returns-in-Some-2-clause-ok : goal.returns-in-Some-2-clause-ok
 returns-in-Some-2-clause-ok g c =
@@ -66,6 +72,7 @@ returns-in-Some-2-clause-serves g c =
     c.requires.class c.in_ok-popped.ensures.ok c.pop.ensures.others c.in-Some.is
     (medium_view c.take_blocks.new.self) c.take_blocks.ensures.others c.in-Some-2.cache c.in_ok-cache.field-0 c.in-Some-2.is c.requires.empty
     c.in_ok-cache.ensures.ok
+    (record { by = c.by.ensures.ticket ∙ ap Some c.next_ticket-ticket.ensures; taken = c.by.ensures.taken })
 
 pub push-requires-clause-descriptor : goal.push-requires-clause-descriptor
 push-requires-clause-descriptor g c =
@@ -77,6 +84,7 @@ returns-in_err-push-clause-serves g c =
     recycled_serves (parts_of c.args.self.now) c.args.class c.in-Some.d c.in_ok-popped.popped (medium_view c.pop.new.self) c.by.result c.requires.running
     c.requires.class c.in_ok-popped.ensures.ok c.pop.ensures.others c.in-Some.is
     (medium_view c.take_blocks.new.self) c.take_blocks.ensures.others (medium_view c.push.new.self) c.push.ensures.others
+    (record { by = c.by.ensures.ticket ∙ ap Some c.next_ticket-ticket.ensures; taken = c.by.ensures.taken })
 
 pub returns-clause-ok : goal.returns-clause-ok
 returns-clause-ok g c = (
@@ -100,6 +108,7 @@ returns-clause-serves g c =
     recycled_serves (parts_of c.args.self.now) c.args.class c.in-Some.d c.in_ok-popped.popped (medium_view c.pop.new.self) c.by.result c.requires.running
     c.requires.class c.in_ok-popped.ensures.ok c.pop.ensures.others c.in-Some.is
     (medium_view c.take_blocks.new.self) c.take_blocks.ensures.others (medium_view c.push.new.self) c.push.ensures.others
+    (record { by = c.by.ensures.ticket ∙ ap Some c.next_ticket-ticket.ensures; taken = c.by.ensures.taken })
 
 pub returns-in_default-clause-left : goal.returns-in_default-clause-left
 returns-in_default-clause-left g c =
