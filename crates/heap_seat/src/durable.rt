@@ -3,6 +3,7 @@ ghost use Rattle.std.specs.Prelude.{◌≡◌, ℕ, OnOk, IfErr, Some};
 ghost use Rattle.heap_seat.specs.View.{View, word_of};
 ghost use Rattle.heap_seat.specs.Words.{IsOwnSpot, MayStore};
 ghost use Rattle.heap_seat.specs.Tickets.{Runs, Stops};
+ghost use Rattle.heap_seat.specs.Calls.{SameRefusals};
 ghost use Rattle.heap_seat.specs.Rows.{IsRow, Settles};
 
 use crate::seat::HeapSeat;
@@ -19,6 +20,7 @@ pub fn persist<H: HeapSeat>(heap: &mut H, s: Spot, value: u64) -> Result<(), Sto
     ensures settled { OnOk result (Settles (H.view heap.old) (H.view heap.new)) }
     ensures cause { IfErr result (λ e. Stops e.step (H.view heap.old) (H.view heap.new)) }
     ensures calls { IsRow 3 0 0 (H.view heap.old) (H.view heap.new) }
+    ensures refusals { SameRefusals (H.view heap.old) (H.view heap.new) }
     ensures idle { (ticket : ℕ) → (H.view heap.old).stopped ≡ Some ticket → heap.new ≡ heap.old }
     ensures kept { H.keeps heap.old heap.new }
 
