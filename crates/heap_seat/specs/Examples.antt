@@ -1,5 +1,5 @@
--- Worked examples by computation: what a request gets, looks, spots, lines, counts and a refusal.
-use Rattle.std.specs.Prelude.{◌≡◌, ◌+◌, ◌*◌, ◌/◌, ◌<◌, ◌≤◌, ◌⊎◌, ⊤, nat_le, ℕ, [], ◌∷◌, None, Some, refl}
+-- Worked examples by computation: what a request gets, looks, spots, lines, counts, rows, a refusal, and what an image may have.
+use Rattle.std.specs.Prelude.{◌≡◌, ◌+◌, ◌*◌, ◌/◌, ◌<◌, ◌≤◌, ◌⊎◌, ⊤, nat_le, ℕ, [], ◌∷◌, None, Some, Bool, true, refl}
 use Rattle.std.proofs.Common.{arith, inl, inr, ap, ◌∙◌}
 use Rattle.std.proofs.lemmas.Bool.{leb-true}
 use Rattle.heap_model.specs.declared.block.Block.{Block}
@@ -11,7 +11,9 @@ use Rattle.heap_seat.specs.declared.spot.Spot.TheVariants.{InBlock, Root}
 use Rattle.heap_seat.specs.Alloc.{IsSizeFor, of_class, of_superblocks}
 use Rattle.heap_seat.specs.Calls.{counted, IsWrittenWith}
 use Rattle.heap_seat.specs.Looks.{FoundNoRoom, FoundNone, KnowsNoLess, IsMade, KeepsLooks}
+use Rattle.heap_seat.specs.Rows.{IsRow}
 use Rattle.heap_seat.specs.View.{View, word_of}
+use Rattle.heap_seat.specs.Words.{IsOwn, in_root, MixesOwn, HasPicked, IsDurable}
 
 -- the least class for no byte is 1, and that for the most bytes that a class holds is 20
 least_of_none : IsLeastClassFor 0 1
@@ -166,3 +168,55 @@ made_between = (
 -- a list that a request doesn't read has 0 for its look, whatever was seen there
 unread_list : FoundNone (λ list. list ≡ 0) (seat_with (look_with 0 0) 7) (seat_with (look_with 0 0) 8) 3 0
 unread_list = record { found = λ read. absurd (omega (arith, read)); unread = λ not. refl }
+
+-- two small calls are a row of two, and no row of one
+abbrev seat_called : ℕ → View
+seat_called calls = record (seat_with (look_with 0 0) 7) { small_calls = calls }
+
+row_of_two : IsRow 2 0 0 (seat_called 3) (seat_called 5) × (IsRow 1 0 0 (seat_called 3) (seat_called 5) → ⊥)
+row_of_two = (
+  record {
+    goes_on = record { capacity = refl; budget = refl; tickets = omega arith; used = omega arith };
+    small_from = omega arith;
+    small_few = omega arith;
+    large_from = omega arith;
+    large_few = omega arith;
+    taken = omega arith;
+    few = omega arith;
+    looks = record { used = inl refl; heads = λ list. inl refl };
+  },
+  λ row. let few = row.small_few in omega arith,
+)
+
+-- a seat with root 2, which loads see as 9, and which is durable as 5
+abbrev seat_of_root : View
+seat_of_root = record (seat_with (look_with 0 0) 7) { roots = 2 ∷ []; volatile = λ word. Some 9; durable = λ word. Some 5 }
+
+own_root : IsOwn [] (2 ∷ []) 42
+own_root = in_root 2 42 (0, omega arith, refl) refl
+
+-- an image may have either of the two, and no third; true picks what loads see
+mixes_two : MixesOwn seat_of_root (λ word. 9) × MixesOwn seat_of_root (λ word. 5) × (MixesOwn seat_of_root (λ word. 7) → ⊥)
+mixes_two = (
+  record { each = λ word own. inl refl },
+  record { each = λ word own. inr refl },
+  λ mixes. elim (mixes.each 42 own_root) as (λ _. ⊥) [ inl seen ↦ omega (arith, seen) | inr left ↦ omega (arith, left) ],
+)
+
+picks_seen : HasPicked seat_of_root (λ word. true) (λ word. 9) × (HasPicked seat_of_root (λ word. true) (λ word. 5) → ⊥)
+picks_seen = (
+  record { each = λ word value own known. let same : Some 9 ≡ Some value = known in cc },
+  λ picked. let same : 5 ≡ 9 = picked.each 42 9 own_root refl in omega arith,
+)
+
+-- a word of which nothing is known is not durable, nor is one whose values differ
+not_durable : (IsDurable (seat_with (look_with 0 0) 7) 42 → ⊥) × (IsDurable seat_of_root 42 → ⊥)
+not_durable = (
+  λ durable. let seen : None ≡ Some durable.value = durable.seen in absurd (cc),
+  λ durable.
+      let seen : Some 9 ≡ Some durable.value = durable.seen in
+      let left : Some 5 ≡ Some durable.value = durable.left in
+      let one : 9 ≡ durable.value = cc in
+      let other : 5 ≡ durable.value = cc in
+      omega arith,
+)
