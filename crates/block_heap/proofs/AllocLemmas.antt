@@ -81,7 +81,7 @@ none_of (w ∷ ws) none = absurd (omega arith)
 
 -- where a request of a class found nothing there was nothing to drain
 pub drains_nothing : (class : ℕ) (p q : Parts) → IsClass class → q.capacity ≡ p.capacity → Fills class p q → FindsNone class p q → DrainsNone class p
-drains_nothing class p q is capacity fills finds tidy b drained =
+drains_nothing class p q is capacity fills finds drainable b drained =
     let run = fills.running in
     let looked = finds.looked in
     let empty = finds.empty in
@@ -94,7 +94,7 @@ drains_nothing class p q is capacity fills finds tidy b drained =
     leads_nowhere (λ d. image_of q (link_word d)) q.capacity (head_first (head_at q class)) (run.shape.listed class) looked.class_empty (run.is.follows class (omega arith)) in
     let free : run.shape.listed 0 ≡ [] =
     leads_nowhere (λ d. image_of q (link_word d)) q.capacity (head_first (head_at q 0)) (run.shape.listed 0) looked.free_empty (run.is.follows 0 (omega arith)) in
-    drained_none p.capacity class (image_of q) (held_in p) run.shape is shape cached listed free (let past = looked.past in omega arith) (fills.drains.tidy tidy) b
+    drained_none p.capacity class (image_of q) (held_in p) run.shape is shape cached listed free (let past = looked.past in omega arith) (fills.drains.drainable drainable) b
     (fills.drains.has b drained)
 
 -- a request of a class that got a block
@@ -117,7 +117,7 @@ gets_in_class class b p q r is short capacity same fills room hands = record {
 
 -- it was one of those to be drained
 pub drains_block : (class : ℕ) (b : Block) (p q r : Parts) → q.capacity ≡ p.capacity → Fills class p q → HandsOut class b q r → DrainsTo class b p r
-drains_block class b p q r capacity fills hands tidy =
+drains_block class b p q r capacity fills hands drainable =
     let same = fills.drains in
     let first : DrainsOne p.capacity class (image_of q) (held_in p) (held_in r) b =
     subst (λ k. DrainsOne k class (image_of q) (held_in p) (held_in r) b) capacity
@@ -126,7 +126,7 @@ drains_block class b p q r capacity fills hands tidy =
     subst (λ (xs : List ℕ). DrainsOne p.capacity class (λ word. get_or xs word 0) (held_in p) (held_in r) b) (sym hands.volatile) first in
     let before : DrainsSame p.capacity class (held_in p) (image_of p) (image_of r) =
     subst (λ (xs : List ℕ). DrainsSame p.capacity class (held_in p) (image_of p) (λ word. get_or xs word 0)) (sym hands.volatile) same in (
-      one.tidy (before.tidy tidy),
+      one.drainable (before.drainable drainable),
       before.only b one.was,
       one.gone,
       (λ a drained. one.rest a (before.has a drained)),

@@ -11,26 +11,26 @@ use Rattle.heap_model.specs.Recovered.{IsDrained, beside, freed, fresh}
 use Rattle.heap_model.specs.Sizes.{words_of_class}
 use Rattle.heap_model.proofs.MemberLemmas.{in_none, in_head, head_or_rest}
 use Rattle.heap_model.proofs.PartLemmas.{same_fields}
-use Rattle.heap_shape.specs.Draining.{IsTidy, IsToDrain}
+use Rattle.heap_shape.specs.Draining.{IsDrainable, IsToDrain}
 use Rattle.block_heap.specs.Parts.{image_of, held_in}
-use Rattle.block_heap.specs.Requests.{IsTidyFor, IsDrainedOf, Drains}
+use Rattle.block_heap.specs.Requests.{IsDrainableFor, IsDrainedOf, Drains}
 use Rattle.block_heap.specs.SeqState.{SeqState}
 use Rattle.block_heap.specs.Serving.{DrainsTo, DrainsNone}
 
 -- these are offsets of some of the blocks that were to be drained, each once; the others are still to be drained
 pub record HasDrained (class : ℕ) (s t : SeqState) (offsets : List ℕ) : Type 0 where
   pub capacity : t.parts.capacity ≡ s.parts.capacity
-  pub tidy : IsTidyFor class t
+  pub drainable : IsDrainableFor class t
   pub was : (a : Block) → IsDrainedOf class t a → IsDrainedOf class s a
   pub sound : (offset : ℕ) → Contains offsets offset → (b : Block) × (offset ≡ 8 * b.first_word) × IsDrainedOf class s b × (IsDrainedOf class t b → ⊥)
   pub rest : (b : Block) → IsDrainedOf class s b → Contains offsets (8 * b.first_word) ⊎ IsDrainedOf class t b
   pub once : AllPairs (λ x y. x ≢ y) offsets
 
 -- at first there is none
-pub drains_first : (class : ℕ) (s : SeqState) (offsets : List ℕ) → offsets ≡ [] → IsTidyFor class s → HasDrained class s s offsets
-drains_first class s offsets empty tidy = subst (λ xs. HasDrained class s s xs) (sym empty) (record {
+pub drains_first : (class : ℕ) (s : SeqState) (offsets : List ℕ) → offsets ≡ [] → IsDrainableFor class s → HasDrained class s s offsets
+drains_first class s offsets empty drainable = subst (λ xs. HasDrained class s s xs) (sym empty) (record {
   capacity = refl;
-  tidy = tidy;
+  drainable = drainable;
   was = λ a d. d;
   sound = λ offset p. absurd (in_none offset p);
   rest = λ b d. inr d;
@@ -69,7 +69,7 @@ pub drains_more : (class : ℕ) (s t u : SeqState) (offsets : List ℕ) (b : Blo
     → HasDrained class s u (offsets ++ 8 * b.first_word ∷ [])
 drains_more class s t u offsets b has capacity drains = record {
   capacity = capacity ∙ has.capacity;
-  tidy = subst (λ n. IsTidy n (image_of u.parts) (held_in u.parts) class) (sym capacity) step.0;
+  drainable = subst (λ n. IsDrainable n (image_of u.parts) (held_in u.parts) class) (sym capacity) step.0;
   was = λ a d. has.was a (before a d);
   sound = λ offset p. elim (Contains-append_cases offsets (8 * b.first_word ∷ []) offset p) [
     | inl old ↦ let found = has.sound offset old in (found.0, found.1, found.2, λ d. found.3 (before found.0 d))
@@ -88,10 +88,10 @@ drains_more class s t u offsets b has capacity drains = record {
       let same : found.0 ≡ b = one_block class s found.0 b found.2 (has.was b step.1) (sym found.1 ∙ e) in
       found.3 (subst (λ z. IsDrainedOf class t z) (sym same) step.1));
 } where
-  step : IsTidy t.parts.capacity (image_of u.parts) (held_in u.parts) class × IsDrainedOf class t b × (IsToDrain t.parts.capacity (image_of u.parts) (held_in u.parts) class b → ⊥)
+  step : IsDrainable t.parts.capacity (image_of u.parts) (held_in u.parts) class × IsDrainedOf class t b × (IsToDrain t.parts.capacity (image_of u.parts) (held_in u.parts) class b → ⊥)
       × ((a : Block) → IsDrainedOf class t a → (a ≡ b) ⊎ IsToDrain t.parts.capacity (image_of u.parts) (held_in u.parts) class a)
       × ((a : Block) → IsToDrain t.parts.capacity (image_of u.parts) (held_in u.parts) class a → IsDrainedOf class t a)
-  step = drains has.tidy
+  step = drains has.drainable
 
   here : (a : Block) → IsDrainedOf class u a → IsToDrain t.parts.capacity (image_of u.parts) (held_in u.parts) class a
   here a d = subst (λ n. IsToDrain n (image_of u.parts) (held_in u.parts) class a) capacity d
@@ -106,6 +106,6 @@ drains_more class s t u offsets b has capacity drains = record {
 pub drains_last : (class : ℕ) (s t : SeqState) (offsets : List ℕ) → HasDrained class s t offsets → DrainsNone class t.parts → Drains class offsets s
 drains_last class s t offsets has none = record {
   sound = λ offset p. let found = has.sound offset p in (found.0, found.1, found.2);
-  complete = λ b d. elim (has.rest b d) as (λ _. Contains offsets (8 * b.first_word)) [ inl given ↦ given | inr left ↦ absurd (none has.tidy b left) ];
+  complete = λ b d. elim (has.rest b d) as (λ _. Contains offsets (8 * b.first_word)) [ inl given ↦ given | inr left ↦ absurd (none has.drainable b left) ];
   once = has.once;
 }

@@ -18,7 +18,7 @@ use Rattle.block_heap.specs.declared.seq_heap.DrainFault.TheVariants.{Stopped as
 use Rattle.heap_seat.specs.Calls.{IsLargeCall}
 use Rattle.block_heap.specs.Laws.{seat_law}
 use Rattle.block_heap.specs.Parts.{image_of, held_in}
-use Rattle.block_heap.specs.Requests.{IsTidyFor}
+use Rattle.block_heap.specs.Requests.{IsDrainableFor}
 use Rattle.block_heap.specs.SeqState.{SeqState, IsSeqHeap, seat_of}
 use Rattle.block_heap.specs.Serving.{Gets, Answers, DrainsTo, Costs, DrainsAs}
 use Rattle.block_heap.specs.Steps.{HasAtMost}
@@ -127,13 +127,13 @@ module _ (class bytes most : ℕ) (s t u : SeqState) (offsets : List ℕ) (b : B
       budget = counted.goes_on.budget ∙ has.budget;
     }
 
--- what the loop of a drain keeps: at any time how many tickets were drawn, and of a tidy heap what was given
+-- what the loop of a drain keeps: at any time how many tickets were drawn, and of a drainable heap what was given
 abbrev pub Draining : ℕ → SeqState → SeqState → List ℕ → Type 0
-Draining class s t offsets = (IsTidyFor class s → HasDrained class s t offsets) × HasDrawn class s t offsets
+Draining class s t offsets = (IsDrainableFor class s → HasDrained class s t offsets) × HasDrawn class s t offsets
 
 pub draining_first : (class : ℕ) (s seen : SeqState) (offsets : List ℕ) → offsets ≡ [] → IsClass class → s ≡ seen → IsSeqHeap s → Draining class seen seen offsets
 draining_first class s seen offsets empty is same heap =
-    ((λ tidy. drains_first class seen offsets empty tidy), drawn_first class seen offsets empty is (subst IsSeqHeap same heap))
+    ((λ drainable. drains_first class seen offsets empty drainable), drawn_first class seen offsets empty is (subst IsSeqHeap same heap))
 
 pub draining_more : (class bytes most : ℕ) (s t u : SeqState) (offsets now : List ℕ) (answer : Option Block) (b : Block) → now ≡ offsets ++ 8 * b.first_word ∷ []
     → Draining class s t offsets → answer ≡ Some b → Answers bytes answer t.parts u.parts → DrainsAs class answer t.parts u.parts
@@ -142,7 +142,7 @@ draining_more class bytes most s t u offsets now answer b pushed draining is ans
     let gets : Gets bytes b t.parts u.parts = subst (λ (o : Option Block). Answers bytes o t.parts u.parts) is answers in
     let gives : DrainsTo class b t.parts u.parts × Costs class t.parts u.parts = subst (λ (o : Option Block). DrainsAs class o t.parts u.parts) is drains in
     subst (λ xs. Draining class s u xs) (sym pushed) (
-      (λ tidy. drains_more class s t u offsets b (draining.0 tidy) counted.goes_on.capacity gives.0),
+      (λ drainable. drains_more class s t u offsets b (draining.0 drainable) counted.goes_on.capacity gives.0),
       drawn_more class bytes most s t u offsets b draining.1 gets gives.1 runs counted,
     )
 

@@ -94,14 +94,14 @@ serves_then p u q held a b =
 
 -- what is to be drained where nothing changes, and over two rows of steps
 pub drains_none : (capacity class : ℕ) (held : List Block) (image : Image) → DrainsSame capacity class held image image
-drains_none capacity class held image = record { has = λ b p. p; only = λ b p. p; tidy = λ p. p; accounted = λ p. p }
+drains_none capacity class held image = record { has = λ b p. p; only = λ b p. p; drainable = λ p. p; accounted = λ p. p }
 
 pub drains_then : (capacity class : ℕ) (held : List Block) (image middle new : Image) → DrainsSame capacity class held image middle
     → DrainsSame capacity class held middle new → DrainsSame capacity class held image new
 drains_then capacity class held image middle new a b = record {
   has = λ x p. b.has x (a.has x p);
   only = λ x p. a.only x (b.only x p);
-  tidy = λ p. b.tidy (a.tidy p);
+  drainable = λ p. b.drainable (a.drainable p);
   accounted = λ p. b.accounted (a.accounted p);
 }
 

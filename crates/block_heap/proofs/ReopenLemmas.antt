@@ -9,12 +9,12 @@ use Rattle.heap_model.specs.Reach.{Links, IsReached}
 use Rattle.heap_model.specs.Recovered.{IsDrained}
 use Rattle.heap_model.specs.Recovery.{in_header}
 use Rattle.heap_model.proofs.HeaderLemmas.{well_formed}
-use Rattle.heap_shape.specs.Draining.{IsTidy, IsToDrain}
-use Rattle.heap_shape.proofs.RecoveredLemmas.{reached_tidy, reached_drains}
+use Rattle.heap_shape.specs.Draining.{IsDrainable, IsToDrain}
+use Rattle.heap_shape.proofs.RecoveredLemmas.{reached_drainable, reached_drains}
 use Rattle.line_memory.specs.View.{View, volatile_at}
 use Rattle.block_heap.specs.Parts.{image_of, held_in}
 use Rattle.block_heap.specs.Reopening.{IsReopened}
-use Rattle.block_heap.specs.Requests.{IsTidyFor, IsDrainedOf}
+use Rattle.block_heap.specs.Requests.{IsDrainableFor, IsDrainedOf}
 use Rattle.block_heap.specs.SeqState.{SeqState}
 
 module _ (bytes : ℕ) (old : Image) (kinds : ℕ → ℕ) (links : Links) (words : List ℕ) (held : List Block) (budget : ℕ) (s : SeqState)
@@ -32,12 +32,12 @@ module _ (bytes : ℕ) (old : Image) (kinds : ℕ → ℕ) (links : Links) (word
       let same = is.opened.opens.same b in
       (λ holds. is.held_are.sound b (same.0 holds), λ reached. same.1 (is.held_are.complete b reached))
 
-  pub reopened_tidy : (class : ℕ) → IsTidyFor class s
-  reopened_tidy class =
-      let here : IsTidy (capacity_of old) (slice_index words) (held_in s.parts) class =
-      reached_tidy old (slice_index words) kinds links (held_in s.parts) class is.recovered held_are (well_formed bytes old is.good).small in
-      subst (λ (image : Image). IsTidy s.parts.capacity image (held_in s.parts) class) (sym image_is)
-      (subst (λ n. IsTidy n (slice_index words) (held_in s.parts) class) (sym capacity_is) here)
+  pub reopened_drainable : (class : ℕ) → IsDrainableFor class s
+  reopened_drainable class =
+      let here : IsDrainable (capacity_of old) (slice_index words) (held_in s.parts) class =
+      reached_drainable old (slice_index words) kinds links (held_in s.parts) class is.recovered held_are (well_formed bytes old is.good).small in
+      subst (λ (image : Image). IsDrainable s.parts.capacity image (held_in s.parts) class) (sym image_is)
+      (subst (λ n. IsDrainable n (slice_index words) (held_in s.parts) class) (sym capacity_is) here)
 
   pub reopened_drains : (class : ℕ) (b : Block) → IsDrained (layout_of old) (IsReached old kinds links) class b ↔ IsDrainedOf class s b
   reopened_drains class b =

@@ -2,7 +2,7 @@
 use Rattle.std.specs.Prelude.{◌≡◌, ◌≢◌, ℕ, ◌*◌, ◌⊎◌, List, None, Some, Contains, AllPairs}
 use Rattle.heap_model.specs.declared.block.Block.{Block}
 use Rattle.heap_model.specs.Sizes.{words_of_class}
-use Rattle.heap_shape.specs.Draining.{IsTidy, IsToDrain}
+use Rattle.heap_shape.specs.Draining.{IsDrainable, IsToDrain}
 use Rattle.heap_seat.specs.Calls.{SameRefusals}
 use Rattle.heap_seat.specs.Words.{IsOwn, KeepsWord, KeepsPending}
 use Rattle.heap_seat.specs.View.{View}
@@ -18,8 +18,8 @@ pub record KeepsWords (v w : View) : Type 0 where
   pub refusals : SameRefusals v w
 
 -- no superblock without a part of a held block is elsewhere than in the free list, but those of the class
-abbrev pub IsTidyFor : ℕ → SeqState → Type 0
-IsTidyFor class s = IsTidy s.parts.capacity (image_of s.parts) (held_in s.parts) class
+abbrev pub IsDrainableFor : ℕ → SeqState → Type 0
+IsDrainableFor class s = IsDrainable s.parts.capacity (image_of s.parts) (held_in s.parts) class
 
 -- a block that draining the class gives
 abbrev pub IsDrainedOf : ℕ → SeqState → Block → Type 0

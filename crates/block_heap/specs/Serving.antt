@@ -4,7 +4,7 @@ use Rattle.heap_model.specs.declared.block.Block.{Block}
 use Rattle.heap_model.specs.Geometry.{used_word}
 use Rattle.heap_model.specs.Sizes.{IsLeastClassFor, largest_small, span_of, words_of_class}
 use Rattle.heap_shape.specs.Moves.{AddsTo}
-use Rattle.heap_shape.specs.Draining.{IsToDrain, IsTidy}
+use Rattle.heap_shape.specs.Draining.{IsToDrain, IsDrainable}
 use Rattle.heap_seat.specs.declared.fault.Looks.{Looks}
 use Rattle.block_heap.specs.Accounts.{AreAccounted}
 use Rattle.heap_seat.specs.Alloc.{IsSizeFor}
@@ -57,8 +57,8 @@ pub record Gets (bytes : ℕ) (b : Block) (p q : Parts) : Type 0 where
 
 -- a block of the class that draining it was to give
 abbrev pub DrainsTo : ℕ → Block → Parts → Parts → Type 0
-DrainsTo class b p q = IsTidy p.capacity (image_of p) (held_in p) class
-    → IsTidy p.capacity (image_of q) (held_in q) class × IsToDrain p.capacity (image_of p) (held_in p) class b
+DrainsTo class b p q = IsDrainable p.capacity (image_of p) (held_in p) class
+    → IsDrainable p.capacity (image_of q) (held_in q) class × IsToDrain p.capacity (image_of p) (held_in p) class b
     × (IsToDrain p.capacity (image_of q) (held_in q) class b → ⊥)
     × ((a : Block) → IsToDrain p.capacity (image_of p) (held_in p) class a → (a ≡ b) ⊎ IsToDrain p.capacity (image_of q) (held_in q) class a)
     × ((a : Block) → IsToDrain p.capacity (image_of q) (held_in q) class a → IsToDrain p.capacity (image_of p) (held_in p) class a)
@@ -87,7 +87,7 @@ AnswersInClass class answer p q = MatchOption answer (MissesInClass class p q) (
 
 -- a drained heap has nothing more to give
 abbrev pub DrainsNone : ℕ → Parts → Type 0
-DrainsNone class p = IsTidy p.capacity (image_of p) (held_in p) class → (b : Block) → IsToDrain p.capacity (image_of p) (held_in p) class b → ⊥
+DrainsNone class p = IsDrainable p.capacity (image_of p) (held_in p) class → (b : Block) → IsToDrain p.capacity (image_of p) (held_in p) class b → ⊥
 
 -- what a block cost: one ticket if it was in the cache, and else a superblock that the cache was filled from
 abbrev pub Costs : ℕ → Parts → Parts → Type 0

@@ -15,7 +15,7 @@ ghost use Rattle.heap_seat.specs.Words.{HasPicked};
 ghost use Rattle.block_heap.specs.Closing.{IsOpened, KeepsFixed};
 ghost use Rattle.block_heap.specs.Parts.{held_in};
 ghost use Rattle.block_heap.specs.Reopening.{IsReopened};
-ghost use Rattle.block_heap.specs.Requests.{IsTidyFor, IsDrainedOf};
+ghost use Rattle.block_heap.specs.Requests.{IsDrainableFor, IsDrainedOf};
 ghost use Rattle.block_heap.specs.SeqState.{SeqState, seat_of, MayLeave};
 ghost use Rattle.block_heap.specs.Works.{IsFixed};
 
@@ -65,10 +65,10 @@ pub fn what_is_left_is_an_image()
 /// ready to be drained of each class, and what is to be drained of the class is exactly what the
 /// image that was recovered had to give.
 pub fn a_recovered_heap_drains_what_the_image_says()
-    ensures tidy { (bytes : ℕ) (old : Image) (kinds : ℕ → ℕ) (links : Links) (words : List ℕ)
+    ensures drainable { (bytes : ℕ) (old : Image) (kinds : ℕ → ℕ) (links : Links) (words : List ℕ)
         (held : List Block) (budget : ℕ) (s : SeqState)
         → IsReopened bytes old kinds links words held budget s
-        → (class : ℕ) → IsTidyFor class s }
+        → (class : ℕ) → IsDrainableFor class s }
     ensures drains { (bytes : ℕ) (old : Image) (kinds : ℕ → ℕ) (links : Links) (words : List ℕ)
         (held : List Block) (budget : ℕ) (s : SeqState)
         → IsReopened bytes old kinds links words held budget s

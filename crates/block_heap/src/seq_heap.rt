@@ -93,7 +93,7 @@ impl<C: Chance> SeqHeap<C> {
     ghost use Rattle.heap_model.specs.Image.{Image};
     ghost use Rattle.heap_model.specs.Sizes.{IsClass};
     ghost use Rattle.block_heap.specs.Parts.{held_in};
-    ghost use Rattle.block_heap.specs.Requests.{IsTidyFor, Drains, KeepsHeld, HoldsDrained, StopsDrain};
+    ghost use Rattle.block_heap.specs.Requests.{IsDrainableFor, Drains, KeepsHeld, HoldsDrained, StopsDrain};
     ghost use Rattle.block_heap.specs.SeqState.{MayLeave};
     ghost use Rattle.heap_seat.specs.Words.{NamesAll};
     ghost use Rattle.block_heap.specs.Closing.{IsOpened, KeepsFixed};
@@ -152,7 +152,7 @@ impl<C: Chance> SeqHeap<C> {
     /// Allocates in the class until there is no room, and gives the byte offsets of the blocks.
     pub fn drain(&mut self, alloc: Global, class: u8) -> Result<Vec<u64>, DrainFault>
         requires { IsClass class }
-        ensures ok { IsTidyFor class self.old
+        ensures ok { IsDrainableFor class self.old
             → IfOk result (λ offsets. Drains class offsets.items self.old) }
         ensures stopped { IfErr result (λ fault. (e : Stopped) → fault ≡ DrainFault.Stopped e
             → self.new.stopped ≡ Some e.step) }

@@ -20,7 +20,7 @@ use Rattle.heap_shape.specs.Standing.{first_of, HoldsAt, HasOneOwner, a_free, a_
 use Rattle.heap_shape.specs.Whole.{layout_at, IsShape}
 use Rattle.heap_shape.specs.Effects.{IsSet, IsPoppedOf, IsPushedOn, IsCut}
 use Rattle.heap_shape.specs.Moves.{with_cache, AddsTo}
-use Rattle.heap_shape.specs.Draining.{IsInFreeList, HasUse, for_class, for_held, for_later, IsTidy, IsAccounted, IsToDrain, DrainsSame, DrainsOne}
+use Rattle.heap_shape.specs.Draining.{IsInFreeList, HasUse, for_class, for_held, for_later, IsDrainable, IsAccounted, IsToDrain, DrainsSame, DrainsOne}
 use Rattle.heap_shape.proofs.BasicLemmas.{follows_same, one_list, first_place, member_place, in_free_list, cached_of_class}
 use Rattle.heap_shape.proofs.CutLemmas.{follows_popped}
 use Rattle.heap_shape.proofs.HandLemmas.{hand_out}
@@ -59,14 +59,14 @@ module _ (capacity class : ℕ) (image new : Image) (held : List Block) (s : Sha
   ]
   drained_before b (fresh _ d index is past within of) = fresh b d index is (omega arith) within of
 
-  -- and the heap stays tidy where a superblock gets the class, or keeps its info and stays in the free list
+  -- and the heap stays drainable where a superblock gets the class, or keeps its info and stays in the free list
   drains_same : (free : List ℕ) → Follows (λ e. new (link_word e)) capacity (head_first (new (head_word 0))) free
       → ((e : ℕ) → e < new used_word → Stays class image new (s.listed 0) free e)
       → IsClass class → DrainsSame capacity class held image new
   drains_same free follows each is = record {
     has = still_drained;
     only = drained_before;
-    tidy = λ tidy. record { each = λ e taken none. still_tidy tidy e none (each e taken) };
+    drainable = λ drainable. record { each = λ e taken none. still_drainable drainable e none (each e taken) };
     accounted = λ before. record { each = λ e taken. still_used before e (each e taken) };
   } where
     -- in the free list as before
@@ -83,11 +83,11 @@ module _ (capacity class : ℕ) (image new : Image) (held : List Block) (s : Sha
       by_use (for_held b holds part) = for_held b holds part
       by_use (for_later in_free) = for_later (still_free e stays.2 in_free)
 
-    still_tidy : IsTidy capacity image held class → (e : ℕ) → HasNoHeld capacity held e
+    still_drainable : IsDrainable capacity image held class → (e : ℕ) → HasNoHeld capacity held e
         → Stays class image new (s.listed 0) free e
         → (new (info_word e) ≡ class) ⊎ IsInFreeList capacity new e
-    still_tidy tidy e none (inl cut) = inl cut
-    still_tidy tidy e none (inr stays) = elim (tidy.each e stays.0 none) as (λ _. (new (info_word e) ≡ class) ⊎ IsInFreeList capacity new e) [
+    still_drainable drainable e none (inl cut) = inl cut
+    still_drainable drainable e none (inr stays) = elim (drainable.each e stays.0 none) as (λ _. (new (info_word e) ≡ class) ⊎ IsInFreeList capacity new e) [
       | inl info ↦ inl (stays.1 ∙ info)
       | inr in_free ↦ inr (still_free e stays.2 in_free)
     ]
@@ -264,7 +264,7 @@ part_in_one capacity class d index e b is of part =
 -- a cached block was handed out
 pub hand_out_drains : (capacity class w : ℕ) (image : Image) (held now : List Block) (s : Shape) (ws : List ℕ) → IsClass class → IsShape capacity image held s → s.cached class ≡ w ∷ ws
     → AddsTo (record { first_word = w; words = words_of_class class }) held now → DrainsOne capacity class image held now (record { first_word = w; words = words_of_class class })
-hand_out_drains capacity class w image held now s ws is shape cached adds = record { was = was; rest = rest; only = only; gone = gone; tidy = tidy; accounted = accounted } where
+hand_out_drains capacity class w image held now s ws is shape cached adds = record { was = was; rest = rest; only = only; gone = gone; drainable = drainable; accounted = accounted } where
   b : Block
   b = record { first_word = w; words = words_of_class class }
 
@@ -343,8 +343,8 @@ hand_out_drains capacity class w image held now s ws is shape cached adds = reco
   gone : IsToDrain capacity image now class b → ⊥
   gone = not_held b adds.has
 
-  tidy : IsTidy capacity image held class → IsTidy capacity image now class
-  tidy before = record { each = λ e taken none. before.each e taken (λ h p part. none h (adds.keeps h p) part) }
+  drainable : IsDrainable capacity image held class → IsDrainable capacity image now class
+  drainable before = record { each = λ e taken none. before.each e taken (λ h p part. none h (adds.keeps h p) part) }
 
   accounted : IsAccounted capacity image held → IsAccounted capacity image now
   accounted before = record { each = λ e taken. by_use e (before.each e taken) } where
@@ -355,8 +355,8 @@ hand_out_drains capacity class w image held now s ws is shape cached adds = reco
 
 -- nothing is left where cache, class list and free list are empty and every superblock was taken
 pub drained_none : (capacity class : ℕ) (image : Image) (held : List Block) (s : Shape) → IsClass class → IsShape capacity image held s → s.cached class ≡ [] → s.listed class ≡ [] → s.listed 0 ≡ []
-    → capacity < image used_word + 1 → IsTidy capacity image held class → (b : Block) → IsToDrain capacity image held class b → ⊥
-drained_none capacity class image held s is shape cached listed free past tidy b drained = given b drained where
+    → capacity < image used_word + 1 → IsDrainable capacity image held class → (b : Block) → IsToDrain capacity image held class b → ⊥
+drained_none capacity class image held s is shape cached listed free past drainable b drained = given b drained where
   -- each block of a superblock of the class is held
   all_held : (d : ℕ) (p : Place) → IsAs capacity image s held d p → s.place d ≡ p → d < image used_word → image (info_word d) ≡ class
       → (index : ℕ) → index < blocks_of class → HoldsAt held (first_of capacity class d index)
@@ -401,7 +401,7 @@ drained_none capacity class image held s is shape cached listed free past tidy b
       record { superblock = d; index = index; words = words_of_class class; count = blocks_of class; is_of = is_of } in
       let same = same_first (layout_at capacity image) at.block a (shape.named at.block at.holds) block (at.at ∙ sym of.at) in
       unkept (subst (Contains held) same at.holds)
-  given a (freed _ d index is_class none of) = elim (tidy.each d none.taken none.empty) as (λ _. ⊥) [
+  given a (freed _ d index is_class none of) = elim (drainable.each d none.taken none.empty) as (λ _. ⊥) [
     | inl info ↦
         let at = holds d none.taken info index of.below in
         let first : at.block.first_word ≡ a.first_word = at.at ∙ sym of.at in

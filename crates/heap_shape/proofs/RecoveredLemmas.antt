@@ -1,4 +1,4 @@
--- What recovery leaves is tidy, and what is then to be drained is what the image had to give.
+-- What recovery leaves is drainable, and what is then to be drained is what the image had to give.
 use Rattle.std.proofs.Common.{◌≡◌, ℕ, ◌<◌, ◌≤◌, ◌↔◌, inl, inr, List, Contains, refl, sym, subst, ◌∙◌, arith}
 use Rattle.std.proofs.lemmas.Bool.{cases_eq}
 use Rattle.heap_model.specs.declared.block.Block.{Block}
@@ -14,7 +14,7 @@ use Rattle.heap_model.specs.Recovery.{HoldsKept, IsRecovered, first_number, in_h
 use Rattle.heap_model.proofs.ReachLemmas.{reached_block}
 use Rattle.heap_model.proofs.PartLemmas.{cases_held, cases_parts, cases_class, part_taken}
 use Rattle.heap_shape.specs.Standing.{HasNoHeld}
-use Rattle.heap_shape.specs.Draining.{IsTidy, IsToDrain}
+use Rattle.heap_shape.specs.Draining.{IsDrainable, IsToDrain}
 use Rattle.heap_shape.proofs.OpenLemmas.{head_at_rest}
 use Rattle.heap_shape.proofs.OwnLemmas.{one_following}
 
@@ -58,8 +58,8 @@ module _ (old new : Image) (kept : Block → Type 0) (held : List Block) (recove
       ]
 
   -- each superblock without a held block is in the free list
-  pub recovered_tidy : capacity_of old ≤ largest_capacity → (class : ℕ) → IsTidy (capacity_of old) new held class
-  recovered_tidy small class = record {
+  pub recovered_drainable : capacity_of old ≤ largest_capacity → (class : ℕ) → IsDrainable (capacity_of old) new held class
+  recovered_drainable small class = record {
     each = λ d taken none. inr (λ ds follows. subst (λ xs. Contains xs d)
         (one_following (λ e. new (link_word e)) (capacity_of old) (head_first (new (head_word 0))) (recovered.descriptors 0) ds leads follows)
         ((recovered.listed 0 (omega arith)).complete d (free_of_none d (subst (λ u. d < u) used_stays taken) none)));
@@ -95,10 +95,10 @@ module _ (old new : Image) (kept : Block → Type 0) (held : List Block) (recove
   recovered_drains b class = (still_given b class, given_before b class)
 
 -- the same where the kept blocks are the reached ones, which are blocks of the image
-pub reached_tidy : (old new : Image) (kinds : ℕ → ℕ) (links : Links) (held : List Block) (class : ℕ) → IsRecovered old new (IsReached old kinds links)
-    → ((b : Block) → Contains held b ↔ IsReached old kinds links b) → capacity_of old ≤ largest_capacity → IsTidy (capacity_of old) new held class
-reached_tidy old new kinds links held class recovered are_held small =
-    recovered_tidy old new (IsReached old kinds links) held recovered (λ b is. reached_block old kinds links b is.kind is.reach) are_held small class
+pub reached_drainable : (old new : Image) (kinds : ℕ → ℕ) (links : Links) (held : List Block) (class : ℕ) → IsRecovered old new (IsReached old kinds links)
+    → ((b : Block) → Contains held b ↔ IsReached old kinds links b) → capacity_of old ≤ largest_capacity → IsDrainable (capacity_of old) new held class
+reached_drainable old new kinds links held class recovered are_held small =
+    recovered_drainable old new (IsReached old kinds links) held recovered (λ b is. reached_block old kinds links b is.kind is.reach) are_held small class
 
 pub reached_drains : (old new : Image) (kinds : ℕ → ℕ) (links : Links) (held : List Block) (class : ℕ) → IsRecovered old new (IsReached old kinds links)
     → ((b : Block) → Contains held b ↔ IsReached old kinds links b) → (b : Block)

@@ -15,7 +15,7 @@ abbrev pub IsInFreeList : ℕ → Image → ℕ → Type 0
 IsInFreeList capacity image d = (ds : List ℕ) → Follows (λ e. image (link_word e)) capacity (head_first (image (head_word 0))) ds → Contains ds d
 
 -- each taken superblock that no held block has a part in is in the free list, or is cut for the class
-pub record IsTidy (capacity : ℕ) (image : Image) (held : List Block) (class : ℕ) : Type 0 where
+pub record IsDrainable (capacity : ℕ) (image : Image) (held : List Block) (class : ℕ) : Type 0 where
   pub each : (d : ℕ) → d < image used_word → HasNoHeld capacity held d → (image (info_word d) ≡ class) ⊎ IsInFreeList capacity image d
 
 -- a superblock is cut for a class, a held block has a part in it, or it is in the free list
@@ -32,11 +32,11 @@ pub record IsAccounted (capacity : ℕ) (image : Image) (held : List Block) : Ty
 abbrev pub IsToDrain : ℕ → Image → List Block → ℕ → Block → Type 0
 IsToDrain capacity image held class = IsDrained (layout_at capacity image) (Contains held) class
 
--- the same blocks are to be given, the heap stays tidy, and no superblock is lost
+-- the same blocks are to be given, the heap stays drainable, and no superblock is lost
 pub record DrainsSame (capacity class : ℕ) (held : List Block) (image new : Image) : Type 0 where
   pub has : (b : Block) → IsToDrain capacity image held class b → IsToDrain capacity new held class b
   pub only : (b : Block) → IsToDrain capacity new held class b → IsToDrain capacity image held class b
-  pub tidy : IsTidy capacity image held class → IsTidy capacity new held class
+  pub drainable : IsDrainable capacity image held class → IsDrainable capacity new held class
   pub accounted : IsAccounted capacity image held → IsAccounted capacity new held
 
 -- a block of those to be given is held now, and the others are still to be given
@@ -45,5 +45,5 @@ pub record DrainsOne (capacity class : ℕ) (image : Image) (held now : List Blo
   pub rest : (a : Block) → IsToDrain capacity image held class a → (a ≡ b) ⊎ IsToDrain capacity image now class a
   pub only : (a : Block) → IsToDrain capacity image now class a → IsToDrain capacity image held class a
   pub gone : IsToDrain capacity image now class b → ⊥
-  pub tidy : IsTidy capacity image held class → IsTidy capacity image now class
+  pub drainable : IsDrainable capacity image held class → IsDrainable capacity image now class
   pub accounted : IsAccounted capacity image held → IsAccounted capacity image now

@@ -9,7 +9,7 @@ use Rattle.heap_shape.specs.Shape.{in_list, is_full, in_large, is_new, Shape, st
 use Rattle.heap_shape.specs.Standing.{first_of, IsFirstOf, HoldsAt, times_free}
 use Rattle.heap_shape.specs.Effects.{IsInSuperblock, all_firsts}
 use Rattle.heap_shape.specs.Moves.{after_take, after_recycle, after_cut, after_join, after_give_all}
-use Rattle.heap_shape.specs.Draining.{for_class, for_held, for_later, IsTidy, IsAccounted}
+use Rattle.heap_shape.specs.Draining.{for_class, for_held, for_later, IsDrainable, IsAccounted}
 
 -- a place is one list, or none
 places : map (λ place. stands_in place 3) (in_list 3 ∷ in_list 2 ∷ is_full ∷ in_large ∷ is_new ∷ []) ≡ 1 ∷ 0 ∷ 0 ∷ 0 ∷ 0 ∷ []
@@ -90,11 +90,11 @@ join_moves = refl
 abbrev unlisted : Image
 unlisted = image_with ((8, 1) ∷ (1064, 20) ∷ [])
 
-tidy_for_own : IsTidy 1 unlisted [] 20
-tidy_for_own = record { each = λ d taken none. let only : d ≡ 0 = omega arith in inl (subst (λ e. unlisted (1064 + 8 * e) ≡ 20) (sym only) refl) }
+drainable_for_own : IsDrainable 1 unlisted [] 20
+drainable_for_own = record { each = λ d taken none. let only : d ≡ 0 = omega arith in inl (subst (λ e. unlisted (1064 + 8 * e) ≡ 20) (sym only) refl) }
 
-untidy_for_other : IsTidy 1 unlisted [] 19 → ⊥
-untidy_for_other tidy = elim (tidy.each 0 (omega arith) (λ b holds part. let none = holds.1 in omega arith)) as (λ _. ⊥) [
+undrainable_for_other : IsDrainable 1 unlisted [] 19 → ⊥
+undrainable_for_other drainable = elim (drainable.each 0 (omega arith) (λ b holds part. let none = holds.1 in omega arith)) as (λ _. ⊥) [
   | inl info ↦ omega arith
   | inr in_free ↦ let none = (in_free [] refl).1 in omega arith
 ]

@@ -4,4 +4,4 @@
 
 mod laws;
 
-pub use laws::what_recovery_leaves_is_tidy;
+pub use laws::what_recovery_leaves_is_drainable;

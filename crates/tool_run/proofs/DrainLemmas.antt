@@ -10,12 +10,12 @@ use Rattle.heap_model.specs.Recovery.{in_header}
 use Rattle.heap_model.proofs.HeaderLemmas.{well_formed}
 use Rattle.heap_model.proofs.ReachLemmas.{reached_block}
 use Rattle.dictionary.specs.DictLinks.{dict_links, root_kinds}
-use Rattle.heap_shape.specs.Draining.{IsTidy, IsToDrain}
-use Rattle.heap_shape.proofs.RecoveredLemmas.{recovered_tidy, recovered_drains}
+use Rattle.heap_shape.specs.Draining.{IsDrainable, IsToDrain}
+use Rattle.heap_shape.proofs.RecoveredLemmas.{recovered_drainable, recovered_drains}
 use Rattle.heap_recover.specs.declared.answer.Recovered.{Recovered}
 use Rattle.tool_ports.specs.Contents.{Contents}
 use Rattle.tool_run.specs.Making.{IsKept, IsOffsetDrained, Drains}
-use Rattle.tool_run.specs.Recovering.{IsRecovered, IsTidyAtRest, IsGiven, IsOffsetGiven, IsGivenText}
+use Rattle.tool_run.specs.Recovering.{IsRecovered, IsDrainableAtRest, IsGiven, IsOffsetGiven, IsGivenText}
 
 module _ (contents : Contents) (name : List ℕ) (recovered : Recovered) (is : IsRecovered contents name recovered) where
   abbrev image : Image
@@ -37,10 +37,10 @@ module _ (contents : Contents) (name : List ℕ) (recovered : Recovered) (is : I
   capacity_stays = is.is.recovers.words_are.same capacity_word (in_header capacity_word (inr (inr (inl refl))))
 
   -- what recovery leaves is ready to be drained
-  pub tidy_at_rest : (class : ℕ) → IsTidyAtRest recovered.heap.words recovered.heap.held class
-  tidy_at_rest class =
-      subst (λ n. IsTidy n words recovered.heap.held class) (sym capacity_stays)
-      (recovered_tidy image words (IsKept image) recovered.heap.held is.is.recovers.words_are named held_are small class)
+  pub drainable_at_rest : (class : ℕ) → IsDrainableAtRest recovered.heap.words recovered.heap.held class
+  drainable_at_rest class =
+      subst (λ n. IsDrainable n words recovered.heap.held class) (sym capacity_stays)
+      (recovered_drainable image words (IsKept image) recovered.heap.held is.is.recovers.words_are named held_are small class)
 
   given : (class : ℕ) (b : Block) → IsDrained (layout_of image) (IsKept image) class b ↔ IsGiven recovered.heap.words recovered.heap.held class b
   given class b =

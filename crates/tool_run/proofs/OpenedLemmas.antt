@@ -6,13 +6,13 @@ use Rattle.heap_model.specs.Header.{capacity_of}
 use Rattle.heap_model.specs.Blocks.{Layout}
 use Rattle.heap_model.specs.Recovered.{IsFreeSuperblock, IsDrained, beside, freed, fresh}
 use Rattle.heap_shape.specs.Whole.{layout_at}
-use Rattle.heap_shape.specs.Draining.{IsTidy}
+use Rattle.heap_shape.specs.Draining.{IsDrainable}
 use Rattle.line_memory.specs.View.{View, volatile_at}
 use Rattle.block_heap.specs.Closing.{IsOpened}
 use Rattle.block_heap.specs.Parts.{image_of, held_in}
-use Rattle.block_heap.specs.Requests.{IsTidyFor, IsDrainedOf, Drains}
+use Rattle.block_heap.specs.Requests.{IsDrainableFor, IsDrainedOf, Drains}
 use Rattle.block_heap.specs.SeqState.{SeqState}
-use Rattle.tool_run.specs.Recovering.{IsTidyAtRest, IsGiven, AreGiven}
+use Rattle.tool_run.specs.Recovering.{IsDrainableAtRest, IsGiven, AreGiven}
 
 -- lists with the same blocks leave the same superblocks free
 same_free : (l : Layout) (kept other : Block → Type 0) → ((b : Block) → kept b ↔ other b) → (d : ℕ) → IsFreeSuperblock l kept d → IsFreeSuperblock l other d
@@ -25,9 +25,9 @@ same_drained l kept other same class b (beside _ d index is taken info of unkept
 same_drained l kept other same class b (freed _ d index is free of) = freed b d index is (same_free l kept other same d free) of
 same_drained l kept other same class b (fresh _ d index is past within of) = fresh b d index is past within of
 
-same_tidy : (capacity : ℕ) (image : Image) (held other : List Block) → ((b : Block) → Contains held b ↔ Contains other b) → (class : ℕ)
-    → IsTidy capacity image held class → IsTidy capacity image other class
-same_tidy capacity image held other same class tidy = record { each = λ d taken none. tidy.each d taken (λ b holds part. none b ((same b).0 holds) part) }
+same_drainable : (capacity : ℕ) (image : Image) (held other : List Block) → ((b : Block) → Contains held b ↔ Contains other b) → (class : ℕ)
+    → IsDrainable capacity image held class → IsDrainable capacity image other class
+same_drainable capacity image held other same class drainable = record { each = λ d taken none. drainable.each d taken (λ b holds part. none b ((same b).0 holds) part) }
 
 module _ (words : List ℕ) (held : List Block) (budget : ℕ) (s : SeqState) (is : IsOpened words held budget s) where
   -- loads see the words that it was opened with
@@ -35,13 +35,13 @@ module _ (words : List ℕ) (held : List Block) (budget : ℕ) (s : SeqState) (i
   image_is = ap (λ (v : View). λ word. volatile_at v word) is.opens.words_are
 
   -- a property of a capacity, an image and held blocks with the same members is so of what was opened
-  pub tidy_opened : (class : ℕ) → IsTidyAtRest words held class → IsTidyFor class s
-  tidy_opened class tidy =
-      let here : IsTidy (capacity_of (slice_index words)) (slice_index words) (held_in s.parts) class =
-      same_tidy (capacity_of (slice_index words)) (slice_index words) held (held_in s.parts) (λ b. ((is.opens.same b).1, (is.opens.same b).0)) class tidy in
-      let there : IsTidy s.parts.capacity (slice_index words) (held_in s.parts) class =
-      subst (λ n. IsTidy n (slice_index words) (held_in s.parts) class) (sym is.opens.capacity) here in
-      subst (λ (image : Image). IsTidy s.parts.capacity image (held_in s.parts) class) (sym image_is) there
+  pub drainable_opened : (class : ℕ) → IsDrainableAtRest words held class → IsDrainableFor class s
+  drainable_opened class drainable =
+      let here : IsDrainable (capacity_of (slice_index words)) (slice_index words) (held_in s.parts) class =
+      same_drainable (capacity_of (slice_index words)) (slice_index words) held (held_in s.parts) (λ b. ((is.opens.same b).1, (is.opens.same b).0)) class drainable in
+      let there : IsDrainable s.parts.capacity (slice_index words) (held_in s.parts) class =
+      subst (λ n. IsDrainable n (slice_index words) (held_in s.parts) class) (sym is.opens.capacity) here in
+      subst (λ (image : Image). IsDrainable s.parts.capacity image (held_in s.parts) class) (sym image_is) there
 
   given_at : (class : ℕ) (b : Block) → IsDrainedOf class s b ↔ IsGiven words held class b
   given_at class b =

@@ -9,7 +9,7 @@ use Rattle.heap_recover.specs.declared.answer.Recovered.{Recovered}
 use Rattle.heap_recover.specs.declared.answer.Was.TheVariants.{Clean}
 use Rattle.heap_recover.specs.declared.fault.RecoverFault.{RecoverFault}
 use Rattle.heap_recover.specs.declared.fault.RecoverFault.TheVariants.{Header, Outside, Memory}
-use Rattle.heap_shape.specs.Draining.{IsTidy, IsToDrain}
+use Rattle.heap_shape.specs.Draining.{IsDrainable, IsToDrain}
 use Rattle.tool_ports.specs.Contents.{Contents, Holds}
 use Rattle.trace_text.specs.Report.{report_of}
 use Rattle.trace_text.specs.HeapMap.{map_of}
@@ -42,8 +42,8 @@ text_of recovered with_map =
     ++ (if with_map then map_of (slice_index recovered.heap.words) recovered.heap.held recovered.free.items else [])
 
 -- each superblock of a heap at rest that holds no part of a held block is in its free list, or is cut for the class
-abbrev pub IsTidyAtRest : List ℕ → List Block → ℕ → Type 0
-IsTidyAtRest words held class = IsTidy (capacity_of (slice_index words)) (slice_index words) held class
+abbrev pub IsDrainableAtRest : List ℕ → List Block → ℕ → Type 0
+IsDrainableAtRest words held class = IsDrainable (capacity_of (slice_index words)) (slice_index words) held class
 
 -- draining the class of a heap at rest gives the block
 abbrev pub IsGiven : List ℕ → List Block → ℕ → Block → Type 0

@@ -1,6 +1,6 @@
 //! Drains a class of a recovered heap.
 ghost use Rattle.std.specs.Prelude.{◌≡◌, IfOk};
-ghost use Rattle.tool_run.specs.Recovering.{IsTidyAtRest, AreGiven};
+ghost use Rattle.tool_run.specs.Recovering.{IsDrainableAtRest, AreGiven};
 
 use crate::size_class::SizeClass;
 use block_heap::{Chance, DrainFault, SeqHeap};
@@ -25,7 +25,7 @@ impl Chance for Never {
 /// The offsets of the blocks that the class of a heap gives until nothing is left, in the order in
 /// which it gives them.
 pub fn drain_heap(alloc: Global, heap: Ready, class: SizeClass) -> Result<Vec<u64>, AllocError>
-    requires { IsTidyAtRest heap.words heap.held class.number }
+    requires { IsDrainableAtRest heap.words heap.held class.number }
     ensures { IfOk result (λ offsets. AreGiven heap.words heap.held class.number offsets.items) }
 {
     let mut heap = SeqHeap::new(alloc, heap, BUDGET, Never)?;

@@ -6,7 +6,7 @@ ghost use Rattle.tool_run.specs.Calls.{get_limit};
 ghost use Rattle.tool_run.specs.Command.{drain_image};
 ghost use Rattle.tool_run.specs.Inside.{Refuses};
 ghost use Rattle.tool_run.specs.Making.{Drains, drained_text};
-ghost use Rattle.tool_run.specs.Recovering.{IsTidyAtRest, IsGivenText};
+ghost use Rattle.tool_run.specs.Recovering.{IsDrainableAtRest, IsGivenText};
 
 use crate::drained::drain_heap;
 use crate::fault::Fault;
@@ -47,7 +47,7 @@ pub fn drain_image<I: ImageStore>(
 
 // The text on what a heap gives.
 fn heap_text(alloc: Global, heap: Ready, class: SizeClass) -> Result<Bytes, AllocError>
-    requires { IsTidyAtRest heap.words heap.held class.number }
+    requires { IsDrainableAtRest heap.words heap.held class.number }
     ensures { IfOk result (IsGivenText heap.words heap.held class.number) }
 {
     let mut offsets = drain_heap(alloc, heap, class)?;

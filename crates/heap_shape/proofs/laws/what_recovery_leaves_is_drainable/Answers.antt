@@ -1,8 +1,8 @@
-use Rattle.heap_shape.proofs.RecoveredLemmas.{reached_tidy, reached_drains}
-use Rattle.heap_shape.proofs.laws.what_recovery_leaves_is_tidy.Goals as goal
+use Rattle.heap_shape.proofs.RecoveredLemmas.{reached_drainable, reached_drains}
+use Rattle.heap_shape.proofs.laws.what_recovery_leaves_is_drainable.Goals as goal
 
-pub returns-clause-tidy : goal.returns-clause-tidy
-returns-clause-tidy c = reached_tidy
+pub returns-clause-drainable : goal.returns-clause-drainable
+returns-clause-drainable c = reached_drainable
 
 pub returns-clause-drains : goal.returns-clause-drains
 returns-clause-drains c = reached_drains

@@ -2,11 +2,11 @@ use Rattle.std.proofs.Common.{refl}
 use Rattle.tool_run.specs.Command.{drain_image}
 use Rattle.tool_run.proofs.CallLemmas.{refuses}
 use Rattle.tool_run.proofs.DeliveryLemmas.{at_cause}
-use Rattle.tool_run.proofs.DrainLemmas.{tidy_at_rest, drains}
+use Rattle.tool_run.proofs.DrainLemmas.{drainable_at_rest, drains}
 use Rattle.tool_run.proofs.draining.drain_image.Goals as goal
 
 pub heap_text-requires : goal.heap_text-requires
-heap_text-requires g c = tidy_at_rest _ _ _ c.in_ok-recovered.ensures.ok c.args.class.number
+heap_text-requires g c = drainable_at_rest _ _ _ c.in_ok-recovered.ensures.ok c.args.class.number
 
 pub returns-in_err-recovered-clause-err : goal.returns-in_err-recovered-clause-err
 returns-in_err-recovered-clause-err g c =

@@ -45,8 +45,8 @@ loop-offsets-preserved g c = (
 )
 
 pub returns-clause-ok : goal.returns-clause-ok
-returns-clause-ok g c = λ tidy.
-    drains_last c.args.class c.args.self.now c.loop-offsets.self c.loop-offsets.offsets.items (c.loop-offsets.invariant.0.0 tidy)
+returns-clause-ok g c = λ drainable.
+    drains_last c.args.class c.args.self.now c.loop-offsets.self c.loop-offsets.offsets.items (c.loop-offsets.invariant.0.0 drainable)
     (subst (λ a. DrainsAs c.args.class a c.loop-offsets.self.parts c.request.new.self.parts) c.in_default.is (c.in_ok-b.ensures.drains c.args.class c.requires c.size_of.ensures))
 
 pub returns-in_err-b-clause-few : goal.returns-in_err-b-clause-few
