@@ -2,7 +2,7 @@
 use Rattle.std.proofs.Common.{◌≡◌, ◌≢◌, ◌⊎◌, inl, inr, ℕ, ◌*◌, Bool, true, false, not, ◌||◌, cond, nat_eq, nat_lt, Option, Some, None, refl, arith}
 use Rattle.std.proofs.lemmas.Bool.{ltb-false, eqb-true, eqb-false, eq-eqb, ne_eqb, le-ltb, not-false, not_from_true, or_parts, or_cases, or_left, or_right}
 use Rattle.heap_model.specs.declared.header.BadHeader.TheVariants.{Short, Magic, Version, Capacity, Length, State, Used}
-use Rattle.heap_model.specs.Geometry.{magic, version, clean, dirty, image_words}
+use Rattle.heap_model.specs.Geometry.{magic, version, largest_capacity, clean, dirty, image_words}
 use Rattle.heap_model.specs.Image.{Image}
 use Rattle.heap_model.specs.Header.{IsWellFormed, has_fault, header_fault}
 
@@ -22,17 +22,17 @@ well_formed bytes image none =
     let short = none_parts (nat_lt bytes 8512) Short _ none in
     let magic_is = none_parts (not (nat_eq (image 0) magic)) Magic _ short.1 in
     let version_is = none_parts (not (nat_eq (image 1) version)) Version _ magic_is.1 in
-    let capacity = none_parts (nat_eq (image 2) 0 || nat_lt 256 (image 2)) Capacity _ version_is.1 in
+    let capacity = none_parts (nat_eq (image 2) 0 || nat_lt largest_capacity (image 2)) Capacity _ version_is.1 in
     let length_is = none_parts (not (nat_eq bytes (8 * image_words (image 2)))) Length _ capacity.1 in
     let state = none_parts (not (nat_eq (image 3) clean || nat_eq (image 3) dirty)) State _ length_is.1 in
     let used = none_parts (nat_lt (image 2) (image 8)) Used _ state.1 in
-    let range = or_parts (nat_eq (image 2) 0) (nat_lt 256 (image 2)) capacity.0 in
+    let range = or_parts (nat_eq (image 2) 0) (nat_lt largest_capacity (image 2)) capacity.0 in
     let some : image 2 ≢ 0 = eqb-false (image 2) 0 range.0 in
     record {
       magic_is = same_number (image 0) magic magic_is.0;
       version_is = same_number (image 1) version version_is.0;
       some = omega arith;
-      small = ltb-false 256 (image 2) range.1;
+      small = ltb-false largest_capacity (image 2) range.1;
       length_is = same_number bytes (8 * image_words (image 2)) length_is.0;
       state = elim (or_cases (nat_eq (image 3) clean) (nat_eq (image 3) dirty) (not-false _ state.0)) as (λ _. (image 3 ≡ clean) ⊎ (image 3 ≡ dirty)) [
         | inl yes_clean ↦ inl (eqb-true (image 3) clean yes_clean)
@@ -49,7 +49,7 @@ no_fault bytes image good =
     let magic_is : not (nat_eq (image 0) magic) ≡ false = not_from_true _ (eq-eqb (image 0) magic good.magic_is) in
     let version_is : not (nat_eq (image 1) version) ≡ false = not_from_true _ (eq-eqb (image 1) version good.version_is) in
     let some : nat_eq (image 2) 0 ≡ false = ne_eqb (image 2) 0 (λ none. let least = good.some in omega arith) in
-    let small : nat_lt 256 (image 2) ≡ false = le-ltb 256 (image 2) good.small in
+    let small : nat_lt largest_capacity (image 2) ≡ false = le-ltb largest_capacity (image 2) good.small in
     let length_is : not (nat_eq bytes (8 * image_words (image 2))) ≡ false = not_from_true _ (eq-eqb bytes (8 * image_words (image 2)) good.length_is) in
     let state : not (nat_eq (image 3) clean || nat_eq (image 3) dirty) ≡ false = not_from_true _ (elim good.state as (λ _. (nat_eq (image 3) clean || nat_eq (image 3) dirty) ≡ true) [
       | inl yes_clean ↦ or_left _ _ (eq-eqb (image 3) clean yes_clean)

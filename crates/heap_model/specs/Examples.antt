@@ -2,7 +2,7 @@
 use Rattle.std.specs.Prelude.{◌≡◌, ℕ, List, [], ◌∷◌, refl, Some, None}
 use Rattle.std.proofs.Common.{arith, inl, inr}
 use Rattle.heap_model.specs.declared.header.BadHeader.TheVariants.{Short, Length, State, Used}
-use Rattle.heap_model.specs.Geometry.{magic, version, clean, IsReserved, in_header, in_descriptor}
+use Rattle.heap_model.specs.Geometry.{magic, version, largest_capacity, clean, IsReserved, in_header, in_descriptor}
 use Rattle.heap_model.specs.Counting.{put, times, total, without, below}
 use Rattle.heap_model.specs.Image.{Image, image_of_bytes, bytes_of_words}
 use Rattle.heap_model.specs.Header.{header_fault, has_fault}
@@ -29,29 +29,29 @@ magic_number = refl
 
 -- an image is good at its exact length alone
 good_length : header_fault 74112 (formatted 1 []) ≡ None
-unfolding header_fault has_fault
+unfolding header_fault has_fault largest_capacity
 good_length = refl
 
 one_byte_less : header_fault 74111 (formatted 1 []) ≡ Some Length
-unfolding header_fault has_fault
+unfolding header_fault has_fault largest_capacity
 one_byte_less = refl
 
 one_word_more : header_fault 74120 (formatted 1 []) ≡ Some Length
-unfolding header_fault has_fault
+unfolding header_fault has_fault largest_capacity
 one_word_more = refl
 
 -- without all of header and roots it is too short, whatever it holds
 no_roots : header_fault 8511 (formatted 1 []) ≡ Some Short
-unfolding header_fault has_fault
+unfolding header_fault has_fault largest_capacity
 no_roots = refl
 
 -- of two causes the first in their order is told
 state_before_used : header_fault 74112 (put (formatted 1 ((8, 2) ∷ [])) 3 0) ≡ Some State
-unfolding header_fault has_fault
+unfolding header_fault has_fault largest_capacity
 state_before_used = refl
 
 used_alone : header_fault 74112 (formatted 1 ((8, 2) ∷ [])) ≡ Some Used
-unfolding header_fault has_fault
+unfolding header_fault has_fault largest_capacity
 used_alone = refl
 
 -- the largest class has four blocks of 14,336 bytes; one byte more than a superblock takes two

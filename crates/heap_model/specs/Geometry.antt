@@ -1,5 +1,6 @@
 -- Where things stand in an image, as word indices. A word has 8 bytes, a line 8 words; `capacity` is the number of superblocks, `d` one of them.
 use Rattle.std.specs.Prelude.{◌≡◌, ◌≢◌, ℕ, ◌+◌, ◌-◌, ◌*◌, ◌<◌, ◌≤◌, ◌⊎◌}
+use Rattle.std.proofs.Common.{arith}
 
 -- the first word of each image: its first eight bytes are the text "10COLLAR"
 abbrev pub magic : ℕ
@@ -9,9 +10,13 @@ magic = 0x52414C4C4F433031
 abbrev pub version : ℕ
 version = 1
 
--- the greatest capacity
-abbrev pub largest_capacity : ℕ
+-- the greatest capacity; the value stands here alone, and of it a proof knows only that it is not past this
+unfoldable pub largest_capacity : ℕ
 largest_capacity = 256
+
+pub largest_capacity_fits : largest_capacity ≤ 4096
+unfolding largest_capacity
+largest_capacity_fits = omega arith
 
 -- the state word of an image that was closed, and of one that was not
 abbrev pub clean : ℕ
@@ -86,3 +91,7 @@ pub data IsReserved (capacity : ℕ) : ℕ → Type 0 where
   in_header : (word : ℕ) → state_word < word → word < root_word 0 → word ≢ used_word
       → (word < head_word 0) ⊎ (head_word (lists - 1) < word) → IsReserved capacity word
   in_descriptor : (d at word : ℕ) → d < capacity → 3 ≤ at → at < 8 → word ≡ info_word d + at → IsReserved capacity word
+
+-- a word that no step on an open heap changes: the first four of the header, and those without a meaning; kinds of roots, once an image stores them, are such words too
+abbrev pub IsFixed : ℕ → ℕ → Type 0
+IsFixed capacity word = (word < 4) ⊎ IsReserved capacity word

@@ -1,19 +1,19 @@
 -- Worked examples of what roots and links reach.
-use Rattle.std.specs.Prelude.{[], ◌∷◌, refl, cond, nat_eq}
+use Rattle.std.specs.Prelude.{ℕ, [], ◌∷◌, refl, cond, nat_eq}
 use Rattle.std.proofs.Common.{arith}
 use Rattle.heap_model.specs.declared.block.Block.{Block}
 use Rattle.heap_model.specs.Image.{Image}
 use Rattle.heap_model.specs.Sizes.{class_sizes, words_of_class, blocks_of}
 use Rattle.heap_model.specs.Blocks.{of_class}
 use Rattle.heap_model.specs.Pointers.{Leads}
-use Rattle.heap_model.specs.Reach.{Links, Reach, by_root, by_link}
-use Rattle.heap_model.specs.Examples.{formatted}
+use Rattle.heap_model.specs.Reach.{Links, Reach, by_start, by_link}
+use Rattle.heap_model.specs.Examples.{image_with, formatted}
 use Rattle.heap_model.specs.BlockExamples.{one_table, table_block, root_leads}
 
 -- what root 0 leads to is reached, as what root 0 has for its kind
 reached : (links : Links) → Reach one_table (λ _. 1) links (table_block 0) 1
 unfolding one_table
-reached links = by_root 0 (table_block 0) 1 (omega arith) tt refl root_leads
+reached links = by_start (table_block 0) 1 (record { root = 0; below = omega arith; is_chosen = tt; kind_is = refl; leads = root_leads })
 
 -- The base image of the damage tests: a table, and in its bucket 0 a node.
 unfoldable pub table_and_node : Image
@@ -63,4 +63,10 @@ node_leads = record {
 
 node_reached : Reach table_and_node (λ _. 1) table_links node 2
 node_reached =
-    by_link table node 1 0 2 (by_root 0 table 1 (omega arith) tt refl table_leads) (0, omega arith, refl) node_leads
+    by_link table node 1 2 (by_start table 1 (record { root = 0; below = omega arith; is_chosen = tt; kind_is = refl; leads = table_leads }))
+    (record { position = 0; listed = (0, omega arith, refl); leads = node_leads })
+
+-- where each word is null, nothing is reached, whatever the filter lists
+null_roots : (kinds : ℕ → ℕ) (links : Links) (b : Block) (kind : ℕ) → Reach (image_with []) kinds links b kind → ⊥
+null_roots kinds links _ _ (by_start b kind start) = let tagged = start.leads.pointer.tagged in omega arith
+null_roots kinds links _ _ (by_link a b from kind before link) = null_roots kinds links a from before
