@@ -6,6 +6,7 @@ pub mod HeaderLemmas
 pub mod MemberLemmas
 pub mod CountingLemmas
 pub mod PartLemmas
+pub mod DecisionLemmas
 pub mod StandingLemmas
 pub mod ChainLemmas
 pub mod LeftLemmas

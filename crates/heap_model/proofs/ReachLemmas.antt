@@ -1,12 +1,13 @@
 -- Facts on pointers and reach: a word leads to one block, and reach is the least closed set.
-use Rattle.std.proofs.Common.{◌≡◌, ◌≢◌, ℕ, ◌+◌, ◌*◌, ◌<◌, List, Contains, refl, sym, subst, ◌∙◌, arith, Bool, IsTrue, ◌↔◌}
+use Rattle.std.proofs.Common.{◌≡◌, ◌≢◌, ℕ, ◌+◌, ◌*◌, ◌<◌, List, Contains, inl, inr, refl, sym, subst, ◌∙◌, arith, Bool, IsTrue, ◌↔◌}
 use Rattle.heap_model.specs.declared.block.Block.{Block}
 use Rattle.heap_model.specs.Image.{Image}
 use Rattle.heap_model.specs.Blocks.{layout_of, Names, IsBlock}
-use Rattle.heap_model.specs.Pointers.{IsPointerTo, Leads}
+use Rattle.heap_model.specs.Pointers.{IsPointerTo, Leads, LeadsOutside}
 use Rattle.heap_model.specs.Geometry.{roots, root_word}
-use Rattle.heap_model.specs.Reach.{Links, words_in, Closure, by_start, by_link, ReachFrom, Reach, is_root, is_linked, TracesAlike, IsClosed}
+use Rattle.heap_model.specs.Reach.{Links, words_in, Closure, by_start, by_link, ReachFrom, Reach, is_root, is_linked, IsTracedFrom, TracesAlike, IsClosed}
 use Rattle.heap_model.proofs.BlockLemmas.{same_first}
+use Rattle.heap_model.proofs.DecisionLemmas.{is_block}
 
 -- a word is a pointer to one offset
 pub one_offset : (word p q : ℕ) → IsPointerTo word p → IsPointerTo word q → p ≡ q
@@ -103,3 +104,34 @@ module _ (image other : Image) (chosen : ℕ → Type 0) (kinds : ℕ → ℕ) (
     leads = leads_there image other _ _ b (link_same a from link.position kind reached link.listed)
         (alike.are_blocks b kind (by_link a b from kind reached link)) link.leads;
   })
+
+  module _ (inside : (at : ℕ) → IsTracedFrom image chosen kinds links at → LeadsOutside image (image at) → ⊥) where
+    -- where a traced word leads to a block in the other image it does in the one: it leads to some block there, which is one in the other too
+    leads_here : (at kind : ℕ) (b : Block) → IsTracedFrom image chosen kinds links at
+        → ((a : Block) → Leads image (image at) a → ReachFrom image chosen kinds links a kind) → Leads other (other at) b → Leads image (image at) b
+    leads_here at kind b traced reaches leads = elim (is_block (layout_of image) b) [
+      | inl is ↦ leads_there other image (other at) (image at) b (sym (alike.same_words at traced)) is leads
+      | inr not ↦ absurd (inside at traced (record {
+        not_null = not_null (image at) (8 * b.first_word) (record { tagged = sym (alike.same_words at traced) ∙ leads.pointer.tagged; short = leads.pointer.short });
+        nowhere = λ a to_a. not (subst (λ x. IsBlock (layout_of image) x)
+            (one_block other (other at) a b (leads_there image other (image at) (other at) a (alike.same_words at traced) (alike.are_blocks a kind (reaches a to_a)) to_a) leads)
+            to_a.names.block);
+      }))
+    ]
+
+    -- so where a trace of the one image meets no word that leads outside, the other reaches nothing else
+    pub nothing_more : (b : Block) (kind : ℕ) → ReachFrom other chosen kinds links b kind → ReachFrom image chosen kinds links b kind
+    nothing_more _ _ (by_start b kind start) =
+        let traced : IsTracedFrom image chosen kinds links (root_word start.root) = is_root start.root (root_word start.root) start.below start.is_chosen refl in
+        let reaches : (a : Block) → Leads image (image (root_word start.root)) a → ReachFrom image chosen kinds links a kind =
+        λ a leads. by_start a kind (record { root = start.root; below = start.below; is_chosen = start.is_chosen; kind_is = start.kind_is; leads = leads }) in
+        reaches b (leads_here (root_word start.root) kind b traced reaches start.leads)
+    nothing_more _ _ (by_link a b from kind reached link) =
+        let before = nothing_more a from reached in
+        let listed : Contains (links from (words_in image a)) (link.position, kind) =
+        subst (λ (ls : List (ℕ × ℕ)). Contains ls (link.position, kind)) (alike.same_links a from before) link.listed in
+        let traced : IsTracedFrom image chosen kinds links (a.first_word + link.position) =
+        is_linked a from link.position kind (a.first_word + link.position) before listed refl in
+        let reaches : (c : Block) → Leads image (image (a.first_word + link.position)) c → ReachFrom image chosen kinds links c kind =
+        λ c leads. by_link a c from kind before (record { position = link.position; listed = listed; leads = leads }) in
+        reaches b (leads_here (a.first_word + link.position) kind b traced reaches link.leads)

@@ -7,7 +7,7 @@ ghost use Rattle.heap_model.specs.Image.{Image};
 ghost use Rattle.heap_model.specs.Header.{IsWellFormed, header_fault, empty_words};
 ghost use Rattle.heap_model.specs.Blocks.{Layout, IsBlock, IsBlockOf, AreOneOrApart, layout_of, Names};
 ghost use Rattle.heap_model.specs.Pointers.{IsPointerTo, Leads};
-ghost use Rattle.heap_model.specs.Reach.{Links, Reach, IsClosed};
+ghost use Rattle.heap_model.specs.Reach.{Links, AnyRoot, Reach, TracesAlike, IsOutside, IsClosed};
 
 /// Two blocks are one, or have no word in common.
 pub fn blocks_never_overlap()
@@ -41,6 +41,16 @@ pub fn reach_is_closed()
 pub fn reach_is_least()
     ensures { (image : Image) (kinds : ℕ → ℕ) (links : Links) (has : Block → ℕ → Bool)
         → IsClosed image kinds links has → (b : Block) (kind : ℕ) → Reach image kinds links b kind → IsTrue (has b kind) }
+{}
+
+/// An image in which a trace finds what it finds in another reaches what that one reaches, and the
+/// same where nothing is outside in that one.
+pub fn reach_is_told_by_what_is_traced()
+    ensures kept { (image other : Image) (kinds : ℕ → ℕ) (links : Links) → TracesAlike image other AnyRoot kinds links
+        → (b : Block) (kind : ℕ) → Reach image kinds links b kind → Reach other kinds links b kind }
+    ensures same { (image other : Image) (kinds : ℕ → ℕ) (links : Links) → TracesAlike image other AnyRoot kinds links
+        → ((at : ℕ) → IsOutside image kinds links at → ⊥)
+        → (b : Block) (kind : ℕ) → Reach image kinds links b kind ↔ Reach other kinds links b kind }
 {}
 
 /// A header is well formed exactly where no cause holds.
