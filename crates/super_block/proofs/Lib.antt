@@ -1,3 +1,4 @@
+pub mod ConstantLemmas
 pub mod DivisionLemmas
 pub mod NamingLemmas
 pub mod DirectoryLemmas

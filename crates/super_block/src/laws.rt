@@ -2,12 +2,13 @@
 ghost use Rattle.std.specs.Prelude.{◌≡◌, ◌↔◌, ℕ, ◌+◌, ◌*◌, ◌≤◌};
 ghost use Rattle.heap_model.specs.Sizes.{IsClass};
 ghost use Rattle.heap_model.specs.Words.{large_info};
-ghost use Rattle.heap_model.specs.Geometry.{magic, version, largest_capacity, clean, dirty, magic_word, version_word, capacity_word, state_word, used_word, head_word, roots, root_word, lists, line_words, fixed_words, info_word, anchor_word, link_word, superblock_words, start_word};
+ghost use Rattle.heap_model.specs.Geometry.{magic, version, largest_capacity, clean, dirty, magic_word, version_word, capacity_word, state_word, used_word, head_word, roots, root_word, lists, line_words, fixed_words, info_word, anchor_word, link_word, superblock_words, start_word, image_words};
 
 use crate::layout::{
     ANCHOR_OFFSET, CAPACITY_WORD, CLEAN, DESCRIPTOR_WORDS, DIRTY, FIXED_WORDS, HEAD_WORD,
-    LARGE_INFO, LARGE_STEP, LARGEST_CAPACITY, LAST_CLASS, LINE_WORDS, LINK_OFFSET, LISTS, MAGIC,
-    MAGIC_WORD, ROOT_WORD, ROOTS, STATE_WORD, SUPERBLOCK_WORDS, USED_WORD, VERSION, VERSION_WORD,
+    LARGE_INFO, LARGE_STEP, LARGEST_CAPACITY, LAST_CLASS, LINE_WORDS, LINK_OFFSET, LISTS,
+    LONGEST_IMAGE, MAGIC, MAGIC_WORD, ROOT_WORD, ROOTS, STATE_WORD, SUPERBLOCK_WORDS, USED_WORD,
+    VERSION, VERSION_WORD,
 };
 
 /// The constants of this crate are the numbers that the definitions of the image speak of.
@@ -16,6 +17,7 @@ pub fn constants_agree()
     ensures magic { MAGIC ≡ magic }
     ensures version { VERSION ≡ version }
     ensures largest_capacity { LARGEST_CAPACITY ≡ largest_capacity }
+    ensures longest_image { LONGEST_IMAGE ≡ 8 * image_words largest_capacity }
     ensures clean { CLEAN ≡ clean }
     ensures dirty { DIRTY ≡ dirty }
     ensures roots { ROOTS ≡ roots }

@@ -1,4 +1,5 @@
 use Rattle.std.proofs.Common.{◌<◌, ◌*◌, ap, subst, sym, arith}
+use Rattle.heap_model.specs.Geometry.{largest_capacity_fits}
 use Rattle.super_block.proofs.NamingLemmas.{block_offset}
 use Rattle.super_block.proofs.naming.block_at.Goals as goal
 
@@ -10,7 +11,7 @@ pub overflow_mul-result : goal.overflow_mul-result
 overflow_mul-result c = let inside = within c in omega arith
 
 pub overflow_add-result : goal.overflow_add-result
-overflow_add-result c = let inside = within c in omega arith
+overflow_add-result c = let inside = within c in omega (arith, largest_capacity_fits)
 
 pub returns : goal.returns
 returns c = record {

@@ -1,0 +1,8 @@
+use Rattle.super_block.proofs.ConstantLemmas.{largest_capacity_is, longest_image_is}
+use Rattle.super_block.proofs.laws.constants_agree.Goals as goal
+
+pub returns-clause-largest_capacity : goal.returns-clause-largest_capacity
+returns-clause-largest_capacity c = largest_capacity_is
+
+pub returns-clause-longest_image : goal.returns-clause-longest_image
+returns-clause-longest_image c = longest_image_is
