@@ -3,7 +3,7 @@ use Rattle.std.proofs.Common.{◌≡◌, ℕ, ◌+◌, ◌-◌, ◌*◌, ◌^◌
 use Rattle.std.specs.Prelude.{Contains}
 use Rattle.std.proofs.lemmas.List.Elements.{Contains-append_left}
 use Rattle.heap_model.specs.declared.block.Block.{Block}
-use Rattle.heap_model.specs.Geometry.{fixed_words}
+use Rattle.heap_model.specs.Geometry.{fixed_words, largest_capacity_fits}
 use Rattle.heap_model.specs.Image.{Image}
 use Rattle.heap_model.specs.Header.{IsWellFormed}
 use Rattle.heap_model.specs.Blocks.{Names, layout_of, IsBlock}
@@ -119,7 +119,7 @@ pub image_short : (image : Image) (n : ℕ) → IsWellFormed (8 * n) image → (
 image_short image n formed =
     let long = formed.length_is in
     let small = formed.small in
-    (omega arith, omega arith)
+    (omega arith, omega (arith, largest_capacity_fits))
 
 pub block_within : (image : Image) (n : ℕ) (b : Block) → IsWellFormed (8 * n) image → IsBlock (layout_of image) b → b.first_word + b.words ≤ n
 block_within image n b formed is =

@@ -15,11 +15,11 @@ use Rattle.heap_model.specs.Blocks.{Layout, layout_of, IsBlock}
 use Rattle.heap_model.specs.Header.{IsWellFormed}
 use Rattle.heap_model.proofs.BlockLemmas.{block_words}
 use Rattle.heap_model.specs.Pointers.{LeadsOutside}
-use Rattle.heap_model.specs.Reach.{Links, Reach, IsOutside, by_root, by_link, words_in, AreInside, IsTraced, is_root, is_linked}
+use Rattle.heap_model.specs.Reach.{Links, AnyRoot, RootLeads, Reach, IsOutside, by_start, by_link, words_in, AreInside, IsTraced, is_root, is_linked}
 use Rattle.filter_trace.specs.declared.fault.TraceFault.{TraceFault}
 use Rattle.filter_trace.specs.declared.fault.TraceFault.TheVariants.{Outside, Memory}
 use Rattle.filter_trace.specs.Reached.{TellsOutside, AreReached}
-use Rattle.filter_trace.specs.Trace.{Follows, IsSettled, Each, IsExtended, IsRooted, FollowsRoots, FollowsLinks, TellsOfWord, TellsOfRoots, HasSettled, IsWork}
+use Rattle.filter_trace.specs.Trace.{Follows, IsSettled, Each, IsExtended, FollowsRoots, FollowsLinks, TellsOfWord, TellsOfRoots, HasSettled, IsWork}
 use Rattle.filter_trace.specs.Pairs.{mark_of, HasRoom, AreMarked}
 use Rattle.filter_trace.proofs.PairLemmas.{pair_cases}
 use Rattle.filter_trace.proofs.StepLemmas.{follow_marked, follow_each, follow_grows, follow_settles, follow_long, still_settled, more_and_more, block_within}
@@ -32,8 +32,8 @@ roots_step image kinds count n pairs pairs' marks marks' was below kind follows 
     let grown = follow_grows image count (root_word n) (kinds n) pairs pairs' marks marks' follows in
     record {
       marked = follow_marked image count (root_word n) (kinds n) pairs pairs' marks marks' was.marked kind follows;
-      rooted = follow_each (IsRooted image kinds) image count (root_word n) (kinds n) pairs pairs' marks marks' was.rooted
-          (λ b leads. record { root = n; below = below; is = refl; leads = leads }) follows;
+      rooted = follow_each (RootLeads image AnyRoot kinds) image count (root_word n) (kinds n) pairs pairs' marks marks' was.rooted
+          (λ b leads. record { root = n; below = below; is_chosen = tt; kind_is = refl; leads = leads }) follows;
       settled = below_more (λ i. IsSettled image pairs' (root_word i) (kinds i)) n
           (λ i low. still_settled image pairs pairs' (root_word i) (kinds i) grown (was.settled i low))
           (follow_settles image count (root_word n) (kinds n) pairs pairs' marks marks' was.marked kind follows);
@@ -55,7 +55,7 @@ links_step image kinds links count a from upto position kind pairs pairs' pairs'
       found = record {
         marked = follow_marked image count at kind pairs' pairs'' marks' marks'' was.found.marked below follows;
         reached = follow_each (Reach image kinds links) image count at kind pairs' pairs'' marks' marks'' was.found.reached
-            (λ b leads. by_link a b from position kind reached listed leads) follows;
+            (λ b leads. by_link a b from kind reached (record { position = position; listed = listed; leads = leads })) follows;
       };
       grown = more_and_more pairs pairs' pairs'' was.grown grown;
       settled = λ p k in_upto. elim (Contains-push_cases upto (position, kind) (p, k) in_upto) as (λ _. IsSettled image pairs'' (a.first_word + p) k) [
@@ -103,7 +103,7 @@ tells_link image kinds links a from position kind Memory reached listed tells = 
 -- and so does one that tells of a root
 pub tells_root : (image : Image) (kinds : ℕ → ℕ) (links : Links) (fault : TraceFault) → TellsOfRoots image fault → TellsOutside image kinds links fault
 tells_root image kinds links (Outside at value) tells = (
-  record { traced = is_root tells.0 at tells.1 tells.2; outside = tells.3 },
+  record { traced = is_root tells.0 at tells.1 tt tells.2; outside = tells.3 },
   tells.4,
 )
 tells_root image kinds links Memory tells = tt
@@ -135,7 +135,7 @@ pub work_begins : (image : Image) (kinds : ℕ → ℕ) (links : Links) (count :
 work_begins image kinds links count pairs marks roots_done = record {
   found = record {
     marked = roots_done.marked;
-    reached = record { each = λ b kind here. let from = roots_done.rooted.each b kind here in by_root from.root b kind from.below tt from.is from.leads };
+    reached = record { each = λ b kind here. by_start b kind (roots_done.rooted.each b kind here) };
   };
   roots_settled = roots_done.settled;
   links_settled = record { each = λ b kind here. let none = here.1 in absurd (omega arith) };
@@ -181,16 +181,16 @@ few_pairs l count pairs marks marked = let some = count_by-le-length (λ (mark :
 complete : (image : Image) (kinds : ℕ → ℕ) (links : Links) (pairs : List (Block × ℕ))
     → ((i : ℕ) → i < roots → IsSettled image pairs (root_word i) (kinds i)) → Each (HasSettled image links pairs) pairs
     → (b : Block) (kind : ℕ) → Reach image kinds links b kind → Contains pairs (b, kind)
-complete image kinds links pairs from_roots from_links _ _ (by_root i b kind below starts is leads) =
-    subst (λ k. Contains pairs (b, k)) (sym is) ((from_roots i below).here b leads)
-complete image kinds links pairs from_roots from_links _ _ (by_link a b from position kind reached listed leads) =
-    ((from_links.each a from (complete image kinds links pairs from_roots from_links a from reached)).each position kind listed).here b leads
+complete image kinds links pairs from_roots from_links _ _ (by_start b kind start) =
+    subst (λ k. Contains pairs (b, k)) (sym start.kind_is) ((from_roots start.root start.below).here b start.leads)
+complete image kinds links pairs from_roots from_links _ _ (by_link a b from kind reached link) =
+    ((from_links.each a from (complete image kinds links pairs from_roots from_links a from reached)).each link.position kind link.listed).here b link.leads
 
 -- and no word is outside
 inside_all : (image : Image) (kinds : ℕ → ℕ) (links : Links) (pairs : List (Block × ℕ))
     → ((i : ℕ) → i < roots → IsSettled image pairs (root_word i) (kinds i)) → Each (HasSettled image links pairs) pairs
     → (at : ℕ) → IsTraced image kinds links at → LeadsOutside image (image at) → ⊥
-inside_all image kinds links pairs from_roots from_links _ (is_root i at below is) outside =
+inside_all image kinds links pairs from_roots from_links _ (is_root i at below chosen is) outside =
     (from_roots i below).inside (subst (λ n. LeadsOutside image (image n)) is outside)
 inside_all image kinds links pairs from_roots from_links _ (is_linked a from position kind at reached listed is) outside =
     ((from_links.each a from (complete image kinds links pairs from_roots from_links a from reached)).each position kind listed).inside

@@ -5,7 +5,7 @@ use Rattle.heap_model.specs.Geometry.{roots, root_word}
 use Rattle.heap_model.specs.Image.{Image}
 use Rattle.heap_model.specs.Blocks.{layout_of}
 use Rattle.heap_model.specs.Pointers.{Leads, LeadsOutside}
-use Rattle.heap_model.specs.Reach.{Links, Reach, words_in}
+use Rattle.heap_model.specs.Reach.{Links, AnyRoot, RootLeads, Reach, words_in}
 use Rattle.filter_trace.specs.declared.fault.TraceFault.{TraceFault}
 use Rattle.filter_trace.specs.declared.fault.TraceFault.TheVariants.{Outside, Memory}
 use Rattle.filter_trace.specs.declared.scan.Target.{Target}
@@ -42,13 +42,6 @@ pub record IsSettled (image : Image) (pairs : List (Block × ℕ)) (at kind : �
 pub record HasSettled (image : Image) (links : Links) (pairs : List (Block × ℕ)) (a : Block) (from : ℕ) : Type 0 where
   pub each : (position kind : ℕ) → Contains (links from (words_in image a)) (position, kind) → IsSettled image pairs (a.first_word + position) kind
 
--- a root leads to the block, and has the kind
-pub record IsRooted (image : Image) (kinds : ℕ → ℕ) (b : Block) (kind : ℕ) : Type 0 where
-  pub root : ℕ
-  pub below : root < roots
-  pub is : kind ≡ kinds root
-  pub leads : Leads image (image (root_word root)) b
-
 -- what holds of each pair
 pub record Each (holds : Block → ℕ → Type 0) (pairs : List (Block × ℕ)) : Type 0 where
   pub each : (b : Block) (kind : ℕ) → Contains pairs (b, kind) → holds b kind
@@ -66,7 +59,7 @@ pub record IsFound (image : Image) (kinds : ℕ → ℕ) (links : Links) (count 
 -- what following the first `upto` roots leaves
 pub record FollowsRoots (image : Image) (kinds : ℕ → ℕ) (count upto : ℕ) (pairs : List (Block × ℕ)) (marks : List Bool) : Type 0 where
   pub marked : AreMarked (layout_of image) count pairs marks
-  pub rooted : Each (IsRooted image kinds) pairs
+  pub rooted : Each (RootLeads image AnyRoot kinds) pairs
   pub settled : (i : ℕ) → i < upto → IsSettled image pairs (root_word i) (kinds i)
 
 -- what following these links of a block leaves

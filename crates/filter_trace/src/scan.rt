@@ -52,6 +52,7 @@ impl Scan<'_> {
     }
 
     /// The words of the block.
+    #[tactic(auto, using(heap_model::specs::Geometry::largest_capacity_fits))]
     fn words_of(&self, block: Block) -> &[u64]
         requires formed { IsImage self.now.words.now }
         requires block { IsBlock (layout_of (slice_index self.now.words.now)) block }

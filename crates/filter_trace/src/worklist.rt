@@ -15,6 +15,7 @@ use std::alloc::Global;
 use super_block::Directory;
 
 /// Marks what the roots of the image reach, `kinds` being the kind of what each root leads to.
+#[tactic(auto, using(heap_model::specs::Geometry::largest_capacity_fits))]
 pub fn trace<F: Filter>(
     alloc: Global,
     words: &[u64],

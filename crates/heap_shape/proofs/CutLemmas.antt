@@ -2,7 +2,7 @@
 use Rattle.std.proofs.Common.{◌≡◌, ◌≢◌, ℕ, zero, suc, ◌+◌, ◌<◌, ◌≤◌, ◌⊎◌, inl, inr, nat_eq, List, [], ◌∷◌, length, Contains, refl, ap, sym, subst, ◌∙◌, arith}
 use Rattle.std.proofs.lemmas.Bool.{cases_eq, eqb-true, eq-eqb}
 use Rattle.heap_model.specs.declared.block.Block.{Block}
-use Rattle.heap_model.specs.Geometry.{lists, head_word, info_word, anchor_word, link_word, used_word}
+use Rattle.heap_model.specs.Geometry.{lists, head_word, info_word, anchor_word, link_word, used_word, largest_capacity_fits}
 use Rattle.heap_model.specs.Image.{Image}
 use Rattle.heap_model.specs.Sizes.{IsClass, blocks_of}
 use Rattle.heap_model.specs.Words.{anchor_first, anchor_count, full_anchor, head_first}
@@ -91,7 +91,7 @@ module _ (capacity : ℕ) (image : Image) (held : List Block) (s : Shape) (shape
         from_is =
             let head = heads list below ∙ popped.set.at in
             let small = follows_small (λ e. image (link_word e)) capacity (image (link_word d)) ds rest in
-            let few = shape.small in omega arith
+            let few = shape.small in omega (arith, largest_capacity_fits)
 
   -- and where its place is in no list now
   pub listed_popped : (list d : ℕ) (ds : List ℕ) → list < lists → s.listed list ≡ d ∷ ds → (other e : ℕ) → other < lists

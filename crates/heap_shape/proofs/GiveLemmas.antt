@@ -4,7 +4,7 @@ use Rattle.std.proofs.lemmas.Bool.{cases_eq, eqb-true, eq-eqb, ne_eqb, cond-true
 use Rattle.std.proofs.lemmas.List.{append-nil}
 use Rattle.std.proofs.lemmas.List.Elements.{Contains-append_left, Contains-append_right, Contains-append_cases}
 use Rattle.heap_model.specs.declared.block.Block.{Block}
-use Rattle.heap_model.specs.Geometry.{lists, head_word, info_word, anchor_word, link_word, used_word, start_word}
+use Rattle.heap_model.specs.Geometry.{lists, head_word, info_word, anchor_word, link_word, used_word, start_word, largest_capacity_fits}
 use Rattle.heap_model.specs.Image.{Image}
 use Rattle.heap_model.specs.Sizes.{IsClass, blocks_of}
 use Rattle.heap_model.specs.Words.{anchor_of, anchor_state, anchor_first, anchor_count, empty_state, partial_state, head_first}
@@ -349,7 +349,7 @@ module _ (capacity class d : ℕ) (image new final : Image) (held : List Block) 
   chain_is = sym (ap (λ xs. (before ++ last ∷ []) ++ xs) full_none ∙ append-nil (before ++ last ∷ []))
 
   pushed_head : head_first (final (head_word list)) ≡ d + 1
-  pushed_head = let at = pushed.head.at in let small = shape.small in omega arith
+  pushed_head = let at = pushed.head.at in let small = shape.small in omega (arith, largest_capacity_fits)
 
   pushed_link : final (link_word d) ≡ head_first (image (head_word list))
   pushed_link = let high = last_high in

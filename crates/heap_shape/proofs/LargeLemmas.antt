@@ -2,7 +2,7 @@
 use Rattle.std.proofs.Common.{◌≡◌, ◌≢◌, ℕ, zero, suc, ◌+◌, ◌*◌, ◌<◌, ◌≤◌, inl, inr, nat_eq, List, ◌∷◌, Contains, refl, ap, sym, subst, ◌∙◌, arith}
 use Rattle.std.proofs.lemmas.Bool.{cases_eq, eqb-true, eq-eqb}
 use Rattle.heap_model.specs.declared.block.Block.{Block}
-use Rattle.heap_model.specs.Geometry.{lists, head_word, info_word, anchor_word, link_word, used_word, start_word, superblock_words}
+use Rattle.heap_model.specs.Geometry.{lists, head_word, info_word, anchor_word, link_word, used_word, start_word, superblock_words, largest_capacity_fits}
 use Rattle.heap_model.specs.Image.{Image}
 use Rattle.heap_model.specs.Sizes.{IsClass}
 use Rattle.heap_model.specs.Words.{anchor_state, head_first}
@@ -168,7 +168,7 @@ module _ (capacity d : ℕ) (image middle new : Image) (held : List Block) (s : 
       let link : new (link_word d) ≡ head_first (image (head_word 0)) =
       pushed.head.others (link_word d) (λ q. omega arith) ∙ pushed.link.at ∙ ap head_first (set.others (head_word 0) (λ q. omega arith)) in
       let rest = links_same 0 (head_first (image (head_word 0))) (omega arith) (shape.follows 0 (omega arith)) in
-      (omega arith, within, subst (λ from. Leads new capacity from (s.listed 0)) (sym link) rest)
+      (omega (arith, largest_capacity_fits), within, subst (λ from. Leads new capacity from (s.listed 0)) (sym link) rest)
 
   follows_other : (list : ℕ) → list < lists → list ≢ 0 → Leads new capacity (head_first (new (head_word list))) (s.listed list)
   follows_other list less other =

@@ -2,7 +2,7 @@
 use Rattle.std.proofs.Common.{◌≡◌, ◌≢◌, ℕ, zero, suc, ◌+◌, ◌*◌, ◌<◌, ◌≤◌, inl, inr, nat_eq, List, [], ◌∷◌, map, length, slice_index, Contains, refl, ap, sym, subst, ◌∙◌, arith}
 use Rattle.std.proofs.lemmas.Bool.{cases_eq, cases_lt, eqb-true, eq-eqb, lt-ltb, ltb-true}
 use Rattle.heap_model.specs.declared.block.Block.{Block}
-use Rattle.heap_model.specs.Geometry.{lists, head_word, info_word, anchor_word, link_word}
+use Rattle.heap_model.specs.Geometry.{lists, head_word, info_word, anchor_word, link_word, largest_capacity_fits, largest_capacity}
 use Rattle.heap_model.specs.Image.{Image}
 use Rattle.heap_model.specs.Header.{IsWellFormed, capacity_of, used_of}
 use Rattle.heap_model.specs.Sizes.{IsClass, blocks_of, words_of_class}
@@ -53,13 +53,13 @@ times_in n (x ∷ xs) p = elim (head_or_rest x n xs p) as (λ _. 0 < one_if (nat
 ]
 
 -- a head that was never popped is the number of its list's first descriptor
-pub head_at_rest : (link : ℕ → ℕ) (capacity head : ℕ) (ds : List ℕ) → capacity ≤ 256 → Follows link capacity head ds
+pub head_at_rest : (link : ℕ → ℕ) (capacity head : ℕ) (ds : List ℕ) → capacity ≤ largest_capacity → Follows link capacity head ds
     → Follows link capacity (head_first head) ds
 head_at_rest link capacity head [] small follows = let none : head ≡ 0 = follows in omega arith
 head_at_rest link capacity head (d ∷ ds) small follows =
     let first : head ≡ d + 1 = follows.0 in
     let within : d < capacity = follows.1 in
-    (omega arith, within, follows.2)
+    (omega (arith, largest_capacity_fits), within, follows.2)
 
 -- the first words of blocks
 abbrev firsts_of : List Block → List ℕ

@@ -2,7 +2,7 @@
 use Rattle.std.proofs.Common.{◌≡◌, ◌≢◌, ℕ, ◌<◌, ◌≤◌, inl, inr, List, [], ◌∷◌, length, Contains, refl, ap, sym, subst, ◌∙◌, arith}
 use Rattle.std.proofs.lemmas.Bool.{cases_eq}
 use Rattle.heap_model.specs.declared.block.Block.{Block}
-use Rattle.heap_model.specs.Geometry.{lists, head_word, info_word, anchor_word, link_word, used_word}
+use Rattle.heap_model.specs.Geometry.{lists, head_word, info_word, anchor_word, link_word, used_word, largest_capacity_fits}
 use Rattle.heap_model.specs.Image.{Image}
 use Rattle.heap_model.specs.Sizes.{IsClass, blocks_of}
 use Rattle.heap_model.specs.Words.{anchor_state, empty_state, partial_state, head_first, head_of}
@@ -127,7 +127,7 @@ recycle capacity class d image middle new held s ds is shape list state popped p
       let few = follows_from (λ e. image (link_word e)) capacity (image (link_word d)) ds before.2 in
       let set : new (head_word class) ≡ head_of (head_first (image (link_word d))) popped.pops =
       pushed.head.others (head_word class) (λ q. not_free (omega arith)) ∙ pushed.link.others (head_word class) (λ q. omega arith) ∙ popped.set.at in
-      let first : head_first (new (head_word class)) ≡ image (link_word d) = omega arith in
+      let first : head_first (new (head_word class)) ≡ image (link_word d) = omega (arith, largest_capacity_fits) in
       subst (λ x. Follows (λ e. new (link_word e)) capacity x ds) (sym first)
       (follows_same (λ e. image (link_word e)) (λ e. new (link_word e)) capacity (image (link_word d)) ds
       (λ e p. link_same e (λ one. let some = times_of e ds p in let none : times e ds ≡ 0 = subst (λ x. times x ds ≡ 0) (sym one) gone in omega arith)) before.2)
