@@ -1,5 +1,5 @@
 //! The header of an image, and what can be wrong with it.
-#![tactic(auto, using(std::proofs::lemmas::Bool::Decides::nat_tests), unfolding(heap_model::specs::Header::header_fault, heap_model::specs::Header::has_fault))]
+#![tactic(auto, using(std::proofs::lemmas::Bool::Decides::nat_tests, super_block::proofs::ConstantLemmas::largest_capacity_is, heap_model::specs::Geometry::largest_capacity_fits), unfolding(heap_model::specs::Header::header_fault, heap_model::specs::Header::has_fault))]
 
 ghost use Rattle.std.specs.Prelude.{◌≡◌, ◌*◌, ◌≤◌, length, slice_index, IfOk, OnOk};
 ghost use Rattle.std.specs.Result.{result_err};
