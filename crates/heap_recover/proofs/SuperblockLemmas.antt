@@ -3,7 +3,7 @@ use Rattle.std.proofs.Common.{◌≡◌, ℕ, zero, suc, ◌+◌, ◌-◌, ◌*�
 use Rattle.std.specs.List.{Contains, AllPairs}
 use Rattle.std.proofs.Math.Nat.{mul-div_cancel}
 use Rattle.std.proofs.lemmas.List.Elements.{Contains-get_or}
-use Rattle.heap_model.specs.Geometry.{info_word, start_word, image_words}
+use Rattle.heap_model.specs.Geometry.{info_word, start_word, image_words, largest_capacity, largest_capacity_fits}
 use Rattle.heap_model.specs.Header.{capacity_of}
 use Rattle.heap_model.specs.Image.{Image}
 use Rattle.heap_model.specs.Sizes.{words_of_class, blocks_of}
@@ -59,7 +59,7 @@ pub record IsFirstSpare (capacity class d : ℕ) (spares : List ℕ) (index : �
   pub quotient : (slice_index spares 0 - start_word capacity d) / words_of_class class ≡ index
   pub few : length spares < 2 ^ 31
 
-pub first_spare : (capacity class d : ℕ) (spares : List ℕ) → capacity ≤ 256 → d < capacity → AreSpares capacity class d spares → (index : ℕ) × IsFirstSpare capacity class d spares index
+pub first_spare : (capacity class d : ℕ) (spares : List ℕ) → capacity ≤ largest_capacity → d < capacity → AreSpares capacity class d spares → (index : ℕ) × IsFirstSpare capacity class d spares index
 first_spare capacity class d spares small below are =
     let block = are.blocks (slice_index spares 0) (Contains-get_or spares 0 0 are.some) in
     let at : slice_index spares 0 ≡ start_word capacity d + block.0 * words_of_class class = block.1.at in
@@ -71,7 +71,7 @@ first_spare capacity class d spares small below are =
         below = block.1.below;
         at = at;
         quotient = ap (λ x. x / words_of_class class) rest ∙ mul-div_cancel block.0 (let two = two_words class are.is_class in omega arith);
-        few = omega (arith, inside.1);
+        few = omega (arith, inside.1, largest_capacity_fits);
       },
     )
 
@@ -85,7 +85,7 @@ pub record IsFoundFirst (capacity class d : ℕ) (spares : List ℕ) (start word
   pub begins : start_word capacity d + (slice_index spares 0 - start) / words * words_of_class class ≡ slice_index spares 0
   pub few : length spares < 2 ^ 31
 
-pub found_first : (capacity class d : ℕ) (spares : List ℕ) (start words : ℕ) → capacity ≤ 256 → d < capacity → AreSpares capacity class d spares
+pub found_first : (capacity class d : ℕ) (spares : List ℕ) (start words : ℕ) → capacity ≤ largest_capacity → d < capacity → AreSpares capacity class d spares
     → start ≡ start_word capacity d → words ≡ words_of_class class → IsFoundFirst capacity class d spares start words
 found_first capacity class d spares start words small below are start_is words_is =
     let first = first_spare capacity class d spares small below are in

@@ -7,9 +7,10 @@ ghost use Rattle.heap_recover.specs.Rebuilt.{IsLinked, AreListed};
 
 use crate::roles::Role;
 use std::alloc::{AllocError, Global};
-use super_block::{Geometry, HEAD_WORD, LARGEST_CAPACITY, LISTS};
+use super_block::{Geometry, HEAD_WORD, LISTS};
 
 /// Links all lists, of superblocks with these roles.
+#[tactic(auto, using(heap_model::specs::Geometry::largest_capacity_fits))]
 pub fn link_lists(
     alloc: Global,
     words: &mut [u64],

@@ -1,5 +1,6 @@
 use Rattle.std.proofs.Common.{◌≡◌, length, slice_index, ap, sym, subst, ◌∙◌, arith}
 use Rattle.heap_model.specs.declared.block.Block.{Block}
+use Rattle.heap_model.specs.Geometry.{largest_capacity_fits}
 use Rattle.heap_model.specs.Blocks.{layout_of}
 use Rattle.heap_model.specs.Recovered.{IsFreeSuperblock, AreAscending}
 use Rattle.heap_model.specs.Recovery.{IsRecovered}
@@ -16,7 +17,7 @@ members-requires c =
     let long = c.in_ok-found.ensures.ok.long in
     let used = c.requires.formed.used in
     let small = c.requires.formed.small in
-    omega (arith, ap length c.deref.ensures.value)
+    omega (arith, largest_capacity_fits, ap length c.deref.ensures.value)
 
 -- the words that the heap is made of
 all_words : (c : goal.In_ok-free) → c.in_ok-new.new.len ≡ length c.rebuild.new.new
