@@ -1,5 +1,5 @@
 //! The texts that the tool prints of a heap, as bytes.
-#![tactic(auto)]
+#![tactic(auto, using(heap_model::specs::Geometry::largest_capacity_fits))]
 
 mod class;
 mod laws;
