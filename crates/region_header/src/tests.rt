@@ -1,3 +1,5 @@
+#![tactic(auto, unfolding(heap_model::specs::Geometry::largest_capacity))]
+
 use crate::{BadHeader, Header, bytes_to_words, check_bytes, format, read_header, words_to_bytes};
 use std::alloc::{AllocError, Global};
 use std::test::Fail;

@@ -71,6 +71,7 @@ impl Geometry {
 }
 
 #[cfg(test)]
+#[tactic(auto, unfolding(heap_model::specs::Geometry::largest_capacity))]
 mod tests {
     use super::*;
     use crate::layout::WORD_BYTES;

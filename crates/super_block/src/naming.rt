@@ -99,6 +99,7 @@ pub fn block_at(geometry: &Geometry, d: u64, index: u64, class: u8) -> Block
 }
 
 #[cfg(test)]
+#[tactic(auto, unfolding(heap_model::specs::Geometry::largest_capacity))]
 mod tests {
     use super::*;
     use crate::directory::Directory;

@@ -1,3 +1,5 @@
+#![tactic(auto, unfolding(heap_model::specs::Geometry::largest_capacity))]
+
 ghost use Rattle.std.specs.Prelude.{◌≤◌, IsTrue};
 ghost use Rattle.heap_model.specs.Geometry.{largest_capacity};
 ghost use Rattle.trace_text.specs.HeapMap.{AreInOrder};
