@@ -68,6 +68,7 @@ fn parse_show_map<'a>(image: &'a str, option: &str) -> Option<Invocation<'a>>
     }
 }
 
+#[tactic(auto, using(super_block::proofs::ConstantLemmas::largest_capacity_is))]
 fn parse_format<'a>(command: &str, image: &'a str, number: &str) -> Option<Invocation<'a>>
     ensures some { IfSome result
         (λ invocation. Asks (command.now ∷ image.now ∷ number.now ∷ []) (command_of invocation)) }
