@@ -41,4 +41,8 @@ fn blocks_given_back_change_the_state(rt: HostRuntime) {
             count: 64
         }
     );
+    // Field by field: no clause says what the derived `==` answers.
+    let all = give(&one, 3, 63, 64);
+    assert!(rt; all.first == 3 && all.count == 64);
+    assert!(rt; matches!(all.state, State::Empty));
 }

@@ -163,6 +163,20 @@ fn a_block_of_two_kinds_is_followed_as_each(rt: HostRuntime) -> Result<(), Fail>
 }
 
 #[test]
+fn a_block_with_links_may_be_reached_as_one_without(rt: HostRuntime) -> Result<(), Fail> {
+    let table = Block {
+        first_word: 1_072,
+        words: 128,
+    };
+    let words = [(1_064, 12), (40, TO_A), (41, TO_A)];
+    for (first, second) in [(0, 1), (1, 0)] {
+        let marks = traced(rt.alloc(), &words, first, second)?;
+        assert_eq!(rt; kinds_of(&marks, table), [true, true, false]);
+    }
+    Ok(())
+}
+
+#[test]
 fn no_other_block_has_been_reached(rt: HostRuntime) -> Result<(), Fail> {
     let marks = traced(rt.alloc(), &[CLASS_2, (40, TO_A), (41, TO_C)], 2, 0)?;
     assert_eq!(rt; kinds_of(&marks, A), [false, false, true]);

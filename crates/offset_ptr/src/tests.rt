@@ -13,6 +13,11 @@ fn a_pointer_word_is_decoded_to_its_offset(rt: HostRuntime) {
         assert!(rt; offset < 1 << 48);
         assert_eq!(rt; encode(offset), word, "at {offset}");
         assert_eq!(rt; decode(word), Ptr::At(offset), "at {offset}");
+        // By its field: no clause says what the derived `==` answers.
+        assert!(rt;
+            matches!(decode(word), Ptr::At(at) if at == offset),
+            "at {offset}"
+        );
     }
 }
 

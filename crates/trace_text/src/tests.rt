@@ -152,3 +152,19 @@ fn an_empty_heap_is_reported_and_mapped(rt: HostRuntime) -> Result<(), Fail> {
     assert_eq!(rt; map.as_slice(), b"used 0 free 0 fresh 256\n".as_slice());
     Ok(())
 }
+
+#[test]
+fn a_heap_with_all_superblocks_taken_is_mapped(rt: HostRuntime) -> Result<(), Fail> {
+    let words = image(rt.alloc(), 256, 256, [0, 0, 0, 0])?;
+    assert!(rt; read_header(&words).is_ok());
+    let held = blocks(rt.alloc(), &[])?;
+    assert!(rt; are_in_order(&held));
+    let free = (0..256).collect::<Vec<u32>>(rt.alloc())?;
+    let map = map_of_image(rt.alloc(), &words, &held, &free)?;
+    let map = map.as_slice();
+    let begin = b"used 256 free 256 fresh 0\nsb 0 free\n".as_slice();
+    assert!(rt; map.starts_with(begin) && map.ends_with(b"\nsb 255 free\n".as_slice()));
+    let lines = map.iter().filter(|byte| **byte == b'\n').count();
+    assert_eq!(rt; lines, 257);
+    Ok(())
+}
