@@ -1,8 +1,9 @@
 # make         builds the proved heap_tool and says where it lies
+# make test    runs all tests and the stored runs, and proves nothing
 # make check   every check: the gate
 # make bench   times the program beside the system's tools, and the heap for one thread
 # make clean   removes what these made
-.PHONY: all check bench clean
+.PHONY: all test check bench clean
 
 all: bin/heap_tool
 
@@ -12,6 +13,9 @@ bin/heap_tool: crates.txt $(wildcard crates/*/src/*.rt crates/*/specs/*.antt cra
 	cd crates/heap_tool && rt run -- format ../../bin/example.img 1
 	cp crates/heap_tool/out/heap_tool bin/heap_tool
 	@echo "the program is bin/heap_tool"
+
+test:
+	tools/run_tests
 
 check:
 	.ci/run

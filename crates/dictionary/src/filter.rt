@@ -1,6 +1,6 @@
 //! Where the blocks of the dictionary hold pointers.
 
-ghost use Rattle.std.specs.Prelude.{◌≡◌, length, slice_get};
+ghost use Rattle.std.specs.Prelude.{◌≡◌, ◌<◌, All, length, slice_get};
 ghost use Rattle.dictionary.specs.DictLinks.{all_to_nodes, first_to_node, dict_links, root_kinds};
 
 use filter_trace::Filter;
@@ -20,7 +20,8 @@ pub const SHARDS: usize = 8;
 
 /// The kind of each root: the first eight lead to tables, and the others to blocks without links.
 pub fn root_kinds() -> [u32; ROOTS as usize]
-    ensures { result ≡ root_kinds }
+    ensures kinds { result ≡ root_kinds }
+    ensures few { All (λ kind. kind < 3) result }
 {
     let mut kinds = [OTHER; ROOTS as usize];
     for i in 0..SHARDS {

@@ -1,8 +1,5 @@
 -- What recovery of an image's words says of its bytes.
 use Rattle.std.proofs.Common.{◌≡◌, ◌↔◌, ℕ, ◌-◌, ◌*◌, ◌<◌, List, length, slice_index, slice_index_or, replicate, Result, Ok, Err, Some, None, IfOk, IfErr, OnOk, inl, inr, sym, ◌∙◌, subst, arith}
-use Rattle.std.proofs.lemmas.Bool.{cases_lt}
-use Rattle.std.proofs.Math.ListN.{get_or-append, get_or-replicate}
-use Rattle.std.proofs.Math.Seq.{get_or-append_right}
 use Rattle.heap_model.specs.declared.block.Block.{Block}
 use Rattle.heap_model.specs.Geometry.{clean}
 use Rattle.heap_model.specs.Image.{Image, image_of_bytes}
@@ -21,17 +18,6 @@ use Rattle.heap_recover.specs.declared.fault.RecoverFault.{RecoverFault}
 use Rattle.heap_recover.specs.declared.fault.RecoverFault.TheVariants.{Header, Outside, Memory}
 use Rattle.tool_run.specs.Making.{PointsOutside}
 use Rattle.tool_run.specs.Recovering.{IsRecoveryOf, IsRecoveryFault}
-
--- each kind of a root is one of three
-small_kind : (k d : ℕ) → k < length root_kinds → slice_index_or root_kinds k d < 3
-unfolding root_kinds
-small_kind k d below = elim (cases_lt k 8) as (λ _. slice_index_or root_kinds k d < 3) [
-  | inl low ↦ rw (get_or-append (replicate 8 1) (replicate 1016 0) d k low, get_or-replicate 8 k 1 d low) (omega arith)
-  | inr high ↦ rw (get_or-append_right (replicate 8 1) (replicate 1016 0) k d high, get_or-replicate 1016 (k - 8) 0 d (omega arith)) (omega arith)
-]
-
-pub small_kinds : (kinds : List ℕ) → kinds ≡ root_kinds → (k d : ℕ) → k < length kinds → slice_index_or kinds k d < 3
-small_kinds kinds are = subst (λ (ks : List ℕ). (k d : ℕ) → k < length ks → slice_index_or ks k d < 3) (sym are) small_kind
 
 -- the words of an image are those of its bytes, at each index
 words_are : (words bytes : List ℕ) → AreWordsOf words bytes → slice_index words ≡ image_of_bytes bytes

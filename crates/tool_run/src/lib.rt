@@ -18,6 +18,4 @@ pub use status::Status;
 #[cfg(test)]
 mod harness;
 #[cfg(test)]
-mod heap_tests;
-#[cfg(test)]
 mod tests;

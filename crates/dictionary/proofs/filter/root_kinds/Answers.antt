@@ -1,7 +1,11 @@
 use Rattle.std.proofs.Common.{◌≡◌, ◌-◌, ◌++◌, replicate, ◌∙◌, ap, ℕ, arith}
 use Rattle.dictionary.specs.DictLinks.{root_kinds}
+use Rattle.dictionary.proofs.KindLemmas.{small_kinds}
 use Rattle.dictionary.proofs.filter.root_kinds.Goals as goal
 
 pub returns : goal.returns
 unfolding root_kinds
-returns c = let eight : c.loop-i.i ≡ 8 = omega arith in c.loop-i.invariant ∙ ap (λ (i : ℕ). replicate i 1 ++ replicate (1024 - i) 0) eight
+returns c =
+    let eight : c.loop-i.i ≡ 8 = omega arith in
+    let are = c.loop-i.invariant ∙ ap (λ (i : ℕ). replicate i 1 ++ replicate (1024 - i) 0) eight in
+    record { kinds = are; few = small_kinds c.loop-i.kinds are }

@@ -1,0 +1,62 @@
+//! Heaps over recovered images, for the tests.
+ghost use Rattle.std.specs.Prelude.{◌≤◌};
+ghost use Rattle.heap_model.specs.Geometry.{largest_capacity};
+
+use block_heap::{Block, Chance, HeapSeat, SeqHeap};
+use dictionary::{DictFilter, root_kinds};
+use heap_recover::recover;
+use region_header::format;
+use std::alloc::Global;
+use std::test::Fail;
+use super_block::Ready;
+
+/// More steps than any test here takes.
+pub const MANY: u64 = 1_000_000;
+
+/// A source that gives this number always: 0 writes nothing back early, and 1 the latest store.
+#[derive(Drop)]
+pub struct Always(pub u64);
+
+impl Chance for Always {
+    fn draw(&mut self) -> u64 {
+        self.0
+    }
+}
+
+/// What recovery makes of an image of so many superblocks with these words.
+pub fn recovered(alloc: Global, capacity: u64, words: &[(usize, u64)]) -> Result<Ready, Fail>
+    requires some { 1 ≤ capacity }
+    requires small { capacity ≤ largest_capacity }
+{
+    let mut image = format(alloc, capacity)?;
+    for (at, value) in words {
+        if let Some(word) = image.get_mut(*at) {
+            *word = *value;
+        }
+    }
+    Ok(recover(alloc, &image, &root_kinds(), &DictFilter)?.heap)
+}
+
+pub fn word(words: &[u64], at: u64) -> u64 {
+    words.get(at as usize).copied().unwrap_or(0)
+}
+
+/// The first word of superblock d of an image of this capacity.
+pub fn start(capacity: u64, d: u64) -> u64 {
+    capacity
+        .wrapping_mul(8)
+        .wrapping_add(d.wrapping_mul(8_192))
+        .wrapping_add(1_064)
+}
+
+/// Where the block begins, in bytes.
+pub fn offset_of(b: Block) -> u64 {
+    b.first_word.wrapping_mul(8)
+}
+
+/// Frees the held block that begins at the byte offset.
+pub fn free_at(heap: &mut SeqHeap<Always>, offset: u64) -> Result<(), Fail> {
+    let b = heap.held_at(offset).ok_or("no held block begins there")?;
+    heap.free(b)?;
+    Ok(())
+}

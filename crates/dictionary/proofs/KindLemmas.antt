@@ -1,0 +1,17 @@
+-- Each root has one of the dictionary's three kinds.
+use Rattle.std.proofs.Common.{◌≡◌, ℕ, ◌-◌, ◌<◌, List, length, slice_index_or, replicate, inl, inr, sym, subst, arith}
+use Rattle.std.proofs.lemmas.Bool.{cases_lt}
+use Rattle.std.proofs.Math.ListN.{get_or-append, get_or-replicate}
+use Rattle.std.proofs.Math.Seq.{get_or-append_right}
+use Rattle.dictionary.specs.DictLinks.{root_kinds}
+
+-- each kind of a root is one of three
+small_kind : (k d : ℕ) → k < length root_kinds → slice_index_or root_kinds k d < 3
+unfolding root_kinds
+small_kind k d below = elim (cases_lt k 8) as (λ _. slice_index_or root_kinds k d < 3) [
+  | inl low ↦ rw (get_or-append (replicate 8 1) (replicate 1016 0) d k low, get_or-replicate 8 k 1 d low) (omega arith)
+  | inr high ↦ rw (get_or-append_right (replicate 8 1) (replicate 1016 0) k d high, get_or-replicate 1016 (k - 8) 0 d (omega arith)) (omega arith)
+]
+
+pub small_kinds : (kinds : List ℕ) → kinds ≡ root_kinds → (k d : ℕ) → k < length kinds → slice_index_or kinds k d < 3
+small_kinds kinds are = subst (λ (ks : List ℕ). (k d : ℕ) → k < length ks → slice_index_or ks k d < 3) (sym are) small_kind
