@@ -179,3 +179,24 @@ fn each_class_gives_every_block_once(rt: HostRuntime) -> Result<(), Fail> {
     }
     Ok(())
 }
+
+#[test]
+fn freed_superblocks_serve_every_class_before_fresh_ones(rt: HostRuntime) -> Result<(), Fail> {
+    let alloc = rt.alloc();
+    // how many superblocks there are, how many blocks of four a superblock are taken and given
+    // back, and what is asked for then
+    for (capacity, count, asked) in [(2, 8, [16, 65_536]), (3, 4, [16, 131_072])] {
+        let ready = recovered(alloc, capacity, &[])?;
+        let mut heap = SeqHeap::new(alloc, ready, MANY, Always(0))?;
+        let mut offsets = Vec::new(alloc);
+        for _ in 0..count {
+            offsets.push(offset_of(heap.alloc(14_336)?))?;
+        }
+        for offset in &offsets {
+            free_at(&mut heap, *offset)?;
+        }
+        let answers = asked.map(|bytes| heap.alloc(bytes).is_ok());
+        assert_eq!(rt; answers, [true, count == 4], "of {capacity}");
+    }
+    Ok(())
+}
