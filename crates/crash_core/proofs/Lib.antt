@@ -1,0 +1,13 @@
+pub mod TotalLemmas
+pub mod MemoryLemmas
+pub mod StepLemmas
+pub mod QuietLemmas
+pub mod FrameLemmas
+pub mod PlaceLemmas
+pub mod OwnLemmas
+pub mod FreshLemmas
+pub mod ListLemmas
+pub mod PopLemmas
+pub mod CountLemmas
+pub mod PushLemmas
+pub mod KeptLemmas
