@@ -10,4 +10,7 @@ pub mod ListLemmas
 pub mod PopLemmas
 pub mod CountLemmas
 pub mod PushLemmas
+pub mod BlockLemmas
+pub mod AnchorLemmas
+pub mod TakeAllLemmas
 pub mod KeptLemmas
