@@ -13,4 +13,5 @@ pub mod PushLemmas
 pub mod BlockLemmas
 pub mod AnchorLemmas
 pub mod TakeAllLemmas
+pub mod GiveLemmas
 pub mod KeptLemmas

@@ -1,6 +1,7 @@
 -- Lists of descriptors when one loses or gets its first descriptor.
-use Rattle.std.proofs.Common.{◌≡◌, ◌≢◌, ℕ, zero, suc, ◌+◌, ◌*◌, ◌%◌, ◌/◌, ◌<◌, ◌≤◌, inl, inr, ◌⊎◌, Bool, true, false, cond, not, ◌&&◌, nat_eq, nat_lt, List, [], ◌∷◌, Option, None, Some, refl, ap, sym, subst, ◌∙◌, eq-eqb, eqb-true, ne_eqb, arith}
-use Rattle.std.proofs.lemmas.Bool.{cases_eq, cases_lt}
+use Rattle.std.proofs.Common.{◌≡◌, ◌≢◌, ℕ, zero, suc, ◌+◌, ◌*◌, ◌%◌, ◌/◌, ◌<◌, ◌≤◌, inl, inr, ◌⊎◌, Bool, true, false, cond, not, ◌&&◌, nat_eq, nat_lt, List, [], ◌∷◌, get_or, Option, None, Some, refl, ap, sym, subst, ◌∙◌, eq-eqb, eqb-true, ne_eqb, arith}
+use Rattle.std.proofs.lemmas.Bool.{cases_eq, cases_lt, agree_below_at}
+use Rattle.std.proofs.lemmas.List.{get_or_default}
 use Rattle.heap_model.specs.Geometry.{lists, largest_capacity}
 use Rattle.heap_model.specs.Sizes.{IsClass}
 use Rattle.heap_model.specs.Words.{head_of, head_first, head_pops}
@@ -122,3 +123,9 @@ knows_pop capacity heads links descriptors at word ds list seen_word next more h
         linked = subst (λ x. IsThere next → (head_first seen_word ≢ 0) × (head_pops seen_word ≡ head_pops x → links (before (head_first seen_word)) ≡ seen next)) (sym now) h.linked;
       }
 ]
+
+-- the numbers of classes are classes
+pub class_of : (i n : ℕ) → i < 20 → get_or class_numbers i n ≡ n → IsClass n
+class_of i n below at = subst IsClass (sym (at_index i below) ∙ at) (record { some = omega arith; last = omega arith }) where
+  at_index : (j : ℕ) → j < 20 → get_or class_numbers j n ≡ j + 1
+  at_index j less = get_or_default class_numbers j n 0 less ∙ eqb-true (get_or class_numbers j 0) (j + 1) (agree_below_at (λ y. nat_eq (get_or class_numbers y 0) (y + 1)) (λ _. true) 20 j refl less)
