@@ -14,4 +14,5 @@ pub mod BlockLemmas
 pub mod AnchorLemmas
 pub mod TakeAllLemmas
 pub mod GiveLemmas
+pub mod OwnerLemmas
 pub mod KeptLemmas
