@@ -1,7 +1,7 @@
 -- A pop: the first descriptor of a list is claimed.
 use Rattle.std.proofs.Common.{◌≡◌, ◌≢◌, ℕ, zero, suc, ◌+◌, ◌<◌, ◌≤◌, max, inl, inr, ◌⊎◌, Bool, true, false, cond, not, ◌&&◌, nat_eq, nat_lt, List, [], ◌∷◌, get_or, set, length, Option, None, Some, refl, ap, sym, subst, ◌∙◌, eq-eqb, ne_eqb, arith}
 use Rattle.std.proofs.lemmas.Bool.{cases_eq, cases_lt}
-use Rattle.heap_model.specs.Geometry.{lists, largest_capacity}
+use Rattle.heap_model.specs.Geometry.{lists, largest_capacity, largest_capacity_fits}
 use Rattle.heap_model.specs.Sizes.{IsClass}
 use Rattle.heap_model.specs.Words.{head_of, head_first, head_pops, anchor_state, empty_state, full_state}
 use Rattle.heap_model.specs.Chains.{Follows}
@@ -55,7 +55,7 @@ module _ (k : Setup) (m : Memory) (views : List View) (i : ℕ) (v : View) (belo
   parts_of_head : (head_first (popped_head v) ≡ link m d) × (head_pops (popped_head v) ≡ head_pops word + 1)
   parts_of_head =
       let small : link m d ≤ k.capacity = follows_small (link m) k.capacity (link m d) first.rest first.follows in
-      let fits = good.small in
+      let fits = good.small in let limit = largest_capacity_fits in
       let next_first : head_first (seen v.seen_link) ≡ link m d = (let e = link_is in omega arith) in
       let p = head_parts (head_first (seen v.seen_link)) (head_pops word + 1) (omega arith) in
       (p.0 ∙ next_first, p.1)

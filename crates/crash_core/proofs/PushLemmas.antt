@@ -1,7 +1,7 @@
 -- A push: a claimed descriptor goes to the front of a list.
 use Rattle.std.proofs.Common.{◌≡◌, ◌≢◌, ℕ, zero, suc, ◌+◌, ◌<◌, ◌≤◌, inl, inr, ◌⊎◌, Bool, true, false, cond, not, ◌&&◌, nat_eq, nat_lt, List, [], ◌∷◌, get_or, set, length, Option, None, Some, refl, ap, sym, subst, ◌∙◌, eq-eqb, ne_eqb, lt-ltb, arith}
 use Rattle.std.proofs.lemmas.Bool.{cases_eq, cases_lt}
-use Rattle.heap_model.specs.Geometry.{lists, largest_capacity}
+use Rattle.heap_model.specs.Geometry.{lists, largest_capacity, largest_capacity_fits}
 use Rattle.heap_model.specs.Sizes.{IsClass, blocks_of}
 use Rattle.heap_model.specs.Words.{head_of, head_first, head_pops, anchor_state, empty_state, partial_state, full_state}
 use Rattle.heap_model.specs.Chains.{Follows}
@@ -72,7 +72,7 @@ module _ (k : Setup) (m : Memory) (views : List View) (i : ℕ) (v : View) (belo
   small_d = let a = may.durable in let b = good.shaped.durable.behind in let c = good.shaped.durable.room in omega arith
 
   parts_of_head : (head_first (pushed_head v d) ≡ d + 1) × (head_pops (pushed_head v d) ≡ head_pops (head m l))
-  parts_of_head = let fits = good.small in let less = small_d in let p = head_parts (d + 1) (head_pops word) (omega arith) in (p.0, p.1 ∙ ap head_pops (sym as_seen))
+  parts_of_head = let fits = good.small in let limit = largest_capacity_fits in let less = small_d in let p = head_parts (d + 1) (head_pops word) (omega arith) in (p.0, p.1 ∙ ap head_pops (sym as_seen))
 
   follows : Follows (link m) k.capacity (head_first (pushed_head v d)) (d ∷ good.shape.lists l)
   follows = (parts_of_head.0, small_d, subst (λ x. Follows (link m) k.capacity x (good.shape.lists l)) (ap head_first as_seen ∙ sym may.linked) (good.shaped.lists.follows l is_list))

@@ -1,6 +1,6 @@
 -- What is so of memory and seats between any two steps, as records over no more than each reads. "In exactly one place" is a sum over lists, seats and the superblocks that are full in no list.
 use Rattle.std.specs.Prelude.{◌≡◌, ◌≢◌, ℕ, ◌+◌, ◌*◌, ◌<◌, ◌≤◌, ◌⊎◌, ◌↔◌, Bool, true, not, ◌&&◌, nat_eq, nat_le, nat_lt, List, [], ◌∷◌, length, get_or, Contains, Option, None, Some, slice_index}
-use Rattle.heap_model.specs.Geometry.{lists, start_word, image_words, largest_capacity, capacity_word, state_word, used_word, IsReserved}
+use Rattle.heap_model.specs.Geometry.{lists, start_word, image_words, largest_capacity, capacity_word, used_word, IsFixed}
 use Rattle.heap_model.specs.Sizes.{IsClass, words_of_class, blocks_of}
 use Rattle.heap_model.specs.Words.{head_first, head_pops, anchor_state, anchor_first, anchor_count, empty_state, partial_state, full_state, full_anchor, large_info}
 use Rattle.heap_model.specs.Counting.{times, total, below, one_if}
@@ -232,11 +232,6 @@ pub record Good (k : Setup) (m : Memory) (views : List View) : Type 0 where
   pub lost : Each views (HasLost m views)
   -- superblocks that became empty in a list of their class came there by a give, or were so at the opening
   pub moves : empties k.capacity (anchor m) (times_parked shape (tally_of views)) + total (λ (v : View). v.moves) views ≤ total (λ (v : View). v.gives) views + k.capacity
-
--- a word that no step changes: the first four of the header, and those without a meaning
-pub data IsFixed (capacity : ℕ) : ℕ → Type 0 where
-  in_header : (word : ℕ) → word ≤ state_word → IsFixed capacity word
-  reserved : (word : ℕ) → IsReserved capacity word → IsFixed capacity word
 
 -- the words of the shared table and the views of the seats are sound
 pub record Sound (k : Setup) (words : List ℕ) (views : List View) : Type 0 where
