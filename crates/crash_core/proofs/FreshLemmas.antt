@@ -50,11 +50,11 @@ known_fresh c values u (suc n) cell value long room is knows =
       | inl later ↦ inl (let f = later.0 in record { d = f.d; from = (let x = f.from in omega arith); until = (let x = f.until in omega arith); is = f.is }, later.1)
       | inr at_three ↦ elim (known_after c two (index_of (link_cell u)) 0 cell value long_two is at_three) [
         | inl here ↦ inl (record { d = u; from = omega arith; until = omega arith; is = inr (inr (here.0 ∙ cell_at_index c (link_cell u) small)) }, here.1)
-        | inr at_two ↦ elim (known_after c one (index_of (anchor_cell u)) 0 cell value (length-set values (index_of (info_cell u)) (Some 0) ∙ long) is at_two) [
+        | inr at_two ↦ elim (known_after c one (index_of (anchor_cell u)) 0 cell value (length-set values (index_of (info_cell u)) (Some 0) ∙ long) is at_two.1) [
           | inl here ↦ inl (record { d = u; from = omega arith; until = omega arith; is = inr (inl (here.0 ∙ cell_at_index c (anchor_cell u) small)) }, here.1)
-          | inr at_one ↦ elim (known_after c values (index_of (info_cell u)) 0 cell value long is at_one) [
+          | inr at_one ↦ elim (known_after c values (index_of (info_cell u)) 0 cell value long is at_one.1) [
             | inl here ↦ inl (record { d = u; from = omega arith; until = omega arith; is = inl (here.0 ∙ cell_at_index c (info_cell u) small) }, here.1)
-            | inr old ↦ inr old
+            | inr old ↦ inr old.1
           ]
         ]
       ]

@@ -15,4 +15,5 @@ pub mod AnchorLemmas
 pub mod TakeAllLemmas
 pub mod GiveLemmas
 pub mod OwnerLemmas
+pub mod OwnStepLemmas
 pub mod KeptLemmas

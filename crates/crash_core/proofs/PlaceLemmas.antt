@@ -1,5 +1,5 @@
 -- Cells and word indices tell each other.
-use Rattle.std.proofs.Common.{◌≡◌, ◌≢◌, ℕ, ◌+◌, ◌-◌, ◌*◌, ◌/◌, ◌%◌, ◌<◌, ◌≤◌, inl, inr, ◌⊎◌, Bool, true, false, cond, ◌&&◌, nat_eq, nat_lt, nat_le, List, get_or, set, length, Option, None, Some, refl, ap, sym, subst, ◌∙◌, eqb-true, eq-eqb, ltb-true, lt-ltb, leb-true, le-leb, ltb-false, true≢false, arith}
+use Rattle.std.proofs.Common.{◌≡◌, ◌≢◌, ℕ, zero, suc, ◌+◌, ◌-◌, ◌*◌, ◌/◌, ◌%◌, ◌<◌, ◌≤◌, inl, inr, ◌⊎◌, Bool, true, false, cond, ◌&&◌, nat_eq, nat_lt, nat_le, List, get_or, set, length, Option, None, Some, refl, ap, sym, subst, ◌∙◌, eqb-true, eq-eqb, ltb-true, lt-ltb, leb-true, le-leb, ltb-false, true≢false, arith}
 use Rattle.std.proofs.lemmas.Bool.{cases_eq, cases_lt}
 use Rattle.std.proofs.lemmas.List.{get_or-set_same, get_or-set_other}
 use Rattle.std.proofs.lemmas.Grind.{get_or-set_at}
@@ -85,13 +85,53 @@ index_within c (root_cell n) is = let less : n < 1024 = ltb-true n 1024 is in om
 index_within c (data_cell word) is = ltb-true word (image_words c) (and_both (nat_le (start_word c 0) word) (nat_lt word (image_words c)) is).1
 index_within c no_cell is = absurd (cc)
 
+-- the word index of the cell at a word index is that
+pub index_at : (c word : ℕ) → is_cell c (cell_at c word) ≡ true → index_of (cell_at c word) ≡ word
+index_at c word is = elim (cases_lt word 40) [
+    | inl in_header ↦ via (header_cell word) (pick (nat_lt word 40) _ _ (lt-ltb word 40 in_header)) (in_the_header in_header)
+    | inr past ↦ elim (cases_lt word 1064) [
+      | inl root ↦ via (root_cell (word - 40)) (skip (nat_lt word 40) _ _ (not-lt word 40 (omega arith)) ∙ pick (nat_lt word 1064) _ _ (lt-ltb word 1064 root)) (λ _. omega arith)
+      | inr past_roots ↦ elim (cases_lt word (start_word c 0)) [
+        | inl line ↦ via (descriptor_cell ((word - 1064) / 8) ((word - 1064) % 8))
+            (skip (nat_lt word 40) _ _ (not-lt word 40 (omega arith)) ∙ skip (nat_lt word 1064) _ _ (not-lt word 1064 past_roots) ∙ pick (nat_lt word (start_word c 0)) _ _ (lt-ltb word (start_word c 0) line))
+            (in_the_line past_roots)
+        | inr past_lines ↦ elim (cases_lt word (image_words c)) [
+          | inl block ↦ via (data_cell word)
+              (skip (nat_lt word 40) _ _ (not-lt word 40 (omega arith)) ∙ skip (nat_lt word 1064) _ _ (not-lt word 1064 past_roots) ∙ skip (nat_lt word (start_word c 0)) _ _ (not-lt word (start_word c 0) past_lines)
+                ∙ pick (nat_lt word (image_words c)) _ _ (lt-ltb word (image_words c) block)) (λ _. refl)
+          | inr beyond ↦ via no_cell
+              (skip (nat_lt word 40) _ _ (not-lt word 40 (omega arith)) ∙ skip (nat_lt word 1064) _ _ (not-lt word 1064 past_roots) ∙ skip (nat_lt word (start_word c 0)) _ _ (not-lt word (start_word c 0) past_lines)
+                ∙ skip (nat_lt word (image_words c)) _ _ (not-lt word (image_words c) beyond)) (λ e. absurd (true≢false (sym e)))
+        ] ] ] ] where
+  via : (cell : Cell) → cell_at c word ≡ cell → (is_cell c cell ≡ true → index_of cell ≡ word) → index_of (cell_at c word) ≡ word
+  via cell same of = subst (λ x. is_cell c x ≡ true → index_of x ≡ word) (sym same) of is
+  in_the_header : word < 40 → is_cell c (header_cell word) ≡ true → index_of (header_cell word) ≡ word
+  in_the_header less e = elim (cases_eq word 8) [
+      | inl eight ↦ subst (λ t. index_of (cond t used_cell (cond (nat_le 16 word && nat_lt word 37) (head_cell (word - 16)) no_cell)) ≡ word) (sym (eq-eqb word 8 eight)) (sym eight)
+      | inr other ↦ subst (λ t. is_cell c (cond t used_cell (cond (nat_le 16 word && nat_lt word 37) (head_cell (word - 16)) no_cell)) ≡ true → index_of (cond t used_cell (cond (nat_le 16 word && nat_lt word 37) (head_cell (word - 16)) no_cell)) ≡ word)
+          (sym (not-eq word 8 other)) (by_test (nat_le 16 word && nat_lt word 37) refl) e
+    ] where
+    by_test : (test : Bool) → nat_le 16 word && nat_lt word 37 ≡ test → is_cell c (cond test (head_cell (word - 16)) no_cell) ≡ true → index_of (cond test (head_cell (word - 16)) no_cell) ≡ word
+    by_test true both f = let low : 16 ≤ word = leb-true 16 word (and_both (nat_le 16 word) (nat_lt word 37) both).0 in omega arith
+    by_test false both f = absurd (true≢false (sym f))
+  in_the_line : 1064 ≤ word → is_cell c (descriptor_cell ((word - 1064) / 8) ((word - 1064) % 8)) ≡ true → index_of (descriptor_cell ((word - 1064) / 8) ((word - 1064) % 8)) ≡ word
+  in_the_line past e = by_offset ((word - 1064) / 8) ((word - 1064) % 8) (omega arith) e where
+    by_offset : (d at : ℕ) → word ≡ 1064 + 8 * d + at → is_cell c (descriptor_cell d at) ≡ true → index_of (descriptor_cell d at) ≡ word
+    by_offset d zero same f = omega arith
+    by_offset d (suc zero) same f = omega arith
+    by_offset d (suc (suc zero)) same f = omega arith
+    by_offset d (suc (suc (suc n))) same f = absurd (true≢false (sym f ∙ ap (is_cell c)
+      (skip (nat_eq (suc (suc (suc n))) 0) _ _ (not-eq (suc (suc (suc n))) 0 (λ z. omega (arith, z)))
+      ∙ skip (nat_eq (suc (suc (suc n))) 1) _ _ (not-eq (suc (suc (suc n))) 1 (λ z. omega (arith, z)))
+      ∙ skip (nat_eq (suc (suc (suc n))) 2) _ _ (not-eq (suc (suc (suc n))) 2 (λ z. omega (arith, z))))))
+
 -- what is known after one word was learned
 pub known_after : (c : ℕ) (values : List (Option ℕ)) (word x : ℕ) (cell : Cell) (value : ℕ) → length values ≡ image_words c → is_cell c cell ≡ true
-    → known (learn values word x) cell ≡ Some value → ((cell ≡ cell_at c word) × (value ≡ x)) ⊎ (known values cell ≡ Some value)
-known_after c values word x cell value long is knows = elim (cases_eq (index_of cell) word) as (λ _. ((cell ≡ cell_at c word) × (value ≡ x)) ⊎ (known values cell ≡ Some value)) [
+    → known (learn values word x) cell ≡ Some value → ((cell ≡ cell_at c word) × (value ≡ x)) ⊎ ((cell ≡ cell_at c word → ⊥) × (known values cell ≡ Some value))
+known_after c values word x cell value long is knows = elim (cases_eq (index_of cell) word) as (λ _. ((cell ≡ cell_at c word) × (value ≡ x)) ⊎ ((cell ≡ cell_at c word → ⊥) × (known values cell ≡ Some value))) [
   | inl same ↦ inl (
     sym (cell_at_index c cell is) ∙ ap (cell_at c) same,
     ap seen (sym knows ∙ get_or-set_at values word (index_of cell) (Some x) None same (let w = index_within c cell is in omega arith)),
   )
-  | inr other ↦ inr (sym (get_or-set_other values word (index_of cell) (Some x) None other) ∙ knows)
+  | inr other ↦ inr (λ same. other (ap index_of same ∙ index_at c word (subst (λ y. is_cell c y ≡ true) same is)), sym (get_or-set_other values word (index_of cell) (Some x) None other) ∙ knows)
 ]
