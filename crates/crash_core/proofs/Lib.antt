@@ -16,4 +16,5 @@ pub mod TakeAllLemmas
 pub mod GiveLemmas
 pub mod OwnerLemmas
 pub mod OwnStepLemmas
+pub mod StoreLemmas
 pub mod KeptLemmas

@@ -18,10 +18,11 @@ pub record Holdings : Type 0 where
   pub small : List (List ℕ)
   pub roots : List ℕ
   pub caches : List (List ℕ)
-  pub batch : Batch
+  pub batch_class : ℕ
+  pub batch_blocks : List ℕ
 
 abbrev pub holdings : View → Holdings
-holdings v = record { setup = v.setup; small = v.small; roots = v.roots; caches = v.caches; batch = v.batch }
+holdings v = record { setup = v.setup; small = v.small; roots = v.roots; caches = v.caches; batch_class = v.batch.class; batch_blocks = v.batch.blocks }
 
 -- where one has all that the other has, each own word of the other is its own
 pub own_grows : (v w : View) → holdings w ≡ holdings v → ((d : ℕ) → times_raw d v ≤ times_raw d w) → ((d : ℕ) → times_claimed d v ≤ times_claimed d w)
@@ -34,7 +35,7 @@ own_grows v w same raw claimed large (link_cell d) = claimed d
 own_grows v w same raw claimed large (root_cell n) = let e = ap (λ (h : Holdings). times n h.roots) same in omega arith
 own_grows v w same raw claimed large (data_cell word) =
     let more = large (superblock_at v.setup.capacity word) in
-    let blocks = ap (λ (h : Holdings). times_in_classes word 0 h.small + times_in_classes word 0 h.caches + times_within (words_of_class h.batch.class) word h.batch.blocks) same in
+    let blocks = ap (λ (h : Holdings). times_in_classes word 0 h.small + times_in_classes word 0 h.caches + times_within (words_of_class h.batch_class) word h.batch_blocks) same in
     let parts_w = ap (λ (h : Holdings). times_large (superblock_at h.setup.capacity word) w.large + times_raw (superblock_at h.setup.capacity word) w) same in
     omega arith
 own_grows v w same raw claimed large no_cell = omega arith
@@ -138,3 +139,10 @@ words_trimmed c m x setup volatile durable = record {
   volatile = λ cell value is knows. let own = known_only c x x.volatile cell value setup is knows in (subst (λ n. 0 < n) (sym (own_same x (trimmed x) refl cell)) own.0, volatile cell value is own.0 own.1);
   durable = λ cell value is knows. let own = known_only c x x.durable cell value setup is knows in (subst (λ n. 0 < n) (sym (own_same x (trimmed x) refl cell)) own.0, durable cell value is own.0 own.1);
 }
+
+-- own words depend on these alone
+pub own_equal : (v w : View) → holdings w ≡ holdings v → ((d : ℕ) → times_raw d w ≡ times_raw d v) → ((d : ℕ) → times_classed d w.classed ≡ times_classed d v.classed) → ((d : ℕ) → times_large d w.large ≡ times_large d v.large)
+    → (cell : Cell) → times_own w cell ≡ times_own v cell
+own_equal v w same raw classed large cell =
+    let up = own_grows v w same (λ d. let r = raw d in omega arith) (λ d. let r = raw d in let c = classed d in omega arith) (λ d. let r = raw d in let l = large d in omega arith) cell in
+    let down = own_grows w v (sym same) (λ d. let r = raw d in omega arith) (λ d. let r = raw d in let c = classed d in omega arith) (λ d. let r = raw d in let l = large d in omega arith) cell in omega arith

@@ -1,9 +1,10 @@
 -- A word is own to at most one seat.
-use Rattle.std.proofs.Common.{◌≡◌, ◌≢◌, ℕ, zero, suc, ◌+◌, ◌-◌, ◌*◌, ◌/◌, ◌<◌, ◌≤◌, inl, inr, ◌⊎◌, Bool, true, false, cond, ◌&&◌, nat_eq, nat_lt, nat_le, List, [], ◌∷◌, get_or, length, refl, ap, sym, subst, ◌∙◌, leb-true, ltb-true, eq-eqb, arith}
+use Rattle.std.proofs.Common.{◌≡◌, ◌≢◌, ℕ, zero, suc, ◌+◌, ◌-◌, ◌*◌, ◌/◌, ◌<◌, ◌≤◌, inl, inr, ◌⊎◌, Bool, true, false, cond, ◌&&◌, nat_eq, nat_lt, nat_le, List, [], ◌∷◌, get_or, length, refl, ap, sym, subst, ◌∙◌, leb-true, ltb-true, le-leb, lt-ltb, eq-eqb, arith}
 use Rattle.std.proofs.lemmas.Bool.{cases_eq, cases_lt, cases_order}
 use Rattle.heap_model.specs.Geometry.{start_word, superblock_words}
 use Rattle.heap_model.specs.Sizes.{IsClass, words_of_class, blocks_of}
 use Rattle.heap_model.specs.Counting.{times, total, one_if, below}
+use Rattle.heap_model.proofs.CountingLemmas.{one_if_true}
 use Rattle.heap_model.proofs.BlockLemmas.{block_step}
 use Rattle.heap_model.proofs.SizeLemmas.{two_words}
 use Rattle.crash_core.specs.Cells.{Cell, used_cell, head_cell, info_cell, anchor_cell, link_cell, root_cell, data_cell, no_cell, superblock_at}
@@ -11,8 +12,8 @@ use Rattle.crash_core.specs.Memory.{Memory, info, used}
 use Rattle.crash_core.specs.View.{Setup, View, of_class, times_own, times_raw, times_classed, times_claimed, times_large, times_block, times_within, times_in_classes}
 use Rattle.crash_core.specs.Guards.{IsOwn}
 use Rattle.crash_core.specs.Sound.{Tally, tally_of, IsCutBlock, times_cut, Good}
-use Rattle.crash_core.proofs.TotalLemmas.{total_at, total_two, total_where, total_alike, eq-eqb-one}
-use Rattle.crash_core.proofs.PlaceLemmas.{and_both}
+use Rattle.crash_core.proofs.TotalLemmas.{total_at, total_two, eq-eqb-one, ne-eqb-none}
+use Rattle.crash_core.proofs.PlaceLemmas.{and_both, and_is}
 use Rattle.crash_core.proofs.OwnLemmas.{one_at_most}
 use Rattle.crash_core.proofs.BlockLemmas.{inside_of}
 
@@ -77,7 +78,61 @@ in_lists_total b (suc n) (bs ∷ lists) some = let rest = in_lists_total b n lis
 abbrev pub in_blocks : View → ℕ → ℕ
 in_blocks v word = times_in_classes word 0 v.small + times_in_classes word 0 v.caches + times_within (words_of_class v.batch.class) word v.batch.blocks
 
+-- two blocks of a superblock that have one word are one
+pub same_block : (c class d word b b' : ℕ) → IsCutBlock c class d b → IsCutBlock c class d b' → b ≤ word → word < b + words_of_class class → b' ≤ word → word < b' + words_of_class class → b ≡ b'
+same_block c class d word b b' p q from until from' until' =
+    elim (cases_order p.index q.index) as (λ _. b ≡ b') [
+      | inl one ↦ p.at ∙ ap (λ n. start_word c d + n * words_of_class class) one ∙ sym q.at
+      | inr two ↦ elim two as (λ _. b ≡ b') [
+        | inl less ↦ absurd (let step = block_step p.index q.index (words_of_class class) less in let a = p.at in let e = q.at in omega arith)
+        | inr more ↦ absurd (let step = block_step q.index p.index (words_of_class class) more in let a = p.at in let e = q.at in omega arith)
+      ] ]
+
+-- an entry has its own first word
+within_own : (words b : ℕ) (bs : List ℕ) → 0 < words → 0 < times b bs → 0 < times_within words b bs
+within_own words b [] some there = absurd (omega arith)
+within_own words b (x ∷ bs) some there = elim (cases_eq x b) as (λ _. 0 < one_if (nat_le x b && nat_lt b (x + words)) + times_within words b bs) [
+    | inl same ↦ let one : one_if (nat_le x b && nat_lt b (x + words)) ≡ 1 = one_if_true (nat_le x b && nat_lt b (x + words)) (and_is (nat_le x b) (nat_lt b (x + words)) (le-leb x b (omega (arith, same))) (lt-ltb b (x + words) (omega (arith, same)))) in omega arith
+    | inr other ↦ let none = ne-eqb-none x b other in let rest = within_own words b bs some (omega arith) in omega arith ]
+
+in_classes_own : (b class n : ℕ) (lists : List (List ℕ)) → 0 < words_of_class (class + n) → 0 < times b (get_or lists n []) → 0 < times_in_classes b class lists
+in_classes_own b class n [] some there = absurd (omega arith)
+in_classes_own b class zero (bs ∷ lists) some there = let here = within_own (words_of_class class) b bs (subst (λ c. 0 < words_of_class c) (let e : class + 0 ≡ class = omega arith in e) some) there in omega arith
+in_classes_own b class (suc n) (bs ∷ lists) some there = let rest = in_classes_own b (class + 1) n lists (subst (λ c. 0 < words_of_class c) (let e : class + suc n ≡ class + 1 + n = omega arith in e) some) there in omega arith
+
+-- the list that has an entry
+record HasClass (b : ℕ) (lists : List (List ℕ)) : Type 0 where
+  n : ℕ
+  there : 0 < times b (get_or lists n [])
+
+which_class : (b : ℕ) (lists : List (List ℕ)) → 0 < total (times b) lists → HasClass b lists
+which_class b [] some = absurd (omega arith)
+which_class b (bs ∷ lists) some = elim (cases_lt 0 (times b bs)) [
+    | inl here ↦ record { n = 0; there = here }
+    | inr none ↦ let r = which_class b lists (omega arith) in record { n = suc r.n; there = r.there } ]
+
 module _ (k : Setup) (m : Memory) (views : List View) (good : Good k m views) where
+  -- the first word of a seat's block is its own
+  pub own_first : (j : ℕ) (v : View) → j < length views → get_or views j v ≡ v → (b : ℕ) → 0 < times_block b v → 0 < in_blocks v b
+  own_first j v below_j at_j b some =
+      let t = total_at (times_block b) views j v below_j at_j in
+      let inside = good.shaped.chained.inside b (omega arith) in
+      let cap : v.setup.capacity ≡ k.capacity = ap (λ (s : Setup). s.capacity) (good.set_up j v below_j at_j).setup in
+      let is_class = good.shaped.chained.is_class (superblock_at k.capacity b) inside.0 in
+      let s = good.blocks j v below_j at_j in
+      elim (cases_lt 0 (total (times b) v.small)) [
+        | inl small ↦ let h = which_class b v.small small in
+            let is : IsClass (0 + h.n) = subst IsClass (ap (λ c. info m (superblock_at c b)) (sym cap) ∙ s.held h.n b h.there ∙ (let e : h.n ≡ 0 + h.n = omega arith in e)) is_class in
+            let own = in_classes_own b 0 h.n v.small (let two = two_words (0 + h.n) is in omega arith) h.there in omega arith
+        | inr not_small ↦ elim (cases_lt 0 (total (times b) v.caches)) [
+          | inl cached ↦ let h = which_class b v.caches cached in
+              let is : IsClass (0 + h.n) = subst IsClass (ap (λ c. info m (superblock_at c b)) (sym cap) ∙ s.cached h.n b h.there ∙ (let e : h.n ≡ 0 + h.n = omega arith in e)) is_class in
+              let own = in_classes_own b 0 h.n v.caches (let two = two_words (0 + h.n) is in omega arith) h.there in omega arith
+          | inr not_cached ↦ let q = s.batched b (omega arith) in
+              let is : IsClass v.batch.class = subst IsClass (ap (λ c. info m (superblock_at c b)) (sym cap) ∙ ap (info m) q.0 ∙ q.1) is_class in
+              let own = within_own (words_of_class v.batch.class) b v.batch.blocks (let two = two_words v.batch.class is in omega arith) (omega arith) in omega arith
+        ] ]
+
   -- a block that has the word is the seat's, and of the superblock that the word lies in
   pub record Covers (v : View) (word b : ℕ) : Type 0 where
     pub class : ℕ
@@ -107,16 +162,9 @@ module _ (k : Setup) (m : Memory) (views : List View) (good : Good k m views) wh
   -- two such blocks are one
   pub covers_one : (u v : View) (word b c : ℕ) → Covers u word b → Covers v word c → b ≡ c
   covers_one u v word b c p q =
-      let same : p.class ≡ q.class = sym p.info_is ∙ q.info_is in
-      let w = words_of_class p.class in
-      let at_c : c ≡ start_word k.capacity (superblock_at k.capacity word) + q.is.index * words_of_class p.class = q.is.at ∙ ap (λ n. start_word k.capacity (superblock_at k.capacity word) + q.is.index * words_of_class n) (sym same) in
-      let end_c : word < c + words_of_class p.class = subst (λ n. word < c + words_of_class n) (sym same) q.until in
-      elim (cases_order p.is.index q.is.index) as (λ _. b ≡ c) [
-        | inl one ↦ p.is.at ∙ ap (λ n. start_word k.capacity (superblock_at k.capacity word) + n * words_of_class p.class) one ∙ sym at_c
-        | inr two ↦ elim two as (λ _. b ≡ c) [
-          | inl less ↦ absurd (let step = block_step p.is.index q.is.index (words_of_class p.class) less in let a = p.is.at in let f = q.from in let e = p.until in omega arith)
-          | inr more ↦ absurd (let step = block_step q.is.index p.is.index (words_of_class p.class) more in let a = p.is.at in let f = p.from in omega arith)
-        ] ]
+      let same : q.class ≡ p.class = sym q.info_is ∙ p.info_is in
+      same_block k.capacity p.class (superblock_at k.capacity word) word b c p.is (subst (λ n. IsCutBlock k.capacity n (superblock_at k.capacity word) c) same q.is) p.from p.until q.from
+        (subst (λ n. word < c + words_of_class n) same q.until)
 
   -- a seat that has the word in a block has such a block
   pub covered : (j : ℕ) (v : View) → j < length views → get_or views j v ≡ v → (word : ℕ) → 0 < in_blocks v word → (b : ℕ) × Covers v word b

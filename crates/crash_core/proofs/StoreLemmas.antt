@@ -1,0 +1,161 @@
+-- A store to an own word.
+use Rattle.std.proofs.Common.{◌≡◌, ◌≢◌, ℕ, zero, suc, ◌+◌, ◌*◌, ◌<◌, ◌≤◌, inl, inr, ◌⊎◌, Bool, true, false, cond, not, ◌&&◌, nat_eq, nat_lt, nat_le, List, [], ◌∷◌, get_or, set, length, Option, None, Some, refl, ap, ap₂, sym, subst, ◌∙◌, eq-eqb, ne_eqb, le-leb, lt-ltb, length-set, arith}
+use Rattle.std.proofs.lemmas.Bool.{cases_eq, cases_lt}
+use Rattle.heap_model.specs.Geometry.{lists, start_word}
+use Rattle.heap_model.specs.Sizes.{IsClass, words_of_class}
+use Rattle.heap_model.specs.Words.{head_first, head_pops, anchor_state, empty_state, partial_state, full_state, full_anchor, large_info}
+use Rattle.heap_model.specs.Chains.{Follows, Walks}
+use Rattle.heap_model.specs.Rest.{list_numbers}
+use Rattle.heap_model.specs.Counting.{times, total, one_if, below, without}
+use Rattle.heap_model.proofs.SizeLemmas.{two_words}
+use Rattle.heap_model.proofs.CountingLemmas.{one_if_true}
+use Rattle.crash_core.proofs.PlaceLemmas.{and_is}
+use Rattle.crash_core.specs.Cells.{Cell, used_cell, head_cell, info_cell, anchor_cell, link_cell, root_cell, data_cell, no_cell, is_cell, cell_at, superblock_at}
+use Rattle.crash_core.specs.Memory.{Memory, volatile_at, used, durable_used, durable_info, head, anchor, info, link, next, write, with_cell}
+use Rattle.crash_core.specs.View.{Setup, View, Batch, Claim, Span, Snapshot, Look, one_if_some, of_class, known, times_own, times_raw, times_classed, times_claimed, times_large, times_block}
+use Rattle.crash_core.specs.Effects.{before, seen, seen_word, seen_of, claim_class, span_count, first_of, last_of, steps, batch_count, learn, used_up, stored, stored_anchor}
+use Rattle.crash_core.specs.Guards.{IsThere, IsOwn, MayStore, MayAnchor, MayChange, as_empty, as_full}
+use Rattle.crash_core.specs.Sound.{Shape, Tally, tally_of, IsInShape, IsSetUp, IsCutBlock, IsAnchoredBy, AreChained, AreLists, AreListed, IsDurable, AreUntaken, ClaimsOf, HasClaims, HasBlocks, BlocksOf, Knows, KnowsHead, KnowsWords, Adds, stale, stale_anchor, class_numbers, times_in_lists, times_parked, times_cut, empties, Good}
+use Rattle.crash_core.proofs.TotalLemmas.{total_same, total_at, total_alike, eq-eqb-one, ne-eqb-none}
+use Rattle.crash_core.proofs.FrameLemmas.{with_other, untouched, words_frame, below_not, times_without, without_none}
+use Rattle.crash_core.proofs.StepLemmas.{IsSeat, seat_at, good_step, adds_step, parts, tally_same}
+use Rattle.crash_core.proofs.QuietLemmas.{done_tickets}
+use Rattle.crash_core.proofs.OwnLemmas.{holdings, own_equal, one_at_most}
+use Rattle.crash_core.proofs.CountLemmas.{without_less}
+use Rattle.crash_core.proofs.ListLemmas.{in_lists_at}
+use Rattle.crash_core.proofs.BlockLemmas.{at_one, at_other, superblock_is}
+use Rattle.crash_core.proofs.OwnerLemmas.{one_owner, covered, same_block, own_first, in_blocks}
+use Rattle.crash_core.proofs.OwnStepLemmas.{with_same, learned}
+use Rattle.crash_core.proofs.AnchorLemmas.{claims_anchor}
+
+-- a list that has not the descriptor does not see its link change
+pub follows_frame : (links : ℕ → ℕ) (capacity d x from : ℕ) (ds : List ℕ) → times d ds ≡ 0 → Follows links capacity from ds → Follows (λ e. cond (nat_eq e d) x (links e)) capacity from ds
+follows_frame links capacity d x from [] none f = f
+follows_frame links capacity d x from (e ∷ ds) none f =
+    (f.0, f.1, subst (λ n. Follows (λ y. cond (nat_eq y d) x (links y)) capacity n ds)
+      (sym (at_other links d x e (λ same. let one = eq-eqb-one e d same in omega arith)))
+      (follows_frame links capacity d x (links e) ds (omega arith) f.2))
+
+-- a walk that has not the word does not see it change; nor does one whose last block it is
+pub walks_frame : (next : ℕ → ℕ) (word x from : ℕ) (bs : List ℕ) → times word bs ≡ 0 → Walks next from bs → Walks (λ e. cond (nat_eq e word) x (next e)) from bs
+walks_frame next word x from [] none w = tt
+walks_frame next word x from (b ∷ bs) none w =
+    (w.0, subst (λ n. Walks (λ y. cond (nat_eq y word) x (next y)) n bs) (sym (at_other next word x b (λ same. let one = eq-eqb-one b word same in omega arith))) (walks_frame next word x (next b) bs (omega arith) w.1))
+
+last_there : (b : ℕ) (bs : List ℕ) → 0 < times (last_of (b ∷ bs)) (b ∷ bs)
+last_there b [] = let one = eq-eqb-one b b refl in omega arith
+last_there b (c ∷ bs) = let rest = last_there c bs in omega arith
+
+pub walks_last : (next : ℕ → ℕ) (word x from : ℕ) (bs : List ℕ) → word ≡ last_of bs → times word bs ≤ 1 → Walks next from bs → Walks (λ e. cond (nat_eq e word) x (next e)) from bs
+walks_last next word x from [] last most w = tt
+walks_last next word x from (b ∷ []) last most w = (w.0, tt)
+walks_last next word x from (b ∷ c ∷ bs) last most w =
+    let there = last_there c bs in
+    let at_word = ap (λ n. times n (c ∷ bs)) last in
+    (w.0, subst (λ n. Walks (λ y. cond (nat_eq y word) x (next y)) n (c ∷ bs)) (sym (at_other next word x b (λ same. let one = eq-eqb-one b word same in omega arith)))
+      (walks_last next word x (next b) (c ∷ bs) last (omega arith) w.1))
+
+-- the superblocks of a held large block
+pub span_covers : (d e : ℕ) (spans : List Span) → 0 < span_count d spans → d ≤ e → e < d + span_count d spans → 0 < times_large e spans
+span_covers d e [] some low high = absurd (omega arith)
+span_covers d e (span ∷ spans) some low high = elim (cases_eq span.first d) as (λ _. 0 < times_large e (span ∷ spans)) [
+    | inl same ↦
+        let count : span_count d (span ∷ spans) ≡ span.count = ap (λ t. cond t span.count (span_count d spans)) (eq-eqb span.first d same) in
+        let one : one_if (nat_le span.first e && nat_lt e (span.first + span.count)) ≡ 1 = one_if_true (nat_le span.first e && nat_lt e (span.first + span.count))
+          (and_is (nat_le span.first e) (nat_lt e (span.first + span.count)) (le-leb span.first e (omega (arith, same))) (lt-ltb e (span.first + span.count) (omega (arith, same)))) in omega arith
+    | inr other ↦
+        let count : span_count d (span ∷ spans) ≡ span_count d spans = ap (λ t. cond t span.count (span_count d spans)) (ne_eqb span.first d other) in
+        let rest = span_covers d e spans (omega arith) low (omega arith) in omega arith ]
+
+module _ (k : Setup) (m : Memory) (views : List View) (i : ℕ) (v : View) (below_i : i < length views) (at : get_or views i v ≡ v) (good : Good k m views) (ticket : IsThere v.ticket) (word value : ℕ) where
+  seat : IsSeat k m good.shape v
+  seat = seat_at k m views good i v below_i at
+
+  cap : v.setup.capacity ≡ k.capacity
+  cap = ap (λ (s : Setup). s.capacity) seat.set_up.setup
+
+  abbrev base : View
+  base = record (used_up v) { volatile = learn v.volatile word value }
+
+  -- a superblock of the seat's hand is nowhere else
+  claimed_alone : (d : ℕ) → 0 < times_claimed d v → (times d (good.shape.lists 0) ≡ 0) × (times_in_lists good.shape d ≡ 0) × (good.shape.full d ≡ 0) × ((tally_of views).large d ≡ 0) × (d < used m)
+  claimed_alone d some =
+      let raw = total_at (times_raw d) views i v below_i at in let classed = total_at (λ (x : View). times_classed d x.classed) views i v below_i at in
+      let p = good.shaped.placed.one_place d in let most = one_at_most (nat_lt d (used m)) in
+      (omega arith, omega arith, omega arith, omega arith, elim (cases_lt d (used m)) as (λ _. d < used m) [ | inl less ↦ less | inr more ↦ absurd (let n = below_not d (used m) more in omega arith) ])
+
+  raw_alone : (d : ℕ) → 0 < times_raw d v → (times_cut good.shape (tally_of views) d ≡ 0) × ((tally_of views).raw d ≡ 1)
+  raw_alone d some = let raw = total_at (times_raw d) views i v below_i at in let p = good.shaped.placed.one_place d in let most = one_at_most (nat_lt d (used m)) in (omega arith, omega arith)
+
+  set_up_now : IsSetUp k base
+  set_up_now = let s = seat.set_up in record { setup = s.setup; small = s.small; caches = s.caches; looks = s.looks; volatile = length-set v.volatile word (Some value) ∙ s.volatile; durable = s.durable }
+
+  module _ (cell : Cell) (is : cell_at v.setup.capacity word ≡ cell) (own : IsOwn v cell) where
+    abbrev m' : Memory
+    m' = write m (volatile_at cell) value
+
+    -- what the seats know of words
+    words_now : (w : View) → w.volatile ≡ base.volatile → w.durable ≡ v.durable → ((x : Cell) → times_own w x ≡ times_own v x) → KnowsWords k.capacity m' w
+    words_now w volatile durable same = record {
+      volatile = λ x n is_x knows. let r = learned k.capacity word value v.volatile m.volatile m'.volatile v seat.set_up.volatile (subst (IsOwn v) (sym here) own) (with_same m.volatile cell value (cell_at k.capacity word) here)
+          (λ y own_y other. with_other m.volatile cell value y (λ z. other (z ∙ sym here))) seat.words.volatile x n is_x (ap (λ values. known values x) (sym volatile) ∙ knows) in
+        (subst (λ q. 0 < q) (sym (same x)) r.0, r.1);
+      durable = λ x n is_x knows. let r = seat.words.durable x n is_x (ap (λ values. known values x) (sym durable) ∙ knows) in (subst (λ q. 0 < q) (sym (same x)) r.0, r.1) } where
+      here : cell_at k.capacity word ≡ cell
+      here = ap (λ c. cell_at c word) (sym cap) ∙ is
+
+    words_others : (j : ℕ) (u : View) → j ≢ i → j < length views → get_or views j u ≡ u → KnowsWords k.capacity m u → KnowsWords k.capacity m' u
+    words_others j u other b a h = words_frame k.capacity m m' u (λ y own_y. untouched u m.volatile cell value y (one_owner k m views good i j v u other below_i at b a cell own) own_y) (λ y own_y. refl) h
+
+  -- to a root
+  store_root : (n : ℕ) → cell_at v.setup.capacity word ≡ root_cell n → IsOwn v (root_cell n) → Good k (write m (volatile_at (root_cell n)) value) (set views i base)
+  store_root n is own = good_step k m m2 views i v base good good.shape below_i at
+      (subst (IsInShape k.capacity m2 good.shape) (sym tally) (let s = good.shaped in record { lists = s.lists; placed = s.placed;
+        untaken = record { blank = λ e past below_c. let b = s.untaken.blank e past below_c in record { volatile = b.volatile; durable = b.durable } }; listed = s.listed; chained = s.chained; durable = s.durable }))
+      (record { set_up = set_up_now; claims = seat.claims; blocks = seat.blocks;
+        knows = (let s = seat.knows in record { seen_head = s.seen_head; seen_used = s.seen_used; looked = s.looked; seen_anchor = s.seen_anchor; seen_empty = s.seen_empty; floor = s.floor });
+        words = words_now (root_cell n) is own base refl refl (own_equal v base refl (λ d. refl) (λ d. refl) (λ d. refl));
+        tickets = done_tickets k m views i v below_i at good ticket base refl refl refl refl refl refl (omega arith) })
+      (λ j u other b a h. record { set_up = h.set_up; claims = h.claims; blocks = h.blocks;
+        knows = (let s = h.knows in record { seen_head = s.seen_head; seen_used = s.seen_used; looked = s.looked; seen_anchor = s.seen_anchor; seen_empty = s.seen_empty; floor = s.floor });
+        words = words_others (root_cell n) is own j u other b a h.words; tickets = h.tickets })
+      (adds_step k m m2 views i v base below_i at good.adds refl refl refl refl (omega arith) (omega arith))
+      (record { mine = omega arith; more = omega arith }) (λ j u other b a. omega arith) moves_same where
+    m2 : Memory
+    m2 = write m (volatile_at (root_cell n)) value
+    tally : tally_of (set views i base) ≡ tally_of views
+    tally = tally_same views i v base below_i at refl
+    moves_same : empties k.capacity (anchor m) (times_parked good.shape (tally_of (set views i base))) + total (λ (u : View). u.moves) (set views i base) ≤ total (λ (u : View). u.gives) (set views i base) + k.capacity
+    moves_same = let old = good.moves in let gives = total_same (λ (u : View). u.gives) views i v base below_i at refl in let moves = total_same (λ (u : View). u.moves) views i v base below_i at refl in
+       let empty = ap (λ t. empties k.capacity (anchor m) (times_parked good.shape t)) tally in omega arith
+
+  -- to the link of a claimed descriptor
+  store_link : (d : ℕ) → cell_at v.setup.capacity word ≡ link_cell d → IsOwn v (link_cell d) → Good k (write m (volatile_at (link_cell d)) value) (set views i base)
+  store_link d is own = good_step k m m2 views i v base good good.shape below_i at
+      (subst (IsInShape k.capacity m2 good.shape) (sym tally) (let s = good.shaped in record {
+        lists = record { follows = λ n less. follows_frame (link m) k.capacity d value (head_first (head m n)) (good.shape.lists n) (not_listed n less) (s.lists.follows n less) }; placed = s.placed;
+        untaken = record { blank = λ e past below_c. let b = s.untaken.blank e past below_c in record { volatile = (b.volatile.0, b.volatile.1, at_other (link m) d value e (λ same. let less = (claimed_alone d own).4 in omega (arith, same)) ∙ b.volatile.2); durable = b.durable } };
+        listed = s.listed; chained = s.chained; durable = s.durable }))
+      (record { set_up = set_up_now; claims = seat.claims; blocks = seat.blocks;
+        knows = (let s = seat.knows in record { seen_head = λ there. head_frame (seen_of v.seen_head) (seen_word v.seen_head) v.seen_link (s.seen_head there); seen_used = s.seen_used; looked = s.looked; seen_anchor = s.seen_anchor; seen_empty = s.seen_empty; floor = s.floor });
+        words = words_now (link_cell d) is own base refl refl (own_equal v base refl (λ e. refl) (λ e. refl) (λ e. refl));
+        tickets = done_tickets k m views i v below_i at good ticket base refl refl refl refl refl refl (omega arith) })
+      (λ j u other b a h. record { set_up = h.set_up; claims = h.claims; blocks = h.blocks;
+        knows = (let s = h.knows in record { seen_head = λ there. head_frame (seen_of u.seen_head) (seen_word u.seen_head) u.seen_link (s.seen_head there); seen_used = s.seen_used; looked = s.looked; seen_anchor = s.seen_anchor; seen_empty = s.seen_empty; floor = s.floor });
+        words = words_others (link_cell d) is own j u other b a h.words; tickets = h.tickets })
+      (adds_step k m m2 views i v base below_i at good.adds refl refl refl refl (omega arith) (omega arith))
+      (record { mine = omega arith; more = omega arith }) (λ j u other b a. omega arith)
+      (let old = good.moves in let gives = total_same (λ (u : View). u.gives) views i v base below_i at refl in let moves = total_same (λ (u : View). u.moves) views i v base below_i at refl in
+       let empty = ap (λ t. empties k.capacity (anchor m) (times_parked good.shape t)) tally in omega arith) where
+    m2 : Memory
+    m2 = write m (volatile_at (link_cell d)) value
+    tally : tally_of (set views i base) ≡ tally_of views
+    tally = tally_same views i v base below_i at refl
+    not_listed : (n : ℕ) → n < lists → times d (good.shape.lists n) ≡ 0
+    not_listed n less = let alone = claimed_alone d own in elim (cases_eq n 0) [
+      | inl free ↦ ap (λ x. times d (good.shape.lists x)) free ∙ alone.0
+      | inr class ↦ let in_it = in_lists_at d good.shape.lists n less class in let none = alone.1 in omega arith ]
+    head_frame : (list w : ℕ) (following : Option ℕ) → KnowsHead k.capacity (head m) (link m) good.shape.lists list w following → KnowsHead k.capacity (head m) (λ e. cond (nat_eq e d) value (link m e)) good.shape.lists list w following
+    head_frame list w following h = record { is_list = h.is_list; small = h.small; pops = h.pops; listed = h.listed;
+      linked = λ there. let old = h.linked there in (old.0, λ same. at_other (link m) d value (before (head_first w))
+        (λ it. let in_list = h.listed same old.0 in let none = not_listed list h.is_list in let e = ap (λ x. times x (good.shape.lists list)) it in omega arith) ∙ old.1 same) }
