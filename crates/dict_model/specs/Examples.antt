@@ -1,0 +1,269 @@
+-- Worked examples: a shard of one key, and the first bad places of damaged ones.
+use Rattle.std.specs.Prelude.{◌≡◌, ◌≢◌, ℕ, zero, suc, ◌+◌, ◌*◌, ◌<◌, ◌≤◌, List, [], ◌∷◌, None, Some, cond, nat_eq, refl}
+use Rattle.std.proofs.Common.{arith, ap, subst, sym, ◌∙◌}
+use Rattle.std.proofs.lemmas.Bool.{cond-false, ne_eqb, cond_both}
+use Rattle.heap_model.specs.declared.block.Block.{Block}
+use Rattle.heap_model.specs.Image.{Image}
+use Rattle.heap_model.specs.Sizes.{class_sizes, words_of_class, blocks_of}
+use Rattle.heap_model.specs.Blocks.{of_class}
+use Rattle.heap_model.specs.Pointers.{Leads}
+use Rattle.heap_model.specs.Counting.{put}
+use Rattle.heap_model.specs.Geometry.{magic, root_word}
+use Rattle.heap_model.specs.Examples.{formatted, image_with}
+use Rattle.heap_model.specs.Reach.{ReachFrom, by_start}
+use Rattle.dict_model.specs.Links.{dict_links, root_kind}
+use Rattle.heap_model.proofs.ReachLemmas.{one_block, not_null, closure_least}
+use Rattle.dict_model.specs.Nodes.{shard_of, bucket_of, key_in, IsNode, find}
+use Rattle.dict_model.specs.Shards.{Map, IsChain, has_table, IsBadAt, at_root, at_link, BadShard, HasTable, HasChains, but, map_of, MapOf, LeadsAlone}
+
+-- pointers to word 1080 and to word 9272
+abbrev pub to_table : ℕ
+to_table = 0x52500000000021c0
+
+abbrev pub to_node : ℕ
+to_node = 0x52500000000121c0
+
+-- Two superblocks, cut into blocks of 128 words and of four: what root 0 holds, what word 1080 holds, and these words besides.
+unfoldable pub shard_with : ℕ → ℕ → List (ℕ × ℕ) → Image
+shard_with root first words = formatted 2 ((8, 2) ∷ (1064, 12) ∷ (1072, 2) ∷ (40, root) ∷ (1080, first) ∷ words)
+
+-- the first block of each
+abbrev pub table : Block
+table = record { first_word = 1080; words = 128 }
+
+abbrev pub node : Block
+node = record { first_word = 9272; words = 4 }
+
+module _ (root first : ℕ) (words : List (ℕ × ℕ)) where
+  pub table_leads : Leads (shard_with root first words) to_table table
+  unfolding shard_with words_of_class blocks_of class_sizes
+  table_leads = record {
+    pointer = record { tagged = refl; short = omega arith };
+    names = record {
+      begins_at = refl;
+      block = record {
+        superblock = 0;
+        index = 0;
+        words = 128;
+        count = 64;
+        is_of = record { taken = omega arith; begins = of_class 12 refl (record { some = omega arith; last = omega arith }); below = omega arith; at = refl; size = refl };
+      };
+    };
+  }
+
+  pub node_leads : Leads (shard_with root first words) to_node node
+  unfolding shard_with words_of_class blocks_of class_sizes
+  node_leads = record {
+    pointer = record { tagged = refl; short = omega arith };
+    names = record {
+      begins_at = refl;
+      block = record {
+        superblock = 1;
+        index = 0;
+        words = 4;
+        count = 2048;
+        is_of = record { taken = omega arith; begins = of_class 2 refl (record { some = omega arith; last = omega arith }); below = omega arith; at = refl; size = refl };
+      };
+    };
+  }
+
+  -- no other block has these pointers
+  pub only_node : (b : Block) → Leads (shard_with root first words) to_node b → b ≡ node
+  only_node b leads = one_block (shard_with root first words) to_node b node leads node_leads
+
+pub apart : ◌≢◌ {A = Block} node table
+apart same = let firsts : ◌≡◌ {A = ℕ} 9272 1080 = ap (λ (b : Block). b.first_word) same in omega arith
+
+-- the shard's root leads to the table
+pub table_there : (first : ℕ) (words : List (ℕ × ℕ)) → HasTable (Leads (shard_with to_table first words)) (shard_with to_table first words) 0 table
+unfolding shard_with
+table_there first words = record { leads_there = table_leads to_table first words; size = refl }
+
+-- a shard with the node and these words is bad at word 1080 where the node is none of bucket 0
+bad_first : (words : List (ℕ × ℕ)) → (IsNode (shard_with to_table to_node words) 0 0 node → ⊥)
+    → IsBadAt (Leads (shard_with to_table to_node words)) (shard_with to_table to_node words) 0 1080
+unfolding shard_with
+bad_first words none = at_link table (λ _. []) 0 1080 [] (table_there to_node words) (omega arith) (λ k less. absurd (omega arith)) tt refl
+    (record {
+      not_null = λ null. omega arith;
+      nowhere = λ b leads next.
+          let same = only_node to_table to_node words b leads.0 in
+          none (subst (λ (x : Block). IsNode (shard_with to_table to_node words) 0 0 x) same next.node);
+    })
+
+-- its key is one of another bucket
+bad_key : IsBadAt (Leads (shard_with to_table to_node ((9273, 8) ∷ []))) (shard_with to_table to_node ((9273, 8) ∷ [])) 0 1080
+unfolding shard_with
+bad_key = bad_first ((9273, 8) ∷ []) (λ is. let one : ◌≡◌ {A = ℕ} 1 0 = is.in_bucket in omega arith)
+
+-- nine bytes don't fit a node of four words
+bad_length : IsBadAt (Leads (shard_with to_table to_node ((9274, 9) ∷ []))) (shard_with to_table to_node ((9274, 9) ∷ [])) 0 1080
+unfolding shard_with
+bad_length = bad_first ((9274, 9) ∷ []) (λ is. let fits : 5 ≤ 4 = is.fits in omega arith)
+
+-- the node of the key 0, with an empty value
+good_node : IsNode (shard_with to_table to_node []) 0 0 node
+unfolding shard_with
+good_node = record { in_shard = refl; in_bucket = refl; short = omega arith; fits = omega arith }
+
+-- a node that leads to itself
+bad_next : IsBadAt (Leads (shard_with to_table to_node ((9272, to_node) ∷ []))) (shard_with to_table to_node ((9272, to_node) ∷ [])) 0 9272
+unfolding shard_with
+bad_next = at_link table (λ _. []) 0 9272 (node ∷ []) (table_there to_node ((9272, to_node) ∷ [])) (omega arith) (λ k less. absurd (omega arith)) (
+  (node_leads to_table to_node ((9272, to_node) ∷ []), apart),
+  record { in_shard = refl; in_bucket = refl; short = omega arith; fits = omega arith },
+  refl,
+  tt,
+) refl
+    (record {
+      not_null = λ null. omega arith;
+      nowhere = λ b leads next.
+          let same = only_node to_table to_node ((9272, to_node) ∷ []) b leads.0 in
+          let found : Some [] ≡ None = subst (λ (x : Block). find (shard_with to_table to_node ((9272, to_node) ∷ [])) (key_in (shard_with to_table to_node ((9272, to_node) ∷ [])) x) (node ∷ []) ≡ None) same next.new in
+          absurd (cc);
+    })
+
+-- a node in two buckets: bucket 0 has it, and it is none of bucket 1
+bad_second : IsBadAt (Leads (shard_with to_table to_node ((1081, to_node) ∷ []))) (shard_with to_table to_node ((1081, to_node) ∷ [])) 0 1081
+unfolding shard_with
+bad_second = at_link table (λ _. node ∷ []) 1 1081 [] (table_there to_node ((1081, to_node) ∷ [])) (omega arith)
+    (λ k less. let first : k ≡ 0 = omega arith in
+    subst (λ j. IsChain (but table (Leads (shard_with to_table to_node ((1081, to_node) ∷ [])))) (shard_with to_table to_node ((1081, to_node) ∷ [])) 0 j (1080 + j) (node ∷ []))
+    (sym first) (record {
+      path = (
+        (node_leads to_table to_node ((1081, to_node) ∷ []), apart),
+        record { in_shard = refl; in_bucket = refl; short = omega arith; fits = omega arith },
+        refl,
+        tt,
+      );
+      ends = refl;
+    }))
+    tt refl
+    (record {
+      not_null = λ null. omega arith;
+      nowhere = λ b leads next.
+          let same = only_node to_table to_node ((1081, to_node) ∷ []) b leads.0 in
+          let one : ◌≡◌ {A = ℕ} 0 1 = (subst (λ (x : Block). IsNode (shard_with to_table to_node ((1081, to_node) ∷ [])) 0 1 x) same next.node).in_bucket in omega arith;
+    })
+
+-- a root that leads to a node and not to a table
+bad_root : IsBadAt (Leads (shard_with to_node 0 [])) (shard_with to_node 0 []) 0 40
+unfolding shard_with
+bad_root = at_root (record {
+  not_null = λ null. omega arith;
+  nowhere = λ b leads size.
+      let same = only_node to_node 0 [] b leads in
+      let words : ◌≡◌ {A = ℕ} 4 128 = subst (λ (x : Block). x.words ≡ 128) same size in omega arith;
+})
+
+-- One superblock of tables: a table whose bucket 0 leads to a block that leads to itself.
+unfoldable pub looped : Image
+looped = formatted 1 ((8, 1) ∷ (1064, 12) ∷ (40, 0x5250000000002180) ∷ (1072, 0x5250000000002980) ∷ (1328, 0x5250000000002980) ∷ [])
+
+abbrev block_at : ℕ → Block
+block_at index = record { first_word = 1072 + index * 128; words = 128 }
+
+-- a pointer to block `index`
+looped_leads : (index word : ℕ) → index < 64 → word ≡ 0x5250000000002180 + 1024 * index → Leads looped word (block_at index)
+unfolding looped words_of_class blocks_of class_sizes
+looped_leads index word below is = record {
+  pointer = record { tagged = omega arith; short = omega arith };
+  names = record {
+    begins_at = refl;
+    block = record {
+      superblock = 0;
+      index = index;
+      words = 128;
+      count = 64;
+      is_of = record { taken = omega arith; begins = of_class 12 refl (record { some = omega arith; last = omega arith }); below = omega arith; at = refl; size = refl };
+    };
+  };
+}
+
+bad_loop : IsBadAt (Leads looped) looped 0 1328
+unfolding looped
+bad_loop = at_link (block_at 0) (λ _. []) 0 1328 (block_at 2 ∷ []) (record { leads_there = looped_leads 0 0x5250000000002180 (omega arith) refl; size = refl })
+    (omega arith) (λ k less. absurd (omega arith)) (
+      (looped_leads 2 0x5250000000002980 (omega arith) refl, λ same. let firsts : ◌≡◌ {A = ℕ} 1328 1072 = ap (λ (b : Block). b.first_word) same in omega arith),
+      record { in_shard = refl; in_bucket = refl; short = omega arith; fits = omega arith },
+      refl,
+      tt,
+    ) refl
+    (record {
+      not_null = λ null. omega arith;
+      nowhere = λ b leads next.
+          let same = one_block looped 0x5250000000002980 b (block_at 2) leads.0 (looped_leads 2 0x5250000000002980 (omega arith) refl) in
+          let found : Some [] ≡ None = subst (λ (x : Block). find looped (key_in looped x) (block_at 2 ∷ []) ≡ None) same next.new in
+          absurd (cc);
+    })
+
+elsewhere : (f : Image) (at value w : ℕ) → w ≢ at → f w ≡ 0 → put f at value w ≡ 0
+elsewhere f at value w other null = cond-false (nat_eq w at) value (f w) (ne_eqb w at other) ∙ null
+
+-- all other words are null
+null_word : (root first w : ℕ) → 8 < w → w ≢ 40 → w ≢ 1064 → w ≢ 1072 → w ≢ 1080 → shard_with root first [] w ≡ 0
+unfolding shard_with
+null_word root first w behind a b c d =
+    let e1 = elsewhere (λ _. 0) 1080 first w d refl in
+    let e2 = elsewhere (put (λ _. 0) 1080 first) 40 root w a e1 in
+    let e3 = elsewhere (put (put (λ _. 0) 1080 first) 40 root) 1072 2 w c e2 in
+    let e4 = elsewhere (put (put (put (λ _. 0) 1080 first) 40 root) 1072 2) 1064 12 w b e3 in
+    let words : List (ℕ × ℕ) = (8, 2) ∷ (1064, 12) ∷ (1072, 2) ∷ (40, root) ∷ (1080, first) ∷ [] in
+    let e5 = elsewhere (put (put (put (put (λ _. 0) 1080 first) 40 root) 1072 2) 1064 12) 8 2 w (λ e. omega arith) e4 in
+    let e6 = elsewhere (image_with words) 3 1 w (λ e. omega arith) e5 in
+    let e7 = elsewhere (put (image_with words) 3 1) 2 2 w (λ e. omega arith) e6 in
+    let e8 = elsewhere (put (put (image_with words) 3 1) 2 2) 1 1 w (λ e. omega arith) e7 in
+    elsewhere (put (put (put (image_with words) 3 1) 2 2) 1 1) 0 magic w (λ e. omega arith) e8
+
+-- so no other root leads anywhere
+alone : (root first : ℕ) (b : Block) (kind : ℕ) → ReachFrom (shard_with root first []) (λ i. i ≢ 0) root_kind dict_links b kind → ⊥
+alone root first = closure_least (λ b kind. ⊥)
+    (λ b kind start.
+    not_null (shard_with root first [] (root_word start.root)) (8 * b.first_word) start.leads.pointer
+    (null_word root first (root_word start.root) (omega (arith, start.below)) (λ e. start.is_chosen (omega arith)) (λ e. omega (arith, start.below))
+    (λ e. omega (arith, start.below)) (λ e. omega (arith, start.below))))
+    (λ a b from kind reached none leads. none)
+
+-- the shard of the key 0 with an empty value
+abbrev pub one_key : Map
+one_key key = cond (nat_eq 0 key) (Some []) None
+
+abbrev one_node : ℕ → List Block
+one_node zero = node ∷ []
+one_node (suc k) = []
+
+good_chains : HasChains (LeadsAlone (shard_with to_table to_node []) 0) (shard_with to_table to_node []) 0 table 128 one_node
+unfolding shard_with
+good_chains zero below = record {
+  path = (((node_leads to_table to_node [], alone to_table to_node node), apart), good_node, refl, tt);
+  ends = refl;
+}
+good_chains (suc k) below = record {
+  path = tt;
+  ends = null_word to_table to_node (1080 + suc k) (omega arith) (λ e. omega arith) (λ e. omega arith) (λ e. omega arith) (λ e. omega arith);
+}
+
+-- a key of bucket 0 of the shard is looked for in the node
+not_there : (k n : ℕ) → find (shard_with to_table to_node []) (suc n) (one_node k) ≡ None
+unfolding shard_with
+not_there zero n = cond-false (nat_eq 0 (suc n)) (Some []) None (ne_eqb 0 (suc n) (λ e. omega arith))
+not_there (suc k) n = refl
+
+good_map : (key : ℕ) → one_key key ≡ map_of (shard_with to_table to_node []) 0 one_node key
+unfolding shard_with
+good_map zero = refl
+good_map (suc n) = cond-false (nat_eq 0 (suc n)) (Some []) None (ne_eqb 0 (suc n) (λ e. omega arith)) ∙ cond_both (nat_eq (shard_of (suc n)) 0) (find (shard_with to_table to_node []) (suc n) (one_node (bucket_of (suc n)))) None (λ found. None ≡ found)
+    (λ _. sym (not_there (bucket_of (suc n)) n)) (λ _. refl)
+
+base : MapOf (shard_with to_table to_node []) 0 one_key
+unfolding shard_with
+base = has_table table one_node (record { leads_there = (table_leads to_table to_node [], alone to_table to_node table); size = refl }) good_chains good_map
+
+-- another root that leads to the table, and one that leads to the node
+shared_table : BadShard (shard_with to_table to_node ((41, to_table) ∷ [])) 0 40
+unfolding shard_with
+shared_table = at_root (record {
+  not_null = λ null. omega arith;
+  nowhere = λ b leads size.
+      leads.1 1 (by_start b 1 (record { root = 1; below = omega arith; is_chosen = λ e. omega arith; kind_is = refl; leads = leads.0 }));
+})
