@@ -1,1 +1,4 @@
+pub mod ChainLemmas
+pub mod MapLemmas
 pub mod ShardLemmas
+pub mod SpliceLemmas
