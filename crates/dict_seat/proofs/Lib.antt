@@ -1,0 +1,9 @@
+pub mod CountLemmas
+pub mod FreedLemmas
+pub mod GrownLemmas
+pub mod MapPublishLemmas
+pub mod PublishLemmas
+pub mod QuietLemmas
+pub mod TrailLemmas
+pub mod UnreachedLemmas
+pub mod WalkLemmas

@@ -1,0 +1,5 @@
+pub mod Maps
+pub mod Quiet
+pub mod Reached
+pub mod Trails
+pub mod Walks
