@@ -1,3 +1,7 @@
+pub mod RemovalLemmas
+pub mod ChangeLemmas
+pub mod DeleteLemmas
+pub mod ComeLemmas
 pub mod CountLemmas
 pub mod FreedLemmas
 pub mod GrownLemmas

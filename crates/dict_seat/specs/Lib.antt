@@ -1,3 +1,5 @@
+pub mod Removal
+pub mod Changes
 pub mod Maps
 pub mod Quiet
 pub mod Reached

@@ -1,6 +1,7 @@
 //! A recoverable dictionary over any open heap.
 #![tactic(auto)]
 
+mod removal;
 mod walk;
 
 /// A shard of the dictionary, by its number: root number `number` leads to its table.

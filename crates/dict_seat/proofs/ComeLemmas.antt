@@ -1,0 +1,147 @@
+-- What is so of the blocks of a settled trail: the root reaches them, and they are apart from each other and from the table.
+use Rattle.std.proofs.Common.{◌≡◌, ◌≢◌, ℕ, ◌+◌, ◌*◌, ◌^◌, ◌<◌, ◌≤◌, ◌⊎◌, inl, inr, List, [], ◌∷◌, ◌++◌, Option, None, Some, Contains, cond, nat_lt, refl, ap, subst, sym, ◌∙◌, arith, rules}
+use Rattle.std.proofs.lemmas.Bool.{cond-true}
+use Rattle.std.proofs.lemmas.List.Elements.{Contains-append_left, Contains-append_right}
+use Rattle.heap_model.specs.declared.block.Block.{Block}
+use Rattle.heap_model.specs.Image.{Image}
+use Rattle.heap_model.specs.Geometry.{root_word}
+use Rattle.heap_model.specs.Blocks.{IsIn}
+use Rattle.heap_model.proofs.MemberLemmas.{in_none, in_head, in_rest, head_or_rest}
+use Rattle.heap_seat.specs.View.{View}
+use Rattle.heap_seat.specs.Words.{IsOwn, in_root, in_block, MayRead}
+use Rattle.heap_seat.specs.Sound.{IsSeat}
+use Rattle.dict_model.specs.Links.{shards, root_kind, table_kind, node_kind, IsLink, in_table, in_node}
+use Rattle.dict_model.specs.Nodes.{buckets, shard_of, bucket_of, key_in, IsNode, find}
+use Rattle.dict_model.specs.Shards.{Map, LeadsTo, IsPath, but, link_behind}
+use Rattle.dict_model.proofs.ChainLemmas.{in_path, path_left, path_cross, not_of, behind_is}
+use Rattle.dict_model.proofs.SpliceLemmas.{one_holder, first_in}
+use Rattle.dict_seat.specs.Maps.{Gives}
+use Rattle.dict_seat.specs.Reached.{MayReach}
+use Rattle.dict_seat.specs.Trails.{pointer_to, IsSettled, Trail, HasCome}
+use Rattle.dict_seat.proofs.GrownLemmas.{are_placed, root_reach, link_reach}
+use Rattle.dict_seat.proofs.PublishLemmas.{IsLinkOf, is_root, is_link}
+use Rattle.dict_seat.proofs.TrailLemmas.{now_image, now_completes, leads_held, settled_in, IsAlong, is_along, bucket_below, first_own}
+use Rattle.dict_seat.proofs.MapPublishLemmas.{seen_read, trail_held, trail_left}
+
+-- what a shard's root leads to is a table
+pub root_is_table : (shard : ℕ) → shard < shards → root_kind shard ≡ table_kind
+root_is_table shard small = cond-true (nat_lt shard shards) table_kind 0 (search rules)
+
+-- a link that the root may be followed to
+record IsFollowed (u : View) (shard at : ℕ) : Type 0 where
+  holder : Block
+  from : ℕ
+  position : ℕ
+  reached : MayReach u shard holder from
+  is_link : IsLink from holder.words position node_kind
+  at_is : at ≡ holder.first_word + position
+
+module _ (u : View) (seat : IsSeat u) (shard : ℕ) (small : shard < shards) where
+  -- a block to which such a link leads
+  next_reached : (at : ℕ) (b : Block) → IsFollowed u shard at → Contains u.held b → IsSettled u at (pointer_to b) → MayReach u shard b node_kind
+  next_reached at b followed h settled =
+      link_reach u shard followed.holder b followed.from followed.position node_kind (pointer_to b) followed.reached followed.is_link
+      (subst (λ w. MayRead u w (pointer_to b)) followed.at_is (seen_read u at (pointer_to b) settled.seen)) (leads_held u b seat h)
+
+  own_link_followed : (b : Block) → Contains u.held b → MayReach u shard b node_kind → IsFollowed u shard b.first_word
+  own_link_followed b h reached = record {
+    holder = b;
+    from = node_kind;
+    position = 0;
+    reached = reached;
+    is_link = in_node b.words (seat.placed b h).some;
+    at_is = omega arith;
+  }
+
+  trail_reached : (at : ℕ) (bs : List Block) → IsFollowed u shard at → Trail (IsSettled u) u.held at bs
+      → ((b : Block) → Contains bs b → MayReach u shard b node_kind) × IsFollowed u shard (link_behind at bs)
+  trail_reached at [] followed trail = ((λ b h. absurd (in_none b h)), followed)
+  trail_reached at (c ∷ bs) followed trail =
+      let first = next_reached at c followed trail.0 trail.1 in
+      let rest = trail_reached c.first_word bs (own_link_followed c trail.0 first) trail.2 in
+      ((λ b h. elim (head_or_rest c b bs h) as (λ _. MayReach u shard b node_kind) [ inl same ↦ subst (λ (x : Block). MayReach u shard x node_kind) same first | inr r ↦ rest.0 b r ]), rest.1)
+
+module _ (u : View) (seat : IsSeat u) (key : ℕ) (small : shard_of key < shards) (table : Block) (before : List Block) (come : HasCome IsSettled u (shard_of key) key table before) where
+  pub table_is_reached : MayReach u (shard_of key) table (root_kind (shard_of key))
+  table_is_reached = root_reach u (shard_of key) table (root_kind (shard_of key)) (pointer_to table) come.owned refl
+      (seen_read u (root_word (shard_of key)) (pointer_to table) come.root.seen) (leads_held u table seat come.held_table)
+
+  bucket_followed : IsFollowed u (shard_of key) (table.first_word + bucket_of key)
+  bucket_followed = record {
+    holder = table;
+    from = root_kind (shard_of key);
+    position = bucket_of key;
+    reached = table_is_reached;
+    is_link = subst (λ kind. IsLink kind table.words (bucket_of key) node_kind) (sym (root_is_table (shard_of key) small))
+        (in_table table.words (bucket_of key) (let below = bucket_below key in let size = come.size in omega arith));
+    at_is = refl;
+  }
+
+  pub nodes_reached : (b : Block) → Contains before b → MayReach u (shard_of key) b node_kind
+  nodes_reached = (trail_reached u seat (shard_of key) small (table.first_word + bucket_of key) before bucket_followed come.trail).0
+
+  pub link_followed : IsLinkOf u (shard_of key) (link_behind (table.first_word + bucket_of key) before) node_kind
+  link_followed =
+      let last = (trail_reached u seat (shard_of key) small (table.first_word + bucket_of key) before bucket_followed come.trail).1 in
+      is_link last.holder last.from last.position node_kind last.reached last.is_link last.at_is
+
+  -- in a mixture they begin the chain of their bucket
+  pub begins_chain : (map : Map) → Gives u (shard_of key) map
+      → IsPath (but table (LeadsTo (Contains u.held))) (now_image u) (shard_of key) (bucket_of key) (table.first_word + bucket_of key) before
+  begins_chain map gives =
+      let image = now_image u in
+      let now = now_completes u in
+      let along = is_along IsSettled u image seat (shard_of key) key map table before (settled_in u image now.mixes) come (gives.each image now.mixes) in
+      let k = bucket_of key in
+      path_left (but table (LeadsTo (Contains u.held))) image (shard_of key) k (table.first_word + k) before along.rest
+      (subst (λ (bs : List Block). IsPath (but table (LeadsTo (Contains u.held))) image (shard_of key) k (table.first_word + k) bs) along.is (along.chains k (bucket_below key)).path)
+
+-- of the last node of a trail: it is apart from the table and from the nodes before, so its words are none of their links
+module _ (u : View) (seat : IsSeat u) (key : ℕ) (small : shard_of key < shards) (map : Map) (gives : Gives u (shard_of key) map) (table b : Block) (before : List Block)
+    (come : HasCome IsSettled u (shard_of key) key table (before ++ (b ∷ []))) where
+  path_all : IsPath (but table (LeadsTo (Contains u.held))) (now_image u) (shard_of key) (bucket_of key) (table.first_word + bucket_of key) (before ++ (b ∷ []))
+  path_all = begins_chain u seat key small table (before ++ (b ∷ [])) come map gives
+
+  b_in : Contains (before ++ (b ∷ [])) b
+  b_in = Contains-append_right before (b ∷ []) b (in_head b [])
+
+  b_is : ((word : ℕ) × but table (LeadsTo (Contains u.held)) word b) × IsNode (now_image u) (shard_of key) (bucket_of key) b
+  b_is = in_path (but table (LeadsTo (Contains u.held))) (now_image u) (shard_of key) (bucket_of key) (table.first_word + bucket_of key) (before ++ (b ∷ [])) b path_all b_in
+
+  pub last_held : Contains u.held b
+  last_held = b_is.0.1.0.0
+
+  pub last_not_table : b ≢ table
+  last_not_table = b_is.0.1.1
+
+  pub last_room : 3 ≤ b.words
+  last_room = let fits = b_is.1.fits in omega arith
+
+  pub last_not_before : (c : Block) → Contains before c → c ≢ b
+  last_not_before c h same =
+      not_of (now_image u) (key_in (now_image u) c) (b ∷ []) b
+      (path_cross (but table (LeadsTo (Contains u.held))) (now_image u) (shard_of key) (bucket_of key) (table.first_word + bucket_of key) before (b ∷ []) c path_all h) (in_head b [])
+      (ap (key_in (now_image u)) (sym same))
+
+  -- the link that leads to it lies in none of its words, nor at the root
+  pub link_outside : (word : ℕ) → IsIn b word → word ≢ link_behind (table.first_word + bucket_of key) before
+  link_outside word inside is = elim (behind_is (table.first_word + bucket_of key) before) as (λ _. ⊥) [
+    | inl only ↦
+        last_not_table (one_holder (Contains u.held) (are_placed u seat) b table word last_held come.held_table inside
+        (subst (IsIn table) (sym (is ∙ only.1)) (record { from = omega arith; until = let below = bucket_below key in let size = come.size in omega arith })))
+    | inr last ↦
+        let held = trail_held (IsSettled u) u.held (table.first_word + bucket_of key) (before ++ (b ∷ [])) last.0 come.trail (Contains-append_left before (b ∷ []) last.0 last.1) in
+        last_not_before last.0 last.1 (one_holder (Contains u.held) (are_placed u seat) last.0 b word held last_held
+        (subst (IsIn last.0) (sym (is ∙ last.2)) (first_in (Contains u.held) (are_placed u seat) last.0 held)) inside)
+  ]
+
+-- a link behind a trail lies behind the roots
+pub link_behind_roots : (u : View) (key : ℕ) (table : Block) (before : List Block) (root : ℕ) → IsSeat u → Contains u.roots root → HasCome IsSettled u (shard_of key) key table before
+    → root_word root ≢ link_behind (table.first_word + bucket_of key) before
+link_behind_roots u key table before root seat owned come is = elim (behind_is (table.first_word + bucket_of key) before) as (λ _. ⊥) [
+  | inl only ↦ let behind = (seat.placed table come.held_table).behind in let below = seat.roots_are root owned in omega (arith, only.1)
+  | inr last ↦
+      let held = trail_held (IsSettled u) u.held (table.first_word + bucket_of key) before last.0 come.trail last.1 in
+      let behind = (seat.placed last.0 held).behind in
+      let below = seat.roots_are root owned in omega (arith, last.2)
+]

@@ -1,0 +1,126 @@
+-- A key's node on its way from being found to being freed.
+use Rattle.std.proofs.Common.{◌≡◌, ◌≢◌, ℕ, ◌+◌, ◌*◌, ◌<◌, ◌≤◌, ◌⊎◌, inl, inr, List, [], ◌∷◌, ◌++◌, Option, None, Some, Contains, refl, ap, subst, sym, ◌∙◌, arith}
+use Rattle.std.proofs.lemmas.List.Elements.{Contains-append_right}
+use Rattle.heap_model.specs.declared.block.Block.{Block}
+use Rattle.heap_model.specs.Geometry.{root_word}
+use Rattle.heap_model.proofs.MemberLemmas.{in_head}
+use Rattle.heap_seat.specs.declared.spot.Spot.{Spot}
+use Rattle.heap_seat.specs.declared.spot.Spot.TheVariants.{InBlock, Root}
+use Rattle.heap_seat.specs.View.{View, word_of}
+use Rattle.heap_seat.specs.Words.{IsOwn, IsOwnSpot, in_block, KeepsOwn, KeepsWord, MayStore}
+use Rattle.heap_seat.specs.Calls.{WritesBack, Fences}
+use Rattle.heap_seat.specs.Rows.{Settles}
+use Rattle.heap_seat.specs.Free.{MayFree}
+use Rattle.heap_seat.specs.Sound.{IsSeat}
+use Rattle.heap_seat.proofs.CallerLemmas.{own_same, spot_written, keeps_own_then}
+use Rattle.dict_model.specs.Links.{shards, node_kind}
+use Rattle.dict_model.specs.Nodes.{shard_of, bucket_of}
+use Rattle.dict_model.specs.Requests.{without_key}
+use Rattle.dict_model.specs.Shards.{Map, link_behind}
+use Rattle.dict_seat.specs.declared.walk.Place.{Place}
+use Rattle.dict_seat.specs.Maps.{Gives, KeepsOthers}
+use Rattle.dict_seat.specs.Reached.{MayReach, ReachesOnlyHeld}
+use Rattle.dict_seat.specs.Trails.{IsSettled, IsSettling, HasCome}
+use Rattle.dict_seat.specs.Quiet.{IsQuiet, GoesPending, Follows}
+use Rattle.dict_seat.specs.Walks.{IsFound}
+use Rattle.dict_seat.specs.Changes.{MayChange, Changes, IsTaken}
+use Rattle.dict_seat.specs.Removal.{IsShard, Takes}
+use Rattle.dict_seat.proofs.GrownLemmas.{Grown, grown_keeps, gives_grown, only_grown}
+use Rattle.dict_seat.proofs.TrailLemmas.{come_stays, settles}
+use Rattle.dict_seat.proofs.MapPublishLemmas.{trail_held}
+use Rattle.dict_seat.proofs.QuietLemmas.{goes_then, still_settling}
+use Rattle.dict_seat.proofs.ChangeLemmas.{change_none, change_after, changes_after, freed}
+use Rattle.dict_seat.proofs.DeleteLemmas.{shard_below, node_held, node_reached, unlink_left, unlinked, unreached}
+
+-- the node that was found is held
+pub found_held : (v : View) (key : ℕ) (place : Place) → IsFound v key place → Contains v.held place.node
+found_held v key place found = trail_held (IsSettling v) v.held (found.table.first_word + bucket_of key) (found.before ++ (place.node ∷ [])) place.node found.come.trail
+    (Contains-append_right found.before (place.node ∷ []) place.node (in_head place.node []))
+
+pub still_held : (v w : View) (b : Block) → KeepsOwn v w → Contains v.held b → Contains w.held b
+still_held v w b keeps h = subst (λ (bs : List Block). Contains bs b) (sym keeps.held) h
+
+pub still_own : (v w : View) (s : Spot) → KeepsOwn v w → IsOwnSpot v s → IsOwnSpot w s
+still_own v w (InBlock b index) keeps h = (still_held v w b keeps h.0, h.1)
+still_own v w (Root i) keeps h = subst (λ (rs : List ℕ). Contains rs i) (sym keeps.roots) h
+
+-- its link and its key were followed
+pub takes : (v u w : View) (key next : ℕ) (place : Place) → IsSeat v → IsFound v key place → KeepsOwn v u → Follows (place.node.first_word + 0) next v u
+    → KeepsOwn u w → WritesBack (InBlock place.node 1) u w → Takes key place next v w
+takes v u w key next place seat found keeps follows keeps' writes =
+    let node = place.node in
+    let held = found_held v key place found in
+    let room = found.room in
+    let goes : GoesPending u w = record { runs = writes.runs; pending = writes.pending } in
+    let both = goes_then v u w follows.goes goes in
+    let all = keeps_own_then v u w keeps keeps' in
+    let first_own : IsOwn v.held v.roots (node.first_word + 0) = in_block node (node.first_word + 0) held (record { from = omega arith; until = omega arith }) in
+    let key_own : IsOwn v.held v.roots (node.first_word + 1) = in_block node (node.first_word + 1) held (record { from = omega arith; until = omega arith }) in
+    let zero_more : node.first_word + 0 ≡ node.first_word = omega arith in
+    record {
+      goes = both;
+      taken = record {
+        table = found.table;
+        before = found.before;
+        come = come_stays IsSettling IsSettling v w (shard_of key) key found.table (found.before ++ (node ∷ [])) seat (grown_keeps v w all)
+            (λ word value own settling. still_settling v w word value own all both settling) found.come;
+        at_is = found.at_is;
+        own = still_own v w place.link all found.own;
+        room = room;
+        next_is = subst (λ q. IsSettling w q next) zero_more
+            (still_settling u w (node.first_word + 0) next (own_same v u (node.first_word + 0) keeps.held keeps.roots first_own) keeps' goes follows.settling);
+        key_is = record {
+          seen = (all.words (node.first_word + 1) key_own).volatile key found.key_seen;
+          coming = inl (writes.line (node.first_word + 1) (spot_written u (InBlock node 1) (still_held v u node keeps held, omega arith)));
+        };
+      };
+    }
+
+-- after a fence all of it is durable
+pub taken_settled : (u w : View) (key next : ℕ) (place : Place) → IsSeat u → KeepsOwn u w → Settles u w → IsTaken IsSettling u key place next → IsTaken IsSettled w key place next
+taken_settled u w key next place seat keeps settled taken =
+    let node = place.node in
+    let held = trail_held (IsSettling u) u.held (taken.table.first_word + bucket_of key) (taken.before ++ (node ∷ [])) node taken.come.trail
+    (Contains-append_right taken.before (node ∷ []) node (in_head node [])) in
+    let some = (seat.placed node held).some in
+    let own : (word : ℕ) → node.first_word ≤ word → word < node.first_word + node.words → IsOwn u.held u.roots word = λ word from until. in_block node word held (record { from = from; until = until }) in
+    let settle = λ (word : ℕ) (value : ℕ) (o : IsOwn u.held u.roots word) (s : IsSettling u word value). settles u w word value o (keeps.words word o) settled s in
+    record {
+      table = taken.table;
+      before = taken.before;
+      come = come_stays IsSettling IsSettled u w (shard_of key) key taken.table (taken.before ++ (node ∷ [])) seat (grown_keeps u w keeps) settle taken.come;
+      at_is = taken.at_is;
+      own = still_own u w place.link keeps taken.own;
+      room = taken.room;
+      next_is = settle node.first_word next (own node.first_word (omega arith) (omega arith)) taken.next_is;
+      key_is = settle (node.first_word + 1) key (own (node.first_word + 1) (omega arith) (let room = taken.room in omega arith)) taken.key_is;
+    }
+
+-- what the parts of a removal leave: before its link is stored to, by that store, and by freeing the node
+module _ (v u : View) (key : ℕ) (place : Place) (next : ℕ) (seat : IsSeat u) (shard : IsShard v (shard_of key)) (grown : Grown v u) (taken : IsTaken IsSettled u key place next) where
+  gives : Gives u (shard_of key) shard.map
+  gives = gives_grown v u grown (shard_of key) shard.map shard.gives
+
+  only : ReachesOnlyHeld u
+  only = only_grown v u grown seat shard.only
+
+  module _ (w : View) (may : MayStore (word_of place.link) next u w) where
+    left_here : MayChange (shard_of key) (λ map. without_key map key) u w
+    left_here = unlink_left u seat key place next taken shard.map gives w may only
+
+    pub left_stored : MayChange (shard_of key) (λ map. without_key map key) v w
+    left_stored = change_after (shard_of key) (λ map. without_key map key) v u w grown seat shard.only left_here
+
+    pub node_still : Contains w.held place.node
+    node_still = subst (λ (bs : List Block). Contains bs place.node) (sym may.held) (node_held u seat key place next taken shard.map gives)
+
+    pub left_freed : (x : View) → IsSeat w → IsSettled w (word_of place.link) next → MayFree place.node w x
+        → Changes (shard_of key) (λ map. without_key map key) v x × MayChange (shard_of key) (λ map. without_key map key) v x
+    left_freed x seat_w settled freeing =
+        let both = freed (shard_of key) (λ map. without_key map key) u w x place.node node_kind (shard_below key) seat_w
+        (subst (λ (rs : List ℕ). Contains rs (shard_of key)) (sym (may.roots ∙ grown.roots)) shard.owned) node_still
+        (record { gives = unlinked u seat key place next taken shard.map gives w may settled }) left_here.only left_here.others
+        (node_reached u seat key place next taken shard.map gives) (unreached u seat key place next taken shard.map gives w may seat_w only settled) freeing in (
+          changes_after (shard_of key) (λ map. without_key map key) v u x grown both.0,
+          change_after (shard_of key) (λ map. without_key map key) v u x grown seat shard.only both.1,
+        )

@@ -1,0 +1,96 @@
+use Rattle.std.proofs.Common.{◌≡◌, ◌<◌, ◌≤◌, arith}
+use Rattle.std.proofs.lemmas.Result.{on_ok_weaker}
+use Rattle.heap_seat.specs.View.{View, word_of}
+use Rattle.heap_seat.proofs.CallerLemmas.{keeps_own_then}
+use Rattle.heap_seat.proofs.RowLemmas.{row_then, row_more, row_small, row_large}
+use Rattle.dict_model.specs.Nodes.{shard_of}
+use Rattle.dict_model.specs.Requests.{without_key}
+use Rattle.dict_model.specs.Shards.{Map}
+use Rattle.dict_seat.specs.Changes.{IsTaken}
+use Rattle.dict_seat.specs.Trails.{IsSettled}
+use Rattle.dict_seat.proofs.GrownLemmas.{Grown, grown_keeps}
+use Rattle.dict_seat.proofs.ChangeLemmas.{change_none}
+use Rattle.dict_seat.proofs.RemovalLemmas.{taken_settled, left_stored, left_freed, node_still}
+use Rattle.dict_seat.proofs.removal.remove.Goals as goal
+
+pub returns-in_err-next-clause-crash : goal.returns-in_err-next-clause-crash
+returns-in_err-next-clause-crash g c =
+    let view = g.H.HeapSeat.view in
+    let v = view c.args.seat.now in
+    let w = view c.take.new.seat in
+    change_none (shard_of c.args.key) (λ map. without_key map c.args.key) v w (grown_keeps v w c.take.ensures.quiet.unchanged) (g.met.H.HeapSeat.seat c.take.new.seat) c.requires.shard.only
+
+pub returns-in_err-fence-clause-crash : goal.returns-in_err-fence-clause-crash
+returns-in_err-fence-clause-crash g c =
+    let view = g.H.HeapSeat.view in
+    let v = view c.args.seat.now in
+    let w = view c.fence.new.self in
+    change_none (shard_of c.args.key) (λ map. without_key map c.args.key) v w
+    (grown_keeps v w (keeps_own_then v (view c.take.new.seat) w c.take.ensures.quiet.unchanged c.fence.ensures.unchanged)) (g.met.H.HeapSeat.seat c.fence.new.self) c.requires.shard.only
+
+pub returns-in_err-persist-clause-crash : goal.returns-in_err-persist-clause-crash
+returns-in_err-persist-clause-crash g c =
+    let view = g.H.HeapSeat.view in
+    let v = view c.args.seat.now in
+    let t = view c.take.new.seat in
+    let u = view c.fence.new.self in
+    let seat = g.met.H.HeapSeat.seat c.fence.new.self in
+    let taken = taken_settled t u c.args.key c.in_ok-next.next c.args.place (g.met.H.HeapSeat.seat c.take.new.seat) c.fence.ensures.unchanged
+    (record { each = c.in_ok-fence.ensures.ok.durable }) c.in_ok-next.ensures.ok.taken in
+    let grown = grown_keeps v u (keeps_own_then v t u c.take.ensures.quiet.unchanged c.fence.ensures.unchanged) in
+    left_stored v u c.args.key c.args.place c.in_ok-next.next seat c.requires.shard grown taken (view c.persist.new.heap) c.persist.ensures.crash
+
+pub free-requires : goal.free-requires
+free-requires g c =
+    let view = g.H.HeapSeat.view in
+    let v = view c.args.seat.now in
+    let t = view c.take.new.seat in
+    let u = view c.fence.new.self in
+    let seat = g.met.H.HeapSeat.seat c.fence.new.self in
+    let taken = taken_settled t u c.args.key c.in_ok-next.next c.args.place (g.met.H.HeapSeat.seat c.take.new.seat) c.fence.ensures.unchanged
+    (record { each = c.in_ok-fence.ensures.ok.durable }) c.in_ok-next.ensures.ok.taken in
+    let grown = grown_keeps v u (keeps_own_then v t u c.take.ensures.quiet.unchanged c.fence.ensures.unchanged) in
+    node_still v u c.args.key c.args.place c.in_ok-next.next seat c.requires.shard grown taken (view c.persist.new.heap) c.persist.ensures.crash
+
+pub returns-clause-ok : goal.returns-clause-ok
+returns-clause-ok g c =
+    let view = g.H.HeapSeat.view in
+    let v = view c.args.seat.now in
+    let t = view c.take.new.seat in
+    let u = view c.fence.new.self in
+    let w = view c.persist.new.heap in
+    let seat = g.met.H.HeapSeat.seat c.fence.new.self in
+    let taken = taken_settled t u c.args.key c.in_ok-next.next c.args.place (g.met.H.HeapSeat.seat c.take.new.seat) c.fence.ensures.unchanged
+    (record { each = c.in_ok-fence.ensures.ok.durable }) c.in_ok-next.ensures.ok.taken in
+    let grown = grown_keeps v u (keeps_own_then v t u c.take.ensures.quiet.unchanged c.fence.ensures.unchanged) in
+    let settled : IsSettled w (word_of c.args.place.link) c.in_ok-next.next = record { seen = c.in_ok-persist.ensures.ok; left = c.in_ok-persist.ensures.durable } in
+    on_ok_weaker c.free.result
+    (λ _. (left_freed v u c.args.key c.args.place c.in_ok-next.next seat c.requires.shard grown taken w c.persist.ensures.crash (view c.free.new.self)
+    (g.met.H.HeapSeat.seat c.persist.new.heap) settled c.free.ensures.others).0) c.free.ensures.ok
+
+pub returns-clause-crash : goal.returns-clause-crash
+returns-clause-crash g c =
+    let view = g.H.HeapSeat.view in
+    let v = view c.args.seat.now in
+    let t = view c.take.new.seat in
+    let u = view c.fence.new.self in
+    let w = view c.persist.new.heap in
+    let seat = g.met.H.HeapSeat.seat c.fence.new.self in
+    let taken = taken_settled t u c.args.key c.in_ok-next.next c.args.place (g.met.H.HeapSeat.seat c.take.new.seat) c.fence.ensures.unchanged
+    (record { each = c.in_ok-fence.ensures.ok.durable }) c.in_ok-next.ensures.ok.taken in
+    let grown = grown_keeps v u (keeps_own_then v t u c.take.ensures.quiet.unchanged c.fence.ensures.unchanged) in
+    let settled : IsSettled w (word_of c.args.place.link) c.in_ok-next.next = record { seen = c.in_ok-persist.ensures.ok; left = c.in_ok-persist.ensures.durable } in
+    (left_freed v u c.args.key c.args.place c.in_ok-next.next seat c.requires.shard grown taken w c.persist.ensures.crash (view c.free.new.self)
+    (g.met.H.HeapSeat.seat c.persist.new.heap) settled c.free.ensures.others).1
+
+pub returns-clause-calls : goal.returns-clause-calls
+returns-clause-calls g c =
+    let view = g.H.HeapSeat.view in
+    let v = view c.args.seat.now in
+    let t = view c.take.new.seat in
+    let u = view c.fence.new.self in
+    let w = view c.persist.new.heap in
+    let x = view c.free.new.self in
+    let a = row_then 3 0 0 1 0 0 v t u c.take.ensures.quiet.calls (row_small t u c.fence.ensures.counted) in
+    let b = row_then 4 0 0 3 0 0 v u w a c.persist.ensures.calls in
+    row_then 7 0 0 0 1 0 v w x b (row_large 0 w x c.free.ensures.counted)

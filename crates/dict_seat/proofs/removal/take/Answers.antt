@@ -1,0 +1,24 @@
+use Rattle.std.proofs.Common.{◌≡◌, ◌<◌, ◌≤◌, arith}
+use Rattle.heap_seat.specs.View.{View}
+use Rattle.dict_seat.proofs.RemovalLemmas.{found_held, still_held, takes}
+use Rattle.dict_seat.proofs.removal.take.Goals as goal
+
+pub follow-requires : goal.follow-requires
+follow-requires g c =
+    let room = c.requires.room in
+    (found_held (g.H.HeapSeat.view c.args.seat.now) c.args.key c.args.place c.requires, omega arith)
+
+pub write_back-requires : goal.write_back-requires
+write_back-requires g c =
+    let view = g.H.HeapSeat.view in
+    let room = c.requires.room in (
+      still_held (view c.args.seat.now) (view c.follow.new.seat) c.args.place.node c.follow.ensures.quiet.unchanged
+          (found_held (view c.args.seat.now) c.args.key c.args.place c.requires),
+      omega arith,
+    )
+
+pub returns-clause-ok : goal.returns-clause-ok
+returns-clause-ok g c =
+    let view = g.H.HeapSeat.view in
+    takes (view c.args.seat.now) (view c.follow.new.seat) (view c.write_back.new.self) c.args.key c.in_ok-next.next c.args.place (g.met.H.HeapSeat.seat c.args.seat.now) c.requires
+    c.follow.ensures.quiet.unchanged c.in_ok-next.ensures.ok c.write_back.ensures.unchanged c.in_ok-write_back.ensures.ok

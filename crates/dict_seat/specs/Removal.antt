@@ -1,0 +1,23 @@
+-- What a request for a key's node relies on, and what its parts leave.
+use Rattle.std.specs.Prelude.{◌≡◌, ℕ, ◌+◌, Contains}
+use Rattle.heap_seat.specs.View.{View}
+use Rattle.dict_model.specs.Nodes.{shard_of}
+use Rattle.dict_model.specs.Shards.{Map}
+use Rattle.dict_seat.specs.declared.walk.Place.{Place}
+use Rattle.dict_seat.specs.Maps.{Gives}
+use Rattle.dict_seat.specs.Reached.{ReachesOnlyHeld}
+use Rattle.dict_seat.specs.Trails.{IsSettling}
+use Rattle.dict_seat.specs.Quiet.{GoesPending}
+use Rattle.dict_seat.specs.Changes.{IsTaken}
+
+-- the shard of the key is a map in every mixture, and only held blocks are reached
+pub record IsShard (v : View) (shard : ℕ) : Type 0 where
+  pub owned : Contains v.roots shard
+  pub only : ReachesOnlyHeld v
+  pub map : Map
+  pub gives : Gives v shard map
+
+-- the links round a key's node and its key were followed
+pub record Takes (key : ℕ) (place : Place) (next : ℕ) (v w : View) : Type 0 where
+  pub goes : GoesPending v w
+  pub taken : IsTaken IsSettling w key place next
