@@ -1,6 +1,6 @@
 mod BitLemmas
-mod PairLemmas
-mod StepLemmas
-mod TraceLemmas
+pub mod PairLemmas
+pub mod StepLemmas
+pub mod TraceLemmas
 mod MarksLemmas
 mod TestLemmas

@@ -20,7 +20,7 @@ pair_cases pairs b c k j here =
     ]
 
 -- blocks of one layout with one mark are one, and their kinds are
-one_mark : (l : Layout) (kinds : ℕ) (b c : Block) (k j : ℕ) → IsBlock l b → IsBlock l c → k < kinds → j < kinds → mark_of kinds b k ≡ mark_of kinds c j → (b ≡ c) × (k ≡ j)
+pub one_mark : (l : Layout) (kinds : ℕ) (b c : Block) (k j : ℕ) → IsBlock l b → IsBlock l c → k < kinds → j < kinds → mark_of kinds b k ≡ mark_of kinds c j → (b ≡ c) × (k ≡ j)
 one_mark l kinds b c k j is_b is_c k_below j_below same =
     let place = same_from_place b.first_word k c.first_word j kinds k_below j_below same in
     (same_first l b c is_b is_c place.0, place.1)

@@ -12,6 +12,7 @@ mod worklist;
 pub use fault::TraceFault;
 pub use filter::Filter;
 pub use marks::Marks;
+pub use scan::{Scan, Target};
 pub use worklist::trace;
 
 #[cfg(test)]

@@ -37,7 +37,7 @@ pub struct Scan<'a> {
 
 impl Scan<'_> {
     /// Where the word leads.
-    fn target_of(&self, word: u64) -> Target
+    pub fn target_of(&self, word: u64) -> Target
         requires { Describes self.now.directory.now (layout_of (slice_index self.now.words.now)) }
         ensures { LeadsTo (slice_index self.now.words.now) word result }
     {
@@ -53,7 +53,7 @@ impl Scan<'_> {
 
     /// The words of the block.
     #[tactic(auto, using(heap_model::specs::Geometry::largest_capacity_fits))]
-    fn words_of(&self, block: Block) -> &[u64]
+    pub fn words_of(&self, block: Block) -> &[u64]
         requires formed { IsImage self.now.words.now }
         requires block { IsBlock (layout_of (slice_index self.now.words.now)) block }
         ensures words { result.now ≡ words_in (slice_index self.now.words.now) block }
@@ -89,7 +89,7 @@ impl Scan<'_> {
     }
 
     /// Adds what the roots lead to, each as one of the root's kind, to the empty set.
-    pub fn follow_roots(&self, kinds: &[u32], found: &mut PairSet) -> Result<(), TraceFault>
+    pub(crate) fn follow_roots(&self, kinds: &[u32], found: &mut PairSet) -> Result<(), TraceFault>
         requires formed { IsImage self.now.words.now }
         requires described { Describes self.now.directory.now (layout_of (slice_index self.now.words.now)) }
         requires roots { length kinds.now ≡ roots }
@@ -107,7 +107,7 @@ impl Scan<'_> {
     }
 
     /// Adds what the links of a block lead to, which has been reached as one of the kind.
-    pub fn follow_links<F: Filter>(
+    pub(crate) fn follow_links<F: Filter>(
         &self,
         kinds: &[u32],
         filter: &F,

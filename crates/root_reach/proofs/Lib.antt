@@ -1,0 +1,3 @@
+pub mod OriginLemmas
+pub mod StepLemmas
+pub mod TraceLemmas

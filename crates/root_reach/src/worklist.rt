@@ -1,0 +1,41 @@
+//! The trace: a worklist of what was found, from the roots on. What is told of a block as one of a
+//! kind changes twice at most, from no root to one, and to several, and is followed each time.
+ghost use Rattle.std.specs.Prelude.{◌≡◌, ◌*◌, ◌<◌, length, slice_index, IfOk};
+ghost use Rattle.std.specs.List.{All};
+ghost use Rattle.heap_model.specs.Geometry.{roots};
+ghost use Rattle.heap_model.specs.Header.{IsWellFormed};
+ghost use Rattle.heap_model.specs.Blocks.{layout_of};
+ghost use Rattle.super_block.specs.Division.{Describes};
+ghost use Rattle.root_reach.specs.Reaching.{AreOrigins};
+
+use crate::labels::{Found, Origins};
+use crate::steps::{follow_links, follow_roots};
+use filter_trace::{Filter, Scan};
+use std::alloc::{AllocError, Global};
+
+/// Which roots reach each block of the image, `kinds` being the kind of what each root leads to.
+/// Words that lead nowhere are passed by. Time grows with the blocks and links that are reached,
+/// room with the words of the image, two bytes for each word and kind.
+pub fn trace_origins<F: Filter>(
+    alloc: Global,
+    scan: &Scan,
+    kinds: &[u32],
+    filter: &F,
+) -> Result<Origins, AllocError>
+    requires formed { IsWellFormed (8 * length scan.now.words.now) (slice_index scan.now.words.now) }
+    requires described { Describes scan.now.directory.now (layout_of (slice_index scan.now.words.now)) }
+    requires roots { length kinds.now ≡ roots }
+    requires kinds { All (λ kind. kind < F.KINDS) kinds.now }
+    ensures ok { IfOk result (AreOrigins (slice_index scan.now.words.now) (slice_index kinds.now) (F.links_of filter.now)) }
+{
+    let mut found = Found::new(alloc, scan.words.len(), F::KINDS)?;
+    follow_roots(scan, kinds, filter, &mut found)?;
+    let mut next = 0;
+    while next < found.list.len() {
+        let finding = found.list[next];
+        follow_links(scan, kinds, filter, finding, &mut found)?;
+        next += 1;
+    }
+    let Found { list: _, origins } = found;
+    Ok(origins)
+}
