@@ -1,8 +1,11 @@
 -- Each root has one of the dictionary's three kinds.
-use Rattle.std.proofs.Common.{◌≡◌, ℕ, ◌-◌, ◌<◌, List, length, slice_index_or, replicate, inl, inr, sym, subst, arith}
-use Rattle.std.proofs.lemmas.Bool.{cases_lt}
+use Rattle.std.proofs.Common.{◌≡◌, ℕ, ◌-◌, ◌<◌, List, length, slice_index_or, replicate, inl, inr, sym, subst, ◌∙◌, arith}
+use Rattle.std.specs.Prelude.{slice_index, nat_lt}
+use Rattle.std.proofs.lemmas.Bool.{cases_lt, cond-true, cond-false, lt-ltb, le-ltb}
 use Rattle.std.proofs.Math.ListN.{get_or-append, get_or-replicate}
 use Rattle.std.proofs.Math.Seq.{get_or-append_right}
+use Rattle.heap_model.specs.Geometry.{roots}
+use Rattle.dict_model.specs.Links.{root_kind}
 use Rattle.dictionary.specs.DictLinks.{root_kinds}
 
 -- each kind of a root is one of three
@@ -15,3 +18,14 @@ small_kind k d below = elim (cases_lt k 8) as (λ _. slice_index_or root_kinds k
 
 pub small_kinds : (kinds : List ℕ) → kinds ≡ root_kinds → (k d : ℕ) → k < length kinds → slice_index_or kinds k d < 3
 small_kinds kinds are = subst (λ (ks : List ℕ). (k d : ℕ) → k < length ks → slice_index_or ks k d < 3) (sym are) small_kind
+
+-- and it is that of its root
+kind_is : (i : ℕ) → i < roots → slice_index root_kinds i ≡ root_kind i
+unfolding root_kinds
+kind_is i below = elim (cases_lt i 8) as (λ _. slice_index root_kinds i ≡ root_kind i) [
+  | inl low ↦ get_or-append (replicate 8 1) (replicate 1016 0) 0 i low ∙ get_or-replicate 8 i 1 0 low ∙ sym (cond-true (nat_lt i 8) 1 0 (lt-ltb i 8 low))
+  | inr high ↦ get_or-append_right (replicate 8 1) (replicate 1016 0) i 0 high ∙ get_or-replicate 1016 (i - 8) 0 0 (omega arith) ∙ sym (cond-false (nat_lt i 8) 1 0 (le-ltb i 8 high))
+]
+
+pub kinds_each : (kinds : List ℕ) → kinds ≡ root_kinds → (i : ℕ) → i < roots → slice_index kinds i ≡ root_kind i
+kinds_each kinds are = subst (λ (ks : List ℕ). (i : ℕ) → i < roots → slice_index ks i ≡ root_kind i) (sym are) kind_is

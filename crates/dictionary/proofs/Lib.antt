@@ -1,2 +1,4 @@
 pub mod KindLemmas
+pub mod LeadLemmas
 pub mod LinkLemmas
+pub mod WalkLemmas

@@ -1,6 +1,6 @@
 -- The links of the dictionary lie in their block, lead to kinds that there are, and are few.
-use Rattle.std.specs.Prelude.{◌≡◌, ℕ, zero, suc, ◌+◌, ◌<◌, ◌≤◌, ◌^◌, List, [], ◌∷◌, length, slice_index_or, Contains, Bool, true, false, cond, nat_eq, refl}
-use Rattle.std.proofs.Common.{arith, ap, sym, ◌∙◌}
+use Rattle.std.specs.Prelude.{◌≡◌, ℕ, zero, suc, ◌+◌, ◌<◌, ◌≤◌, ◌^◌, List, [], ◌∷◌, length, slice_index_or, cond, nat_eq, refl}
+use Rattle.std.proofs.Common.{arith, ap}
 use Rattle.std.proofs.lemmas.Bool.{cond_both}
 use Rattle.heap_model.specs.Reach.{AreInside}
 use Rattle.dictionary.specs.DictLinks.{all_to_nodes, first_to_node, dict_links}

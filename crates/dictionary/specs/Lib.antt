@@ -1,2 +1,3 @@
 pub mod DictLinks
 pub mod Laws
+pub mod Reading

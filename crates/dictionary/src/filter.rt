@@ -1,6 +1,8 @@
 //! Where the blocks of the dictionary hold pointers.
 
-ghost use Rattle.std.specs.Prelude.{◌≡◌, ◌<◌, All, length, slice_get};
+ghost use Rattle.std.specs.Prelude.{◌≡◌, ◌<◌, ℕ, All, length, slice_get, slice_index};
+ghost use Rattle.heap_model.specs.Geometry.{roots};
+ghost use Rattle.dict_model.specs.Links.{root_kind};
 ghost use Rattle.dictionary.specs.DictLinks.{all_to_nodes, first_to_node, dict_links, root_kinds};
 
 use filter_trace::Filter;
@@ -21,6 +23,7 @@ pub const SHARDS: usize = 8;
 /// The kind of each root: the first eight lead to tables, and the others to blocks without links.
 pub fn root_kinds() -> [u32; ROOTS as usize]
     ensures kinds { result ≡ root_kinds }
+    ensures each { (i : ℕ) → i < roots → slice_index result i ≡ root_kind i }
     ensures few { All (λ kind. kind < 3) result }
 {
     let mut kinds = [OTHER; ROOTS as usize];

@@ -1,6 +1,11 @@
-//! A recoverable dictionary in a heap: for now, how its blocks are linked.
+//! A recoverable dictionary in a heap: how its blocks are linked, and its shards read as maps.
 #![tactic(auto)]
 
+mod fault;
 mod filter;
+mod read;
+mod walk;
 
+pub use fault::MapFault;
 pub use filter::{DictFilter, NODE, OTHER, SHARDS, TABLE, root_kinds};
+pub use read::{read_map, read_maps};

@@ -1,4 +1,4 @@
-use Rattle.std.proofs.Common.{◌≡◌, ℕ, ◌+◌, sym, ◌∙◌, ap, Some, Option, arith}
+use Rattle.std.proofs.Common.{◌≡◌, ◌+◌, sym, ◌∙◌, ap, Some, arith}
 use Rattle.dictionary.proofs.LinkLemmas.{get-all_to_nodes, get-all_past}
 use Rattle.dictionary.proofs.filter.bucket.Goals as goal
 

@@ -1,0 +1,140 @@
+//! Reading the shards of a recovered heap as maps.
+ghost use Rattle.std.specs.Prelude.{◌≡◌, ◌+◌, ◌<◌, ◌≤◌, ℕ, length, slice_index, IfOk, OnOk, IfErr};
+ghost use Rattle.std.specs.BTreeMap.{get};
+ghost use Rattle.std.specs.Ordering.{nat_cmp};
+ghost use Rattle.heap_model.specs.declared.block.Block.{Block};
+ghost use Rattle.dict_model.specs.Links.{shards};
+ghost use Rattle.dict_model.specs.Nodes.{buckets};
+ghost use Rattle.dict_model.specs.Shards.{HasTable, LeadsAlone, MapOf};
+ghost use Rattle.dictionary.specs.Reading.{IsRead, IsMapUpTo, TellsBad, TellsLowest, AreMaps};
+
+use crate::fault::MapFault;
+use crate::filter::{DictFilter, SHARDS, root_kinds};
+use crate::walk::{BUCKETS, Lead, Walk};
+use filter_trace::Scan;
+use heap_model::Block;
+use heap_recover::Recovered;
+use region_header::Bytes;
+use root_reach::{Origins, trace_origins};
+use std::alloc::Global;
+use std::collections::BTreeMap;
+use super_block::{Directory, ROOT_WORD};
+
+/// The map of shard `i` of a recovered heap, as the keys with their values. It has none where the
+/// root or a link leads to what it may not: then the first such word is told.
+pub fn read_map(
+    alloc: Global,
+    recovered: &Recovered,
+    i: usize,
+) -> Result<BTreeMap<u64, Bytes>, MapFault>
+    requires { i < 8 }
+    ensures ok { IfOk result (λ map. MapOf (slice_index recovered.now.heap.words) i (get nat_cmp map)) }
+    ensures err { IfErr result (TellsBad (slice_index recovered.now.heap.words) i) }
+{
+    let words = recovered.heap.words();
+    let directory = Directory::of(alloc, words)?;
+    let scan = Scan {
+        words,
+        directory: &directory,
+    };
+    let origins = trace_origins(alloc, &scan, &root_kinds(), &DictFilter)?;
+    read_shard(alloc, scan, &origins, i)
+}
+
+/// The maps of all eight shards of a recovered heap, in order, from one trace. Where shards have
+/// none the lowest of them is told.
+pub fn read_maps(
+    alloc: Global,
+    recovered: &Recovered,
+) -> Result<Vec<BTreeMap<u64, Bytes>>, MapFault>
+    ensures ok { IfOk result (λ maps. AreMaps (slice_index recovered.now.heap.words) shards maps.items) }
+    ensures err { IfErr result (TellsLowest (slice_index recovered.now.heap.words)) }
+{
+    let words = recovered.heap.words();
+    let directory = Directory::of(alloc, words)?;
+    let scan = Scan {
+        words,
+        directory: &directory,
+    };
+    let origins = trace_origins(alloc, &scan, &root_kinds(), &DictFilter)?;
+    let mut maps = Vec::with_capacity(alloc, SHARDS)?;
+    for shard in 0..SHARDS {
+        match maps.push(read_shard(alloc, scan, &origins, shard)?) {
+            Ok(()) => {}
+            Err(_) => return Err(MapFault::Memory),
+        }
+    }
+    Ok(maps)
+}
+
+/// The map of a shard of an image.
+fn read_shard(
+    alloc: Global,
+    scan: Scan,
+    origins: &Origins,
+    shard: usize,
+) -> Result<BTreeMap<u64, Bytes>, MapFault>
+    requires read { IsRead scan.words.now scan.directory.now origins.now }
+    requires shard { shard < 8 }
+    ensures ok { IfOk result (λ map. MapOf (slice_index scan.entry.words.now) shard (get nat_cmp map)) }
+    ensures err { IfErr result (TellsBad (slice_index scan.entry.words.now) shard) }
+{
+    let walk = Walk {
+        scan,
+        origins,
+        shard: shard as u16,
+    };
+    let mut map = BTreeMap::new(alloc);
+    let root = ROOT_WORD as usize + shard;
+    match walk.table(walk.scan.words[root]) {
+        Lead::Null => Ok(map),
+        Lead::Astray => Err(MapFault::BadShard {
+            shard,
+            at: root as u64,
+        }),
+        Lead::To(table) => {
+            for bucket in 0..BUCKETS {
+                read_chain(alloc, &walk, table, bucket, &mut map)?;
+            }
+            Ok(map)
+        }
+    }
+}
+
+/// Adds the keys and values of a bucket to those of the buckets before it.
+fn read_chain(
+    alloc: Global,
+    walk: &Walk,
+    table: Block,
+    bucket: u64,
+    map: &mut BTreeMap<u64, Bytes>,
+) -> Result<(), MapFault>
+    requires read { IsRead walk.now.scan.words.now walk.now.scan.directory.now walk.now.origins.now }
+    requires shard { walk.now.shard < 8 }
+    requires table { HasTable (LeadsAlone (slice_index walk.now.scan.words.now) walk.now.shard) (slice_index walk.now.scan.words.now) walk.now.shard table }
+    requires bucket { bucket < buckets }
+    requires upto { IsMapUpTo (LeadsAlone (slice_index walk.now.scan.words.now) walk.now.shard) (slice_index walk.now.scan.words.now) walk.now.shard table bucket (get nat_cmp map.old) }
+    ensures ok { OnOk result (IsMapUpTo (LeadsAlone (slice_index walk.now.scan.words.now) walk.now.shard) (slice_index walk.now.scan.words.now) walk.now.shard table (bucket + 1) (get nat_cmp map.new)) }
+    ensures err { IfErr result (TellsBad (slice_index walk.now.scan.words.now) walk.now.shard) }
+{
+    let mut at = table.first_word + bucket;
+    loop {
+        let node = match walk.node(table, bucket, walk.scan.words[at as usize]) {
+            Lead::Null => return Ok(()),
+            Lead::Astray => {
+                return Err(MapFault::BadShard {
+                    shard: walk.shard as usize,
+                    at,
+                });
+            }
+            Lead::To(node) => node,
+        };
+        if !walk.add(alloc, node, map)? {
+            return Err(MapFault::BadShard {
+                shard: walk.shard as usize,
+                at,
+            });
+        }
+        at = node.first_word;
+    }
+}

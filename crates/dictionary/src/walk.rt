@@ -1,0 +1,165 @@
+//! The steps of reading a shard: where its root and links lead, and what stands in a node.
+ghost use Rattle.std.specs.Prelude.{◌≡◌, ◌≢◌, ◌+◌, ◌*◌, ◌<◌, ◌≤◌, ◌^◌, ◌↔◌, ℕ, false, length, slice_index, IfOk, IsTrue, IsSome};
+ghost use Rattle.std.specs.BTreeMap.{get};
+ghost use Rattle.std.specs.Ordering.{nat_cmp};
+ghost use Rattle.heap_model.specs.declared.block.Block.{Block};
+ghost use Rattle.heap_model.specs.Blocks.{layout_of, IsBlock};
+ghost use Rattle.dict_model.specs.Nodes.{buckets, value_words, key_in, length_in, value_in, IsNode};
+ghost use Rattle.dict_model.specs.Shards.{LeadsAlone, but};
+ghost use Rattle.dictionary.specs.Reading.{IsRead, IsLead, AddsNode};
+
+use crate::filter::SHARDS;
+use filter_trace::{Scan, Target};
+use heap_model::Block;
+use region_header::{Bytes, words_to_bytes};
+use root_reach::Origins;
+use std::alloc::{AllocError, Global};
+use std::collections::BTreeMap;
+
+/// How many buckets a table has: one for each of its words.
+pub const BUCKETS: u64 = 128;
+
+/// The bytes of the longest value.
+pub const LARGEST_VALUE: u64 = 131_072;
+
+/// The words of a node before its value: next, key and length.
+const NODE_WORDS: u64 = 3;
+
+/// Where a root or a link of a shard leads.
+#[derive(Clone, Copy)]
+pub enum Lead {
+    /// It is null.
+    Null,
+    /// To a block that may stand there.
+    To(Block),
+    /// To anything else.
+    Astray,
+}
+
+/// A shard of an image.
+#[derive(Clone, Copy)]
+pub struct Walk<'a> {
+    pub scan: Scan<'a>,
+    pub origins: &'a Origins,
+    pub shard: u16,
+}
+
+impl Walk<'_> {
+    /// Where the word leads among the blocks that no other root reaches.
+    fn lead(&self, word: u64) -> Lead
+        requires { IsRead self.now.scan.words.now self.now.scan.directory.now self.now.origins.now }
+        ensures { IsLead (LeadsAlone (slice_index self.now.scan.words.now) self.now.shard) (λ b. IsBlock (layout_of (slice_index self.now.scan.words.now)) b) word result }
+    {
+        match self.scan.target_of(word) {
+            Target::Null => Lead::Null,
+            Target::Nowhere => Lead::Astray,
+            Target::To(block) => {
+                if self.origins.is_reached_beside(block, self.shard) {
+                    Lead::Astray
+                } else {
+                    Lead::To(block)
+                }
+            }
+        }
+    }
+
+    /// Word `at` of the block.
+    fn word(&self, block: Block, at: u64) -> u64
+        requires read { IsRead self.now.scan.words.now self.now.scan.directory.now self.now.origins.now }
+        requires block { IsBlock (layout_of (slice_index self.now.scan.words.now)) block }
+        requires at { at < block.words }
+        ensures { result ≡ slice_index self.now.scan.words.now (block.first_word + at) }
+    {
+        self.scan.words[(block.first_word + at) as usize]
+    }
+
+    /// Whether the block can be a node of the bucket.
+    fn is_node(&self, bucket: u64, block: Block) -> bool
+        requires read { IsRead self.now.scan.words.now self.now.scan.directory.now self.now.origins.now }
+        requires block { IsBlock (layout_of (slice_index self.now.scan.words.now)) block }
+        ensures yes { IsTrue result → IsNode (slice_index self.now.scan.words.now) self.now.shard bucket block }
+        ensures no { result ≡ false → IsNode (slice_index self.now.scan.words.now) self.now.shard bucket block → ⊥ }
+    {
+        if block.words < NODE_WORDS {
+            return false;
+        }
+        let key = self.word(block, 1);
+        let length = self.word(block, 2);
+        if length > LARGEST_VALUE {
+            return false;
+        }
+        key % SHARDS as u64 == self.shard as u64
+            && key / SHARDS as u64 % BUCKETS == bucket
+            && NODE_WORDS + (length + 7) / 8 <= block.words
+    }
+
+    /// The table of the shard, where the root leads.
+    pub fn table(&self, word: u64) -> Lead
+        requires { IsRead self.now.scan.words.now self.now.scan.directory.now self.now.origins.now }
+        ensures { IsLead (LeadsAlone (slice_index self.now.scan.words.now) self.now.shard) (λ b. b.words ≡ buckets) word result }
+    {
+        match self.lead(word) {
+            Lead::Null => Lead::Null,
+            Lead::Astray => Lead::Astray,
+            Lead::To(block) => {
+                if block.words == BUCKETS {
+                    Lead::To(block)
+                } else {
+                    Lead::Astray
+                }
+            }
+        }
+    }
+
+    /// The node of the bucket to which a link leads.
+    pub fn node(&self, table: Block, bucket: u64, word: u64) -> Lead
+        requires { IsRead self.now.scan.words.now self.now.scan.directory.now self.now.origins.now }
+        ensures { IsLead (but table (LeadsAlone (slice_index self.now.scan.words.now) self.now.shard)) (IsNode (slice_index self.now.scan.words.now) self.now.shard bucket) word result }
+    {
+        match self.lead(word) {
+            Lead::Null => Lead::Null,
+            Lead::Astray => Lead::Astray,
+            Lead::To(block) => {
+                if block != table && self.is_node(bucket, block) {
+                    Lead::To(block)
+                } else {
+                    Lead::Astray
+                }
+            }
+        }
+    }
+
+    /// The value of a node.
+    fn value(&self, alloc: Global, block: Block) -> Result<Bytes, AllocError>
+        requires read { IsRead self.now.scan.words.now self.now.scan.directory.now self.now.origins.now }
+        requires block { IsBlock (layout_of (slice_index self.now.scan.words.now)) block }
+        requires fits { 3 + value_words (length_in (slice_index self.now.scan.words.now) block) ≤ block.words }
+        ensures ok { IfOk result (λ value. value ≡ value_in (slice_index self.now.scan.words.now) block) }
+    {
+        let length = self.word(block, 2);
+        let from = (block.first_word + NODE_WORDS) as usize;
+        let words = &self.scan.words[from..from + ((length + 7) / 8) as usize];
+        let mut bytes = words_to_bytes(alloc, words)?.into_vec();
+        bytes.truncate(length as usize);
+        Ok(Bytes::from_vec(bytes))
+    }
+
+    /// Adds the key of a node and its value, and tells whether the key is new.
+    pub fn add(
+        &self,
+        alloc: Global,
+        block: Block,
+        map: &mut BTreeMap<u64, Bytes>,
+    ) -> Result<bool, AllocError>
+        requires read { IsRead self.now.scan.words.now self.now.scan.directory.now self.now.origins.now }
+        requires block { IsBlock (layout_of (slice_index self.now.scan.words.now)) block }
+        requires fits { 3 + value_words (length_in (slice_index self.now.scan.words.now) block) ≤ block.words }
+        ensures new { IfOk result (λ new. IsTrue new → AddsNode (slice_index self.now.scan.words.now) block map.old map.new) }
+        ensures known { IfOk result (λ new. new ≡ false → IsSome (get nat_cmp map.old (key_in (slice_index self.now.scan.words.now) block))) }
+    {
+        let key = self.word(block, 1);
+        let keys = map.len();
+        map.insert(key, self.value(alloc, block)?)?;
+        Ok(map.len() > keys)
+    }
+}
