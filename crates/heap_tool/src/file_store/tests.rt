@@ -1,7 +1,6 @@
 //! The store over real files, and its loop of reads over a reader that fails in the middle. All
 //! tests run in one folder, so each has names of its own.
 use super::*;
-use std::fs::Metadata;
 use std::test::Fail;
 
 fn get<I: ImageStore>(store: &mut I, alloc: Global, name: &str) -> Result<Vec<u8>, GetFault> {
@@ -111,7 +110,7 @@ fn a_read_that_fails_in_the_middle_has_failed(rt: HostRuntime) -> Result<(), Fai
     for error in [ErrorKind::NotFound, ErrorKind::Other] {
         let mut file = Faulty { reads: 0, error };
         assert_eq!(rt;
-            read_first(alloc, &mut file, 8).err(),
+            read_first(alloc, &mut file, 8, 3).err(),
             Some(GetFault::Failed)
         );
     }
@@ -119,80 +118,7 @@ fn a_read_that_fails_in_the_middle_has_failed(rt: HostRuntime) -> Result<(), Fai
         reads: 0,
         error: ErrorKind::Interrupted,
     };
-    let image = read_first(alloc, &mut file, 8).ok();
+    let image = read_first(alloc, &mut file, 8, 3).ok();
     assert!(rt; image.is_some_and(|got| got.as_slice() == b"xxxxxxxx".as_slice()));
-    Ok(())
-}
-
-// A file that takes bytes until it fails, and fails to be synced where it is told so.
-#[derive(Drop)]
-struct FaultyFile {
-    room: usize,
-    sync_fails: bool,
-}
-
-impl Write for FaultyFile {
-    fn write(&mut self, buf: &[u8]) -> io::Result<usize> {
-        let count = buf.len().min(self.room);
-        self.room -= count;
-        Ok(count)
-    }
-
-    fn flush(&mut self) -> io::Result<()> {
-        Ok(())
-    }
-}
-
-impl OpenFile for FaultyFile {
-    fn metadata(&self) -> io::Result<Metadata> {
-        Ok(Metadata::of_file(0))
-    }
-
-    fn set_len(&self, _size: u64) -> io::Result<()> {
-        Ok(())
-    }
-
-    fn sync_all(&self) -> io::Result<()> {
-        if self.sync_fails {
-            return Err(io::Error::from(ErrorKind::Other));
-        }
-        Ok(())
-    }
-
-    fn sync_data(&self) -> io::Result<()> {
-        self.sync_all()
-    }
-}
-
-#[test]
-fn a_write_or_sync_that_fails_is_told(rt: HostRuntime) -> Result<(), Fail> {
-    for (room, sync_fails, written, left) in [
-        (9, false, true, 6),
-        (3, false, true, 0),
-        (2, false, false, 0),
-        (0, false, false, 0),
-        (9, true, false, 6),
-    ] {
-        let mut file = FaultyFile { room, sync_fails };
-        assert_eq!(rt; write_file(&mut file, b"abc").is_ok(), written);
-        assert_eq!(rt; file.room, left);
-    }
-    Ok(())
-}
-
-#[test]
-fn a_file_that_was_not_written_takes_no_place(rt: HostRuntime) -> Result<(), Fail> {
-    let alloc = rt.alloc();
-    let mut store = FileStore::new(&rt);
-    assert_eq!(rt; put(&mut store, alloc, "kept", b"old"), Ok(()));
-    assert_eq!(rt; put(&mut store, alloc, "kept.new7", b"half"), Ok(()));
-    let failed = Err(io::Error::from(ErrorKind::Other));
-    assert_eq!(rt;
-        move_file(&rt, failed, "kept.new7", "kept"),
-        Err(PutImageFault::Failed)
-    );
-    let image = get(&mut store, alloc, "kept").ok();
-    assert!(rt; image.is_some_and(|got| got.as_slice() == b"old".as_slice()));
-    assert_eq!(rt; fs::exists(&rt, "kept.new7")?, false);
     Ok(())
 }

@@ -1,0 +1,121 @@
+//! Puts a file in the place of another, which stays whole until the new one is.
+ghost use Rattle.std.specs.Prelude.{IsOk, OnOk};
+ghost use Rattle.std.specs.Io.KnownBytes.{Appends};
+
+use std::alloc::Global;
+use std::fs::{OpenFile, OpenOptions, Permissions};
+use std::io::{ErrorKind, Write};
+use std::os::unix::fs::{OpenOptionsExt, PermissionsExt};
+use std::rt::Files;
+use std::{fs, io};
+use tool_ports::PutImageFault;
+
+/// A file of this ending and a number is written beside the named one before it takes its place.
+const TEMPORARY: &str = ".new";
+
+/// How many numbers are tried for a name that is free.
+const TRIES: u32 = 1000;
+
+/// The bits of a mode that say who may do what, without the file's type.
+const MODE_BITS: u32 = 0o7777;
+
+/// Puts these bytes in a file of this name. One that is there keeps its mode, and a link to it still
+/// leads to it.
+pub fn put_file<R: Files>(
+    rt: &R,
+    alloc: Global,
+    name: &str,
+    bytes: &[u8],
+) -> Result<(), PutImageFault> {
+    match rt.canonicalize(alloc, name) {
+        Ok(target) => put_beside(rt, alloc, target.as_str(), bytes),
+        Err(e) if e.kind() == ErrorKind::OutOfMemory => Err(PutImageFault::Memory),
+        Err(_) => put_beside(rt, alloc, name, bytes),
+    }
+}
+
+// Writes a file of its own first, under a name that is free: no other file is touched.
+fn put_beside<R: Files>(
+    rt: &R,
+    alloc: Global,
+    name: &str,
+    bytes: &[u8],
+) -> Result<(), PutImageFault> {
+    let mode = mode_of(rt, name);
+    for number in 0..TRIES {
+        let temporary = format!(in alloc; "{name}{TEMPORARY}{number}")?;
+        match create_new(rt, temporary.as_str(), mode) {
+            Ok(mut file) => {
+                let written = write_file(&mut file, mode, bytes);
+                return move_file(rt, written, temporary.as_str(), name);
+            }
+            Err(e) if e.kind() == ErrorKind::AlreadyExists => {}
+            Err(_) => return Err(PutImageFault::Failed),
+        }
+    }
+    Err(PutImageFault::Failed)
+}
+
+// The mode of a file that is there.
+fn mode_of<R: Files>(rt: &R, name: &str) -> Option<u32> {
+    let metadata = fs::metadata(rt, name).ok()?;
+    Some(metadata.permissions().mode() & MODE_BITS)
+}
+
+// A new file, which from the start nobody may read who may not read the one that it is to replace.
+fn create_new<R: Files>(rt: &R, name: &str, mode: Option<u32>) -> io::Result<R::File> {
+    let mut options = OpenOptions::new();
+    options.write(true).create_new(true);
+    if let Some(mode) = mode {
+        options.mode(mode);
+    }
+    options.open(rt, name)
+}
+
+// Writes the bytes, and waits until they are on the disk. The mode is given in full first: creation
+// leaves out what the process masks.
+fn write_file<F: OpenFile + Write>(file: &mut F, mode: Option<u32>, bytes: &[u8]) -> io::Result<()>
+    ensures { OnOk result (Appends (F.contents file.old) (F.contents file.new) bytes.now) }
+{
+    if let Some(mode) = mode {
+        file.set_permissions(Permissions::from_mode(mode))?;
+    }
+    file.write_all(bytes)?;
+    file.sync_all()
+}
+
+// Gives a file that was written the name that it is for, and removes one that was not.
+fn move_file<R: Files>(
+    rt: &R,
+    written: io::Result<()>,
+    temporary: &str,
+    name: &str,
+) -> Result<(), PutImageFault>
+    ensures { OnOk result (IsOk written) }
+{
+    if written.is_ok() && fs::rename(rt, temporary, name).is_ok() {
+        return sync_folder(rt, name).map_err(|_| PutImageFault::Failed);
+    }
+    let _ = fs::remove_file(rt, temporary);
+    Err(PutImageFault::Failed)
+}
+
+// Waits until the name of a file is on the disk. A folder that nobody may read isn't synced.
+fn sync_folder<R: Files>(rt: &R, name: &str) -> io::Result<()> {
+    match fs::open(rt, folder_of(name)) {
+        Ok(folder) => folder.sync_all(),
+        Err(_) => Ok(()),
+    }
+}
+
+// The folder of a file.
+fn folder_of(name: &str) -> &str {
+    match name.rsplit_once('/') {
+        Some(("", _)) => "/",
+        Some((folder, _)) => folder,
+        None => ".",
+    }
+}
+
+#[cfg(test)]
+mod tests;
