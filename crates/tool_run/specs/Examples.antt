@@ -3,6 +3,7 @@ use Rattle.std.specs.Prelude.{◌≡◌, List, [], ◌∷◌, ◌++◌, codes, S
 use Rattle.std.specs.Fmt.{digits}
 use Rattle.std.specs.Str.Parse.{digits_value}
 use Rattle.std.proofs.Common.{ℕ, length, slice_index_or, sym, ap, ◌∙◌, arith, lit<, lit≤}
+use Rattle.heap_model.specs.Geometry.{largest_capacity}
 use Rattle.heap_model.specs.Sizes.{size_of, class_sizes}
 use Rattle.heap_model.specs.declared.header.BadHeader.TheVariants.{Length}
 use Rattle.trace_text.specs.Report.{line_feed}
@@ -47,6 +48,7 @@ name_h : IsImageName (codes "h")
 name_h = record { some = lit< tt; no_option = λ e. omega (arith, e) }
 
 format_one : Asks (codes "format" ∷ codes "h" ∷ codes "01" ∷ []) (format_image (codes "h") 1)
+unfolding largest_capacity
 format_one = record {
   number = codes "01";
   words_are = refl;

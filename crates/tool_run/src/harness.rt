@@ -1,4 +1,6 @@
 //! Runs calls of the tool over a store and a sink in memory, and compares what they answer.
+#![tactic(auto, unfolding(heap_model::specs::Geometry::largest_capacity))]
+
 use crate::run_tool;
 use region_header::{format, words_to_bytes};
 use std::alloc::{AllocError, Global};

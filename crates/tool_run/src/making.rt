@@ -49,6 +49,7 @@ pub fn make<I: ImageStore>(
 }
 
 // An empty image, closed.
+#[tactic(auto, using(heap_model::specs::Geometry::largest_capacity_fits))]
 fn empty_image(alloc: Global, layout: Geometry) -> Result<Product, AllocError>
     ensures ok { IfOk result
         (λ product. IsFormatted layout.capacity product.image product.text) }

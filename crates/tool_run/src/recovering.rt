@@ -15,7 +15,7 @@ use dictionary::{DictFilter, root_kinds};
 use heap_recover::{RecoverFault, Recovered, recover};
 use region_header::{bytes_to_words, check_bytes};
 use std::alloc::Global;
-use super_block::LONGEST_IMAGE;
+use super_block::{LONGEST_IMAGE, constants_agree};
 use tool_ports::ImageStore;
 
 /// Recovers the image of this name.
@@ -42,6 +42,7 @@ pub fn recover_image<I: ImageStore>(
 fn most_bytes() -> usize
     ensures { result ≡ get_limit }
 {
+    constants_agree();
     LONGEST_IMAGE as usize + 1
 }
 
