@@ -29,7 +29,8 @@ least_of_most = record {
   is_class = record { some = omega arith; last = omega arith };
   holds = omega arith;
   least = λ other is holds.
-      let most : size_of other ≤ 12288 + 2048 * (other / 20) = leb-true (size_of other) (12288 + 2048 * (other / 20)) (at_class (λ c. nat_le (size_of c) (12288 + 2048 * (c / 20))) refl other is) in
+      let most : size_of other ≤ 12288 + 2048 * (other / 20) = leb-true (size_of other) (12288 + 2048 * (other / 20))
+      (at_class (λ c. nat_le (size_of c) (12288 + 2048 * (c / 20))) refl other is) in
       omega arith;
 }
 
@@ -43,7 +44,8 @@ sizes_of_superblocks : IsSizeFor 14337 65536 × IsSizeFor 65537 131072
 sizes_of_superblocks = (of_superblocks (omega arith), of_superblocks (omega arith))
 
 -- a request of no bytes never gets a block of the second class, nor does one that no class holds get one of a class
-size_is : (bytes size : ℕ) → IsSizeFor bytes size → ((c : ℕ) × IsLeastClassFor bytes c × (size ≡ size_of c)) ⊎ ((largest_small < bytes) × (size ≡ 65536 * span_of bytes))
+size_is : (bytes size : ℕ) → IsSizeFor bytes size
+    → ((c : ℕ) × IsLeastClassFor bytes c × (size ≡ size_of c)) ⊎ ((largest_small < bytes) × (size ≡ 65536 * span_of bytes))
 size_is bytes _ (of_class c least) = inl (c, least, refl)
 size_is bytes _ (of_superblocks large) = inr (large, refl)
 
@@ -97,7 +99,8 @@ abbrev look_with : ℕ → ℕ → Look
 look_with seen taken = record { seen = seen; ticket = Some 7; taken = taken }
 
 -- one superblock more of which the seat took one is no less; one that only the seat took is
-knows_no_less : KnowsNoLess (seat_with (look_with 3 1) 0) (seat_with (look_with 5 2) 0) × (KnowsNoLess (seat_with (look_with 3 1) 0) (seat_with (look_with 3 2) 0) → ⊥)
+knows_no_less : KnowsNoLess (seat_with (look_with 3 1) 0) (seat_with (look_with 5 2) 0)
+    × (KnowsNoLess (seat_with (look_with 3 1) 0) (seat_with (look_with 3 2) 0) → ⊥)
 knows_no_less = (omega arith, λ less. omega arith)
 
 -- two superblocks were asked for, and of two one had been taken, as this call saw
@@ -150,8 +153,10 @@ not_written_with = (λ behind. omega (arith, behind.1), λ neighbour. let from =
 counts : counted None 4 ∷ counted (Some 9) 4 ∷ [] ≡ 5 ∷ 4 ∷ []
 counts = refl
 
--- a look may be made by a ticket of the calls between, with what was taken by then; an earlier ticket's is none of theirs, nor is one that knows of more taken
-made_between : KeepsLooks (seat_with (look_with 0 0) 7) (seat_with (look_with 1 1) 8) × (IsMade 8 9 1 1 (look_with 1 1) → ⊥) × (IsMade 7 8 1 1 (look_with 1 2) → ⊥)
+-- a look may be made by a ticket of the calls between, with what was taken by then; an earlier ticket's is none of theirs, nor is one that
+-- knows of more taken
+made_between : KeepsLooks (seat_with (look_with 0 0) 7) (seat_with (look_with 1 1) 8)
+    × (IsMade 8 9 1 1 (look_with 1 1) → ⊥) × (IsMade 7 8 1 1 (look_with 1 2) → ⊥)
 made_between = (
   record {
     used = inr (record { ticket = 7; by = refl; since = omega arith; below = omega arith; least = omega arith; most = omega arith });

@@ -14,7 +14,8 @@ pub record Runs (v w : View) : Type 0 where
   pub drew : v.next < w.next
   pub below : w.next ≤ w.budget
 
--- the call answered this ticket in place of being done: it drew it now and the budget doesn't allow it, or it had stopped at it and nothing changes
+-- the call answered this ticket in place of being done: it drew it now, as the last one, and the budget doesn't allow it; or it had stopped at
+-- it and nothing changes
 pub record Stops (ticket : ℕ) (v w : View) : Type 0 where
   pub stopped : w.stopped ≡ Some ticket
   pub above : w.budget ≤ ticket

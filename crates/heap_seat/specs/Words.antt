@@ -65,4 +65,5 @@ KeepsPending v w word = Contains v.pending word → Contains w.pending word ⊎ 
 
 -- each own word has the value picked of its two, where that is known: what loads see for true
 pub record HasPicked (v : View) (pick : ℕ → Bool) (image : Image) : Type 0 where
-  pub each : (word value : ℕ) → IsOwn v.held v.roots word → cond (pick word) (v.volatile word) (v.durable word) ≡ Some value → image word ≡ value
+  pub each : (word value : ℕ) → IsOwn v.held v.roots word → cond (pick word) (v.volatile word) (v.durable word) ≡ Some value
+      → image word ≡ value

@@ -29,15 +29,15 @@ pub trait HeapSeat {
     // so does each mixture of volatile and durable words.
     ghost images: { Self → Image → Type 0 };
 
-    // What is so of a seat before and after a request of so many bytes that it gives a block to, and
-    // of one that it refuses for want of room, with these looks. By default nothing more than what
-    // its looks tell.
+    // What is so of a seat before and after a request of so many bytes that it gives a block to,
+    // and of one that it refuses for want of room, with these looks. By default nothing more than
+    // what its looks tell.
     ghost has_room: { Self → Self → ℕ → Type 0 } = { λ _ _ _. ⊤ };
 
     ghost has_none: { Self → Self → ℕ → Looks → Type 0 } = { λ _ _ _ _. ⊤ };
 
-    // The lists whose heads a request reads before it is refused: 0 is that of the free superblocks,
-    // then the classes. By default each that it may have a block from.
+    // The lists whose heads a request reads before it is refused: 0 is that of the free
+    // superblocks, then the classes. By default each that it may have a block from.
     ghost reads: { ℕ → Type 0 } = { λ _. ⊤ };
 
     // What is so of a seat before and after it took this block back. By default nothing.
