@@ -1,3 +1,5 @@
+#![tactic(auto, unfolding(heap_model::specs::Geometry::largest_capacity))]
+
 ghost use Rattle.std.specs.Prelude.{◌≡◌, ◌<◌, ◌*◌, length, slice_index, slice_get, IfOk};
 ghost use Rattle.std.specs.List.{All};
 ghost use Rattle.heap_model.specs.Geometry.{roots};
