@@ -17,8 +17,10 @@ use Rattle.block_heap.specs.declared.cache.Cache.{Cache}
 use Rattle.block_heap.specs.Accounts.{AreAccounted}
 use Rattle.heap_seat.specs.Alloc.{IsSizeFor, of_class as size_of_class, of_superblocks}
 use Rattle.block_heap.specs.Parts.{Parts, image_of, held_in, cache_at}
+use Rattle.block_heap.specs.Returns.{FreesSmall, FreesLarge, ComesBack}
 use Rattle.block_heap.specs.Running.{IsRunning, AreShort, Serves}
-use Rattle.block_heap.specs.Steps.{head_at, Fills, HandsOut}
+use Rattle.block_heap.specs.Lists.{head_at}
+use Rattle.block_heap.specs.Steps.{Fills, HandsOut}
 use Rattle.block_heap.specs.Large.{JoinsAs}
 use Rattle.block_heap.proofs.SplitLemmas.{serves_then}
 use Rattle.block_heap.specs.Serving.{HasRoom, HasRoomFor, for_class, for_large, LookedInClass, FindsNone, GetsInClass, AnswersInClass, Answers, DrainsTo, DrainsNone}
@@ -224,3 +226,16 @@ both_ok (Err e) P Q R both p q = p
 pub on_ok_both : {T E : Type 0} (r : Result T E) (A B : Type 0) → OnOk r A → OnOk r B → OnOk r (A × B)
 on_ok_both (Ok t) A B a b = (a, b)
 on_ok_both (Err e) A B a b = tt
+
+-- a block of a class comes back to that class, and one of no class as superblocks
+pub comes_to_class : (b : Block) (class : ℕ) (p q : Parts) → IsLeastClassFor (8 * b.words) class → b.words ≡ words_of_class class
+    → FreesSmall class b.first_word p q → ComesBack b p q
+comes_to_class b class p q least size frees = record {
+  in_class = λ other is same.
+      let bytes : 8 * b.words ≡ size_of other = ap (λ x. 8 * x) same ∙ sym (size_of-words other is) in
+      subst (λ k. FreesSmall k b.first_word p q) (sym (least_of_size (8 * b.words) class other least is bytes)) frees;
+  as_large = λ none. absurd (none class least.is_class size);
+}
+
+pub comes_as_large : (b : Block) (p q : Parts) → largest_small < 8 * b.words → FreesLarge b p q → ComesBack b p q
+comes_as_large b p q large frees = record { in_class = λ class is same. absurd (no_size_of_held b large class is same); as_large = λ _. frees }

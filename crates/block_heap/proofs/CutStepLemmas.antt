@@ -7,6 +7,7 @@ use Rattle.heap_model.specs.Sizes.{IsClass, blocks_of, words_of_class}
 use Rattle.heap_model.specs.Words.{head_first, head_pops}
 use Rattle.heap_model.specs.Chains.{Follows}
 use Rattle.heap_model.proofs.BlockLemmas.{block_words}
+use Rattle.heap_model.proofs.MemberLemmas.{in_head, head_or_rest}
 use Rattle.heap_model.proofs.SizeLemmas.{four_blocks}
 use Rattle.heap_shape.specs.Shape.{in_list, is_full, Shape, with_at}
 use Rattle.heap_shape.specs.Standing.{first_of, HasNoHeld}
@@ -33,10 +34,13 @@ use Rattle.block_heap.specs.Medium.{StoresOnly}
 use Rattle.block_heap.specs.Parts.{Parts, image_of, held_in, cache_at}
 use Rattle.block_heap.specs.Refill.{SameBut, Cuts}
 use Rattle.block_heap.specs.Running.{IsRunning, IsCacheOf, KnowsSizes, IsSettled, Serves}
-use Rattle.block_heap.specs.Steps.{head_at, IsEmptyList, LeadsAlong, Fills, Spends}
+use Rattle.block_heap.specs.Lists.{head_at, IsEmptyList, LeadsAlong, IsInList}
+use Rattle.block_heap.specs.Order.{CutsAll}
+use Rattle.block_heap.specs.Steps.{Fills, Spends}
 use Rattle.block_heap.specs.Works.{UsedFits, Works, IsAllocatorWord, is_info, is_anchor, is_inside}
 use Rattle.block_heap.proofs.HeldLemmas.{has_map}
 use Rattle.block_heap.proofs.MediumLemmas.{stores_then, stores_more}
+use Rattle.block_heap.proofs.OrderLemmas.{in_list_along, list_kept}
 use Rattle.block_heap.proofs.RunningLemmas.{set_is, settled_kept, running_words}
 use Rattle.block_heap.proofs.SpendLemmas.{spends_none, spends_by}
 use Rattle.block_heap.proofs.StableLemmas.{works_of, works_then, works_raised}
@@ -134,12 +138,12 @@ module _ (p : Parts) (class d : ℕ) (w : View) (looks : List Look) (look : Look
   pub cut_image : IsCut p.capacity (λ word. volatile_at w word) (image_of q) class d
   cut_image = cut_is p.capacity class d w q.words stores cuts.divided
 
+  pub cut_cache : cache_at q.caches class ≡ filled
+  cut_cache = ap (λ (cs : List Cache). cache_at cs class) cuts.caches
+      ∙ get_or-set_same p.caches class filled (record { first = 0; count = 0 }) (let long = run.caches_long in let last = is.last in omega arith)
+
   pub cut_some : 1 ≤ (cache_at q.caches class).count
-  cut_some =
-      let now : cache_at q.caches class ≡ filled = ap (λ (cs : List Cache). cache_at cs class) cuts.caches
-      ∙ get_or-set_same p.caches class filled (record { first = 0; count = 0 }) (let long = run.caches_long in let last = is.last in omega arith) in
-      let four = four_blocks class is in
-      subst (λ (x : Cache). 1 ≤ x.count) (sym now) (omega arith)
+  cut_some = let four = four_blocks class is in subst (λ (x : Cache). 1 ≤ x.count) (sym cut_cache) (omega arith)
 
   pub cut_others : (c : ℕ) → IsClass c → c ≢ class → cache_at q.caches c ≡ cache_at p.caches c
   cut_others c is_c other = ap (λ (cs : List Cache). cache_at cs c) cuts.caches ∙ caches_other p.caches class filled c is_c other
@@ -294,6 +298,21 @@ module _ (p : Parts) (class d : ℕ) (popped : Popped) (w : View) (look : Look) 
       free_list list ds less is_ds =
           subst (λ n. Follows (λ e. image_of q (link_word e)) n (head_first (head_at q list)) ds) (sym same.capacity)
           (subst (λ (es : List ℕ). Follows (λ e. image_of q (link_word e)) p.capacity (head_first (head_at q list)) es) is_ds (free_shape.follows list less))
+
+      -- it left the free list, and no other did
+      pub free_cuts : IsInList p 0 d × CutsAll class d p q
+      free_cuts = (
+        in_list_along p 0 d (run.shape.listed 0) (run.is.follows 0 zero_list) (subst (λ xs. Contains xs d) (sym listed) (in_head d rest)),
+        record {
+          info = cuts.divided.info;
+          cache = cut_cache p class d w (set p.head_looks 0 look) p.used_look p.taken q run is free_within stores same cuts;
+          free = λ e other there.
+              elim (head_or_rest d e rest (subst (λ xs. Contains xs e) listed (there (run.shape.listed 0) (run.is.follows 0 zero_list)))) as (λ _. IsInList q 0 e) [
+                | inl here ↦ absurd (other (sym here))
+                | inr later ↦ in_list_along q 0 e rest (free_list 0 rest zero_list (with_at_same run.shape.listed 0 rest)) later
+              ];
+        },
+      )
 
       pub free_spends : Spends 1 class p q
       free_spends =
@@ -456,6 +475,18 @@ module _ (p : Parts) (w : View) (run : IsRunning p) (stores : StoresOnly (λ wor
           fresh_list list less =
               subst (λ n. Follows (λ e. image_of q (link_word e)) n (head_first (head_at q list)) (run.shape.listed list)) (sym same.capacity)
               (fresh_shape.follows list less)
+
+          -- the free list stays
+          pub fresh_cuts : CutsAll class (image_of p used_word) p q × (q.taken ≡ p.taken + 1)
+          fresh_cuts = (
+            subst (λ k. CutsAll class k p q) (sym past) (record {
+              info = cuts.divided.info;
+              cache = cut_cache p class d w p.head_looks look (p.taken + 1) q run is within cut_stores same cuts;
+              free = λ e other there. list_kept p q 0 0 (run.shape.listed 0) (run.shape.listed 0) (run.is.follows 0 (omega arith)) (fresh_list 0 (omega arith))
+                  (λ k has. has) e there;
+            }),
+            same.taken,
+          )
 
           pub fresh_spends : Spends 1 class p q
           fresh_spends =

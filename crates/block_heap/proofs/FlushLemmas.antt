@@ -52,7 +52,7 @@ walk_first : (next : ℕ → ℕ) (from : ℕ) (before : List ℕ) (last : ℕ) 
 walk_first next from [] last walks = subst (λ x. Contains (last ∷ []) x) (sym walks.0) (in_head last [])
 walk_first next from (x ∷ before) last walks = subst (λ y. Contains (x ∷ (before ++ last ∷ [])) y) (sym walks.0) (in_head x (before ++ last ∷ []))
 
-none_of_zero : (xs : List ℕ) → length xs ≡ 0 → xs ≡ []
+pub none_of_zero : (xs : List ℕ) → length xs ≡ 0 → xs ≡ []
 none_of_zero [] e = refl
 none_of_zero (x ∷ xs) e = absurd (omega arith)
 
@@ -64,17 +64,17 @@ full_number Full e = refl
 
 -- where the front of a cache stands
 module _ (p : Parts) (class : ℕ) (is : IsClass class) (run : IsRunning p) (front : Front) (is_front : IsFront class front p) where
-  abbrev blocks : List ℕ
+  abbrev pub blocks : List ℕ
   blocks = is_front.before ++ front.batch.last ∷ []
 
-  abbrev s : Shape
+  abbrev pub s : Shape
   s = run.shape
 
   cache_of : IsCacheOf s class (cache_at p.caches class)
   cache_of = run.caches class is
 
   -- the cache has the front, and the rest behind it
-  split : (rest : List ℕ) × (s.cached class ≡ blocks ++ rest)
+  pub split : (rest : List ℕ) × (s.cached class ≡ blocks ++ rest)
   split =
       let first : (cache_at p.caches class).first ≡ s.start class = cache_of.first in
       let count : (cache_at p.caches class).count ≡ length (s.cached class) = cache_of.count in
@@ -83,7 +83,7 @@ module _ (p : Parts) (class : ℕ) (is : IsClass class) (run : IsRunning p) (fro
       walk_front (image_of p) (s.start class) blocks (s.cached class) (subst (λ x. Walks (image_of p) x blocks) first is_front.walks) (run.is.walks class is)
       (omega arith)
 
-  rest_long : length split.0 ≡ front.rest.count
+  pub rest_long : length split.0 ≡ front.rest.count
   rest_long =
       let count : (cache_at p.caches class).count ≡ length (s.cached class) = cache_of.count in
       let batch = is_front.count in
@@ -289,13 +289,13 @@ module _ (p : Parts) (class : ℕ) (is : IsClass class) (run : IsRunning p) (fro
             ]
 
     -- it stands in its class list where its anchor wasn't full
-    gave_listed : anchor.state ≢ Full → s.place front.d ≡ in_list class
+    pub gave_listed : anchor.state ≢ Full → s.place front.d ≡ in_list class
     gave_listed other = elim front_state as (λ _. s.place front.d ≡ in_list class) [
       | inl listed ↦ listed.0
       | inr full ↦ absurd (other (full_number anchor.state (given.parts.state ∙ full.2)))
     ]
 
-    gave_full : anchor.state ≡ Full → (s.place front.d ≡ is_full) × (image_of p (info_word front.d) ≡ class)
+    pub gave_full : anchor.state ≡ Full → (s.place front.d ≡ is_full) × (image_of p (info_word front.d) ≡ class)
         × (anchor_state (image_of p (anchor_word front.d)) ≡ 2) × (s.chain front.d ≡ [])
     gave_full same = elim front_state as (λ _. (s.place front.d ≡ is_full) × (image_of p (info_word front.d) ≡ class)
         × (anchor_state (image_of p (anchor_word front.d)) ≡ 2) × (s.chain front.d ≡ [])) [
@@ -317,7 +317,7 @@ module _ (p : Parts) (class : ℕ) (is : IsClass class) (run : IsRunning p) (fro
         (λ e below. give_low (info_word e) (omega arith) (omega arith)) (give_low used_word (omega arith) (omega arith))
         (λ list below. ap head_pops (stores.volatile (head_word list) (give_low (head_word list) (omega arith) (omega arith))))
 
-    gave_shape : anchor.state ≢ Full → IsShape p.capacity (λ word. volatile_at w word) (held_in p)
+    pub gave_shape : anchor.state ≢ Full → IsShape p.capacity (λ word. volatile_at w word) (held_in p)
         (after_give s class front.d blocks split.0 (image_of p front.batch.last))
     gave_shape other =
         give p.capacity class front.d (image_of p) (λ word. volatile_at w word) (held_in p) s is_front.before split.0 front.batch.last is run.is
@@ -411,7 +411,7 @@ module _ (p : Parts) (class : ℕ) (is : IsClass class) (run : IsRunning p) (fro
       none_before = ap (λ (xs : List ℕ). length xs) (gave_full full).3
 
       -- that of the free ones
-      all_shape : front.batch.count ≡ blocks_of class → list ≡ 0 → IsShape p.capacity (λ word. volatile_at x word) (held_in p)
+      pub all_shape : front.batch.count ≡ blocks_of class → list ≡ 0 → IsShape p.capacity (λ word. volatile_at x word) (held_in p)
           (after_give_all s class front.d blocks split.0 (image_of p front.batch.last))
       all_shape all same =
           let count = is_front.count in
@@ -436,7 +436,7 @@ module _ (p : Parts) (class : ℕ) (is : IsClass class) (run : IsRunning p) (fro
           (all_shape all same) (λ e. in_rest front.d e (s.listed 0))
 
       -- that of the class
-      some_shape : front.batch.count ≢ blocks_of class → list ≡ class → IsShape p.capacity (λ word. volatile_at x word) (held_in p)
+      pub some_shape : front.batch.count ≢ blocks_of class → list ≡ class → IsShape p.capacity (λ word. volatile_at x word) (held_in p)
           (after_give_full s class front.d blocks split.0 (image_of p front.batch.last))
       some_shape not_all same =
           let last_class = is.last in

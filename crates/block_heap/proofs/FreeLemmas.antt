@@ -145,7 +145,7 @@ module _ (p : Parts) (class : ℕ) (is : IsClass class) (run : IsRunning p) (b :
           let e : cache.count ≡ (cache_at p.caches class).count = ap (λ (x : Cache). x.count) cache_is in
           omega arith
 
-      abbrev t : Shape
+      abbrev pub t : Shape
       t = with_cache run.shape class b.first_word (b.first_word ∷ run.shape.cached class)
 
       -- infos and `used` stay, and the shape is kept
@@ -154,7 +154,7 @@ module _ (p : Parts) (class : ℕ) (is : IsClass class) (run : IsRunning p) (b :
           (λ d d_below. not_first (info_word d) (omega arith)) (not_first used_word (omega arith))
           (λ list list_below. ap head_pops (stores.volatile (head_word list) (not_first (head_word list) (omega arith))))
 
-      freed_shape : IsShape p.capacity (λ word. volatile_at w word) (held_of h) t
+      pub freed_shape : IsShape p.capacity (λ word. volatile_at w word) (held_of h) t
       freed_shape =
           let below = held_below in
           let long = run.words_open.long in
@@ -189,7 +189,7 @@ module _ (p : Parts) (class : ℕ) (is : IsClass class) (run : IsRunning p) (b :
           (b.first_word ∷ run.shape.cached class) freed_cache is refl (omega arith) (omega arith) (λ c. refl) (λ c. refl))
           (λ d d_below is_class place. place)
 
-      freed_count : (cache_at (set p.caches class freed_cache) class).count ≡ cache.count + 1
+      pub freed_count : (cache_at (set p.caches class freed_cache) class).count ≡ cache.count + 1
       freed_count =
           let last = is.last in
           let long = run.caches_long in

@@ -5,7 +5,7 @@ use Rattle.std.proofs.lemmas.List.Elements.{Contains-append_right, Contains-appe
 use Rattle.heap_model.specs.Geometry.{start_word}
 use Rattle.heap_model.specs.Sizes.{IsClass, words_of_class, blocks_of}
 use Rattle.heap_model.specs.Chains.{Walks}
-use Rattle.heap_model.proofs.MemberLemmas.{in_none, in_head, head_or_rest}
+use Rattle.heap_model.proofs.MemberLemmas.{in_none, head_or_rest}
 use Rattle.heap_model.proofs.SizeLemmas.{two_words, few_blocks}
 use Rattle.heap_shape.specs.Standing.{first_of, IsFirstOf}
 use Rattle.line_memory.specs.View.{View}
@@ -20,7 +20,9 @@ use Rattle.block_heap.proofs.MediumLemmas.{stores_then}
 use Rattle.block_heap.proofs.RunningLemmas.{running_words}
 use Rattle.block_heap.proofs.SmallLemmas.{first_cached, first_of_d, serves_of, serves_none, serves_then}
 use Rattle.block_heap.proofs.LookLemmas.{looks_of}
+use Rattle.block_heap.specs.Returns.{IsLongest, GivesTo}
 use Rattle.block_heap.proofs.FlushLemmas.{walk_front}
+use Rattle.block_heap.proofs.ReturnLemmas.{walk_behind, walk_begin, FlushesSoFar, flushes_none, flushes_more}
 
 -- the cache leads along so many blocks of superblock d, up to the last one, which leads to the next
 pub record IsWalked (class d last next count : ℕ) (cache : Cache) (p : Parts) : Type 0 where
@@ -106,20 +108,11 @@ loaded_more p q r most word value before same loaded stores = record {
 pub loaded_value : (p q r : Parts) (most : ℕ) (word value : ℕ) → HasLoaded most p q → IsLoaded word value q.words r.words → value ≡ image_of p word
 loaded_value p q r most word value before loaded = loaded.seen ∙ ap (λ (xs : List ℕ). get_or xs word 0) before.volatile
 
--- a walk that goes one block further, and what is behind it
+-- a walk that goes one block further
 walk_more : (next : ℕ → ℕ) (from : ℕ) (before : List ℕ) (last x : ℕ) → Walks next from (before ++ last ∷ []) → x ≡ next last
     → Walks next from ((before ++ last ∷ []) ++ x ∷ [])
 walk_more next from [] last x walks e = (walks.0, (sym e, tt))
 walk_more next from (b ∷ before) last x walks e = (walks.0, walk_more next (next b) before last x walks.1 e)
-
-walk_behind : (next : ℕ → ℕ) (from : ℕ) (before : List ℕ) (last : ℕ) (rest : List ℕ) → Walks next from ((before ++ last ∷ []) ++ rest)
-    → Walks next (next last) rest
-walk_behind next from [] last rest walks = walks.1
-walk_behind next from (b ∷ before) last rest walks = walk_behind next (next b) before last rest walks.1
-
-walk_begin : (next : ℕ → ℕ) (from : ℕ) (words : List ℕ) → Walks next from words → 1 ≤ length words → Contains words from
-walk_begin next from [] walks some = absurd (omega arith)
-walk_begin next from (w ∷ ws) walks some = subst (λ x. Contains (w ∷ ws) x) (sym walks.0) (in_head w ws)
 
 -- a block of a superblock
 pub record IsPlacedAt (p : Parts) (class word : ℕ) : Type 0 where
@@ -246,6 +239,7 @@ pub record IsFlushed (class : ℕ) (p q : Parts) : Type 0 where
   pub held : held_in q ≡ held_in p
   pub serves : Serves (held_in p) p q
   pub taken : q.taken ≡ p.taken
+  pub order : FlushesSoFar class p q
 
 -- none was yet
 pub flushed_none : (class : ℕ) (p : Parts) → IsRunning p → IsFlushed class p p
@@ -257,6 +251,7 @@ flushed_none class p run = record {
   held = refl;
   serves = serves_none p (held_in p);
   taken = refl;
+  order = flushes_none class p;
 }
 
 keeps_then : (class : ℕ) (p q r : Parts) → KeepsAll class p q → KeepsAll class q r → KeepsAll class p r
@@ -296,7 +291,8 @@ module _ (class : ℕ) (p q r : Parts) (front : Front) (before : IsFlushed class
 
   -- and given back
   module _ (t : Parts) (gave_run : IsRunning t) (gives : GivesBack class front r t) (gave : Goes 6 r.words t.words) (gave_held : held_in t ≡ held_in r)
-      (gave_serve : Serves (held_in r) r t) (gave_taken : t.taken ≡ r.taken) where
+      (gave_serve : Serves (held_in r) r t) (gave_taken : t.taken ≡ r.taken) (is : IsClass class) (first : IsRunning p)
+      (volatile : r.words.volatile ≡ q.words.volatile) (longest : IsLongest front r) (to : GivesTo class front r t) where
     pub flushed_more : IsFlushed class p t
     flushed_more = record {
       running = gave_run;
@@ -311,6 +307,8 @@ module _ (class : ℕ) (p q r : Parts) (front : Front) (before : IsFlushed class
       held = gave_held ∙ front_held;
       serves = serves_then p r t (held_in p) front_serves (subst (λ h. Serves h r t) front_held gave_serve);
       taken = gave_taken ∙ taken ∙ before.taken;
+      order = flushes_more class p q r t is (first.caches class is).most before.order serves.capacity volatile (ap (λ (xs : List Cache). cache_at xs class) caches)
+          run front is_front longest some_given to gives.cache;
     }
 
     pub flushed_less : (cache_at t.caches class).count < (cache_at q.caches class).count

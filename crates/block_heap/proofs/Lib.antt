@@ -32,3 +32,6 @@ pub mod DrawnLemmas
 pub mod ReopenLemmas
 pub mod FixedLemmas
 pub mod DrainKeepLemmas
+pub mod OrderLemmas
+pub mod ReturnLemmas
+pub mod FreedLemmas

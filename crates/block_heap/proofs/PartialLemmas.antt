@@ -1,5 +1,6 @@
 -- How a request goes along the list of its class, and where it looks after that.
 use Rattle.std.proofs.Common.{◌≡◌, ℕ, ◌+◌, ◌*◌, ◌<◌, ◌≤◌, ◌⊎◌, inl, inr, Bool, true, false, None, List, ◌∷◌, length, get_or, refl, ap, sym, subst, ◌∙◌, arith}
+use Rattle.std.proofs.lemmas.Bool.{cases_eq}
 use Rattle.heap_model.specs.declared.block.Block.{Block}
 use Rattle.heap_model.specs.Geometry.{lists, head_word, link_word, used_word}
 use Rattle.heap_model.specs.Sizes.{IsClass}
@@ -9,13 +10,16 @@ use Rattle.heap_shape.proofs.CountLemmas.{few_listed}
 use Rattle.heap_shape.proofs.OwnLemmas.{one_following}
 use Rattle.heap_seat.specs.declared.look.Look.{Look}
 use Rattle.block_heap.specs.declared.refill.Found.{Found}
-use Rattle.block_heap.specs.declared.refill.Found.TheVariants.{Recycled}
+use Rattle.block_heap.specs.declared.refill.Found.TheVariants.{Blocks, Recycled, Nothing}
 use Rattle.block_heap.specs.Medium.{Goes, Halts}
 use Rattle.block_heap.specs.Parts.{Parts, image_of, held_in, cache_at}
 use Rattle.block_heap.specs.Refill.{FindsPartial, FindsFree, FindsFresh, Refills}
 use Rattle.block_heap.specs.Running.{IsRunning, Serves}
 use Rattle.block_heap.specs.Serving.{HasRoom, in_cache, in_class_list, in_free_list, in_fresh}
-use Rattle.block_heap.specs.Steps.{head_at, look_at, IsLook, IsEmptyList, LeadsAlong, Fills, FindsFirst, FindsEmpty, Recycles, Spends, used_up}
+use Rattle.block_heap.specs.Lists.{head_at, IsEmptyList, LeadsAlong}
+use Rattle.block_heap.specs.Steps.{look_at, IsLook, Fills, FindsFirst, FindsEmpty, Recycles, Spends, used_up}
+use Rattle.block_heap.specs.Order.{CutsAll, FillsFrom, from_fresh, MovesEmpty, OrdersFirst, OrdersPartial, OrdersFresh}
+use Rattle.block_heap.proofs.OrderLemmas.{list_same, moves_none, moves_then, moves_same, takes_after, cuts_after, nothing_in_empty}
 use Rattle.block_heap.proofs.SpendLemmas.{spends_none, spends_then}
 use Rattle.std.proofs.lemmas.Bool.{cases_eq}
 use Rattle.block_heap.proofs.RefillLemmas.{serves_same, serves_then, drains_none, drains_then}
@@ -58,6 +62,7 @@ pub record Walked (class : ℕ) (p q : Parts) : Type 0 where
   pub taken : q.taken ≡ p.taken
   pub used : image_of q used_word ≡ image_of p used_word
   pub way : (q.words.volatile ≡ p.words.volatile) ⊎ ((IsEmptyList q 0 → ⊥) × (IsEmptyList p class → ⊥))
+  pub moves : MovesEmpty class p q
   pub left : Spends 0 class p q
   pub few : (ds : List ℕ) → LeadsAlong q class ds → q.words.drawn + 8 * length ds ≤ p.words.drawn + 2048
 
@@ -69,6 +74,7 @@ walk_begins class p is run empty = record {
   taken = refl;
   used = refl;
   way = inl refl;
+  moves = moves_none class p;
   left = spends_none class p p refl refl;
   few = λ ds leads.
       let below : class < lists = let last = is.last in omega arith in
@@ -117,6 +123,19 @@ module _ (class : ℕ) (p q r : Parts) (is : IsClass class) (walked : Walked cla
   pub walk_left : (count : ℕ) (found : Found) → Spends (used_up found) class q r → count ≤ used_up found → Spends count class p r
   walk_left count found spends few = spends_then count 0 (used_up found) class p q r (omega arith) walked.left spends
 
+  -- what was found after those with nothing to give
+  pub walk_takes : (found : Found) → found ≡ Blocks → OrdersFirst class found q r → OrdersPartial class true p r
+  walk_takes found is_found orders =
+      let takes = subst (λ f. OrdersFirst class f q r) is_found orders in
+      (takes.0, takes_after class takes.0 p q r walked.moves walked.taken takes.1)
+
+  pub walk_nothing : (found : Found) → found ≡ Nothing → FindsFirst class found q r → OrdersPartial class false p r
+  walk_nothing found is_found found_first =
+      let finds = subst (λ f. FindsFirst class f q r) is_found found_first in (
+        moves_then class p q r walked.moves (moves_same class q r serves.capacity finds.1.volatile),
+        walked.moves.nothing (nothing_in_empty class q finds.1.empty),
+      )
+
   module _ (fills : Fills class q r) (goes : Goes 8 q.words r.words) where
     pub walk_goes : Goes 2056 p.words r.words
     walk_goes =
@@ -129,8 +148,9 @@ module _ (class : ℕ) (p q r : Parts) (is : IsClass class) (walked : Walked cla
     pub walk_fills : Fills class p r
     walk_fills = fills_then class p q r walked.serves.capacity walked.fills fills
 
-    pub walk_more : (found : Found) → found ≡ Recycled → FindsFirst class found q r → Spends (used_up found) class q r → Walked class p r
-    walk_more found is_found found_first spends = by_first (subst (λ f. FindsFirst class f q r) is_found found_first) where
+    pub walk_more : (found : Found) → found ≡ Recycled → FindsFirst class found q r → OrdersFirst class found q r → Spends (used_up found) class q r
+        → Walked class p r
+    walk_more found is_found found_first orders spends = by_first (subst (λ f. FindsFirst class f q r) is_found found_first) where
       by_first : FindsFirst class Recycled q r → Walked class p r
       by_first first = more first.0 first.1 where
         more : (cache_at r.caches class).count ≡ 0 → Recycles class q r → Walked class p r
@@ -141,6 +161,7 @@ module _ (class : ℕ) (p q r : Parts) (is : IsClass class) (walked : Walked cla
           taken = walk_taken;
           used = recycles.used ∙ walked.used;
           way = inr (recycles.now, was_some recycles.some);
+          moves = moves_then class p q r walked.moves (subst (λ f. OrdersFirst class f q r) is_found orders);
           left = walk_left 0 found spends (omega arith);
           few = λ ds leads.
               let before = recycles.shorter ds leads in
@@ -159,6 +180,16 @@ module _ (class : ℕ) (p a b : Parts) (is : IsClass class) (a_serves : Serves (
 
     used_then : image_of b used_word ≡ image_of p used_word
     used_then = ap (λ (xs : List ℕ). get_or xs used_word 0) finds.volatile ∙ part.2
+
+    -- a superblock that was never taken is cut only where both lists were empty
+    pub fills_fresh : OrdersPartial class false p a → (some : Bool) → OrdersFresh class some b q → some ≡ true → FillsFrom class p q
+    fills_fresh found some orders is =
+        let cuts = subst (λ s. OrdersFresh class s b q) is orders in
+        let none = part.3 finds.empty in
+        from_fresh none.1 none.0
+        (subst (λ d. CutsAll class d p q) used_then (cuts_after class (image_of b used_word) p b q (b_serves.capacity ∙ a_serves.capacity)
+        (λ e there. list_same a b 0 e b_serves.capacity finds.volatile (found.0.free e there)) cuts.0))
+        (let now = cuts.1 in let before = b_taken in let first = a_taken in omega arith)
 
     some_fresh : FindsFresh class true b q → Refills class true p q
     some_fresh fresh =

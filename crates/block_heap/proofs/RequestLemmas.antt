@@ -19,8 +19,9 @@ use Rattle.block_heap.specs.Running.{IsRunning, AreShort, Serves}
 use Rattle.block_heap.specs.Serving.{Answers, Misses, IsLooksOf, RefusesAs}
 use Rattle.heap_seat.specs.declared.fault.AllocFault.{AllocFault}
 use Rattle.heap_seat.specs.declared.fault.AllocFault.TheVariants.{Full, Stopped as StoppedFault}
-use Rattle.block_heap.specs.Steps.{IsEmptyList, look_at, head_at, IsLook}
+use Rattle.block_heap.specs.Steps.{look_at, IsLook}
 use Rattle.heap_seat.specs.Tickets.{Runs}
+use Rattle.block_heap.specs.Lists.{IsEmptyList, head_at}
 use Rattle.block_heap.specs.Works.{IsAllocatorWord, UsedFits, IsStable, IsLasting}
 use Rattle.block_heap.specs.SeqState.{SeqState, IsSeqHeap, all_roots, seat_of}
 use Rattle.heap_seat.specs.Words.{IsOwn, IsDurable, MayRead, KeepsWord, KeepsPending}

@@ -12,7 +12,7 @@ use Rattle.block_heap.specs.Medium.{StoresOnly}
 use Rattle.block_heap.specs.Parts.{Parts, image_of, held_in}
 use Rattle.block_heap.specs.Running.{IsRunning, IsSettled}
 use Rattle.block_heap.specs.Works.{IsStable}
-use Rattle.block_heap.specs.Steps.{head_at}
+use Rattle.block_heap.specs.Lists.{head_at}
 
 -- a list with another number at one place, as an image
 pub set_is : (words new : List ℕ) (word value : ℕ) → word < length words → new ≡ set words word value → IsSet (λ i. get_or words i 0) (λ i. get_or new i 0) word value

@@ -343,6 +343,8 @@ module _ (p : Parts) (class : ℕ) (is : IsClass class) (run : IsRunning p) (cac
         size = refl;
         adds = adds_block;
         new = shape_after.1;
+        at = ap (λ (x : Cache). x.first) cache_is;
+        next = ap (λ (x : Cache). x.first) now ∙ loaded.seen;
         count = omega arith;
         caches = λ c is_c other. other_cache p.caches class handed_cache c other;
         drains = hand_out_drains p.capacity class cache.first (image_of p) (held_in p) (held_of h) run.shape front.behind is run.is front.cached adds_block;

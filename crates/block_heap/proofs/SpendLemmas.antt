@@ -11,7 +11,8 @@ use Rattle.block_heap.specs.Parts.{Parts, image_of, held_in}
 use Rattle.block_heap.specs.Refill.{Stocks}
 use Rattle.block_heap.specs.Running.{IsRunning}
 use Rattle.block_heap.specs.Serving.{Costs}
-use Rattle.block_heap.specs.Steps.{head_at, LeadsAlong, HasAtMost, Spends}
+use Rattle.block_heap.specs.Lists.{head_at, LeadsAlong}
+use Rattle.block_heap.specs.Steps.{HasAtMost, Spends}
 
 -- a list is as long as any that its head leads along
 long_as : (p : Parts) (list : ℕ) (cs ds : List ℕ) → LeadsAlong p list cs → LeadsAlong p list ds → length cs ≡ length ds

@@ -25,11 +25,14 @@ use Rattle.block_heap.specs.Held.{held_of, at_mark, block_of_mark, HasMark}
 use Rattle.block_heap.specs.Accounts.{IsUsed, AreAccounted, GivesUse}
 use Rattle.block_heap.specs.Links.{IsOpen, IsPushed, IsPushWord}
 use Rattle.block_heap.specs.Medium.{StoresOnly, Goes, IsStored}
+use Rattle.block_heap.specs.Lists.{LeadsAlong, IsInList, KeepsFree}
+use Rattle.block_heap.specs.Returns.{FreesLarge, FreesOne}
 use Rattle.block_heap.specs.Parts.{Parts, image_of, held_in}
 use Rattle.block_heap.specs.Running.{IsRunning, Serves}
 use Rattle.block_heap.specs.Large.{IsDropped}
 use Rattle.block_heap.specs.Works.{IsAllocatorWord, is_head, is_anchor, is_link, Works}
 use Rattle.block_heap.proofs.MediumLemmas.{stores_then, stores_more}
+use Rattle.block_heap.proofs.OrderLemmas.{in_list_along, list_kept}
 use Rattle.block_heap.proofs.RunningLemmas.{set_is, settled_kept}
 use Rattle.block_heap.proofs.HeldLemmas.{only_map, mark_block}
 use Rattle.block_heap.proofs.LookLemmas.{looks_kept, looks_then}
@@ -212,6 +215,14 @@ module _ (p : Parts) (d anchor : ℕ) (u w : View) (run : IsRunning p) (dropped 
         uses e (inr before) = use_kept p.capacity e (image_of p) (volatile_at w) (held_in p) s (after_split s d) (held_in p) run.is is_shape
             (info_same e) (in_rest d e (s.listed 0)) before
 
+      -- the free list loses none
+      pub split_frees : FreesOne d p (record p { words = w })
+      split_frees =
+          let leads : LeadsAlong (record p { words = w }) 0 (d ∷ s.listed 0) = is_shape.follows 0 (omega arith) in (
+            in_list_along (record p { words = w }) 0 d (d ∷ s.listed 0) leads (in_head d (s.listed 0)),
+            list_kept p (record p { words = w }) 0 0 (s.listed 0) (d ∷ s.listed 0) (run.is.follows 0 (omega arith)) leads (λ e. in_rest d e (s.listed 0)),
+          )
+
       -- the other dropped superblocks stay so
       pub split_others : (e : ℕ) → e ≢ d → IsDropped p e → IsDropped (record p { words = w }) e
       split_others e other is = record {
@@ -256,6 +267,8 @@ pub record IsFreed (first d end : ℕ) (p q : Parts) : Type 0 where
   pub left : (e : ℕ) → d ≤ e → e < end → IsDropped q e
   pub used : image_of q used_word ≡ image_of p used_word
   pub uses : (e : ℕ) → ((first ≤ e) × (e < d)) ⊎ IsUsed p e → IsUsed q e
+  pub listed : (e : ℕ) → first ≤ e → e < d → IsInList q 0 e
+  pub free : KeepsFree p q
   pub serves : Serves (held_in p) p q
   pub blocks : q.blocks ≡ p.blocks
   pub caches : q.caches ≡ p.caches
@@ -275,14 +288,19 @@ serves_then held p q r a b = record {
 
 -- one superblock more is in the free list
 pub freed_more : (first d end : ℕ) (p q r : Parts) → d < end → IsFreed first d end p q → IsRunning r → ((e : ℕ) → e ≢ d → IsDropped q e → IsDropped r e)
-    → GivesUse d q r → Goes 4 q.words r.words → r.blocks ≡ q.blocks → Serves (held_in q) q r → r.caches ≡ q.caches → r.taken ≡ q.taken → IsFreed first (d + 1) end p r
-freed_more first d end p q r below freed running others gives goes blocks serves caches taken = record {
+    → GivesUse d q r → FreesOne d q r → Goes 4 q.words r.words → r.blocks ≡ q.blocks → Serves (held_in q) q r → r.caches ≡ q.caches → r.taken ≡ q.taken → IsFreed first (d + 1) end p r
+freed_more first d end p q r below freed running others gives frees goes blocks serves caches taken = record {
   some = freed.some;
   most = freed.most;
   running = running;
   left = λ e from until. others e (λ same. omega arith) (freed.left e (omega arith) until);
   used = gives.used ∙ freed.used;
   uses = uses;
+  listed = λ e from until. elim (cases_eq e d) as (λ _. IsInList r 0 e) [
+    | inl same ↦ subst (λ k. IsInList r 0 k) (sym same) frees.0
+    | inr other ↦ frees.1 e (freed.listed e from (omega arith))
+  ];
+  free = λ e there. frees.1 e (freed.free e there);
   serves = serves_then (held_in p) p q r freed.serves (subst (λ (h : HeldBlocks). Serves (held_of h) q r) freed.blocks serves);
   blocks = blocks ∙ freed.blocks;
   caches = caches ∙ freed.caches;
@@ -401,6 +419,8 @@ module _ (p : Parts) (b : Block) (run : IsRunning p) (holds : Contains (held_in 
           left = λ e from until. drop_left e (omega arith) (omega arith);
           used = refl;
           uses = λ e before. elim before as (λ _. IsUsed (record p { blocks = h }) e) [ inl none ↦ absurd (omega (arith, none.0, none.1)) | inr same ↦ same ];
+          listed = λ e from until. absurd (omega arith);
+          free = λ e there. there;
           serves = record {
             capacity = refl;
             works = works_none p.capacity (held_of h) p.words;
@@ -415,7 +435,21 @@ module _ (p : Parts) (b : Block) (run : IsRunning p) (holds : Contains (held_in 
           drew = omega arith;
         }
 
-    -- and where all are, none is lost
+    -- and in the end all are
+    pub freed_large : (first d : ℕ) (q : Parts) → first ≡ (b.first_word - start_word p.capacity 0) / 8192 → first + b.words / 8192 ≤ d
+        → IsFreed first d (first + b.words / 8192) (record p { blocks = h }) q → FreesLarge b p q
+    freed_large first d q is past freed =
+        let whole = lies in
+        let at = whole.at in
+        let size = whole.size in
+        let one : first ≡ whole.first = omega arith in
+        let count : b.words / 8192 ≡ whole.count = omega arith in record {
+          all = λ e part. let begins = part.begins in let ends = part.ends in freed.listed e (omega arith) (omega arith);
+          free = freed.free;
+          caches = freed.caches;
+        }
+
+    -- and none is lost
     pub freed_accounted : (first d : ℕ) (q : Parts) → first ≡ (b.first_word - start_word p.capacity 0) / 8192 → first + b.words / 8192 ≤ d
         → IsFreed first d (first + b.words / 8192) (record p { blocks = h }) q → AreAccounted p → AreAccounted q
     freed_accounted first d q is past freed before = record { each = each } where

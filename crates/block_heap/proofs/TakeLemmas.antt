@@ -1,10 +1,11 @@
 -- The first superblock of a class list: its free blocks fill the empty cache, or it goes to the free list.
-use Rattle.std.proofs.Common.{◌≡◌, ◌≢◌, ℕ, ◌+◌, ◌<◌, ◌≤◌, ◌⊎◌, inl, inr, Option, None, Some, List, ◌∷◌, length, get_or, set, refl, ap, sym, subst, ◌∙◌, arith, get_or-set_same, length-set}
+use Rattle.std.proofs.Common.{◌≡◌, ◌≢◌, ℕ, ◌+◌, ◌<◌, ◌≤◌, ◌⊎◌, inl, inr, Option, None, Some, List, ◌∷◌, length, get_or, set, Contains, refl, ap, sym, subst, ◌∙◌, arith, get_or-set_same, length-set}
 use Rattle.std.proofs.lemmas.Bool.{cases_eq}
 use Rattle.heap_model.specs.Geometry.{lists, head_word, info_word, anchor_word, link_word, used_word}
 use Rattle.heap_model.specs.Sizes.{IsClass, blocks_of}
-use Rattle.heap_model.specs.Words.{head_first, head_pops, head_of, anchor_state, anchor_first, anchor_count, partial_state, full_anchor}
+use Rattle.heap_model.specs.Words.{head_first, head_pops, head_of, anchor_state, anchor_first, anchor_count, empty_state, partial_state, full_anchor}
 use Rattle.heap_model.specs.Chains.{Follows}
+use Rattle.heap_model.proofs.MemberLemmas.{in_head, in_rest, head_or_rest}
 use Rattle.heap_shape.specs.Shape.{in_list, is_full, Shape, with_at}
 use Rattle.heap_shape.specs.Standing.{first_of, IsListed}
 use Rattle.heap_shape.specs.Effects.{IsSet, IsPushedOn}
@@ -23,7 +24,10 @@ use Rattle.block_heap.specs.Links.{IsPopped, IsPushed, IsPushWord}
 use Rattle.block_heap.specs.Medium.{StoresOnly}
 use Rattle.block_heap.specs.Parts.{Parts, image_of, held_in, cache_at}
 use Rattle.block_heap.specs.Running.{IsRunning, Serves, MakesLooks}
-use Rattle.block_heap.specs.Steps.{head_at, IsEmptyList, LeadsAlong, Fills, Recycles, Spends}
+use Rattle.block_heap.specs.Steps.{Fills, Recycles, Spends}
+use Rattle.block_heap.specs.Lists.{head_at, IsEmptyList, LeadsAlong, IsInList}
+use Rattle.block_heap.specs.Order.{TakesAll, MovesEmpty}
+use Rattle.block_heap.proofs.OrderLemmas.{in_list_along, list_kept, same_cache}
 use Rattle.block_heap.proofs.MediumLemmas.{stores_then, stores_more}
 use Rattle.block_heap.proofs.RunningLemmas.{set_is, settled_kept}
 use Rattle.block_heap.proofs.SpendLemmas.{spends_by}
@@ -161,9 +165,23 @@ module _ (p : Parts) (class d : ℕ) (popped : Popped) (w : View) (look : Look) 
           let free = stands.some in
           (subst (λ (x : Cache). 1 ≤ x.count) (sym now) (omega arith), first_some)
 
-      -- its list is shorter by it
+      -- its list is shorter by it, and the free list stays
       taken_list : (list : ℕ) (ds : List ℕ) → list < lists → with_at run.shape.listed class rest list ≡ ds → LeadsAlong taken_parts list ds
       taken_list list ds less is_ds = subst (λ (es : List ℕ). LeadsAlong taken_parts list es) is_ds (made_taken.is.follows list less)
+
+      free_stays : LeadsAlong taken_parts 0 (run.shape.listed 0)
+      free_stays = taken_list 0 (run.shape.listed 0) (omega arith) (with_at_other run.shape.listed class rest 0 (λ e. let from = is.some in omega arith))
+
+      pub taken_all : TakesAll class d p taken_parts
+      taken_all = record {
+        listed = in_list_along p class d (run.shape.listed class) (run.is.follows class below) (subst (λ xs. Contains xs d) (sym listed) (in_head d rest));
+        partial = ap anchor_state (sym anchor_kept) ∙ is_taken.words.0;
+        cache = get_or-set_same p.caches class cache (record { first = 0; count = 0 }) (let long = run.caches_long in let less = below in omega arith)
+            ∙ same_cache cache (record { first = first; count = anchor_count (image_of p (anchor_word d)) }) cache_first (is_taken.words.2 ∙ ap anchor_count anchor_kept);
+        now = anchor_set.at;
+        free = list_kept p taken_parts 0 0 (run.shape.listed 0) (run.shape.listed 0) (run.is.follows 0 (omega arith)) free_stays (λ e has. has);
+        taken = refl;
+      }
 
       pub taken_spends : Spends 1 class p taken_parts
       taken_spends =
@@ -172,8 +190,7 @@ module _ (p : Parts) (class d : ℕ) (popped : Popped) (w : View) (look : Look) 
           take_moved.volatile used_word (λ m. moved_used p.capacity used_word m refl) in
           spends_by 1 class p taken_parts run rest (run.shape.listed 0) is taken_fills.running refl
           (taken_list class rest below (with_at_same run.shape.listed class rest))
-          (taken_list 0 (run.shape.listed 0) (omega arith)
-          (with_at_other run.shape.listed class rest 0 (λ e. let from = is.some in omega arith))) (omega arith)
+          free_stays (omega arith)
 
     -- or it goes to the free list
     module _ (v : View) (push_stores : StoresOnly (IsPushWord 0 d) u v) where
@@ -316,11 +333,45 @@ module _ (p : Parts) (class d : ℕ) (popped : Popped) (w : View) (look : Look) 
               );
         }
 
+        rest_leads : LeadsAlong recycled class rest
+        rest_leads = subst (λ (ds : List ℕ). LeadsAlong recycled class ds) now_rest (made_recycled.is.follows class below)
+
+        free_leads : LeadsAlong recycled 0 (d ∷ run.shape.listed 0)
+        free_leads = subst (λ (ds : List ℕ). LeadsAlong recycled 0 ds) now_free (made_recycled.is.follows 0 (omega arith))
+
+        list_leads : LeadsAlong p class (d ∷ rest)
+        list_leads = subst (λ (ds : List ℕ). LeadsAlong p class ds) listed (run.is.follows class below)
+
+        anchors_stay : (e : ℕ) → image_of recycled (anchor_word e) ≡ image_of p (anchor_word e)
+        anchors_stay e =
+            push_stores.volatile (anchor_word e) (λ t. elim t as (λ _. ⊥) [ inl at ↦ omega arith | inr at ↦ let less = first_within in omega arith ])
+            ∙ ap (λ (xs : List ℕ). get_or xs (anchor_word e) 0) not_taken.words.1
+            ∙ pop_stores.volatile (anchor_word e) (λ at. let last = is.last in omega arith)
+
+        all_free : anchor_state (image_of p (anchor_word d)) ≡ empty_state
+        all_free = elim stands.state as (λ _. anchor_state (image_of p (anchor_word d)) ≡ empty_state) [ inl all ↦ all.0 | inr part ↦ absurd (state part.0) ]
+
+        pub recycled_moves : MovesEmpty class p recycled
+        recycled_moves = record {
+          capacity = refl;
+          anchors = anchors_stay;
+          was = list_kept recycled p class class rest (d ∷ rest) rest_leads list_leads (λ e. in_rest d e rest);
+          nothing = λ none e there. elim (head_or_rest d e rest (there (d ∷ rest) list_leads)) as (λ _. anchor_state (image_of p (anchor_word e)) ≡ empty_state) [
+            | inl same ↦ subst (λ k. anchor_state (image_of p (anchor_word k)) ≡ empty_state) same all_free
+            | inr later ↦ ap anchor_state (sym (anchors_stay e)) ∙ none e (in_list_along recycled class e rest rest_leads later)
+          ];
+          free = list_kept p recycled 0 0 (run.shape.listed 0) (d ∷ run.shape.listed 0) (run.is.follows 0 (omega arith)) free_leads
+              (λ e. in_rest d e (run.shape.listed 0));
+          from = λ e there. elim (head_or_rest d e (run.shape.listed 0) (there (d ∷ run.shape.listed 0) free_leads)) as (λ _. IsInList p class e ⊎ IsInList p 0 e) [
+            | inl same ↦ inl (subst (λ k. IsInList p class k) same (in_list_along p class d (d ∷ rest) list_leads (in_head d rest)))
+            | inr before ↦ inr (in_list_along p 0 e (run.shape.listed 0) (run.is.follows 0 (omega arith)) before)
+          ];
+        }
+
         -- the free list is longer by it
         pub recycled_spends : Spends 0 class p recycled
         recycled_spends =
             let long : length (run.shape.listed class) ≡ length (d ∷ rest) = ap length listed in
             let same : volatile_at v used_word ≡ image_of p used_word = push_moved.volatile used_word (λ m. moved_used p.capacity used_word m refl) in
             spends_by 0 class p recycled run rest (d ∷ run.shape.listed 0) is recycled_fills.running refl
-            (subst (λ (ds : List ℕ). LeadsAlong recycled class ds) now_rest (made_recycled.is.follows class below))
-            (subst (λ (ds : List ℕ). LeadsAlong recycled 0 ds) now_free (made_recycled.is.follows 0 (omega arith))) (omega arith)
+            rest_leads free_leads (omega arith)

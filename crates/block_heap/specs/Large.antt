@@ -6,7 +6,8 @@ use Rattle.heap_model.specs.Sizes.{IsClass}
 use Rattle.heap_shape.specs.Standing.{HasNoHeld}
 use Rattle.heap_shape.specs.Moves.{AddsTo}
 use Rattle.block_heap.specs.Parts.{Parts, image_of, held_in}
-use Rattle.block_heap.specs.Steps.{LeadsAlong, IsLook}
+use Rattle.block_heap.specs.Lists.{LeadsAlong}
+use Rattle.block_heap.specs.Steps.{IsLook}
 
 -- the block of so many superblocks is held now, or as many were not left
 abbrev pub JoinsAs : ℕ → Option Block → Parts → Parts → Type 0

@@ -10,13 +10,16 @@ pub mod Held
 pub mod Large
 pub mod Laws
 pub mod Links
+pub mod Lists
 pub mod Medium
 pub mod MediumView
 pub mod Opening
+pub mod Order
 pub mod Parts
 pub mod Refill
 pub mod Reopening
 pub mod Requests
+pub mod Returns
 pub mod Running
 pub mod SeqState
 pub mod Serving

@@ -5,7 +5,8 @@ use Rattle.heap_model.specs.Geometry.{used_word, start_word}
 use Rattle.heap_model.specs.Sizes.{words_of_class, blocks_of}
 use Rattle.block_heap.specs.Divide.{IsDivided}
 use Rattle.block_heap.specs.Parts.{Parts, image_of, held_in, cache_at}
-use Rattle.block_heap.specs.Steps.{IsEmptyList, FindsEmpty, IsLook, look_at, head_at, Spends}
+use Rattle.block_heap.specs.Lists.{IsEmptyList, head_at}
+use Rattle.block_heap.specs.Steps.{FindsEmpty, IsLook, look_at, Spends}
 use Rattle.block_heap.specs.Serving.{HasRoom, FindsNone}
 
 -- looks, counts and held blocks stay

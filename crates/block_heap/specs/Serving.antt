@@ -10,7 +10,8 @@ use Rattle.block_heap.specs.Accounts.{AreAccounted}
 use Rattle.heap_seat.specs.Alloc.{IsSizeFor}
 use Rattle.block_heap.specs.Parts.{Parts, image_of, held_in, cache_at}
 use Rattle.block_heap.specs.Running.{IsRunning, AreShort}
-use Rattle.block_heap.specs.Steps.{head_at, IsEmptyList, look_at, IsLook, Spends}
+use Rattle.block_heap.specs.Lists.{head_at, IsEmptyList}
+use Rattle.block_heap.specs.Steps.{look_at, IsLook, Spends}
 
 -- a request of a class finds blocks: in the cache, in a list, or where none were taken yet
 pub data HasRoom (p : Parts) (class : ℕ) : Type 0 where

@@ -1,28 +1,16 @@
 -- What the parts of a heap are after rows of steps that are done.
 use Rattle.std.specs.Prelude.{◌≡◌, ◌≢◌, ℕ, ◌+◌, ◌<◌, ◌≤◌, List, ◌∷◌, length, Some, Contains}
 use Rattle.heap_model.specs.declared.block.Block.{Block}
-use Rattle.heap_model.specs.Geometry.{head_word, link_word, used_word}
+use Rattle.heap_model.specs.Geometry.{used_word}
 use Rattle.heap_model.specs.Sizes.{IsClass, words_of_class}
-use Rattle.heap_model.specs.Words.{head_first}
-use Rattle.heap_model.specs.Chains.{Follows}
 use Rattle.heap_shape.specs.Moves.{AddsTo}
 use Rattle.heap_shape.specs.Draining.{DrainsSame, DrainsOne}
 use Rattle.heap_seat.specs.declared.look.Look.{Look}
 use Rattle.block_heap.specs.declared.refill.Found.{Found}
 use Rattle.block_heap.specs.declared.refill.Found.TheVariants.{Blocks, Recycled, Nothing}
 use Rattle.block_heap.specs.Parts.{Parts, image_of, held_in, cache_at, head_look}
+use Rattle.block_heap.specs.Lists.{head_at, IsEmptyList, LeadsAlong}
 use Rattle.block_heap.specs.Running.{IsRunning}
-
-abbrev pub head_at : Parts → ℕ → ℕ
-head_at p list = image_of p (head_word list)
-
--- the list has no descriptor
-abbrev pub IsEmptyList : Parts → ℕ → Type 0
-IsEmptyList p list = head_first (head_at p list) ≡ 0
-
--- the head leads along these descriptors
-abbrev pub LeadsAlong : Parts → ℕ → List ℕ → Type 0
-LeadsAlong p list ds = Follows (λ d. image_of p (link_word d)) p.capacity (head_first (head_at p list)) ds
 
 -- no more superblocks than n are left that the class may be filled from: those in its list, the free ones, and those that were never taken
 abbrev pub HasAtMost : ℕ → Parts → ℕ → Type 0
@@ -77,12 +65,14 @@ FindsFirst class Blocks p q = (1 ≤ (cache_at q.caches class).count) × (IsEmpt
 FindsFirst class Recycled p q = ((cache_at q.caches class).count ≡ 0) × Recycles class p q × (q.taken ≡ p.taken)
 FindsFirst class Nothing p q = ((cache_at q.caches class).count ≡ 0) × FindsEmpty class p q × (q.taken ≡ p.taken)
 
--- a block left the cache of the class and is held
+-- the first block left the cache of the class and is held
 pub record HandsOut (class : ℕ) (b : Block) (p q : Parts) : Type 0 where
   pub running : IsRunning q
   pub size : b.words ≡ words_of_class class
   pub adds : AddsTo b (held_in p) (held_in q)
   pub new : Contains (held_in p) b → ⊥
+  pub at : b.first_word ≡ (cache_at p.caches class).first
+  pub next : (cache_at q.caches class).first ≡ image_of p b.first_word
   pub count : (cache_at q.caches class).count + 1 ≡ (cache_at p.caches class).count
   pub caches : (c : ℕ) → IsClass c → c ≢ class → cache_at q.caches c ≡ cache_at p.caches c
   pub drains : DrainsOne p.capacity class (image_of p) (held_in p) (held_in q) b

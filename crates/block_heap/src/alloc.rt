@@ -7,11 +7,13 @@ use size_table::{class_of, span_of};
 use super_block::WORD_BYTES;
 
 impl<C: Chance> Arena<C> {
-    ghost use Rattle.std.specs.Prelude.{◌≡◌, ◌<◌, ◌≤◌, ◌+◌, ℕ, Contains, Some, length, IfOk, OnOk, IfErr, OnErr};
+    ghost use Rattle.std.specs.Prelude.{◌≡◌, ◌<◌, ◌≤◌, ◌+◌, ℕ, Contains, Some, length, IfOk, OnOk, IfErr, OnErr, true};
     ghost use Rattle.heap_model.specs.Sizes.{IsClass, IsLeastClassFor, size_of, span_of};
     ghost use Rattle.heap_shape.specs.Moves.{TakesFrom};
     ghost use Rattle.block_heap.specs.Accounts.{AreAccounted};
     ghost use Rattle.block_heap.specs.Medium.{Goes, Halts};
+    ghost use Rattle.block_heap.specs.Order.{Stocked, ServesInOrder};
+    ghost use Rattle.block_heap.specs.Returns.{ComesBack};
     ghost use Rattle.block_heap.specs.Parts.{parts_of, held_in};
     ghost use Rattle.block_heap.specs.Running.{IsRunning, AreShort, Serves};
     ghost use Rattle.block_heap.specs.Steps.{Fills};
@@ -26,6 +28,9 @@ impl<C: Chance> Arena<C> {
             (parts_of self.old) (parts_of self.new)) }
         ensures drains { (class : ℕ) → IsClass class → bytes ≡ size_of class
             → IfOk result (λ answer. DrainsAs class answer
+            (parts_of self.old) (parts_of self.new)) }
+        ensures order { (class : ℕ) → IsLeastClassFor bytes class
+            → IfOk result (λ answer. ServesInOrder class answer
             (parts_of self.old) (parts_of self.new)) }
         ensures goes { OnOk result (Goes 10001
             (parts_of self.old).words (parts_of self.new).words) }
@@ -52,6 +57,8 @@ impl<C: Chance> Arena<C> {
             (parts_of self.old) (parts_of self.new)) }
         ensures drains { IfOk result (λ answer. DrainsAs class answer
             (parts_of self.old) (parts_of self.new)) }
+        ensures order { IfOk result (λ answer. ServesInOrder class answer
+            (parts_of self.old) (parts_of self.new)) }
         ensures goes { OnOk result (Goes 10001
             (parts_of self.old).words (parts_of self.new).words) }
         ensures stopped { IfErr result (λ e. Halts e.step 10001
@@ -73,6 +80,8 @@ impl<C: Chance> Arena<C> {
         requires class { IsClass class }
         requires running { IsRunning (parts_of self.old) }
         ensures ok { IfOk result (λ some. Refills class some
+            (parts_of self.old) (parts_of self.new)) }
+        ensures order { IfOk result (λ some. some ≡ true → Stocked class
             (parts_of self.old) (parts_of self.new)) }
         ensures fills { OnOk result (Fills class (parts_of self.old) (parts_of self.new)) }
         ensures left { IfOk result (λ some. Stocks class some
@@ -104,6 +113,7 @@ impl<C: Chance> Arena<C> {
         ensures stopped { IfErr result (λ e. Halts e.step 40000
             (parts_of self.old).words (parts_of self.new).words) }
         ensures freed { TakesFrom b (held_in (parts_of self.old)) (held_in (parts_of self.new)) }
+        ensures order { OnOk result (ComesBack b (parts_of self.old) (parts_of self.new)) }
         ensures serves { Serves (held_in (parts_of self.new))
             (parts_of self.old) (parts_of self.new) }
         ensures taken { (parts_of self.new).taken ≡ (parts_of self.old).taken }

@@ -15,6 +15,7 @@ impl<C: Chance> Arena<C> {
     ghost use Rattle.block_heap.specs.Parts.{parts_of, held_in};
     ghost use Rattle.block_heap.specs.Running.{IsRunning, AreShort, Serves};
     ghost use Rattle.block_heap.specs.Large.{JoinsAs, IsDropped};
+    ghost use Rattle.block_heap.specs.Returns.{FreesLarge, FreesOne};
 
     /// A block of so many superblocks, if as many were never taken.
     pub(crate) fn alloc_large(&mut self, count: u64) -> Result<Option<Block>, Stopped>
@@ -61,6 +62,7 @@ impl<C: Chance> Arena<C> {
         ensures stopped { IfErr result (λ e. Halts e.step 1024
             (parts_of self.old).words (parts_of self.new).words) }
         ensures freed { TakesFrom b (held_in (parts_of self.old)) (held_in (parts_of self.new)) }
+        ensures order { OnOk result (FreesLarge b (parts_of self.old) (parts_of self.new)) }
         ensures serves { Serves (held_in (parts_of self.new))
             (parts_of self.old) (parts_of self.new) }
         ensures caches { (parts_of self.new).caches ≡ (parts_of self.old).caches }
@@ -86,6 +88,7 @@ impl<C: Chance> Arena<C> {
         ensures others { OnOk result ((e : ℕ) → e ≢ d → IsDropped (parts_of self.old) e
             → IsDropped (parts_of self.new) e) }
         ensures gives { OnOk result (GivesUse d (parts_of self.old) (parts_of self.new)) }
+        ensures order { OnOk result (FreesOne d (parts_of self.old) (parts_of self.new)) }
         ensures goes { OnOk result (Goes 4
             (parts_of self.old).words (parts_of self.new).words) }
         ensures stopped { IfErr result (λ e. Halts e.step 4

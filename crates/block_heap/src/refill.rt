@@ -18,7 +18,7 @@ pub(crate) enum Found {
 }
 
 impl<C: Chance> Arena<C> {
-    ghost use Rattle.std.specs.Prelude.{◌≡◌, ◌≢◌, ℕ, ◌+◌, ◌/◌, ◌<◌, ◌≤◌, IfOk, OnOk, OnErr, IfErr, if◌then◌else◌, length};
+    ghost use Rattle.std.specs.Prelude.{◌≡◌, ◌≢◌, ℕ, ◌+◌, ◌/◌, ◌<◌, ◌≤◌, IfOk, OnOk, OnErr, IfErr, if◌then◌else◌, length, true};
     ghost use Rattle.heap_model.specs.Counting.{one_if};
     ghost use Rattle.heap_model.specs.Geometry.{used_word};
     ghost use Rattle.heap_model.specs.Sizes.{IsClass};
@@ -29,7 +29,9 @@ impl<C: Chance> Arena<C> {
     ghost use Rattle.block_heap.specs.Links.{IsOpen};
     ghost use Rattle.block_heap.specs.Parts.{parts_of, held_in, image_of, cache_at};
     ghost use Rattle.block_heap.specs.Running.{IsRunning, Serves};
-    ghost use Rattle.block_heap.specs.Steps.{Fills, FindsFirst, IsEmptyList, Spends, used_up};
+    ghost use Rattle.block_heap.specs.Lists.{IsEmptyList};
+    ghost use Rattle.block_heap.specs.Steps.{Fills, FindsFirst, Spends, used_up};
+    ghost use Rattle.block_heap.specs.Order.{FillsFrom, OrdersFirst, OrdersPartial, OrdersFree, OrdersFresh};
     ghost use Rattle.block_heap.specs.Refill.{Cuts, SameBut, FindsFree, FindsFresh, FindsPartial, Refills};
 
     /// Fills the empty cache of the class; `false` where there is no room.
@@ -38,6 +40,8 @@ impl<C: Chance> Arena<C> {
         requires running { IsRunning (parts_of self.old) }
         requires empty { (cache_at (parts_of self.old).caches class).count ≡ 0 }
         ensures ok { IfOk result (λ some. Refills class some
+            (parts_of self.old) (parts_of self.new)) }
+        ensures order { IfOk result (λ some. some ≡ true → FillsFrom class
             (parts_of self.old) (parts_of self.new)) }
         ensures fills { OnOk result (Fills class (parts_of self.old) (parts_of self.new)) }
         ensures left { IfOk result (λ some. Spends (one_if some) class
@@ -64,6 +68,8 @@ impl<C: Chance> Arena<C> {
         requires running { IsRunning (parts_of self.old) }
         requires empty { (cache_at (parts_of self.old).caches class).count ≡ 0 }
         ensures ok { IfOk result (λ some. FindsPartial class some
+            (parts_of self.old) (parts_of self.new)) }
+        ensures order { IfOk result (λ some. OrdersPartial class some
             (parts_of self.old) (parts_of self.new)) }
         ensures fills { OnOk result (Fills class (parts_of self.old) (parts_of self.new)) }
         ensures left { IfOk result (λ some. Spends (one_if some) class
@@ -93,6 +99,8 @@ impl<C: Chance> Arena<C> {
         requires running { IsRunning (parts_of self.old) }
         requires empty { (cache_at (parts_of self.old).caches class).count ≡ 0 }
         ensures ok { IfOk result (λ found. FindsFirst class found
+            (parts_of self.old) (parts_of self.new)) }
+        ensures order { IfOk result (λ found. OrdersFirst class found
             (parts_of self.old) (parts_of self.new)) }
         ensures fills { OnOk result (Fills class (parts_of self.old) (parts_of self.new)) }
         ensures left { IfOk result (λ found. Spends (used_up found) class
@@ -127,6 +135,8 @@ impl<C: Chance> Arena<C> {
         requires empty { (cache_at (parts_of self.old).caches class).count ≡ 0 }
         ensures ok { IfOk result (λ some. FindsFree class some
             (parts_of self.old) (parts_of self.new)) }
+        ensures order { IfOk result (λ some. OrdersFree class some
+            (parts_of self.old) (parts_of self.new)) }
         ensures fills { OnOk result (Fills class (parts_of self.old) (parts_of self.new)) }
         ensures left { IfOk result (λ some. Spends (one_if some) class
             (parts_of self.old) (parts_of self.new)) }
@@ -155,6 +165,8 @@ impl<C: Chance> Arena<C> {
         requires running { IsRunning (parts_of self.old) }
         requires empty { (cache_at (parts_of self.old).caches class).count ≡ 0 }
         ensures ok { IfOk result (λ some. FindsFresh class some
+            (parts_of self.old) (parts_of self.new)) }
+        ensures order { IfOk result (λ some. OrdersFresh class some
             (parts_of self.old) (parts_of self.new)) }
         ensures fills { OnOk result (Fills class (parts_of self.old) (parts_of self.new)) }
         ensures left { IfOk result (λ some. Spends (one_if some) class

@@ -117,9 +117,10 @@ fn stop_of<T>(answer: &Result<T, Stopped>) -> Option<u64>
 
 impl<C: Chance> SeqHeap<C> {
     ghost use Rattle.std.specs.Prelude.{ℕ, ◌+◌, ◌<◌, IfOk, OnErr};
-    ghost use Rattle.heap_model.specs.Sizes.{IsClass, size_of, span_of};
+    ghost use Rattle.heap_model.specs.Sizes.{IsClass, IsLeastClassFor, size_of, span_of};
     ghost use Rattle.heap_seat.specs.Calls.{IsLargeCall};
     ghost use Rattle.block_heap.specs.Closing.{KeepsFixed};
+    ghost use Rattle.block_heap.specs.Order.{ServesInOrder};
     ghost use Rattle.block_heap.specs.Parts.{held_in};
     ghost use Rattle.block_heap.specs.Requests.{KeepsWords};
     ghost use Rattle.block_heap.specs.Serving.{Answers, DrainsAs};
@@ -131,6 +132,8 @@ impl<C: Chance> SeqHeap<C> {
         ensures ok { IfOk result (λ answer. Answers bytes answer self.old.parts self.new.parts) }
         ensures drains { (class : ℕ) → IsClass class → bytes ≡ size_of class
             → IfOk result (λ answer. DrainsAs class answer self.old.parts self.new.parts) }
+        ensures order { (class : ℕ) → IsLeastClassFor bytes class → IfOk result (λ answer.
+            ServesInOrder class answer self.old.parts self.new.parts) }
         ensures runs { OnOk result (Runs (seat_of self.old) (seat_of self.new)) }
         ensures stopped { IfErr result (λ e. Stops e.step (seat_of self.old) (seat_of self.new)) }
         ensures held { OnErr result (held_in self.new.parts ≡ held_in self.old.parts) }

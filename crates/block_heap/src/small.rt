@@ -28,6 +28,7 @@ impl<C: Chance> Arena<C> {
     ghost use Rattle.block_heap.specs.Running.{IsRunning, AreShort, Serves};
     ghost use Rattle.block_heap.specs.Steps.{HandsOut};
     ghost use Rattle.block_heap.specs.Flush.{IsFront, KeepsAll, GivesBack};
+    ghost use Rattle.block_heap.specs.Returns.{FreesSmall, Flushes, IsLongest, GivesTo};
 
     /// Hands out the first block of the cache, which has one.
     pub(crate) fn hand_out(&mut self, class: u8) -> Result<Block, Stopped>
@@ -72,6 +73,8 @@ impl<C: Chance> Arena<C> {
         ensures stopped { IfErr result (λ e. Halts e.step 40000
             (parts_of self.old).words (parts_of self.new).words) }
         ensures freed { TakesFrom b (held_in (parts_of self.old)) (held_in (parts_of self.new)) }
+        ensures order { OnOk result (FreesSmall class b.first_word
+            (parts_of self.old) (parts_of self.new)) }
         ensures serves { Serves (held_in (parts_of self.new))
             (parts_of self.old) (parts_of self.new) }
         ensures taken { (parts_of self.new).taken ≡ (parts_of self.old).taken }
@@ -98,6 +101,7 @@ impl<C: Chance> Arena<C> {
         ensures running { OnOk result (IsRunning (parts_of self.new)) }
         ensures empty { OnOk result ((cache_at (parts_of self.new).caches class).count ≡ 0) }
         ensures keeps { OnOk result (KeepsAll class (parts_of self.old) (parts_of self.new)) }
+        ensures order { OnOk result (Flushes class (parts_of self.old) (parts_of self.new)) }
         ensures few { (parts_of self.new).words.drawn
             ≤ (parts_of self.old).words.drawn
             + 9 * (cache_at (parts_of self.old).caches class).count }
@@ -123,6 +127,9 @@ impl<C: Chance> Arena<C> {
         requires running { IsRunning (parts_of self.old) }
         requires some { 1 ≤ (cache_at (parts_of self.old).caches class).count }
         ensures ok { IfOk result (λ front. IsFront class front (parts_of self.new)) }
+        ensures longest { IfOk result (λ front. IsLongest front (parts_of self.new)) }
+        ensures words { OnOk result ((parts_of self.new).words.volatile
+            ≡ (parts_of self.old).words.volatile) }
         ensures running { OnOk result (IsRunning (parts_of self.new)) }
         ensures keeps { OnOk result (KeepsAll class (parts_of self.old) (parts_of self.new)) }
         ensures caches { (parts_of self.new).caches ≡ (parts_of self.old).caches }
@@ -170,6 +177,7 @@ impl<C: Chance> Arena<C> {
         ensures running { OnOk result (IsRunning (parts_of self.new)) }
         ensures gives { OnOk result (GivesBack class front
             (parts_of self.old) (parts_of self.new)) }
+        ensures order { OnOk result (GivesTo class front (parts_of self.old) (parts_of self.new)) }
         ensures goes { OnOk result (Goes 6
             (parts_of self.old).words (parts_of self.new).words) }
         ensures stopped { IfErr result (λ e. Halts e.step 6

@@ -3,11 +3,12 @@ use Rattle.std.proofs.lemmas.Result.{IfOk-weaker}
 use Rattle.heap_model.specs.Sizes.{largest_small, span_of}
 use Rattle.heap_model.proofs.SizeLemmas.{few_words, size_of-words}
 use Rattle.block_heap.specs.Accounts.{AreAccounted}
+use Rattle.block_heap.specs.Order.{ServesInOrder}
 use Rattle.block_heap.specs.Parts.{parts_of}
 use Rattle.block_heap.specs.Running.{IsRunning}
 use Rattle.block_heap.specs.Large.{JoinsAs}
 use Rattle.block_heap.specs.Serving.{Answers, AnswersInClass, DrainsAs}
-use Rattle.block_heap.proofs.AllocLemmas.{answers_small, answers_large, least_of_size, both_ok, on_ok_both}
+use Rattle.block_heap.proofs.AllocLemmas.{least_small, one_least, answers_small, answers_large, least_of_size, both_ok, on_ok_both}
 use Rattle.block_heap.proofs.arena.Arena.alloc.Goals as goal
 
 pub returns-in-Some-clause-ok : goal.returns-in-Some-clause-ok
@@ -43,4 +44,15 @@ returns-in-None-clause-drains g c =
     λ class is same.
     let few = few_words class is in
     let words = size_of-words class is in
+    absurd (omega arith)
+
+pub returns-in-Some-clause-order : goal.returns-in-Some-clause-order
+returns-in-Some-clause-order g c = λ class least.
+    subst (λ (k : ℕ). IfOk c.alloc_small.result (λ answer. ServesInOrder k answer (parts_of c.args.self.now) (parts_of c.alloc_small.new.self)))
+    (one_least c.args.bytes c.in-Some.class class c.in-Some.ensures.some least) c.alloc_small.ensures.order
+
+pub returns-in-None-clause-order : goal.returns-in-None-clause-order
+returns-in-None-clause-order g c = λ class least.
+    let large : largest_small < c.args.bytes = c.in-None.ensures.none.0 refl in
+    let small = least_small c.args.bytes class least in
     absurd (omega arith)

@@ -2,6 +2,7 @@ use Rattle.std.proofs.Common.{Bool, subst}
 use Rattle.block_heap.specs.Parts.{parts_of}
 use Rattle.block_heap.specs.Refill.{Refills}
 use Rattle.block_heap.proofs.AllocLemmas.{drains_nothing, gets_in_class, drains_block, serves_all}
+use Rattle.block_heap.proofs.OrderLemmas.{takes_first}
 use Rattle.block_heap.proofs.SpendLemmas.{costs_of}
 use Rattle.block_heap.proofs.arena.Arena.alloc_small.Goals as goal
 
@@ -38,3 +39,13 @@ returns-clause-drains g c =
       costs_of c.args.class c.in_ok-stock.field-0 p q r c.if-not-branch.false c.in_ok-stock.ensures.left c.in_ok-stock.ensures.steps
           c.hand_out.ensures.serves.capacity c.in_ok-hand_out.ensures.ok.volatile c.in_ok-hand_out.ensures.goes.few,
     )
+
+pub returns-then-not-branch-clause-order : goal.returns-then-not-branch-clause-order
+returns-then-not-branch-clause-order g c = tt
+
+pub returns-clause-order : goal.returns-clause-order
+returns-clause-order g c = record {
+  between = parts_of c.stock.new.self;
+  stocked = c.in_ok-stock.ensures.order c.if-not-branch.false;
+  takes = takes_first c.args.class c.in_ok-hand_out.field-0 (parts_of c.stock.new.self) (parts_of c.hand_out.new.self) c.in_ok-hand_out.ensures.ok;
+}

@@ -4,7 +4,7 @@ use Rattle.block_heap.specs.Parts.{parts_of}
 use Rattle.block_heap.proofs.RunningLemmas.{is_head}
 use Rattle.block_heap.proofs.RefillLemmas.{head_moved, serves_moved, emptied_fills, emptied, emptied_serves, popped_none}
 use Rattle.block_heap.proofs.SpendLemmas.{spends_none}
-use Rattle.block_heap.proofs.CutStepLemmas.{free_within, free_unmarked, free_serves, free_fills, free_found, free_spends}
+use Rattle.block_heap.proofs.CutStepLemmas.{free_within, free_unmarked, free_serves, free_fills, free_found, free_spends, free_cuts}
 use Rattle.block_heap.proofs.LookLemmas.{looks_kept}
 use Rattle.block_heap.proofs.arena.Arena.cut_free.Goals as goal
 
@@ -79,3 +79,13 @@ returns-clause-left g c =
     free_spends (parts_of c.args.self.now) c.args.class c.in-Some.d c.in_ok-popped.popped (medium_view c.pop.new.self) c.by.result c.requires.running
     c.requires.class c.in_ok-popped.ensures.ok c.pop.ensures.others c.in-Some.is
     (parts_of c.cut.new.self) c.cut.ensures.others c.cut.ensures.same c.requires.empty c.in_ok-cut.ensures.ok
+
+pub returns-in_default-clause-order : goal.returns-in_default-clause-order
+returns-in_default-clause-order g c = tt
+
+pub returns-clause-order : goal.returns-clause-order
+returns-clause-order g c =
+    let cuts = free_cuts (parts_of c.args.self.now) c.args.class c.in-Some.d c.in_ok-popped.popped (medium_view c.pop.new.self) c.by.result c.requires.running
+    c.requires.class c.in_ok-popped.ensures.ok c.pop.ensures.others c.in-Some.is
+    (parts_of c.cut.new.self) c.cut.ensures.others c.cut.ensures.same c.requires.empty c.in_ok-cut.ensures.ok in
+    (c.in-Some.d, cuts.0, cuts.1)

@@ -1,7 +1,7 @@
 use Rattle.std.proofs.Common.{arith, ap, ◌∙◌, Some}
 use Rattle.block_heap.specs.MediumView.{medium_view}
 use Rattle.block_heap.specs.Parts.{parts_of}
-use Rattle.block_heap.proofs.CutStepLemmas.{fresh_stops, none_fills, none_spends, fresh_unmarked, fresh_serves, fresh_fills, fresh_found, fresh_spends}
+use Rattle.block_heap.proofs.CutStepLemmas.{fresh_stops, none_fills, none_spends, fresh_unmarked, fresh_serves, fresh_fills, fresh_found, fresh_cuts, fresh_spends}
 use Rattle.block_heap.proofs.arena.Arena.cut_fresh.Goals as goal
 
 pub returns-in_err-fresh-clause-serves : goal.returns-in_err-fresh-clause-serves
@@ -61,6 +61,16 @@ returns-in_default-clause-left g c =
 pub returns-clause-left : goal.returns-clause-left
 returns-clause-left g c =
     fresh_spends (parts_of c.args.self.now) (medium_view c.take_fresh.new.self) c.requires.running c.take_fresh.ensures.others c.take_fresh.ensures.crash c.take_fresh.ensures.fits
+    c.args.class c.in_ok-fresh.fresh c.by-self.result c.in_ok-fresh.ensures.ok
+    c.by-self.ensures.seen c.by-self.ensures.taken c.in-Some.d c.in-Some.is (parts_of c.cut.new.self) c.cut.ensures.others c.cut.ensures.same
+    c.requires.class c.requires.empty c.in_ok-cut.ensures.ok
+
+pub returns-in_default-clause-order : goal.returns-in_default-clause-order
+returns-in_default-clause-order g c = tt
+
+pub returns-clause-order : goal.returns-clause-order
+returns-clause-order g c =
+    fresh_cuts (parts_of c.args.self.now) (medium_view c.take_fresh.new.self) c.requires.running c.take_fresh.ensures.others c.take_fresh.ensures.crash c.take_fresh.ensures.fits
     c.args.class c.in_ok-fresh.fresh c.by-self.result c.in_ok-fresh.ensures.ok
     c.by-self.ensures.seen c.by-self.ensures.taken c.in-Some.d c.in-Some.is (parts_of c.cut.new.self) c.cut.ensures.others c.cut.ensures.same
     c.requires.class c.requires.empty c.in_ok-cut.ensures.ok

@@ -1,7 +1,11 @@
+use Rattle.std.proofs.Common.{◌≡◌, ap, arith}
 use Rattle.std.proofs.lemmas.Result.{err_from_is_err_and}
 use Rattle.block_heap.specs.MediumView.{medium_view}
-use Rattle.block_heap.specs.Parts.{parts_of}
+use Rattle.block_heap.specs.declared.cache.Cache.{Cache}
+use Rattle.block_heap.specs.Parts.{parts_of, cache_at}
+use Rattle.block_heap.proofs.SmallLemmas.{read_cache}
 use Rattle.block_heap.proofs.FrontLemmas.{flushed_serves, flushed_more, front_halts, give_halts, give_serves}
+use Rattle.block_heap.proofs.ReturnLemmas.{flushes_all}
 use Rattle.block_heap.proofs.arena.Arena.flush.Goals as goal
 
 pub returns-in_err-front-clause-stopped : goal.returns-in_err-front-clause-stopped
@@ -22,7 +26,7 @@ loop-self-preserved g c =
     c.in_ok-front.ensures.ok c.in_ok-front.ensures.running c.in_ok-front.ensures.keeps c.front.ensures.caches c.in_ok-front.ensures.goes c.front.ensures.held
     c.front.ensures.serves c.front.ensures.taken
     (parts_of c.give.new.self) c.in_ok-give.ensures.running c.in_ok-give.ensures.gives c.in_ok-give.ensures.goes c.give.ensures.held c.give.ensures.serves
-    c.give.ensures.taken
+    c.give.ensures.taken c.requires.class c.requires.running c.in_ok-front.ensures.words c.in_ok-front.ensures.longest c.in_ok-give.ensures.order
 
 pub returns-in_err-give-clause-stopped : goal.returns-in_err-give-clause-stopped
 returns-in_err-give-clause-stopped g c =
@@ -40,3 +44,11 @@ returns-in_err-give-clause-serves g c =
     c.in_ok-front.ensures.ok c.in_ok-front.ensures.running c.in_ok-front.ensures.keeps c.front.ensures.caches c.in_ok-front.ensures.goes c.front.ensures.held
     c.front.ensures.serves c.front.ensures.taken
     (parts_of c.give.new.self) c.give.ensures.serves
+
+pub returns-clause-order : goal.returns-clause-order
+returns-clause-order g c =
+    let q = parts_of c.loop-self.self in
+    let read = read_cache q c.args.class c.index.result.now c.requires.class c.loop-self.invariant.running c.index.ensures in
+    let count : c.index.result.now.count ≡ (cache_at q.caches c.args.class).count = ap (λ (x : Cache). x.count) read in
+    let past = c.loop-self-test.false in
+    flushes_all c.args.class (parts_of c.args.self.now) q c.requires.class c.loop-self.invariant.order c.loop-self.invariant.keeps (omega arith)

@@ -1,6 +1,6 @@
 use Rattle.std.proofs.Common.{◌+◌, ◌/◌, ◌∙◌, arith}
 use Rattle.block_heap.specs.Parts.{parts_of}
-use Rattle.block_heap.proofs.SplitLemmas.{large_mark, large_behind, drop_begins, freed_more, freed_serves, freed_takes, freed_accounted}
+use Rattle.block_heap.proofs.SplitLemmas.{large_mark, large_behind, drop_begins, freed_more, freed_serves, freed_takes, freed_accounted, freed_large}
 use Rattle.block_heap.proofs.arena.Arena.free_large.Goals as goal
 
 pub remove-requires : goal.remove-requires
@@ -35,7 +35,7 @@ loop-d-preserved g c =
     let kept = c.in_ok-split.ensures in
     freed_more c.superblock_of-first.result c.loop-d.d (c.superblock_of-first.result + c.args.b.words / 8192)
     (record (parts_of c.args.self.now) { blocks = c.remove.new.self }) (parts_of c.loop-d.self) (parts_of c.split.new.self) c.loop-d-test.true c.loop-d.invariant
-    kept.running kept.others kept.gives kept.goes kept.held kept.serves kept.caches kept.taken
+    kept.running kept.others kept.gives kept.order kept.goes kept.held kept.serves kept.caches kept.taken
 
 pub returns-clause-freed : goal.returns-clause-freed
 returns-clause-freed g c =
@@ -44,5 +44,11 @@ returns-clause-freed g c =
 pub returns-clause-accounted : goal.returns-clause-accounted
 returns-clause-accounted g c =
     freed_accounted (parts_of c.args.self.now) c.args.b c.requires.running c.requires.holds c.requires.large c.remove.new.self
+    c.remove.ensures.held c.remove.ensures.words c.remove.ensures.start c.superblock_of-first.result c.loop-d.d (parts_of c.loop-d.self)
+    c.superblock_of-first.ensures (let past = c.loop-d-test.false in omega arith) c.loop-d.invariant
+
+pub returns-clause-order : goal.returns-clause-order
+returns-clause-order g c =
+    freed_large (parts_of c.args.self.now) c.args.b c.requires.running c.requires.holds c.requires.large c.remove.new.self
     c.remove.ensures.held c.remove.ensures.words c.remove.ensures.start c.superblock_of-first.result c.loop-d.d (parts_of c.loop-d.self)
     c.superblock_of-first.ensures (let past = c.loop-d-test.false in omega arith) c.loop-d.invariant

@@ -4,6 +4,7 @@ use Rattle.block_heap.specs.MediumView.{medium_view}
 use Rattle.block_heap.specs.Parts.{parts_of}
 use Rattle.block_heap.proofs.SmallLemmas.{read_cache}
 use Rattle.block_heap.proofs.FreeLemmas.{held_mark, held_below, taken_back, freed_serves, count_short, freed_running, freed_accounted, freed_short, flushed_short, flushed_held, flushed_serve, flushed_goes}
+use Rattle.block_heap.proofs.FreedLemmas.{frees_below, frees_at}
 use Rattle.block_heap.proofs.arena.Arena.free_small.Goals as goal
 
 pub remove-requires : goal.remove-requires
@@ -155,3 +156,21 @@ returns-else-cache-blocks_of-clause-accounted g c =
     freed_accounted p c.args.class c.requires.class c.requires.running c.args.b c.requires.holds c.requires.size
     c.remove.new.self c.remove.ensures.held c.remove.ensures.words c.remove.ensures.start
     c.index-cache.result.now is (medium_view c.store.new.self) c.in_ok-store.ensures.ok c.store.ensures.others c.requires.short
+
+pub returns-in_ok-flush-clause-order : goal.returns-in_ok-flush-clause-order
+returns-in_ok-flush-clause-order g c =
+    let p = parts_of c.args.self.now in
+    let is = read_cache p c.args.class c.index-cache.result.now c.requires.class c.requires.running c.index-cache.ensures in
+    frees_at p c.args.class c.requires.class c.requires.running c.args.b c.requires.holds c.requires.size
+    c.remove.new.self c.remove.ensures.held c.remove.ensures.words c.remove.ensures.start
+    c.index-cache.result.now is (medium_view c.store.new.self) c.in_ok-store.ensures.ok c.store.ensures.others c.requires.short
+    (parts_of c.flush.new.self) (c.if-cache-blocks_of.true ∙ c.blocks_of.ensures) c.in_ok-flush.ensures.order
+
+pub returns-else-cache-blocks_of-clause-order : goal.returns-else-cache-blocks_of-clause-order
+returns-else-cache-blocks_of-clause-order g c =
+    let p = parts_of c.args.self.now in
+    let is = read_cache p c.args.class c.index-cache.result.now c.requires.class c.requires.running c.index-cache.ensures in
+    frees_below p c.args.class c.requires.class c.requires.running c.args.b c.requires.holds c.requires.size
+    c.remove.new.self c.remove.ensures.held c.remove.ensures.words c.remove.ensures.start
+    c.index-cache.result.now is (medium_view c.store.new.self) c.in_ok-store.ensures.ok c.store.ensures.others c.requires.short
+    (λ e. c.if-cache-blocks_of.false (e ∙ sym c.blocks_of.ensures))

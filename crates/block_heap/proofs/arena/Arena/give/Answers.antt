@@ -7,6 +7,8 @@ use Rattle.block_heap.specs.Parts.{parts_of}
 use Rattle.block_heap.specs.Running.{IsRunning}
 use Rattle.block_heap.proofs.SmallLemmas.{changed}
 use Rattle.block_heap.proofs.FlushLemmas.{front_anchor, front_first, front_last, front_fits, gave_serves, pushed_serves, gave_running, gave_accounted, pushed_all, all_accounted, pushed_some, some_accounted}
+use Rattle.block_heap.specs.Returns.{GivesTo}
+use Rattle.block_heap.proofs.ReturnLemmas.{gave_to, all_to, some_to}
 use Rattle.block_heap.proofs.AccountLemmas.{gives_back}
 use Rattle.block_heap.proofs.arena.Arena.give.Goals as goal
 use Rattle.block_heap.proofs.arena.Arena.give.Goals.{then-all, else-all}
@@ -103,3 +105,30 @@ returns-else-eq-clause-gives g c =
     (gave_accounted (parts_of c.args.self.now) c.args.class c.requires.class c.requires.running c.args.front c.requires.front
     (medium_view c.give_blocks.new.self) c.in_ok-anchor.anchor
     c.in_ok-anchor.ensures.ok c.give_blocks.ensures.others (λ e. search rules))
+
+pub returns-in_ok-push-clause-order : goal.returns-in_ok-push-clause-order
+returns-in_ok-push-clause-order g c =
+    let p = parts_of c.args.self.now in
+    let all = c.blocks_of.ensures in
+    let same = c.eq.ensures in
+    let full : c.in_ok-anchor.anchor.state ≡ Full = search rules in
+    elim c.if-all.branch as (λ _. GivesTo c.args.class c.args.front p (changed p (medium_view c.push.new.self) (set p.caches c.args.class c.args.front.rest) c.args.self.now.held)) [
+      | then-all w ↦
+          all_to p c.args.class c.requires.class c.requires.running c.args.front c.requires.front
+          (medium_view c.give_blocks.new.self) c.in_ok-anchor.anchor
+          c.in_ok-anchor.ensures.ok c.give_blocks.ensures.others full c.if-all.list (medium_view c.push.new.self) c.in_ok-push.ensures.ok
+          c.push.ensures.others
+          (let e = w.if-all.true in omega arith) w.list-is
+      | else-all w ↦
+          some_to p c.args.class c.requires.class c.requires.running c.args.front c.requires.front
+          (medium_view c.give_blocks.new.self) c.in_ok-anchor.anchor
+          c.in_ok-anchor.ensures.ok c.give_blocks.ensures.others full c.if-all.list (medium_view c.push.new.self) c.in_ok-push.ensures.ok
+          c.push.ensures.others
+          (let e = w.if-all.false in λ f. e (f ∙ sym all)) w.list-is
+    ]
+
+pub returns-else-eq-clause-order : goal.returns-else-eq-clause-order
+returns-else-eq-clause-order g c =
+    gave_to (parts_of c.args.self.now) c.args.class c.requires.class c.requires.running c.args.front c.requires.front
+    (medium_view c.give_blocks.new.self) c.in_ok-anchor.anchor
+    c.in_ok-anchor.ensures.ok c.give_blocks.ensures.others (λ e. search rules)

@@ -8,7 +8,9 @@ use Rattle.block_heap.specs.Running.{Serves}
 use Rattle.block_heap.specs.Steps.{Fills, Spends}
 use Rattle.block_heap.proofs.RefillLemmas.{serves_then}
 use Rattle.block_heap.proofs.SpendLemmas.{spends_then}
-use Rattle.block_heap.proofs.PartialLemmas.{fills_then, fresh_refills, partial_refills, free_refills}
+use Rattle.block_heap.proofs.PartialLemmas.{fills_then, fresh_refills, partial_refills, free_refills, fills_fresh}
+use Rattle.block_heap.specs.Order.{FillsFrom, from_class_list, OrdersPartial, OrdersFree}
+use Rattle.block_heap.proofs.OrderLemmas.{fills_free}
 use Rattle.block_heap.proofs.arena.Arena.refill.Goals.{then-branch-via-then-branch, then-branch-via-else-branch+in_ok-cut_free+then-branch-2}
 use Rattle.block_heap.proofs.arena.Arena.refill.Goals as goal
 
@@ -90,6 +92,33 @@ returns-clause-left g c =
     (spends_then 0 (one_if c.in_ok-take_partial.field-0) (one_if c.in_ok-cut_free.field-0) class p a b (omega arith) c.in_ok-take_partial.ensures.left
     c.in_ok-cut_free.ensures.left) spends)
     c.cut_fresh.ensures.left
+
+pub returns-then-branch-clause-order : goal.returns-then-branch-clause-order
+returns-then-branch-clause-order g c = λ is.
+    let p = parts_of c.args.self.now in
+    let a = parts_of c.take_partial.new.self in
+    let class = c.args.class in
+    elim c.then-branch.branch as (λ _. FillsFrom class p (parts_of c.then-branch.self)) [
+      | then-branch-via-then-branch w ↦ subst (λ (x : Arena _). FillsFrom class p (parts_of x)) (sym w.self-is)
+          (let takes = subst (λ some. OrdersPartial class some p a) w.if-branch.true c.in_ok-take_partial.ensures.order in from_class_list takes.0 takes.1)
+      | then-branch-via-else-branch+in_ok-cut_free+then-branch-2 w ↦ subst (λ (x : Arena _). FillsFrom class p (parts_of x)) (sym w.self-is)
+          (let found = subst (λ some. OrdersPartial class some p a) w.if-branch.false c.in_ok-take_partial.ensures.order in
+          let cuts = subst (λ some. OrdersFree class some a (parts_of w.cut_free.new.self)) w.if-branch-2.true w.in_ok-cut_free.ensures.order in
+          fills_free class p a (parts_of w.cut_free.new.self) found.0 found.1 c.in_ok-take_partial.ensures.taken cuts.0 cuts.1 cuts.2 w.in_ok-cut_free.ensures.taken)
+    ]
+
+pub returns-clause-order : goal.returns-clause-order
+returns-clause-order g c =
+    let p = parts_of c.args.self.now in
+    let a = parts_of c.take_partial.new.self in
+    let b = parts_of c.cut_free.new.self in
+    IfOk-weaker c.cut_fresh.result _ _
+    (fills_fresh c.args.class p a b c.requires.class c.take_partial.ensures.serves c.in_ok-take_partial.ensures.taken c.cut_free.ensures.serves
+    (parts_of c.cut_fresh.new.self) c.in_ok-cut_free.ensures.taken c.cut_fresh.ensures.serves
+    (subst (λ some. FindsPartial c.args.class some p a) c.if-branch.false c.in_ok-take_partial.ensures.ok)
+    (subst (λ some. FindsFree c.args.class some a b) c.if-branch-2.false c.in_ok-cut_free.ensures.ok)
+    (subst (λ some. OrdersPartial c.args.class some p a) c.if-branch.false c.in_ok-take_partial.ensures.order))
+    c.cut_fresh.ensures.order
 
 pub returns-then-branch-clause-ok : goal.returns-then-branch-clause-ok
 returns-then-branch-clause-ok g c =

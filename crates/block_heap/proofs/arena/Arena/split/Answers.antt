@@ -1,7 +1,7 @@
 use Rattle.block_heap.specs.Parts.{parts_of}
 use Rattle.block_heap.specs.MediumView.{medium_view}
 use Rattle.std.proofs.lemmas.Result.{on_ok_weaker}
-use Rattle.block_heap.proofs.SplitLemmas.{anchor_serves, split_serves, split_running, split_others, split_gives}
+use Rattle.block_heap.proofs.SplitLemmas.{anchor_serves, split_serves, split_running, split_others, split_gives, split_frees}
 use Rattle.block_heap.proofs.arena.Arena.split.Goals as goal
 
 pub returns-in_err-store-clause-serves : goal.returns-in_err-store-clause-serves
@@ -32,5 +32,12 @@ pub returns-clause-gives : goal.returns-clause-gives
 returns-clause-gives g c =
     on_ok_weaker c.push.result
     (split_gives (parts_of c.args.self.now) c.args.d c.anchor.result (medium_view c.store.new.self) (medium_view c.push.new.self)
+    c.requires.running c.requires.dropped c.anchor.ensures c.store.ensures.others c.push.ensures.others c.in_ok-store.ensures.ok)
+    c.push.ensures.ok
+
+pub returns-clause-order : goal.returns-clause-order
+returns-clause-order g c =
+    on_ok_weaker c.push.result
+    (split_frees (parts_of c.args.self.now) c.args.d c.anchor.result (medium_view c.store.new.self) (medium_view c.push.new.self)
     c.requires.running c.requires.dropped c.anchor.ensures c.store.ensures.others c.push.ensures.others c.in_ok-store.ensures.ok)
     c.push.ensures.ok

@@ -5,7 +5,7 @@ use Rattle.block_heap.specs.Parts.{parts_of}
 use Rattle.block_heap.proofs.RunningLemmas.{is_head}
 use Rattle.block_heap.proofs.RefillLemmas.{head_moved, serves_moved, emptied, emptied_fills, emptied_serves, popped_none}
 use Rattle.block_heap.proofs.SpendLemmas.{spends_none}
-use Rattle.block_heap.proofs.TakeLemmas.{first_within, first_anchor, take_moved, taken_some, taken_fills, taken_serves, taken_spends, recycled_serves, recycled_fills, recycled_first, recycled_spends, first_looked}
+use Rattle.block_heap.proofs.TakeLemmas.{first_within, first_anchor, take_moved, taken_some, taken_fills, taken_serves, taken_spends, recycled_serves, recycled_fills, recycled_first, recycled_spends, first_looked, taken_all, recycled_moves}
 use Rattle.block_heap.proofs.LookLemmas.{looks_kept}
 use Rattle.block_heap.proofs.arena.Arena.take_first.Goals as goal
 
@@ -129,6 +129,25 @@ returns-in-Some-2-clause-left g c =
 pub returns-clause-left : goal.returns-clause-left
 returns-clause-left g c =
     recycled_spends (parts_of c.args.self.now) c.args.class c.in-Some.d c.in_ok-popped.popped (medium_view c.pop.new.self) c.by.result c.requires.running
+    c.requires.class c.in_ok-popped.ensures.ok c.pop.ensures.others c.in-Some.is
+    (medium_view c.take_blocks.new.self) c.take_blocks.ensures.others (medium_view c.push.new.self) c.push.ensures.others c.in_ok-cache.field-0
+    c.in_default-2.is c.in_ok-cache.ensures.ok c.in_ok-push.ensures.ok
+
+pub returns-in_default-clause-order : goal.returns-in_default-clause-order
+returns-in_default-clause-order g c = tt
+
+pub returns-in-Some-2-clause-order : goal.returns-in-Some-2-clause-order
+returns-in-Some-2-clause-order g c = (
+  c.in-Some.d,
+  taken_all (parts_of c.args.self.now) c.args.class c.in-Some.d c.in_ok-popped.popped (medium_view c.pop.new.self) c.by.result c.requires.running
+      c.requires.class c.in_ok-popped.ensures.ok c.pop.ensures.others c.in-Some.is
+      (medium_view c.take_blocks.new.self) c.take_blocks.ensures.others c.in-Some-2.cache c.in_ok-cache.field-0 c.in-Some-2.is c.requires.empty
+      c.in_ok-cache.ensures.ok,
+)
+
+pub returns-clause-order : goal.returns-clause-order
+returns-clause-order g c =
+    recycled_moves (parts_of c.args.self.now) c.args.class c.in-Some.d c.in_ok-popped.popped (medium_view c.pop.new.self) c.by.result c.requires.running
     c.requires.class c.in_ok-popped.ensures.ok c.pop.ensures.others c.in-Some.is
     (medium_view c.take_blocks.new.self) c.take_blocks.ensures.others (medium_view c.push.new.self) c.push.ensures.others c.in_ok-cache.field-0
     c.in_default-2.is c.in_ok-cache.ensures.ok c.in_ok-push.ensures.ok

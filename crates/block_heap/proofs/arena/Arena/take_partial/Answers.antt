@@ -2,7 +2,7 @@ use Rattle.std.proofs.Common.{◌≤◌, sym, subst, arith}
 use Rattle.std.proofs.lemmas.Result.{err_from_is_err_and}
 use Rattle.block_heap.specs.Parts.{parts_of}
 use Rattle.block_heap.specs.Steps.{used_up}
-use Rattle.block_heap.proofs.PartialLemmas.{walk_begins, walk_serves, walk_halts, walk_goes, walk_fills, walk_more, walk_left}
+use Rattle.block_heap.proofs.PartialLemmas.{walk_begins, walk_serves, walk_halts, walk_goes, walk_fills, walk_more, walk_left, walk_takes, walk_nothing}
 use Rattle.block_heap.proofs.arena.Arena.take_partial.Goals as goal
 
 pub loop-init : goal.loop-init
@@ -41,7 +41,7 @@ pub loop-preserved : goal.loop-preserved
 loop-preserved g c =
     walk_more c.args.class (parts_of c.args.self.now) (parts_of c.loop.self) (parts_of c.take_first.new.self) c.requires.class c.loop.invariant
     c.take_first.ensures.serves c.take_first.ensures.held c.take_first.ensures.taken c.in_ok-take_first.ensures.fills c.in_ok-take_first.ensures.goes
-    c.in_ok-take_first.field-0 c.in-Recycled.is c.in_ok-take_first.ensures.ok c.in_ok-take_first.ensures.left
+    c.in_ok-take_first.field-0 c.in-Recycled.is c.in_ok-take_first.ensures.ok c.in_ok-take_first.ensures.order c.in_ok-take_first.ensures.left
 
 pub returns-in-Nothing-clause-fills : goal.returns-in-Nothing-clause-fills
 returns-in-Nothing-clause-fills g c =
@@ -69,3 +69,13 @@ returns-in-Nothing-clause-left g c =
     walk_left c.args.class (parts_of c.args.self.now) (parts_of c.loop.self) (parts_of c.take_first.new.self) c.requires.class c.loop.invariant
     c.take_first.ensures.serves c.take_first.ensures.held c.take_first.ensures.taken 0 c.in_ok-take_first.field-0 c.in_ok-take_first.ensures.left
     (subst (λ found. 0 ≤ used_up found) (sym c.in-Nothing.is) (omega arith))
+
+pub returns-in-Blocks-clause-order : goal.returns-in-Blocks-clause-order
+returns-in-Blocks-clause-order g c =
+    walk_takes c.args.class (parts_of c.args.self.now) (parts_of c.loop.self) (parts_of c.take_first.new.self) c.requires.class c.loop.invariant
+    c.take_first.ensures.serves c.take_first.ensures.held c.take_first.ensures.taken c.in_ok-take_first.field-0 c.in-Blocks.is c.in_ok-take_first.ensures.order
+
+pub returns-in-Nothing-clause-order : goal.returns-in-Nothing-clause-order
+returns-in-Nothing-clause-order g c =
+    walk_nothing c.args.class (parts_of c.args.self.now) (parts_of c.loop.self) (parts_of c.take_first.new.self) c.requires.class c.loop.invariant
+    c.take_first.ensures.serves c.take_first.ensures.held c.take_first.ensures.taken c.in_ok-take_first.field-0 c.in-Nothing.is c.in_ok-take_first.ensures.ok

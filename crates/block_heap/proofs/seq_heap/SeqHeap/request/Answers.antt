@@ -1,5 +1,6 @@
 use Rattle.std.proofs.Common.{ap, subst, ◌∙◌, IfOk, arith}
 use Rattle.block_heap.proofs.SeatLemmas.{few_drawn}
+use Rattle.block_heap.specs.Order.{ServesInOrder}
 use Rattle.block_heap.specs.Parts.{parts_of}
 use Rattle.block_heap.specs.SeqState.{SeqState}
 use Rattle.block_heap.specs.Serving.{DrainsAs}
@@ -32,3 +33,7 @@ returns-clause-words g c = request_words _ c.args.self.now (parts_of c.alloc-ans
 pub returns-clause-kept : goal.returns-clause-kept
 returns-clause-kept g c = fixed_request _ c.args.self.now _ c.self.invariant c.self.view_is c.alloc-answer.ensures.serves
     (let few = few_drawn c.alloc-answer.result 10001 _ _ c.alloc-answer.ensures.goes c.alloc-answer.ensures.stopped in omega arith)
+
+pub returns-clause-order : goal.returns-clause-order
+returns-clause-order g c = λ class least.
+    subst (λ (s : SeqState). IfOk c.alloc-answer.result (λ answer. ServesInOrder class answer s.parts (parts_of c.alloc-answer.new.self))) c.self.view_is (c.alloc-answer.ensures.order class least)

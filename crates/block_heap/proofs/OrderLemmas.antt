@@ -1,0 +1,112 @@
+-- In which list a superblock is, and how a request of a class comes to its block in order.
+use Rattle.std.proofs.Common.{◌≡◌, ℕ, ◌⊎◌, inl, inr, List, [], get_or, Contains, refl, ap, sym, subst, ◌∙◌}
+use Rattle.heap_model.specs.declared.block.Block.{Block}
+use Rattle.heap_model.specs.Geometry.{anchor_word, link_word, start_word}
+use Rattle.heap_model.specs.Sizes.{words_of_class, blocks_of}
+use Rattle.heap_model.specs.Words.{head_first, anchor_state, anchor_first, anchor_count}
+use Rattle.heap_model.proofs.MemberLemmas.{in_none}
+use Rattle.heap_model.proofs.PartLemmas.{same_fields}
+use Rattle.heap_shape.specs.Standing.{first_of}
+use Rattle.heap_shape.specs.Moves.{AddsTo}
+use Rattle.heap_shape.proofs.OwnLemmas.{one_following}
+use Rattle.block_heap.specs.declared.cache.Cache.{Cache}
+use Rattle.block_heap.specs.Lists.{head_at, IsEmptyList, LeadsAlong, IsInList, KeepsFree}
+use Rattle.block_heap.specs.Order.{HasNothing, TakesAll, CutsAll, FillsFrom, from_free_list, TakesFirst, MovesEmpty}
+use Rattle.block_heap.specs.Parts.{Parts, image_of, held_in, cache_at}
+use Rattle.block_heap.specs.Steps.{HandsOut}
+
+-- caches with the same first block and count are the same
+pub same_cache : (a b : Cache) → a.first ≡ b.first → a.count ≡ b.count → a ≡ b
+same_cache a b first count = ap (λ x. record { first = x; count = a.count }) first ∙ ap (λ n. record { first = b.first; count = n }) count
+
+-- what the head leads along is in the list
+pub in_list_along : (p : Parts) (list d : ℕ) (ds : List ℕ) → LeadsAlong p list ds → Contains ds d → IsInList p list d
+in_list_along p list d ds leads has es others =
+    subst (λ xs. Contains xs d) (one_following (λ e. image_of p (link_word e)) p.capacity (head_first (head_at p list)) ds es leads others) has
+
+-- where one list has all of another, it has each superblock of it
+pub list_kept : (p q : Parts) (list other : ℕ) (ds es : List ℕ) → LeadsAlong p list ds → LeadsAlong q other es
+    → ((d : ℕ) → Contains ds d → Contains es d) → (d : ℕ) → IsInList p list d → IsInList q other d
+list_kept p q list other ds es leads now all d before = in_list_along q other d es now (all d (before ds leads))
+
+-- lists stay where loads see the same
+pub list_same : (p q : Parts) (list d : ℕ) → q.capacity ≡ p.capacity → q.words.volatile ≡ p.words.volatile → IsInList p list d → IsInList q list d
+list_same p q list d capacity same before ds leads =
+    before ds (subst (λ n. LeadsAlong (record p { capacity = n }) list ds) capacity
+    (subst (λ (xs : List ℕ). LeadsAlong (record q { words = record q.words { volatile = xs } }) list ds) same leads))
+
+-- an empty list has nothing to give
+pub nothing_in_empty : (class : ℕ) (p : Parts) → IsEmptyList p class → HasNothing class p
+nothing_in_empty class p empty d listed = absurd (in_none d (listed [] empty))
+
+-- superblocks with all blocks free that went to the free list, in two rows of steps
+pub moves_none : (class : ℕ) (p : Parts) → MovesEmpty class p p
+moves_none class p = record {
+  capacity = refl;
+  anchors = λ d. refl;
+  was = λ d listed. listed;
+  nothing = λ none. none;
+  free = λ d listed. listed;
+  from = λ d listed. inr listed;
+}
+
+pub moves_then : (class : ℕ) (p q r : Parts) → MovesEmpty class p q → MovesEmpty class q r → MovesEmpty class p r
+moves_then class p q r a b = record {
+  capacity = b.capacity ∙ a.capacity;
+  anchors = λ d. b.anchors d ∙ a.anchors d;
+  was = λ d listed. a.was d (b.was d listed);
+  nothing = λ none. a.nothing (b.nothing none);
+  free = λ d listed. b.free d (a.free d listed);
+  from = λ d listed. elim (b.from d listed) as (λ _. IsInList p class d ⊎ IsInList p 0 d) [ inl before ↦ inl (a.was d before) | inr there ↦ a.from d there ];
+}
+
+-- and none where loads see the same
+pub moves_same : (class : ℕ) (p q : Parts) → q.capacity ≡ p.capacity → q.words.volatile ≡ p.words.volatile → MovesEmpty class p q
+moves_same class p q capacity same = record {
+  capacity = capacity;
+  anchors = λ d. ap (λ (xs : List ℕ). get_or xs (anchor_word d) 0) same;
+  was = λ d listed. list_same q p class d (sym capacity) (sym same) listed;
+  nothing = λ none d listed. ap (λ (xs : List ℕ). anchor_state (get_or xs (anchor_word d) 0)) (sym same) ∙ none d (list_same p q class d capacity same listed);
+  free = λ d listed. list_same p q 0 d capacity same listed;
+  from = λ d listed. inr (list_same q p 0 d (sym capacity) (sym same) listed);
+}
+
+-- a superblock whose free blocks were taken after that
+pub takes_after : (class d : ℕ) (p q r : Parts) → MovesEmpty class p q → q.taken ≡ p.taken → TakesAll class d q r → TakesAll class d p r
+takes_after class d p q r moves taken takes =
+    let same : image_of q (anchor_word d) ≡ image_of p (anchor_word d) = moves.anchors d in record {
+      listed = moves.was d takes.listed;
+      partial = ap anchor_state (sym same) ∙ takes.partial;
+      cache = takes.cache
+          ∙ ap (λ n. record { first = first_of n class d (anchor_first (image_of q (anchor_word d))); count = anchor_count (image_of q (anchor_word d)) }) moves.capacity
+          ∙ ap (λ a. record { first = first_of p.capacity class d (anchor_first a); count = anchor_count a }) same;
+      now = takes.now;
+      free = λ e listed. takes.free e (moves.free e listed);
+      taken = takes.taken ∙ taken;
+    }
+
+-- a superblock that was cut after steps that keep the free list
+pub cuts_after : (class d : ℕ) (p q r : Parts) → q.capacity ≡ p.capacity → KeepsFree p q → CutsAll class d q r → CutsAll class d p r
+cuts_after class d p q r capacity free cuts = record {
+  info = cuts.info;
+  cache = subst (λ n. cache_at r.caches class ≡ record { first = start_word n d; count = blocks_of class }) capacity cuts.cache;
+  free = λ e other listed. cuts.free e other (free e listed);
+}
+
+-- The list of the class had nothing to give.
+module _ (class : ℕ) (p a q : Parts) (moves : MovesEmpty class p a) (nothing : HasNothing class p) (taken : a.taken ≡ p.taken) where
+  -- a free superblock was cut
+  pub fills_free : (d : ℕ) → IsInList a 0 d → CutsAll class d a q → q.taken ≡ a.taken → FillsFrom class p q
+  fills_free d listed cuts same = from_free_list d nothing (moves.from d listed) (cuts_after class d p a q moves.capacity moves.free cuts) (same ∙ taken)
+
+-- the first block of the cache was handed out
+pub takes_first : (class : ℕ) (b : Block) (p q : Parts) → HandsOut class b p q → TakesFirst class p q
+takes_first class b p q hands = record {
+  held = subst (λ x. AddsTo x (held_in p) (held_in q))
+      (same_fields b (record { first_word = (cache_at p.caches class).first; words = words_of_class class }) hands.at hands.size) hands.adds;
+  next = hands.next ∙ ap (λ x. image_of p x) hands.at;
+  count = hands.count;
+  caches = hands.caches;
+  volatile = hands.volatile;
+  taken = hands.taken;
+}

@@ -1,0 +1,348 @@
+-- Where the blocks of a cache go as it is given back.
+use Rattle.std.proofs.Common.{◌≡◌, ◌≢◌, ℕ, ◌<◌, ◌≤◌, ◌⊎◌, inl, inr, nat_eq, eq-eqb, List, [], ◌∷◌, ◌++◌, length, get_or, set, Contains, refl, ap, sym, subst, ◌∙◌, arith, length-append, append-nil}
+use Rattle.std.proofs.lemmas.Bool.{cases_eq}
+use Rattle.std.proofs.lemmas.List.Elements.{Contains-append_left, Contains-append_right}
+use Rattle.heap_model.specs.declared.block.Block.{Block}
+use Rattle.heap_model.specs.Geometry.{lists}
+use Rattle.heap_model.specs.Sizes.{IsClass, blocks_of}
+use Rattle.heap_model.specs.Chains.{Walks}
+use Rattle.heap_model.proofs.CountingLemmas.{one_if_true, times_some}
+use Rattle.heap_model.proofs.MemberLemmas.{in_head, in_rest, head_or_rest}
+use Rattle.heap_model.proofs.SizeLemmas.{four_blocks}
+use Rattle.heap_shape.specs.Shape.{Shape, Place, in_list, stands_in, with_at}
+use Rattle.heap_shape.specs.Standing.{IsFirstOf}
+use Rattle.heap_shape.specs.Whole.{IsShape}
+use Rattle.heap_shape.specs.Effects.{IsInSuperblock}
+use Rattle.heap_shape.proofs.BasicLemmas.{with_at_same, with_at_other, first_inside, inside_one, in_class_list}
+use Rattle.line_memory.specs.View.{View, volatile_at}
+use Rattle.anchor_word.specs.declared.anchor.Anchor.{Anchor}
+use Rattle.anchor_word.specs.declared.anchor.State.TheVariants.{Full}
+use Rattle.block_heap.specs.declared.cache.Cache.{Cache}
+use Rattle.block_heap.specs.declared.small.Front.{Front}
+use Rattle.block_heap.specs.Batches.{IsGiven, IsGiveWord}
+use Rattle.block_heap.specs.Flush.{IsFront, KeepsAll}
+use Rattle.block_heap.specs.Links.{IsPushed, IsPushWord}
+use Rattle.block_heap.specs.Lists.{LeadsAlong, IsInList, KeepsFree}
+use Rattle.block_heap.specs.Medium.{StoresOnly}
+use Rattle.block_heap.specs.Parts.{Parts, image_of, held_in, cache_at}
+use Rattle.block_heap.specs.Returns.{CachesAlong, CachesAllOf, Flushes, IsLongest, GivesTo}
+use Rattle.block_heap.specs.Running.{IsRunning}
+use Rattle.block_heap.proofs.FlushLemmas.{split, rest_long, none_of_zero, front_fits, gave_listed, gave_shape, all_shape, some_shape}
+use Rattle.block_heap.proofs.OrderLemmas.{in_list_along, list_kept, list_same}
+use Rattle.block_heap.proofs.SmallLemmas.{changed}
+
+-- what is behind the front of a walk, and where a walk begins
+pub walk_behind : (next : ℕ → ℕ) (from : ℕ) (before : List ℕ) (last : ℕ) (rest : List ℕ) → Walks next from ((before ++ last ∷ []) ++ rest)
+    → Walks next (next last) rest
+walk_behind next from [] last rest walks = walks.1
+walk_behind next from (b ∷ before) last rest walks = walk_behind next (next b) before last rest walks.1
+
+pub walk_begin : (next : ℕ → ℕ) (from : ℕ) (words : List ℕ) → Walks next from words → 1 ≤ length words → Contains words from
+walk_begin next from [] walks some = absurd (omega arith)
+walk_begin next from (w ∷ ws) walks some = subst (λ x. Contains (w ∷ ws) x) (sym walks.0) (in_head w ws)
+
+-- walks along as many blocks from one block are one
+pub one_walk : (next : ℕ → ℕ) (from : ℕ) (xs ys : List ℕ) → Walks next from xs → Walks next from ys → length xs ≡ length ys → xs ≡ ys
+one_walk next from [] [] a b long = refl
+one_walk next from [] (y ∷ ys) a b long = absurd (omega arith)
+one_walk next from (x ∷ xs) [] a b long = absurd (omega arith)
+one_walk next from (x ∷ xs) (y ∷ ys) a b long =
+    let same : x ≡ y = sym a.0 ∙ b.0 in
+    let rest : xs ≡ ys = one_walk next (next x) xs ys a.1 (subst (λ z. Walks next (next z) ys) (sym same) b.1) (omega arith) in
+    ap (λ z. z ∷ xs) same ∙ ap (λ zs. y ∷ zs) rest
+
+-- a list with one more in front has what it had
+pub with_more : (f : ℕ → List ℕ) (at d list e : ℕ) → Contains (f list) e → Contains (with_at f at (d ∷ f at) list) e
+with_more f at d list e has = elim (cases_eq list at) as (λ _. Contains (with_at f at (d ∷ f at) list) e) [
+  | inl same ↦ subst (λ k. Contains (with_at f at (d ∷ f at) k) e) (sym same)
+      (subst (λ xs. Contains xs e) (sym (with_at_same f at (d ∷ f at))) (in_rest d e (f at) (subst (λ k. Contains (f k) e) same has)))
+  | inr other ↦ subst (λ xs. Contains xs e) (sym (with_at_other f at (d ∷ f at) list other)) has
+]
+
+-- a superblock that stands in a list is one of it
+pub listed_where : (capacity : ℕ) (image : ℕ → ℕ) (held : List Block) (s : Shape) → IsShape capacity image held s → (list d : ℕ) → list < lists
+    → s.place d ≡ in_list list → Contains (s.listed list) d
+listed_where capacity image held s shape list d below place =
+    let one : stands_in (s.place d) list ≡ 1 = ap (λ (at : Place). stands_in at list) place ∙ one_if_true (nat_eq list list) (eq-eqb list list refl) in
+    let count = shape.listed list d below in
+    times_some d (s.listed list) (omega arith)
+
+-- the cache of a running heap leads along that of its shape
+pub cached_along : (p : Parts) (class : ℕ) → IsClass class → (run : IsRunning p) → CachesAlong class p (run.shape.cached class)
+cached_along p class is run = record {
+  walks = subst (λ x. Walks (image_of p) x (run.shape.cached class)) (sym (run.caches class is).first) (run.is.walks class is);
+  count = (run.caches class is).count;
+}
+
+-- and along nothing else
+pub along_one : (p : Parts) (class : ℕ) (words : List ℕ) → IsClass class → (run : IsRunning p) → CachesAlong class p words → words ≡ run.shape.cached class
+along_one p class words is run along =
+    let here = cached_along p class is run in
+    one_walk (image_of p) (cache_at p.caches class).first words (run.shape.cached class) along.walks here.walks (sym along.count ∙ here.count)
+
+-- The front of the cache was given back.
+module _ (p : Parts) (class : ℕ) (is : IsClass class) (run : IsRunning p) (front : Front) (is_front : IsFront class front p)
+    (w : View) (anchor : Anchor) (given : IsGiven p.capacity class front.d front.batch anchor p.words w)
+    (stores : StoresOnly (IsGiveWord front.d front.batch) p.words w) where
+  below : class < lists
+  below = let last = is.last in omega arith
+
+  free_leads : LeadsAlong p 0 (run.shape.listed 0)
+  free_leads = run.is.follows 0 (omega arith)
+
+  class_leads : LeadsAlong p class (run.shape.listed class)
+  class_leads = run.is.follows class below
+
+  abbrev parts_with : View → Parts
+  parts_with v = changed p v (set p.caches class front.rest) p.blocks
+
+  -- to a superblock that has some of its blocks free
+  module _ (other : anchor.state ≢ Full) where
+    stands : run.shape.place front.d ≡ in_list class
+    stands = gave_listed p class is run front is_front w anchor given stores other
+
+    not_all : front.batch.count ≢ blocks_of class
+    not_all all =
+        let of = in_class_list p.capacity (image_of p) (held_in p) run.shape run.is class front.d is is_front.within stands in
+        let some = of.some in
+        let count = of.of_class.count in
+        let fits = front_fits p class is run front is_front in
+        omega arith
+
+    class_now : LeadsAlong (parts_with w) class (run.shape.listed class)
+    class_now = (gave_shape p class is run front is_front w anchor given stores other).follows class below
+
+    free_now : LeadsAlong (parts_with w) 0 (run.shape.listed 0)
+    free_now = (gave_shape p class is run front is_front w anchor given stores other).follows 0 (omega arith)
+
+    pub gave_to : GivesTo class front p (parts_with w)
+    gave_to = record {
+      free = list_kept p (parts_with w) 0 0 (run.shape.listed 0) (run.shape.listed 0) free_leads free_now (λ d has. has);
+      listed = list_kept p (parts_with w) class class (run.shape.listed class) (run.shape.listed class) class_leads class_now (λ d has. has);
+      all = λ all. absurd (not_all all);
+      some = λ some. in_list_along (parts_with w) class front.d (run.shape.listed class) class_now
+          (listed_where p.capacity (image_of p) (held_in p) run.shape run.is class front.d below stands);
+      only = λ d there. inl (list_kept (parts_with w) p 0 0 (run.shape.listed 0) (run.shape.listed 0) free_now free_leads (λ e has. has) d there);
+    }
+
+  -- to a full one, which went to a list
+  module _ (full : anchor.state ≡ Full) (list : ℕ) (x : View) (pushed : IsPushed list front.d w x) (push_stores : StoresOnly (IsPushWord list front.d) w x)
+      (list_below : list < lists) (t : Shape) (shape : IsShape p.capacity (λ word. volatile_at x word) (held_in p) t)
+      (listed : (l : ℕ) → t.listed l ≡ with_at run.shape.listed list (front.d ∷ run.shape.listed list) l) where
+    now_leads : (l : ℕ) → l < lists → LeadsAlong (parts_with x) l (with_at run.shape.listed list (front.d ∷ run.shape.listed list) l)
+    now_leads l less = subst (λ (ds : List ℕ). LeadsAlong (parts_with x) l ds) (listed l) (shape.follows l less)
+
+    kept_in : (l : ℕ) → l < lists → (d : ℕ) → IsInList p l d → IsInList (parts_with x) l d
+    kept_in l less = list_kept p (parts_with x) l l (run.shape.listed l) (with_at run.shape.listed list (front.d ∷ run.shape.listed list) l)
+        (run.is.follows l less) (now_leads l less) (with_more run.shape.listed list front.d l)
+
+    here : IsInList (parts_with x) list front.d
+    here = in_list_along (parts_with x) list front.d (with_at run.shape.listed list (front.d ∷ run.shape.listed list) list) (now_leads list list_below)
+        (subst (λ ds. Contains ds front.d) (sym (with_at_same run.shape.listed list (front.d ∷ run.shape.listed list))) (in_head front.d (run.shape.listed list)))
+
+    free_only : (d : ℕ) → IsInList (parts_with x) 0 d → IsInList p 0 d ⊎ ((d ≡ front.d) × (list ≡ 0))
+    free_only d there =
+        let has = there (with_at run.shape.listed list (front.d ∷ run.shape.listed list) 0) (now_leads 0 (omega arith)) in
+        elim (cases_eq 0 list) as (λ _. IsInList p 0 d ⊎ ((d ≡ front.d) × (list ≡ 0))) [
+          | inr other ↦ inl (in_list_along p 0 d (run.shape.listed 0) free_leads
+              (subst (λ ds. Contains ds d) (with_at_other run.shape.listed list (front.d ∷ run.shape.listed list) 0 other) has))
+          | inl same ↦
+              let at : with_at run.shape.listed list (front.d ∷ run.shape.listed list) 0 ≡ front.d ∷ run.shape.listed list =
+              subst (λ k. with_at run.shape.listed list (front.d ∷ run.shape.listed list) k ≡ front.d ∷ run.shape.listed list) (sym same)
+              (with_at_same run.shape.listed list (front.d ∷ run.shape.listed list)) in
+              elim (head_or_rest front.d d (run.shape.listed list) (subst (λ ds. Contains ds d) at has)) as (λ _. IsInList p 0 d ⊎ ((d ≡ front.d) × (list ≡ 0))) [
+                | inl one ↦ inr (sym one, sym same)
+                | inr before ↦ inl (in_list_along p 0 d (run.shape.listed 0) free_leads (subst (λ k. Contains (run.shape.listed k) d) (sym same) before))
+              ]
+        ]
+
+    listed_all : front.batch.count ≡ blocks_of class → list ≡ 0 → GivesTo class front p (parts_with x)
+    listed_all all same = record {
+      free = kept_in 0 (omega arith);
+      listed = kept_in class below;
+      all = λ _. subst (λ k. IsInList (parts_with x) k front.d) same here;
+      some = λ some. absurd (some all);
+      only = λ d there. elim (free_only d there) as (λ _. IsInList p 0 d ⊎ ((d ≡ front.d) × (front.batch.count ≡ blocks_of class)))
+          [ inl before ↦ inl before | inr now ↦ inr (now.0, all) ];
+    }
+
+    listed_some : front.batch.count ≢ blocks_of class → list ≡ class → GivesTo class front p (parts_with x)
+    listed_some some same = record {
+      free = kept_in 0 (omega arith);
+      listed = kept_in class below;
+      all = λ all. absurd (some all);
+      some = λ _. subst (λ k. IsInList (parts_with x) k front.d) same here;
+      only = λ d there. elim (free_only d there) as (λ _. IsInList p 0 d ⊎ ((d ≡ front.d) × (front.batch.count ≡ blocks_of class)))
+          [ inl before ↦ inl before | inr now ↦ absurd (let from = is.some in let zero = now.1 in omega arith) ];
+    }
+
+  module _ (full : anchor.state ≡ Full) (list : ℕ) (x : View) (pushed : IsPushed list front.d w x) (push_stores : StoresOnly (IsPushWord list front.d) w x) where
+    pub all_to : front.batch.count ≡ blocks_of class → list ≡ 0 → GivesTo class front p (parts_with x)
+    all_to all same = listed_all full list x pushed push_stores (omega arith) _
+        (all_shape p class is run front is_front w anchor given stores full list x pushed push_stores all same)
+        (λ l. ap (λ k. with_at run.shape.listed k (front.d ∷ run.shape.listed k) l) (sym same)) all same
+
+    pub some_to : front.batch.count ≢ blocks_of class → list ≡ class → GivesTo class front p (parts_with x)
+    some_to some same = listed_some full list x pushed push_stores (let under = below in omega arith) _
+        (some_shape p class is run front is_front w anchor given stores full list x pushed push_stores some same)
+        (λ l. ap (λ k. with_at run.shape.listed k (front.d ∷ run.shape.listed k) l) (sym same)) some same
+
+-- the cache is the same where loads see the same
+pub only_same : (class d : ℕ) (p q : Parts) → q.capacity ≡ p.capacity → q.words.volatile ≡ p.words.volatile → cache_at q.caches class ≡ cache_at p.caches class
+    → CachesAllOf class d p → CachesAllOf class d q
+only_same class d p q capacity same cache all = (
+  ap (λ (x : Cache). x.count) cache ∙ all.0,
+  λ words along word has. subst (λ n. IsFirstOf n class d word) (sym capacity) (all.1 words (record {
+    walks = subst (λ (xs : List ℕ). Walks (λ k. get_or xs k 0) (cache_at p.caches class).first words) same
+        (subst (λ (x : Cache). Walks (image_of q) x.first words) cache along.walks);
+    count = ap (λ (x : Cache). x.count) (sym cache) ∙ along.count;
+  }) word has),
+)
+
+-- Where the longest front is all of the cache, it is all of a superblock.
+module _ (p : Parts) (class : ℕ) (is : IsClass class) (run : IsRunning p) (front : Front) (is_front : IsFront class front p) where
+  abbrev whole : List ℕ
+  whole = is_front.before ++ front.batch.last ∷ []
+
+  abbrev rest : List ℕ
+  rest = (split p class is run front is_front).0
+
+  cached_is : run.shape.cached class ≡ whole ++ rest
+  cached_is = (split p class is run front is_front).1
+
+  cached_walk : Walks (image_of p) (cache_at p.caches class).first (whole ++ rest)
+  cached_walk = subst (λ ws. Walks (image_of p) (cache_at p.caches class).first ws) cached_is (cached_along p class is run).walks
+
+  first_in : Contains whole (cache_at p.caches class).first
+  first_in = walk_begin (image_of p) (cache_at p.caches class).first whole is_front.walks
+      (let both = length-append is_front.before (front.batch.last ∷ []) in omega arith)
+
+  -- a cache with all blocks of a superblock has them in its longest front
+  pub all_in_front : IsLongest front p → (d : ℕ) → CachesAllOf class d p → (front.batch.count ≡ blocks_of class) × (front.d ≡ d)
+  all_in_front longest d all = (counted, sym one) where
+    in_all : (word : ℕ) → Contains (whole ++ rest) word → IsFirstOf p.capacity class d word
+    in_all word has = all.1 (run.shape.cached class) (cached_along p class is run) word (subst (λ ws. Contains ws word) (sym cached_is) has)
+
+    same_superblock : (word : ℕ) → IsFirstOf p.capacity class d word → IsFirstOf p.capacity class front.d word → d ≡ front.d
+    same_superblock word a b = inside_one p.capacity d front.d word (first_inside p.capacity class d word is a) (first_inside p.capacity class front.d word is b)
+
+    one : d ≡ front.d
+    one = same_superblock (cache_at p.caches class).first (in_all (cache_at p.caches class).first (Contains-append_left whole rest (cache_at p.caches class).first first_in)) (is_front.firsts (cache_at p.caches class).first first_in)
+
+    none_behind : front.rest.count ≡ 0
+    none_behind = elim longest as (λ _. front.rest.count ≡ 0) [
+      | inl none ↦ none
+      | inr outside ↦ elim (cases_eq front.rest.count 0) as (λ _. front.rest.count ≡ 0) [
+        | inl none ↦ none
+        | inr some ↦
+            let long = rest_long p class is run front is_front in
+            let behind : Walks (image_of p) (image_of p front.batch.last) rest =
+            walk_behind (image_of p) (cache_at p.caches class).first is_front.before front.batch.last rest cached_walk in
+            let next : Contains rest (image_of p front.batch.last) = walk_begin (image_of p) (image_of p front.batch.last) rest behind (omega arith) in
+            let first = in_all (image_of p front.batch.last) (Contains-append_right whole rest (image_of p front.batch.last) next) in
+            let inside : IsInSuperblock p.capacity front.d (image_of p front.batch.last) =
+            subst (λ k. IsInSuperblock p.capacity k (image_of p front.batch.last)) one (first_inside p.capacity class d (image_of p front.batch.last) is first) in
+            absurd (outside (subst (λ word. IsInSuperblock p.capacity front.d word) (sym is_front.next) inside))
+      ]
+    ]
+
+    counted : front.batch.count ≡ blocks_of class
+    counted = let left = is_front.rest in let none = none_behind in let count = all.0 in omega arith
+
+  -- and a front of as many blocks is all that the cache has
+  pub front_is_all : front.batch.count ≡ blocks_of class → CachesAllOf class front.d p
+  front_is_all count = (
+    full,
+    λ words along word has. is_front.firsts word
+        (subst (λ ws. Contains ws word) only (subst (λ ws. Contains ws word) (along_one p class words is run along) has)),
+  ) where
+    most : (cache_at p.caches class).count ≤ blocks_of class
+    most = (run.caches class is).most
+
+    full : (cache_at p.caches class).count ≡ blocks_of class
+    full = let left = is_front.rest in let few = most in omega arith
+
+    none : rest ≡ []
+    none = none_of_zero rest (let long = rest_long p class is run front is_front in let left = is_front.rest in let few = most in omega arith)
+
+    only : run.shape.cached class ≡ whole
+    only = cached_is ∙ ap (λ ws. whole ++ ws) none ∙ append-nil whole
+
+-- a part of the cache was given back: none was yet, or the cache is shorter, and what it had all blocks of is in the free list
+pub record FlushesSoFar (class : ℕ) (p q : Parts) : Type 0 where
+  pub free : KeepsFree p q
+  pub listed : (d : ℕ) → IsInList p class d → IsInList q class d
+  pub only : (d : ℕ) → IsInList q 0 d → IsInList p 0 d ⊎ CachesAllOf class d p
+  pub way : ((q.capacity ≡ p.capacity) × (q.words.volatile ≡ p.words.volatile) × (cache_at q.caches class ≡ cache_at p.caches class))
+      ⊎ (((cache_at q.caches class).count < (cache_at p.caches class).count) × ((d : ℕ) → CachesAllOf class d p → IsInList q 0 d))
+
+pub flushes_none : (class : ℕ) (p : Parts) → FlushesSoFar class p p
+flushes_none class p = record { free = λ d there. there; listed = λ d there. there; only = λ d there. inl there; way = inl (refl, refl, refl) }
+
+-- one front more
+module _ (class : ℕ) (p q r t : Parts) (is : IsClass class) (most : (cache_at p.caches class).count ≤ blocks_of class) (before : FlushesSoFar class p q)
+    (capacity : r.capacity ≡ q.capacity) (volatile : r.words.volatile ≡ q.words.volatile) (cache : cache_at r.caches class ≡ cache_at q.caches class)
+    (run : IsRunning r) (front : Front) (is_front : IsFront class front r) (longest : IsLongest front r) (some : 1 ≤ front.batch.count)
+    (to : GivesTo class front r t) (back : cache_at t.caches class ≡ front.rest) where
+  loaded : (list d : ℕ) → IsInList q list d → IsInList r list d
+  loaded list d there = list_same q r list d capacity volatile there
+
+  shorter : (cache_at t.caches class).count < (cache_at q.caches class).count
+  shorter =
+      let now : (cache_at t.caches class).count ≡ front.rest.count = ap (λ (x : Cache). x.count) back in
+      let was : (cache_at r.caches class).count ≡ (cache_at q.caches class).count = ap (λ (x : Cache). x.count) cache in
+      let left = is_front.rest in
+      omega arith
+
+  was_all : front.batch.count ≡ blocks_of class → CachesAllOf class front.d p
+  was_all count = elim before.way as (λ _. CachesAllOf class front.d p) [
+    | inl same ↦ only_same class front.d r p (sym (capacity ∙ same.0)) (sym (volatile ∙ same.1)) (sym (cache ∙ same.2))
+        (front_is_all r class is run front is_front count)
+    | inr less ↦ absurd (
+        let was : (cache_at r.caches class).count ≡ (cache_at q.caches class).count = ap (λ (x : Cache). x.count) cache in
+        let left = is_front.rest in
+        let fewer = less.0 in
+        omega arith)
+  ]
+
+  now_free : (d : ℕ) → CachesAllOf class d p → IsInList t 0 d
+  now_free d all = elim before.way as (λ _. IsInList t 0 d) [
+    | inl same ↦
+        let found = all_in_front r class is run front is_front longest d (only_same class d p r (capacity ∙ same.0) (volatile ∙ same.1) (cache ∙ same.2) all) in
+        subst (λ k. IsInList t 0 k) found.1 (to.all found.0)
+    | inr less ↦ to.free d (loaded 0 d (less.1 d all))
+  ]
+
+  pub flushes_more : FlushesSoFar class p t
+  flushes_more = record {
+    free = λ d there. to.free d (loaded 0 d (before.free d there));
+    listed = λ d there. to.listed d (loaded class d (before.listed d there));
+    only = λ d there. elim (to.only d there) as (λ _. IsInList p 0 d ⊎ CachesAllOf class d p) [
+      | inl was ↦ before.only d (list_same r q 0 d (sym capacity) (sym volatile) was)
+      | inr now ↦ inr (subst (λ k. CachesAllOf class k p) (sym now.0) (was_all now.1))
+    ];
+    way = inr (
+      elim before.way as (λ _. (cache_at t.caches class).count < (cache_at p.caches class).count) [
+        | inl same ↦ let count : (cache_at q.caches class).count ≡ (cache_at p.caches class).count = ap (λ (x : Cache). x.count) same.2 in let less = shorter in omega arith
+        | inr fewer ↦ let less = shorter in omega (arith, fewer.0)
+      ],
+      now_free,
+    );
+  }
+
+-- all was given back
+pub flushes_all : (class : ℕ) (p q : Parts) → IsClass class → FlushesSoFar class p q → KeepsAll class p q → (cache_at q.caches class).count ≡ 0 → Flushes class p q
+flushes_all class p q is so_far keeps empty = record {
+  empty = empty;
+  caches = keeps.caches;
+  free = so_far.free;
+  listed = so_far.listed;
+  all = λ d all. elim so_far.way as (λ _. IsInList q 0 d) [
+    | inl same ↦ absurd (
+        let count : (cache_at q.caches class).count ≡ (cache_at p.caches class).count = ap (λ (x : Cache). x.count) same.2 in
+        let four = four_blocks class is in
+        omega (arith, all.0))
+    | inr done ↦ done.1 d all
+  ];
+  only = so_far.only;
+}

@@ -1,0 +1,25 @@
+-- The lists of descriptors of an open heap: list 0 is that of the free superblocks, the others are those of the classes.
+use Rattle.std.specs.Prelude.{◌≡◌, ℕ, List, Contains}
+use Rattle.heap_model.specs.Geometry.{head_word, link_word}
+use Rattle.heap_model.specs.Words.{head_first}
+use Rattle.heap_model.specs.Chains.{Follows}
+use Rattle.block_heap.specs.Parts.{Parts, image_of}
+
+abbrev pub head_at : Parts → ℕ → ℕ
+head_at p list = image_of p (head_word list)
+
+-- the list has no descriptor
+abbrev pub IsEmptyList : Parts → ℕ → Type 0
+IsEmptyList p list = head_first (head_at p list) ≡ 0
+
+-- the head leads along these descriptors
+abbrev pub LeadsAlong : Parts → ℕ → List ℕ → Type 0
+LeadsAlong p list ds = Follows (λ d. image_of p (link_word d)) p.capacity (head_first (head_at p list)) ds
+
+-- superblock d is in the list
+abbrev pub IsInList : Parts → ℕ → ℕ → Type 0
+IsInList p list d = (ds : List ℕ) → LeadsAlong p list ds → Contains ds d
+
+-- the free list loses none
+abbrev pub KeepsFree : Parts → Parts → Type 0
+KeepsFree p q = (d : ℕ) → IsInList p 0 d → IsInList q 0 d

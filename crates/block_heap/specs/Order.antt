@@ -1,0 +1,93 @@
+-- Where a request of a class gets its block.
+use Rattle.std.specs.Prelude.{◌≡◌, ◌≢◌, ℕ, ◌+◌, ◌≤◌, ◌⊎◌, ⊤, Bool, true, false, Option, MatchOption}
+use Rattle.heap_model.specs.declared.block.Block.{Block}
+use Rattle.heap_model.specs.Geometry.{anchor_word, info_word, used_word, start_word}
+use Rattle.heap_model.specs.Sizes.{IsClass, blocks_of, words_of_class}
+use Rattle.heap_model.specs.Words.{anchor_state, anchor_first, anchor_count, empty_state, partial_state, full_anchor}
+use Rattle.heap_shape.specs.Standing.{first_of}
+use Rattle.heap_shape.specs.Moves.{AddsTo}
+use Rattle.block_heap.specs.declared.refill.Found.{Found}
+use Rattle.block_heap.specs.declared.refill.Found.TheVariants.{Blocks, Recycled, Nothing}
+use Rattle.block_heap.specs.Lists.{IsEmptyList, IsInList, KeepsFree}
+use Rattle.block_heap.specs.Parts.{Parts, image_of, held_in, cache_at}
+
+-- each superblock in the list of the class has all its blocks free: the list has nothing to give
+abbrev pub HasNothing : ℕ → Parts → Type 0
+HasNothing class p = (d : ℕ) → IsInList p class d → anchor_state (image_of p (anchor_word d)) ≡ empty_state
+
+-- superblock d of the list of the class has blocks in use, and all that it had free are in the cache
+pub record TakesAll (class d : ℕ) (p q : Parts) : Type 0 where
+  pub listed : IsInList p class d
+  pub partial : anchor_state (image_of p (anchor_word d)) ≡ partial_state
+  pub cache : cache_at q.caches class ≡ record {
+    first = first_of p.capacity class d (anchor_first (image_of p (anchor_word d)));
+    count = anchor_count (image_of p (anchor_word d));
+  }
+  pub now : image_of q (anchor_word d) ≡ full_anchor
+  pub free : KeepsFree p q
+  pub taken : q.taken ≡ p.taken
+
+-- superblock d is cut for the class, and all its blocks are in the cache; no other leaves the free list
+pub record CutsAll (class d : ℕ) (p q : Parts) : Type 0 where
+  pub info : image_of q (info_word d) ≡ class
+  pub cache : cache_at q.caches class ≡ record { first = start_word p.capacity d; count = blocks_of class }
+  pub free : (e : ℕ) → e ≢ d → IsInList p 0 e → IsInList q 0 e
+
+-- where the empty cache of a class is filled from: its list; if that has nothing to give a free superblock, which may have been in it; if there is none a superblock that was never taken
+pub data FillsFrom (class : ℕ) (p q : Parts) : Type 0 where
+  from_class_list : (d : ℕ) → TakesAll class d p q → FillsFrom class p q
+  from_free_list : (d : ℕ) → HasNothing class p → IsInList p class d ⊎ IsInList p 0 d → CutsAll class d p q → q.taken ≡ p.taken
+      → FillsFrom class p q
+  from_fresh : IsEmptyList p class → IsEmptyList p 0 → CutsAll class (image_of p used_word) p q → q.taken ≡ p.taken + 1
+      → FillsFrom class p q
+
+-- the cache has blocks, or is filled
+pub data Stocked (class : ℕ) (p q : Parts) : Type 0 where
+  in_stock : 1 ≤ (cache_at p.caches class).count → q ≡ p → Stocked class p q
+  is_filled : (cache_at p.caches class).count ≡ 0 → held_in q ≡ held_in p → FillsFrom class p q → Stocked class p q
+
+-- the first block of the cache left it and is held: no word is stored to, and the other caches stay
+pub record TakesFirst (class : ℕ) (p q : Parts) : Type 0 where
+  pub held : AddsTo (record { first_word = (cache_at p.caches class).first; words = words_of_class class }) (held_in p) (held_in q)
+  pub next : (cache_at q.caches class).first ≡ image_of p (cache_at p.caches class).first
+  pub count : (cache_at q.caches class).count + 1 ≡ (cache_at p.caches class).count
+  pub caches : (c : ℕ) → IsClass c → c ≢ class → cache_at q.caches c ≡ cache_at p.caches c
+  pub volatile : q.words.volatile ≡ p.words.volatile
+  pub taken : q.taken ≡ p.taken
+
+-- a request of the class is served from the cache, which is filled first if it is empty
+pub record IsServed (class : ℕ) (p r : Parts) : Type 0 where
+  pub between : Parts
+  pub stocked : Stocked class p between
+  pub takes : TakesFirst class between r
+
+abbrev pub ServesInOrder : ℕ → Option Block → Parts → Parts → Type 0
+ServesInOrder class answer p q = MatchOption answer ⊤ (λ _. IsServed class p q)
+
+-- superblocks with all their blocks free went from the list of the class to the free list
+pub record MovesEmpty (class : ℕ) (p q : Parts) : Type 0 where
+  pub capacity : q.capacity ≡ p.capacity
+  pub anchors : (d : ℕ) → image_of q (anchor_word d) ≡ image_of p (anchor_word d)
+  pub was : (d : ℕ) → IsInList q class d → IsInList p class d
+  pub nothing : HasNothing class q → HasNothing class p
+  pub free : KeepsFree p q
+  pub from : (d : ℕ) → IsInList q 0 d → IsInList p class d ⊎ IsInList p 0 d
+
+-- what was found first in the list of the class, and what after all with nothing to give had left it
+abbrev pub OrdersFirst : ℕ → Found → Parts → Parts → Type 0
+OrdersFirst class Blocks p q = (d : ℕ) × TakesAll class d p q
+OrdersFirst class Recycled p q = MovesEmpty class p q
+OrdersFirst class Nothing p q = ⊤
+
+abbrev pub OrdersPartial : ℕ → Bool → Parts → Parts → Type 0
+OrdersPartial class true p q = (d : ℕ) × TakesAll class d p q
+OrdersPartial class false p q = MovesEmpty class p q × HasNothing class p
+
+-- a free superblock was cut, or one that was never taken
+abbrev pub OrdersFree : ℕ → Bool → Parts → Parts → Type 0
+OrdersFree class true p q = (d : ℕ) × IsInList p 0 d × CutsAll class d p q
+OrdersFree class false p q = ⊤
+
+abbrev pub OrdersFresh : ℕ → Bool → Parts → Parts → Type 0
+OrdersFresh class true p q = CutsAll class (image_of p used_word) p q × (q.taken ≡ p.taken + 1)
+OrdersFresh class false p q = ⊤

@@ -1,0 +1,79 @@
+-- Where freed blocks go.
+use Rattle.std.specs.Prelude.{◌≡◌, ◌≢◌, ℕ, ◌+◌, ◌<◌, ◌⊎◌, List, length, slice_set, Contains}
+use Rattle.heap_model.specs.declared.block.Block.{Block}
+use Rattle.heap_model.specs.Sizes.{IsClass, blocks_of, words_of_class}
+use Rattle.heap_model.specs.Recovered.{HasPartIn}
+use Rattle.heap_model.specs.Chains.{Walks}
+use Rattle.heap_shape.specs.Standing.{IsFirstOf}
+use Rattle.heap_shape.specs.Effects.{IsInSuperblock}
+use Rattle.block_heap.specs.declared.small.Front.{Front}
+use Rattle.block_heap.specs.Lists.{IsInList, KeepsFree}
+use Rattle.block_heap.specs.Parts.{Parts, image_of, cache_at}
+
+-- the cache of the class leads along these blocks
+pub record CachesAlong (class : ℕ) (p : Parts) (words : List ℕ) : Type 0 where
+  pub walks : Walks (image_of p) (cache_at p.caches class).first words
+  pub count : (cache_at p.caches class).count ≡ length words
+
+-- it has no blocks but those of superblock d
+abbrev pub CachesOnlyOf : ℕ → ℕ → Parts → Type 0
+CachesOnlyOf class d p = (words : List ℕ) → CachesAlong class p words
+    → (word : ℕ) → Contains words word → IsFirstOf p.capacity class d word
+
+-- it has exactly the blocks of superblock d
+abbrev pub CachesAllOf : ℕ → ℕ → Parts → Type 0
+CachesAllOf class d p = ((cache_at p.caches class).count ≡ blocks_of class) × CachesOnlyOf class d p
+
+-- the block that begins at the word is in front of the cache: no other cache and no other word is changed
+pub record CachesBlock (class word : ℕ) (p q : Parts) : Type 0 where
+  pub cache : cache_at q.caches class ≡ record { first = word; count = (cache_at p.caches class).count + 1 }
+  pub caches : (c : ℕ) → IsClass c → c ≢ class → cache_at q.caches c ≡ cache_at p.caches c
+  pub volatile : q.words.volatile ≡ slice_set p.words.volatile word (cache_at p.caches class).first
+
+-- the cache was given back: a superblock came to the free list exactly where the cache had exactly its blocks, and no list loses one
+pub record Flushes (class : ℕ) (p q : Parts) : Type 0 where
+  pub empty : (cache_at q.caches class).count ≡ 0
+  pub caches : (c : ℕ) → IsClass c → c ≢ class → cache_at q.caches c ≡ cache_at p.caches c
+  pub free : KeepsFree p q
+  pub listed : (d : ℕ) → IsInList p class d → IsInList q class d
+  pub all : (d : ℕ) → CachesAllOf class d p → IsInList q 0 d
+  pub only : (d : ℕ) → IsInList q 0 d → IsInList p 0 d ⊎ CachesAllOf class d p
+
+-- a freed block goes in front of the cache, which is given back where it has as many blocks then as a superblock
+pub data FreesInClass (class word : ℕ) (p r : Parts) : Type 0 where
+  below_limit : (cache_at p.caches class).count + 1 < blocks_of class → CachesBlock class word p r → FreesInClass class word p r
+  at_limit : (q : Parts) → (cache_at p.caches class).count + 1 ≡ blocks_of class → CachesBlock class word p q → Flushes class q r
+      → FreesInClass class word p r
+
+-- so where the cache had exactly the other blocks of its superblock, that is in the free list
+pub record FreesSmall (class word : ℕ) (p r : Parts) : Type 0 where
+  pub goes : FreesInClass class word p r
+  pub all : (d : ℕ) → IsFirstOf p.capacity class d word → (cache_at p.caches class).count + 1 ≡ blocks_of class
+      → CachesOnlyOf class d p → IsInList r 0 d
+
+-- the superblocks of a freed large block are in the free list
+pub record FreesLarge (b : Block) (p q : Parts) : Type 0 where
+  pub all : (d : ℕ) → HasPartIn p.capacity b d → IsInList q 0 d
+  pub free : KeepsFree p q
+  pub caches : q.caches ≡ p.caches
+
+-- where a freed block goes, by its size
+pub record ComesBack (b : Block) (p q : Parts) : Type 0 where
+  pub in_class : (class : ℕ) → IsClass class → b.words ≡ words_of_class class → FreesSmall class b.first_word p q
+  pub as_large : ((class : ℕ) → IsClass class → b.words ≢ words_of_class class) → FreesLarge b p q
+
+-- no longer front of the cache lies in its superblock
+abbrev pub IsLongest : Front → Parts → Type 0
+IsLongest front p = (front.rest.count ≡ 0) ⊎ (IsInSuperblock p.capacity front.d front.rest.first → ⊥)
+
+-- the superblock that got the front is in the free list if it got all its blocks, and else in that of the class; no list loses one
+pub record GivesTo (class : ℕ) (front : Front) (p q : Parts) : Type 0 where
+  pub free : KeepsFree p q
+  pub listed : (d : ℕ) → IsInList p class d → IsInList q class d
+  pub all : front.batch.count ≡ blocks_of class → IsInList q 0 front.d
+  pub some : front.batch.count ≢ blocks_of class → IsInList q class front.d
+  pub only : (d : ℕ) → IsInList q 0 d → IsInList p 0 d ⊎ ((d ≡ front.d) × (front.batch.count ≡ blocks_of class))
+
+-- superblock d is in the free list, which loses none
+abbrev pub FreesOne : ℕ → Parts → Parts → Type 0
+FreesOne d p q = IsInList q 0 d × KeepsFree p q
