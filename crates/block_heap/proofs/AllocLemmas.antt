@@ -2,7 +2,7 @@
 use Rattle.std.proofs.Common.{◌≡◌, ◌≢◌, ℕ, ◌+◌, ◌*◌, ◌<◌, ◌≤◌, inl, inr, true, cond, nat_le, Option, None, Some, Result, Ok, Err, IfOk, OnOk, List, [], ◌∷◌, length, get_or, Contains, refl, ap, sym, subst, ◌∙◌, arith}
 use Rattle.std.proofs.lemmas.Bool.{agree_below, cases_eq, cond-true, le-leb, leb-true}
 use Rattle.heap_model.specs.declared.block.Block.{Block}
-use Rattle.heap_model.specs.Geometry.{link_word}
+use Rattle.heap_model.specs.Geometry.{link_word, superblock_words, largest_capacity}
 use Rattle.heap_model.specs.Sizes.{IsClass, IsLeastClassFor, class_sizes, size_of, words_of_class, blocks_of, largest_small, span_of}
 use Rattle.heap_model.specs.Words.{head_first}
 use Rattle.heap_model.specs.Blocks.{Begins, of_class, as_large, IsBlock}
@@ -23,7 +23,7 @@ use Rattle.block_heap.specs.Lists.{head_at}
 use Rattle.block_heap.specs.Steps.{Fills, HandsOut}
 use Rattle.block_heap.specs.Large.{JoinsAs}
 use Rattle.block_heap.proofs.SplitLemmas.{serves_then}
-use Rattle.block_heap.specs.Serving.{HasRoom, HasRoomFor, for_class, for_large, LookedInClass, FindsNone, GetsInClass, AnswersInClass, Answers, DrainsTo, DrainsNone}
+use Rattle.block_heap.specs.Serving.{HasRoom, in_cache, in_class_list, in_free_list, in_fresh, HasRoomFor, for_class, for_large, LookedInClass, FindsNone, GetsInClass, AnswersInClass, Answers, DrainsTo, DrainsNone}
 
 -- a request that a class serves is small
 pub least_small : (bytes class : ℕ) → IsLeastClassFor bytes class → bytes ≤ largest_small
@@ -41,7 +41,7 @@ one_least bytes class other a b =
     omega arith
 
 -- a class of no larger blocks is no later one
-no_later : (c class : ℕ) → IsClass c → IsClass class → size_of c ≤ size_of class → c ≤ class
+pub no_later : (c class : ℕ) → IsClass c → IsClass class → size_of c ≤ size_of class → c ≤ class
 unfolding size_of class_sizes
 no_later c class is_c is less =
     leb-true c class (sym (cond-true (nat_le (size_of c) (size_of class)) (nat_le c class) true (le-leb (size_of c) (size_of class) less)) ∙ row)
@@ -98,6 +98,13 @@ drains_nothing class p q is capacity fills finds drainable b drained =
     leads_nowhere (λ d. image_of q (link_word d)) q.capacity (head_first (head_at q 0)) (run.shape.listed 0) looked.free_empty (run.is.follows 0 (omega arith)) in
     drained_none p.capacity class (image_of q) (held_in p) run.shape is shape cached listed free (let past = looked.past in omega arith) (fills.drains.drainable drainable) b
     (fills.drains.has b drained)
+
+-- and there is no room after it too
+pub still_none : (class : ℕ) (p q : Parts) → FindsNone class p q → HasRoom q class → ⊥
+still_none class p q finds (in_cache some) = let empty = finds.empty in omega arith
+still_none class p q finds (in_class_list some) = some finds.looked.class_empty
+still_none class p q finds (in_free_list some) = some finds.looked.free_empty
+still_none class p q finds (in_fresh room) = let past = finds.looked.past in omega arith
 
 -- a request of a class that got a block
 pub gets_in_class : (class : ℕ) (b : Block) (p q r : Parts) → IsClass class → AreShort p 0 → q.capacity ≡ p.capacity → r.capacity ≡ q.capacity → Fills class p q → HasRoom p class
@@ -210,7 +217,7 @@ pub no_size_of_held : (b : Block) → largest_small < 8 * b.words → (class : �
 no_size_of_held b large class is same = let few = few_words class is in omega arith
 
 -- held blocks are short
-pub few_held : (p : Parts) (b : Block) → IsRunning p → Contains (held_in p) b → b.words ≤ 2097152
+pub few_held : (p : Parts) (b : Block) → IsRunning p → Contains (held_in p) b → b.words ≤ superblock_words * largest_capacity
 few_held p b run holds =
     let inside = block_inside (layout_at p.capacity (image_of p)) b (run.is.named b holds) in
     let small = run.is.small in

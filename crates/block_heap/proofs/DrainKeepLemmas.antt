@@ -2,21 +2,18 @@
 use Rattle.std.proofs.Common.{◌≡◌, ℕ, ◌*◌, ◌<◌, ◌≤◌, ◌⊎◌, inl, inr, Option, None, Some, List, [], ◌∷◌, ◌++◌, Contains, refl, ap, sym, subst, ◌∙◌, arith}
 use Rattle.std.proofs.lemmas.List.Elements.{Contains-append_left, Contains-append_right, Contains-append_cases}
 use Rattle.heap_model.specs.declared.block.Block.{Block}
-use Rattle.heap_model.specs.Sizes.{IsClass, size_of, words_of_class}
+use Rattle.heap_model.specs.Sizes.{IsClass, size_of}
 use Rattle.heap_model.proofs.MemberLemmas.{in_none, in_head, head_or_rest}
-use Rattle.heap_model.proofs.SizeLemmas.{size_of-words, few_words}
 use Rattle.line_memory.specs.declared.memory.Stopped.{Stopped}
 use Rattle.block_heap.specs.declared.seq_heap.DrainFault.TheVariants.{Stopped as StoppedFault}
-use Rattle.heap_seat.specs.Alloc.{IsSizeFor, of_class, of_superblocks}
 use Rattle.block_heap.specs.Parts.{held_in}
 use Rattle.block_heap.specs.Requests.{KeepsWords, KeepsHeld, IsNewAt, HoldsDrained, StopsDrain}
 use Rattle.block_heap.specs.SeqState.{SeqState, all_roots, seat_of}
 use Rattle.block_heap.specs.Serving.{Gets, Answers, Misses}
 use Rattle.heap_seat.specs.Tickets.{Runs, Stops}
 use Rattle.heap_seat.specs.Words.{IsOwn, in_block, in_root}
-use Rattle.block_heap.proofs.AllocLemmas.{least_of_size}
 use Rattle.heap_seat.proofs.CallerLemmas.{keeps_word_then, pending_then}
-use Rattle.block_heap.proofs.DrawnLemmas.{step_of}
+use Rattle.block_heap.proofs.DrawnLemmas.{step_of, class_of}
 
 -- more blocks have more own words
 own_more : (held more : List Block) (roots : List ℕ) (word : ℕ) → ((b : Block) → Contains held b → Contains more b) → IsOwn held roots word → IsOwn more roots word
@@ -52,14 +49,6 @@ held_same s = record {
     refusals = record { count = refl; bytes = refl; looks = refl };
   };
 }
-
--- a block that a request of a class's size gets is of the class
-class_of : (class bytes size : ℕ) → IsClass class → bytes ≡ size_of class → IsSizeFor bytes size → size ≡ 8 * words_of_class class
-class_of class bytes _ is at (of_class c least) = ap size_of (sym (least_of_size bytes c class least is at)) ∙ size_of-words class is
-class_of class bytes _ is at (of_superblocks large) =
-    let few = few_words class is in
-    let words = size_of-words class is in
-    absurd (omega arith)
 
 -- what the loop of a drain keeps of the heap
 pub record HasKept (class : ℕ) (s t : SeqState) (offsets : List ℕ) : Type 0 where

@@ -1,14 +1,19 @@
 -- How many tickets a drain draws.
-use Rattle.std.proofs.Common.{◌≡◌, ℕ, ◌+◌, ◌-◌, ◌*◌, ◌<◌, ◌≤◌, ◌^◌, inl, inr, Option, None, Some, List, [], ◌∷◌, ◌++◌, length, length-append, Contains, refl, ap, sym, subst, ◌∙◌, arith}
+use Rattle.std.proofs.Common.{◌≡◌, ℕ, ◌+◌, ◌*◌, ◌/◌, ◌%◌, ◌<◌, ◌≤◌, ◌^◌, inl, inr, Option, None, Some, List, [], ◌∷◌, ◌++◌, length, length-append, Contains, refl, ap, sym, subst, ◌∙◌, arith}
 use Rattle.std.proofs.lemmas.Bool.{cases_eq}
+use Rattle.std.proofs.lemmas.Nat.{div-mul-add, mod-mul-add}
+use Rattle.std.proofs.Math.Nat.{mul-le-mul_left}
 use Rattle.std.proofs.lemmas.List.Elements.{Contains-append_cases}
 use Rattle.heap_model.specs.declared.block.Block.{Block}
-use Rattle.heap_model.specs.Geometry.{start_word, used_word}
-use Rattle.heap_model.specs.Sizes.{IsClass}
+use Rattle.heap_model.specs.Geometry.{start_word, used_word, largest_capacity, largest_capacity_fits}
+use Rattle.heap_model.specs.Sizes.{IsClass, size_of, words_of_class, blocks_of}
+use Rattle.heap_model.specs.Blocks.{Begins, of_class, as_large, IsBlock}
 use Rattle.heap_model.specs.Counting.{times}
 use Rattle.heap_model.proofs.MemberLemmas.{in_none, head_or_rest}
 use Rattle.heap_model.proofs.CountingLemmas.{times_none}
-use Rattle.heap_model.proofs.BlockLemmas.{block_inside}
+use Rattle.heap_model.proofs.BlockLemmas.{block_step}
+use Rattle.heap_model.proofs.SizeLemmas.{size_of-words, few_words, few_blocks}
+use Rattle.heap_shape.specs.Standing.{first_of}
 use Rattle.heap_shape.specs.Whole.{layout_at}
 use Rattle.heap_shape.proofs.BasicLemmas.{times_append, times_here, times_past}
 use Rattle.heap_shape.proofs.CountLemmas.{few_members}
@@ -17,7 +22,10 @@ use Rattle.block_heap.specs.declared.seq_heap.DrainFault.{DrainFault}
 use Rattle.block_heap.specs.declared.seq_heap.DrainFault.TheVariants.{Stopped as StoppedFault, Memory as MemoryFault}
 use Rattle.heap_seat.specs.Calls.{IsLargeCall}
 use Rattle.block_heap.specs.Laws.{seat_law}
-use Rattle.block_heap.specs.Parts.{image_of, held_in}
+use Rattle.heap_seat.specs.Alloc.{IsSizeFor, of_class as of_class_size, of_superblocks}
+use Rattle.block_heap.specs.Parts.{Parts, image_of, held_in}
+use Rattle.block_heap.specs.Running.{IsRunning}
+use Rattle.block_heap.proofs.AllocLemmas.{no_later, least_of_size}
 use Rattle.block_heap.specs.Requests.{IsDrainableFor}
 use Rattle.block_heap.specs.SeqState.{SeqState, IsSeqHeap, seat_of}
 use Rattle.block_heap.specs.Serving.{Gets, Answers, DrainsTo, Costs, DrainsAs}
@@ -28,11 +36,13 @@ use Rattle.block_heap.proofs.SpendLemmas.{has_most}
 
 -- the offsets are those of blocks that are held now, each once; so there are few, and each superblock that may still be used up is paid for
 pub record HasDrawn (class : ℕ) (s t : SeqState) (offsets : List ℕ) : Type 0 where
-  pub held : (x : ℕ) → Contains offsets x → (b : Block) × (x ≡ 8 * b.first_word) × Contains (held_in t.parts) b
+  pub held : (x : ℕ) → Contains offsets x → (b : Block) × (x ≡ 8 * b.first_word) × Contains (held_in t.parts) b × (b.words ≡ words_of_class class)
   pub once : (x : ℕ) → times x offsets ≤ 1
-  pub short : length offsets ≤ 2097152
-  pub few : t.parts.words.drawn ≤ s.parts.words.drawn + 7680768 + length offsets
-  pub left : t.stopped ≡ None → (n : ℕ) × HasAtMost class t.parts n × (t.parts.words.drawn + 10001 * n ≤ s.parts.words.drawn + 7680768 + length offsets)
+  pub capacity : t.parts.capacity ≡ s.parts.capacity
+  pub short : length offsets ≤ t.parts.capacity * blocks_of class
+  pub small : length offsets ≤ largest_capacity * 4096
+  pub few : t.parts.words.drawn ≤ s.parts.words.drawn + 123603 * largest_capacity + length offsets
+  pub left : t.stopped ≡ None → (n : ℕ) × HasAtMost class t.parts n × (t.parts.words.drawn + 41201 * n ≤ s.parts.words.drawn + 123603 * largest_capacity + length offsets)
   pub runs : s.stopped ≡ None → t.stopped ≡ None
   pub budget : t.parts.words.budget ≡ s.parts.words.budget
 
@@ -41,15 +51,60 @@ drawn_first : (class : ℕ) (s : SeqState) (offsets : List ℕ) → offsets ≡ 
 drawn_first class s offsets empty is heap = subst (λ xs. HasDrawn class s s xs) (sym empty) (record {
   held = λ x p. absurd (in_none x p);
   once = λ x. omega arith;
+  capacity = refl;
   short = omega arith;
+  small = omega arith;
   few = omega arith;
-  left = λ running. (768, has_most class s.parts is (heap.running running).0, omega arith);
+  left = λ running. (3 * largest_capacity, has_most class s.parts is (heap.running running).0, omega arith);
   runs = λ running. running;
   budget = refl;
 })
 
+-- a held block of the class is one of those of its superblock
+record IsPlacedAt (capacity class word : ℕ) : Type 0 where
+  pub d : ℕ
+  pub index : ℕ
+  pub within : d < capacity
+  pub below : index < blocks_of class
+  pub at : word ≡ first_of capacity class d index
+
+placed_at : (p : Parts) (class : ℕ) (a : Block) → IsClass class → IsRunning p → Contains (held_in p) a → a.words ≡ words_of_class class
+    → IsPlacedAt p.capacity class a.first_word
+placed_at p class a is run holds size = by_begins named.superblock named.words named.count named.index named.is_of.begins named.is_of.taken named.is_of.below
+    named.is_of.at named.is_of.size where
+      named : IsBlock (layout_at p.capacity (image_of p)) a
+      named = run.is.named a holds
+
+      by_begins : (d w n i : ℕ) → Begins (layout_at p.capacity (image_of p)) d w n → d < image_of p used_word → i < n → a.first_word ≡ start_word p.capacity d + i * w
+          → a.words ≡ w → IsPlacedAt p.capacity class a.first_word
+      by_begins d w n i (of_class c info is_c) taken below at words =
+          let same : words_of_class c ≡ words_of_class class = sym words ∙ size in
+          let c_size = size_of-words c is_c in
+          let class_size = size_of-words class is in
+          let up = no_later c class is_c is (omega arith) in
+          let down = no_later class c is is_c (omega arith) in
+          let one : c ≡ class = omega arith in
+          let used = run.is.used in
+          record {
+            d = d;
+            index = i;
+            within = omega arith;
+            below = subst (λ k. i < blocks_of k) one below;
+            at = at ∙ ap (λ k. start_word p.capacity d + i * words_of_class k) one;
+          }
+      by_begins d w n i (as_large k some info end zeros) taken below at words = absurd (let few = few_words class is in omega arith)
+
+-- a block that a request of a class's size gets is of the class
+pub class_of : (class bytes size : ℕ) → IsClass class → bytes ≡ size_of class → IsSizeFor bytes size → size ≡ 8 * words_of_class class
+class_of class bytes _ is at (of_class_size c least) = ap size_of (sym (least_of_size bytes c class least is at)) ∙ size_of-words class is
+class_of class bytes _ is at (of_superblocks large) =
+    let few = few_words class is in
+    let words = size_of-words class is in
+    absurd (omega arith)
+
 -- a request of the class gave a block
-module _ (class bytes most : ℕ) (s t u : SeqState) (offsets : List ℕ) (b : Block) (has : HasDrawn class s t offsets) (gets : Gets bytes b t.parts u.parts) where
+module _ (class bytes most : ℕ) (s t u : SeqState) (offsets : List ℕ) (b : Block) (is : IsClass class) (at : bytes ≡ size_of class)
+    (has : HasDrawn class s t offsets) (gets : Gets bytes b t.parts u.parts) where
   abbrev more : List ℕ
   more = offsets ++ 8 * b.first_word ∷ []
 
@@ -57,14 +112,16 @@ module _ (class bytes most : ℕ) (s t u : SeqState) (offsets : List ℕ) (b : B
   longer = length-append offsets (8 * b.first_word ∷ [])
 
   -- it is held now, as the others are
-  all_held : (x : ℕ) → Contains more x → (a : Block) × (x ≡ 8 * a.first_word) × Contains (held_in u.parts) a
-  all_held x p = elim (Contains-append_cases offsets (8 * b.first_word ∷ []) x p) as (λ _. (a : Block) × (x ≡ 8 * a.first_word) × Contains (held_in u.parts) a) [
-    | inl old ↦ let found = has.held x old in (found.0, found.1, gets.adds.keeps found.0 found.2)
-    | inr new ↦ elim (head_or_rest (8 * b.first_word) x [] new) as (λ _. (a : Block) × (x ≡ 8 * a.first_word) × Contains (held_in u.parts) a) [
-      | inl same ↦ (b, sym same, gets.adds.has)
-      | inr none ↦ absurd (in_none x none)
-    ]
-  ]
+  all_held : (x : ℕ) → Contains more x → (a : Block) × (x ≡ 8 * a.first_word) × Contains (held_in u.parts) a × (a.words ≡ words_of_class class)
+  all_held x p = elim (Contains-append_cases offsets (8 * b.first_word ∷ []) x p)
+      as (λ _. (a : Block) × (x ≡ 8 * a.first_word) × Contains (held_in u.parts) a × (a.words ≡ words_of_class class)) [
+        | inl old ↦ let found = has.held x old in (found.0, found.1, gets.adds.keeps found.0 found.2, found.3)
+        | inr new ↦ elim (head_or_rest (8 * b.first_word) x [] new)
+            as (λ _. (a : Block) × (x ≡ 8 * a.first_word) × Contains (held_in u.parts) a × (a.words ≡ words_of_class class)) [
+              | inl same ↦ (b, sym same, gets.adds.has, let size = class_of class bytes (8 * b.words) is at gets.size in omega arith)
+              | inr none ↦ absurd (in_none x none)
+            ]
+      ]
 
   -- it was not held, so its offset is another
   new_offset : Contains offsets (8 * b.first_word) → ⊥
@@ -90,28 +147,39 @@ module _ (class bytes most : ℕ) (s t u : SeqState) (offsets : List ℕ) (b : B
         | inr other ↦ let past = times_past (8 * b.first_word) x [] other in omega arith
       ]
 
-  -- each block begins at another word
-  all_short : length more ≤ 2097152
-  all_short = few_members (λ i. 8 * (start_word u.parts.capacity 0 + i)) 2097152 more each (λ i below. all_once (8 * (start_word u.parts.capacity 0 + i))) where
-    each : (x : ℕ) → Contains more x → (i : ℕ) × (i < 2097152) × (x ≡ 8 * (start_word u.parts.capacity 0 + i))
+  -- each is another block of the class, of those of all superblocks
+  abbrev offset_of : ℕ → ℕ
+  offset_of n = 8 * first_of u.parts.capacity class (n / blocks_of class) (n % blocks_of class)
+
+  all_short : length more ≤ u.parts.capacity * blocks_of class
+  all_short = few_members offset_of (u.parts.capacity * blocks_of class) more each (λ i below. all_once (offset_of i)) where
+    each : (x : ℕ) → Contains more x → (n : ℕ) × (n < u.parts.capacity * blocks_of class) × (x ≡ offset_of n)
     each x p =
         let found = all_held x p in
-        let a : Block = found.0 in
-        let at : x ≡ 8 * a.first_word = found.1 in
-        let inside = block_inside (layout_at u.parts.capacity (image_of u.parts)) a (gets.running.is.named a found.2) in
-        let from : start_word u.parts.capacity 0 ≤ a.first_word = inside.0 in
-        let until : a.first_word + a.words ≤ start_word u.parts.capacity (image_of u.parts used_word) = inside.1 in
-        let some = ((seat_law u).placed a found.2).some in
-        let used = gets.running.is.used in
-        let small = gets.running.is.small in
-        (a.first_word - start_word u.parts.capacity 0, omega arith, omega arith)
+        let placed = placed_at u.parts class found.0 is gets.running found.2 found.3 in
+        let below = placed.below in
+        let step = block_step placed.d u.parts.capacity (blocks_of class) placed.within in (
+          placed.d * blocks_of class + placed.index,
+          omega arith,
+          found.1 ∙ ap (λ w. 8 * w) placed.at
+              ∙ ap (λ k. 8 * first_of u.parts.capacity class k placed.index) (sym (div-mul-add placed.d (blocks_of class) placed.index below))
+              ∙ ap (λ k. 8 * first_of u.parts.capacity class ((placed.d * blocks_of class + placed.index) / blocks_of class) k)
+              (sym (mod-mul-add placed.d (blocks_of class) placed.index below)),
+        )
+
+  all_small : length more ≤ largest_capacity * 4096
+  all_small =
+      let short = all_short in
+      let by_blocks : u.parts.capacity * blocks_of class ≤ u.parts.capacity * 4096 = mul-le-mul_left u.parts.capacity (few_blocks class is) in
+      let small = gets.running.is.small in
+      omega arith
 
   module _ (costs : Costs class t.parts u.parts) (runs : Runs (seat_of t) (seat_of u)) (counted : IsLargeCall most (seat_of t) (seat_of u)) where
-    all_left : (n : ℕ) × HasAtMost class u.parts n × (u.parts.words.drawn + 10001 * n ≤ s.parts.words.drawn + 7680768 + length more)
+    all_left : (n : ℕ) × HasAtMost class u.parts n × (u.parts.words.drawn + 41201 * n ≤ s.parts.words.drawn + 123603 * largest_capacity + length more)
     all_left =
         let before = has.left runs.ran in
         let long = longer in
-        elim costs as (λ _. (n : ℕ) × HasAtMost class u.parts n × (u.parts.words.drawn + 10001 * n ≤ s.parts.words.drawn + 7680768 + length more)) [
+        elim costs as (λ _. (n : ℕ) × HasAtMost class u.parts n × (u.parts.words.drawn + 41201 * n ≤ s.parts.words.drawn + 123603 * largest_capacity + length more)) [
           | inl cached ↦ let now = cached.0 before.0 before.1 in (now.0, now.2, omega (arith, before.2, now.1, cached.1))
           | inr filled ↦ let now = filled.0 before.0 before.1 in (now.0, now.2, omega (arith, before.2, now.1, filled.1))
         ]
@@ -120,7 +188,9 @@ module _ (class bytes most : ℕ) (s t u : SeqState) (offsets : List ℕ) (b : B
     drawn_more = record {
       held = all_held;
       once = all_once;
+      capacity = counted.goes_on.capacity ∙ has.capacity;
       short = all_short;
+      small = all_small;
       few = let left = all_left in omega (arith, left.2);
       left = λ running. all_left;
       runs = λ running. runs.running;
@@ -137,19 +207,31 @@ draining_first class s seen offsets empty is same heap =
 
 pub draining_more : (class bytes most : ℕ) (s t u : SeqState) (offsets now : List ℕ) (answer : Option Block) (b : Block) → now ≡ offsets ++ 8 * b.first_word ∷ []
     → Draining class s t offsets → answer ≡ Some b → Answers bytes answer t.parts u.parts → DrainsAs class answer t.parts u.parts
-    → Runs (seat_of t) (seat_of u) → IsLargeCall most (seat_of t) (seat_of u) → Draining class s u now
-draining_more class bytes most s t u offsets now answer b pushed draining is answers drains runs counted =
+    → IsClass class → bytes ≡ size_of class → Runs (seat_of t) (seat_of u) → IsLargeCall most (seat_of t) (seat_of u) → Draining class s u now
+draining_more class bytes most s t u offsets now answer b pushed draining is answers drains is_class at runs counted =
     let gets : Gets bytes b t.parts u.parts = subst (λ (o : Option Block). Answers bytes o t.parts u.parts) is answers in
     let gives : DrainsTo class b t.parts u.parts × Costs class t.parts u.parts = subst (λ (o : Option Block). DrainsAs class o t.parts u.parts) is drains in
     subst (λ xs. Draining class s u xs) (sym pushed) (
       (λ drainable. drains_more class s t u offsets b (draining.0 drainable) counted.goes_on.capacity gives.0),
-      drawn_more class bytes most s t u offsets b draining.1 gets gives.1 runs counted,
+      drawn_more class bytes most s t u offsets b is_class at draining.1 gets gives.1 runs counted,
     )
 
 -- whatever the next request answers, few tickets were drawn
-pub drawn_few : (class : ℕ) (s t u : SeqState) (offsets : List ℕ) → HasDrawn class s t offsets → u.parts.words.drawn ≤ t.parts.words.drawn + 10001
+pub drawn_few : (class : ℕ) (s t u : SeqState) (offsets : List ℕ) → HasDrawn class s t offsets → u.parts.words.drawn ≤ t.parts.words.drawn + 41201
     → u.parts.words.drawn < s.parts.words.drawn + 2 ^ 32
-drawn_few class s t u offsets has draws = let short = has.short in let few = has.few in omega arith
+drawn_few class s t u offsets has draws = let small = has.small in let few = has.few in omega (arith, largest_capacity_fits)
+
+-- there was room for the offset that comes next
+pub room_for_one : (class bytes most room : ℕ) (s t u : SeqState) (offsets : List ℕ) (answer : Option Block) (b : Block) → Draining class s t offsets
+    → answer ≡ Some b → Answers bytes answer t.parts u.parts → DrainsAs class answer t.parts u.parts → IsClass class → bytes ≡ size_of class
+    → Runs (seat_of t) (seat_of u) → IsLargeCall most (seat_of t) (seat_of u) → room ≡ s.parts.capacity * blocks_of class → length offsets < room
+room_for_one class bytes most room s t u offsets answer b draining is answers drains is_class at runs counted all =
+    let next = draining_more class bytes most s t u offsets (offsets ++ 8 * b.first_word ∷ []) answer b refl draining is answers drains is_class at runs counted in
+    let short = next.1.short in
+    let same : u.parts.capacity ≡ s.parts.capacity = next.1.capacity in
+    let product : u.parts.capacity * blocks_of class ≡ s.parts.capacity * blocks_of class = ap (λ n. n * blocks_of class) same in
+    let long : length (offsets ++ 8 * b.first_word ∷ []) ≡ length offsets + 1 = length-append offsets (8 * b.first_word ∷ []) in
+    omega arith
 
 -- the ticket of a fault
 abbrev pub step_of : DrainFault → ℕ
@@ -158,7 +240,7 @@ step_of MemoryFault = 0
 
 -- and if it stops the heap, the budget is used up
 pub drawn_halts : (class most : ℕ) (stopped e : Stopped) (s t u : SeqState) (offsets : List ℕ) → HasDrawn class s t offsets
-    → u.parts.words.drawn ≤ t.parts.words.drawn + 10001 → IsLargeCall most (seat_of t) (seat_of u) → Stops stopped.step (seat_of t) (seat_of u)
+    → u.parts.words.drawn ≤ t.parts.words.drawn + 41201 → IsLargeCall most (seat_of t) (seat_of u) → Stops stopped.step (seat_of t) (seat_of u)
     → StoppedFault stopped ≡ StoppedFault e → s.stopped ≡ None
     → (s.parts.words.budget ≤ e.step) × (e.step < s.parts.words.drawn + 2 ^ 32)
 drawn_halts class most stopped e s t u offsets has draws counted stops one running =

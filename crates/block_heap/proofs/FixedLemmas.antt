@@ -11,7 +11,8 @@ use Rattle.block_heap.specs.Parts.{held_in, image_of}
 use Rattle.block_heap.specs.Running.{Serves}
 use Rattle.block_heap.specs.SeqState.{SeqState, IsSeqHeap, all_roots, seat_of}
 use Rattle.heap_seat.specs.Words.{IsOwn}
-use Rattle.block_heap.specs.Works.{IsAllocatorWord, IsFixed}
+use Rattle.heap_model.specs.Geometry.{IsFixed}
+use Rattle.block_heap.specs.Works.{IsAllocatorWord}
 use Rattle.heap_seat.specs.Rows.{IsRow}
 use Rattle.heap_model.specs.Geometry.{used_word}
 use Rattle.block_heap.proofs.StableLemmas.{not_fixed, own_not_fixed, stable_fewer}

@@ -2,7 +2,7 @@
 use Rattle.std.proofs.Common.{◌≡◌, ◌≢◌, ℕ, ◌+◌, ◌*◌, ◌<◌, ◌≤◌, ◌⊎◌, inl, inr, cond, nat_eq, eq-eqb, ne_eqb, List, [], ◌∷◌, ◌++◌, length, get_or, set, Contains, refl, ap, sym, subst, ◌∙◌, arith, get_or-set_same, get_or-set_other, length-set, length-append}
 use Rattle.std.proofs.lemmas.Bool.{cases_eq, cond-true, cond-false}
 use Rattle.std.proofs.lemmas.List.Elements.{Contains-append_left, Contains-append_right}
-use Rattle.heap_model.specs.Geometry.{lists, head_word, info_word, anchor_word, link_word, used_word, start_word, image_words}
+use Rattle.heap_model.specs.Geometry.{lists, head_word, info_word, anchor_word, link_word, used_word, start_word, image_words, largest_capacity_fits}
 use Rattle.heap_model.specs.Sizes.{IsClass, words_of_class, blocks_of}
 use Rattle.heap_model.specs.Blocks.{IsIn}
 use Rattle.heap_model.specs.Words.{head_of, head_first, head_pops, anchor_of, anchor_state, anchor_first, anchor_count, empty_state, partial_state}
@@ -370,7 +370,7 @@ module _ (p : Parts) (class : ℕ) (is : IsClass class) (run : IsRunning p) (fro
                 let at : volatile_at x (head_word list) ≡ head_of (front.d + 1) (head_pops (volatile_at w (head_word list))) = (pushed_on below).head.at in
                 let there : volatile_at w (head_word list) ≡ image_of p (head_word list) = subst
                 (λ k. volatile_at w (head_word k) ≡ image_of p (head_word k)) same first in
-                subst (λ k. head_pops (volatile_at x (head_word k)) ≡ head_pops (image_of p (head_word k))) (sym same) (omega arith)
+                subst (λ k. head_pops (volatile_at x (head_word k)) ≡ head_pops (image_of p (head_word k))) (sym same) (omega (arith, largest_capacity_fits))
             | inr other ↦ ap head_pops (push_stores.volatile (head_word l) (push_other l l_below other) ∙ first)
           ]
         where

@@ -2,7 +2,7 @@
 use Rattle.std.proofs.Common.{◌≡◌, ◌≢◌, ℕ, ◌+◌, ◌-◌, ◌*◌, ◌/◌, ◌<◌, ◌≤◌, ◌^◌, ◌⊎◌, inl, inr, Bool, true, false, cond, nat_le, nat_lt, ◌&&◌, Option, None, Some, MatchOption, List, length, get_or, set, Contains, refl, ap, sym, subst, ◌∙◌, arith, length-set, get_or-set_same, get_or-set_other}
 use Rattle.std.proofs.lemmas.Bool.{cases_eq}
 use Rattle.heap_model.specs.declared.block.Block.{Block}
-use Rattle.heap_model.specs.Geometry.{head_word, info_word, used_word, start_word, superblock_words}
+use Rattle.heap_model.specs.Geometry.{head_word, info_word, used_word, start_word, superblock_words, largest_capacity}
 use Rattle.heap_model.specs.Sizes.{IsClass, words_of_class}
 use Rattle.heap_model.specs.Words.{head_pops, large_info}
 use Rattle.heap_model.proofs.BlockLemmas.{block_words, block_inside}
@@ -138,7 +138,7 @@ module _ (p : Parts) (count d : ℕ) (fresh : Fresh) (u : View) (look : Look) (r
     was_used = sym is_fresh.used ∙ sym got.0
 
     -- the sum of those taken fits
-    pub taken_fits : p.taken + count ≤ 512
+    pub taken_fits : p.taken + count ≤ 2 * largest_capacity
     taken_fits = let few = run.few in let small = run.is.small in let used = is_fresh.used in omega (arith, got.1)
 
     pub fresh_within : 1 ≤ count → d < p.capacity

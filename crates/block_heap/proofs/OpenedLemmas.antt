@@ -3,7 +3,7 @@ use Rattle.std.proofs.Common.{◌≡◌, ℕ, ◌+◌, ◌*◌, ◌<◌, ◌≤�
 use Rattle.std.specs.Prelude.{slice_index}
 use Rattle.std.proofs.lemmas.List.{get_or_default, length-replicate, get_or-replicate}
 use Rattle.heap_model.specs.declared.block.Block.{Block}
-use Rattle.heap_model.specs.Geometry.{lists, head_word, link_word, used_word}
+use Rattle.heap_model.specs.Geometry.{lists, head_word, link_word, used_word, largest_capacity, largest_capacity_fits}
 use Rattle.heap_model.specs.Image.{Image}
 use Rattle.heap_model.specs.Header.{capacity_of}
 use Rattle.heap_model.specs.Sizes.{IsClass}
@@ -54,12 +54,12 @@ begins_anywhere capacity image held s empty shape = record {
   }
 
 -- a head at rest was never popped
-never_popped : (link : ℕ → ℕ) (capacity head : ℕ) (ds : List ℕ) → capacity ≤ 256 → Follows link capacity head ds → head_pops head ≡ 0
+never_popped : (link : ℕ → ℕ) (capacity head : ℕ) (ds : List ℕ) → capacity ≤ largest_capacity → Follows link capacity head ds → head_pops head ≡ 0
 never_popped link capacity head [] small follows = let none : head ≡ 0 = follows in omega arith
 never_popped link capacity head (d ∷ ds) small follows =
     let first : head ≡ d + 1 = follows.0 in
     let within : d < capacity = follows.1 in
-    omega arith
+    omega (arith, largest_capacity_fits)
 
 -- the cache with no block
 abbrev pub no_cache : Cache

@@ -5,7 +5,7 @@ use Rattle.std.proofs.Math.Nat.{zero-mul}
 use Rattle.std.proofs.lemmas.List.{get_or_default}
 use Rattle.std.proofs.lemmas.Bool.{cases_eq, eqb-true}
 use Rattle.heap_model.specs.declared.block.Block.{Block}
-use Rattle.heap_model.specs.Geometry.{info_word, start_word, superblock_words}
+use Rattle.heap_model.specs.Geometry.{info_word, start_word, superblock_words, largest_capacity}
 use Rattle.heap_model.specs.Header.{capacity_of, used_of}
 use Rattle.heap_model.specs.Sizes.{IsClass, class_sizes, size_of, words_of_class}
 use Rattle.heap_model.specs.Words.{large_info}
@@ -90,7 +90,7 @@ knows_same words h new count start sizes knows = record {
 
 -- A block of the image, whose superblock's sizes are known.
 module _ (words : List ℕ) (h : HeldBlocks) (b : Block)
-    (small : capacity_of (slice_index words) ≤ 256) (used : used_of (slice_index words) ≤ capacity_of (slice_index words))
+    (small : capacity_of (slice_index words) ≤ largest_capacity) (used : used_of (slice_index words) ≤ capacity_of (slice_index words))
     (knows : KnowsFirst words h (capacity_of (slice_index words))) (is : IsBlock (layout_of (slice_index words)) b) where
   abbrev capacity : ℕ
   capacity = capacity_of (slice_index words)

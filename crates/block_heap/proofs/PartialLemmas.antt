@@ -2,7 +2,7 @@
 use Rattle.std.proofs.Common.{◌≡◌, ℕ, ◌+◌, ◌*◌, ◌<◌, ◌≤◌, ◌⊎◌, inl, inr, Bool, true, false, None, List, ◌∷◌, length, get_or, refl, ap, sym, subst, ◌∙◌, arith}
 use Rattle.std.proofs.lemmas.Bool.{cases_eq}
 use Rattle.heap_model.specs.declared.block.Block.{Block}
-use Rattle.heap_model.specs.Geometry.{lists, head_word, link_word, used_word}
+use Rattle.heap_model.specs.Geometry.{lists, head_word, link_word, used_word, largest_capacity}
 use Rattle.heap_model.specs.Sizes.{IsClass}
 use Rattle.heap_model.specs.Words.{head_first}
 use Rattle.heap_shape.specs.Draining.{DrainsSame}
@@ -64,7 +64,7 @@ pub record Walked (class : ℕ) (p q : Parts) : Type 0 where
   pub way : (q.words.volatile ≡ p.words.volatile) ⊎ ((IsEmptyList q 0 → ⊥) × (IsEmptyList p class → ⊥))
   pub moves : MovesEmpty class p q
   pub left : Spends 0 class p q
-  pub few : (ds : List ℕ) → LeadsAlong q class ds → q.words.drawn + 8 * length ds ≤ p.words.drawn + 2048
+  pub few : (ds : List ℕ) → LeadsAlong q class ds → q.words.drawn + 8 * length ds ≤ p.words.drawn + 8 * largest_capacity
 
 pub walk_begins : (class : ℕ) (p : Parts) → IsClass class → IsRunning p → (cache_at p.caches class).count ≡ 0 → Walked class p p
 walk_begins class p is run empty = record {
@@ -93,7 +93,7 @@ module _ (class : ℕ) (p q r : Parts) (is : IsClass class) (walked : Walked cla
   begun = walked.serves.works.stores.drawn
 
   -- so far few steps were done
-  so_far : q.words.drawn ≤ p.words.drawn + 2048
+  so_far : q.words.drawn ≤ p.words.drawn + 8 * largest_capacity
   so_far =
       let run = walked.fills.running in
       let few = walked.few (run.shape.listed class) (run.is.follows class (let last = is.last in omega arith)) in
@@ -105,7 +105,7 @@ module _ (class : ℕ) (p q r : Parts) (is : IsClass class) (walked : Walked cla
   pub walk_serves : Serves (held_in p) p r
   walk_serves = serves_then p q r walked.fills.held walked.serves serves
 
-  pub walk_halts : (ticket : ℕ) → Halts ticket 8 q.words r.words → Halts ticket 2056 p.words r.words
+  pub walk_halts : (ticket : ℕ) → Halts ticket 8 q.words r.words → Halts ticket (8 * largest_capacity + 8) p.words r.words
   walk_halts ticket halts =
       let from = halts.from in
       let few = halts.few in
@@ -137,7 +137,7 @@ module _ (class : ℕ) (p q r : Parts) (is : IsClass class) (walked : Walked cla
       )
 
   module _ (fills : Fills class q r) (goes : Goes 8 q.words r.words) where
-    pub walk_goes : Goes 2056 p.words r.words
+    pub walk_goes : Goes (8 * largest_capacity + 8) p.words r.words
     walk_goes =
         let drew = goes.drew in
         let few = goes.few in

@@ -81,10 +81,10 @@ large_lasts r p q held most old o lasts serves stable none stops halts = record 
 pub request_lasts : (r : Result (Option Block) Stopped) (p q : Parts) (bytes : ℕ) (old o : Option ℕ) → IsLasting p.capacity p.words (held_in p) old
     → Serves (held_in p) p q
     → IfOk r (λ answer. Answers bytes answer p q) → OnErr r (held_in q ≡ held_in p) → OnOk r (o ≡ None) → IfErr r (λ e. o ≡ Some e.step)
-    → IfErr r (λ e. Halts e.step 10001 p.words q.words)
+    → IfErr r (λ e. Halts e.step 41201 p.words q.words)
     → IsLasting q.capacity q.words (held_in q) o
 request_lasts r p q bytes old o lasts serves answers held none stops halts =
-    large_lasts r p q (held_in p) 10001 old o lasts serves (request_stable r p q bytes lasts.stable serves answers held) none stops halts
+    large_lasts r p q (held_in p) 41201 old o lasts serves (request_stable r p q bytes lasts.stable serves answers held) none stops halts
 
 -- a request or a free keeps the heap
 pub large_heap : {T : Type 0} (r : Result T Stopped) (s : SeqState) (q : Parts) (most : ℕ) (o : Option ℕ) (l : ∥ IsLasting q.capacity q.words (held_in q) o ∥₁)

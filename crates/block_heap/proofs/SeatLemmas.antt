@@ -1,6 +1,6 @@
 -- What the small calls of a heap for one thread leave.
 use Rattle.std.proofs.Common.{◌≡◌, ℕ, ◌+◌, ◌<◌, ◌≤◌, Option, None, Some, Result, Ok, Err, OnOk, IfOk, IfErr, get_or, get_or-set_same, Contains, refl, ap, sym, subst, ◌∙◌, arith}
-use Rattle.heap_model.specs.Geometry.{used_word, image_words}
+use Rattle.heap_model.specs.Geometry.{used_word, image_words, largest_capacity_fits}
 use Rattle.line_memory.specs.View.{View, word_count, volatile_at, durable_at, line_of}
 use Rattle.line_memory.specs.declared.memory.Stopped.{Stopped}
 use Rattle.block_heap.specs.Medium.{StoresOnly, Goes, Halts, IsLoaded, IsStored, IsWritten, IsFenced}
@@ -88,7 +88,7 @@ pub own_short : (s : SeqState) (spot : Spot) → IsSeqHeap s → IsOwnSpot (seat
 own_short s spot heap own =
     let below = own_below s (word_of spot) heap.lasts (own_spot (seat_of s) spot own) in
     let small = heap.lasts.small in
-    omega arith
+    omega (arith, largest_capacity_fits)
 
 -- a heap that runs has that word
 pub own_within : (s : SeqState) (spot : Spot) → IsSeqHeap s → s.stopped ≡ None → IsOwnSpot (seat_of s) spot → word_of spot < word_count s.parts.words

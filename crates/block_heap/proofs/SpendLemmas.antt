@@ -1,7 +1,7 @@
 -- How many superblocks are left that a class may be filled from.
-use Rattle.std.proofs.Common.{◌≡◌, ℕ, ◌+◌, ◌-◌, ◌<◌, ◌≤◌, inl, inr, Bool, true, List, length, get_or, ap, sym, subst, arith}
+use Rattle.std.proofs.Common.{◌≡◌, ℕ, ◌+◌, ◌-◌, ◌*◌, ◌<◌, ◌≤◌, inl, inr, Bool, true, List, length, get_or, ap, sym, subst, arith}
 use Rattle.heap_model.specs.Counting.{one_if}
-use Rattle.heap_model.specs.Geometry.{lists, head_word, link_word, used_word}
+use Rattle.heap_model.specs.Geometry.{lists, head_word, link_word, used_word, largest_capacity}
 use Rattle.heap_model.specs.Sizes.{IsClass}
 use Rattle.heap_model.specs.Words.{head_first}
 use Rattle.heap_model.specs.Chains.{Follows}
@@ -26,7 +26,7 @@ no_longer p list ds run below leads =
     omega arith
 
 -- so few are left
-pub has_most : (class : ℕ) (p : Parts) → IsClass class → IsRunning p → HasAtMost class p 768
+pub has_most : (class : ℕ) (p : Parts) → IsClass class → IsRunning p → HasAtMost class p (3 * largest_capacity)
 has_most class p is run cs fs is_cs is_fs =
     let of_class = no_longer p class cs run (let last = is.last in omega arith) is_cs in
     let free = no_longer p 0 fs run (omega arith) is_fs in
@@ -70,7 +70,7 @@ spends_by count class p q run cs fs is now capacity leads_class leads_free fewer
     )
 
 -- what a block cost that was handed out after that
-pub costs_of : (class : ℕ) (some : Bool) (p q r : Parts) → some ≡ true → Stocks class some p q → q.words.drawn ≤ p.words.drawn + 10000
+pub costs_of : (class : ℕ) (some : Bool) (p q r : Parts) → some ≡ true → Stocks class some p q → q.words.drawn ≤ p.words.drawn + 41200
     → r.capacity ≡ q.capacity → r.words.volatile ≡ q.words.volatile → r.words.drawn ≤ q.words.drawn + 1 → Costs class p r
 costs_of class some p q r is stocks few capacity same one = elim stocks as (λ _. Costs class p r) [
   | inl cached ↦ inl (spends_then 0 0 0 class p q r (omega arith) cached.0 (spends_none class q r capacity same), omega (arith, cached.1))

@@ -2,7 +2,7 @@
 use Rattle.std.proofs.Common.{◌≡◌, ◌≢◌, ℕ, zero, suc, ◌+◌, ◌-◌, ◌*◌, ◌/◌, ◌<◌, ◌≤◌, ◌^◌, ◌⊎◌, inl, inr, List, ◌∷◌, length, get_or, set, Contains, refl, ap, sym, subst, ◌∙◌, arith, length-set}
 use Rattle.std.proofs.lemmas.Bool.{cases_eq}
 use Rattle.heap_model.specs.declared.block.Block.{Block}
-use Rattle.heap_model.specs.Geometry.{lists, head_word, info_word, anchor_word, link_word, used_word, start_word, superblock_words}
+use Rattle.heap_model.specs.Geometry.{lists, head_word, info_word, anchor_word, link_word, used_word, start_word, superblock_words, largest_capacity, largest_capacity_fits}
 use Rattle.heap_model.specs.Sizes.{IsClass, words_of_class}
 use Rattle.heap_model.specs.Words.{head_first, head_of, head_pops}
 use Rattle.heap_model.specs.Chains.{Follows}
@@ -184,7 +184,7 @@ module _ (p : Parts) (d anchor : ℕ) (u w : View) (run : IsRunning p) (dropped 
           let k = long in
           let first : head_pops (volatile_at u (head_word list)) ≡ head_pops (image_of p (head_word list)) =
           ap head_pops (anchor_set.others (head_word list) (λ e. omega arith)) in
-          let second = pushed_pops 0 d u w (omega arith) (omega (arith, inside.0)) (omega (arith, inside.2)) (omega arith) pushed list less in
+          let second = pushed_pops 0 d u w (omega arith) (omega (arith, inside.0)) (omega (arith, inside.2)) (omega (arith, largest_capacity_fits)) pushed list less in
           let before = run.pops list less in
           let drawn = split_stores.drawn in
           omega arith
@@ -262,7 +262,7 @@ record IsWhole (capacity : ℕ) (b : Block) : Type 0 where
 -- so many superblocks of a large block, from `first` on, are to go to the free list, and those before d are there
 pub record IsFreed (first d end : ℕ) (p q : Parts) : Type 0 where
   pub some : first + 1 ≤ end
-  pub most : end ≤ first + 256
+  pub most : end ≤ first + largest_capacity
   pub running : IsRunning q
   pub left : (e : ℕ) → d ≤ e → e < end → IsDropped q e
   pub used : image_of q used_word ≡ image_of p used_word

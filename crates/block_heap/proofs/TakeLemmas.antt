@@ -1,7 +1,7 @@
 -- The first superblock of a class list: its free blocks fill the empty cache, or it goes to the free list.
 use Rattle.std.proofs.Common.{◌≡◌, ◌≢◌, ℕ, ◌+◌, ◌<◌, ◌≤◌, ◌⊎◌, inl, inr, Option, None, Some, List, ◌∷◌, length, get_or, set, Contains, refl, ap, sym, subst, ◌∙◌, arith, get_or-set_same, length-set}
 use Rattle.std.proofs.lemmas.Bool.{cases_eq}
-use Rattle.heap_model.specs.Geometry.{lists, head_word, info_word, anchor_word, link_word, used_word}
+use Rattle.heap_model.specs.Geometry.{lists, head_word, info_word, anchor_word, link_word, used_word, largest_capacity_fits}
 use Rattle.heap_model.specs.Sizes.{IsClass, blocks_of}
 use Rattle.heap_model.specs.Words.{head_first, head_pops, head_of, anchor_state, anchor_first, anchor_count, empty_state, partial_state, full_anchor}
 use Rattle.heap_model.specs.Chains.{Follows}
@@ -259,7 +259,7 @@ module _ (p : Parts) (class d : ℕ) (popped : Popped) (w : View) (look : Look) 
                   subst (λ k. volatile_at v (head_word k) ≡ head_of (d + 1) (head_pops (volatile_at u (head_word k)))) (sym zero_is) set_to in
                   let small = first_within in
                   let few = run.is.small in
-                  omega arith
+                  omega (arith, largest_capacity_fits)
               | inr other ↦
                   let kept : volatile_at v (head_word list) ≡ volatile_at u (head_word list) =
                   push_stores.volatile (head_word list) (λ t. elim t as (λ _. ⊥) [ inl e ↦ other (omega arith) | inr e ↦ omega arith ]) in

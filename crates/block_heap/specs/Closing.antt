@@ -4,7 +4,7 @@ use Rattle.line_memory.specs.View.{volatile_at, durable_at}
 use Rattle.heap_model.specs.declared.block.Block.{Block}
 use Rattle.block_heap.specs.Opening.{Opens}
 use Rattle.block_heap.specs.SeqState.{SeqState}
-use Rattle.block_heap.specs.Works.{IsFixed}
+use Rattle.heap_model.specs.Geometry.{IsFixed}
 
 -- it was opened with these words, held blocks and budget
 pub record IsOpened (words : List ℕ) (held : List Block) (budget : ℕ) (s : SeqState) : Type 0 where

@@ -92,11 +92,11 @@ DrainsNone class p = IsDrainable p.capacity (image_of p) (held_in p) class → (
 
 -- what a block cost: one ticket if it was in the cache, and else a superblock that the cache was filled from
 abbrev pub Costs : ℕ → Parts → Parts → Type 0
-Costs class p q = (Spends 0 class p q × (q.words.drawn ≤ p.words.drawn + 1)) ⊎ (Spends 1 class p q × (q.words.drawn ≤ p.words.drawn + 10001))
+Costs class p q = (Spends 0 class p q × (q.words.drawn ≤ p.words.drawn + 1)) ⊎ (Spends 1 class p q × (q.words.drawn ≤ p.words.drawn + 41201))
 
--- what a drain needs of the answer
+-- what a drain needs of the answer: if it is none, there is no room after it too
 abbrev pub DrainsAs : ℕ → Option Block → Parts → Parts → Type 0
-DrainsAs class answer p q = MatchOption answer (DrainsNone class p) (λ b. DrainsTo class b p q × Costs class p q)
+DrainsAs class answer p q = MatchOption answer (DrainsNone class p × (HasRoom q class → ⊥)) (λ b. DrainsTo class b p q × Costs class p q)
 
 -- the request found no room: what it read last was read by it
 pub record Misses (bytes : ℕ) (p q : Parts) : Type 0 where

@@ -2,7 +2,7 @@
 use Rattle.std.proofs.Common.{◌≡◌, ℕ, zero, suc, ◌+◌, ◌<◌, ◌≤◌, ◌⊎◌, inl, inr, List, ◌∷◌, Contains, refl, subst, ◌∙◌, arith}
 use Rattle.std.proofs.lemmas.Bool.{cases_eq}
 use Rattle.heap_model.specs.declared.block.Block.{Block}
-use Rattle.heap_model.specs.Geometry.{roots, largest_capacity, root_word, info_word, used_word, capacity_word, state_word, start_word}
+use Rattle.heap_model.specs.Geometry.{roots, largest_capacity, root_word, info_word, used_word, capacity_word, state_word, start_word, largest_capacity_fits}
 use Rattle.heap_model.specs.Image.{Image, words_from}
 use Rattle.heap_model.specs.Blocks.{Layout, layout_of, Begins, of_class, as_large, IsBlock, AreOneOrApart}
 use Rattle.heap_model.specs.Durability.{IsTransient, is_head as head_lost, is_anchor as anchor_lost, is_link as link_lost}
@@ -86,7 +86,7 @@ module _ (capacity : ℕ) (held : List Block) where
       let fits = stable.fits in
       let inside = lies v b stable holds in
       let words = block_words (low_layout v stable.low) b (stable.named b holds) in
-      record { behind = omega (arith, inside.0); some = omega arith; short = omega (arith, inside.1) }
+      record { behind = omega (arith, inside.0); some = omega arith; short = omega (arith, inside.1, largest_capacity_fits) }
 
   pub stable_apart : (v : View) (a b : Block) → IsStable capacity v held → Contains held a → Contains held b → AreOneOrApart a b
   stable_apart v a b stable in_a in_b = never_overlap (low_layout v stable.low) a b (stable.named a in_a) (stable.named b in_b)

@@ -1,16 +1,12 @@
 -- What an allocator may store to, and what stays of the held blocks whatever it does.
-use Rattle.std.specs.Prelude.{◌≡◌, ℕ, ◌+◌, ◌<◌, ◌≤◌, ◌⊎◌, List, Option, Some, Contains}
+use Rattle.std.specs.Prelude.{◌≡◌, ℕ, ◌+◌, ◌<◌, ◌≤◌, List, Option, Some, Contains}
 use Rattle.heap_model.specs.declared.block.Block.{Block}
-use Rattle.heap_model.specs.Geometry.{lists, largest_capacity, head_word, info_word, anchor_word, link_word, used_word, capacity_word, start_word, IsReserved}
+use Rattle.heap_model.specs.Geometry.{lists, largest_capacity, head_word, info_word, anchor_word, link_word, used_word, capacity_word, start_word}
 use Rattle.heap_model.specs.Blocks.{IsBlock, IsIn}
 use Rattle.heap_model.specs.Recovered.{HasPartIn}
 use Rattle.heap_shape.specs.Standing.{HasNoHeld}
 use Rattle.line_memory.specs.View.{View, volatile_at, durable_at}
 use Rattle.block_heap.specs.Medium.{StoresOnly}
-
--- a word that neither the allocator nor its caller stores to: the first four words of the header, and those that have no meaning
-abbrev pub IsFixed : ℕ → ℕ → Type 0
-IsFixed capacity word = (word < 4) ⊎ IsReserved capacity word
 
 -- `used` is at most the capacity, as loads see it and as it is durable
 pub record UsedFits (capacity : ℕ) (v : View) : Type 0 where

@@ -32,9 +32,9 @@ impl<C: Chance> Arena<C> {
         ensures order { (class : ℕ) → IsLeastClassFor bytes class
             → IfOk result (λ answer. ServesInOrder class answer
             (parts_of self.old) (parts_of self.new)) }
-        ensures goes { OnOk result (Goes 10001
+        ensures goes { OnOk result (Goes 41201
             (parts_of self.old).words (parts_of self.new).words) }
-        ensures stopped { IfErr result (λ e. Halts e.step 10001
+        ensures stopped { IfErr result (λ e. Halts e.step 41201
             (parts_of self.old).words (parts_of self.new).words) }
         ensures serves { Serves (held_in (parts_of self.old))
             (parts_of self.old) (parts_of self.new) }
@@ -59,9 +59,9 @@ impl<C: Chance> Arena<C> {
             (parts_of self.old) (parts_of self.new)) }
         ensures order { IfOk result (λ answer. ServesInOrder class answer
             (parts_of self.old) (parts_of self.new)) }
-        ensures goes { OnOk result (Goes 10001
+        ensures goes { OnOk result (Goes 41201
             (parts_of self.old).words (parts_of self.new).words) }
-        ensures stopped { IfErr result (λ e. Halts e.step 10001
+        ensures stopped { IfErr result (λ e. Halts e.step 41201
             (parts_of self.old).words (parts_of self.new).words) }
         ensures serves { Serves (held_in (parts_of self.old))
             (parts_of self.old) (parts_of self.new) }
@@ -87,8 +87,8 @@ impl<C: Chance> Arena<C> {
         ensures left { IfOk result (λ some. Stocks class some
             (parts_of self.old) (parts_of self.new)) }
         ensures steps { OnOk result ((parts_of self.new).words.drawn
-            ≤ (parts_of self.old).words.drawn + 10000) }
-        ensures stopped { IfErr result (λ e. Halts e.step 10000
+            ≤ (parts_of self.old).words.drawn + 41200) }
+        ensures stopped { IfErr result (λ e. Halts e.step 41200
             (parts_of self.old).words (parts_of self.new).words) }
         ensures serves { Serves (held_in (parts_of self.old))
             (parts_of self.old) (parts_of self.new) }

@@ -143,6 +143,7 @@ fn clear_marks(alloc: Global, count: usize) -> Result<Vec<bool>, AllocError>
 }
 
 /// How many words the blocks of a superblock of this info have; 0 where it says nothing.
+#[tactic(auto, using(super_block::proofs::ConstantLemmas::largest_capacity_is))]
 fn words_begun(info: u64) -> u64
     ensures { IsBegun info result }
 {

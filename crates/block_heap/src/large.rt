@@ -7,7 +7,7 @@ use super_block::SUPERBLOCK_WORDS;
 
 impl<C: Chance> Arena<C> {
     ghost use Rattle.std.specs.Prelude.{◌≡◌, ◌≢◌, ℕ, ◌+◌, ◌*◌, ◌<◌, ◌≤◌, Contains, IfOk, OnOk, IfErr, OnErr};
-    ghost use Rattle.heap_model.specs.Geometry.{superblock_words, start_word};
+    ghost use Rattle.heap_model.specs.Geometry.{superblock_words, start_word, largest_capacity};
     ghost use Rattle.heap_model.specs.Sizes.{IsClass, words_of_class};
     ghost use Rattle.heap_shape.specs.Moves.{TakesFrom};
     ghost use Rattle.block_heap.specs.Accounts.{AreAccounted, GivesUse};
@@ -57,9 +57,9 @@ impl<C: Chance> Arena<C> {
         requires holds { Contains (held_in (parts_of self.old)) b }
         requires large { (class : ℕ) → IsClass class → b.words ≢ words_of_class class }
         ensures running { OnOk result (IsRunning (parts_of self.new)) }
-        ensures goes { OnOk result (Goes 1024
+        ensures goes { OnOk result (Goes (4 * largest_capacity)
             (parts_of self.old).words (parts_of self.new).words) }
-        ensures stopped { IfErr result (λ e. Halts e.step 1024
+        ensures stopped { IfErr result (λ e. Halts e.step (4 * largest_capacity)
             (parts_of self.old).words (parts_of self.new).words) }
         ensures freed { TakesFrom b (held_in (parts_of self.old)) (held_in (parts_of self.new)) }
         ensures order { OnOk result (FreesLarge b (parts_of self.old) (parts_of self.new)) }

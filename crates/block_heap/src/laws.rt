@@ -17,7 +17,7 @@ ghost use Rattle.block_heap.specs.Parts.{held_in};
 ghost use Rattle.block_heap.specs.Reopening.{IsReopened};
 ghost use Rattle.block_heap.specs.Requests.{IsDrainableFor, IsDrainedOf};
 ghost use Rattle.block_heap.specs.SeqState.{SeqState, seat_of, MayLeave};
-ghost use Rattle.block_heap.specs.Works.{IsFixed};
+ghost use Rattle.heap_model.specs.Geometry.{IsFixed};
 
 /// Calls of a heap for one thread go together: over any row of them, the first four words of the
 /// header and those that have no meaning are what they were as the heap was opened, as loads see

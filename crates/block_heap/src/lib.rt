@@ -1,6 +1,6 @@
 //! A heap for one thread: blocks that it allocates and frees, and words that it loads, stores and
 //! makes durable.
-#![tactic(auto)]
+#![tactic(auto, using(heap_model::specs::Geometry::largest_capacity_fits))]
 
 mod alloc;
 mod anchors;

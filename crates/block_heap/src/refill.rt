@@ -18,9 +18,9 @@ pub(crate) enum Found {
 }
 
 impl<C: Chance> Arena<C> {
-    ghost use Rattle.std.specs.Prelude.{◌≡◌, ◌≢◌, ℕ, ◌+◌, ◌/◌, ◌<◌, ◌≤◌, IfOk, OnOk, OnErr, IfErr, if◌then◌else◌, length, true};
+    ghost use Rattle.std.specs.Prelude.{◌≡◌, ◌≢◌, ℕ, ◌+◌, ◌*◌, ◌/◌, ◌<◌, ◌≤◌, IfOk, OnOk, OnErr, IfErr, if◌then◌else◌, length, true};
     ghost use Rattle.heap_model.specs.Counting.{one_if};
-    ghost use Rattle.heap_model.specs.Geometry.{used_word};
+    ghost use Rattle.heap_model.specs.Geometry.{used_word, largest_capacity};
     ghost use Rattle.heap_model.specs.Sizes.{IsClass};
     ghost use Rattle.heap_shape.specs.Standing.{HasNoHeld};
     ghost use Rattle.line_memory.specs.Marks.{IsMarked};
@@ -46,9 +46,9 @@ impl<C: Chance> Arena<C> {
         ensures fills { OnOk result (Fills class (parts_of self.old) (parts_of self.new)) }
         ensures left { IfOk result (λ some. Spends (one_if some) class
             (parts_of self.old) (parts_of self.new)) }
-        ensures goes { OnOk result (Goes 10000
+        ensures goes { OnOk result (Goes 41200
             (parts_of self.old).words (parts_of self.new).words) }
-        ensures stopped { IfErr result (λ e. Halts e.step 10000
+        ensures stopped { IfErr result (λ e. Halts e.step 41200
             (parts_of self.old).words (parts_of self.new).words) }
         ensures serves { Serves (held_in (parts_of self.old))
             (parts_of self.old) (parts_of self.new) }
@@ -74,9 +74,9 @@ impl<C: Chance> Arena<C> {
         ensures fills { OnOk result (Fills class (parts_of self.old) (parts_of self.new)) }
         ensures left { IfOk result (λ some. Spends (one_if some) class
             (parts_of self.old) (parts_of self.new)) }
-        ensures goes { OnOk result (Goes 2056
+        ensures goes { OnOk result (Goes (8 * largest_capacity + 8)
             (parts_of self.old).words (parts_of self.new).words) }
-        ensures stopped { IfErr result (λ e. Halts e.step 2056
+        ensures stopped { IfErr result (λ e. Halts e.step (8 * largest_capacity + 8)
             (parts_of self.old).words (parts_of self.new).words) }
         ensures serves { Serves (held_in (parts_of self.old))
             (parts_of self.old) (parts_of self.new) }

@@ -83,7 +83,7 @@ impl From<Stopped> for DrainFault {
 }
 
 impl<C: Chance> SeqHeap<C> {
-    ghost use Rattle.std.specs.Prelude.{◌≡◌, ◌≢◌, ◌+◌, ◌*◌, ◌<◌, ◌≤◌, ◌^◌, IfOk, IfErr, IfSome, IfNone, None, Some, Contains, slice_index};
+    ghost use Rattle.std.specs.Prelude.{◌≡◌, ◌≢◌, ◌+◌, ◌*◌, ◌<◌, ◌≤◌, ◌^◌, IfOk, OnOk, IfErr, IfSome, IfNone, None, Some, Contains, slice_index};
     ghost use Rattle.heap_model.specs.declared.block.Block.{Block};
     ghost use Rattle.heap_model.specs.Durability.{IsCrashImage, IsClosedImage, NamesAreDurable};
     ghost use Rattle.line_memory.specs.ClosedWords.{volatile_words, durable_words};
@@ -94,6 +94,7 @@ impl<C: Chance> SeqHeap<C> {
     ghost use Rattle.heap_model.specs.Sizes.{IsClass};
     ghost use Rattle.block_heap.specs.Parts.{held_in};
     ghost use Rattle.block_heap.specs.Requests.{IsDrainableFor, Drains, KeepsHeld, HoldsDrained, StopsDrain};
+    ghost use Rattle.block_heap.specs.Serving.{HasRoom};
     ghost use Rattle.block_heap.specs.SeqState.{MayLeave};
     ghost use Rattle.heap_seat.specs.Words.{NamesAll};
     ghost use Rattle.block_heap.specs.Closing.{IsOpened, KeepsFixed};
@@ -154,6 +155,9 @@ impl<C: Chance> SeqHeap<C> {
         requires { IsClass class }
         ensures ok { IsDrainableFor class self.old
             → IfOk result (λ offsets. Drains class offsets.items self.old) }
+        ensures full { OnOk result (HasRoom self.new.parts class → ⊥) }
+        ensures memory { IfErr result (λ fault. fault ≡ DrainFault.Memory
+            → self.new ≡ self.old) }
         ensures stopped { IfErr result (λ fault. (e : Stopped) → fault ≡ DrainFault.Stopped e
             → self.new.stopped ≡ Some e.step) }
         ensures few { self.new.parts.words.drawn < self.old.parts.words.drawn + 2 ^ 32 }

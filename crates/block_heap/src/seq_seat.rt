@@ -139,7 +139,7 @@ impl<C: Chance> SeqHeap<C> {
         ensures held { OnErr result (held_in self.new.parts ≡ held_in self.old.parts) }
         ensures words { KeepsWords (seat_of self.old) (seat_of self.new) }
         ensures counted { IsLargeCall (span_of bytes) (seat_of self.old) (seat_of self.new) }
-        ensures draws { self.new.parts.words.drawn ≤ self.old.parts.words.drawn + 10001 }
+        ensures draws { self.new.parts.words.drawn ≤ self.old.parts.words.drawn + 41201 }
         ensures refusable { OnOk result (self.new.refusals < self.new.large_calls) }
         ensures kept { KeepsFixed self.old self.new }
         ensures idle { (ticket : ℕ) → self.old.stopped ≡ Some ticket → self.new ≡ self.old }

@@ -1,5 +1,5 @@
 use Rattle.std.proofs.Common.{◌≡◌, ℕ, ◌+◌, ◌*◌, Fits, w64, sym, ap, subst, arith}
-use Rattle.heap_model.specs.Geometry.{start_word}
+use Rattle.heap_model.specs.Geometry.{start_word, largest_capacity_fits}
 use Rattle.heap_model.specs.Sizes.{words_of_class}
 use Rattle.block_heap.proofs.AnchorLemmas.{words_by_bytes, short_product}
 use Rattle.block_heap.proofs.anchors.block_word.Goals as goal
@@ -16,7 +16,7 @@ overflow_add-result c =
     let short = short_product c.args.class c.args.index c.requires.class c.requires.index in
     let small = c.args.geometry.small in
     let start = c.start.ensures in
-    subst (λ (words : ℕ). Fits w64 (c.start.result + c.args.index * words)) (sym e) (omega arith)
+    subst (λ (words : ℕ). Fits w64 (c.start.result + c.args.index * words)) (sym e) (omega (arith, largest_capacity_fits))
 
 pub returns : goal.returns
 returns c =

@@ -1,3 +1,4 @@
+use Rattle.heap_model.specs.Geometry.{largest_capacity_fits}
 use Rattle.std.proofs.Common.{arith, ap, ◌∙◌, Some}
 use Rattle.block_heap.specs.Parts.{parts_of}
 use Rattle.block_heap.specs.MediumView.{medium_view}
@@ -13,7 +14,7 @@ pub overflow_add-self : goal.overflow_add-self
 overflow_add-self g c =
     let few = taken_fits (parts_of c.args.self.now) c.args.count c.in-Some.d c.in_ok-fresh.fresh (medium_view c.take_fresh.new.self) c.by-self.result
     c.requires.running c.in_ok-fresh.ensures.ok c.in-Some.is in
-    omega arith
+    omega (arith, largest_capacity_fits)
 
 pub returns-in_err-join-clause-serves : goal.returns-in_err-join-clause-serves
 returns-in_err-join-clause-serves g c =

@@ -1,7 +1,7 @@
 use Rattle.std.proofs.Common.{Bool, subst}
 use Rattle.block_heap.specs.Parts.{parts_of}
 use Rattle.block_heap.specs.Refill.{Refills}
-use Rattle.block_heap.proofs.AllocLemmas.{drains_nothing, gets_in_class, drains_block, serves_all}
+use Rattle.block_heap.proofs.AllocLemmas.{drains_nothing, still_none, gets_in_class, drains_block, serves_all}
 use Rattle.block_heap.proofs.OrderLemmas.{takes_first}
 use Rattle.block_heap.proofs.SpendLemmas.{costs_of}
 use Rattle.block_heap.proofs.arena.Arena.alloc_small.Goals as goal
@@ -10,8 +10,8 @@ pub returns-then-not-branch-clause-drains : goal.returns-then-not-branch-clause-
 returns-then-not-branch-clause-drains g c =
     let p = parts_of c.args.self.now in
     let q = parts_of c.stock.new.self in
-    drains_nothing c.args.class p q c.requires.class c.stock.ensures.serves.capacity c.in_ok-stock.ensures.fills
-    (subst (λ (some : Bool). Refills c.args.class some p q) c.if-not-branch.true c.in_ok-stock.ensures.ok)
+    let none = subst (λ (some : Bool). Refills c.args.class some p q) c.if-not-branch.true c.in_ok-stock.ensures.ok in
+    (drains_nothing c.args.class p q c.requires.class c.stock.ensures.serves.capacity c.in_ok-stock.ensures.fills none, still_none c.args.class p q none)
 
 pub returns-in_err-hand_out-clause-serves : goal.returns-in_err-hand_out-clause-serves
 returns-in_err-hand_out-clause-serves g c =

@@ -1,3 +1,4 @@
+use Rattle.heap_model.specs.Geometry.{largest_capacity_fits}
 use Rattle.std.proofs.Common.{refl, arith}
 use Rattle.std.proofs.lemmas.Result.{on_ok_weaker}
 use Rattle.block_heap.specs.Parts.{parts_of}
@@ -5,7 +6,7 @@ use Rattle.block_heap.proofs.AllocLemmas.{few_held, size_of_held, no_size_of_hel
 use Rattle.block_heap.proofs.arena.Arena.free.Goals as goal
 
 pub overflow_mul-b : goal.overflow_mul-b
-overflow_mul-b g c = let few = few_held (parts_of c.args.self.now) c.args.b c.requires.running c.requires.holds in omega arith
+overflow_mul-b g c = let few = few_held (parts_of c.args.self.now) c.args.b c.requires.running c.requires.holds in omega (arith, largest_capacity_fits)
 
 pub free_small-requires-clause-size : goal.free_small-requires-clause-size
 free_small-requires-clause-size g c =

@@ -1,4 +1,4 @@
-use Rattle.std.proofs.Common.{◌≡◌, ℕ, ◌-◌, ◌/◌, ◌≤◌, List, get_or, refl, sym, ◌∙◌, ap, subst, arith}
+use Rattle.std.proofs.Common.{◌≡◌, ℕ, ◌-◌, ◌/◌, ◌≤◌, inl, inr, List, get_or, refl, sym, ◌∙◌, ap, subst, arith}
 use Rattle.heap_model.specs.Geometry.{start_word}
 use Rattle.block_heap.specs.Parts.{parts_of, held_in}
 use Rattle.block_heap.proofs.AnchorLemmas.{words_by_bytes}
@@ -6,6 +6,7 @@ use Rattle.heap_model.proofs.SizeLemmas.{two_words}
 use Rattle.block_heap.proofs.SmallLemmas.{read_cache, first_from, first_below, serves_of}
 use Rattle.block_heap.proofs.FrontLemmas.{cache_first, walked_one, next_placed, walked_more, first_behind, walked_front, loaded_run, loaded_keeps, loaded_serves, stopped_serves, loaded_front, loaded_more, loaded_capacity}
 use Rattle.block_heap.specs.MediumView.{medium_view}
+use Rattle.block_heap.proofs.arena.Arena.front.Goals.{then-loop-count-test+else-superblock_of-d, else-loop-count-test}
 use Rattle.block_heap.proofs.arena.Arena.front.Goals as goal
 
 pub superblock_of-d-requires : goal.superblock_of-d-requires
@@ -128,3 +129,13 @@ returns-in_err-next-clause-serves g c =
     let p = parts_of c.args.self.now in
     serves_of p (record p { words = medium_view c.load.new.self }) (held_in p) (λ _. ⊥) c.requires.running refl refl refl (λ word out. absurd out) (λ out. out)
     c.load.ensures.unchanged
+
+pub returns-clause-longest : goal.returns-clause-longest
+returns-clause-longest g c = elim c.loop-count-test.branch [
+  | then-loop-count-test+else-superblock_of-d w ↦ inr (λ inside.
+      let from = inside.from in
+      let until = inside.until in
+      let at = w.superblock_of.ensures in
+      w.if-superblock_of-d.false (omega arith))
+  | else-loop-count-test w ↦ inl (let past = w.loop-count-test.false in omega arith)
+]

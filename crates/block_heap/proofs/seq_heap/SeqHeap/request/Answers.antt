@@ -17,7 +17,7 @@ invariant_of-self-inside g c = (
 
 pub invariant_of-self : goal.invariant_of-self
 invariant_of-self g c =
-    large_heap c.alloc-answer.result _ (parts_of c.alloc-answer.new.self) 10001 c.stop_of-self-inside.result _ c.self.invariant
+    large_heap c.alloc-answer.result _ (parts_of c.alloc-answer.new.self) 41201 c.stop_of-self-inside.result _ c.self.invariant
     (request_lasts c.alloc-answer.result (parts_of c.self.inside.arena) (parts_of c.alloc-answer.new.self) c.args.bytes c.self.inside.stopped c.stop_of-self-inside.result c.self.invariant.lasts
     c.alloc-answer.ensures.serves c.alloc-answer.ensures.ok c.alloc-answer.ensures.held c.stop_of-self-inside.ensures.ok c.stop_of-self-inside.ensures.stopped c.alloc-answer.ensures.stopped)
     (request_runs c.alloc-answer.result c.args.bytes _ _ (c.self.invariant.running (ap (λ (s : SeqState). s.stopped) c.self.view_is ∙ c.in_ok-running.ensures.ok)).2
@@ -32,7 +32,7 @@ returns-clause-words g c = request_words _ c.args.self.now (parts_of c.alloc-ans
 
 pub returns-clause-kept : goal.returns-clause-kept
 returns-clause-kept g c = fixed_request _ c.args.self.now _ c.self.invariant c.self.view_is c.alloc-answer.ensures.serves
-    (let few = few_drawn c.alloc-answer.result 10001 _ _ c.alloc-answer.ensures.goes c.alloc-answer.ensures.stopped in omega arith)
+    (let few = few_drawn c.alloc-answer.result 41201 _ _ c.alloc-answer.ensures.goes c.alloc-answer.ensures.stopped in omega arith)
 
 pub returns-clause-order : goal.returns-clause-order
 returns-clause-order g c = λ class least.
