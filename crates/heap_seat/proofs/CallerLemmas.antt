@@ -8,6 +8,8 @@ use Rattle.heap_seat.specs.declared.spot.Spot.TheVariants.{InBlock, Root}
 use Rattle.heap_seat.specs.View.{View, word_of}
 use Rattle.heap_seat.specs.Words.{IsOwn, in_block, in_root, IsOwnSpot, MayBe, MayRead, MixesOwn, KeepsWord, KeepsOwn, MayStore, IsDurable, KeepsPending}
 use Rattle.heap_model.specs.Image.{Image}
+use Rattle.heap_seat.specs.Alloc.{Adds}
+use Rattle.heap_seat.specs.Free.{MayFree}
 use Rattle.heap_seat.specs.Calls.{IsWrittenWith, Stores, WritesBack, Fences}
 use Rattle.heap_seat.specs.Rows.{Settles}
 use Rattle.std.proofs.lemmas.Bool.{cases_eq}
@@ -74,6 +76,25 @@ then_store word value v u w owns a b =
 -- a held block is held in a view that holds the same
 pub held_in : (v w : View) (b : Block) → w.held ≡ v.held → Contains v.held b → Contains w.held b
 held_in v w b e h = subst (λ (held : List Block). Contains held b) (sym e) h
+
+-- own words stay own where a block is added, and those outside it where one is freed
+pub own_added : (b : Block) (v w : View) (word : ℕ) → Adds b v w → IsOwn v.held v.roots word → IsOwn w.held w.roots word
+own_added b v w _ adds (in_block a word holds inside) = in_block a word (adds.keeps a holds) inside
+own_added b v w _ adds (in_root i word has at) = in_root i word (subst (λ (roots : List ℕ). Contains roots i) (sym adds.roots) has) at
+
+pub own_left : (b : Block) (v w : View) (word : ℕ) → MayFree b v w → (IsIn b word → ⊥) → IsOwn v.held v.roots word → IsOwn w.held w.roots word
+own_left b v w _ frees outside (in_block a word holds inside) =
+    in_block a word (frees.keeps a holds (λ same. outside (subst (λ (x : Block). IsIn x word) same inside))) inside
+own_left b v w _ frees outside (in_root i word has at) = in_root i word (subst (λ (roots : List ℕ). Contains roots i) (sym frees.roots) has) at
+
+-- so do spots
+pub spot_same : (v w : View) (s : Spot) → w.held ≡ v.held → w.roots ≡ v.roots → IsOwnSpot v s → IsOwnSpot w s
+spot_same v w (InBlock b index) held roots own = (held_in v w b held own.0, own.1)
+spot_same v w (Root i) held roots own = subst (λ (xs : List ℕ). Contains xs i) (sym roots) own
+
+pub spot_added : (b : Block) (v w : View) (s : Spot) → Adds b v w → IsOwnSpot v s → IsOwnSpot w s
+spot_added b v w (InBlock a index) adds own = (adds.keeps a own.0, own.1)
+spot_added b v w (Root i) adds own = subst (λ (roots : List ℕ). Contains roots i) (sym adds.roots) own
 
 -- the word of a spot is own
 pub own_spot : (v : View) (s : Spot) → IsOwnSpot v s → IsOwn v.held v.roots (word_of s)

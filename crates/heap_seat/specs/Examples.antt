@@ -1,5 +1,5 @@
 -- Worked examples by computation: what a request gets, looks, spots, lines, counts, rows, a refusal, and what an image may have.
-use Rattle.std.specs.Prelude.{◌≡◌, ◌+◌, ◌*◌, ◌/◌, ◌<◌, ◌≤◌, ◌⊎◌, ⊤, nat_le, ℕ, [], ◌∷◌, None, Some, Bool, true, refl}
+use Rattle.std.specs.Prelude.{◌≡◌, ◌+◌, ◌*◌, ◌/◌, ◌<◌, ◌≤◌, ◌⊎◌, ⊤, nat_le, ℕ, [], ◌∷◌, None, Some, true, refl}
 use Rattle.std.proofs.Common.{arith, inl, inr, ap, ◌∙◌}
 use Rattle.std.proofs.lemmas.Bool.{leb-true}
 use Rattle.heap_model.specs.declared.block.Block.{Block}
