@@ -156,6 +156,7 @@ answers_small bytes class None p q least misses = record {
   none = λ room. no_room room;
   in_class = λ other is_least. subst (λ k. LookedInClass k p.words.drawn q) (one_least bytes class other least is_least) misses.looked;
   at_used = λ large. absurd (let small = least_small bytes class least in omega arith);
+  one_look = λ large. absurd (let small = least_small bytes class least in omega arith);
   accounted = misses.accounted;
 } where
   no_room : HasRoomFor p bytes → ⊥
@@ -173,21 +174,23 @@ answers_small bytes class (Some b) p q least gets = record {
 
 -- the answer to one that takes superblocks of its own
 pub answers_large : (bytes : ℕ) (answer : Option Block) (p q : Parts) → largest_small < bytes → AreShort p 0 → JoinsAs (span_of bytes) answer p q → IsRunning q
-    → (AreAccounted p → AreAccounted q) → q.caches ≡ p.caches → q.capacity ≡ p.capacity → Answers bytes answer p q
-answers_large bytes None p q large short joins running accounted caches capacity = record {
+    → (AreAccounted p → AreAccounted q) → q.caches ≡ p.caches → q.capacity ≡ p.capacity
+    → (answer ≡ None → q.words.drawn ≡ p.words.drawn + 1) → Answers bytes answer p q
+answers_large bytes None p q large short joins running accounted caches capacity one = record {
   running = running;
   short = short_same p q caches short;
   held = joins.0;
   taken = joins.4;
   none = λ room. no_room room;
   in_class = λ class least. absurd (let small = least_small bytes class least in omega arith);
+  one_look = λ _. one refl;
   at_used = λ _. record { used_look = joins.3; past = let same = joins.2 in let past = joins.1 in omega arith };
   accounted = accounted;
 } where
   no_room : HasRoomFor p bytes → ⊥
   no_room (for_class class least room) = let small = least_small bytes class least in omega arith
   no_room (for_large _ fits) = let past = joins.1 in omega arith
-answers_large bytes (Some b) p q large short joins running accounted caches capacity = record {
+answers_large bytes (Some b) p q large short joins running accounted caches capacity one = record {
   running = running;
   short = short_same p q caches short;
   size =
@@ -228,6 +231,10 @@ few_held p b run holds =
 pub both_ok : {T E : Type 0} (r : Result T E) (P Q : T → Type 0) (R : Type 0) → ((x : T) → P x → R → Q x) → IfOk r P → OnOk r R → IfOk r Q
 both_ok (Ok x) P Q R both p q = both x p q
 both_ok (Err e) P Q R both p q = p
+
+pub if_ok_both : {T E : Type 0} (r : Result T E) (P Q : T → Type 0) → IfOk r P → IfOk r Q → IfOk r (λ x. P x × Q x)
+if_ok_both (Ok x) P Q p q = (p, q)
+if_ok_both (Err e) P Q p q = tt
 
 -- both hold of an answer
 pub on_ok_both : {T E : Type 0} (r : Result T E) (A B : Type 0) → OnOk r A → OnOk r B → OnOk r (A × B)

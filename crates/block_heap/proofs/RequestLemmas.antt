@@ -255,6 +255,7 @@ refused_as bytes looks p q misses are = record {
   ];
   class = λ c least. are.class c least ∙ (misses.in_class c least).class_look.seen_is;
   free = λ small. let least = least_class bytes small in are.free small ∙ (misses.in_class least.0 least.1).free_look.seen_is;
+  one_look = misses.one_look;
 }
 
 pub refused_by_as : (bytes : ℕ) (looks given : Looks) (answer : Option Block) (p q r : Parts) → r ≡ q → answer ≡ None → Answers bytes answer p q → IsLooksOf bytes looks r

@@ -2,7 +2,7 @@
 use Rattle.std.specs.Prelude.{◌≡◌, ◌≢◌, ℕ, ◌+◌, ◌≤◌, ◌⊎◌, ⊤, Bool, true, false, Option, MatchOption}
 use Rattle.heap_model.specs.declared.block.Block.{Block}
 use Rattle.heap_model.specs.Geometry.{anchor_word, info_word, used_word, start_word}
-use Rattle.heap_model.specs.Sizes.{IsClass, blocks_of, words_of_class}
+use Rattle.heap_model.specs.Sizes.{IsClass, IsLeastClassFor, blocks_of, words_of_class}
 use Rattle.heap_model.specs.Words.{anchor_state, anchor_first, anchor_count, empty_state, partial_state, full_anchor}
 use Rattle.heap_shape.specs.Standing.{first_of}
 use Rattle.heap_shape.specs.Moves.{AddsTo}
@@ -63,6 +63,10 @@ pub record IsServed (class : ℕ) (p r : Parts) : Type 0 where
 
 abbrev pub ServesInOrder : ℕ → Option Block → Parts → Parts → Type 0
 ServesInOrder class answer p q = MatchOption answer ⊤ (λ _. IsServed class p q)
+
+-- so is one that a class serves
+abbrev pub IsServedInOrder : ℕ → Parts → Parts → Type 0
+IsServedInOrder bytes p q = (class : ℕ) → IsLeastClassFor bytes class → IsServed class p q
 
 -- superblocks with all their blocks free went from the list of the class to the free list
 pub record MovesEmpty (class : ℕ) (p q : Parts) : Type 0 where

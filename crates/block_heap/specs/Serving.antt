@@ -107,6 +107,7 @@ pub record Misses (bytes : ℕ) (p q : Parts) : Type 0 where
   pub none : HasRoomFor p bytes → ⊥
   pub in_class : (class : ℕ) → IsLeastClassFor bytes class → LookedInClass class p.words.drawn q
   pub at_used : largest_small < bytes → LookedAtUsed (span_of bytes) p.words.drawn q
+  pub one_look : largest_small < bytes → q.words.drawn ≡ p.words.drawn + 1
   pub accounted : AreAccounted p → AreAccounted q
 
 -- the answer to a request
@@ -120,9 +121,10 @@ pub record IsLooksOf (bytes : ℕ) (looks : Looks) (p : Parts) : Type 0 where
   pub free : bytes ≤ largest_small → looks.free_head ≡ (look_at p 0).seen
   pub large : largest_small < bytes → (looks.class_head ≡ 0) × (looks.free_head ≡ 0)
 
--- a refusal: there was no room, and each look is the word as it is
+-- a refusal: there was no room, each look is the word as it is, and a large request makes one step, its look at `used`
 pub record RefusesAs (bytes : ℕ) (looks : Looks) (p q : Parts) : Type 0 where
   pub none : HasRoomFor p bytes → ⊥
   pub used : looks.used ≡ image_of q used_word
   pub class : (class : ℕ) → IsLeastClassFor bytes class → looks.class_head ≡ head_at q class
   pub free : bytes ≤ largest_small → looks.free_head ≡ head_at q 0
+  pub one_look : largest_small < bytes → q.words.drawn ≡ p.words.drawn + 1

@@ -12,7 +12,7 @@ pub(crate) struct Fresh {
 }
 
 impl<C: Chance> Medium<C> {
-    ghost use Rattle.std.specs.Prelude.{◌≡◌, ◌<◌, ◌≤◌, ◌+◌, IfOk, OnOk, IfErr};
+    ghost use Rattle.std.specs.Prelude.{◌≡◌, ◌<◌, ◌≤◌, ◌+◌, IfOk, OnOk, IfErr, None};
     ghost use Rattle.heap_model.specs.Geometry.{used_word, info_word, largest_capacity};
     ghost use Rattle.heap_model.specs.Words.{large_info};
     ghost use Rattle.line_memory.specs.View.{volatile_at};
@@ -28,6 +28,8 @@ impl<C: Chance> Medium<C> {
         requires used { volatile_at (medium_view self.old) used_word ≤ geometry.capacity }
         ensures ok { IfOk result (λ fresh.
             IsFresh geometry.capacity count fresh (medium_view self.old) (medium_view self.new)) }
+        ensures one_look { IfOk result (λ fresh. fresh.first ≡ None
+            → (medium_view self.new).drawn ≡ (medium_view self.old).drawn + 1) }
         ensures stopped { IfErr result (λ e. Halts e.step 4
             (medium_view self.old) (medium_view self.new)) }
         ensures others { StoresOnly (λ word. word ≡ used_word)

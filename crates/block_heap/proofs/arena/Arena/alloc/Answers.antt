@@ -1,5 +1,6 @@
-use Rattle.std.proofs.Common.{◌<◌, ℕ, IfOk, refl, sym, subst, arith}
+use Rattle.std.proofs.Common.{◌≡◌, ◌+◌, ◌<◌, ℕ, Option, None, IfOk, refl, sym, subst, arith}
 use Rattle.std.proofs.lemmas.Result.{IfOk-weaker}
+use Rattle.heap_model.specs.declared.block.Block.{Block}
 use Rattle.heap_model.specs.Sizes.{largest_small, span_of}
 use Rattle.heap_model.proofs.SizeLemmas.{few_words, size_of-words}
 use Rattle.block_heap.specs.Accounts.{AreAccounted}
@@ -8,7 +9,7 @@ use Rattle.block_heap.specs.Parts.{parts_of}
 use Rattle.block_heap.specs.Running.{IsRunning}
 use Rattle.block_heap.specs.Large.{JoinsAs}
 use Rattle.block_heap.specs.Serving.{Answers, AnswersInClass, DrainsAs}
-use Rattle.block_heap.proofs.AllocLemmas.{least_small, one_least, answers_small, answers_large, least_of_size, both_ok, on_ok_both}
+use Rattle.block_heap.proofs.AllocLemmas.{least_small, one_least, answers_small, answers_large, least_of_size, both_ok, if_ok_both, on_ok_both}
 use Rattle.block_heap.proofs.arena.Arena.alloc.Goals as goal
 
 pub returns-in-Some-clause-ok : goal.returns-in-Some-clause-ok
@@ -32,10 +33,11 @@ returns-in-None-clause-ok g c =
     let large : largest_small < c.args.bytes = c.in-None.ensures.none.0 refl in
     let joins : IfOk c.alloc_large.result (λ answer. JoinsAs (span_of c.args.bytes) answer p q) =
     subst (λ (count : ℕ). IfOk c.alloc_large.result (λ answer. JoinsAs count answer p q)) c.span_of.ensures c.alloc_large.ensures.ok in
-    both_ok c.alloc_large.result (λ answer. JoinsAs (span_of c.args.bytes) answer p q) (λ answer. Answers c.args.bytes answer p q)
+    let one : Option Block → Type 0 = λ answer. answer ≡ None → q.words.drawn ≡ p.words.drawn + 1 in
+    both_ok c.alloc_large.result (λ answer. JoinsAs (span_of c.args.bytes) answer p q × one answer) (λ answer. Answers c.args.bytes answer p q)
     (IsRunning q × (AreAccounted p → AreAccounted q))
-    (λ answer join runs. answers_large c.args.bytes answer p q large c.requires.short join runs.0 runs.1 c.alloc_large.ensures.caches
-    c.alloc_large.ensures.serves.capacity) joins
+    (λ answer join runs. answers_large c.args.bytes answer p q large c.requires.short join.0 runs.0 runs.1 c.alloc_large.ensures.caches
+    c.alloc_large.ensures.serves.capacity join.1) (if_ok_both c.alloc_large.result (λ answer. JoinsAs (span_of c.args.bytes) answer p q) one joins c.alloc_large.ensures.one_look)
     (on_ok_both c.alloc_large.result (IsRunning q) (AreAccounted p → AreAccounted q) c.alloc_large.ensures.running c.alloc_large.ensures.accounted)
 
 pub returns-in-None-clause-drains : goal.returns-in-None-clause-drains

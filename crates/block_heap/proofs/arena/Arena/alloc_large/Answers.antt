@@ -72,3 +72,6 @@ pub returns-in_err-fresh-clause-serves : goal.returns-in_err-fresh-clause-serves
 returns-in_err-fresh-clause-serves g c =
     large_stops (parts_of c.args.self.now) c.args.count (medium_view c.take_fresh.new.self) c.requires.running c.take_fresh.ensures.others c.take_fresh.ensures.crash
     c.take_fresh.ensures.fits
+
+pub returns-in_default-clause-one_look : goal.returns-in_default-clause-one_look
+returns-in_default-clause-one_look g c = λ none. c.in_ok-fresh.ensures.one_look c.in_default.is

@@ -1,4 +1,5 @@
 use Rattle.std.proofs.Common.{◌<◌, subst, sym, ap}
+use Rattle.block_heap.specs.Order.{ServesInOrder}
 use Rattle.block_heap.specs.SeqState.{SeqState}
 use Rattle.block_heap.specs.Serving.{Answers}
 use Rattle.block_heap.proofs.RequestLemmas.{refused_by, refused_heap, refused_by_as}
@@ -13,7 +14,11 @@ returns-in-None-clause-cause g c =
     c.in_ok-block.ensures.ok c.in_ok-block.ensures.runs c.in_ok-block.ensures.words c.looks-self-inside.ensures
 
 pub returns-in-Some-clause-room : goal.returns-in-Some-clause-room
-returns-in-Some-clause-room g c = (subst (λ answer. Answers c.args.bytes answer c.args.self.now.parts c.request.new.self.parts) c.in-Some.is c.in_ok-block.ensures.ok).room
+returns-in-Some-clause-room g c = (
+  (subst (λ answer. Answers c.args.bytes answer c.args.self.now.parts c.request.new.self.parts) c.in-Some.is c.in_ok-block.ensures.ok).room,
+  λ class least.
+      subst (λ answer. ServesInOrder class answer c.args.self.now.parts c.request.new.self.parts) c.in-Some.is (c.in_ok-block.ensures.order class least),
+)
 
 pub returns-in-None-clause-none : goal.returns-in-None-clause-none
 returns-in-None-clause-none g c =

@@ -1,6 +1,7 @@
 use Rattle.block_heap.proofs.SeatLemmas.{few_drawn}
-use Rattle.std.proofs.Common.{arith, ap, ◌∙◌}
+use Rattle.std.proofs.Common.{OnOk, arith, ap, subst, ◌∙◌}
 use Rattle.block_heap.specs.Parts.{parts_of}
+use Rattle.block_heap.specs.Returns.{ComesBack}
 use Rattle.block_heap.specs.SeqState.{SeqState}
 use Rattle.block_heap.proofs.RequestLemmas.{large_heap}
 use Rattle.block_heap.proofs.FreeCallLemmas.{free_lasts, free_runs, may_free, frees}
@@ -36,3 +37,7 @@ returns-clause-others g c =
 pub returns-clause-kept : goal.returns-clause-kept
 returns-clause-kept g c = fixed_free _ c.args.self.now _ c.args.b c.self.invariant c.self.view_is c.free-answer.ensures.freed c.free-answer.ensures.serves
     (let few = few_drawn c.free-answer.result 40000 _ _ c.free-answer.ensures.goes c.free-answer.ensures.stopped in omega arith)
+
+pub returns-clause-given : goal.returns-clause-given
+returns-clause-given g c =
+    subst (λ (s : SeqState). OnOk c.free-answer.result (ComesBack c.args.b s.parts (parts_of c.free-answer.new.self))) c.self.view_is c.free-answer.ensures.order
