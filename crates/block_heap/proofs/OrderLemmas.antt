@@ -1,5 +1,5 @@
 -- In which list a superblock is, and how a request of a class comes to its block in order.
-use Rattle.std.proofs.Common.{◌≡◌, ℕ, ◌⊎◌, inl, inr, List, [], get_or, Contains, refl, ap, sym, subst, ◌∙◌}
+use Rattle.std.proofs.Common.{◌≡◌, ◌≢◌, ℕ, ◌⊎◌, inl, inr, List, [], get_or, Contains, refl, ap, sym, subst, ◌∙◌}
 use Rattle.heap_model.specs.declared.block.Block.{Block}
 use Rattle.heap_model.specs.Geometry.{anchor_word, link_word, start_word}
 use Rattle.heap_model.specs.Sizes.{words_of_class, blocks_of}
@@ -11,7 +11,7 @@ use Rattle.heap_shape.specs.Moves.{AddsTo}
 use Rattle.heap_shape.proofs.OwnLemmas.{one_following}
 use Rattle.block_heap.specs.declared.cache.Cache.{Cache}
 use Rattle.block_heap.specs.Lists.{head_at, IsEmptyList, LeadsAlong, IsInList, KeepsFree}
-use Rattle.block_heap.specs.Order.{HasNothing, TakesAll, CutsAll, FillsFrom, from_free_list, TakesFirst, MovesEmpty}
+use Rattle.block_heap.specs.Order.{HasNothing, TakesAll, CutsAll, FillsFrom, from_free_list, TakesFirst, MovesEmpty, Stocked, in_stock, is_filled, IsServed, from_class_list, from_fresh}
 use Rattle.block_heap.specs.Parts.{Parts, image_of, held_in, cache_at}
 use Rattle.block_heap.specs.Steps.{HandsOut}
 
@@ -100,8 +100,9 @@ module _ (class : ℕ) (p a q : Parts) (moves : MovesEmpty class p a) (nothing :
   fills_free d listed cuts same = from_free_list d nothing (moves.from d listed) (cuts_after class d p a q moves.capacity moves.free cuts) (same ∙ taken)
 
 -- the first block of the cache was handed out
-pub takes_first : (class : ℕ) (b : Block) (p q : Parts) → HandsOut class b p q → TakesFirst class p q
-takes_first class b p q hands = record {
+pub takes_first : (class : ℕ) (b : Block) (p q : Parts) → q.capacity ≡ p.capacity → HandsOut class b p q → TakesFirst class p q
+takes_first class b p q capacity hands = record {
+  capacity = capacity;
   held = subst (λ x. AddsTo x (held_in p) (held_in q))
       (same_fields b (record { first_word = (cache_at p.caches class).first; words = words_of_class class }) hands.at hands.size) hands.adds;
   next = hands.next ∙ ap (λ x. image_of p x) hands.at;
@@ -110,3 +111,35 @@ takes_first class b p q hands = record {
   volatile = hands.volatile;
   taken = hands.taken;
 }
+
+-- a request of the class that was served in order
+module _ (class : ℕ) (p r : Parts) (served : IsServed class p r) where
+  abbrev q : Parts
+  q = served.between
+
+  -- took a superblock for the first time only where there was nothing else
+  pub fresh_last : r.taken ≢ p.taken → ((cache_at p.caches class).count ≡ 0) × IsEmptyList p class × IsEmptyList p 0
+  fresh_last taken = by_stock served.stocked where
+    by_source : FillsFrom class p q → IsEmptyList p class × IsEmptyList p 0
+    by_source (from_class_list d takes) = absurd (taken (served.takes.taken ∙ takes.taken))
+    by_source (from_free_list d nothing listed cuts same) = absurd (taken (served.takes.taken ∙ same))
+    by_source (from_fresh class_empty free_empty cuts more) = (class_empty, free_empty)
+
+    by_stock : Stocked class p q → ((cache_at p.caches class).count ≡ 0) × IsEmptyList p class × IsEmptyList p 0
+    by_stock (in_stock some same) = absurd (taken (served.takes.taken ∙ ap (λ (x : Parts). x.taken) same))
+    by_stock (is_filled empty held fills) = let found = by_source fills in (empty, found.0, found.1)
+
+  -- and took one from the free list only where the list of the class had nothing to give
+  pub free_later : (d : ℕ) → IsInList p 0 d → (IsInList r 0 d → ⊥) → ((cache_at p.caches class).count ≡ 0) × HasNothing class p
+  free_later d before gone = by_stock served.stocked where
+    still : IsInList q 0 d → ⊥
+    still there = gone (list_same q r 0 d served.takes.capacity served.takes.volatile there)
+
+    by_source : FillsFrom class p q → HasNothing class p
+    by_source (from_class_list e takes) = absurd (still (takes.free d before))
+    by_source (from_free_list e nothing listed cuts same) = nothing
+    by_source (from_fresh class_empty free_empty cuts more) = nothing_in_empty class p class_empty
+
+    by_stock : Stocked class p q → ((cache_at p.caches class).count ≡ 0) × HasNothing class p
+    by_stock (in_stock some same) = absurd (still (subst (λ (x : Parts). IsInList x 0 d) (sym same) before))
+    by_stock (is_filled empty held fills) = (empty, by_source fills)

@@ -48,6 +48,7 @@ pub data Stocked (class : ℕ) (p q : Parts) : Type 0 where
 
 -- the first block of the cache left it and is held: no word is stored to, and the other caches stay
 pub record TakesFirst (class : ℕ) (p q : Parts) : Type 0 where
+  pub capacity : q.capacity ≡ p.capacity
   pub held : AddsTo (record { first_word = (cache_at p.caches class).first; words = words_of_class class }) (held_in p) (held_in q)
   pub next : (cache_at q.caches class).first ≡ image_of p (cache_at p.caches class).first
   pub count : (cache_at q.caches class).count + 1 ≡ (cache_at p.caches class).count

@@ -1,7 +1,7 @@
 //! What follows from the definitions, as functions with nothing to run: a caller cites their
 //! clauses.
 
-ghost use Rattle.std.specs.Prelude.{◌≡◌, ◌↔◌, ℕ, ◌+◌, ◌*◌, ◌≤◌, List, slice_index, Contains, true, false};
+ghost use Rattle.std.specs.Prelude.{◌≡◌, ◌≢◌, ◌↔◌, ℕ, ◌+◌, ◌*◌, ◌≤◌, List, slice_index, Contains, true, false};
 ghost use Rattle.heap_model.specs.declared.block.Block.{Block};
 ghost use Rattle.heap_model.specs.Image.{Image};
 ghost use Rattle.heap_model.specs.Durability.{Mixes, IsCrashImage, IsClosedImage, NamesAreDurable};
@@ -13,7 +13,10 @@ ghost use Rattle.line_memory.specs.View.{volatile_at, durable_at};
 ghost use Rattle.heap_seat.specs.Rows.{IsRow};
 ghost use Rattle.heap_seat.specs.Words.{HasPicked};
 ghost use Rattle.block_heap.specs.Closing.{IsOpened, KeepsFixed};
-ghost use Rattle.block_heap.specs.Parts.{held_in};
+ghost use Rattle.heap_model.specs.Sizes.{IsLeastClassFor};
+ghost use Rattle.block_heap.specs.Lists.{IsEmptyList, IsInList};
+ghost use Rattle.block_heap.specs.Order.{HasNothing, IsServedInOrder};
+ghost use Rattle.block_heap.specs.Parts.{held_in, cache_at};
 ghost use Rattle.block_heap.specs.Reopening.{IsReopened};
 ghost use Rattle.block_heap.specs.Requests.{IsDrainableFor, IsDrainedOf};
 ghost use Rattle.block_heap.specs.SeqState.{SeqState, seat_of, MayLeave};
@@ -41,6 +44,21 @@ pub fn looks_and_tickets_add_up()
     ensures draws { (small large most : ℕ) (s t : SeqState) → KeepsFixed s t
         → IsRow small large most (seat_of s) (seat_of t)
         → t.parts.words.drawn ≤ s.parts.words.drawn + (small + 131072 * large) }
+{}
+
+/// What was freed serves a request of a class before what was never taken. A superblock is taken
+/// for the first time only where the cache of the class, its list and the free list are empty; and
+/// one leaves the free list only where the cache is empty and each superblock in the list of the
+/// class has all its blocks free.
+pub fn freed_blocks_serve_first()
+    ensures fresh { (bytes class : ℕ) (s t : SeqState) → IsServedInOrder bytes s.parts t.parts
+        → IsLeastClassFor bytes class → t.parts.taken ≢ s.parts.taken
+        → ((cache_at s.parts.caches class).count ≡ 0)
+        × IsEmptyList s.parts class × IsEmptyList s.parts 0 }
+    ensures free { (bytes class : ℕ) (s t : SeqState) (d : ℕ)
+        → IsServedInOrder bytes s.parts t.parts → IsLeastClassFor bytes class
+        → IsInList s.parts 0 d → (IsInList t.parts 0 d → ⊥)
+        → ((cache_at s.parts.caches class).count ≡ 0) × HasNothing class s.parts }
 {}
 
 /// What is left of a heap for one thread is one of its images: each mixture of its two values of

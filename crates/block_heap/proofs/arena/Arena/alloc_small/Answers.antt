@@ -47,5 +47,6 @@ pub returns-clause-order : goal.returns-clause-order
 returns-clause-order g c = record {
   between = parts_of c.stock.new.self;
   stocked = c.in_ok-stock.ensures.order c.if-not-branch.false;
-  takes = takes_first c.args.class c.in_ok-hand_out.field-0 (parts_of c.stock.new.self) (parts_of c.hand_out.new.self) c.in_ok-hand_out.ensures.ok;
+  takes = takes_first c.args.class c.in_ok-hand_out.field-0 (parts_of c.stock.new.self) (parts_of c.hand_out.new.self) c.hand_out.ensures.serves.capacity
+      c.in_ok-hand_out.ensures.ok;
 }
