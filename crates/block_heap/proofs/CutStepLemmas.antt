@@ -71,16 +71,6 @@ divide_info capacity d e within other (inl inside) = let from = inside.from in o
 divide_info capacity d e within other (inr (inl info)) = other (omega arith)
 divide_info capacity d e within other (inr (inr anchor)) = omega arith
 
--- a cache with these numbers
-pub cache_set : (caches : List Cache) (class first count f n : ℕ) → first ≡ f → count ≡ n
-    → set caches class (record { first = first; count = count }) ≡ set caches class (record { first = f; count = n })
-cache_set caches class first count f n at many = ap (λ k. set caches class (record { first = k; count = count })) at ∙ ap
-    (λ k. set caches class (record { first = f; count = k })) many
-
--- a list where such a number was set
-pub number_set : (xs new : List ℕ) (at n m : ℕ) → new ≡ set xs at n → n ≡ m → new ≡ set xs at m
-number_set xs new at n m is same = is ∙ ap (λ k. set xs at k) same
-
 -- a division, as an image
 cut_is : (capacity class d : ℕ) (v w : View) → StoresOnly (IsDivideWord capacity d) v w → IsDivided capacity class d v w
     → IsCut capacity (λ word. volatile_at v word) (λ word. volatile_at w word) class d

@@ -310,7 +310,7 @@ module _ (p : Parts) (class : ℕ) (is : IsClass class) (run : IsRunning p) (fro
         (sym rest_long) few_rest cached start
 
     -- infos and `used` stay, the shape is kept, and no superblock is lost
-    gave_fixed : KeepsFixed p w
+    pub gave_fixed : KeepsFixed p w
     gave_fixed =
         let within = is_front.within in
         keeps_fixed p w (IsGiveWord front.d front.batch) run stores given.goes.running given.goes.below
@@ -379,7 +379,7 @@ module _ (p : Parts) (class : ℕ) (is : IsClass class) (run : IsRunning p) (fro
           push_other l l_below other (inr at) = omega arith
 
       -- infos and `used` stay here too, and so no superblock is lost
-      listed_fixed : list < lists → KeepsFixed p x
+      pub listed_fixed : list < lists → KeepsFixed p x
       listed_fixed below =
           let within = is_front.within in
           keeps_fixed p x (IsEitherWord list) run (both_stores w x list stores push_stores) pushed.goes.running pushed.goes.below

@@ -308,7 +308,7 @@ module _ (class : ℕ) (p q r : Parts) (front : Front) (before : IsFlushed class
       serves = serves_then p r t (held_in p) front_serves (subst (λ h. Serves h r t) front_held gave_serve);
       taken = gave_taken ∙ taken ∙ before.taken;
       order = flushes_more class p q r t is (first.caches class is).most before.order serves.capacity volatile (ap (λ (xs : List Cache). cache_at xs class) caches)
-          run front is_front longest some_given to gives.cache;
+          run front is_front longest some_given to gave_serve.capacity gives.cache;
     }
 
     pub flushed_less : (cache_at t.caches class).count < (cache_at q.caches class).count

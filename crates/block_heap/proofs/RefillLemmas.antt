@@ -31,6 +31,16 @@ use Rattle.block_heap.proofs.RunningLemmas.{set_is, running_words}
 use Rattle.block_heap.proofs.LookLemmas.{looks_kept, looks_then, IsNextLook, looked_at_head}
 use Rattle.block_heap.proofs.StableLemmas.{works_of, works_then, works_none}
 
+-- a cache with these numbers
+pub cache_set : (caches : List Cache) (class first count f n : ℕ) → first ≡ f → count ≡ n
+    → set caches class (record { first = first; count = count }) ≡ set caches class (record { first = f; count = n })
+cache_set caches class first count f n at many = ap (λ k. set caches class (record { first = k; count = count })) at ∙ ap
+    (λ k. set caches class (record { first = f; count = k })) many
+
+-- a list where such a number was set
+pub number_set : (xs new : List ℕ) (at n m : ℕ) → new ≡ set xs at n → n ≡ m → new ≡ set xs at m
+number_set xs new at n m is same = is ∙ ap (λ k. set xs at k) same
+
 -- a head, or the anchor or the link of a superblock
 pub data IsMoved (capacity word : ℕ) : Type 0 where
   a_head : (list : ℕ) → list < lists → word ≡ head_word list → IsMoved capacity word

@@ -1,19 +1,20 @@
 -- Where the blocks of a cache go as it is given back.
-use Rattle.std.proofs.Common.{◌≡◌, ◌≢◌, ℕ, ◌<◌, ◌≤◌, ◌⊎◌, inl, inr, nat_eq, eq-eqb, List, [], ◌∷◌, ◌++◌, length, get_or, set, Contains, refl, ap, sym, subst, ◌∙◌, arith, length-append, append-nil}
+use Rattle.std.proofs.Common.{◌≡◌, ◌≢◌, ℕ, ◌<◌, ◌≤◌, ◌⊎◌, inl, inr, nat_eq, eq-eqb, zero, suc, List, [], ◌∷◌, ◌++◌, length, get_or, set, Contains, refl, ap, sym, subst, ◌∙◌, arith, length-append, append-nil}
 use Rattle.std.proofs.lemmas.Bool.{cases_eq}
 use Rattle.std.proofs.lemmas.List.Elements.{Contains-append_left, Contains-append_right}
 use Rattle.heap_model.specs.declared.block.Block.{Block}
-use Rattle.heap_model.specs.Geometry.{lists}
+use Rattle.heap_model.specs.Geometry.{lists, info_word}
+use Rattle.heap_model.specs.Counting.{times}
 use Rattle.heap_model.specs.Sizes.{IsClass, blocks_of}
 use Rattle.heap_model.specs.Chains.{Walks}
 use Rattle.heap_model.proofs.CountingLemmas.{one_if_true, times_some}
 use Rattle.heap_model.proofs.MemberLemmas.{in_head, in_rest, head_or_rest}
 use Rattle.heap_model.proofs.SizeLemmas.{four_blocks}
-use Rattle.heap_shape.specs.Shape.{Shape, Place, in_list, stands_in, with_at}
-use Rattle.heap_shape.specs.Standing.{IsFirstOf}
+use Rattle.heap_shape.specs.Shape.{Shape, Place, in_list, is_full, in_large, is_new, stands_in, with_at}
+use Rattle.heap_shape.specs.Standing.{first_of, IsFirstOf, HoldsAt, HasOneOwner, a_free, a_held, IsAs}
 use Rattle.heap_shape.specs.Whole.{IsShape}
 use Rattle.heap_shape.specs.Effects.{IsInSuperblock}
-use Rattle.heap_shape.proofs.BasicLemmas.{with_at_same, with_at_other, first_inside, inside_one, in_class_list}
+use Rattle.heap_shape.proofs.BasicLemmas.{with_at_same, with_at_other, first_inside, inside_one, in_class_list, cached_of_class, times_of}
 use Rattle.line_memory.specs.View.{View, volatile_at}
 use Rattle.anchor_word.specs.declared.anchor.Anchor.{Anchor}
 use Rattle.anchor_word.specs.declared.anchor.State.TheVariants.{Full}
@@ -27,7 +28,7 @@ use Rattle.block_heap.specs.Medium.{StoresOnly}
 use Rattle.block_heap.specs.Parts.{Parts, image_of, held_in, cache_at}
 use Rattle.block_heap.specs.Returns.{CachesAlong, CachesAllOf, Flushes, IsLongest, GivesTo}
 use Rattle.block_heap.specs.Running.{IsRunning}
-use Rattle.block_heap.proofs.FlushLemmas.{split, rest_long, none_of_zero, front_fits, gave_listed, gave_shape, all_shape, some_shape}
+use Rattle.block_heap.proofs.FlushLemmas.{split, rest_long, none_of_zero, front_fits, gave_listed, gave_shape, gave_fixed, listed_fixed, all_shape, some_shape}
 use Rattle.block_heap.proofs.OrderLemmas.{in_list_along, list_kept, list_same}
 use Rattle.block_heap.proofs.SmallLemmas.{changed}
 
@@ -123,6 +124,7 @@ module _ (p : Parts) (class : ℕ) (is : IsClass class) (run : IsRunning p) (fro
       some = λ some. in_list_along (parts_with w) class front.d (run.shape.listed class) class_now
           (listed_where p.capacity (image_of p) (held_in p) run.shape run.is class front.d below stands);
       only = λ d there. inl (list_kept (parts_with w) p 0 0 (run.shape.listed 0) (run.shape.listed 0) free_now free_leads (λ e has. has) d there);
+      infos = (gave_fixed p class is run front is_front w anchor given stores).infos;
     }
 
   -- to a full one, which went to a list
@@ -156,6 +158,9 @@ module _ (p : Parts) (class : ℕ) (is : IsClass class) (run : IsRunning p) (fro
               ]
         ]
 
+    infos_kept : (d : ℕ) → d < p.capacity → volatile_at x (info_word d) ≡ image_of p (info_word d)
+    infos_kept = (listed_fixed p class is run front is_front w anchor given stores full list x pushed push_stores list_below).infos
+
     listed_all : front.batch.count ≡ blocks_of class → list ≡ 0 → GivesTo class front p (parts_with x)
     listed_all all same = record {
       free = kept_in 0 (omega arith);
@@ -164,6 +169,7 @@ module _ (p : Parts) (class : ℕ) (is : IsClass class) (run : IsRunning p) (fro
       some = λ some. absurd (some all);
       only = λ d there. elim (free_only d there) as (λ _. IsInList p 0 d ⊎ ((d ≡ front.d) × (front.batch.count ≡ blocks_of class)))
           [ inl before ↦ inl before | inr now ↦ inr (now.0, all) ];
+      infos = infos_kept;
     }
 
     listed_some : front.batch.count ≢ blocks_of class → list ≡ class → GivesTo class front p (parts_with x)
@@ -174,6 +180,7 @@ module _ (p : Parts) (class : ℕ) (is : IsClass class) (run : IsRunning p) (fro
       some = λ _. subst (λ k. IsInList (parts_with x) k front.d) same here;
       only = λ d there. elim (free_only d there) as (λ _. IsInList p 0 d ⊎ ((d ≡ front.d) × (front.batch.count ≡ blocks_of class)))
           [ inl before ↦ inl before | inr now ↦ absurd (let from = is.some in let zero = now.1 in omega arith) ];
+      infos = infos_kept;
     }
 
   module _ (full : anchor.state ≡ Full) (list : ℕ) (x : View) (pushed : IsPushed list front.d w x) (push_stores : StoresOnly (IsPushWord list front.d) w x) where
@@ -273,17 +280,19 @@ pub record FlushesSoFar (class : ℕ) (p q : Parts) : Type 0 where
   pub free : KeepsFree p q
   pub listed : (d : ℕ) → IsInList p class d → IsInList q class d
   pub only : (d : ℕ) → IsInList q 0 d → IsInList p 0 d ⊎ CachesAllOf class d p
+  pub same_capacity : q.capacity ≡ p.capacity
+  pub infos : (d : ℕ) → d < p.capacity → image_of q (info_word d) ≡ image_of p (info_word d)
   pub way : ((q.capacity ≡ p.capacity) × (q.words.volatile ≡ p.words.volatile) × (cache_at q.caches class ≡ cache_at p.caches class))
       ⊎ (((cache_at q.caches class).count < (cache_at p.caches class).count) × ((d : ℕ) → CachesAllOf class d p → IsInList q 0 d))
 
 pub flushes_none : (class : ℕ) (p : Parts) → FlushesSoFar class p p
-flushes_none class p = record { free = λ d there. there; listed = λ d there. there; only = λ d there. inl there; way = inl (refl, refl, refl) }
+flushes_none class p = record { free = λ d there. there; listed = λ d there. there; only = λ d there. inl there; same_capacity = refl; infos = λ d below. refl; way = inl (refl, refl, refl) }
 
 -- one front more
 module _ (class : ℕ) (p q r t : Parts) (is : IsClass class) (most : (cache_at p.caches class).count ≤ blocks_of class) (before : FlushesSoFar class p q)
     (capacity : r.capacity ≡ q.capacity) (volatile : r.words.volatile ≡ q.words.volatile) (cache : cache_at r.caches class ≡ cache_at q.caches class)
     (run : IsRunning r) (front : Front) (is_front : IsFront class front r) (longest : IsLongest front r) (some : 1 ≤ front.batch.count)
-    (to : GivesTo class front r t) (back : cache_at t.caches class ≡ front.rest) where
+    (to : GivesTo class front r t) (now_capacity : t.capacity ≡ r.capacity) (back : cache_at t.caches class ≡ front.rest) where
   loaded : (list d : ℕ) → IsInList q list d → IsInList r list d
   loaded list d there = list_same q r list d capacity volatile there
 
@@ -321,6 +330,10 @@ module _ (class : ℕ) (p q r t : Parts) (is : IsClass class) (most : (cache_at 
       | inl was ↦ before.only d (list_same r q 0 d (sym capacity) (sym volatile) was)
       | inr now ↦ inr (subst (λ k. CachesAllOf class k p) (sym now.0) (was_all now.1))
     ];
+    same_capacity = now_capacity ∙ capacity ∙ before.same_capacity;
+    infos = λ d below.
+        let inside : d < r.capacity = subst (λ n. d < n) (sym (capacity ∙ before.same_capacity)) below in
+        to.infos d inside ∙ ap (λ (xs : List ℕ). get_or xs (info_word d) 0) volatile ∙ before.infos d below;
     way = inr (
       elim before.way as (λ _. (cache_at t.caches class).count < (cache_at p.caches class).count) [
         | inl same ↦ let count : (cache_at q.caches class).count ≡ (cache_at p.caches class).count = ap (λ (x : Cache). x.count) same.2 in let less = shorter in omega arith
@@ -330,9 +343,70 @@ module _ (class : ℕ) (p q r t : Parts) (is : IsClass class) (most : (cache_at 
     );
   }
 
+-- a cached block was free, and it is in the chain of a listed superblock when the cache is empty
+module _ (class : ℕ) (p q : Parts) (is : IsClass class) (run : IsRunning p) (now : IsRunning q) (held : held_in q ≡ held_in p)
+    (so_far : FlushesSoFar class p q) (empty : (cache_at q.caches class).count ≡ 0) where
+  not_held : (word : ℕ) → Contains (run.shape.cached class) word → HoldsAt (held_in p) word → ⊥
+  not_held word has =
+      let found = run.is.cached class word is has in
+      let of = cached_of_class p.capacity (image_of p) (held_in p) run.shape run.is class word is has in
+      let first = found.is_first in
+      by_owner found.superblock (subst (HasOneOwner run.shape (held_in p) class found.superblock) (sym first.at) (of.owned first.index first.below))
+    where
+      by_owner : (d : ℕ) → HasOneOwner run.shape (held_in p) class d word → HoldsAt (held_in p) word → ⊥
+      by_owner d (a_free one none) = none
+      by_owner d (a_held none holds) = λ _. let some = times_of word (run.shape.cached class) has in omega arith
+
+  none_cached : now.shape.cached class ≡ []
+  none_cached = none_of_zero (now.shape.cached class) (sym (now.caches class is).count ∙ empty)
+
+  pub listed_now : (word d : ℕ) → Contains (run.shape.cached class) word → IsFirstOf p.capacity class d word → IsInList q class d ⊎ IsInList q 0 d
+  listed_now word d has first = by_place (now.shape.place d) refl (now.is.places d (subst (λ n. d < n) (sym so_far.same_capacity) below)) where
+    found_is : (run.is.cached class word is has).superblock ≡ d
+    found_is =
+        let found = run.is.cached class word is has in
+        inside_one p.capacity found.superblock d word (first_inside p.capacity class found.superblock word is found.is_first) (first_inside p.capacity class d word is first)
+
+    below : d < p.capacity
+    below = subst (λ k. k < p.capacity) found_is (run.is.cached class word is has).within
+
+    was_info : image_of p (info_word d) ≡ class
+    was_info = subst (λ k. image_of p (info_word k) ≡ class) found_is (cached_of_class p.capacity (image_of p) (held_in p) run.shape run.is class word is has).info
+
+    info : image_of q (info_word d) ≡ class
+    info = so_far.infos d below ∙ was_info
+
+    in_list_of : (list : ℕ) → list < lists → now.shape.place d ≡ in_list list → IsInList q list d
+    in_list_of list less at = in_list_along q list d (now.shape.listed list) (now.is.follows list less)
+        (listed_where q.capacity (image_of q) (held_in q) now.shape now.is list d less at)
+
+    by_owner : (c : ℕ) → c ≡ class → now.shape.chain d ≡ [] → HasOneOwner now.shape (held_in q) c d word → ⊥
+    by_owner c same chain (a_free one none) =
+        let cached : now.shape.cached c ≡ [] = ap now.shape.cached same ∙ none_cached in
+        let in_chain : times word (now.shape.chain d) ≡ 0 = ap (times word) chain in
+        let in_cache : times word (now.shape.cached c) ≡ 0 = ap (times word) cached in
+        omega arith
+    by_owner c same chain (a_held none holds) = not_held word has (subst (λ (blocks : List Block). HoldsAt blocks word) held holds)
+
+    by_place : (place : Place) → now.shape.place d ≡ place → IsAs q.capacity (image_of q) now.shape (held_in q) d place → IsInList q class d ⊎ IsInList q 0 d
+    by_place (in_list zero) at free = inr (in_list_of 0 (omega arith) at)
+    by_place (in_list (suc c)) at listed =
+        let same : suc c ≡ class = sym listed.of_class.info ∙ info in
+        let last = is.last in
+        inl (in_list_of class (omega arith) (at ∙ ap in_list same))
+    by_place is_full at full =
+        let same : first_of q.capacity (image_of q (info_word d)) d first.index ≡ word =
+        ap (λ c. first_of q.capacity c d first.index) info ∙ ap (λ n. first_of n class d first.index) so_far.same_capacity ∙ sym first.at in
+        absurd (by_owner (image_of q (info_word d)) info full.none
+        (subst (HasOneOwner now.shape (held_in q) (image_of q (info_word d)) d) same
+        (full.of_class.owned first.index (subst (λ c. first.index < blocks_of c) (sym info) first.below))))
+    by_place in_large at large = absurd (large.no_class (subst IsClass (sym info) is))
+    by_place is_new at new = absurd (let some = is.some in let none = new.info in let cut = info in omega arith)
+
 -- all was given back
-pub flushes_all : (class : ℕ) (p q : Parts) → IsClass class → FlushesSoFar class p q → KeepsAll class p q → (cache_at q.caches class).count ≡ 0 → Flushes class p q
-flushes_all class p q is so_far keeps empty = record {
+pub flushes_all : (class : ℕ) (p q : Parts) → IsClass class → IsRunning p → IsRunning q → held_in q ≡ held_in p → FlushesSoFar class p q → KeepsAll class p q
+    → (cache_at q.caches class).count ≡ 0 → Flushes class p q
+flushes_all class p q is run now held so_far keeps empty = record {
   empty = empty;
   caches = keeps.caches;
   free = so_far.free;
@@ -345,4 +419,6 @@ flushes_all class p q is so_far keeps empty = record {
     | inr done ↦ done.1 d all
   ];
   only = so_far.only;
+  given = λ words along word d has first.
+      listed_now class p q is run now held so_far empty word d (subst (λ ws. Contains ws word) (along_one p class words is run along) has) first;
 }

@@ -1,6 +1,7 @@
 -- Where freed blocks go.
 use Rattle.std.specs.Prelude.{◌≡◌, ◌≢◌, ℕ, ◌+◌, ◌<◌, ◌⊎◌, List, length, slice_set, Contains}
 use Rattle.heap_model.specs.declared.block.Block.{Block}
+use Rattle.heap_model.specs.Geometry.{info_word}
 use Rattle.heap_model.specs.Sizes.{IsClass, blocks_of, words_of_class}
 use Rattle.heap_model.specs.Recovered.{HasPartIn}
 use Rattle.heap_model.specs.Chains.{Walks}
@@ -30,7 +31,7 @@ pub record CachesBlock (class word : ℕ) (p q : Parts) : Type 0 where
   pub caches : (c : ℕ) → IsClass c → c ≢ class → cache_at q.caches c ≡ cache_at p.caches c
   pub volatile : q.words.volatile ≡ slice_set p.words.volatile word (cache_at p.caches class).first
 
--- the cache was given back: a superblock came to the free list exactly where the cache had exactly its blocks, and no list loses one
+-- the cache was given back, so that a superblock of each of its blocks is in the list of the class or in the free list: it came to the free list exactly where the cache had exactly its blocks, and no list loses one
 pub record Flushes (class : ℕ) (p q : Parts) : Type 0 where
   pub empty : (cache_at q.caches class).count ≡ 0
   pub caches : (c : ℕ) → IsClass c → c ≢ class → cache_at q.caches c ≡ cache_at p.caches c
@@ -38,6 +39,8 @@ pub record Flushes (class : ℕ) (p q : Parts) : Type 0 where
   pub listed : (d : ℕ) → IsInList p class d → IsInList q class d
   pub all : (d : ℕ) → CachesAllOf class d p → IsInList q 0 d
   pub only : (d : ℕ) → IsInList q 0 d → IsInList p 0 d ⊎ CachesAllOf class d p
+  pub given : (words : List ℕ) → CachesAlong class p words → (word d : ℕ) → Contains words word → IsFirstOf p.capacity class d word
+      → IsInList q class d ⊎ IsInList q 0 d
 
 -- a freed block goes in front of the cache, which is given back where it has as many blocks then as a superblock
 pub data FreesInClass (class word : ℕ) (p r : Parts) : Type 0 where
@@ -73,6 +76,7 @@ pub record GivesTo (class : ℕ) (front : Front) (p q : Parts) : Type 0 where
   pub all : front.batch.count ≡ blocks_of class → IsInList q 0 front.d
   pub some : front.batch.count ≢ blocks_of class → IsInList q class front.d
   pub only : (d : ℕ) → IsInList q 0 d → IsInList p 0 d ⊎ ((d ≡ front.d) × (front.batch.count ≡ blocks_of class))
+  pub infos : (d : ℕ) → d < p.capacity → image_of q (info_word d) ≡ image_of p (info_word d)
 
 -- superblock d is in the free list, which loses none
 abbrev pub FreesOne : ℕ → Parts → Parts → Type 0

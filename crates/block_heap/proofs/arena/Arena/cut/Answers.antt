@@ -2,7 +2,7 @@ use Rattle.std.proofs.Common.{◌/◌}
 use Rattle.heap_model.specs.Geometry.{start_word}
 use Rattle.heap_model.specs.Sizes.{blocks_of, words_of_class}
 use Rattle.block_heap.proofs.AnchorLemmas.{words_by_bytes}
-use Rattle.block_heap.proofs.CutStepLemmas.{cache_set, number_set}
+use Rattle.block_heap.proofs.RefillLemmas.{cache_set, number_set}
 use Rattle.block_heap.proofs.arena.Arena.cut.Goals as goal
 
 pub returns-clause-ok : goal.returns-clause-ok

@@ -51,4 +51,5 @@ returns-clause-order g c =
     let read = read_cache q c.args.class c.index.result.now c.requires.class c.loop-self.invariant.running c.index.ensures in
     let count : c.index.result.now.count ≡ (cache_at q.caches c.args.class).count = ap (λ (x : Cache). x.count) read in
     let past = c.loop-self-test.false in
-    flushes_all c.args.class (parts_of c.args.self.now) q c.requires.class c.loop-self.invariant.order c.loop-self.invariant.keeps (omega arith)
+    flushes_all c.args.class (parts_of c.args.self.now) q c.requires.class c.requires.running c.loop-self.invariant.running
+    c.loop-self.invariant.held c.loop-self.invariant.order c.loop-self.invariant.keeps (omega arith)
