@@ -1,9 +1,10 @@
 -- In which list a superblock is, and how a request of a class comes to its block in order.
-use Rattle.std.proofs.Common.{◌≡◌, ◌≢◌, ℕ, ◌⊎◌, inl, inr, List, [], get_or, Contains, refl, ap, sym, subst, ◌∙◌}
+use Rattle.std.proofs.Common.{◌≡◌, ◌≢◌, ℕ, ◌⊎◌, inl, inr, List, [], get_or, Contains, refl, ap, sym, subst, ◌∙◌, ◌∷◌, ◌++◌, append_assoc}
+use Rattle.std.proofs.lemmas.List.Elements.{Contains-append_cases}
 use Rattle.heap_model.specs.declared.block.Block.{Block}
 use Rattle.heap_model.specs.Geometry.{anchor_word, link_word, start_word}
 use Rattle.heap_model.specs.Sizes.{words_of_class, blocks_of}
-use Rattle.heap_model.specs.Words.{head_first, anchor_state, anchor_first, anchor_count}
+use Rattle.heap_model.specs.Words.{head_first, anchor_state, anchor_first, anchor_count, empty_state}
 use Rattle.heap_model.proofs.MemberLemmas.{in_none}
 use Rattle.heap_model.proofs.PartLemmas.{same_fields}
 use Rattle.heap_shape.specs.Standing.{first_of}
@@ -30,10 +31,13 @@ pub list_kept : (p q : Parts) (list other : ℕ) (ds es : List ℕ) → LeadsAlo
 list_kept p q list other ds es leads now all d before = in_list_along q other d es now (all d (before ds leads))
 
 -- lists stay where loads see the same
+pub leads_same : (p q : Parts) (list : ℕ) (ds : List ℕ) → q.capacity ≡ p.capacity → q.words.volatile ≡ p.words.volatile → LeadsAlong q list ds → LeadsAlong p list ds
+leads_same p q list ds capacity same leads =
+    subst (λ n. LeadsAlong (record p { capacity = n }) list ds) capacity
+    (subst (λ (xs : List ℕ). LeadsAlong (record q { words = record q.words { volatile = xs } }) list ds) same leads)
+
 pub list_same : (p q : Parts) (list d : ℕ) → q.capacity ≡ p.capacity → q.words.volatile ≡ p.words.volatile → IsInList p list d → IsInList q list d
-list_same p q list d capacity same before ds leads =
-    before ds (subst (λ n. LeadsAlong (record p { capacity = n }) list ds) capacity
-    (subst (λ (xs : List ℕ). LeadsAlong (record q { words = record q.words { volatile = xs } }) list ds) same leads))
+list_same p q list d capacity same before ds leads = before ds (leads_same p q list ds capacity same leads)
 
 -- an empty list has nothing to give
 pub nothing_in_empty : (class : ℕ) (p : Parts) → IsEmptyList p class → HasNothing class p
@@ -44,6 +48,7 @@ pub moves_none : (class : ℕ) (p : Parts) → MovesEmpty class p p
 moves_none class p = record {
   capacity = refl;
   anchors = λ d. refl;
+  passed = λ ds leads. ([], leads, λ e none. absurd (in_none e none));
   was = λ d listed. listed;
   nothing = λ none. none;
   free = λ d listed. listed;
@@ -54,6 +59,16 @@ pub moves_then : (class : ℕ) (p q r : Parts) → MovesEmpty class p q → Move
 moves_then class p q r a b = record {
   capacity = b.capacity ∙ a.capacity;
   anchors = λ d. b.anchors d ∙ a.anchors d;
+  passed = λ ds leads.
+      let second = b.passed ds leads in
+      let first = a.passed (second.0 ++ ds) second.1 in (
+        first.0 ++ second.0,
+        subst (λ es. LeadsAlong p class es) (sym (append_assoc first.0 second.0 ds)) first.1,
+        λ e has. elim (Contains-append_cases first.0 second.0 e has) as (λ _. anchor_state (image_of p (anchor_word e)) ≡ empty_state) [
+          | inl early ↦ first.2 e early
+          | inr late ↦ ap anchor_state (sym (a.anchors e)) ∙ second.2 e late
+        ],
+      );
   was = λ d listed. a.was d (b.was d listed);
   nothing = λ none. a.nothing (b.nothing none);
   free = λ d listed. b.free d (a.free d listed);
@@ -65,6 +80,7 @@ pub moves_same : (class : ℕ) (p q : Parts) → q.capacity ≡ p.capacity → q
 moves_same class p q capacity same = record {
   capacity = capacity;
   anchors = λ d. ap (λ (xs : List ℕ). get_or xs (anchor_word d) 0) same;
+  passed = λ ds leads. ([], leads_same p q class ds capacity same leads, λ e none. absurd (in_none e none));
   was = λ d listed. list_same q p class d (sym capacity) (sym same) listed;
   nothing = λ none d listed. ap (λ (xs : List ℕ). anchor_state (get_or xs (anchor_word d) 0)) (sym same) ∙ none d (list_same p q class d capacity same listed);
   free = λ d listed. list_same p q 0 d capacity same listed;
@@ -74,8 +90,16 @@ moves_same class p q capacity same = record {
 -- a superblock whose free blocks were taken after that
 pub takes_after : (class d : ℕ) (p q r : Parts) → MovesEmpty class p q → q.taken ≡ p.taken → TakesAll class d q r → TakesAll class d p r
 takes_after class d p q r moves taken takes =
-    let same : image_of q (anchor_word d) ≡ image_of p (anchor_word d) = moves.anchors d in record {
-      listed = moves.was d takes.listed;
+    let same : image_of q (anchor_word d) ≡ image_of p (anchor_word d) = moves.anchors d in
+    let found = moves.passed (takes.before ++ d ∷ takes.behind) takes.leads in record {
+      before = found.0 ++ takes.before;
+      behind = takes.behind;
+      leads = subst (λ es. LeadsAlong p class es) (sym (append_assoc found.0 takes.before (d ∷ takes.behind))) found.1;
+      passed = λ e has. elim (Contains-append_cases found.0 takes.before e has) as (λ _. anchor_state (image_of p (anchor_word e)) ≡ empty_state) [
+        | inl early ↦ found.2 e early
+        | inr late ↦ ap anchor_state (sym (moves.anchors e)) ∙ takes.passed e late
+      ];
+      rest = takes.rest;
       partial = ap anchor_state (sym same) ∙ takes.partial;
       cache = takes.cache
           ∙ ap (λ n. record { first = first_of n class d (anchor_first (image_of q (anchor_word d))); count = anchor_count (image_of q (anchor_word d)) }) moves.capacity

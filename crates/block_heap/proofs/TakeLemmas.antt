@@ -1,11 +1,11 @@
 -- The first superblock of a class list: its free blocks fill the empty cache, or it goes to the free list.
-use Rattle.std.proofs.Common.{◌≡◌, ◌≢◌, ℕ, ◌+◌, ◌<◌, ◌≤◌, ◌⊎◌, inl, inr, Option, None, Some, List, ◌∷◌, length, get_or, set, Contains, refl, ap, sym, subst, ◌∙◌, arith, get_or-set_same, length-set}
+use Rattle.std.proofs.Common.{◌≡◌, ◌≢◌, ℕ, ◌+◌, ◌<◌, ◌≤◌, ◌⊎◌, inl, inr, Option, None, Some, List, [], ◌∷◌, length, get_or, set, refl, ap, sym, subst, ◌∙◌, arith, get_or-set_same, length-set}
 use Rattle.std.proofs.lemmas.Bool.{cases_eq}
 use Rattle.heap_model.specs.Geometry.{lists, head_word, info_word, anchor_word, link_word, used_word, largest_capacity_fits}
 use Rattle.heap_model.specs.Sizes.{IsClass, blocks_of}
 use Rattle.heap_model.specs.Words.{head_first, head_pops, head_of, anchor_state, anchor_first, anchor_count, empty_state, partial_state, full_anchor}
 use Rattle.heap_model.specs.Chains.{Follows}
-use Rattle.heap_model.proofs.MemberLemmas.{in_head, in_rest, head_or_rest}
+use Rattle.heap_model.proofs.MemberLemmas.{in_none, in_head, in_rest, head_or_rest}
 use Rattle.heap_shape.specs.Shape.{in_list, is_full, Shape, with_at}
 use Rattle.heap_shape.specs.Standing.{first_of, IsListed}
 use Rattle.heap_shape.specs.Effects.{IsSet, IsPushedOn}
@@ -174,7 +174,11 @@ module _ (p : Parts) (class d : ℕ) (popped : Popped) (w : View) (look : Look) 
 
       pub taken_all : TakesAll class d p taken_parts
       taken_all = record {
-        listed = in_list_along p class d (run.shape.listed class) (run.is.follows class below) (subst (λ xs. Contains xs d) (sym listed) (in_head d rest));
+        before = [];
+        behind = rest;
+        leads = subst (λ (ds : List ℕ). LeadsAlong p class ds) listed (run.is.follows class below);
+        passed = λ e none. absurd (in_none e none);
+        rest = taken_list class rest below (with_at_same run.shape.listed class rest);
         partial = ap anchor_state (sym anchor_kept) ∙ is_taken.words.0;
         cache = get_or-set_same p.caches class cache (record { first = 0; count = 0 }) (let long = run.caches_long in let less = below in omega arith)
             ∙ same_cache cache (record { first = first; count = anchor_count (image_of p (anchor_word d)) }) cache_first (is_taken.words.2 ∙ ap anchor_count anchor_kept);
@@ -355,6 +359,15 @@ module _ (p : Parts) (class d : ℕ) (popped : Popped) (w : View) (look : Look) 
         recycled_moves = record {
           capacity = refl;
           anchors = anchors_stay;
+          passed = λ ds leads. (
+            d ∷ [],
+            subst (λ es. LeadsAlong p class (d ∷ es))
+                (one_following (λ e. image_of recycled (link_word e)) p.capacity (head_first (head_at recycled class)) rest ds rest_leads leads) list_leads,
+            λ e has. elim (head_or_rest d e [] has) as (λ _. anchor_state (image_of p (anchor_word e)) ≡ empty_state) [
+              | inl same ↦ subst (λ k. anchor_state (image_of p (anchor_word k)) ≡ empty_state) same all_free
+              | inr none ↦ absurd (in_none e none)
+            ],
+          );
           was = list_kept recycled p class class rest (d ∷ rest) rest_leads list_leads (λ e. in_rest d e rest);
           nothing = λ none e there. elim (head_or_rest d e rest (there (d ∷ rest) list_leads)) as (λ _. anchor_state (image_of p (anchor_word e)) ≡ empty_state) [
             | inl same ↦ subst (λ k. anchor_state (image_of p (anchor_word k)) ≡ empty_state) same all_free

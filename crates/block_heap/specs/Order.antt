@@ -1,5 +1,5 @@
 -- Where a request of a class gets its block.
-use Rattle.std.specs.Prelude.{◌≡◌, ◌≢◌, ℕ, ◌+◌, ◌≤◌, ◌⊎◌, ⊤, Bool, true, false, Option, MatchOption}
+use Rattle.std.specs.Prelude.{◌≡◌, ◌≢◌, ℕ, ◌+◌, ◌≤◌, ◌⊎◌, ⊤, Bool, true, false, Option, MatchOption, List, ◌∷◌, ◌++◌, Contains}
 use Rattle.heap_model.specs.declared.block.Block.{Block}
 use Rattle.heap_model.specs.Geometry.{anchor_word, info_word, used_word, start_word}
 use Rattle.heap_model.specs.Sizes.{IsClass, IsLeastClassFor, blocks_of, words_of_class}
@@ -8,16 +8,20 @@ use Rattle.heap_shape.specs.Standing.{first_of}
 use Rattle.heap_shape.specs.Moves.{AddsTo}
 use Rattle.block_heap.specs.declared.refill.Found.{Found}
 use Rattle.block_heap.specs.declared.refill.Found.TheVariants.{Blocks, Recycled, Nothing}
-use Rattle.block_heap.specs.Lists.{IsEmptyList, IsInList, KeepsFree}
+use Rattle.block_heap.specs.Lists.{IsEmptyList, LeadsAlong, IsInList, KeepsFree}
 use Rattle.block_heap.specs.Parts.{Parts, image_of, held_in, cache_at}
 
 -- each superblock in the list of the class has all its blocks free: the list has nothing to give
 abbrev pub HasNothing : ℕ → Parts → Type 0
 HasNothing class p = (d : ℕ) → IsInList p class d → anchor_state (image_of p (anchor_word d)) ≡ empty_state
 
--- superblock d of the list of the class has blocks in use, and all that it had free are in the cache
+-- superblock d is the first in the list of the class that has blocks in use: all that it had free are in the cache, and the list begins behind it
 pub record TakesAll (class d : ℕ) (p q : Parts) : Type 0 where
-  pub listed : IsInList p class d
+  pub before : List ℕ
+  pub behind : List ℕ
+  pub leads : LeadsAlong p class (before ++ d ∷ behind)
+  pub passed : (e : ℕ) → Contains before e → anchor_state (image_of p (anchor_word e)) ≡ empty_state
+  pub rest : LeadsAlong q class behind
   pub partial : anchor_state (image_of p (anchor_word d)) ≡ partial_state
   pub cache : cache_at q.caches class ≡ record {
     first = first_of p.capacity class d (anchor_first (image_of p (anchor_word d)));
@@ -73,6 +77,8 @@ IsServedInOrder bytes p q = (class : ℕ) → IsLeastClassFor bytes class → Is
 pub record MovesEmpty (class : ℕ) (p q : Parts) : Type 0 where
   pub capacity : q.capacity ≡ p.capacity
   pub anchors : (d : ℕ) → image_of q (anchor_word d) ≡ image_of p (anchor_word d)
+  pub passed : (ds : List ℕ) → LeadsAlong q class ds → (es : List ℕ) × LeadsAlong p class (es ++ ds)
+      × ((e : ℕ) → Contains es e → anchor_state (image_of p (anchor_word e)) ≡ empty_state)
   pub was : (d : ℕ) → IsInList q class d → IsInList p class d
   pub nothing : HasNothing class q → HasNothing class p
   pub free : KeepsFree p q
