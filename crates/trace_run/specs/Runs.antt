@@ -1,0 +1,92 @@
+-- What a run of a trace by one worker is: which requests are answered, with which replies, and what image is left.
+use Rattle.std.specs.Prelude.{◌≡◌, ℕ, ◌+◌, ◌*◌, ◌<◌, ◌≤◌, ◌⊎◌, Bool, true, false, cond, List, [], ◌∷◌, ◌++◌, length, map, filter, replicate, sum_by, Option, None, Some}
+use Rattle.heap_model.specs.declared.block.Block.{Block}
+use Rattle.heap_model.specs.Image.{Image}
+use Rattle.heap_model.specs.Geometry.{clean, dirty, state_word, root_word, roots, IsReserved}
+use Rattle.heap_model.specs.Header.{header_fault, capacity_of, used_of}
+use Rattle.heap_model.specs.Blocks.{IsIn}
+use Rattle.heap_model.specs.Reach.{ReachFrom, IsOutside}
+use Rattle.dict_model.specs.Links.{shards, dict_links, root_kind}
+use Rattle.dict_model.specs.Requests.{Request, put, Reply, done, full, after, after_one, AreReplies}
+use Rattle.dict_model.specs.Shards.{Map, MapOf}
+use Rattle.trace_run.specs.Needs.{is_to, node_span, shards_put_into, ListsKeysOf, step_bound}
+
+-- the replies to a trace: none where a request is unanswered
+abbrev pub Replies : Type 0
+Replies = List (Option Reply)
+
+-- the requests that have a reply, each with it
+abbrev pub answered : List Request → Replies → List (Request × Reply)
+answered [] replies = []
+answered (request ∷ requests) [] = []
+answered (request ∷ requests) (None ∷ replies) = answered requests replies
+answered (request ∷ requests) (Some reply ∷ replies) = (request, reply) ∷ answered requests replies
+
+-- the requests that have none
+abbrev pub unanswered : List Request → Replies → List Request
+unanswered [] replies = []
+unanswered (request ∷ requests) [] = request ∷ unanswered requests []
+unanswered (request ∷ requests) (None ∷ replies) = request ∷ unanswered requests replies
+unanswered (request ∷ requests) (Some reply ∷ replies) = unanswered requests replies
+
+-- those of one shard
+abbrev pub of_shard : ℕ → List (Request × Reply) → List (Request × Reply)
+of_shard shard rs = filter (λ r. is_to shard r.0) rs
+
+-- a first part of the trace is answered, and the rest is not
+pub record AnswersInOrder (requests : List Request) (replies : Replies) : Type 0 where
+  pub first : requests ≡ map (λ r. r.0) (answered requests replies) ++ unanswered requests replies
+  pub then_none : replies ≡ map (λ r. Some r.1) (answered requests replies) ++ replicate (length (unanswered requests replies)) None
+
+-- the run is stopped only where its budget is below the bound, and where it isn't stopped all is answered
+pub record StopsRightly (image : Image) (requests : List Request) (budget : ℕ) (replies : Replies) (stopped : Bool) : Type 0 where
+  pub all : stopped ≡ false → unanswered requests replies ≡ []
+  pub cause : stopped ≡ true → (keys : List ℕ) → ListsKeysOf image keys → budget < step_bound (length requests) (length keys) 1
+
+-- the superblocks that a request took at most, by its reply
+abbrev pub span_taken : Request × Reply → ℕ
+span_taken (request, done) = node_span request
+span_taken (request, reply) = 0
+
+-- a put is told that there is no room only where too few superblocks were left for its node, with those that the puts before it and the tables of the trace may take
+pub record IsFullRightly (image : Image) (requests : List Request) (replies : Replies) : Type 0 where
+  pub cause : (before later : List (Request × Reply)) (key : ℕ) (value : List ℕ)
+      → answered requests replies ≡ before ++ (put key value, full) ∷ later
+      → capacity_of image < used_of image + node_span (put key value) + sum_by span_taken before + shards_put_into requests
+
+-- in each shard the replies are right, one after the other from its map in the image on
+pub record RepliesRightly (image : Image) (requests : List Request) (replies : Replies) : Type 0 where
+  pub right : (shard : ℕ) (map : Map) → shard < shards → MapOf image shard map → AreReplies map (of_shard shard (answered requests replies))
+
+-- the shard is the map after the first of the unanswered requests too, which is one to this shard
+pub record IsAfterFirst (left : Image) (shard : ℕ) (map : Map) (rest : List Request) : Type 0 where
+  pub request : Request
+  pub others : List Request
+  pub first : rest ≡ request ∷ others
+  pub to_shard : is_to shard request ≡ true
+  pub map_is : MapOf left shard (after_one map request done)
+
+-- what is left of a shard is its map after the requests; where the run was stopped it may be that after the first unanswered request too
+abbrev pub IsMapLeft : Image → ℕ → Map → Bool → List Request → Type 0
+IsMapLeft left shard map stopped rest = MapOf left shard map ⊎ ((stopped ≡ true) × IsAfterFirst left shard map rest)
+
+pub record LeavesMaps (image : Image) (requests : List Request) (replies : Replies) (stopped : Bool) (left : Image) : Type 0 where
+  pub each : (shard : ℕ) (map : Map) → shard < shards → MapOf image shard map
+      → IsMapLeft left shard (after map (of_shard shard (answered requests replies))) stopped (unanswered requests replies)
+
+-- a root that is no shard's
+abbrev pub IsOtherRoot : ℕ → Type 0
+IsOtherRoot root = shards ≤ root
+
+-- the image that is left can be opened again, and what belongs to no shard is in it as it was
+pub record LeavesGoodImage (image : Image) (length_left : ℕ) (left : Image) : Type 0 where
+  pub well_formed : header_fault (8 * length_left) left ≡ None
+  pub nothing_outside : (at : ℕ) → IsOutside left root_kind dict_links at → ⊥
+  pub capacity : capacity_of left ≡ capacity_of image
+  pub other_roots : (root : ℕ) → IsOtherRoot root → root < roots → left (root_word root) ≡ image (root_word root)
+  pub their_blocks : (b : Block) (kind word : ℕ) → ReachFrom image IsOtherRoot root_kind dict_links b kind → IsIn b word → left word ≡ image word
+  pub without_meaning : (word : ℕ) → IsReserved (capacity_of image) word → left word ≡ image word
+
+-- it was closed where the run wasn't stopped
+abbrev pub LeavesState : Bool → Image → Type 0
+LeavesState stopped left = left state_word ≡ cond stopped dirty clean
