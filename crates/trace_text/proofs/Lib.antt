@@ -5,3 +5,4 @@ pub mod MapLemmas
 pub mod LawLemmas
 pub mod UseLemmas
 pub mod LongestLemmas
+mod KeyLemmas

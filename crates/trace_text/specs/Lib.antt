@@ -1,4 +1,6 @@
 pub mod Report
+pub mod Keys
+pub mod Shown
 pub mod Recovered
 pub mod Ranges
 pub mod HeapMap

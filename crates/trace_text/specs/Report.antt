@@ -43,6 +43,6 @@ large_line held superblocks = count_line (codes "held large ") superblocks (coun
 abbrev pub held_lines : ℕ → List Block → List ℕ
 held_lines capacity held = flat_map (class_line held) classes ++ flat_map (large_line held) (range_with_len 1 capacity)
 
--- the report without keys
-abbrev pub report_of : ℕ → Bool → List Block → List ℕ
-report_of capacity is_clean held = heap_line_of capacity is_clean ++ held_lines capacity held
+-- the report: its first line, what is told of the keys, and how many blocks of each size are held
+abbrev pub report_of : ℕ → Bool → List ℕ → List Block → List ℕ
+report_of capacity is_clean keys held = heap_line_of capacity is_clean ++ keys ++ held_lines capacity held

@@ -2,6 +2,7 @@
 #![tactic(auto, using(heap_model::specs::Geometry::largest_capacity_fits))]
 
 mod class;
+mod keys;
 mod laws;
 mod map;
 mod ranges;
@@ -11,7 +12,7 @@ mod report;
 pub use laws::{each_held_block_is_told, each_use_is_told, runs_are_the_longest};
 pub use map::map_lines;
 pub use recovered::{map_text, report_text};
-pub use report::{heap_line, report_lines};
+pub use report::heap_line;
 
 #[cfg(test)]
 mod tests;

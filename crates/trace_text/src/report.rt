@@ -1,17 +1,19 @@
 //! The report on a heap that was read.
-ghost use Rattle.std.specs.Prelude.{◌≡◌, ◌≤◌, ◌*◌, ◌^◌, ◌<◌, ℕ, List, ◌++◌, codes, filter, nat_le, slice_index, IfOk, OnOk};
+ghost use Rattle.std.specs.Prelude.{◌≡◌, ◌≤◌, ◌*◌, ◌^◌, ◌<◌, ℕ, List, ◌++◌, codes, filter, nat_le, option_copied, IfOk, OnOk};
 ghost use Rattle.std.specs.String.{string_bytes};
 ghost use Rattle.std.specs.List.{flat_map, range_with_len};
 ghost use Rattle.heap_model.specs.Geometry.{largest_capacity, superblock_words};
-ghost use Rattle.heap_model.specs.Header.{capacity_of};
 ghost use Rattle.heap_model.specs.Sizes.{IsClass};
-ghost use Rattle.trace_text.specs.Report.{classes, heap_line_of, count_of, count_line, class_line, large_line, report_of};
+ghost use Rattle.trace_text.specs.Report.{classes, heap_line_of, count_of, count_line, class_line, large_line};
+ghost use Rattle.trace_text.specs.Keys.{IsReport, WritesKeys};
 
 use crate::class::words_of;
+use crate::keys::write_keys;
 use region_header::Bytes;
 use size_table::size_of;
 use std::alloc::{AllocError, Global};
-use super_block::{Block, LAST_CLASS, Ready, SUPERBLOCK_WORDS};
+use std::collections::BTreeMap;
+use super_block::{Block, LAST_CLASS, SUPERBLOCK_WORDS};
 
 /// The first line of a report: the capacity of the image, and whether it was closed.
 pub fn heap_line(alloc: Global, capacity: u64, clean: bool) -> Result<Bytes, AllocError>
@@ -22,30 +24,40 @@ pub fn heap_line(alloc: Global, capacity: u64, clean: bool) -> Result<Bytes, All
     Ok(Bytes::from_vec(text.into_bytes()))
 }
 
-/// The report without keys: its first line, and how many blocks of each size are held, smaller
-/// sizes first.
-pub fn report_lines(alloc: Global, heap: &Ready, clean: bool) -> Result<Bytes, AllocError>
-    ensures ok { IfOk result (λ text.
-        text ≡ report_of (capacity_of (slice_index heap.now.words)) clean heap.now.held) }
-{
-    report_of_blocks(alloc, heap.geometry().capacity(), clean, heap.held())
-}
-
-/// The report on a heap of `capacity` superblocks with these held blocks.
+/// The report on a heap of `capacity` superblocks with these held blocks: its first line, what is
+/// told of the keys of maps, and how many blocks of each size are held, smaller sizes first.
 pub(crate) fn report_of_blocks(
     alloc: Global,
     capacity: u64,
     clean: bool,
+    maps: Option<&[BTreeMap<u64, Bytes>]>,
+    sum: bool,
     held: &[Block],
 ) -> Result<Bytes, AllocError>
     requires { capacity ≤ largest_capacity }
-    ensures ok { IfOk result (λ text. text ≡ report_of capacity clean held.now) }
+    ensures ok { IfOk result (IsReport capacity clean (option_copied maps.entry) sum held.now) }
 {
     let mut text = String::new(alloc);
     write_heap_line(&mut text, capacity, clean)?;
+    write_maps(&mut text, maps, sum)?;
     write_class_lines(&mut text, held)?;
     write_large_lines(alloc, &mut text, held, capacity)?;
     Ok(Bytes::from_vec(text.into_bytes()))
+}
+
+/// What is told of the keys of maps, if there are maps.
+fn write_maps(
+    text: &mut String,
+    maps: Option<&[BTreeMap<u64, Bytes>]>,
+    sum: bool,
+) -> Result<(), AllocError>
+    ensures ok { OnOk result
+        (WritesKeys (option_copied maps.entry) sum (string_bytes text.old) (string_bytes text.new)) }
+{
+    match maps {
+        Some(maps) => write_keys(text, maps, sum),
+        None => Ok(()),
+    }
 }
 
 fn write_heap_line(text: &mut String, capacity: u64, clean: bool) -> Result<(), AllocError>

@@ -127,7 +127,7 @@ fn a_heap_is_reported_and_mapped(rt: HostRuntime) -> Result<(), Fail> {
         assert!(rt; read_header(&words).is_ok());
         let held = blocks(rt.alloc(), places)?;
         assert!(rt; are_in_order(&held));
-        let reported = report_of_blocks(rt.alloc(), capacity, true, &held)?;
+        let reported = report_of_blocks(rt.alloc(), capacity, true, None, false, &held)?;
         assert_eq!(rt; reported.as_slice(), report.as_bytes());
         let mapped = map_of_image(rt.alloc(), &words, &held, free)?;
         assert_eq!(rt; mapped.as_slice(), map.as_bytes());
@@ -146,7 +146,7 @@ fn an_empty_heap_is_reported_and_mapped(rt: HostRuntime) -> Result<(), Fail> {
         was: Was::Dirty,
         free: Vec::new(rt.alloc()),
     };
-    let report = report_text(rt.alloc(), &recovered)?;
+    let report = report_text(rt.alloc(), &recovered, None, false)?;
     assert_eq!(rt; report.as_slice(), b"heap 256 dirty\n".as_slice());
     let map = map_text(rt.alloc(), &recovered)?;
     assert_eq!(rt; map.as_slice(), b"used 0 free 0 fresh 256\n".as_slice());
