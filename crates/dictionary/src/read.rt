@@ -88,10 +88,7 @@ fn read_shard(
     let root = ROOT_WORD as usize + shard;
     match walk.table(walk.scan.words[root]) {
         Lead::Null => Ok(map),
-        Lead::Astray => Err(MapFault::BadShard {
-            shard,
-            at: root as u64,
-        }),
+        Lead::Astray => Err(walk.fault(root as u64)),
         Lead::To(table) => {
             for bucket in 0..BUCKETS {
                 read_chain(alloc, &walk, table, bucket, &mut map)?;
@@ -121,19 +118,11 @@ fn read_chain(
     loop {
         let node = match walk.node(table, bucket, walk.scan.words[at as usize]) {
             Lead::Null => return Ok(()),
-            Lead::Astray => {
-                return Err(MapFault::BadShard {
-                    shard: walk.shard as usize,
-                    at,
-                });
-            }
+            Lead::Astray => return Err(walk.fault(at)),
             Lead::To(node) => node,
         };
         if !walk.add(alloc, node, map)? {
-            return Err(MapFault::BadShard {
-                shard: walk.shard as usize,
-                at,
-            });
+            return Err(walk.fault(at));
         }
         at = node.first_word;
     }

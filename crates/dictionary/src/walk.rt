@@ -8,6 +8,7 @@ ghost use Rattle.dict_model.specs.Nodes.{buckets, value_words, key_in, length_in
 ghost use Rattle.dict_model.specs.Shards.{LeadsAlone, but};
 ghost use Rattle.dictionary.specs.Reading.{IsRead, IsLead, AddsNode};
 
+use crate::fault::MapFault;
 use crate::filter::SHARDS;
 use filter_trace::{Scan, Target};
 use heap_model::Block;
@@ -45,6 +46,16 @@ pub struct Walk<'a> {
 }
 
 impl Walk<'_> {
+    /// That the word at the index leads to what it may not.
+    pub fn fault(&self, at: u64) -> MapFault
+        ensures { result ≡ MapFault.BadShard self.now.shard at }
+    {
+        MapFault::BadShard {
+            shard: self.shard as usize,
+            at,
+        }
+    }
+
     /// Where the word leads among the blocks that no other root reaches.
     fn lead(&self, word: u64) -> Lead
         requires { IsRead self.now.scan.words.now self.now.scan.directory.now self.now.origins.now }

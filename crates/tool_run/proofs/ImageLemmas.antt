@@ -150,8 +150,8 @@ same_text : (image : Image) (recovered : Recovered) (with_map : Bool) → IsReco
 same_text image recovered with_map is =
     let capacity : slice_index recovered.heap.words capacity_word ≡ image capacity_word = is.recovers.words_are.same capacity_word (in_header capacity_word (inr (inr (inl refl)))) in
     let state : is_clean recovered.was ≡ nat_eq (state_of image) clean = same_test recovered.was (state_of image) clean is.was in
-    ap (λ n. report_of n (is_clean recovered.was) recovered.heap.held ++ (if with_map then map_of (slice_index recovered.heap.words) recovered.heap.held recovered.free.items else [])) capacity
-    ∙ ap (λ b. report_of (capacity_of image) b recovered.heap.held ++ (if with_map then map_of (slice_index recovered.heap.words) recovered.heap.held recovered.free.items else [])) state
+    ap (λ n. report_of n (is_clean recovered.was) [] recovered.heap.held ++ (if with_map then map_of (slice_index recovered.heap.words) recovered.heap.held recovered.free.items else [])) capacity
+    ∙ ap (λ b. report_of (capacity_of image) b [] recovered.heap.held ++ (if with_map then map_of (slice_index recovered.heap.words) recovered.heap.held recovered.free.items else [])) state
 
 -- an image that was recovered
 pub is_recovered : (contents : Contents) (name got shown : List ℕ) (recovered : Recovered) → IsWhole contents name got → shown ≡ got

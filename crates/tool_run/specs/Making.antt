@@ -43,7 +43,7 @@ pub record Recovers (image : Image) (held : List Block) (free : List ℕ) (words
 -- the report on a recovered image, and its map where that is asked for
 abbrev pub shown_text : Image → Bool → List Block → List ℕ → Image → List ℕ
 shown_text image with_map held free words =
-    report_of (capacity_of image) (nat_eq (state_of image) clean) held ++ (if with_map then map_of words held free else [])
+    report_of (capacity_of image) (nat_eq (state_of image) clean) [] held ++ (if with_map then map_of words held free else [])
 
 -- the line on a class that gives blocks at these byte offsets
 abbrev pub class_line : ℕ → List ℕ → List ℕ

@@ -38,7 +38,7 @@ IsRecoveryFault image Memory = Unit {0}
 -- the text on a recovered heap
 abbrev pub text_of : Recovered → Bool → List ℕ
 text_of recovered with_map =
-    report_of (capacity_of (slice_index recovered.heap.words)) (is_clean recovered.was) recovered.heap.held
+    report_of (capacity_of (slice_index recovered.heap.words)) (is_clean recovered.was) [] recovered.heap.held
     ++ (if with_map then map_of (slice_index recovered.heap.words) recovered.heap.held recovered.free.items else [])
 
 -- each superblock of a heap at rest that holds no part of a held block is in its free list, or is cut for the class

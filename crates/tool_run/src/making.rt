@@ -89,7 +89,7 @@ fn report<I: ImageStore>(
 fn recovered_text(alloc: Global, recovered: &Recovered, with_map: bool) -> Result<Bytes, AllocError>
     ensures ok { IfOk result (λ text. text ≡ text_of recovered.now with_map) }
 {
-    let report = report_text(alloc, recovered)?;
+    let report = report_text(alloc, recovered, None, false)?;
     if !with_map {
         return Ok(report);
     }

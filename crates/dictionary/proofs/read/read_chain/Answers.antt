@@ -18,14 +18,14 @@ loop-node-init c =
     }
 
 pub returns-in-Astray-clause-err : goal.returns-in-Astray-clause-err
-returns-in-Astray-clause-err c = (
+returns-in-Astray-clause-err c = rw (c.fault.ensures) (
   refl,
   bad_link (LeadsAlone (slice_index c.args.walk.now.scan.words.now) c.args.walk.now.shard) (slice_index c.args.walk.now.scan.words.now) c.args.walk.now.shard c.args.table c.args.bucket
       c.loop-node.at (get nat_cmp c.loop-node.map) c.requires.table c.requires.bucket c.loop-node.invariant.before c.in-Astray.ensures,
 )
 
 pub returns-then-not-branch-clause-err : goal.returns-then-not-branch-clause-err
-returns-then-not-branch-clause-err c = (
+returns-then-not-branch-clause-err c = rw (c.fault-then-not-branch.ensures) (
   refl,
   bad_key (LeadsAlone (slice_index c.args.walk.now.scan.words.now) c.args.walk.now.shard) (slice_index c.args.walk.now.scan.words.now) c.args.walk.now.shard c.args.table c.args.bucket
       (alone_once (slice_index c.args.walk.now.scan.words.now) c.args.walk.now.shard)

@@ -12,7 +12,7 @@ loop-bucket-init c = map_begins (LeadsAlone (slice_index c.args.scan.words.now) 
     (no_key c.new-map.result c.new-map.ensures.empty)
 
 pub returns-in-Astray-clause-err : goal.returns-in-Astray-clause-err
-returns-in-Astray-clause-err c = (refl, at_root c.in-Astray.ensures)
+returns-in-Astray-clause-err c = rw (c.fault.ensures) (refl, at_root c.in-Astray.ensures)
 
 pub returns-after-loop-bucket-clause-ok : goal.returns-after-loop-bucket-clause-ok
 returns-after-loop-bucket-clause-ok c =
