@@ -2,3 +2,4 @@ pub mod KindLemmas
 pub mod LeadLemmas
 pub mod LinkLemmas
 pub mod WalkLemmas
+pub mod SameLemmas
