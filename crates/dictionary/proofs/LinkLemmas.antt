@@ -1,6 +1,6 @@
 -- The link number i of a table or a node.
 use Rattle.std.proofs.Common.{◌≡◌, ℕ, zero, suc, ◌+◌, ◌<◌, ◌≤◌, List, [], ◌∷◌, length, Some, None, slice_get, set, replicate, ◌++◌, refl, ap, ◌∙◌, arith}
-use Rattle.dictionary.specs.DictLinks.{all_to_nodes}
+use Rattle.dict_model.specs.Links.{all_to_nodes}
 
 -- word i of a table
 pub get-all_to_nodes : (from : ℕ) (words : List ℕ) (i : ℕ) → i < length words → slice_get (all_to_nodes from words) i ≡ Some (from + i, 2)

@@ -12,6 +12,9 @@ use Rattle.heap_model.specs.Reach.{AnyRoot, words_in, Reach, by_start, by_link, 
 use Rattle.heap_model.proofs.ImageLemmas.{length-words_from}
 use Rattle.heap_model.proofs.DecisionLemmas.{is_block}
 use Rattle.heap_model.proofs.ReachLemmas.{one_block, not_null, more_roots, reach_kept, nothing_more}
+use Rattle.heap_recover.proofs.UnchangedLemmas.{words_unchanged, roots_unchanged}
+use Rattle.dictionary.specs.Laws.{are_inside}
+use Rattle.dictionary.specs.Reading.{RecoversTo}
 use Rattle.dict_model.specs.Links.{all_to_nodes, dict_links, root_kind, shards}
 use Rattle.dict_model.specs.Nodes.{buckets, shard_of, bucket_of, key_in, length_in, value_in, value_words, IsNode, find}
 use Rattle.dict_model.specs.Shards.{Map, link_behind, IsPath, IsChain, HasTable, HasChains, but, is_empty, has_table, at_root, at_link, LeadsAlone, MapOf, BadShard}
@@ -240,3 +243,37 @@ module _ (old new : Image) (alike : TracesAlike old new AnyRoot root_kind dict_l
                 new = find_same (key_in new b) before same.same ∙ subst (λ key. find old key before ≡ None) (sym node.0.key) next.new;
               });
         })
+
+-- what recovery leaves is traced as the image before
+module _ (old new : Image) (to : RecoversTo old new) where
+  reached_words : (b : Block) (kind word : ℕ) → Reach old root_kind dict_links b kind → IsIn b word → new word ≡ old word
+  reached_words b kind word reached inside = words_unchanged old new root_kind dict_links to.recovered b word (record { kind = kind; reach = reached }) inside
+
+  all_words : (from count : ℕ) → ((w : ℕ) → from ≤ w → w < from + count → new w ≡ old w) → words_from new from count ≡ words_from old from count
+  all_words from zero same = refl
+  all_words from (suc count) same =
+      ap (λ w. w ∷ words_from new (from + 1) count) (same from (omega arith) (omega arith))
+      ∙ ap (λ ws. old from ∷ ws) (all_words (from + 1) count (λ w low high. same w (omega arith) (omega arith)))
+
+  traced_words : (at : ℕ) → IsTraced old root_kind dict_links at → new at ≡ old at
+  traced_words _ (is_root root at below chosen is) = subst (λ w. new w ≡ old w) (sym is) (roots_unchanged old new root_kind dict_links to.recovered root below)
+  traced_words _ (is_linked a from position kind at reached listed is) =
+      let long = length-words_from old a.first_word a.words in
+      let inside = are_inside.position from (words_in old a) position kind listed in
+      subst (λ w. new w ≡ old w) (sym is) (reached_words a from (a.first_word + position) reached (record { from = omega arith; until = omega arith }))
+
+  traced_alike : TracesAlike old new AnyRoot root_kind dict_links
+  traced_alike = record {
+    same_words = traced_words;
+    are_blocks = λ b kind reached. to.blocks b (record { kind = kind; reach = reached });
+    same_links = λ b kind reached. ap (λ ws. dict_links kind ws) (all_words b.first_word b.words (λ w low high. reached_words b kind w reached (record { from = low; until = high })));
+  }
+
+  none_outside : (at : ℕ) → IsTraced old root_kind dict_links at → LeadsOutside old (old at) → ⊥
+  none_outside at traced outside = to.inside at (record { traced = traced; outside = outside })
+
+  pub map_kept : (shard : ℕ) (map : Map) → shard < shards → MapOf new shard map → MapOf old shard map
+  map_kept shard map below = map_old old new traced_alike none_outside reached_words shard below map
+
+  pub bad_kept : (shard at : ℕ) → shard < shards → BadShard new shard at → BadShard old shard at
+  bad_kept shard at below = bad_old old new traced_alike none_outside reached_words shard below at

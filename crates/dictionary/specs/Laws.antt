@@ -3,7 +3,7 @@ use Rattle.std.specs.Prelude.{◌≡◌, ℕ, zero, suc, ◌+◌, ◌<◌, ◌�
 use Rattle.std.proofs.Common.{arith, ap}
 use Rattle.std.proofs.lemmas.Bool.{cond_both}
 use Rattle.heap_model.specs.Reach.{AreInside}
-use Rattle.dictionary.specs.DictLinks.{all_to_nodes, first_to_node, dict_links}
+use Rattle.dict_model.specs.Links.{all_to_nodes, first_to_node, dict_links}
 
 -- a link of all words is a position behind the start, and to a node
 all_inside : (from : ℕ) (words : List ℕ) (k : ℕ) (d : ℕ × ℕ) → k < length (all_to_nodes from words)

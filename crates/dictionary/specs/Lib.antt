@@ -1,3 +1,2 @@
-pub mod DictLinks
 pub mod Laws
 pub mod Reading

@@ -5,7 +5,9 @@ use Rattle.std.specs.Ordering.{nat_cmp}
 use Rattle.heap_model.specs.declared.block.Block.{Block}
 use Rattle.heap_model.specs.Image.{Image}
 use Rattle.heap_model.specs.Header.{IsWellFormed}
-use Rattle.heap_model.specs.Blocks.{layout_of}
+use Rattle.heap_model.specs.Blocks.{layout_of, IsBlock}
+use Rattle.heap_model.specs.Reach.{IsReached, IsOutside}
+use Rattle.heap_model.specs.Recovery.{IsRecovered}
 use Rattle.super_block.specs.Division.{Divisions, Describes}
 use Rattle.root_reach.specs.declared.labels.Origins.{Origins}
 use Rattle.root_reach.specs.Reaching.{AreOrigins}
@@ -70,3 +72,9 @@ TellsLowest image Memory = Unit {0}
 pub record AreMaps (image : Image) (count : ℕ) (maps : List (BTreeMap ℕ (List ℕ))) : Type 0 where
   pub long : length maps ≡ count
   pub each : (i : ℕ) → i < count → (m : BTreeMap ℕ (List ℕ)) × (slice_get maps i ≡ Some m) × MapOf image i (get nat_cmp m)
+
+-- recovery makes the one image of the other, in which no word that it looks at leads outside; what is reached there is a block here
+pub record RecoversTo (old new : Image) : Type 0 where
+  pub recovered : IsRecovered old new (IsReached old root_kind dict_links)
+  pub inside : (at : ℕ) → IsOutside old root_kind dict_links at → ⊥
+  pub blocks : (b : Block) → IsReached old root_kind dict_links b → IsBlock (layout_of new) b

@@ -1,9 +1,7 @@
 //! Where the blocks of the dictionary hold pointers.
 
 ghost use Rattle.std.specs.Prelude.{◌≡◌, ◌<◌, ℕ, All, length, slice_get, slice_index};
-ghost use Rattle.heap_model.specs.Geometry.{roots};
-ghost use Rattle.dict_model.specs.Links.{root_kind};
-ghost use Rattle.dictionary.specs.DictLinks.{all_to_nodes, first_to_node, dict_links, root_kinds};
+ghost use Rattle.dict_model.specs.Links.{all_to_nodes, first_to_node, dict_links, root_kind};
 
 use filter_trace::Filter;
 use super_block::ROOTS;
@@ -22,8 +20,7 @@ pub const SHARDS: usize = 8;
 
 /// The kind of each root: the first eight lead to tables, and the others to blocks without links.
 pub fn root_kinds() -> [u32; ROOTS as usize]
-    ensures kinds { result ≡ root_kinds }
-    ensures each { (i : ℕ) → i < roots → slice_index result i ≡ root_kind i }
+    ensures kinds { (i : ℕ) → slice_index result i ≡ root_kind i }
     ensures few { All (λ kind. kind < 3) result }
 {
     let mut kinds = [OTHER; ROOTS as usize];
@@ -38,7 +35,7 @@ pub fn root_kinds() -> [u32; ROOTS as usize]
 pub struct DictFilter;
 
 impl Filter for DictFilter {
-    ghost use Rattle.dictionary.specs.DictLinks.{dict_links};
+    ghost use Rattle.dict_model.specs.Links.{dict_links};
     ghost use Rattle.dictionary.specs.Laws.{are_inside, are_few};
 
     const KINDS: u32 = 3;

@@ -3,9 +3,11 @@
 
 mod fault;
 mod filter;
+mod laws;
 mod read;
 mod walk;
 
 pub use fault::MapFault;
 pub use filter::{DictFilter, NODE, OTHER, SHARDS, TABLE, root_kinds};
+pub use laws::recovery_keeps_each_shard;
 pub use read::{read_map, read_maps};

@@ -3,6 +3,7 @@ ghost use Rattle.std.specs.Prelude.{◌≡◌, ◌+◌, ◌<◌, ◌≤◌, ℕ,
 ghost use Rattle.std.specs.BTreeMap.{get};
 ghost use Rattle.std.specs.Ordering.{nat_cmp};
 ghost use Rattle.heap_model.specs.declared.block.Block.{Block};
+ghost use Rattle.heap_model.specs.Rest.{IsReady};
 ghost use Rattle.dict_model.specs.Links.{shards};
 ghost use Rattle.dict_model.specs.Nodes.{buckets};
 ghost use Rattle.dict_model.specs.Shards.{HasTable, LeadsAlone, MapOf};
@@ -49,6 +50,7 @@ pub fn read_maps(
 ) -> Result<Vec<BTreeMap<u64, Bytes>>, MapFault>
     ensures ok { IfOk result (λ maps. AreMaps (slice_index recovered.now.heap.words) shards maps.items) }
     ensures err { IfErr result (TellsLowest (slice_index recovered.now.heap.words)) }
+    ensures ready { IsReady recovered.now.heap.words recovered.now.heap.held }
 {
     let words = recovered.heap.words();
     let directory = Directory::of(alloc, words)?;

@@ -9,5 +9,5 @@ read_shard-requires-clause-read c = record {
   formed = subst (λ (ws : List ℕ). IsWellFormed (8 * length ws) (slice_index ws)) (sym c.words-words.ensures.words) c.words-words.ensures.ready.formed;
   described = c.in_ok-directory.ensures.ok;
   origins_are = origins_same (slice_index c.words-words.result.now) (slice_index c.root_kinds.result) root_kind dict_links c.in_ok-origins.origins
-      (λ i below. sym (c.root_kinds.ensures.each i below)) c.in_ok-origins.ensures.ok;
+      (λ i below. sym (c.root_kinds.ensures.kinds i)) c.in_ok-origins.ensures.ok;
 }
