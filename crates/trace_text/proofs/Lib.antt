@@ -4,5 +4,8 @@ pub mod OrderLemmas
 pub mod MapLemmas
 pub mod LawLemmas
 pub mod UseLemmas
+pub mod WordLemmas
+pub mod LineLemmas
 pub mod LongestLemmas
 mod KeyLemmas
+pub mod TraceLemmas

@@ -5,4 +5,5 @@ pub mod Recovered
 pub mod Ranges
 pub mod HeapMap
 pub mod Laws
+pub mod Trace
 pub mod Examples

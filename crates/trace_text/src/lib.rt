@@ -4,15 +4,21 @@
 mod class;
 mod keys;
 mod laws;
+mod line;
 mod map;
+mod pieces;
 mod ranges;
 mod recovered;
 mod report;
+mod request;
+mod trace;
 
 pub use laws::{each_held_block_is_told, each_use_is_told, runs_are_the_longest};
 pub use map::map_lines;
 pub use recovered::{map_text, report_text};
 pub use report::heap_line;
+pub use request::{Request, TraceError};
+pub use trace::parse_trace;
 
 #[cfg(test)]
 mod tests;

@@ -1,0 +1,89 @@
+-- Request traces: texts of lines, and the request that each line asks for.
+use Rattle.std.specs.Prelude.{◌≡◌, ℕ, ◌+◌, ◌^◌, ◌<◌, ◌≤◌, ◌==◌, ◌⊎◌, if◌then◌else◌, List, [], ◌∷◌, ◌++◌, length, codes, decimal, Option, Some, None, Ok}
+use Rattle.std.specs.List.{All, onto_first}
+use Rattle.hex.specs.Hex.{decode_of}
+use Rattle.trace_text.specs.declared.request.Request.{Request}
+use Rattle.trace_text.specs.declared.request.Request.TheVariants.{Put, Get, Del}
+use Rattle.trace_text.specs.declared.request.TraceError.{TraceError}
+use Rattle.trace_text.specs.declared.request.TraceError.TheVariants.{BadLine, Memory}
+
+-- the lines of a text: each ends with a line feed, which the last one may lack
+abbrev pub lines_of : List ℕ → List (List ℕ)
+lines_of [] = []
+lines_of (c ∷ rest) = if c == 10 then [] ∷ lines_of rest else onto_first c (lines_of rest)
+
+-- the most bytes of a value
+abbrev pub longest_value : ℕ
+longest_value = 131072
+
+-- a value as a word: a hyphen for no byte at all, else two hexadecimal digits of either case for each byte
+abbrev pub IsValue : List ℕ → List ℕ → Type 0
+IsValue word value =
+    ((word ≡ codes "-") × (value ≡ []))
+    ⊎ ((decode_of word ≡ Ok value) × (1 ≤ length value) × (length value ≤ longest_value))
+
+-- a key as a word: a decimal number of 64 bits without leading zeros
+abbrev pub IsKey : List ℕ → ℕ → Type 0
+IsKey word key = (key < 2 ^ 64) × (word ≡ decimal key)
+
+-- the line is a word for what is to be done, a space, and a key
+pub record IsKeyLine (what line : List ℕ) (key : ℕ) : Type 0 where
+  pub word : List ℕ
+  pub line_is : line ≡ what ++ codes " " ++ word
+  pub key_is : IsKey word key
+
+-- the line is `put`, a key and a value, with one space between two of them
+pub record IsPutLine (line : List ℕ) (key : ℕ) (value : List ℕ) : Type 0 where
+  pub key_word : List ℕ
+  pub value_word : List ℕ
+  pub line_is : line ≡ codes "put " ++ key_word ++ codes " " ++ value_word
+  pub key_is : IsKey key_word key
+  pub value_is : IsValue value_word value
+
+-- the line asks for the request
+abbrev pub IsLine : List ℕ → Request → Type 0
+IsLine line (Put key value) = IsPutLine line key value
+IsLine line (Get key) = IsKeyLine (codes "get") line key
+IsLine line (Del key) = IsKeyLine (codes "del") line key
+
+-- the line asks for nothing
+abbrev pub IsOutside : List ℕ → Type 0
+IsOutside line = (request : Request) → IsLine line request → ⊥
+
+-- what a line is read as: the request that it asks for, or none
+abbrev pub IsReading : List ℕ → Option Request → Type 0
+IsReading line (Some request) = IsLine line request
+IsReading line None = IsOutside line
+
+-- what a word is read as: the key that it writes, or none
+abbrev pub IsKeyReading : List ℕ → Option ℕ → Type 0
+IsKeyReading word (Some key) = IsKey word key
+IsKeyReading word None = (key : ℕ) → IsKey word key → ⊥
+
+-- what a word is read as: the value that it writes, or none
+abbrev pub IsValueReading : List ℕ → Option (List ℕ) → Type 0
+IsValueReading word (Some value) = IsValue word value
+IsValueReading word None = (value : List ℕ) → IsValue word value → ⊥
+
+-- the lines ask for the requests, each for one
+abbrev pub AreLines : List (List ℕ) → List Request → Type 0
+AreLines [] [] = Unit {0}
+AreLines [] (request ∷ requests) = ⊥
+AreLines (line ∷ lines) [] = ⊥
+AreLines (line ∷ lines) (request ∷ requests) = IsLine line request × AreLines lines requests
+
+-- the line of this number, counted from 1, is the first that asks for nothing
+pub record IsFirstOutside (lines : List (List ℕ)) (number : ℕ) : Type 0 where
+  pub before : List (List ℕ)
+  pub outside : List ℕ
+  pub after : List (List ℕ)
+  pub lines_are : lines ≡ before ++ outside ∷ after
+  pub counted : number ≡ length before + 1
+  pub asks : List Request
+  pub asked : AreLines before asks
+  pub nothing : IsOutside outside
+
+-- why a trace can't be read
+abbrev pub IsWhyNot : List ℕ → TraceError → Type 0
+IsWhyNot text (BadLine line) = IsFirstOutside (lines_of text) line
+IsWhyNot text Memory = Unit {0}

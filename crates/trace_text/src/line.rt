@@ -1,0 +1,92 @@
+//! Reads a line of a trace, and its words.
+ghost use Rattle.std.specs.Prelude.{◌++◌, ◌<◌, ◌≤◌, ◌↔◌, codes, slice_index, IfOk, IsTrue};
+ghost use Rattle.trace_text.specs.Trace.{IsReading, IsKeyReading, IsValueReading};
+
+use crate::pieces::{behind, split_once};
+use crate::request::Request;
+use hex::FromHexError;
+use region_header::Bytes;
+use std::alloc::{AllocError, Global};
+
+/// The most bytes of a value.
+pub(crate) const LONGEST_VALUE: usize = 131_072;
+
+/// The request that a line asks for, or `None` where it asks for nothing.
+pub(crate) fn parse_line(alloc: Global, line: &[u8]) -> Result<Option<Request>, AllocError>
+    ensures ok { IfOk result (IsReading line.now) }
+{
+    if let Some(words) = behind(line, b"put ") {
+        return parse_put(alloc, words);
+    }
+    if let Some(word) = behind(line, b"get ") {
+        return Ok(parse_key(word).map(Request::Get));
+    }
+    if let Some(word) = behind(line, b"del ") {
+        return Ok(parse_key(word).map(Request::Del));
+    }
+    Ok(None)
+}
+
+/// The request of the words of a line behind its `put `.
+fn parse_put(alloc: Global, words: &[u8]) -> Result<Option<Request>, AllocError>
+    ensures ok { IfOk result (IsReading (codes "put " ++ words.now)) }
+{
+    let Some((key, value)) = split_once(words, b' ') else {
+        return Ok(None);
+    };
+    let Some(key) = parse_key(key) else {
+        return Ok(None);
+    };
+    let Some(value) = parse_value(alloc, value)? else {
+        return Ok(None);
+    };
+    Ok(Some(Request::Put(key, value)))
+}
+
+/// The key that a word writes.
+fn parse_key(word: &[u8]) -> Option<u64>
+    ensures { IsKeyReading word.now result }
+{
+    if word == b"0".as_slice() {
+        return Some(0);
+    }
+    if !begins_from_1(word) {
+        return None;
+    }
+    parse_positive(word)
+}
+
+/// Whether the word begins with a digit other than 0.
+fn begins_from_1(word: &[u8]) -> bool
+    ensures { IsTrue result ↔ ((48 < slice_index word.now 0) × (slice_index word.now 0 ≤ 57)) }
+{
+    matches!(word, [b'1'..=b'9', ..])
+}
+
+/// The key that a word writes which doesn't begin with a zero or a sign.
+fn parse_positive(word: &[u8]) -> Option<u64>
+    requires { 48 < slice_index word.now 0 }
+    ensures { IsKeyReading word.now result }
+{
+    match str::from_utf8(word) {
+        Ok(text) => text.parse().ok(),
+        Err(_) => None,
+    }
+}
+
+/// The value that a word writes.
+fn parse_value(alloc: Global, word: &[u8]) -> Result<Option<Bytes>, AllocError>
+    ensures ok { IfOk result (IsValueReading word.now) }
+{
+    if word == b"-".as_slice() {
+        return Ok(Some(Bytes::from_vec(Vec::new(alloc))));
+    }
+    if word.is_empty() || 2 * LONGEST_VALUE < word.len() {
+        return Ok(None);
+    }
+    match hex::decode(alloc, word) {
+        Ok(value) => Ok(Some(Bytes::from_vec(value))),
+        Err(FromHexError::OutOfMemory) => Err(AllocError),
+        Err(_) => Ok(None),
+    }
+}
