@@ -6,4 +6,6 @@ pub mod Ranges
 pub mod HeapMap
 pub mod Laws
 pub mod Trace
+pub mod Values
+pub mod Generated
 pub mod Examples

@@ -2,6 +2,7 @@
 #![tactic(auto, using(heap_model::specs::Geometry::largest_capacity_fits))]
 
 mod class;
+mod generate;
 mod keys;
 mod laws;
 mod line;
@@ -12,7 +13,9 @@ mod recovered;
 mod report;
 mod request;
 mod trace;
+mod value;
 
+pub use generate::gen_text;
 pub use laws::{each_held_block_is_told, each_use_is_told, runs_are_the_longest};
 pub use map::map_lines;
 pub use recovered::{map_text, report_text};
