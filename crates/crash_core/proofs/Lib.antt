@@ -17,4 +17,6 @@ pub mod GiveLemmas
 pub mod OwnerLemmas
 pub mod OwnStepLemmas
 pub mod StoreLemmas
+pub mod DrawLemmas
+pub mod ShiftLemmas
 pub mod KeptLemmas
