@@ -19,4 +19,5 @@ pub mod OwnStepLemmas
 pub mod StoreLemmas
 pub mod DrawLemmas
 pub mod ShiftLemmas
+pub mod SpanLemmas
 pub mod KeptLemmas
