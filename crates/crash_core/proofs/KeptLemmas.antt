@@ -1,20 +1,32 @@
 -- Each kind of step keeps memory and seats fitting together, won or lost.
-use Rattle.std.proofs.Common.{◌≡◌, ◌≢◌, ℕ, ◌+◌, ◌<◌, inl, inr, Bool, true, false, cond, nat_eq, List, None, get_or, set, length, refl, ap, sym, subst, ◌∙◌, eq-eqb, eqb-true, ne_eqb, arith}
+use Rattle.std.proofs.Common.{◌≡◌, ◌≢◌, ℕ, ◌+◌, ◌<◌, ◌≤◌, inl, inr, Bool, true, false, cond, nat_eq, nat_lt, List, [], ◌∷◌, None, get_or, set, length, refl, ap, sym, subst, ◌∙◌, eq-eqb, eqb-true, ne_eqb, arith}
 use Rattle.std.proofs.lemmas.Bool.{cases_eq}
 use Rattle.crash_core.specs.declared.event.Event.{Event}
 use Rattle.crash_core.specs.declared.event.Event.TheVariants.{Tick, Load, Store, Settle, LookUsed, TakeFresh, KeepUsed, LookHead, LookLink, Pop, Push, LookAnchor, TakeAll, Give}
 use Rattle.crash_core.specs.Memory.{Memory, Place, volatile_at, used, head, anchor, read, write}
-use Rattle.crash_core.specs.View.{Setup, View}
-use Rattle.crash_core.specs.Effects.{seen, seen_word, seen_of, before, place_of, left_there, view_after, taken_fresh, lost, popped, popped_head, pushed, pushed_head}
-use Rattle.heap_model.specs.Words.{head_first}
+use Rattle.crash_core.specs.View.{Setup, View, times_raw, times_classed, times_block}
+use Rattle.crash_core.specs.Effects.{seen, seen_word, seen_of, before, place_of, left_there, view_after, taken_fresh, lost, popped, popped_head, pushed, pushed_head, taken_all, given, batch_anchor, batch_count, first_of}
+use Rattle.heap_model.specs.Words.{head_first, full_anchor}
+use Rattle.heap_model.specs.Counting.{times, total}
+use Rattle.crash_core.specs.Cells.{cell_at, superblock_at}
 use Rattle.crash_core.specs.Guards.{MayStep}
-use Rattle.crash_core.specs.Sound.{Good}
+use Rattle.crash_core.specs.Sound.{tally_of, times_cut, Good}
 use Rattle.crash_core.specs.Steps.{Keeps}
 use Rattle.crash_core.proofs.MemoryLemmas.{write_read}
 use Rattle.crash_core.proofs.QuietLemmas as quiet
 use Rattle.crash_core.proofs.FreshLemmas as fresh
 use Rattle.crash_core.proofs.PopLemmas as pop
 use Rattle.crash_core.proofs.PushLemmas as push
+use Rattle.crash_core.proofs.TakeAllLemmas as take_all
+use Rattle.crash_core.proofs.GiveLemmas as give
+use Rattle.crash_core.proofs.OwnStepLemmas as own
+use Rattle.crash_core.proofs.StoreLemmas as store
+use Rattle.crash_core.proofs.DrawLemmas as draws
+use Rattle.crash_core.proofs.ShiftLemmas as shifts
+use Rattle.crash_core.proofs.SpanLemmas as spans
+use Rattle.crash_core.proofs.CutLemmas as cuts
+use Rattle.crash_core.proofs.OwnLemmas.{one_at_most}
+use Rattle.crash_core.proofs.TotalLemmas.{total_at, eq-eqb-one}
 
 -- by whether the word is as it was seen
 exchange : (a b : ℕ) (P : Bool → Type 0) → (a ≡ b → P true) → (a ≢ b → P false) → P (nat_eq a b)
@@ -60,3 +72,38 @@ module _ (k : Setup) (m : Memory) (views : List View) (i : ℕ) (v : View) (belo
       (λ t. Good k (write m (place_of v (Push d)) (cond t (pushed_head v d) (head m (seen_of v.seen_head)))) (set views i (cond t (pushed v d) (record (lost v) { seen_head = None }))))
       (λ same. push.push k m views i v below at good may.ticket d may.ready same)
       (λ other. reads (place_of v (Push d)) _ (quiet.lost_head k m views i v below at good may.ticket may.ready.is_seen other))
+
+  pub kept_take_all : (d : ℕ) → MayStep m v (TakeAll d) → Keeps k m views i v (TakeAll d)
+  kept_take_all d may = exchange (anchor m d) (seen_word v.seen_anchor)
+    (λ t. Good k (write m (place_of v (TakeAll d)) (cond t full_anchor (anchor m d))) (set views i (cond t (taken_all m v d) (record (lost v) { seen_anchor = None }))))
+    (λ same. take_all.take_all k m views i v below at good may.ticket d may.ready same)
+    (λ other. reads (place_of v (TakeAll d)) _ (quiet.lost_anchor k m views i v below at good may.ticket may.ready.is_seen
+      (subst (λ x. times_raw x v ≡ 0) (sym may.ready.of) (not_raw_claimed d may.ready.claimed)) (λ same. other (ap (anchor m) (sym may.ready.of) ∙ same)))) where
+    not_raw_claimed : (e : ℕ) → 0 < times_classed e v.classed → times_raw e v ≡ 0
+    not_raw_claimed e some = let r = total_at (times_raw e) views i v below at in let c = total_at (λ (u : View). times_classed e u.classed) views i v below at in
+      let p = good.shaped.placed.one_place e in let most = one_at_most (nat_lt e (used m)) in omega arith
+
+  pub kept_give : (d : ℕ) → MayStep m v (Give d) → Keeps k m views i v (Give d)
+  kept_give d may = exchange (anchor m d) (seen_word v.seen_anchor)
+    (λ t. Good k (write m (place_of v (Give d)) (cond t (batch_anchor v d) (anchor m d))) (set views i (cond t (given v d) (record (lost v) { seen_anchor = None }))))
+    (λ same. give.give k m views i v below at good may.ticket d may.ready same)
+    (λ other. reads (place_of v (Give d)) _ (quiet.lost_anchor k m views i v below at good may.ticket may.ready.is_seen
+      (subst (λ x. times_raw x v ≡ 0) (sym may.ready.of) not_raw) (λ same. other (ap (anchor m) (sym may.ready.of) ∙ same)))) where
+    first_there : (xs : List ℕ) → 1 ≤ batch_count xs → 0 < times (first_of xs) xs
+    first_there [] some = absurd (omega arith)
+    first_there (b ∷ xs) some = let one = eq-eqb-one b b refl in omega arith
+    not_raw : times_raw d v ≡ 0
+    not_raw = let b = first_of v.batch.blocks in let there = first_there v.batch.blocks may.ready.some in let t = total_at (times_block b) views i v below at in
+      let cut = (good.shaped.chained.inside b (omega arith)).0 in let s = good.set_up i v below at in
+      let here : superblock_at k.capacity b ≡ d = ap (λ (q : Setup). superblock_at q.capacity b) (sym s.setup) ∙ ((good.blocks i v below at).batched b there).0 ∙ may.ready.batch in
+      let c = ap (times_cut good.shape (tally_of views)) here in let r = total_at (times_raw d) views i v below at in
+      let p = good.shaped.placed.one_place d in let most = one_at_most (nat_lt d (used m)) in omega arith
+
+  pub kept_load : (word : ℕ) → MayStep m v (Load word) → Keeps k m views i v (Load word)
+  kept_load word may = reads (place_of v (Load word)) _ (own.load k m views i v below at good word may.ready may.ticket)
+
+  pub kept_settle : (word : ℕ) → MayStep m v (Settle word) → Keeps k m views i v (Settle word)
+  kept_settle word may = own.settle k m views i v below at good word may.ready
+
+  pub kept_store : (word value : ℕ) → MayStep m v (Store word value) → Keeps k m views i v (Store word value)
+  kept_store word value may = store.store k m views i v below at good may.ticket word value (cell_at v.setup.capacity word) refl may.ready.0 may.ready.1

@@ -20,4 +20,5 @@ pub mod StoreLemmas
 pub mod DrawLemmas
 pub mod ShiftLemmas
 pub mod SpanLemmas
+pub mod CutLemmas
 pub mod KeptLemmas

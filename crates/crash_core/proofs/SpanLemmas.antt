@@ -109,13 +109,13 @@ module _ (k : Setup) (m : Memory) (views : List View) (i : ℕ) (v : View) (belo
   cap = ap (λ (s : Setup). s.capacity) seat.set_up.setup
 
   -- what is known of own words that are left
-  words_after : (y : View) → y.setup ≡ v.setup → y.volatile ≡ v.volatile → y.durable ≡ v.durable → KnowsWords k.capacity m (trimmed y)
+  pub words_after : (y : View) → y.setup ≡ v.setup → y.volatile ≡ v.volatile → y.durable ≡ v.durable → KnowsWords k.capacity m (trimmed y)
   words_after y setup volatile durable = words_trimmed k.capacity m y (ap (λ (z : Setup). z.capacity) (setup ∙ seat.set_up.setup))
       (λ cell value is own knows. (seat.words.volatile cell value is (ap (λ values. known values cell) (sym volatile) ∙ knows)).1)
       (λ cell value is own knows. (seat.words.durable cell value is (ap (λ values. known values cell) (sym durable) ∙ knows)).1)
 
   -- the snapshots, where descriptors of a range enter or leave the hand
-  knows_after : (from n : ℕ) (w : View) (g : Shape) → g.lists ≡ good.shape.lists → w.seen_head ≡ v.seen_head → w.seen_link ≡ v.seen_link → w.seen_used ≡ v.seen_used → w.used_look ≡ v.used_look → w.taken ≡ v.taken → w.batch ≡ v.batch
+  pub knows_after : (from n : ℕ) (w : View) (g : Shape) → g.lists ≡ good.shape.lists → w.seen_head ≡ v.seen_head → w.seen_link ≡ v.seen_link → w.seen_used ≡ v.seen_used → w.used_look ≡ v.used_look → w.taken ≡ v.taken → w.batch ≡ v.batch
       → w.seen_anchor ≡ cleared from n v.seen_anchor → w.classed ≡ v.classed → ((e : ℕ) → (from ≤ e → e < from + n → ⊥) → times_raw e v ≤ times_raw e w) → w.floor ≤ durable_used m → Knows k.capacity m g w
   knows_after from n w g same_lists head_same link_same used_same look_same taken batch anchor_same classed raw floor = let s = seat.knows in record {
       seen_head = subst (λ x. IsThere x → KnowsHead k.capacity (head m) (link m) g.lists (seen_of x) (seen_word x) w.seen_link) (sym head_same)
@@ -132,7 +132,7 @@ module _ (k : Setup) (m : Memory) (views : List View) (i : ℕ) (v : View) (belo
           (λ some. s.seen_empty (subst IsThere same t) (let f = ap (times_classed (seen_of v.seen_anchor)) classed in omega arith));
       floor = floor }
 
-  stale_after : (from n : ℕ) (w : View) → w.seen_head ≡ v.seen_head → w.seen_used ≡ v.seen_used → w.seen_anchor ≡ cleared from n v.seen_anchor → ((e : ℕ) → (from ≤ e → e < from + n → ⊥) → times_raw e v ≤ times_raw e w) → stale m w ≤ stale m v
+  pub stale_after : (from n : ℕ) (w : View) → w.seen_head ≡ v.seen_head → w.seen_used ≡ v.seen_used → w.seen_anchor ≡ cleared from n v.seen_anchor → ((e : ℕ) → (from ≤ e → e < from + n → ⊥) → times_raw e v ≤ times_raw e w) → stale m w ≤ stale m v
   stale_after from n w head_same used_same anchor_same raw =
       let e = stale_cleared m v w from n v.seen_anchor raw in let a = ap (stale_anchor m w) anchor_same in let b = ap (λ x. differs x (used m)) used_same in let c = ap (stale_head m) head_same in omega arith
 
