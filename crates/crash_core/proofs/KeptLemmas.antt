@@ -1,15 +1,19 @@
 -- Each kind of step keeps memory and seats fitting together, won or lost.
-use Rattle.std.proofs.Common.{◌≡◌, ◌≢◌, ℕ, ◌+◌, ◌<◌, ◌≤◌, inl, inr, Bool, true, false, cond, nat_eq, nat_lt, List, [], ◌∷◌, None, get_or, set, length, refl, ap, sym, subst, ◌∙◌, eq-eqb, eqb-true, ne_eqb, arith}
-use Rattle.std.proofs.lemmas.Bool.{cases_eq}
+use Rattle.std.proofs.Common.{◌≡◌, ◌≢◌, ℕ, ◌+◌, ◌<◌, ◌≤◌, inl, inr, Bool, true, false, cond, nat_eq, nat_lt, List, [], ◌∷◌, Option, None, Some, get_or, set, length, refl, ap, sym, subst, ◌∙◌, eq-eqb, eqb-true, ne_eqb, lt-ltb, length-set, arith}
+use Rattle.std.proofs.lemmas.Bool.{cases_eq, cases_lt}
 use Rattle.crash_core.specs.declared.event.Event.{Event}
 use Rattle.crash_core.specs.declared.event.Event.TheVariants.{Tick, Load, Store, Settle, LookUsed, TakeFresh, KeepUsed, LookHead, LookLink, Pop, Push, LookAnchor, TakeAll, Give}
-use Rattle.crash_core.specs.Memory.{Memory, Place, volatile_at, used, head, anchor, read, write}
-use Rattle.crash_core.specs.View.{Setup, View, times_raw, times_classed, times_block}
-use Rattle.crash_core.specs.Effects.{seen, seen_word, seen_of, before, place_of, left_there, view_after, taken_fresh, lost, popped, popped_head, pushed, pushed_head, taken_all, given, batch_anchor, batch_count, first_of}
+use Rattle.crash_core.specs.Memory.{Memory, Place, volatile_at, tickets, used, head, anchor, info, read, write}
+use Rattle.crash_core.specs.View.{Setup, View, one_if_some, times_raw, times_classed, times_block}
+use Rattle.crash_core.specs.Effects.{seen, seen_word, seen_of, before, place_of, left_there, view_after, taken_fresh, lost, drew, stopped, shifted, after_cut, after_alloc, after_free, after_lift, after_large, after_split, popped, popped_head, pushed, pushed_head, taken_all, given, batch_anchor, batch_count, first_of}
 use Rattle.heap_model.specs.Words.{head_first, full_anchor}
 use Rattle.heap_model.specs.Counting.{times, total}
 use Rattle.crash_core.specs.Cells.{cell_at, superblock_at}
-use Rattle.crash_core.specs.Guards.{MayStep}
+use Rattle.crash_core.specs.declared.event.Shift.{Shift}
+use Rattle.crash_core.specs.declared.event.Shift.TheVariants.{Cut, Alloc, Free, Lift, Large, Split}
+use Rattle.crash_core.specs.Guards.{MayShift, MayStep}
+use Rattle.crash_core.proofs.PlaceLemmas.{not-lt}
+use Rattle.std.proofs.lemmas.List.{get_or-set_same, set-set}
 use Rattle.crash_core.specs.Sound.{tally_of, times_cut, Good}
 use Rattle.crash_core.specs.Steps.{Keeps}
 use Rattle.crash_core.proofs.MemoryLemmas.{write_read}
@@ -107,3 +111,60 @@ module _ (k : Setup) (m : Memory) (views : List View) (i : ℕ) (v : View) (belo
 
   pub kept_store : (word value : ℕ) → MayStep m v (Store word value) → Keeps k m views i v (Store word value)
   kept_store word value may = store.store k m views i v below at good may.ticket word value (cell_at v.setup.capacity word) refl may.ready.0 may.ready.1
+
+  -- the shift that goes with a draw
+  module _ (going : one_if_some v.stopped ≡ 0) (room : m.drawn < v.setup.budget) where
+    abbrev m1 : Memory
+    m1 = write m tickets (m.drawn + 1)
+    abbrev v1 : View
+    v1 = drew v m.drawn
+    abbrev views1 : List View
+    views1 = set views i v1
+
+    good1 : Good k m1 views1
+    good1 = draws.draw k m views i v below at good going room
+
+    below1 : i < length views1
+    below1 = subst (λ n. i < n) (sym (length-set views i v1)) below
+
+    at1 : get_or views1 i v1 ≡ v1
+    at1 = get_or-set_same views i v1 v1 below
+
+    twice : (w : View) → Good k m1 (set views1 i w) → Good k m1 (set views i w)
+    twice w kept = subst (Good k m1) (set-set views i v1 w) kept
+
+    shift_kept : (shift : Option Shift) → MayShift m v shift → Good k m1 (set views i (shifted m v1 shift))
+    shift_kept None may = good1
+    shift_kept (Some (Cut d)) may = twice (after_cut m v1 d) (cuts.cut k m1 views1 i v1 below1 at1 good1 d
+      (record { cutting = may.cutting; class = may.class; durable_class = may.durable_class; durable = may.durable; linked = may.linked; uncached = may.uncached })
+      (let c = (good.tickets i v below at).cuts in omega arith))
+    shift_kept (Some (Alloc class)) may = twice (after_alloc v1 class) (shifts.alloc k m1 views1 i v1 below1 at1 good1 class (record { is_class = may.is_class; cached = may.cached }))
+    shift_kept (Some (Free block)) may = twice (after_free v1 (info m (superblock_at v.setup.capacity block)) block) (shifts.free k m1 views1 i v1 below1 at1 good1 block (record { is_class = may.is_class; held = may.held; linked = may.linked }))
+    shift_kept (Some (Lift class)) may = twice (after_lift v1 class) (shifts.lift k m1 views1 i v1 below1 at1 good1 class (record { is_class = may.is_class; cached = may.cached;
+      behind = λ some. let b = may.behind some in record { same = b.same; unchanged = b.unchanged; linked = b.linked } }))
+    shift_kept (Some (Large d n)) may = twice (after_large v1 d n) (spans.hold_large k m1 views1 i v1 below1 at1 good1 d n
+      (record { some = may.some; claimed = may.claimed; empty = may.empty; durable = may.durable; first = may.first; others = may.others; durable_infos = may.durable_infos }))
+    shift_kept (Some (Split block)) may = twice (after_split v1 (superblock_at v.setup.capacity block)) (spans.split_large k m1 views1 i v1 below1 at1 good1 block (record { held = may.held; first = may.first }))
+
+  pub kept_tick : (shift : Option Shift) → MayStep m v (Tick shift) → Keeps k m views i v (Tick shift)
+  kept_tick shift may = elim (cases_lt m.drawn v.setup.budget) [
+      | inl room ↦ subst (λ t. Good k (write m tickets (m.drawn + 1)) (set views i (cond t (shifted m (drew v m.drawn) shift) (stopped v m.drawn)))) (sym (lt-ltb m.drawn v.setup.budget room)) (shift_kept may.going room shift may.ready)
+      | inr spent ↦ subst (λ t. Good k (write m tickets (m.drawn + 1)) (set views i (cond t (shifted m (drew v m.drawn) shift) (stopped v m.drawn)))) (sym (not-lt m.drawn v.setup.budget spent)) (draws.stop k m views i v below at good may.going)
+    ]
+
+  -- every kind of step
+  pub kept : (event : Event) → MayStep m v event → Keeps k m views i v event
+  kept (Tick shift) may = kept_tick shift may
+  kept (Load word) may = kept_load word may
+  kept (Store word value) may = kept_store word value may
+  kept (Settle word) may = kept_settle word may
+  kept LookUsed may = kept_look_used may
+  kept (TakeFresh n) may = kept_take_fresh n may
+  kept KeepUsed may = kept_keep_used may
+  kept (LookHead list) may = kept_look_head list may
+  kept LookLink may = kept_look_link may
+  kept Pop may = kept_pop may
+  kept (Push d) may = kept_push d may
+  kept (LookAnchor d) may = kept_look_anchor d may
+  kept (TakeAll d) may = kept_take_all d may
+  kept (Give d) may = kept_give d may
