@@ -22,3 +22,4 @@ pub mod ShiftLemmas
 pub mod SpanLemmas
 pub mod CutLemmas
 pub mod KeptLemmas
+pub mod TableLemmas

@@ -1,9 +1,10 @@
 -- A step of a seat as one change: the memory after it, and the seat's view after it.
-use Rattle.std.specs.Prelude.{ℕ, List, set}
+use Rattle.std.specs.Prelude.{◌≡◌, ℕ, ◌<◌, List, [], ◌∷◌, get_or, length, set}
 use Rattle.crash_core.specs.declared.event.Event.{Event}
-use Rattle.crash_core.specs.Memory.{Memory, read, write}
+use Rattle.crash_core.specs.Memory.{Memory, read, write, table_index, memory_of}
 use Rattle.crash_core.specs.View.{Setup, View}
 use Rattle.crash_core.specs.Effects.{place_of, left_there, view_after}
+use Rattle.crash_core.specs.Guards.{MayDo}
 use Rattle.crash_core.specs.Sound.{Good}
 
 -- the word that the step finds
@@ -19,3 +20,26 @@ seat_after m v event = view_after m v event (found_by m v event)
 -- memory and seats fit together after the step of seat i
 abbrev pub Keeps : Setup → Memory → List View → ℕ → View → Event → Type 0
 Keeps k m views i v event = Good k (memory_after m v event) (set views i (seat_after m v event))
+
+-- the words of the shared table and the views of the seats
+pub record State : Type 0 where
+  pub words : List ℕ
+  pub views : List View
+
+-- the words and views after the step of a seat
+abbrev pub words_after : Setup → List ℕ → View → Event → List ℕ
+words_after k words v event = set words (table_index k.capacity (place_of v event))
+    (left_there (memory_of k.capacity words) v event (found_by (memory_of k.capacity words) v event))
+
+abbrev pub state_after : Setup → State → ℕ → View → Event → State
+state_after k s i v event = record { words = words_after k s.words v event; views = set s.views i (seat_after (memory_of k.capacity s.words) v event) }
+
+-- what a seat's event makes of a state: the step is done, won where it compares; or it may not be taken now, or the seat has stopped, and nothing changes
+pub data Goes (k : Setup) (s : State) (i : ℕ) (event : Event) : State → Type 0 where
+  is_done : (v : View) → get_or s.views i v ≡ v → MayDo (memory_of k.capacity s.words) v event → Goes k s i event (state_after k s i v event)
+  not_now : Goes k s i event s
+
+-- what a list of events makes of a state
+abbrev pub Runs : Setup → State → List (ℕ × Event) → State → Type 0
+Runs k s [] s' = s ≡ s'
+Runs k s (e ∷ events) s' = (next : State) × (e.0 < length s.views) × Goes k s e.0 e.1 next × Runs k next events s'
