@@ -23,3 +23,4 @@ pub mod SpanLemmas
 pub mod CutLemmas
 pub mod KeptLemmas
 pub mod TableLemmas
+pub mod SoundLemmas

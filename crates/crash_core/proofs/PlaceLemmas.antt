@@ -135,3 +135,33 @@ known_after c values word x cell value long is knows = elim (cases_eq (index_of 
   )
   | inr other ↦ inr (λ same. other (ap index_of same ∙ index_at c word (subst (λ y. is_cell c y ≡ true) same is)), sym (get_or-set_other values word (index_of cell) (Some x) None other) ∙ knows)
 ]
+
+-- what stands at a word index is a cell of the image, or none
+pub cell_there : (c word : ℕ) → (is_cell c (cell_at c word) ≡ true) ⊎ (cell_at c word ≡ no_cell)
+cell_there c word = elim (cases_lt word 40) [
+    | inl header ↦ via (header_cell word) (pick (nat_lt word 40) _ _ (lt-ltb word 40 header)) (in_the_header (nat_eq word 8) (nat_le 16 word && nat_lt word 37) refl)
+    | inr past ↦ elim (cases_lt word 1064) [
+      | inl root ↦ via (root_cell (word - 40)) (skip (nat_lt word 40) _ _ (not-lt word 40 (omega arith)) ∙ pick (nat_lt word 1064) _ _ (lt-ltb word 1064 root)) (inl (lt-ltb (word - 40) 1024 (omega arith)))
+      | inr past_roots ↦ elim (cases_lt word (start_word c 0)) [
+        | inl line ↦ via (descriptor_cell ((word - 1064) / 8) ((word - 1064) % 8))
+            (skip (nat_lt word 40) _ _ (not-lt word 40 (omega arith)) ∙ skip (nat_lt word 1064) _ _ (not-lt word 1064 past_roots) ∙ pick (nat_lt word (start_word c 0)) _ _ (lt-ltb word (start_word c 0) line))
+            (in_the_line ((word - 1064) / 8) (nat_eq ((word - 1064) % 8) 0) (nat_eq ((word - 1064) % 8) 1) (nat_eq ((word - 1064) % 8) 2) (omega arith))
+        | inr past_lines ↦ elim (cases_lt word (image_words c)) [
+          | inl block ↦ via (data_cell word)
+              (skip (nat_lt word 40) _ _ (not-lt word 40 (omega arith)) ∙ skip (nat_lt word 1064) _ _ (not-lt word 1064 past_roots) ∙ skip (nat_lt word (start_word c 0)) _ _ (not-lt word (start_word c 0) past_lines)
+                ∙ pick (nat_lt word (image_words c)) _ _ (lt-ltb word (image_words c) block)) (inl (and_is (nat_le (start_word c 0) word) (nat_lt word (image_words c)) (le-leb (start_word c 0) word past_lines) (lt-ltb word (image_words c) block)))
+          | inr beyond ↦ via no_cell
+              (skip (nat_lt word 40) _ _ (not-lt word 40 (omega arith)) ∙ skip (nat_lt word 1064) _ _ (not-lt word 1064 past_roots) ∙ skip (nat_lt word (start_word c 0)) _ _ (not-lt word (start_word c 0) past_lines)
+                ∙ skip (nat_lt word (image_words c)) _ _ (not-lt word (image_words c) beyond)) (inr refl)
+        ] ] ] ] where
+  via : (cell : Cell) → cell_at c word ≡ cell → (is_cell c cell ≡ true) ⊎ (cell ≡ no_cell) → (is_cell c (cell_at c word) ≡ true) ⊎ (cell_at c word ≡ no_cell)
+  via cell same of = subst (λ x. (is_cell c x ≡ true) ⊎ (x ≡ no_cell)) (sym same) of
+  in_the_header : (a b : Bool) → (nat_le 16 word && nat_lt word 37) ≡ b → (is_cell c (cond a used_cell (cond b (head_cell (word - 16)) no_cell)) ≡ true) ⊎ (cond a used_cell (cond b (head_cell (word - 16)) no_cell) ≡ no_cell)
+  in_the_header true b e = inl refl
+  in_the_header false true e = let both = and_both (nat_le 16 word) (nat_lt word 37) e in inl (lt-ltb (word - 16) 21 (let l : word < 37 = ltb-true word 37 both.1 in let h : 16 ≤ word = leb-true 16 word both.0 in omega arith))
+  in_the_header false false e = inr refl
+  in_the_line : (d : ℕ) (a b e : Bool) → d < c → (is_cell c (cond a (info_cell d) (cond b (anchor_cell d) (cond e (link_cell d) no_cell))) ≡ true) ⊎ (cond a (info_cell d) (cond b (anchor_cell d) (cond e (link_cell d) no_cell)) ≡ no_cell)
+  in_the_line d true b e less = inl (lt-ltb d c less)
+  in_the_line d false true e less = inl (lt-ltb d c less)
+  in_the_line d false false true less = inl (lt-ltb d c less)
+  in_the_line d false false false less = inr refl

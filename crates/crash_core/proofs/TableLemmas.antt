@@ -12,7 +12,7 @@ use Rattle.crash_core.proofs.FrameLemmas.{with_other}
 use Rattle.crash_core.proofs.OwnStepLemmas.{with_same}
 
 -- a cell is one of the image
-pub is_place : ℕ → Place → Bool
+abbrev pub is_place : ℕ → Place → Bool
 is_place c (volatile_at cell) = is_cell c cell
 is_place c (durable_at cell) = is_cell c cell
 is_place c tickets = true
@@ -54,7 +54,6 @@ zero_plus n = omega arith
 
 -- the memory of a table in which one place is written
 pub memory_set : (c : ℕ) (words : List ℕ) (p : Place) (x : ℕ) → length words ≡ table_length c → is_place c p ≡ true → memory_of c (set words (table_index c p) x) ≡ write (memory_of c words) p x
-unfolding is_place
 memory_set c words (volatile_at at) x long is = λ j. record {
     volatile = λ cell. (ap (λ n. cond (is_cell c cell) (get_or (set words n x) (index_of cell) 0) 0) (sym (zero_plus (index_of at)))
       ∙ ap (λ n. cond (is_cell c cell) (get_or (set words (0 + index_of at) x) n 0) 0) (sym (zero_plus (index_of cell)))
