@@ -59,10 +59,12 @@ parts_of state first count small short = (omega arith, omega arith, omega arith)
 -- a full anchor has no blocks
 pub full_anchored : (next : ℕ → ℕ) (c class d : ℕ) → IsClass class → IsAnchoredBy next c class d full_anchor []
 full_anchored next c class d is = let four = four_blocks class is in record {
-    walks = tt; count = refl;
-    empty = (λ e. absurd (two_not_none e), λ e. absurd (omega (arith, e)));
-    full = (λ e. refl, λ e. refl);
-    partial = λ some not_all. absurd (some refl) } where
+  walks = tt;
+  count = refl;
+  empty = (λ e. absurd (two_not_none e), λ e. absurd (omega (arith, e)));
+  full = (λ e. refl, λ e. refl);
+  partial = λ some not_all. absurd (some refl);
+} where
   two_not_none : 2 % 4 ≡ 0 → ⊥
   two_not_none e = omega (arith, e)
 

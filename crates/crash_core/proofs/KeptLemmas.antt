@@ -79,29 +79,30 @@ module _ (k : Setup) (m : Memory) (views : List View) (i : ℕ) (v : View) (belo
 
   pub kept_take_all : (d : ℕ) → MayStep m v (TakeAll d) → Keeps k m views i v (TakeAll d)
   kept_take_all d may = exchange (anchor m d) (seen_word v.seen_anchor)
-    (λ t. Good k (write m (place_of v (TakeAll d)) (cond t full_anchor (anchor m d))) (set views i (cond t (taken_all m v d) (record (lost v) { seen_anchor = None }))))
-    (λ same. take_all.take_all k m views i v below at good may.ticket d may.ready same)
-    (λ other. reads (place_of v (TakeAll d)) _ (quiet.lost_anchor k m views i v below at good may.ticket may.ready.is_seen
+      (λ t. Good k (write m (place_of v (TakeAll d)) (cond t full_anchor (anchor m d))) (set views i (cond t (taken_all m v d) (record (lost v) { seen_anchor = None }))))
+      (λ same. take_all.take_all k m views i v below at good may.ticket d may.ready same)
+      (λ other. reads (place_of v (TakeAll d)) _ (quiet.lost_anchor k m views i v below at good may.ticket may.ready.is_seen
       (subst (λ x. times_raw x v ≡ 0) (sym may.ready.of) (not_raw_claimed d may.ready.claimed)) (λ same. other (ap (anchor m) (sym may.ready.of) ∙ same)))) where
-    not_raw_claimed : (e : ℕ) → 0 < times_classed e v.classed → times_raw e v ≡ 0
-    not_raw_claimed e some = let r = total_at (times_raw e) views i v below at in let c = total_at (λ (u : View). times_classed e u.classed) views i v below at in
-      let p = good.shaped.placed.one_place e in let most = one_at_most (nat_lt e (used m)) in omega arith
+        not_raw_claimed : (e : ℕ) → 0 < times_classed e v.classed → times_raw e v ≡ 0
+        not_raw_claimed e some = let r = total_at (times_raw e) views i v below at in let c = total_at (λ (u : View). times_classed e u.classed) views i v below at in
+            let p = good.shaped.placed.one_place e in let most = one_at_most (nat_lt e (used m)) in omega arith
 
   pub kept_give : (d : ℕ) → MayStep m v (Give d) → Keeps k m views i v (Give d)
   kept_give d may = exchange (anchor m d) (seen_word v.seen_anchor)
-    (λ t. Good k (write m (place_of v (Give d)) (cond t (batch_anchor v d) (anchor m d))) (set views i (cond t (given v d) (record (lost v) { seen_anchor = None }))))
-    (λ same. give.give k m views i v below at good may.ticket d may.ready same)
-    (λ other. reads (place_of v (Give d)) _ (quiet.lost_anchor k m views i v below at good may.ticket may.ready.is_seen
+      (λ t. Good k (write m (place_of v (Give d)) (cond t (batch_anchor v d) (anchor m d))) (set views i (cond t (given v d) (record (lost v) { seen_anchor = None }))))
+      (λ same. give.give k m views i v below at good may.ticket d may.ready same)
+      (λ other. reads (place_of v (Give d)) _ (quiet.lost_anchor k m views i v below at good may.ticket may.ready.is_seen
       (subst (λ x. times_raw x v ≡ 0) (sym may.ready.of) not_raw) (λ same. other (ap (anchor m) (sym may.ready.of) ∙ same)))) where
-    first_there : (xs : List ℕ) → 1 ≤ batch_count xs → 0 < times (first_of xs) xs
-    first_there [] some = absurd (omega arith)
-    first_there (b ∷ xs) some = let one = eq-eqb-one b b refl in omega arith
-    not_raw : times_raw d v ≡ 0
-    not_raw = let b = first_of v.batch.blocks in let there = first_there v.batch.blocks may.ready.some in let t = total_at (times_block b) views i v below at in
-      let cut = (good.shaped.chained.inside b (omega arith)).0 in let s = good.set_up i v below at in
-      let here : superblock_at k.capacity b ≡ d = ap (λ (q : Setup). superblock_at q.capacity b) (sym s.setup) ∙ ((good.blocks i v below at).batched b there).0 ∙ may.ready.batch in
-      let c = ap (times_cut good.shape (tally_of views)) here in let r = total_at (times_raw d) views i v below at in
-      let p = good.shaped.placed.one_place d in let most = one_at_most (nat_lt d (used m)) in omega arith
+        first_there : (xs : List ℕ) → 1 ≤ batch_count xs → 0 < times (first_of xs) xs
+        first_there [] some = absurd (omega arith)
+        first_there (b ∷ xs) some = let one = eq-eqb-one b b refl in omega arith
+
+        not_raw : times_raw d v ≡ 0
+        not_raw = let b = first_of v.batch.blocks in let there = first_there v.batch.blocks may.ready.some in let t = total_at (times_block b) views i v below at in
+            let cut = (good.shaped.chained.inside b (omega arith)).0 in let s = good.set_up i v below at in
+            let here : superblock_at k.capacity b ≡ d = ap (λ (q : Setup). superblock_at q.capacity b) (sym s.setup) ∙ ((good.blocks i v below at).batched b there).0 ∙ may.ready.batch in
+            let c = ap (times_cut good.shape (tally_of views)) here in let r = total_at (times_raw d) views i v below at in
+            let p = good.shaped.placed.one_place d in let most = one_at_most (nat_lt d (used m)) in omega arith
 
   pub kept_load : (word : ℕ) → MayStep m v (Load word) → Keeps k m views i v (Load word)
   kept_load word may = reads (place_of v (Load word)) _ (own.load k m views i v below at good word may.ready may.ticket)
@@ -116,8 +117,10 @@ module _ (k : Setup) (m : Memory) (views : List View) (i : ℕ) (v : View) (belo
   module _ (going : one_if_some v.stopped ≡ 0) (room : m.drawn < v.setup.budget) where
     abbrev m1 : Memory
     m1 = write m tickets (m.drawn + 1)
+
     abbrev v1 : View
     v1 = drew v m.drawn
+
     abbrev views1 : List View
     views1 = set views i v1
 
@@ -136,21 +139,24 @@ module _ (k : Setup) (m : Memory) (views : List View) (i : ℕ) (v : View) (belo
     shift_kept : (shift : Option Shift) → MayShift m v shift → Good k m1 (set views i (shifted m v1 shift))
     shift_kept None may = good1
     shift_kept (Some (Cut d)) may = twice (after_cut m v1 d) (cuts.cut k m1 views1 i v1 below1 at1 good1 d
-      (record { cutting = may.cutting; class = may.class; durable_class = may.durable_class; durable = may.durable; linked = may.linked; uncached = may.uncached })
-      (let c = (good.tickets i v below at).cuts in omega arith))
+        (record { cutting = may.cutting; class = may.class; durable_class = may.durable_class; durable = may.durable; linked = may.linked; uncached = may.uncached })
+        (let c = (good.tickets i v below at).cuts in omega arith))
     shift_kept (Some (Alloc class)) may = twice (after_alloc v1 class) (shifts.alloc k m1 views1 i v1 below1 at1 good1 class (record { is_class = may.is_class; cached = may.cached }))
     shift_kept (Some (Free block)) may = twice (after_free v1 (info m (superblock_at v.setup.capacity block)) block) (shifts.free k m1 views1 i v1 below1 at1 good1 block (record { is_class = may.is_class; held = may.held; linked = may.linked }))
-    shift_kept (Some (Lift class)) may = twice (after_lift v1 class) (shifts.lift k m1 views1 i v1 below1 at1 good1 class (record { is_class = may.is_class; cached = may.cached;
-      behind = λ some. let b = may.behind some in record { same = b.same; unchanged = b.unchanged; linked = b.linked } }))
+    shift_kept (Some (Lift class)) may = twice (after_lift v1 class) (shifts.lift k m1 views1 i v1 below1 at1 good1 class (record {
+      is_class = may.is_class;
+      cached = may.cached;
+      behind = λ some. let b = may.behind some in record { same = b.same; unchanged = b.unchanged; linked = b.linked };
+    }))
     shift_kept (Some (Large d n)) may = twice (after_large v1 d n) (spans.hold_large k m1 views1 i v1 below1 at1 good1 d n
-      (record { some = may.some; claimed = may.claimed; empty = may.empty; durable = may.durable; first = may.first; others = may.others; durable_infos = may.durable_infos }))
+        (record { some = may.some; claimed = may.claimed; empty = may.empty; durable = may.durable; first = may.first; others = may.others; durable_infos = may.durable_infos }))
     shift_kept (Some (Split block)) may = twice (after_split v1 (superblock_at v.setup.capacity block)) (spans.split_large k m1 views1 i v1 below1 at1 good1 block (record { held = may.held; first = may.first }))
 
   pub kept_tick : (shift : Option Shift) → MayStep m v (Tick shift) → Keeps k m views i v (Tick shift)
   kept_tick shift may = elim (cases_lt m.drawn v.setup.budget) [
-      | inl room ↦ subst (λ t. Good k (write m tickets (m.drawn + 1)) (set views i (cond t (shifted m (drew v m.drawn) shift) (stopped v m.drawn)))) (sym (lt-ltb m.drawn v.setup.budget room)) (shift_kept may.going room shift may.ready)
-      | inr spent ↦ subst (λ t. Good k (write m tickets (m.drawn + 1)) (set views i (cond t (shifted m (drew v m.drawn) shift) (stopped v m.drawn)))) (sym (not-lt m.drawn v.setup.budget spent)) (draws.stop k m views i v below at good may.going)
-    ]
+    | inl room ↦ subst (λ t. Good k (write m tickets (m.drawn + 1)) (set views i (cond t (shifted m (drew v m.drawn) shift) (stopped v m.drawn)))) (sym (lt-ltb m.drawn v.setup.budget room)) (shift_kept may.going room shift may.ready)
+    | inr spent ↦ subst (λ t. Good k (write m tickets (m.drawn + 1)) (set views i (cond t (shifted m (drew v m.drawn) shift) (stopped v m.drawn)))) (sym (not-lt m.drawn v.setup.budget spent)) (draws.stop k m views i v below at good may.going)
+  ]
 
   -- every kind of step
   pub kept : (event : Event) → MayStep m v event → Keeps k m views i v event

@@ -24,3 +24,4 @@ pub mod CutLemmas
 pub mod KeptLemmas
 pub mod TableLemmas
 pub mod SoundLemmas
+pub mod HeldLemmas

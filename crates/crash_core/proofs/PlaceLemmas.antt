@@ -88,32 +88,37 @@ index_within c no_cell is = absurd (cc)
 -- the word index of the cell at a word index is that
 pub index_at : (c word : ℕ) → is_cell c (cell_at c word) ≡ true → index_of (cell_at c word) ≡ word
 index_at c word is = elim (cases_lt word 40) [
-    | inl in_header ↦ via (header_cell word) (pick (nat_lt word 40) _ _ (lt-ltb word 40 in_header)) (in_the_header in_header)
-    | inr past ↦ elim (cases_lt word 1064) [
-      | inl root ↦ via (root_cell (word - 40)) (skip (nat_lt word 40) _ _ (not-lt word 40 (omega arith)) ∙ pick (nat_lt word 1064) _ _ (lt-ltb word 1064 root)) (λ _. omega arith)
-      | inr past_roots ↦ elim (cases_lt word (start_word c 0)) [
-        | inl line ↦ via (descriptor_cell ((word - 1064) / 8) ((word - 1064) % 8))
-            (skip (nat_lt word 40) _ _ (not-lt word 40 (omega arith)) ∙ skip (nat_lt word 1064) _ _ (not-lt word 1064 past_roots) ∙ pick (nat_lt word (start_word c 0)) _ _ (lt-ltb word (start_word c 0) line))
-            (in_the_line past_roots)
-        | inr past_lines ↦ elim (cases_lt word (image_words c)) [
-          | inl block ↦ via (data_cell word)
-              (skip (nat_lt word 40) _ _ (not-lt word 40 (omega arith)) ∙ skip (nat_lt word 1064) _ _ (not-lt word 1064 past_roots) ∙ skip (nat_lt word (start_word c 0)) _ _ (not-lt word (start_word c 0) past_lines)
-                ∙ pick (nat_lt word (image_words c)) _ _ (lt-ltb word (image_words c) block)) (λ _. refl)
-          | inr beyond ↦ via no_cell
-              (skip (nat_lt word 40) _ _ (not-lt word 40 (omega arith)) ∙ skip (nat_lt word 1064) _ _ (not-lt word 1064 past_roots) ∙ skip (nat_lt word (start_word c 0)) _ _ (not-lt word (start_word c 0) past_lines)
-                ∙ skip (nat_lt word (image_words c)) _ _ (not-lt word (image_words c) beyond)) (λ e. absurd (true≢false (sym e)))
-        ] ] ] ] where
+  | inl in_header ↦ via (header_cell word) (pick (nat_lt word 40) _ _ (lt-ltb word 40 in_header)) (in_the_header in_header)
+  | inr past ↦ elim (cases_lt word 1064) [
+    | inl root ↦ via (root_cell (word - 40)) (skip (nat_lt word 40) _ _ (not-lt word 40 (omega arith)) ∙ pick (nat_lt word 1064) _ _ (lt-ltb word 1064 root)) (λ _. omega arith)
+    | inr past_roots ↦ elim (cases_lt word (start_word c 0)) [
+      | inl line ↦ via (descriptor_cell ((word - 1064) / 8) ((word - 1064) % 8))
+          (skip (nat_lt word 40) _ _ (not-lt word 40 (omega arith)) ∙ skip (nat_lt word 1064) _ _ (not-lt word 1064 past_roots) ∙ pick (nat_lt word (start_word c 0)) _ _ (lt-ltb word (start_word c 0) line))
+          (in_the_line past_roots)
+      | inr past_lines ↦ elim (cases_lt word (image_words c)) [
+        | inl block ↦ via (data_cell word)
+            (skip (nat_lt word 40) _ _ (not-lt word 40 (omega arith)) ∙ skip (nat_lt word 1064) _ _ (not-lt word 1064 past_roots) ∙ skip (nat_lt word (start_word c 0)) _ _ (not-lt word (start_word c 0) past_lines)
+            ∙ pick (nat_lt word (image_words c)) _ _ (lt-ltb word (image_words c) block)) (λ _. refl)
+        | inr beyond ↦ via no_cell
+            (skip (nat_lt word 40) _ _ (not-lt word 40 (omega arith)) ∙ skip (nat_lt word 1064) _ _ (not-lt word 1064 past_roots) ∙ skip (nat_lt word (start_word c 0)) _ _ (not-lt word (start_word c 0) past_lines)
+            ∙ skip (nat_lt word (image_words c)) _ _ (not-lt word (image_words c) beyond)) (λ e. absurd (true≢false (sym e)))
+      ]
+    ]
+  ]
+] where
   via : (cell : Cell) → cell_at c word ≡ cell → (is_cell c cell ≡ true → index_of cell ≡ word) → index_of (cell_at c word) ≡ word
   via cell same of = subst (λ x. is_cell c x ≡ true → index_of x ≡ word) (sym same) of is
+
   in_the_header : word < 40 → is_cell c (header_cell word) ≡ true → index_of (header_cell word) ≡ word
   in_the_header less e = elim (cases_eq word 8) [
-      | inl eight ↦ subst (λ t. index_of (cond t used_cell (cond (nat_le 16 word && nat_lt word 37) (head_cell (word - 16)) no_cell)) ≡ word) (sym (eq-eqb word 8 eight)) (sym eight)
-      | inr other ↦ subst (λ t. is_cell c (cond t used_cell (cond (nat_le 16 word && nat_lt word 37) (head_cell (word - 16)) no_cell)) ≡ true → index_of (cond t used_cell (cond (nat_le 16 word && nat_lt word 37) (head_cell (word - 16)) no_cell)) ≡ word)
-          (sym (not-eq word 8 other)) (by_test (nat_le 16 word && nat_lt word 37) refl) e
-    ] where
+    | inl eight ↦ subst (λ t. index_of (cond t used_cell (cond (nat_le 16 word && nat_lt word 37) (head_cell (word - 16)) no_cell)) ≡ word) (sym (eq-eqb word 8 eight)) (sym eight)
+    | inr other ↦ subst (λ t. is_cell c (cond t used_cell (cond (nat_le 16 word && nat_lt word 37) (head_cell (word - 16)) no_cell)) ≡ true → index_of (cond t used_cell (cond (nat_le 16 word && nat_lt word 37) (head_cell (word - 16)) no_cell)) ≡ word)
+        (sym (not-eq word 8 other)) (by_test (nat_le 16 word && nat_lt word 37) refl) e
+  ] where
     by_test : (test : Bool) → nat_le 16 word && nat_lt word 37 ≡ test → is_cell c (cond test (head_cell (word - 16)) no_cell) ≡ true → index_of (cond test (head_cell (word - 16)) no_cell) ≡ word
     by_test true both f = let low : 16 ≤ word = leb-true 16 word (and_both (nat_le 16 word) (nat_lt word 37) both).0 in omega arith
     by_test false both f = absurd (true≢false (sym f))
+
   in_the_line : 1064 ≤ word → is_cell c (descriptor_cell ((word - 1064) / 8) ((word - 1064) % 8)) ≡ true → index_of (descriptor_cell ((word - 1064) / 8) ((word - 1064) % 8)) ≡ word
   in_the_line past e = by_offset ((word - 1064) / 8) ((word - 1064) % 8) (omega arith) e where
     by_offset : (d at : ℕ) → word ≡ 1064 + 8 * d + at → is_cell c (descriptor_cell d at) ≡ true → index_of (descriptor_cell d at) ≡ word
@@ -121,9 +126,9 @@ index_at c word is = elim (cases_lt word 40) [
     by_offset d (suc zero) same f = omega arith
     by_offset d (suc (suc zero)) same f = omega arith
     by_offset d (suc (suc (suc n))) same f = absurd (true≢false (sym f ∙ ap (is_cell c)
-      (skip (nat_eq (suc (suc (suc n))) 0) _ _ (not-eq (suc (suc (suc n))) 0 (λ z. omega (arith, z)))
-      ∙ skip (nat_eq (suc (suc (suc n))) 1) _ _ (not-eq (suc (suc (suc n))) 1 (λ z. omega (arith, z)))
-      ∙ skip (nat_eq (suc (suc (suc n))) 2) _ _ (not-eq (suc (suc (suc n))) 2 (λ z. omega (arith, z))))))
+        (skip (nat_eq (suc (suc (suc n))) 0) _ _ (not-eq (suc (suc (suc n))) 0 (λ z. omega (arith, z)))
+        ∙ skip (nat_eq (suc (suc (suc n))) 1) _ _ (not-eq (suc (suc (suc n))) 1 (λ z. omega (arith, z)))
+        ∙ skip (nat_eq (suc (suc (suc n))) 2) _ _ (not-eq (suc (suc (suc n))) 2 (λ z. omega (arith, z))))))
 
 -- what is known after one word was learned
 pub known_after : (c : ℕ) (values : List (Option ℕ)) (word x : ℕ) (cell : Cell) (value : ℕ) → length values ≡ image_words c → is_cell c cell ≡ true
@@ -139,27 +144,32 @@ known_after c values word x cell value long is knows = elim (cases_eq (index_of 
 -- what stands at a word index is a cell of the image, or none
 pub cell_there : (c word : ℕ) → (is_cell c (cell_at c word) ≡ true) ⊎ (cell_at c word ≡ no_cell)
 cell_there c word = elim (cases_lt word 40) [
-    | inl header ↦ via (header_cell word) (pick (nat_lt word 40) _ _ (lt-ltb word 40 header)) (in_the_header (nat_eq word 8) (nat_le 16 word && nat_lt word 37) refl)
-    | inr past ↦ elim (cases_lt word 1064) [
-      | inl root ↦ via (root_cell (word - 40)) (skip (nat_lt word 40) _ _ (not-lt word 40 (omega arith)) ∙ pick (nat_lt word 1064) _ _ (lt-ltb word 1064 root)) (inl (lt-ltb (word - 40) 1024 (omega arith)))
-      | inr past_roots ↦ elim (cases_lt word (start_word c 0)) [
-        | inl line ↦ via (descriptor_cell ((word - 1064) / 8) ((word - 1064) % 8))
-            (skip (nat_lt word 40) _ _ (not-lt word 40 (omega arith)) ∙ skip (nat_lt word 1064) _ _ (not-lt word 1064 past_roots) ∙ pick (nat_lt word (start_word c 0)) _ _ (lt-ltb word (start_word c 0) line))
-            (in_the_line ((word - 1064) / 8) (nat_eq ((word - 1064) % 8) 0) (nat_eq ((word - 1064) % 8) 1) (nat_eq ((word - 1064) % 8) 2) (omega arith))
-        | inr past_lines ↦ elim (cases_lt word (image_words c)) [
-          | inl block ↦ via (data_cell word)
-              (skip (nat_lt word 40) _ _ (not-lt word 40 (omega arith)) ∙ skip (nat_lt word 1064) _ _ (not-lt word 1064 past_roots) ∙ skip (nat_lt word (start_word c 0)) _ _ (not-lt word (start_word c 0) past_lines)
-                ∙ pick (nat_lt word (image_words c)) _ _ (lt-ltb word (image_words c) block)) (inl (and_is (nat_le (start_word c 0) word) (nat_lt word (image_words c)) (le-leb (start_word c 0) word past_lines) (lt-ltb word (image_words c) block)))
-          | inr beyond ↦ via no_cell
-              (skip (nat_lt word 40) _ _ (not-lt word 40 (omega arith)) ∙ skip (nat_lt word 1064) _ _ (not-lt word 1064 past_roots) ∙ skip (nat_lt word (start_word c 0)) _ _ (not-lt word (start_word c 0) past_lines)
-                ∙ skip (nat_lt word (image_words c)) _ _ (not-lt word (image_words c) beyond)) (inr refl)
-        ] ] ] ] where
+  | inl header ↦ via (header_cell word) (pick (nat_lt word 40) _ _ (lt-ltb word 40 header)) (in_the_header (nat_eq word 8) (nat_le 16 word && nat_lt word 37) refl)
+  | inr past ↦ elim (cases_lt word 1064) [
+    | inl root ↦ via (root_cell (word - 40)) (skip (nat_lt word 40) _ _ (not-lt word 40 (omega arith)) ∙ pick (nat_lt word 1064) _ _ (lt-ltb word 1064 root)) (inl (lt-ltb (word - 40) 1024 (omega arith)))
+    | inr past_roots ↦ elim (cases_lt word (start_word c 0)) [
+      | inl line ↦ via (descriptor_cell ((word - 1064) / 8) ((word - 1064) % 8))
+          (skip (nat_lt word 40) _ _ (not-lt word 40 (omega arith)) ∙ skip (nat_lt word 1064) _ _ (not-lt word 1064 past_roots) ∙ pick (nat_lt word (start_word c 0)) _ _ (lt-ltb word (start_word c 0) line))
+          (in_the_line ((word - 1064) / 8) (nat_eq ((word - 1064) % 8) 0) (nat_eq ((word - 1064) % 8) 1) (nat_eq ((word - 1064) % 8) 2) (omega arith))
+      | inr past_lines ↦ elim (cases_lt word (image_words c)) [
+        | inl block ↦ via (data_cell word)
+            (skip (nat_lt word 40) _ _ (not-lt word 40 (omega arith)) ∙ skip (nat_lt word 1064) _ _ (not-lt word 1064 past_roots) ∙ skip (nat_lt word (start_word c 0)) _ _ (not-lt word (start_word c 0) past_lines)
+            ∙ pick (nat_lt word (image_words c)) _ _ (lt-ltb word (image_words c) block)) (inl (and_is (nat_le (start_word c 0) word) (nat_lt word (image_words c)) (le-leb (start_word c 0) word past_lines) (lt-ltb word (image_words c) block)))
+        | inr beyond ↦ via no_cell
+            (skip (nat_lt word 40) _ _ (not-lt word 40 (omega arith)) ∙ skip (nat_lt word 1064) _ _ (not-lt word 1064 past_roots) ∙ skip (nat_lt word (start_word c 0)) _ _ (not-lt word (start_word c 0) past_lines)
+            ∙ skip (nat_lt word (image_words c)) _ _ (not-lt word (image_words c) beyond)) (inr refl)
+      ]
+    ]
+  ]
+] where
   via : (cell : Cell) → cell_at c word ≡ cell → (is_cell c cell ≡ true) ⊎ (cell ≡ no_cell) → (is_cell c (cell_at c word) ≡ true) ⊎ (cell_at c word ≡ no_cell)
   via cell same of = subst (λ x. (is_cell c x ≡ true) ⊎ (x ≡ no_cell)) (sym same) of
+
   in_the_header : (a b : Bool) → (nat_le 16 word && nat_lt word 37) ≡ b → (is_cell c (cond a used_cell (cond b (head_cell (word - 16)) no_cell)) ≡ true) ⊎ (cond a used_cell (cond b (head_cell (word - 16)) no_cell) ≡ no_cell)
   in_the_header true b e = inl refl
   in_the_header false true e = let both = and_both (nat_le 16 word) (nat_lt word 37) e in inl (lt-ltb (word - 16) 21 (let l : word < 37 = ltb-true word 37 both.1 in let h : 16 ≤ word = leb-true 16 word both.0 in omega arith))
   in_the_header false false e = inr refl
+
   in_the_line : (d : ℕ) (a b e : Bool) → d < c → (is_cell c (cond a (info_cell d) (cond b (anchor_cell d) (cond e (link_cell d) no_cell))) ≡ true) ⊎ (cond a (info_cell d) (cond b (anchor_cell d) (cond e (link_cell d) no_cell)) ≡ no_cell)
   in_the_line d true b e less = inl (lt-ltb d c less)
   in_the_line d false true e less = inl (lt-ltb d c less)

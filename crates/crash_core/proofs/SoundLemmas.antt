@@ -13,7 +13,7 @@ use Rattle.crash_core.specs.View.{Setup, View, one_if_some, times_own, times_raw
 use Rattle.crash_core.specs.Effects.{before, seen_of, seen_word, first_of, batch_count, place_of, left_there}
 use Rattle.crash_core.specs.Guards.{IsOwn, IsThere, MayStep, MayDo}
 use Rattle.crash_core.specs.Sound.{Good, Sound, tally_of, times_cut}
-use Rattle.crash_core.specs.Steps.{State, words_after, state_after, memory_after, seat_after, found_by, Goes, is_done, not_now, Runs}
+use Rattle.crash_core.specs.Steps.{State, words_after, state_after, memory_after, seat_after, found_by, Goes, is_done, not_now, has_stopped, Runs}
 use Rattle.crash_core.proofs.TotalLemmas.{total_at, eq-eqb-one}
 use Rattle.crash_core.proofs.FrameLemmas.{below_not}
 use Rattle.crash_core.proofs.PlaceLemmas.{cell_there, index_within}
@@ -28,13 +28,15 @@ module _ (k : Setup) (m : Memory) (views : List View) (i : ℕ) (v : View) (belo
   own_cell : (word : ℕ) → IsOwn v (cell_at v.setup.capacity word) → is_cell k.capacity (cell_at v.setup.capacity word) ≡ true
   own_cell word own = elim (cell_there v.setup.capacity word) [
     | inl there ↦ subst (λ c. is_cell c (cell_at v.setup.capacity word) ≡ true) cap there
-    | inr none ↦ absurd (let e = ap (times_own v) none in omega arith) ]
+    | inr none ↦ absurd (let e = ap (times_own v) none in omega arith)
+  ]
 
   taken : (d : ℕ) → 0 < times_raw d v + times_classed d v.classed → d < k.capacity
   taken d some = elim (cases_lt d (used m)) [
     | inl less ↦ let r = good.shaped.durable.room in omega arith
     | inr past ↦ absurd (let raw = total_at (times_raw d) views i v below_i at in let classed = total_at (λ (u : View). times_classed d u.classed) views i v below_i at in
-        let p = good.shaped.placed.one_place d in let none = below_not d (used m) past in omega arith) ]
+        let p = good.shaped.placed.one_place d in let none = below_not d (used m) past in omega arith)
+  ]
 
   first_there : (xs : List ℕ) → 1 ≤ batch_count xs → 0 < times (first_of xs) xs
   first_there [] some = absurd (omega arith)
@@ -58,13 +60,13 @@ module _ (k : Setup) (m : Memory) (views : List View) (i : ℕ) (v : View) (belo
   in_table KeepUsed may = refl
   in_table (LookHead list) may = lt-ltb list lists may.ready
   in_table LookLink may = let h = (good.knows i v below_i at).seen_head may.ready.is_seen in
-    lt-ltb (before (head_first (seen_word v.seen_head))) k.capacity (let s = h.small in let b = before_less (head_first (seen_word v.seen_head)) may.ready.some in omega arith) where
-    before_less : (n : ℕ) → n ≢ 0 → before n < n
-    before_less zero some = absurd (some refl)
-    before_less (suc n) some = omega arith
+      lt-ltb (before (head_first (seen_word v.seen_head))) k.capacity (let s = h.small in let b = before_less (head_first (seen_word v.seen_head)) may.ready.some in omega arith) where
+        before_less : (n : ℕ) → n ≢ 0 → before n < n
+        before_less zero some = absurd (some refl)
+        before_less (suc n) some = omega arith
   in_table Pop may = lt-ltb (seen_of v.seen_head) lists ((good.knows i v below_i at).seen_head may.ready.is_seen).is_list
   in_table (Push d) may = lt-ltb (seen_of v.seen_head) lists ((good.knows i v below_i at).seen_head may.ready.is_seen).is_list
-  in_table (LookAnchor d) may = lt-ltb d k.capacity (elim may.ready [ | inl claimed ↦ taken d (let c = claimed.claimed in omega arith) | inr batch ↦ batched d batch.0 batch.1 ])
+  in_table (LookAnchor d) may = lt-ltb d k.capacity (elim may.ready [ inl claimed ↦ taken d (let c = claimed.claimed in omega arith) | inr batch ↦ batched d batch.0 batch.1 ])
   in_table (TakeAll d) may = lt-ltb d k.capacity (taken d (let c = may.ready.claimed in omega arith))
   in_table (Give d) may = lt-ltb d k.capacity (batched d may.ready.batch may.ready.some)
 
@@ -72,22 +74,30 @@ module _ (k : Setup) (m : Memory) (views : List View) (i : ℕ) (v : View) (belo
 pub sound_step : (k : Setup) (words : List ℕ) (views : List View) (i : ℕ) (v : View) (event : Event) → i < length views → get_or views i v ≡ v → Sound k words views
     → MayStep (memory_of k.capacity words) v event → Sound k (words_after k words v event) (set views i (seat_after (memory_of k.capacity words) v event))
 sound_step k words views i v event below_i at sound may = record {
-    some = sound.some; capacity = sound.capacity; used = sound.used;
-    long = length-set words (table_index k.capacity p) x ∙ sound.long;
-    fixed = λ word is. let old = sound.fixed word is in (fixed_same p there word is ∙ old.0, fixed_durable p there word is ∙ old.1);
-    good = subst (λ n. Good k n (set views i (seat_after m v event))) (sym (memory_set k.capacity words p x sound.long there)) (kept k m views i v below_i at sound.good event may) } where
+  some = sound.some;
+  capacity = sound.capacity;
+  used = sound.used;
+  long = length-set words (table_index k.capacity p) x ∙ sound.long;
+  fixed = λ word is. let old = sound.fixed word is in (fixed_same p there word is ∙ old.0, fixed_durable p there word is ∙ old.1);
+  good = subst (λ n. Good k n (set views i (seat_after m v event))) (sym (memory_set k.capacity words p x sound.long there)) (kept k m views i v below_i at sound.good event may);
+} where
   m : Memory
   m = memory_of k.capacity words
+
   p : Place
   p = place_of v event
+
   x : ℕ
   x = left_there (memory_of k.capacity words) v event (found_by (memory_of k.capacity words) v event)
+
   there : is_place k.capacity p ≡ true
   there = in_table k m views i v below_i at sound.good event may
+
   fixed_same : (q : Place) → is_place k.capacity q ≡ true → (word : ℕ) → IsFixed k.capacity word → get_or (set words (table_index k.capacity q) x) word 0 ≡ get_or words word 0
   fixed_same (volatile_at cell) is word fixed = get_or-set_other words (index_of cell) word x 0 (λ z. (fixed_apart k.capacity word cell fixed is).0 (sym z))
   fixed_same (durable_at cell) is word fixed = get_or-set_other words (image_words k.capacity + index_of cell) word x 0 (λ z. let w = (fixed_apart k.capacity word cell fixed is).1 in omega (arith, z, w))
   fixed_same tickets is word fixed = get_or-set_other words (2 * image_words k.capacity) word x 0 (λ z. let w = (fixed_apart k.capacity word used_cell fixed refl).1 in omega (arith, z, w))
+
   fixed_durable : (q : Place) → is_place k.capacity q ≡ true → (word : ℕ) → IsFixed k.capacity word → get_or (set words (table_index k.capacity q) x) (image_words k.capacity + word) 0 ≡ get_or words (image_words k.capacity + word) 0
   fixed_durable (volatile_at cell) is word fixed = get_or-set_other words (index_of cell) (image_words k.capacity + word) x 0 (λ z. let w = index_within k.capacity cell is in omega (arith, z, w))
   fixed_durable (durable_at cell) is word fixed = get_or-set_other words (image_words k.capacity + index_of cell) (image_words k.capacity + word) x 0 (λ z. (fixed_apart k.capacity word cell fixed is).0 (omega (arith, z)))
@@ -99,4 +109,5 @@ sound_runs k s s' [] sound runs = subst (λ (x : State). Sound k x.words x.views
 sound_runs k s s' (e ∷ events) sound runs = sound_runs k runs.0 s' events (after_one runs.0 runs.2) runs.3 where
   after_one : (next : State) → Goes k s e.0 e.1 next → Sound k next.words next.views
   after_one next (is_done v at may) = sound_step k s.words s.views e.0 v e.1 runs.1 at sound may.may
-  after_one next not_now = sound
+  after_one next (not_now v at going refused) = sound
+  after_one next (has_stopped v at stop) = sound

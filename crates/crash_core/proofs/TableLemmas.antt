@@ -31,11 +31,11 @@ cases_cell cell at = by_test (same_cell cell at) refl where
 reads : (c offset : ℕ) (words : List ℕ) (at : Cell) (x : ℕ) → is_cell c at ≡ true → offset + image_words c ≤ length words → (cell : Cell)
     → cond (is_cell c cell) (get_or (set words (offset + index_of at) x) (offset + index_of cell) 0) 0 ≡ with_cell (λ y. cond (is_cell c y) (get_or words (offset + index_of y) 0) 0) at x cell
 reads c offset words at x is long cell = elim (cases_cell cell at) [
-    | inl same ↦ pick (is_cell c cell) _ _ (ap (is_cell c) same ∙ is)
-        ∙ get_or-set_at words (offset + index_of at) (offset + index_of cell) x 0 (ap (λ y. offset + index_of y) same) (let w = index_within c at is in omega arith)
-        ∙ sym (with_same (λ y. cond (is_cell c y) (get_or words (offset + index_of y) 0) 0) at x cell same)
-    | inr other ↦ by_cell (is_cell c cell) refl other ∙ sym (with_other (λ y. cond (is_cell c y) (get_or words (offset + index_of y) 0) 0) at x cell other)
-  ] where
+  | inl same ↦ pick (is_cell c cell) _ _ (ap (is_cell c) same ∙ is)
+      ∙ get_or-set_at words (offset + index_of at) (offset + index_of cell) x 0 (ap (λ y. offset + index_of y) same) (let w = index_within c at is in omega arith)
+      ∙ sym (with_same (λ y. cond (is_cell c y) (get_or words (offset + index_of y) 0) 0) at x cell same)
+  | inr other ↦ by_cell (is_cell c cell) refl other ∙ sym (with_other (λ y. cond (is_cell c y) (get_or words (offset + index_of y) 0) 0) at x cell other)
+] where
   by_cell : (test : Bool) → is_cell c cell ≡ test → (cell ≡ at → ⊥)
       → cond (is_cell c cell) (get_or (set words (offset + index_of at) x) (offset + index_of cell) 0) 0 ≡ cond (is_cell c cell) (get_or words (offset + index_of cell) 0) 0
   by_cell true e other = ap (λ n. cond (is_cell c cell) n 0) (get_or-set_other words (offset + index_of at) (offset + index_of cell) x 0 (λ z. other (index_one c cell at e is (omega (arith, z)))))
@@ -55,24 +55,27 @@ zero_plus n = omega arith
 -- the memory of a table in which one place is written
 pub memory_set : (c : ℕ) (words : List ℕ) (p : Place) (x : ℕ) → length words ≡ table_length c → is_place c p ≡ true → memory_of c (set words (table_index c p) x) ≡ write (memory_of c words) p x
 memory_set c words (volatile_at at) x long is = λ j. record {
-    volatile = λ cell. (ap (λ n. cond (is_cell c cell) (get_or (set words n x) (index_of cell) 0) 0) (sym (zero_plus (index_of at)))
+  volatile = λ cell. (ap (λ n. cond (is_cell c cell) (get_or (set words n x) (index_of cell) 0) 0) (sym (zero_plus (index_of at)))
       ∙ ap (λ n. cond (is_cell c cell) (get_or (set words (0 + index_of at) x) n 0) 0) (sym (zero_plus (index_of cell)))
       ∙ reads c 0 words at x is (omega arith) cell
       ∙ ap (λ (f : Cell → ℕ). with_cell f at x cell) (λ i y. cond (is_cell c y) (get_or words (zero_plus (index_of y) i) 0) 0)) j;
-    durable = λ cell. (unread c (image_words c) words (index_of at) x (λ y e z. let w = index_within c at is in omega (arith, z, w)) cell) j;
-    drawn = (get_or-set_other words (index_of at) (2 * image_words c) x 0 (λ z. let w = index_within c at is in omega (arith, z, w))) j }
+  durable = λ cell. (unread c (image_words c) words (index_of at) x (λ y e z. let w = index_within c at is in omega (arith, z, w)) cell) j;
+  drawn = (get_or-set_other words (index_of at) (2 * image_words c) x 0 (λ z. let w = index_within c at is in omega (arith, z, w))) j;
+}
 memory_set c words (durable_at at) x long is = λ j. record {
-    volatile = λ cell. (ap (λ n. cond (is_cell c cell) (get_or (set words (image_words c + index_of at) x) n 0) 0) (sym (zero_plus (index_of cell)))
+  volatile = λ cell. (ap (λ n. cond (is_cell c cell) (get_or (set words (image_words c + index_of at) x) n 0) 0) (sym (zero_plus (index_of cell)))
       ∙ unread c 0 words (image_words c + index_of at) x (λ y e z. let w = index_within c y e in omega (arith, z, w)) cell
       ∙ ap (λ n. cond (is_cell c cell) (get_or words n 0) 0) (zero_plus (index_of cell))) j;
-    durable = λ cell. (reads c (image_words c) words at x is (omega arith) cell) j;
-    drawn = (get_or-set_other words (image_words c + index_of at) (2 * image_words c) x 0 (λ z. let w = index_within c at is in omega (arith, z, w))) j }
+  durable = λ cell. (reads c (image_words c) words at x is (omega arith) cell) j;
+  drawn = (get_or-set_other words (image_words c + index_of at) (2 * image_words c) x 0 (λ z. let w = index_within c at is in omega (arith, z, w))) j;
+}
 memory_set c words tickets x long is = λ j. record {
-    volatile = λ cell. (ap (λ n. cond (is_cell c cell) (get_or (set words (2 * image_words c) x) n 0) 0) (sym (zero_plus (index_of cell)))
+  volatile = λ cell. (ap (λ n. cond (is_cell c cell) (get_or (set words (2 * image_words c) x) n 0) 0) (sym (zero_plus (index_of cell)))
       ∙ unread c 0 words (2 * image_words c) x (λ y e z. let w = index_within c y e in omega (arith, z, w)) cell
       ∙ ap (λ n. cond (is_cell c cell) (get_or words n 0) 0) (zero_plus (index_of cell))) j;
-    durable = λ cell. (unread c (image_words c) words (2 * image_words c) x (λ y e z. let w = index_within c y e in omega (arith, z, w)) cell) j;
-    drawn = (get_or-set_same words (2 * image_words c) x 0 (omega arith)) j }
+  durable = λ cell. (unread c (image_words c) words (2 * image_words c) x (λ y e z. let w = index_within c y e in omega (arith, z, w)) cell) j;
+  drawn = (get_or-set_same words (2 * image_words c) x 0 (omega arith)) j;
+}
 
 -- a word that no step changes is no cell's
 pub fixed_apart : (c word : ℕ) (cell : Cell) → IsFixed c word → is_cell c cell ≡ true → (index_of cell ≢ word) × (word < image_words c)
@@ -89,7 +92,7 @@ fixed_apart c word cell (inl first) is = (below_four cell is, omega arith) where
 fixed_apart c word cell (inr (in_header w past before_roots not_used around)) is = (in_the_header cell is, omega arith) where
   in_the_header : (x : Cell) → is_cell c x ≡ true → index_of x ≢ w
   in_the_header used_cell e z = not_used (sym z)
-  in_the_header (head_cell list) e z = let less : list < 21 = ltb-true list 21 e in elim around as (λ _. ⊥) [ | inl low ↦ omega (arith, z, less, low) | inr high ↦ omega (arith, z, less, high) ]
+  in_the_header (head_cell list) e z = let less : list < 21 = ltb-true list 21 e in elim around as (λ _. ⊥) [ inl low ↦ omega (arith, z, less, low) | inr high ↦ omega (arith, z, less, high) ]
   in_the_header (info_cell d) e z = omega (arith, z, before_roots)
   in_the_header (anchor_cell d) e z = omega (arith, z, before_roots)
   in_the_header (link_cell d) e z = omega (arith, z, before_roots)

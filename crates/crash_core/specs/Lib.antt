@@ -6,3 +6,4 @@ pub mod Guards
 pub mod Sound
 pub mod Steps
 pub mod Examples
+pub mod Held

@@ -1,7 +1,5 @@
 -- What is seen of a seat: the part of the heap that is its own, what it has read, and what it has counted.
 use Rattle.std.specs.Prelude.{◌≡◌, ℕ, zero, suc, ◌+◌, ◌*◌, ◌<◌, Bool, true, false, cond, ◌&&◌, nat_eq, nat_le, nat_lt, List, [], ◌∷◌, get_or, set, replicate, Option, None, Some}
-use Rattle.heap_model.specs.declared.block.Block.{Block}
-use Rattle.heap_model.specs.Geometry.{start_word, superblock_words}
 use Rattle.heap_model.specs.Sizes.{words_of_class}
 use Rattle.heap_model.specs.Counting.{times, total, one_if}
 use Rattle.crash_core.specs.Cells.{Cell, used_cell, head_cell, info_cell, anchor_cell, link_cell, root_cell, data_cell, no_cell, superblock_at, index_of}
@@ -140,9 +138,3 @@ times_own v no_cell = 0
 -- what the seat knows of a word
 abbrev pub known : List (Option ℕ) → Cell → Option ℕ
 known values cell = get_or values (index_of cell) None
-
--- a held block
-pub data IsHeld (v : View) : Block → Type 0 where
-  a_small : (class b : ℕ) → 0 < times b (of_class v.small class) → IsHeld v (record { first_word = b; words = words_of_class class })
-  a_large : (d n : ℕ) → 0 < total (λ (span : Span). one_if (nat_eq span.first d && nat_eq span.count n)) v.large
-      → IsHeld v (record { first_word = start_word v.setup.capacity d; words = superblock_words * n })

@@ -1,30 +1,40 @@
 //! What follows from the definitions, as functions with nothing to run: a caller cites their clauses.
 
-ghost use Rattle.std.specs.Prelude.{◌≡◌, ◌<◌, ℕ, List, get_or, length};
-ghost use Rattle.crash_core.specs.declared.event.Event.TheVariants.{LookUsed, TakeFresh, KeepUsed, LookHead, LookLink, Pop, Push, LookAnchor};
-ghost use Rattle.crash_core.specs.Memory.{Memory};
-ghost use Rattle.crash_core.specs.View.{Setup, View};
-ghost use Rattle.crash_core.specs.Guards.{MayStep};
-ghost use Rattle.crash_core.specs.Sound.{Good};
-ghost use Rattle.crash_core.specs.Steps.{Keeps};
+ghost use Rattle.std.specs.Prelude.{◌≡◌, ◌≢◌, ◌<◌, ℕ, List, get_or, set, length};
+ghost use Rattle.crash_core.specs.declared.event.Event.{Event};
+ghost use Rattle.crash_core.specs.Cells.{Cell};
+ghost use Rattle.crash_core.specs.Memory.{Memory, memory_of};
+ghost use Rattle.crash_core.specs.View.{Setup, View, times_own};
+ghost use Rattle.crash_core.specs.Guards.{IsOwn, MayStep};
+ghost use Rattle.crash_core.specs.Sound.{Good, Sound};
+ghost use Rattle.crash_core.specs.Steps.{Keeps, State, Runs, words_after, seat_after};
+ghost use Rattle.crash_core.specs.Held.{IsFirm};
 
-/// The steps on the mark of taken superblocks and on the lists keep memory and seats fitting
-/// together, whether an exchange is won or lost.
-pub fn steps_on_shared_words_keep_the_heap_sound()
-    ensures look_used { (k : Setup) (m : Memory) (views : List View) (i : ℕ) (v : View) → i < length views → get_or views i v ≡ v
-        → Good k m views → MayStep m v LookUsed → Keeps k m views i v LookUsed }
-    ensures take_fresh { (k : Setup) (m : Memory) (views : List View) (i : ℕ) (v : View) → i < length views → get_or views i v ≡ v
-        → Good k m views → (n : ℕ) → MayStep m v (TakeFresh n) → Keeps k m views i v (TakeFresh n) }
-    ensures keep_used { (k : Setup) (m : Memory) (views : List View) (i : ℕ) (v : View) → i < length views → get_or views i v ≡ v
-        → Good k m views → MayStep m v KeepUsed → Keeps k m views i v KeepUsed }
-    ensures look_head { (k : Setup) (m : Memory) (views : List View) (i : ℕ) (v : View) → i < length views → get_or views i v ≡ v
-        → Good k m views → (list : ℕ) → MayStep m v (LookHead list) → Keeps k m views i v (LookHead list) }
-    ensures look_link { (k : Setup) (m : Memory) (views : List View) (i : ℕ) (v : View) → i < length views → get_or views i v ≡ v
-        → Good k m views → MayStep m v LookLink → Keeps k m views i v LookLink }
-    ensures pop { (k : Setup) (m : Memory) (views : List View) (i : ℕ) (v : View) → i < length views → get_or views i v ≡ v
-        → Good k m views → MayStep m v Pop → Keeps k m views i v Pop }
-    ensures push { (k : Setup) (m : Memory) (views : List View) (i : ℕ) (v : View) → i < length views → get_or views i v ≡ v
-        → Good k m views → (d : ℕ) → MayStep m v (Push d) → Keeps k m views i v (Push d) }
-    ensures look_anchor { (k : Setup) (m : Memory) (views : List View) (i : ℕ) (v : View) → i < length views → get_or views i v ≡ v
-        → Good k m views → (d : ℕ) → MayStep m v (LookAnchor d) → Keeps k m views i v (LookAnchor d) }
+/// Each kind of step that a seat may take keeps memory and seats fitting together, whether an
+/// exchange is won or lost, and whether a draw gives a ticket or stops the seat.
+pub fn every_step_keeps_the_heap_sound()
+    ensures memory { (k : Setup) (m : Memory) (views : List View) (i : ℕ) (v : View)
+        → i < length views → get_or views i v ≡ v → Good k m views
+        → (event : Event) → MayStep m v event → Keeps k m views i v event }
+    ensures table { (k : Setup) (words : List ℕ) (views : List View) (i : ℕ) (v : View) (event : Event)
+        → i < length views → get_or views i v ≡ v → Sound k words views
+        → MayStep (memory_of k.capacity words) v event
+        → Sound k (words_after k words v event)
+        (set views i (seat_after (memory_of k.capacity words) v event)) }
+{}
+
+/// Whatever the seats do, in whatever order, the shared words and the views stay sound, and each
+/// mixture of volatile and durable words names each held block.
+pub fn every_list_of_events_keeps_the_heap_sound()
+    ensures sound { (k : Setup) (s s' : State) (events : List (ℕ × Event))
+        → Sound k s.words s.views → Runs k s events s' → Sound k s'.words s'.views }
+    ensures firm { (k : Setup) (s s' : State) (events : List (ℕ × Event))
+        → Sound k s.words s.views → Runs k s events s' → IsFirm k.capacity s'.words s'.views }
+{}
+
+/// No word is own to two seats.
+pub fn a_word_is_own_to_at_most_one_seat()
+    ensures { (k : Setup) (m : Memory) (views : List View) → Good k m views → (i j : ℕ) (v u : View)
+        → j ≢ i → i < length views → get_or views i v ≡ v → j < length views → get_or views j u ≡ u
+        → (cell : Cell) → IsOwn v cell → times_own u cell ≡ 0 }
 {}

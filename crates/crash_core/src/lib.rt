@@ -5,4 +5,7 @@ mod event;
 mod laws;
 
 pub use event::{Event, Shift};
-pub use laws::steps_on_shared_words_keep_the_heap_sound;
+pub use laws::{
+    a_word_is_own_to_at_most_one_seat, every_list_of_events_keeps_the_heap_sound,
+    every_step_keeps_the_heap_sound,
+};

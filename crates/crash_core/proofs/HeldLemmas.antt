@@ -1,0 +1,103 @@
+-- Every mixed image of a sound state names each held block.
+use Rattle.std.proofs.Common.{◌≡◌, ◌≢◌, ℕ, ◌+◌, ◌-◌, ◌*◌, ◌<◌, ◌≤◌, inl, inr, ◌⊎◌, Bool, true, false, cond, nat_lt, List, get_or, length, slice_index, refl, ap, sym, subst, ◌∙◌, lt-ltb, arith}
+use Rattle.heap_model.specs.declared.block.Block.{Block}
+use Rattle.heap_model.specs.Geometry.{start_word, superblock_words, image_words, info_word, used_word, capacity_word, IsFixed}
+use Rattle.heap_model.specs.Sizes.{IsClass, words_of_class, blocks_of}
+use Rattle.heap_model.specs.Words.{large_info}
+use Rattle.heap_model.specs.Counting.{times, total}
+use Rattle.heap_model.specs.Image.{Image}
+use Rattle.heap_model.specs.Header.{capacity_of, used_of}
+use Rattle.heap_model.specs.Blocks.{Layout, layout_of, Begins, of_class, as_large, IsBlockOf, IsBlock, NamesIn, Names}
+use Rattle.heap_model.specs.Durability.{Mixes, NamesAreDurable}
+use Rattle.crash_core.specs.Cells.{used_cell, info_cell, superblock_at}
+use Rattle.crash_core.specs.Memory.{Memory, used, info, durable_used, durable_info, memory_of}
+use Rattle.crash_core.specs.View.{Setup, View, times_large, times_block}
+use Rattle.crash_core.specs.View as views_of
+use Rattle.crash_core.specs.Effects.{span_count}
+use Rattle.crash_core.specs.Sound.{IsCutBlock, tally_of, times_cut, Good, Sound}
+use Rattle.crash_core.specs.Held.{IsHeld, a_small, a_large, IsHeldBy, volatile_image, durable_image, IsFirm}
+use Rattle.crash_core.proofs.TotalLemmas.{total_at}
+use Rattle.crash_core.proofs.PlaceLemmas.{pick}
+use Rattle.crash_core.proofs.OwnerLemmas.{in_lists_total}
+use Rattle.crash_core.proofs.StoreLemmas.{span_covers}
+
+module _ (k : Setup) (words : List ℕ) (views : List View) (sound : Sound k words views) (image : Image) (mixed : Mixes (volatile_image k.capacity words) (durable_image k.capacity words) image) where
+  abbrev m : Memory
+  m = memory_of k.capacity words
+
+  good : Good k m views
+  good = sound.good
+
+  -- a word of the image has one of its two values
+  either : (word : ℕ) → word < image_words k.capacity → (image word ≡ get_or words word 0) ⊎ (image word ≡ get_or words (image_words k.capacity + word) 0)
+  either word inside = elim (mixed.each word) [
+    | inl volatile ↦ inl (volatile ∙ pick (nat_lt word (image_words k.capacity)) _ _ (lt-ltb word (image_words k.capacity) inside))
+    | inr durable ↦ inr (durable ∙ pick (nat_lt word (image_words k.capacity)) _ _ (lt-ltb word (image_words k.capacity) inside))
+  ]
+
+  capacity_is : capacity_of image ≡ k.capacity
+  capacity_is = let fixed = sound.fixed 2 (inl (omega arith)) in elim (either 2 (omega arith)) [ inl volatile ↦ volatile ∙ fixed.0 ∙ sound.capacity | inr durable ↦ durable ∙ fixed.1 ∙ sound.capacity ]
+
+  used_least : durable_used m ≤ used_of image
+  used_least = let behind = good.shaped.durable.behind in elim (either 8 (omega arith)) [ inl volatile ↦ omega arith | inr durable ↦ omega arith ]
+
+  info_is : (d : ℕ) → d < k.capacity → durable_info m d ≡ info m d → image (info_word d) ≡ info m d
+  info_is d inside same = elim (either (info_word d) (omega arith)) [
+    | inl volatile ↦ volatile ∙ sym (pick (nat_lt d k.capacity) _ _ (lt-ltb d k.capacity inside))
+    | inr durable ↦ durable ∙ sym (pick (nat_lt d k.capacity) _ _ (lt-ltb d k.capacity inside)) ∙ same
+  ]
+
+  durable_inside : (d : ℕ) → d < durable_used m → d < k.capacity
+  durable_inside d less = let behind = good.shaped.durable.behind in let room = good.shaped.durable.room in omega arith
+
+  names : (j : ℕ) (v : View) → j < length views → get_or views j v ≡ v → (b : Block) → IsHeld v b → IsBlock (layout_of image) b
+  names j v below at b (a_small class first some) =
+      let t = in_lists_total first class v.small some in
+      let mine = total_at (times_block first) views j v below at in
+      let inside = good.shaped.chained.inside first (omega arith) in
+      let cap : v.setup.capacity ≡ k.capacity = ap (λ (s : Setup). s.capacity) (good.set_up j v below at).setup in
+      let d = superblock_at k.capacity first in
+      let is_info : info m d ≡ class = ap (λ c. info m (superblock_at c first)) (sym cap) ∙ (good.blocks j v below at).held class first some in
+      let less = good.shaped.durable.below d (let c = inside.0 in omega arith) in
+      let now : image (info_word d) ≡ class = info_is d (durable_inside d less) (good.shaped.durable.infos d (let c = inside.0 in omega arith)) ∙ is_info in
+      let is_class : IsClass class = subst IsClass is_info (good.shaped.chained.is_class d inside.0) in
+      let block : IsCutBlock k.capacity class d first = subst (λ c. IsCutBlock k.capacity c d first) is_info inside.1 in
+      record {
+        superblock = d;
+        index = block.index;
+        words = words_of_class class;
+        count = blocks_of class;
+        is_of = record {
+          taken = (let u = used_least in omega arith);
+          begins = of_class class now is_class;
+          below = block.below;
+          at = block.at ∙ ap (λ c. start_word c d + block.index * words_of_class class) (sym capacity_is);
+          size = refl;
+        };
+      }
+  names j v below at b (a_large d n some count) =
+      let cap : v.setup.capacity ≡ k.capacity = ap (λ (s : Setup). s.capacity) (good.set_up j v below at).setup in
+      let large = (good.claims j v below at).is_large d (omega arith) in
+      let part : (e : ℕ) → d ≤ e → e < d + n → (e < durable_used m) × (durable_info m e ≡ info m e) = λ e low high.
+      (let covers = span_covers d e v.large (omega arith) low (omega arith) in let t = total_at (λ (u : View). times_large e u.large) views j v below at in
+      (good.shaped.durable.below e (omega arith), good.shaped.durable.infos e (omega arith))) in
+      let first = part d (omega arith) (omega arith) in
+      let last = (part (d + n - 1) (omega arith) (omega arith)).0 in
+      let now : image (info_word d) ≡ large_info n = info_is d (durable_inside d first.0) first.1 ∙ large.0 ∙ ap large_info count in
+      record {
+        superblock = d;
+        index = 0;
+        words = superblock_words * n;
+        count = 1;
+        is_of = record {
+          taken = (let u = used_least in let f = first.0 in omega arith);
+          begins = as_large n (omega arith) now (let u = used_least in omega arith)
+              (λ e low high. let p = part e (omega arith) high in info_is e (durable_inside e p.0) p.1 ∙ large.1 e low (omega arith));
+          below = omega arith;
+          at = ap (λ c. start_word c d) (cap ∙ sym capacity_is) ∙ (let z : start_word (capacity_of image) d ≡ start_word (capacity_of image) d + 0 * (superblock_words * n) = omega arith in z);
+          size = refl;
+        };
+      }
+
+pub firm : (k : Setup) (words : List ℕ) (views : List View) → Sound k words views → IsFirm k.capacity words views
+firm k words views sound = record { each = λ image mixed b held. record { begins_at = refl; block = names k words views sound image mixed held.seat held.view held.below held.at b held.holds } }
