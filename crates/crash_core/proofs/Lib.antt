@@ -25,3 +25,4 @@ pub mod KeptLemmas
 pub mod TableLemmas
 pub mod SoundLemmas
 pub mod HeldLemmas
+pub mod OpenLemmas

@@ -7,3 +7,4 @@ pub mod Sound
 pub mod Steps
 pub mod Examples
 pub mod Held
+pub mod Opening
