@@ -26,3 +26,4 @@ pub mod TableLemmas
 pub mod SoundLemmas
 pub mod HeldLemmas
 pub mod OpenLemmas
+pub mod OpenedLemmas

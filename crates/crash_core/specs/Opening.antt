@@ -4,7 +4,7 @@ use Rattle.heap_model.specs.declared.block.Block.{Block}
 use Rattle.heap_model.specs.Geometry.{roots, lists, info_word, head_word, capacity_word, used_word, superblock_words}
 use Rattle.crash_core.specs.Cells.{superblock_at}
 use Rattle.crash_core.specs.View.{Setup, Span, Look, View, no_batch}
-use Rattle.crash_core.specs.Effects.{steps, only_own}
+use Rattle.crash_core.specs.Effects.{steps, trimmed}
 use Rattle.crash_core.specs.Steps.{State}
 
 -- the members that belong to the seat
@@ -52,11 +52,8 @@ plain_view k held owned_roots = record { setup = k; small = tabulate (λ class. 
     taken = 0; draws = 0; cuts = 0; wins = 0; losses = 0; gives = 0; moves = 0 }
 
 -- the seat knows its own words, which are as in the opened image
-abbrev pub with_own : View → View
-with_own v = record v { volatile = only_own v 0 v.volatile; durable = only_own v 0 v.durable }
-
 abbrev pub opened_view : Setup → List Block → List ℕ → List ℕ → ℕ → View
-opened_view k held block_owners root_owners seat = with_own (plain_view k (picked seat held block_owners) (picked seat (steps 0 1 roots) root_owners))
+opened_view k held block_owners root_owners seat = trimmed (plain_view k (picked seat held block_owners) (picked seat (steps 0 1 roots) root_owners))
 
 -- the shared words and the views of an opened heap
 abbrev pub opened_state : Setup → List Block → List ℕ → List ℕ → ℕ → State
