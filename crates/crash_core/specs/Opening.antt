@@ -45,11 +45,37 @@ abbrev pub unlooked : ℕ → Look
 unlooked word = record { word = word; ticket = None; wins = 0; taken = 0 }
 
 abbrev pub plain_view : Setup → List Block → List ℕ → View
-plain_view k held owned_roots = record { setup = k; small = tabulate (λ class. small_blocks k.capacity (λ d. slice_index k.opened (info_word d)) class held) 0 lists; large = large_blocks k.capacity held;
-    roots = owned_roots; caches = replicate lists []; batch = no_batch; raw = []; split = []; cutting = []; classed = [];
-    seen_used = None; seen_head = None; seen_link = None; seen_anchor = None; used_look = unlooked k.used; head_looks = tabulate (λ list. unlooked (slice_index k.opened (head_word list))) 0 lists;
-    volatile = map (λ word. Some word) k.opened; durable = map (λ word. Some word) k.opened; floor = k.used; ticket = None; last_ticket = None; stopped = None;
-    taken = 0; draws = 0; cuts = 0; wins = 0; losses = 0; gives = 0; moves = 0 }
+plain_view k held owned_roots = record {
+  setup = k;
+  small = tabulate (λ class. small_blocks k.capacity (λ d. slice_index k.opened (info_word d)) class held) 0 lists;
+  large = large_blocks k.capacity held;
+  roots = owned_roots;
+  caches = replicate lists [];
+  batch = no_batch;
+  raw = [];
+  split = [];
+  cutting = [];
+  classed = [];
+  seen_used = None;
+  seen_head = None;
+  seen_link = None;
+  seen_anchor = None;
+  used_look = unlooked k.used;
+  head_looks = tabulate (λ list. unlooked (slice_index k.opened (head_word list))) 0 lists;
+  volatile = map (λ word. Some word) k.opened;
+  durable = map (λ word. Some word) k.opened;
+  floor = k.used;
+  ticket = None;
+  last_ticket = None;
+  stopped = None;
+  taken = 0;
+  draws = 0;
+  cuts = 0;
+  wins = 0;
+  losses = 0;
+  gives = 0;
+  moves = 0;
+}
 
 -- the seat knows its own words, which are as in the opened image
 abbrev pub opened_view : Setup → List Block → List ℕ → List ℕ → ℕ → View

@@ -5,7 +5,7 @@ use Rattle.crash_core.specs.Memory.{Memory, read, write, table_index, memory_of}
 use Rattle.crash_core.specs.View.{Setup, View, one_if_some}
 use Rattle.crash_core.specs.Effects.{place_of, left_there, view_after}
 use Rattle.crash_core.specs.Guards.{MayDo}
-use Rattle.crash_core.specs.Sound.{Good}
+use Rattle.crash_core.specs.Sound.{Good, Sound}
 
 -- the word that the step finds
 abbrev pub found_by : Memory → View → Event → ℕ
@@ -25,6 +25,9 @@ Keeps k m views i v event = Good k (memory_after m v event) (set views i (seat_a
 pub record State : Type 0 where
   pub words : List ℕ
   pub views : List View
+
+abbrev pub IsSoundState : Setup → State → Type 0
+IsSoundState k s = Sound k s.words s.views
 
 -- the words and views after the step of a seat
 abbrev pub words_after : Setup → List ℕ → View → Event → List ℕ

@@ -1,13 +1,17 @@
 //! What follows from the definitions, as functions with nothing to run: a caller cites their clauses.
 
-ghost use Rattle.std.specs.Prelude.{◌≡◌, ◌≢◌, ◌<◌, ℕ, List, get_or, set, length};
+ghost use Rattle.std.specs.Prelude.{◌≡◌, ◌≢◌, ◌<◌, ℕ, List, get_or, set, length, slice_index};
+ghost use Rattle.heap_model.specs.declared.block.Block.{Block};
+ghost use Rattle.heap_model.specs.Geometry.{capacity_word};
+ghost use Rattle.heap_model.specs.Rest.{IsReady};
 ghost use Rattle.crash_core.specs.declared.event.Event.{Event};
 ghost use Rattle.crash_core.specs.Cells.{Cell};
 ghost use Rattle.crash_core.specs.Memory.{Memory, memory_of};
 ghost use Rattle.crash_core.specs.View.{Setup, View, times_own};
 ghost use Rattle.crash_core.specs.Guards.{IsOwn, MayStep};
 ghost use Rattle.crash_core.specs.Sound.{Good, Sound};
-ghost use Rattle.crash_core.specs.Steps.{Keeps, State, Runs, words_after, seat_after};
+ghost use Rattle.crash_core.specs.Steps.{Keeps, State, IsSoundState, Runs, words_after, seat_after};
+ghost use Rattle.crash_core.specs.Opening.{AreOwners, setup_of, opened_state};
 ghost use Rattle.crash_core.specs.Held.{IsFirm};
 
 /// Each kind of step that a seat may take keeps memory and seats fitting together, whether an
@@ -27,9 +31,31 @@ pub fn every_step_keeps_the_heap_sound()
 /// mixture of volatile and durable words names each held block.
 pub fn every_list_of_events_keeps_the_heap_sound()
     ensures sound { (k : Setup) (s s' : State) (events : List (ℕ × Event))
-        → Sound k s.words s.views → Runs k s events s' → Sound k s'.words s'.views }
+        → IsSoundState k s → Runs k s events s' → IsSoundState k s' }
     ensures firm { (k : Setup) (s s' : State) (events : List (ℕ × Event))
-        → Sound k s.words s.views → Runs k s events s' → IsFirm k.capacity s'.words s'.views }
+        → IsSoundState k s → Runs k s events s' → IsFirm k.capacity s'.words s'.views }
+{}
+
+/// A heap at rest that is opened for some seats, with an owner for each held block and each root,
+/// is sound; so is whatever the seats make of it.
+pub fn an_opened_heap_is_sound()
+    ensures opened { (words : List ℕ) (held : List Block) (budget seats : ℕ)
+        (block_owners root_owners : List ℕ) → IsReady words held
+        → AreOwners held seats block_owners root_owners
+        → IsSoundState (setup_of words budget)
+        (opened_state (setup_of words budget) held block_owners root_owners seats) }
+    ensures running { (words : List ℕ) (held : List Block) (budget seats : ℕ)
+        (block_owners root_owners : List ℕ) → IsReady words held
+        → AreOwners held seats block_owners root_owners
+        → (events : List (ℕ × Event)) (s : State) → Runs (setup_of words budget)
+        (opened_state (setup_of words budget) held block_owners root_owners seats) events s
+        → IsSoundState (setup_of words budget) s }
+    ensures firm { (words : List ℕ) (held : List Block) (budget seats : ℕ)
+        (block_owners root_owners : List ℕ) → IsReady words held
+        → AreOwners held seats block_owners root_owners
+        → (events : List (ℕ × Event)) (s : State) → Runs (setup_of words budget)
+        (opened_state (setup_of words budget) held block_owners root_owners seats) events s
+        → IsFirm (slice_index words capacity_word) s.words s.views }
 {}
 
 /// No word is own to two seats.

@@ -6,6 +6,6 @@ mod laws;
 
 pub use event::{Event, Shift};
 pub use laws::{
-    a_word_is_own_to_at_most_one_seat, every_list_of_events_keeps_the_heap_sound,
-    every_step_keeps_the_heap_sound,
+    a_word_is_own_to_at_most_one_seat, an_opened_heap_is_sound,
+    every_list_of_events_keeps_the_heap_sound, every_step_keeps_the_heap_sound,
 };

@@ -1,0 +1,18 @@
+use Rattle.heap_model.specs.Geometry.{capacity_word}
+use Rattle.crash_core.specs.Opening.{setup_of, opened_state}
+use Rattle.crash_core.proofs.OpenedLemmas.{opened}
+use Rattle.crash_core.proofs.SoundLemmas.{sound_runs}
+use Rattle.crash_core.proofs.HeldLemmas.{firm}
+use Rattle.crash_core.proofs.laws.an_opened_heap_is_sound.Goals as goal
+
+pub returns-clause-opened : goal.returns-clause-opened
+returns-clause-opened c = opened
+
+pub returns-clause-running : goal.returns-clause-running
+returns-clause-running c words held budget seats block_owners root_owners ready owners events s runs =
+    sound_runs (setup_of words budget) (opened_state (setup_of words budget) held block_owners root_owners seats) s events (opened words held budget seats block_owners root_owners ready owners) runs
+
+pub returns-clause-firm : goal.returns-clause-firm
+returns-clause-firm c words held budget seats block_owners root_owners ready owners events s runs =
+    firm (setup_of words budget) s.words s.views
+    (sound_runs (setup_of words budget) (opened_state (setup_of words budget) held block_owners root_owners seats) s events (opened words held budget seats block_owners root_owners ready owners) runs)
