@@ -1,21 +1,18 @@
 -- Exchanges on the anchor of a cut superblock: what they leave of everything else.
-use Rattle.std.proofs.Common.{◌≡◌, ◌≢◌, ℕ, zero, suc, ◌+◌, ◌<◌, ◌≤◌, inl, inr, ◌⊎◌, Bool, true, false, cond, not, ◌&&◌, nat_eq, nat_lt, List, [], ◌∷◌, get_or, set, length, Option, None, Some, refl, ap, sym, subst, ◌∙◌, eq-eqb, ne_eqb, arith}
+use Rattle.std.proofs.Common.{◌≡◌, ◌≢◌, ℕ, ◌+◌, ◌<◌, ◌≤◌, inl, inr, cond, nat_eq, nat_lt, List, get_or, set, length, None, refl, ap, sym, subst, ◌∙◌, arith}
 use Rattle.std.proofs.lemmas.Bool.{cases_eq, cases_lt}
-use Rattle.heap_model.specs.Geometry.{lists}
-use Rattle.heap_model.specs.Sizes.{IsClass}
-use Rattle.heap_model.specs.Words.{head_pops, anchor_state, empty_state, partial_state, full_state, full_anchor}
-use Rattle.heap_model.specs.Rest.{list_numbers}
-use Rattle.heap_model.specs.Counting.{times, total, one_if, below}
-use Rattle.crash_core.specs.Cells.{Cell, anchor_cell, is_cell, superblock_at}
-use Rattle.crash_core.specs.Memory.{Memory, volatile_at, used, durable_used, durable_info, head, anchor, info, link, next, write}
-use Rattle.crash_core.specs.View.{Setup, View, Batch, Claim, Span, Snapshot, Look, one_if_some, known, times_own, times_raw, times_classed, times_claimed, times_large, times_block}
-use Rattle.crash_core.specs.Effects.{seen, seen_word, seen_of, batch_count, trimmed, claim_class}
-use Rattle.crash_core.specs.Guards.{IsThere, IsOwn}
-use Rattle.crash_core.specs.Sound.{Shape, Tally, tally_of, IsInShape, IsSetUp, AreUntaken, AreListed, ClaimsOf, HasClaims, Knows, KnowsHead, KnowsWords, IsBlank, Adds, stale, stale_anchor, stale_head, differs, class_numbers, times_in_lists, times_parked, times_cut, empties, Good}
-use Rattle.crash_core.proofs.TotalLemmas.{total_set, total_same, total_at, total_two, eq-eqb-one, ne-eqb-none}
-use Rattle.crash_core.proofs.FrameLemmas.{untouched, words_frame, below_is, below_not}
-use Rattle.crash_core.proofs.StepLemmas.{IsSeat, seat_at, good_step, adds_step}
-use Rattle.crash_core.proofs.OwnLemmas.{one_at_most, words_trimmed, stale_anchor_most, length_only}
+use Rattle.heap_model.specs.Words.{anchor_state, empty_state, partial_state, full_state, full_anchor}
+use Rattle.heap_model.specs.Counting.{times, total}
+use Rattle.crash_core.specs.Cells.{anchor_cell}
+use Rattle.crash_core.specs.Memory.{Memory, volatile_at, used, head, anchor, info, link, write}
+use Rattle.crash_core.specs.View.{Setup, View, Claim, Span, one_if_some, known, times_raw, times_classed, times_large}
+use Rattle.crash_core.specs.Effects.{seen_word, seen_of, trimmed}
+use Rattle.crash_core.specs.Guards.{IsThere}
+use Rattle.crash_core.specs.Sound.{Shape, tally_of, AreUntaken, AreListed, HasClaims, KnowsHead, KnowsWords, Adds, stale, class_numbers, times_cut, Good}
+use Rattle.crash_core.proofs.TotalLemmas.{total_at}
+use Rattle.crash_core.proofs.FrameLemmas.{untouched, words_frame, below_not}
+use Rattle.crash_core.proofs.StepLemmas.{IsSeat, seat_at, adds_step}
+use Rattle.crash_core.proofs.OwnLemmas.{one_at_most, words_trimmed, stale_anchor_most}
 use Rattle.crash_core.proofs.ListLemmas.{in_lists_at}
 use Rattle.crash_core.proofs.BlockLemmas.{at_one, at_other}
 

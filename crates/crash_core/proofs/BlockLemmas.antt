@@ -1,18 +1,17 @@
 -- Blocks of cut superblocks: where they lie, and chains of them.
-use Rattle.std.proofs.Common.{◌≡◌, ◌≢◌, ℕ, zero, suc, ◌+◌, ◌-◌, ◌*◌, ◌/◌, ◌%◌, ◌<◌, ◌≤◌, inl, inr, Bool, true, false, cond, nat_eq, List, [], ◌∷◌, ◌++◌, length, get_or, set, refl, ap, sym, subst, ◌∙◌, eq-eqb, ne_eqb, arith}
-use Rattle.std.proofs.lemmas.Bool.{cases_eq, cases_lt}
+use Rattle.std.proofs.Common.{◌≡◌, ◌≢◌, ℕ, ◌+◌, ◌%◌, ◌<◌, ◌≤◌, cond, nat_eq, List, [], ◌∷◌, ◌++◌, length, get_or, set, refl, ap, ◌∙◌, eq-eqb, ne_eqb, arith}
 use Rattle.std.proofs.lemmas.List.{get_or-set_same, get_or-set_other, get_or_default}
-use Rattle.heap_model.specs.Geometry.{start_word, superblock_words}
+use Rattle.heap_model.specs.Geometry.{start_word}
 use Rattle.heap_model.specs.Sizes.{IsClass, words_of_class, blocks_of}
-use Rattle.heap_model.specs.Words.{anchor_of, anchor_state, anchor_first, anchor_count, empty_state, partial_state, full_state, full_anchor}
-use Rattle.heap_model.specs.Counting.{times, total, one_if}
+use Rattle.heap_model.specs.Words.{anchor_of, anchor_state, anchor_first, anchor_count, full_anchor}
+use Rattle.heap_model.specs.Counting.{times, total}
 use Rattle.heap_model.specs.Chains.{Walks, after}
 use Rattle.heap_model.proofs.BlockLemmas.{block_step}
-use Rattle.heap_model.proofs.SizeLemmas.{blocks_fit, two_words, few_blocks, four_blocks}
+use Rattle.heap_model.proofs.SizeLemmas.{blocks_fit, two_words, four_blocks}
 use Rattle.crash_core.specs.Cells.{superblock_at}
-use Rattle.crash_core.specs.Effects.{chain, first_of, last_of, steps, batch_count, given_anchor}
+use Rattle.crash_core.specs.Effects.{chain, first_of, last_of, batch_count}
 use Rattle.crash_core.specs.Sound.{IsCutBlock, IsAnchoredBy}
-use Rattle.crash_core.proofs.TotalLemmas.{eq-eqb-one, ne-eqb-none, total_set}
+use Rattle.crash_core.proofs.TotalLemmas.{total_set}
 
 -- a block of a class lies in its superblock
 pub inside_of : (c class d b : ℕ) → IsClass class → IsCutBlock c class d b → (start_word c d ≤ b) × (b + words_of_class class ≤ start_word c (d + 1))

@@ -1,5 +1,5 @@
 -- Counting: claims and numbers taken out, and a chain that has as many blocks as the superblock.
-use Rattle.std.proofs.Common.{◌≡◌, ◌≢◌, ℕ, zero, suc, ◌+◌, ◌*◌, ◌<◌, ◌≤◌, inl, inr, Bool, true, false, cond, nat_eq, nat_lt, List, [], ◌∷◌, length, refl, ap, sym, subst, ◌∙◌, eq-eqb, ne_eqb, arith}
+use Rattle.std.proofs.Common.{◌≡◌, ◌≢◌, ℕ, zero, suc, ◌+◌, ◌*◌, ◌<◌, ◌≤◌, inl, inr, Bool, true, false, cond, nat_eq, List, [], ◌∷◌, length, refl, ap, sym, subst, ◌∙◌, eq-eqb, ne_eqb, arith}
 use Rattle.std.proofs.lemmas.Bool.{cases_eq, cases_lt}
 use Rattle.heap_model.specs.Counting.{times, total, one_if, without}
 use Rattle.heap_model.specs.Sizes.{IsClass, words_of_class, blocks_of}
@@ -8,7 +8,7 @@ use Rattle.heap_model.specs.Geometry.{start_word}
 use Rattle.crash_core.specs.View.{Claim, times_classed}
 use Rattle.crash_core.specs.Effects.{steps, claim_class, without_claim, class_blocks}
 use Rattle.crash_core.specs.Sound.{IsCutBlock}
-use Rattle.crash_core.proofs.TotalLemmas.{eq-eqb-one, ne-eqb-none, total_alike}
+use Rattle.crash_core.proofs.TotalLemmas.{eq-eqb-one, ne-eqb-none}
 
 -- one claim is taken out
 pub times_without_claim : (e d : ℕ) (claims : List Claim) → 0 < times_classed d claims → times_classed e (without_claim d claims) + one_if (nat_eq d e) ≡ times_classed e claims

@@ -1,17 +1,17 @@
 -- A superblock is cut: all its blocks are in the cache of its class.
-use Rattle.std.proofs.Common.{◌≡◌, ◌≢◌, ℕ, zero, suc, ◌+◌, ◌*◌, ◌<◌, ◌≤◌, inl, inr, ◌⊎◌, Bool, true, false, cond, nat_eq, nat_lt, List, [], ◌∷◌, get_or, set, length, Option, None, Some, refl, ap, sym, subst, ◌∙◌, length-set, eq-eqb, ne_eqb, arith}
+use Rattle.std.proofs.Common.{◌≡◌, ◌≢◌, ℕ, ◌+◌, ◌<◌, ◌≤◌, inl, inr, cond, nat_eq, nat_lt, List, [], get_or, set, length, refl, ap, sym, subst, ◌∙◌, length-set, eq-eqb, ne_eqb, arith}
 use Rattle.std.proofs.lemmas.Bool.{cases_eq, cases_lt}
-use Rattle.heap_model.specs.Geometry.{lists, start_word}
-use Rattle.heap_model.specs.Sizes.{IsClass, words_of_class, blocks_of}
-use Rattle.heap_model.specs.Words.{anchor_state, full_anchor}
+use Rattle.heap_model.specs.Geometry.{start_word}
+use Rattle.heap_model.specs.Sizes.{IsClass}
+use Rattle.heap_model.specs.Words.{full_anchor}
 use Rattle.heap_model.specs.Chains.{Walks}
-use Rattle.heap_model.specs.Counting.{times, total, one_if, below, without}
-use Rattle.crash_core.specs.Cells.{Cell, superblock_at}
-use Rattle.crash_core.specs.Memory.{Memory, used, durable_used, durable_info, head, anchor, info, link, next}
-use Rattle.crash_core.specs.View.{Setup, View, Batch, one_if_some, of_class, times_raw, times_classed, times_claimed, times_large, times_block}
-use Rattle.crash_core.specs.Effects.{class_blocks, first_of, cleared, trimmed, after_cut}
+use Rattle.heap_model.specs.Counting.{times, total, one_if, without}
+use Rattle.crash_core.specs.Cells.{superblock_at}
+use Rattle.crash_core.specs.Memory.{Memory, used, durable_used, durable_info, anchor, info, next}
+use Rattle.crash_core.specs.View.{Setup, View, of_class, times_raw, times_classed, times_large, times_block}
+use Rattle.crash_core.specs.Effects.{class_blocks, first_of, cleared, after_cut}
 use Rattle.crash_core.specs.Guards.{MayCut}
-use Rattle.crash_core.specs.Sound.{Shape, Tally, tally_of, IsInShape, IsSetUp, IsCutBlock, IsAnchoredBy, AreChained, HasClaims, HasBlocks, HasTickets, times_in_lists, times_parked, times_cut, empties, Good}
+use Rattle.crash_core.specs.Sound.{Shape, Tally, tally_of, IsInShape, IsCutBlock, IsAnchoredBy, AreChained, HasBlocks, times_parked, times_cut, empties, Good}
 use Rattle.crash_core.proofs.TotalLemmas.{total_set, total_same, total_at, eq-eqb-one, ne-eqb-none}
 use Rattle.crash_core.proofs.FrameLemmas.{times_without}
 use Rattle.crash_core.proofs.StepLemmas.{IsSeat, seat_at}

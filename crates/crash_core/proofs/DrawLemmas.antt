@@ -1,14 +1,12 @@
 -- A draw: a ticket comes into the hand, or the seat stops.
-use Rattle.std.proofs.Common.{◌≡◌, ◌≢◌, ℕ, ◌+◌, ◌<◌, ◌≤◌, List, get_or, set, length, Option, None, Some, refl, ap, sym, subst, arith}
-use Rattle.heap_model.specs.Geometry.{lists}
+use Rattle.std.proofs.Common.{◌≡◌, ℕ, ◌+◌, ◌<◌, ◌≤◌, List, get_or, set, length, Option, None, Some, refl, ap, sym, subst, arith}
 use Rattle.heap_model.specs.Words.{head_pops}
 use Rattle.heap_model.specs.Rest.{list_numbers}
 use Rattle.heap_model.specs.Counting.{times, total}
-use Rattle.crash_core.specs.Memory.{Memory, tickets, used, head, anchor, write}
-use Rattle.crash_core.specs.View.{Setup, View, Look, one_if_some}
-use Rattle.crash_core.specs.Effects.{seen, drew, stopped}
-use Rattle.crash_core.specs.Guards.{IsThere}
-use Rattle.crash_core.specs.Sound.{Shape, Tally, tally_of, IsInShape, IsSetUp, HasClaims, HasBlocks, Knows, KnowsWords, IsDrawn, HasTickets, Adds, stale, times_parked, empties, Good}
+use Rattle.crash_core.specs.Memory.{Memory, tickets, head, anchor, write}
+use Rattle.crash_core.specs.View.{Setup, View, one_if_some}
+use Rattle.crash_core.specs.Effects.{drew, stopped}
+use Rattle.crash_core.specs.Sound.{tally_of, IsInShape, IsSetUp, HasClaims, HasBlocks, Knows, IsDrawn, HasTickets, stale, times_parked, empties, Good}
 use Rattle.crash_core.proofs.TotalLemmas.{total_set, total_same}
 use Rattle.crash_core.proofs.QuietLemmas.{words_same, none_drawn}
 use Rattle.crash_core.proofs.StepLemmas.{IsSeat, seat_at, good_step, Parts, parts, tally_same}

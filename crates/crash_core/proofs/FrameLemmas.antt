@@ -1,11 +1,11 @@
 -- What a change of words leaves: what is known of own words where another word changes, and the sums of one part.
-use Rattle.std.proofs.Common.{◌≡◌, ◌≢◌, ℕ, zero, suc, ◌+◌, ◌*◌, ◌<◌, ◌≤◌, inl, inr, Bool, true, false, cond, nat_eq, nat_lt, List, [], ◌∷◌, ◌++◌, get_or, set, length, Some, refl, ap, sym, subst, ◌∙◌, eqb-true, eq-eqb, ltb-true, lt-ltb, ne_eqb, arith}
+use Rattle.std.proofs.Common.{◌≡◌, ℕ, zero, suc, ◌+◌, ◌<◌, ◌≤◌, inl, inr, Bool, true, false, cond, nat_eq, nat_lt, List, [], ◌∷◌, ◌++◌, refl, ap, sym, subst, ◌∙◌, eq-eqb, ltb-true, lt-ltb, ne_eqb, arith}
 use Rattle.std.proofs.lemmas.Bool.{cases_eq, cases_lt}
-use Rattle.heap_model.specs.Counting.{times, total, one_if, below, without}
+use Rattle.heap_model.specs.Counting.{times, one_if, below, without}
 use Rattle.heap_model.proofs.CountingLemmas.{one_if_true, one_if_false}
-use Rattle.crash_core.specs.Cells.{Cell, same_cell, is_cell}
+use Rattle.crash_core.specs.Cells.{Cell, same_cell}
 use Rattle.crash_core.specs.Memory.{Memory, with_cell}
-use Rattle.crash_core.specs.View.{View, known, times_own}
+use Rattle.crash_core.specs.View.{View, times_own}
 use Rattle.crash_core.specs.Effects.{steps}
 use Rattle.crash_core.specs.Guards.{IsOwn}
 use Rattle.crash_core.specs.Sound.{KnowsWords}

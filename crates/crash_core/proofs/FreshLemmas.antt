@@ -1,22 +1,21 @@
 -- The steps on the mark of taken superblocks: taking fresh ones, and making the mark durable.
-use Rattle.std.proofs.Common.{◌≡◌, ◌≢◌, ℕ, zero, suc, ◌+◌, ◌<◌, ◌≤◌, max, inl, inr, ◌⊎◌, Bool, true, false, cond, not, ◌&&◌, nat_eq, nat_lt, nat_le, List, [], ◌∷◌, ◌++◌, get_or, set, length, Option, None, Some, refl, ap, sym, subst, ◌∙◌, length-set, lt-ltb, arith}
+use Rattle.std.proofs.Common.{◌≡◌, ℕ, zero, suc, ◌+◌, ◌<◌, ◌≤◌, max, inl, inr, ◌⊎◌, Bool, true, false, cond, ◌&&◌, nat_lt, nat_le, List, get_or, set, length, Option, None, Some, refl, ap, sym, subst, ◌∙◌, length-set, lt-ltb, arith}
 use Rattle.std.proofs.lemmas.Bool.{cases_lt}
-use Rattle.heap_model.specs.Geometry.{lists, image_words}
-use Rattle.heap_model.specs.Words.{head_pops, anchor_state, empty_state}
-use Rattle.heap_model.specs.Rest.{list_numbers}
-use Rattle.heap_model.specs.Counting.{times, total, one_if, below}
-use Rattle.crash_core.specs.Cells.{Cell, used_cell, info_cell, anchor_cell, link_cell, is_cell, index_of, cell_at}
-use Rattle.crash_core.specs.Memory.{Memory, volatile_at, durable_at, used, durable_used, head, anchor, info, link, durable_info, write}
-use Rattle.crash_core.specs.View.{Setup, View, Snapshot, one_if_some, known, times_own, times_raw, times_classed, times_claimed, times_large, times_block}
+use Rattle.heap_model.specs.Geometry.{image_words}
+use Rattle.heap_model.specs.Words.{anchor_state, empty_state}
+use Rattle.heap_model.specs.Counting.{times, total, below}
+use Rattle.crash_core.specs.Cells.{Cell, used_cell, info_cell, anchor_cell, link_cell, is_cell, index_of}
+use Rattle.crash_core.specs.Memory.{Memory, volatile_at, durable_at, used, durable_used, anchor, write}
+use Rattle.crash_core.specs.View.{Setup, View, Snapshot, known, times_own, times_raw, times_classed, times_claimed, times_large, times_block}
 use Rattle.crash_core.specs.Effects.{seen, seen_word, seen_of, cleared, steps, batch_count, learn, learn_fresh, used_up, taken_fresh}
 use Rattle.crash_core.specs.Guards.{IsThere, IsOwn, MayTake}
-use Rattle.crash_core.specs.Sound.{Tally, tally_of, IsInShape, IsSetUp, ClaimsOf, BlocksOf, Knows, KnowsWords, HasTickets, IsBlank, stale, stale_anchor, differs, times_parked, empties, Good}
+use Rattle.crash_core.specs.Sound.{tally_of, IsInShape, Knows, KnowsWords, IsBlank, times_parked, empties, Good}
 use Rattle.crash_core.proofs.TotalLemmas.{total_set, total_same}
 use Rattle.crash_core.proofs.PlaceLemmas.{known_after, cell_at_index}
 use Rattle.crash_core.proofs.FrameLemmas.{untouched, words_frame, below_is, below_not, times_append, times_steps}
-use Rattle.crash_core.proofs.StepLemmas.{IsSeat, seat_at, good_step, adds_step, parts, tally_same}
+use Rattle.crash_core.proofs.StepLemmas.{IsSeat, seat_at, good_step, adds_step, tally_same}
 use Rattle.crash_core.proofs.OwnLemmas.{own_grows, stale_cleared, differs_most, differs_same, won_tickets}
-use Rattle.crash_core.proofs.QuietLemmas.{done_tickets, none_drawn, words_same}
+use Rattle.crash_core.proofs.QuietLemmas.{done_tickets, words_same}
 
 -- a snapshot that is still there is the old one
 pub cleared_same : (from n : ℕ) (s : Option Snapshot) → IsThere (cleared from n s) → cleared from n s ≡ s

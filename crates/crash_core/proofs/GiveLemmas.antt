@@ -1,25 +1,25 @@
 -- The batch goes back to its superblock.
-use Rattle.std.proofs.Common.{◌≡◌, ◌≢◌, ℕ, zero, suc, ◌+◌, ◌-◌, ◌*◌, ◌/◌, ◌<◌, ◌≤◌, max, inl, inr, ◌⊎◌, ◌↔◌, Bool, true, false, cond, not, ◌&&◌, nat_eq, nat_lt, List, [], ◌∷◌, ◌++◌, get_or, set, length, Option, None, Some, refl, ap, ap₂, sym, subst, ◌∙◌, eq-eqb, ne_eqb, length-set, mul-div_cancel, arith}
+use Rattle.std.proofs.Common.{◌≡◌, ◌≢◌, ℕ, zero, suc, ◌+◌, ◌-◌, ◌*◌, ◌/◌, ◌<◌, ◌≤◌, max, inl, inr, Bool, true, false, cond, ◌&&◌, nat_eq, nat_lt, List, [], ◌∷◌, ◌++◌, get_or, set, length, None, refl, ap, ap₂, sym, subst, ◌∙◌, eq-eqb, ne_eqb, mul-div_cancel, arith}
 use Rattle.std.proofs.lemmas.Bool.{cases_eq, cases_lt}
-use Rattle.heap_model.specs.Geometry.{lists, start_word}
+use Rattle.heap_model.specs.Geometry.{start_word}
 use Rattle.heap_model.specs.Sizes.{IsClass, words_of_class, blocks_of}
-use Rattle.heap_model.specs.Words.{anchor_of, anchor_state, anchor_first, anchor_count, empty_state, partial_state, full_state, full_anchor}
+use Rattle.heap_model.specs.Words.{anchor_state, anchor_first, anchor_count, empty_state, partial_state, full_state, full_anchor}
 use Rattle.heap_model.specs.Chains.{Walks, after}
-use Rattle.heap_model.specs.Counting.{times, total, one_if, below}
-use Rattle.heap_model.proofs.SizeLemmas.{two_words, few_blocks, four_blocks}
-use Rattle.crash_core.specs.Cells.{Cell, anchor_cell, is_cell, superblock_at}
-use Rattle.crash_core.specs.Memory.{Memory, volatile_at, used, durable_used, durable_info, head, anchor, info, link, next, write}
-use Rattle.crash_core.specs.View.{Setup, View, Batch, Claim, Span, Snapshot, Look, no_batch, one_if_some, of_class, times_own, times_raw, times_classed, times_claimed, times_large, times_block}
-use Rattle.crash_core.specs.Effects.{seen, seen_word, seen_of, steps, first_of, last_of, batch_count, trimmed, claim_class, claimed, won, given, given_anchor, batch_anchor}
-use Rattle.crash_core.specs.Guards.{IsThere, IsOwn, MayGive}
-use Rattle.crash_core.specs.Sound.{Shape, Tally, tally_of, IsInShape, IsSetUp, IsCutBlock, IsAnchoredBy, AreChained, IsDurable, ClaimsOf, HasClaims, HasBlocks, Knows, KnowsWords, Adds, stale, stale_anchor, differs, class_numbers, times_in_lists, times_parked, times_cut, empties, Good}
-use Rattle.crash_core.proofs.TotalLemmas.{total_set, total_same, total_at, total_two, total_alike, total_change, total_where, eq-eqb-one, ne-eqb-none}
+use Rattle.heap_model.specs.Counting.{times, total, one_if}
+use Rattle.heap_model.proofs.SizeLemmas.{two_words, few_blocks}
+use Rattle.crash_core.specs.Cells.{anchor_cell, superblock_at}
+use Rattle.crash_core.specs.Memory.{Memory, volatile_at, anchor, info, next, write}
+use Rattle.crash_core.specs.View.{Setup, View, Batch, no_batch, times_raw, times_classed, times_large, times_block}
+use Rattle.crash_core.specs.Effects.{seen_word, steps, first_of, last_of, batch_count, trimmed, claim_class, claimed, won, given, batch_anchor}
+use Rattle.crash_core.specs.Guards.{IsThere, MayGive}
+use Rattle.crash_core.specs.Sound.{Shape, Tally, tally_of, IsInShape, IsSetUp, IsCutBlock, IsAnchoredBy, AreChained, ClaimsOf, HasBlocks, class_numbers, times_in_lists, times_parked, times_cut, empties, Good}
+use Rattle.crash_core.proofs.TotalLemmas.{total_set, total_same, total_at, total_change, total_where, eq-eqb-one, ne-eqb-none}
 use Rattle.crash_core.proofs.FrameLemmas.{times_append, times_steps, below_is, below_not}
 use Rattle.crash_core.proofs.StepLemmas.{IsSeat, seat_at, good_step}
 use Rattle.crash_core.proofs.OwnLemmas.{one_at_most, won_tickets, length_only}
 use Rattle.crash_core.proofs.QuietLemmas.{not_there}
 use Rattle.crash_core.proofs.CountLemmas.{all_home}
-use Rattle.crash_core.proofs.ListLemmas.{in_lists_at, class_of}
+use Rattle.crash_core.proofs.ListLemmas.{class_of}
 use Rattle.crash_core.proofs.BlockLemmas.{superblock_is, walks_append, after_last, length_append, count_length, parts_of, at_one, at_other}
 use Rattle.crash_core.proofs.AnchorLemmas as on_anchor
 

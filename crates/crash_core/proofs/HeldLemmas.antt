@@ -1,25 +1,22 @@
 -- Every mixed image of a sound state names each held block.
-use Rattle.std.proofs.Common.{◌≡◌, ◌≢◌, ℕ, ◌+◌, ◌-◌, ◌*◌, ◌<◌, ◌≤◌, inl, inr, ◌⊎◌, Bool, true, false, cond, nat_lt, List, get_or, length, slice_index, refl, ap, sym, subst, ◌∙◌, lt-ltb, arith}
+use Rattle.std.proofs.Common.{◌≡◌, ℕ, ◌+◌, ◌-◌, ◌*◌, ◌<◌, ◌≤◌, inl, inr, ◌⊎◌, nat_lt, List, get_or, length, refl, ap, sym, subst, ◌∙◌, lt-ltb, arith}
 use Rattle.heap_model.specs.declared.block.Block.{Block}
-use Rattle.heap_model.specs.Geometry.{start_word, superblock_words, image_words, info_word, used_word, capacity_word, IsFixed}
+use Rattle.heap_model.specs.Geometry.{start_word, superblock_words, image_words, info_word}
 use Rattle.heap_model.specs.Sizes.{IsClass, words_of_class, blocks_of}
 use Rattle.heap_model.specs.Words.{large_info}
-use Rattle.heap_model.specs.Counting.{times, total}
 use Rattle.heap_model.specs.Image.{Image}
 use Rattle.heap_model.specs.Header.{capacity_of, used_of}
-use Rattle.heap_model.specs.Blocks.{Layout, layout_of, Begins, of_class, as_large, IsBlockOf, IsBlock, NamesIn, Names}
-use Rattle.heap_model.specs.Durability.{Mixes, NamesAreDurable}
-use Rattle.crash_core.specs.Cells.{used_cell, info_cell, superblock_at}
-use Rattle.crash_core.specs.Memory.{Memory, used, info, durable_used, durable_info, memory_of}
+use Rattle.heap_model.specs.Blocks.{layout_of, of_class, as_large, IsBlock}
+use Rattle.heap_model.specs.Durability.{Mixes}
+use Rattle.crash_core.specs.Cells.{superblock_at}
+use Rattle.crash_core.specs.Memory.{Memory, info, durable_used, durable_info, memory_of}
 use Rattle.crash_core.specs.View.{Setup, View, times_large, times_block}
-use Rattle.crash_core.specs.View as views_of
-use Rattle.crash_core.specs.Effects.{span_count}
-use Rattle.crash_core.specs.Sound.{IsCutBlock, tally_of, times_cut, Good, Sound}
-use Rattle.crash_core.specs.Held.{IsHeld, a_small, a_large, IsHeldBy, volatile_image, durable_image, IsFirm}
+use Rattle.crash_core.specs.Sound.{IsCutBlock, Good, Sound}
+use Rattle.crash_core.specs.Held.{IsHeld, a_small, a_large, volatile_image, durable_image, IsFirm}
 use Rattle.crash_core.proofs.TotalLemmas.{total_at}
 use Rattle.crash_core.proofs.PlaceLemmas.{pick}
 use Rattle.crash_core.proofs.OwnerLemmas.{in_lists_total}
-use Rattle.crash_core.proofs.StoreLemmas.{span_covers}
+use Rattle.crash_core.proofs.LinkFrameLemmas.{span_covers}
 
 module _ (k : Setup) (words : List ℕ) (views : List View) (sound : Sound k words views) (image : Image) (mixed : Mixes (volatile_image k.capacity words) (durable_image k.capacity words) image) where
   abbrev m : Memory

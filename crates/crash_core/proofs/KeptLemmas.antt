@@ -1,13 +1,13 @@
 -- Each kind of step keeps memory and seats fitting together, won or lost.
-use Rattle.std.proofs.Common.{◌≡◌, ◌≢◌, ℕ, ◌+◌, ◌<◌, ◌≤◌, inl, inr, Bool, true, false, cond, nat_eq, nat_lt, List, [], ◌∷◌, Option, None, Some, get_or, set, length, refl, ap, sym, subst, ◌∙◌, eq-eqb, eqb-true, ne_eqb, lt-ltb, length-set, arith}
+use Rattle.std.proofs.Common.{◌≡◌, ◌≢◌, ℕ, ◌+◌, ◌<◌, ◌≤◌, inl, inr, Bool, true, false, cond, nat_eq, nat_lt, List, [], ◌∷◌, Option, None, Some, get_or, set, length, refl, ap, sym, subst, ◌∙◌, eq-eqb, ne_eqb, lt-ltb, length-set, arith}
 use Rattle.std.proofs.lemmas.Bool.{cases_eq, cases_lt}
 use Rattle.crash_core.specs.declared.event.Event.{Event}
 use Rattle.crash_core.specs.declared.event.Event.TheVariants.{Tick, Load, Store, Settle, LookUsed, TakeFresh, KeepUsed, LookHead, LookLink, Pop, Push, LookAnchor, TakeAll, Give}
-use Rattle.crash_core.specs.Memory.{Memory, Place, volatile_at, tickets, used, head, anchor, info, read, write}
+use Rattle.crash_core.specs.Memory.{Memory, Place, tickets, used, head, anchor, info, read, write}
 use Rattle.crash_core.specs.View.{Setup, View, one_if_some, times_raw, times_classed, times_block}
-use Rattle.crash_core.specs.Effects.{seen, seen_word, seen_of, before, place_of, left_there, view_after, taken_fresh, lost, drew, stopped, shifted, after_cut, after_alloc, after_free, after_lift, after_large, after_split, popped, popped_head, pushed, pushed_head, taken_all, given, batch_anchor, batch_count, first_of}
+use Rattle.crash_core.specs.Effects.{seen, seen_word, seen_of, before, place_of, taken_fresh, lost, drew, stopped, shifted, after_cut, after_alloc, after_free, after_lift, after_large, after_split, popped, popped_head, pushed, pushed_head, taken_all, given, batch_anchor, batch_count, first_of}
 use Rattle.heap_model.specs.Words.{head_first, full_anchor}
-use Rattle.heap_model.specs.Counting.{times, total}
+use Rattle.heap_model.specs.Counting.{times}
 use Rattle.crash_core.specs.Cells.{cell_at, superblock_at}
 use Rattle.crash_core.specs.declared.event.Shift.{Shift}
 use Rattle.crash_core.specs.declared.event.Shift.TheVariants.{Cut, Alloc, Free, Lift, Large, Split}
@@ -24,7 +24,7 @@ use Rattle.crash_core.proofs.PushLemmas as push
 use Rattle.crash_core.proofs.TakeAllLemmas as take_all
 use Rattle.crash_core.proofs.GiveLemmas as give
 use Rattle.crash_core.proofs.OwnStepLemmas as own
-use Rattle.crash_core.proofs.StoreLemmas as store
+use Rattle.crash_core.proofs.StoreAnchorLemmas as store
 use Rattle.crash_core.proofs.DrawLemmas as draws
 use Rattle.crash_core.proofs.ShiftLemmas as shifts
 use Rattle.crash_core.proofs.SpanLemmas as spans

@@ -16,7 +16,9 @@ pub mod TakeAllLemmas
 pub mod GiveLemmas
 pub mod OwnerLemmas
 pub mod OwnStepLemmas
+pub mod LinkFrameLemmas
 pub mod StoreLemmas
+pub mod StoreAnchorLemmas
 pub mod DrawLemmas
 pub mod ShiftLemmas
 pub mod SpanLemmas
@@ -26,4 +28,5 @@ pub mod TableLemmas
 pub mod SoundLemmas
 pub mod HeldLemmas
 pub mod OpenLemmas
+pub mod OpenCountLemmas
 pub mod OpenedLemmas

@@ -1,22 +1,18 @@
 -- Lists of descriptors when one loses or gets its first descriptor.
-use Rattle.std.proofs.Common.{◌≡◌, ◌≢◌, ℕ, zero, suc, ◌+◌, ◌*◌, ◌%◌, ◌/◌, ◌<◌, ◌≤◌, inl, inr, ◌⊎◌, Bool, true, false, cond, not, ◌&&◌, nat_eq, nat_lt, List, [], ◌∷◌, get_or, Option, None, Some, refl, ap, sym, subst, ◌∙◌, eq-eqb, eqb-true, ne_eqb, arith}
-use Rattle.std.proofs.lemmas.Bool.{cases_eq, cases_lt, agree_below_at}
+use Rattle.std.proofs.Common.{◌≡◌, ◌≢◌, ℕ, suc, ◌+◌, ◌<◌, ◌≤◌, inl, inr, true, cond, nat_eq, List, [], ◌∷◌, get_or, Option, refl, ap, sym, subst, ◌∙◌, eq-eqb, eqb-true, ne_eqb, arith}
+use Rattle.std.proofs.lemmas.Bool.{cases_eq, agree_below_at}
 use Rattle.std.proofs.lemmas.List.{get_or_default}
-use Rattle.heap_model.specs.Geometry.{lists, largest_capacity}
+use Rattle.heap_model.specs.Geometry.{lists}
 use Rattle.heap_model.specs.Sizes.{IsClass}
 use Rattle.heap_model.specs.Words.{head_of, head_first, head_pops}
 use Rattle.heap_model.specs.Chains.{Follows}
-use Rattle.heap_model.specs.Counting.{times, total, one_if}
+use Rattle.heap_model.specs.Counting.{times, total}
 use Rattle.heap_model.specs.Rest.{list_numbers}
 use Rattle.heap_model.proofs.CountingLemmas.{times_once, is_number, numbers_ascend}
-use Rattle.crash_core.specs.Cells.{head_cell}
-use Rattle.crash_core.specs.Memory.{Memory, volatile_at, head, link, write, with_cell}
-use Rattle.crash_core.specs.View.{View, Snapshot, Claim, one_if_some}
-use Rattle.crash_core.specs.Effects.{before, seen, seen_word, seen_of, cleared, claim_class}
+use Rattle.crash_core.specs.Effects.{before, seen, seen_word}
 use Rattle.crash_core.specs.Guards.{IsThere}
-use Rattle.crash_core.specs.View.{times_classed}
-use Rattle.crash_core.specs.Sound.{AreLists, KnowsHead, Shape, class_numbers, times_in_lists}
-use Rattle.crash_core.proofs.TotalLemmas.{total_change, total_unchanged, eq-eqb-one, ne-eqb-none}
+use Rattle.crash_core.specs.Sound.{AreLists, KnowsHead, class_numbers}
+use Rattle.crash_core.proofs.TotalLemmas.{total_change, ne-eqb-none}
 
 -- the lists, but another one at one number
 abbrev pub relist : (ℕ → List ℕ) → ℕ → List ℕ → ℕ → List ℕ

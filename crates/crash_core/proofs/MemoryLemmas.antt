@@ -1,5 +1,5 @@
 -- A word that is written as it was read leaves the memory as it is.
-use Rattle.std.proofs.Common.{◌≡◌, ℕ, Bool, true, false, cond, nat_eq, refl, ap, sym, ◌∙◌, eqb-true, eq-eqb}
+use Rattle.std.proofs.Common.{◌≡◌, ℕ, Bool, true, false, cond, refl, ap, sym, eqb-true, eq-eqb}
 use Rattle.crash_core.specs.Cells.{Cell, used_cell, head_cell, info_cell, anchor_cell, link_cell, root_cell, data_cell, no_cell, same_cell}
 use Rattle.crash_core.specs.Memory.{Memory, Place, volatile_at, durable_at, tickets, read, write, with_cell}
 

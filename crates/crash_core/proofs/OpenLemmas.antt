@@ -1,19 +1,18 @@
 -- Sums over the seats of a heap as it is opened.
-use Rattle.std.proofs.Common.{◌≡◌, ◌≢◌, ℕ, zero, suc, ◌+◌, ◌-◌, ◌*◌, ◌/◌, ◌<◌, ◌≤◌, inl, inr, ◌⊎◌, Bool, true, false, cond, nat_eq, nat_lt, nat_le, ◌&&◌, List, [], ◌∷◌, ◌++◌, map, replicate, Contains, get_or, length, slice_index, Option, None, Some, refl, ap, sym, subst, ◌∙◌, eq-eqb, ne_eqb, eqb-true, lt-ltb, ltb-true, le-leb, leb-true, true≢false, arith}
-use Rattle.std.proofs.lemmas.Bool.{cases_eq, cases_lt}
+use Rattle.std.proofs.Common.{◌≡◌, ℕ, zero, suc, ◌+◌, ◌/◌, ◌<◌, inl, inr, Bool, true, false, cond, nat_eq, ◌&&◌, List, [], ◌∷◌, Contains, get_or, length, refl, ap, sym, subst, ◌∙◌, eq-eqb, ne_eqb, eqb-true, arith}
+use Rattle.std.proofs.lemmas.Bool.{cases_eq}
 use Rattle.heap_model.specs.declared.block.Block.{Block}
 use Rattle.heap_model.specs.Counting.{times, total, one_if, below}
-use Rattle.heap_model.specs.Geometry.{lists, superblock_words, start_word}
-use Rattle.heap_model.specs.Rest.{list_numbers, large_part}
+use Rattle.heap_model.specs.Geometry.{lists, superblock_words}
+use Rattle.heap_model.specs.Rest.{large_part}
 use Rattle.heap_model.proofs.MemberLemmas.{in_head, in_rest, head_or_rest, in_none}
 use Rattle.crash_core.specs.Cells.{superblock_at}
 use Rattle.crash_core.specs.Sound.{Each}
-use Rattle.crash_core.specs.View.{View, Span, takes, times_large, of_class}
+use Rattle.crash_core.specs.View.{View, Span, takes, times_large}
 use Rattle.crash_core.specs.Effects.{steps, span_count}
 use Rattle.crash_core.specs.Opening.{picked, tabulate, is_small, small_blocks, large_blocks}
-use Rattle.crash_core.proofs.TotalLemmas.{total_change, total_unchanged, total_alike, eq-eqb-one, ne-eqb-none}
+use Rattle.crash_core.proofs.TotalLemmas.{total_change, total_alike, ne-eqb-none}
 use Rattle.crash_core.proofs.FrameLemmas.{times_steps, below_is, below_not}
-use Rattle.crash_core.proofs.PlaceLemmas.{not-lt}
 
 -- a sum over numbers, of which one counts something more
 sum_once : {A : Type 0} (c : A → ℕ) (x : A) (owner : ℕ) (rest : ℕ → List A) (ns : List ℕ) → times owner ns ≡ 1 → total (λ j. total c (cond (nat_eq owner j) (x ∷ rest j) (rest j))) ns ≡ c x + total (λ j. total c (rest j)) ns

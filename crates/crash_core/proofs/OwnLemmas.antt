@@ -1,15 +1,14 @@
 -- Own words: more where a seat has more, and what is known of them alone.
-use Rattle.std.proofs.Common.{◌≡◌, ◌≢◌, ℕ, zero, suc, ◌+◌, ◌<◌, ◌≤◌, inl, inr, ◌⊎◌, Bool, true, false, cond, not, ◌&&◌, nat_eq, nat_lt, nat_le, List, [], ◌∷◌, get_or, length, Option, None, Some, refl, ap, ap₂, sym, subst, ◌∙◌, ltb-true, eqb-true, eq-eqb, le-leb, lt-ltb, true≢false, arith}
-use Rattle.heap_model.specs.Geometry.{image_words}
+use Rattle.std.proofs.Common.{◌≡◌, ℕ, zero, suc, ◌+◌, ◌<◌, ◌≤◌, Bool, true, false, cond, not, ◌&&◌, nat_eq, nat_lt, nat_le, List, [], ◌∷◌, get_or, length, Option, None, Some, refl, ap, ap₂, sym, subst, ◌∙◌, ltb-true, eqb-true, eq-eqb, le-leb, lt-ltb, true≢false, arith}
 use Rattle.heap_model.specs.Sizes.{words_of_class}
-use Rattle.heap_model.specs.Counting.{times, total, one_if}
+use Rattle.heap_model.specs.Counting.{times, one_if}
 use Rattle.crash_core.specs.Cells.{Cell, used_cell, head_cell, info_cell, anchor_cell, link_cell, root_cell, data_cell, no_cell, is_cell, index_of, cell_at, superblock_at}
 use Rattle.crash_core.specs.Memory.{Memory, anchor}
-use Rattle.crash_core.specs.View.{Setup, View, Batch, Snapshot, Look, one_if_some, known, times_own, times_raw, times_classed, times_claimed, times_large, times_in_classes, times_within}
-use Rattle.crash_core.specs.Effects.{seen, seen_word, seen_of, cleared, only_own, trimmed}
+use Rattle.crash_core.specs.View.{Setup, View, Snapshot, Look, one_if_some, known, times_own, times_raw, times_classed, times_claimed, times_large, times_in_classes, times_within}
+use Rattle.crash_core.specs.Effects.{seen, seen_of, cleared, only_own, trimmed}
 use Rattle.crash_core.specs.Guards.{IsThere, IsOwn}
 use Rattle.crash_core.specs.Sound.{KnowsWords, IsDrawn, HasTickets, differs, stale_head, stale_anchor}
-use Rattle.crash_core.proofs.PlaceLemmas.{cell_at_index, index_within, and_is}
+use Rattle.crash_core.proofs.PlaceLemmas.{cell_at_index, and_is}
 use Rattle.crash_core.proofs.QuietLemmas.{none_drawn, not_there, own_same}
 
 -- the parts that are not superblocks

@@ -1,14 +1,12 @@
 -- Steps on own words that change no volatile value: a load, and a settling.
-use Rattle.std.proofs.Common.{◌≡◌, ◌≢◌, ℕ, ◌+◌, ◌<◌, ◌≤◌, inl, inr, ◌⊎◌, Bool, true, false, cond, nat_lt, List, get_or, set, length, Option, None, Some, refl, ap, sym, subst, ◌∙◌, length-set, arith}
-use Rattle.std.proofs.lemmas.Bool.{cases_lt}
-use Rattle.heap_model.specs.Geometry.{lists, image_words}
-use Rattle.heap_model.specs.Counting.{times, total, below}
+use Rattle.std.proofs.Common.{◌≡◌, ℕ, ◌+◌, ◌<◌, ◌≤◌, inl, inr, true, cond, nat_lt, List, get_or, set, length, Option, Some, refl, ap, sym, subst, ◌∙◌, length-set, arith}
+use Rattle.heap_model.specs.Geometry.{image_words}
 use Rattle.crash_core.specs.Cells.{Cell, used_cell, info_cell, anchor_cell, link_cell, is_cell, cell_at}
-use Rattle.crash_core.specs.Memory.{Memory, durable_at, volatile_at, used, durable_used, durable_info, anchor, write, with_cell}
-use Rattle.crash_core.specs.View.{Setup, View, Look, one_if_some, known, times_own, times_raw, times_classed, times_claimed, times_large}
-use Rattle.crash_core.specs.Effects.{seen, learn, used_up}
+use Rattle.crash_core.specs.Memory.{Memory, durable_at, used, durable_used, anchor, write, with_cell}
+use Rattle.crash_core.specs.View.{Setup, View, known, times_own, times_raw, times_classed, times_claimed}
+use Rattle.crash_core.specs.Effects.{learn, used_up}
 use Rattle.crash_core.specs.Guards.{IsThere, IsOwn}
-use Rattle.crash_core.specs.Sound.{Tally, tally_of, IsInShape, IsSetUp, IsDurable, Knows, KnowsWords, HasTickets, times_cut, times_parked, empties, Good}
+use Rattle.crash_core.specs.Sound.{tally_of, IsInShape, times_cut, times_parked, empties, Good}
 use Rattle.crash_core.proofs.TotalLemmas.{total_same, total_at}
 use Rattle.crash_core.proofs.MemoryLemmas.{same-refl}
 use Rattle.crash_core.proofs.PlaceLemmas.{known_after}

@@ -1,17 +1,17 @@
 -- A word is own to at most one seat.
-use Rattle.std.proofs.Common.{◌≡◌, ◌≢◌, ℕ, zero, suc, ◌+◌, ◌-◌, ◌*◌, ◌/◌, ◌<◌, ◌≤◌, inl, inr, ◌⊎◌, Bool, true, false, cond, ◌&&◌, nat_eq, nat_lt, nat_le, List, [], ◌∷◌, get_or, length, refl, ap, sym, subst, ◌∙◌, leb-true, ltb-true, le-leb, lt-ltb, eq-eqb, arith}
+use Rattle.std.proofs.Common.{◌≡◌, ◌≢◌, ℕ, zero, suc, ◌+◌, ◌*◌, ◌<◌, ◌≤◌, inl, inr, Bool, true, false, ◌&&◌, nat_eq, nat_lt, nat_le, List, [], ◌∷◌, get_or, length, refl, ap, sym, subst, ◌∙◌, leb-true, ltb-true, le-leb, lt-ltb, arith}
 use Rattle.std.proofs.lemmas.Bool.{cases_eq, cases_lt, cases_order}
-use Rattle.heap_model.specs.Geometry.{start_word, superblock_words}
-use Rattle.heap_model.specs.Sizes.{IsClass, words_of_class, blocks_of}
-use Rattle.heap_model.specs.Counting.{times, total, one_if, below}
+use Rattle.heap_model.specs.Geometry.{start_word}
+use Rattle.heap_model.specs.Sizes.{IsClass, words_of_class}
+use Rattle.heap_model.specs.Counting.{times, total, one_if}
 use Rattle.heap_model.proofs.CountingLemmas.{one_if_true}
 use Rattle.heap_model.proofs.BlockLemmas.{block_step}
 use Rattle.heap_model.proofs.SizeLemmas.{two_words}
 use Rattle.crash_core.specs.Cells.{Cell, used_cell, head_cell, info_cell, anchor_cell, link_cell, root_cell, data_cell, no_cell, superblock_at}
 use Rattle.crash_core.specs.Memory.{Memory, info, used}
-use Rattle.crash_core.specs.View.{Setup, View, of_class, times_own, times_raw, times_classed, times_claimed, times_large, times_block, times_within, times_in_classes}
+use Rattle.crash_core.specs.View.{Setup, View, times_own, times_raw, times_classed, times_large, times_block, times_within, times_in_classes}
 use Rattle.crash_core.specs.Guards.{IsOwn}
-use Rattle.crash_core.specs.Sound.{Tally, tally_of, IsCutBlock, times_cut, Good}
+use Rattle.crash_core.specs.Sound.{tally_of, IsCutBlock, times_cut, Good}
 use Rattle.crash_core.proofs.TotalLemmas.{total_at, total_two, eq-eqb-one, ne-eqb-none}
 use Rattle.crash_core.proofs.PlaceLemmas.{and_both, and_is}
 use Rattle.crash_core.proofs.OwnLemmas.{one_at_most}

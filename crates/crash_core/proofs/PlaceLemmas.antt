@@ -1,11 +1,11 @@
 -- Cells and word indices tell each other.
-use Rattle.std.proofs.Common.{◌≡◌, ◌≢◌, ℕ, zero, suc, ◌+◌, ◌-◌, ◌*◌, ◌/◌, ◌%◌, ◌<◌, ◌≤◌, inl, inr, ◌⊎◌, Bool, true, false, cond, ◌&&◌, nat_eq, nat_lt, nat_le, List, get_or, set, length, Option, None, Some, refl, ap, sym, subst, ◌∙◌, eqb-true, eq-eqb, ltb-true, lt-ltb, leb-true, le-leb, ltb-false, true≢false, arith}
+use Rattle.std.proofs.Common.{◌≡◌, ◌≢◌, ℕ, zero, suc, ◌+◌, ◌-◌, ◌*◌, ◌/◌, ◌%◌, ◌<◌, ◌≤◌, inl, inr, ◌⊎◌, Bool, true, false, cond, ◌&&◌, nat_eq, nat_lt, nat_le, List, length, Option, None, Some, refl, ap, sym, subst, ◌∙◌, eqb-true, eq-eqb, ltb-true, lt-ltb, leb-true, le-leb, true≢false, arith}
 use Rattle.std.proofs.lemmas.Bool.{cases_eq, cases_lt}
-use Rattle.std.proofs.lemmas.List.{get_or-set_same, get_or-set_other}
+use Rattle.std.proofs.lemmas.List.{get_or-set_other}
 use Rattle.std.proofs.lemmas.Grind.{get_or-set_at}
-use Rattle.heap_model.specs.Geometry.{lists, roots, image_words, start_word, head_word, root_word, fixed_words, used_word}
+use Rattle.heap_model.specs.Geometry.{image_words, start_word}
 use Rattle.crash_core.specs.Cells.{Cell, used_cell, head_cell, info_cell, anchor_cell, link_cell, root_cell, data_cell, no_cell, is_cell, index_of, cell_at, header_cell, descriptor_cell}
-use Rattle.crash_core.specs.View.{View, known}
+use Rattle.crash_core.specs.View.{known}
 use Rattle.crash_core.specs.Effects.{seen, learn}
 
 pub and_both : (a b : Bool) → a && b ≡ true → (a ≡ true) × (b ≡ true)

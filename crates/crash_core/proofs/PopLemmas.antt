@@ -1,24 +1,23 @@
 -- A pop: the first descriptor of a list is claimed.
-use Rattle.std.proofs.Common.{◌≡◌, ◌≢◌, ℕ, zero, suc, ◌+◌, ◌<◌, ◌≤◌, max, inl, inr, ◌⊎◌, Bool, true, false, cond, not, ◌&&◌, nat_eq, nat_lt, List, [], ◌∷◌, get_or, set, length, Option, None, Some, refl, ap, sym, subst, ◌∙◌, eq-eqb, ne_eqb, arith}
-use Rattle.std.proofs.lemmas.Bool.{cases_eq, cases_lt}
-use Rattle.heap_model.specs.Geometry.{lists, largest_capacity, largest_capacity_fits}
+use Rattle.std.proofs.Common.{◌≡◌, ◌≢◌, ℕ, zero, suc, ◌+◌, ◌<◌, ◌≤◌, max, inl, inr, ◌⊎◌, cond, nat_eq, List, get_or, set, length, Option, None, refl, ap, sym, subst, ◌∙◌, eq-eqb, ne_eqb, arith}
+use Rattle.std.proofs.lemmas.Bool.{cases_eq}
+use Rattle.heap_model.specs.Geometry.{largest_capacity_fits}
 use Rattle.heap_model.specs.Sizes.{IsClass}
-use Rattle.heap_model.specs.Words.{head_of, head_first, head_pops, anchor_state, empty_state, full_state}
+use Rattle.heap_model.specs.Words.{head_first, head_pops, anchor_state, empty_state, full_state}
 use Rattle.heap_model.specs.Chains.{Follows}
-use Rattle.heap_model.specs.Rest.{list_numbers}
-use Rattle.heap_model.specs.Counting.{times, total, one_if, below}
-use Rattle.crash_core.specs.Cells.{Cell, head_cell, is_cell}
+use Rattle.heap_model.specs.Counting.{times, total, one_if}
+use Rattle.crash_core.specs.Cells.{head_cell}
 use Rattle.crash_core.specs.Memory.{Memory, volatile_at, used, durable_used, head, anchor, info, link, next, write}
-use Rattle.crash_core.specs.View.{Setup, View, Batch, Claim, Snapshot, Look, one_if_some, times_own, times_raw, times_classed, times_claimed, times_large, times_block}
+use Rattle.crash_core.specs.View.{Setup, View, Batch, Snapshot, Look, one_if_some, times_raw, times_classed, times_claimed, times_large, times_block}
 use Rattle.crash_core.specs.Effects.{before, seen, seen_word, seen_of, cleared, claim_class, batch_count, won, claimed, popped_head}
-use Rattle.crash_core.specs.Guards.{IsThere, IsOwn, MayPop}
-use Rattle.crash_core.specs.Sound.{Shape, Tally, tally_of, IsInShape, IsSetUp, AreChained, ClaimsOf, HasClaims, Knows, KnowsHead, KnowsWords, IsBlank, Adds, stale, stale_anchor, stale_head, differs, class_numbers, times_in_lists, times_parked, times_cut, empties, Good}
+use Rattle.crash_core.specs.Guards.{IsThere, MayPop}
+use Rattle.crash_core.specs.Sound.{Shape, Tally, tally_of, IsInShape, AreChained, Knows, KnowsHead, Adds, stale, stale_anchor, stale_head, differs, class_numbers, times_in_lists, times_parked, times_cut, empties, Good}
 use Rattle.crash_core.proofs.TotalLemmas.{total_set, total_same, total_unchanged, eq-eqb-one, ne-eqb-none}
 use Rattle.crash_core.proofs.FrameLemmas.{untouched, words_frame}
 use Rattle.crash_core.proofs.StepLemmas.{IsSeat, seat_at, good_step, adds_step}
 use Rattle.crash_core.proofs.OwnLemmas.{own_grows, words_grow, stale_cleared, stale_head_most, cleared_other, won_tickets}
 use Rattle.crash_core.proofs.FreshLemmas.{cleared_same}
-use Rattle.crash_core.proofs.ListLemmas.{relist, relist_same, relist_other, IsFirst, first_is, follows_small, head_parts, lists_set, number_once, pops_set, in_lists_set, in_lists_at, knows_pop}
+use Rattle.crash_core.proofs.ListLemmas.{relist, relist_same, relist_other, IsFirst, first_is, follows_small, head_parts, lists_set, pops_set, in_lists_set, in_lists_at, knows_pop}
 
 module _ (k : Setup) (m : Memory) (views : List View) (i : ℕ) (v : View) (below_i : i < length views) (at : get_or views i v ≡ v) (good : Good k m views)
     (ticket : IsThere v.ticket) (may : MayPop v) (as_seen : head m (seen_of v.seen_head) ≡ seen_word v.seen_head) where

@@ -1,18 +1,18 @@
 -- A push: a claimed descriptor goes to the front of a list.
-use Rattle.std.proofs.Common.{◌≡◌, ◌≢◌, ℕ, zero, suc, ◌+◌, ◌<◌, ◌≤◌, inl, inr, ◌⊎◌, Bool, true, false, cond, not, ◌&&◌, nat_eq, nat_lt, List, [], ◌∷◌, get_or, set, length, Option, None, Some, refl, ap, sym, subst, ◌∙◌, eq-eqb, ne_eqb, lt-ltb, arith}
+use Rattle.std.proofs.Common.{◌≡◌, ◌≢◌, ℕ, ◌+◌, ◌<◌, ◌≤◌, inl, inr, ◌⊎◌, Bool, true, false, cond, ◌&&◌, nat_eq, nat_lt, List, ◌∷◌, get_or, set, length, Option, None, refl, ap, sym, subst, ◌∙◌, eq-eqb, ne_eqb, lt-ltb, arith}
 use Rattle.std.proofs.lemmas.Bool.{cases_eq, cases_lt}
-use Rattle.heap_model.specs.Geometry.{lists, largest_capacity, largest_capacity_fits}
-use Rattle.heap_model.specs.Sizes.{IsClass, blocks_of}
-use Rattle.heap_model.specs.Words.{head_of, head_first, head_pops, anchor_state, empty_state, partial_state, full_state}
+use Rattle.heap_model.specs.Geometry.{lists, largest_capacity_fits}
+use Rattle.heap_model.specs.Sizes.{IsClass}
+use Rattle.heap_model.specs.Words.{head_first, head_pops, anchor_state, empty_state, full_state}
 use Rattle.heap_model.specs.Chains.{Follows}
 use Rattle.heap_model.specs.Rest.{list_numbers}
 use Rattle.heap_model.specs.Counting.{times, total, one_if, below, without}
-use Rattle.crash_core.specs.Cells.{Cell, head_cell, is_cell, superblock_at}
-use Rattle.crash_core.specs.Memory.{Memory, volatile_at, used, durable_used, durable_info, head, anchor, info, link, next, write}
-use Rattle.crash_core.specs.View.{Setup, View, Batch, Claim, Snapshot, Look, one_if_some, known, times_own, times_raw, times_classed, times_claimed, times_large, times_block}
+use Rattle.crash_core.specs.Cells.{head_cell, superblock_at}
+use Rattle.crash_core.specs.Memory.{Memory, volatile_at, used, durable_used, head, anchor, info, link, next, write}
+use Rattle.crash_core.specs.View.{Setup, View, Batch, Snapshot, Look, one_if_some, known, times_raw, times_classed, times_claimed, times_large, times_block}
 use Rattle.crash_core.specs.Effects.{before, seen, seen_word, seen_of, cleared, claim_class, without_claim, batch_count, steps, won, pushed, pushed_raw, pushed_classed, pushed_head, trimmed}
-use Rattle.crash_core.specs.Guards.{IsThere, IsOwn, MayPush, MayList, as_free, of_its_class}
-use Rattle.crash_core.specs.Sound.{Shape, Tally, tally_of, IsInShape, IsSetUp, AreChained, AreListed, IsDurable, IsCutBlock, ClaimsOf, HasClaims, Knows, KnowsHead, KnowsWords, IsBlank, Adds, stale, stale_anchor, stale_head, differs, class_numbers, times_in_lists, times_parked, times_cut, empties, Good}
+use Rattle.crash_core.specs.Guards.{IsThere, MayPush, MayList, as_free, of_its_class}
+use Rattle.crash_core.specs.Sound.{Shape, Tally, tally_of, IsInShape, IsSetUp, AreChained, IsCutBlock, Knows, KnowsHead, KnowsWords, Adds, stale, stale_anchor, stale_head, differs, class_numbers, times_in_lists, times_parked, times_cut, empties, Good}
 use Rattle.crash_core.proofs.TotalLemmas.{total_set, total_same, total_at, total_change, total_unchanged, eq-eqb-one, ne-eqb-none}
 use Rattle.crash_core.proofs.FrameLemmas.{untouched, words_frame, times_without, without_none, times_steps, below_is, below_not}
 use Rattle.crash_core.proofs.StepLemmas.{IsSeat, seat_at, good_step, adds_step}
@@ -21,7 +21,7 @@ use Rattle.crash_core.proofs.FreshLemmas.{cleared_same}
 use Rattle.crash_core.proofs.CountLemmas.{times_without_claim, class_without, without_less, all_home}
 use Rattle.heap_model.proofs.CountingLemmas.{one_if_true}
 use Rattle.crash_core.proofs.PlaceLemmas.{and_is, not-lt}
-use Rattle.crash_core.proofs.ListLemmas.{relist, relist_same, relist_other, head_parts, lists_set, number_once, pops_set, in_lists_set, in_lists_at}
+use Rattle.crash_core.proofs.ListLemmas.{relist, relist_same, relist_other, head_parts, lists_set, pops_set, in_lists_set}
 
 -- a push leaves what others saw of the list's head: its pops, and that the descriptor is in the list
 pub knows_push : (capacity : ℕ) (heads links : ℕ → ℕ) (descriptors : ℕ → List ℕ) (at word d : ℕ) (list seen_word : ℕ) (next : Option ℕ)

@@ -1,23 +1,21 @@
 -- Steps that change no word and no part of a seat: looks, and exchanges that are lost.
-use Rattle.std.proofs.Common.{◌≡◌, ◌≢◌, ℕ, suc, ◌+◌, ◌<◌, ◌≤◌, inl, inr, ◌⊎◌, Bool, true, false, cond, not, nat_eq, ◌&&◌, List, [], ◌∷◌, get_or, set, length, Option, None, Some, refl, ap, ap₂, sym, subst, ◌∙◌, eqb-true, eq-eqb, length-set, arith}
+use Rattle.std.proofs.Common.{◌≡◌, ◌≢◌, ℕ, suc, ◌+◌, ◌<◌, ◌≤◌, inl, inr, Bool, true, false, not, nat_eq, ◌&&◌, List, [], ◌∷◌, get_or, set, length, Option, None, Some, refl, ap, ap₂, sym, subst, ◌∙◌, eqb-true, eq-eqb, length-set, arith}
 use Rattle.std.proofs.lemmas.Bool.{cases_eq}
-use Rattle.std.proofs.lemmas.List.{get_or-set_same, get_or-set_other, get_or_default}
-use Rattle.heap_model.specs.Geometry.{lists, image_words}
+use Rattle.std.proofs.lemmas.List.{get_or-set_other, get_or_default}
+use Rattle.heap_model.specs.Geometry.{lists}
 use Rattle.heap_model.specs.Sizes.{words_of_class}
-use Rattle.heap_model.specs.Words.{head_first, head_pops, anchor_state, empty_state}
-use Rattle.heap_model.specs.Counting.{times, total, one_if}
+use Rattle.heap_model.specs.Words.{head_first}
+use Rattle.heap_model.specs.Counting.{times, one_if}
 use Rattle.std.proofs.lemmas.Grind.{get_or-set_at}
 use Rattle.heap_model.specs.Chains.{Follows}
-use Rattle.crash_core.specs.declared.event.Event.TheVariants.{LookUsed, TakeFresh, LookHead, LookLink, Pop, Push, LookAnchor, TakeAll, Give}
-use Rattle.crash_core.specs.Cells.{Cell, used_cell, head_cell, info_cell, anchor_cell, link_cell, root_cell, data_cell, no_cell, is_cell, superblock_at}
-use Rattle.crash_core.specs.Memory.{Memory, Place, volatile_at, used, head, anchor, link, read, write}
-use Rattle.crash_core.specs.View.{Setup, View, Snapshot, Look, one_if_some, known, times_own, times_raw, times_classed, times_claimed, times_large, times_in_classes, times_within}
-use Rattle.crash_core.specs.Effects.{seen, seen_word, seen_of, before, batch_count, used_up, lost, look}
-use Rattle.crash_core.specs.Guards.{IsThere, IsOwn, MayLink, MayLookAt}
-use Rattle.crash_core.specs.Sound.{Shape, Tally, tally_of, IsInShape, IsSetUp, ClaimsOf, BlocksOf, HasClaims, HasBlocks, KnowsHead, Knows, KnowsWords, IsDrawn, HasTickets, Adds, HasLost, stale, differs, stale_head, stale_anchor, times_parked, empties, Good}
+use Rattle.crash_core.specs.Cells.{Cell, used_cell, head_cell, info_cell, anchor_cell, link_cell, root_cell, data_cell, no_cell, superblock_at}
+use Rattle.crash_core.specs.Memory.{Memory, used, head, anchor, link}
+use Rattle.crash_core.specs.View.{Setup, View, Snapshot, Look, one_if_some, known, times_own, times_raw, times_classed, times_large, times_in_classes, times_within}
+use Rattle.crash_core.specs.Effects.{seen, seen_word, seen_of, before, used_up, lost, look}
+use Rattle.crash_core.specs.Guards.{IsThere, MayLink, MayLookAt}
+use Rattle.crash_core.specs.Sound.{Shape, Tally, tally_of, IsInShape, IsSetUp, HasClaims, HasBlocks, Knows, KnowsWords, IsDrawn, HasTickets, stale, differs, stale_head, stale_anchor, times_parked, empties, Good}
 use Rattle.crash_core.proofs.TotalLemmas.{total_same}
-use Rattle.crash_core.proofs.MemoryLemmas.{write_read}
-use Rattle.crash_core.proofs.StepLemmas.{IsSeat, seat_at, Loses, good_step, Parts, parts, tally_same, adds_step}
+use Rattle.crash_core.proofs.StepLemmas.{IsSeat, seat_at, good_step, Parts, parts, tally_same, adds_step}
 
 -- the counts that such a step leaves
 pub record Counts : Type 0 where

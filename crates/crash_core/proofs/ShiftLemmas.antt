@@ -1,16 +1,16 @@
 -- Changes of a seat's parts that go with a draw: blocks between the held ones, the cache and the batch.
-use Rattle.std.proofs.Common.{◌≡◌, ◌≢◌, ℕ, zero, suc, ◌+◌, ◌<◌, ◌≤◌, inl, inr, ◌⊎◌, Bool, true, false, cond, nat_eq, nat_lt, nat_le, ◌&&◌, List, [], ◌∷◌, ◌++◌, get_or, set, length, Option, None, Some, refl, ap, ap₂, sym, subst, ◌∙◌, length-set, eq-eqb, ne_eqb, arith}
+use Rattle.std.proofs.Common.{◌≡◌, ℕ, zero, suc, ◌+◌, ◌<◌, ◌≤◌, inl, inr, cond, nat_eq, nat_lt, nat_le, ◌&&◌, List, [], ◌∷◌, ◌++◌, get_or, set, length, refl, ap, sym, subst, ◌∙◌, length-set, eq-eqb, ne_eqb, arith}
 use Rattle.std.proofs.lemmas.Bool.{cases_eq, cases_lt}
 use Rattle.heap_model.specs.Geometry.{lists}
 use Rattle.heap_model.specs.Sizes.{IsClass, words_of_class}
-use Rattle.heap_model.specs.Chains.{Walks, after}
-use Rattle.heap_model.specs.Counting.{times, total, one_if, without}
+use Rattle.heap_model.specs.Chains.{Walks}
+use Rattle.heap_model.specs.Counting.{times, one_if, without}
 use Rattle.crash_core.specs.Cells.{Cell, used_cell, head_cell, info_cell, anchor_cell, link_cell, root_cell, data_cell, no_cell, superblock_at}
-use Rattle.crash_core.specs.Memory.{Memory, used, head, anchor, info, link, next}
-use Rattle.crash_core.specs.View.{Setup, View, Batch, Snapshot, Look, one_if_some, of_class, times_own, times_raw, times_classed, times_claimed, times_large, times_block, times_within, times_in_classes}
-use Rattle.crash_core.specs.Effects.{seen, seen_word, seen_of, first_of, last_of, rest_of, batch_count, after_alloc, after_free, after_lift}
-use Rattle.crash_core.specs.Guards.{IsThere, IsBehind, MayAlloc, MayFree, MayLift}
-use Rattle.crash_core.specs.Sound.{Shape, Tally, tally_of, IsInShape, IsSetUp, ClaimsOf, HasBlocks, BlocksOf, Knows, KnowsHead, KnowsWords, HasTickets, Adds, stale, times_parked, empties, Good}
+use Rattle.crash_core.specs.Memory.{Memory, head, anchor, info, link, next}
+use Rattle.crash_core.specs.View.{Setup, View, one_if_some, of_class, times_own, times_raw, times_classed, times_large, times_block, times_within, times_in_classes}
+use Rattle.crash_core.specs.Effects.{seen_word, seen_of, first_of, last_of, rest_of, batch_count, after_alloc, after_free, after_lift}
+use Rattle.crash_core.specs.Guards.{IsThere, MayAlloc, MayFree, MayLift}
+use Rattle.crash_core.specs.Sound.{Shape, tally_of, IsInShape, HasBlocks, KnowsHead, stale, times_parked, empties, Good}
 use Rattle.crash_core.proofs.TotalLemmas.{total_same, eq-eqb-one, ne-eqb-none}
 use Rattle.crash_core.proofs.FrameLemmas.{times_append, times_without}
 use Rattle.crash_core.proofs.StepLemmas.{IsSeat, seat_at, good_step, adds_step}

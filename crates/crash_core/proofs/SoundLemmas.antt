@@ -1,19 +1,19 @@
 -- Every list of events keeps the words of the shared table and the views of the seats sound.
-use Rattle.std.proofs.Common.{◌≡◌, ◌≢◌, ℕ, zero, suc, ◌+◌, ◌*◌, ◌<◌, ◌≤◌, inl, inr, ◌⊎◌, Bool, true, false, List, [], ◌∷◌, get_or, set, length, slice_index, refl, ap, sym, subst, ◌∙◌, length-set, lt-ltb, arith}
-use Rattle.std.proofs.lemmas.Bool.{cases_eq, cases_lt}
+use Rattle.std.proofs.Common.{◌≡◌, ◌≢◌, ℕ, zero, suc, ◌+◌, ◌*◌, ◌<◌, ◌≤◌, inl, inr, true, List, [], ◌∷◌, get_or, set, length, refl, ap, sym, subst, ◌∙◌, length-set, lt-ltb, arith}
+use Rattle.std.proofs.lemmas.Bool.{cases_lt}
 use Rattle.std.proofs.lemmas.List.{get_or-set_other}
 use Rattle.heap_model.specs.Geometry.{lists, image_words, IsFixed}
 use Rattle.heap_model.specs.Words.{head_first}
-use Rattle.heap_model.specs.Counting.{times, total}
+use Rattle.heap_model.specs.Counting.{times}
 use Rattle.crash_core.specs.declared.event.Event.{Event}
 use Rattle.crash_core.specs.declared.event.Event.TheVariants.{Tick, Load, Store, Settle, LookUsed, TakeFresh, KeepUsed, LookHead, LookLink, Pop, Push, LookAnchor, TakeAll, Give}
-use Rattle.crash_core.specs.Cells.{Cell, used_cell, no_cell, is_cell, index_of, cell_at, superblock_at}
-use Rattle.crash_core.specs.Memory.{Memory, Place, volatile_at, durable_at, tickets, used, table_index, table_length, memory_of, write}
-use Rattle.crash_core.specs.View.{Setup, View, one_if_some, times_own, times_raw, times_classed, times_claimed, times_block}
+use Rattle.crash_core.specs.Cells.{used_cell, is_cell, index_of, cell_at, superblock_at}
+use Rattle.crash_core.specs.Memory.{Memory, Place, volatile_at, durable_at, tickets, used, table_index, memory_of}
+use Rattle.crash_core.specs.View.{Setup, View, times_own, times_raw, times_classed, times_block}
 use Rattle.crash_core.specs.Effects.{before, seen_of, seen_word, first_of, batch_count, place_of, left_there}
-use Rattle.crash_core.specs.Guards.{IsOwn, IsThere, MayStep, MayDo}
+use Rattle.crash_core.specs.Guards.{IsOwn, MayStep}
 use Rattle.crash_core.specs.Sound.{Good, Sound, tally_of, times_cut}
-use Rattle.crash_core.specs.Steps.{State, words_after, state_after, memory_after, seat_after, found_by, Goes, is_done, not_now, has_stopped, Runs}
+use Rattle.crash_core.specs.Steps.{State, words_after, seat_after, found_by, Goes, is_done, not_now, has_stopped, Runs}
 use Rattle.crash_core.proofs.TotalLemmas.{total_at, eq-eqb-one}
 use Rattle.crash_core.proofs.FrameLemmas.{below_not}
 use Rattle.crash_core.proofs.PlaceLemmas.{cell_there, index_within}

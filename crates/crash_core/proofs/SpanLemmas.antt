@@ -1,29 +1,25 @@
 -- Changes of a seat's parts that go with a draw: a superblock is cut, and large blocks are held and split.
-use Rattle.std.proofs.Common.{◌≡◌, ◌≢◌, ℕ, zero, suc, ◌+◌, ◌-◌, ◌*◌, ◌<◌, ◌≤◌, max, inl, inr, ◌⊎◌, Bool, true, false, cond, nat_eq, nat_lt, nat_le, ◌&&◌, List, [], ◌∷◌, ◌++◌, Contains, get_or, set, length, Option, None, Some, refl, ap, ap₂, sym, subst, ◌∙◌, length-set, eq-eqb, ne_eqb, le-leb, lt-ltb, leb-true, ltb-true, true≢false, arith}
+use Rattle.std.proofs.Common.{◌≡◌, ◌≢◌, ℕ, zero, suc, ◌+◌, ◌-◌, ◌*◌, ◌<◌, ◌≤◌, inl, inr, ◌⊎◌, Bool, true, false, cond, nat_eq, nat_lt, nat_le, ◌&&◌, List, [], ◌∷◌, Contains, get_or, set, length, Option, refl, ap, sym, subst, ◌∙◌, eq-eqb, ne_eqb, le-leb, lt-ltb, leb-true, ltb-true, true≢false, arith}
 use Rattle.std.proofs.lemmas.Bool.{cases_eq, cases_lt}
-use Rattle.heap_model.specs.Geometry.{lists, start_word}
-use Rattle.heap_model.specs.Sizes.{IsClass, words_of_class, blocks_of}
-use Rattle.heap_model.specs.Words.{anchor_state, empty_state, partial_state, full_state, full_anchor, large_info}
-use Rattle.heap_model.specs.Chains.{Walks}
-use Rattle.heap_model.specs.Counting.{times, total, one_if, below, without}
+use Rattle.heap_model.specs.Geometry.{start_word}
+use Rattle.heap_model.specs.Sizes.{words_of_class, blocks_of}
+use Rattle.heap_model.specs.Words.{anchor_state, empty_state, partial_state, large_info}
+use Rattle.heap_model.specs.Counting.{times, total, one_if}
 use Rattle.heap_model.proofs.CountingLemmas.{one_if_true, one_if_false}
-use Rattle.heap_model.proofs.MemberLemmas.{head_or_rest, in_head, in_rest, in_none}
-use Rattle.heap_model.proofs.SizeLemmas.{two_words}
-use Rattle.crash_core.specs.Cells.{Cell, is_cell, superblock_at}
-use Rattle.crash_core.specs.Memory.{Memory, used, durable_used, durable_info, head, anchor, info, link, next}
-use Rattle.crash_core.specs.View.{Setup, View, Batch, Claim, Span, Snapshot, Look, one_if_some, known, of_class, takes, times_own, times_raw, times_classed, times_claimed, times_large, times_block}
-use Rattle.crash_core.specs.Effects.{seen, seen_word, seen_of, steps, class_blocks, first_of, batch_count, cleared, without_range, span_count, without_span, trimmed, after_cut, after_large, after_split}
-use Rattle.crash_core.specs.Guards.{IsThere, IsOwn, MayCut, MayHoldLarge, MaySplit}
-use Rattle.crash_core.specs.Sound.{Shape, Tally, tally_of, IsInShape, IsSetUp, IsCutBlock, IsAnchoredBy, AreChained, ClaimsOf, HasClaims, HasBlocks, BlocksOf, Knows, KnowsHead, KnowsWords, HasTickets, Adds, stale, stale_anchor, stale_head, differs, times_in_lists, times_parked, times_cut, empties, Good}
-use Rattle.crash_core.proofs.TotalLemmas.{total_set, total_same, total_at, eq-eqb-one, ne-eqb-none}
+use Rattle.heap_model.proofs.MemberLemmas.{head_or_rest, in_head, in_rest}
+use Rattle.crash_core.specs.Cells.{superblock_at}
+use Rattle.crash_core.specs.Memory.{Memory, used, durable_used, head, anchor, info, link}
+use Rattle.crash_core.specs.View.{Setup, View, Batch, Span, Snapshot, Look, known, takes, times_raw, times_classed, times_claimed, times_large, times_block}
+use Rattle.crash_core.specs.Effects.{seen, seen_word, seen_of, steps, class_blocks, batch_count, cleared, without_range, span_count, without_span, trimmed, after_large, after_split}
+use Rattle.crash_core.specs.Guards.{IsThere, MayHoldLarge, MaySplit}
+use Rattle.crash_core.specs.Sound.{Shape, tally_of, IsInShape, IsCutBlock, Knows, KnowsHead, KnowsWords, stale, stale_anchor, stale_head, differs, times_parked, empties, Good}
+use Rattle.crash_core.proofs.TotalLemmas.{total_set, total_same, total_at, ne-eqb-none}
 use Rattle.crash_core.proofs.PlaceLemmas.{and_both, and_is}
-use Rattle.crash_core.proofs.FrameLemmas.{times_append, times_steps, times_without, without_none, below_is, below_not}
+use Rattle.crash_core.proofs.FrameLemmas.{times_append, times_steps, below_is, below_not}
 use Rattle.crash_core.proofs.StepLemmas.{IsSeat, seat_at}
 use Rattle.crash_core.proofs.OwnLemmas.{one_at_most, own_grows, words_grow, words_trimmed, stale_cleared, cleared_other, length_only}
 use Rattle.crash_core.proofs.FreshLemmas.{cleared_same}
-use Rattle.crash_core.proofs.CountLemmas.{without_less, block_once}
-use Rattle.crash_core.proofs.BlockLemmas.{superblock_is, walks_first, full_anchored, of_class_same, of_class_other, total_lists}
-use Rattle.crash_core.proofs.StoreLemmas.{span_covers}
+use Rattle.crash_core.proofs.LinkFrameLemmas.{span_covers}
 use Rattle.crash_core.proofs.ShiftLemmas.{shift_step}
 
 -- a member of evenly spaced numbers

@@ -1,12 +1,11 @@
 -- What a step of one seat owes, and that memory and seats then fit together again.
-use Rattle.std.proofs.Common.{◌≡◌, ◌≢◌, ℕ, ◌+◌, ◌<◌, ◌≤◌, List, get_or, set, length, refl, ap, sym, subst, arith}
+use Rattle.std.proofs.Common.{◌≡◌, ◌≢◌, ℕ, ◌+◌, ◌<◌, ◌≤◌, List, get_or, set, length, ap, arith}
 use Rattle.heap_model.specs.Counting.{times, total}
 use Rattle.heap_model.specs.Rest.{list_numbers}
 use Rattle.heap_model.specs.Words.{head_pops}
-use Rattle.crash_core.specs.Memory.{Memory, used, head, anchor, info, next}
-use Rattle.crash_core.specs.View.{Setup, View, Batch, Span, Claim, one_if_some, times_raw, times_classed, times_claimed, times_large, times_block, times_own}
-use Rattle.crash_core.specs.Cells.{Cell}
-use Rattle.crash_core.specs.Sound.{Shape, Tally, tally_of, IsInShape, Each, IsSetUp, HasClaims, ClaimsOf, HasBlocks, BlocksOf, Knows, KnowsWords, HasTickets, Adds, HasLost, stale, times_parked, empties, Good}
+use Rattle.crash_core.specs.Memory.{Memory, used, head, anchor}
+use Rattle.crash_core.specs.View.{Setup, View, Batch, Span, Claim, one_if_some, times_raw, times_classed, times_large, times_block}
+use Rattle.crash_core.specs.Sound.{Shape, tally_of, IsInShape, IsSetUp, ClaimsOf, BlocksOf, Knows, KnowsWords, HasTickets, Adds, HasLost, stale, times_parked, empties, Good}
 use Rattle.crash_core.proofs.TotalLemmas.{total_set, total_same, each_set}
 
 -- what is so of one seat

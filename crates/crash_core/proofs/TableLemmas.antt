@@ -1,11 +1,10 @@
 -- A step as a change of one word of the shared table.
-use Rattle.std.proofs.Common.{◌≡◌, ◌≢◌, ℕ, zero, suc, ◌+◌, ◌-◌, ◌*◌, ◌<◌, ◌≤◌, inl, inr, ◌⊎◌, Bool, true, false, cond, nat_eq, nat_lt, nat_le, ◌&&◌, List, [], ◌∷◌, get_or, set, length, Option, None, Some, refl, ap, sym, subst, ◌∙◌, length-set, eq-eqb, ne_eqb, ltb-true, lt-ltb, le-leb, leb-true, true≢false, arith}
-use Rattle.std.proofs.lemmas.Bool.{cases_eq, cases_lt}
+use Rattle.std.proofs.Common.{◌≡◌, ◌≢◌, ℕ, ◌+◌, ◌*◌, ◌<◌, ◌≤◌, inl, inr, ◌⊎◌, Bool, true, false, cond, nat_lt, nat_le, List, get_or, set, length, refl, ap, sym, ◌∙◌, ltb-true, leb-true, true≢false, arith}
 use Rattle.std.proofs.lemmas.List.{get_or-set_same, get_or-set_other}
 use Rattle.std.proofs.lemmas.Grind.{get_or-set_at}
-use Rattle.heap_model.specs.Geometry.{lists, roots, image_words, start_word, IsReserved, IsFixed, in_header, in_descriptor}
+use Rattle.heap_model.specs.Geometry.{image_words, start_word, IsFixed, in_header, in_descriptor}
 use Rattle.crash_core.specs.Cells.{Cell, used_cell, head_cell, info_cell, anchor_cell, link_cell, root_cell, data_cell, no_cell, same_cell, is_cell, index_of, cell_at}
-use Rattle.crash_core.specs.Memory.{Memory, Place, volatile_at, durable_at, tickets, read, write, with_cell, table_index, table_length, memory_of}
+use Rattle.crash_core.specs.Memory.{Place, volatile_at, durable_at, tickets, write, with_cell, table_index, table_length, memory_of}
 use Rattle.crash_core.proofs.MemoryLemmas.{same-true, same-refl}
 use Rattle.crash_core.proofs.PlaceLemmas.{and_both, cell_at_index, index_within, pick, skip}
 use Rattle.crash_core.proofs.FrameLemmas.{with_other}

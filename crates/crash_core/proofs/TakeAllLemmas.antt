@@ -1,17 +1,17 @@
 -- All free blocks of a superblock are taken into the cache of its class.
-use Rattle.std.proofs.Common.{◌≡◌, ◌≢◌, ℕ, zero, suc, ◌+◌, ◌*◌, ◌<◌, ◌≤◌, inl, inr, ◌⊎◌, Bool, true, false, cond, not, ◌&&◌, nat_eq, nat_lt, List, [], ◌∷◌, get_or, set, length, Option, None, Some, refl, ap, ap₂, sym, subst, ◌∙◌, eq-eqb, ne_eqb, length-set, arith}
+use Rattle.std.proofs.Common.{◌≡◌, ◌≢◌, ℕ, ◌+◌, ◌*◌, ◌<◌, inl, inr, Bool, true, false, cond, ◌&&◌, nat_eq, nat_lt, List, [], get_or, set, length, None, refl, ap, ap₂, sym, subst, ◌∙◌, eq-eqb, ne_eqb, length-set, arith}
 use Rattle.std.proofs.lemmas.Bool.{cases_eq, cases_lt}
-use Rattle.heap_model.specs.Geometry.{lists, start_word}
-use Rattle.heap_model.specs.Sizes.{IsClass, words_of_class, blocks_of}
-use Rattle.heap_model.specs.Words.{head_pops, anchor_state, anchor_first, anchor_count, empty_state, partial_state, full_state, full_anchor}
+use Rattle.heap_model.specs.Geometry.{start_word}
+use Rattle.heap_model.specs.Sizes.{IsClass, words_of_class}
+use Rattle.heap_model.specs.Words.{anchor_state, anchor_first, anchor_count, empty_state, full_state, full_anchor}
 use Rattle.heap_model.specs.Chains.{Walks}
-use Rattle.heap_model.specs.Counting.{times, total, one_if, below}
-use Rattle.crash_core.specs.Cells.{Cell, anchor_cell, is_cell, superblock_at}
-use Rattle.crash_core.specs.Memory.{Memory, volatile_at, used, durable_used, durable_info, head, anchor, info, link, next, write}
-use Rattle.crash_core.specs.View.{Setup, View, Batch, Claim, Span, Snapshot, Look, one_if_some, of_class, times_own, times_raw, times_classed, times_claimed, times_large, times_block}
-use Rattle.crash_core.specs.Effects.{seen, seen_word, seen_of, steps, chain, first_of, batch_count, trimmed, claim_class, without_claim, won, taken_all, anchored_blocks}
-use Rattle.crash_core.specs.Guards.{IsThere, IsOwn, MayTakeAll}
-use Rattle.crash_core.specs.Sound.{Shape, Tally, tally_of, IsInShape, IsSetUp, IsCutBlock, IsAnchoredBy, AreChained, IsDurable, ClaimsOf, HasClaims, HasBlocks, Knows, KnowsWords, Adds, stale, stale_anchor, differs, times_in_lists, times_parked, times_cut, empties, Good}
+use Rattle.heap_model.specs.Counting.{times, total, one_if}
+use Rattle.crash_core.specs.Cells.{anchor_cell, superblock_at}
+use Rattle.crash_core.specs.Memory.{Memory, volatile_at, anchor, info, next, write}
+use Rattle.crash_core.specs.View.{Setup, View, of_class, times_raw, times_classed, times_large, times_block}
+use Rattle.crash_core.specs.Effects.{seen_word, steps, chain, first_of, claim_class, without_claim, won, taken_all, anchored_blocks}
+use Rattle.crash_core.specs.Guards.{IsThere, MayTakeAll}
+use Rattle.crash_core.specs.Sound.{Shape, Tally, tally_of, IsInShape, IsCutBlock, IsAnchoredBy, AreChained, HasBlocks, times_parked, times_cut, empties, Good}
 use Rattle.crash_core.proofs.TotalLemmas.{total_set, total_same, total_at, total_two, total_alike, eq-eqb-one, ne-eqb-none}
 use Rattle.crash_core.proofs.StepLemmas.{IsSeat, seat_at, good_step}
 use Rattle.crash_core.proofs.OwnLemmas.{won_tickets, length_only}

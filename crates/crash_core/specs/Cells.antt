@@ -1,5 +1,5 @@
 -- The words that steps work on, by what they are, and where each stands in an image. Here alone cells and word indices meet.
-use Rattle.std.specs.Prelude.{ℕ, ◌+◌, ◌-◌, ◌*◌, ◌/◌, ◌%◌, Bool, true, false, ◌&&◌, cond, nat_eq, nat_lt, nat_le}
+use Rattle.std.specs.Prelude.{ℕ, ◌-◌, ◌/◌, ◌%◌, Bool, true, false, ◌&&◌, cond, nat_eq, nat_lt, nat_le}
 use Rattle.heap_model.specs.Geometry.{lists, roots, fixed_words, used_word, head_word, root_word, info_word, anchor_word, link_word, superblock_words, start_word, image_words}
 
 -- a word: the mark of taken superblocks, the head of a list, the info, the anchor or the link of a descriptor, a root, or a word of a superblock by its word index; or none that steps work on

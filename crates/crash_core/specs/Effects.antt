@@ -1,6 +1,6 @@
 -- What each step does: the word that it works on, what it leaves there, and the seat's view after it. A step that compares says both what it does where the word is as it was seen, and what where it is not.
-use Rattle.std.specs.Prelude.{ℕ, zero, suc, ◌+◌, ◌-◌, ◌*◌, ◌/◌, ◌<◌, Bool, true, false, cond, ◌&&◌, nat_eq, nat_le, nat_lt, max, List, [], ◌∷◌, ◌++◌, get_or, set, Option, None, Some}
-use Rattle.heap_model.specs.Geometry.{start_word, superblock_words}
+use Rattle.std.specs.Prelude.{ℕ, zero, suc, ◌+◌, ◌-◌, ◌*◌, ◌/◌, true, false, cond, ◌&&◌, nat_eq, nat_le, nat_lt, max, List, [], ◌∷◌, ◌++◌, set, Option, None, Some}
+use Rattle.heap_model.specs.Geometry.{start_word}
 use Rattle.heap_model.specs.Sizes.{words_of_class, blocks_of}
 use Rattle.heap_model.specs.Words.{head_of, head_first, head_pops, anchor_of, anchor_first, anchor_count, empty_state, partial_state, full_anchor}
 use Rattle.heap_model.specs.Counting.{times, without}
@@ -8,9 +8,9 @@ use Rattle.crash_core.specs.declared.event.Event.{Event}
 use Rattle.crash_core.specs.declared.event.Event.TheVariants.{Tick, Load, Store, Settle, LookUsed, TakeFresh, KeepUsed, LookHead, LookLink, Pop, Push, LookAnchor, TakeAll, Give}
 use Rattle.crash_core.specs.declared.event.Shift.{Shift}
 use Rattle.crash_core.specs.declared.event.Shift.TheVariants.{Cut, Alloc, Free, Lift, Large, Split}
-use Rattle.crash_core.specs.Cells.{Cell, used_cell, head_cell, info_cell, anchor_cell, link_cell, root_cell, data_cell, no_cell, cell_at, index_of, superblock_at, same_cell}
+use Rattle.crash_core.specs.Cells.{Cell, used_cell, head_cell, info_cell, anchor_cell, link_cell, data_cell, cell_at, index_of, superblock_at}
 use Rattle.crash_core.specs.Memory.{Memory, info, next, Place, volatile_at, durable_at, tickets}
-use Rattle.crash_core.specs.View.{View, Claim, Span, Batch, Snapshot, Look, no_batch, of_class, times_own}
+use Rattle.crash_core.specs.View.{View, Claim, Span, Snapshot, Look, no_batch, of_class, times_own}
 
 -- n numbers from one on, a step apart
 abbrev pub steps : ℕ → ℕ → ℕ → List ℕ

@@ -1,13 +1,13 @@
 -- Worked examples by computation: two superblocks, of which the first is in the list of the free ones, and a seat with ticket 3.
-use Rattle.std.specs.Prelude.{◌≡◌, ℕ, ◌+◌, cond, nat_eq, true, List, [], ◌∷◌, replicate, Option, None, Some, refl}
+use Rattle.std.specs.Prelude.{◌≡◌, ℕ, ◌+◌, cond, nat_eq, true, [], ◌∷◌, replicate, None, Some, refl}
 use Rattle.heap_model.specs.Sizes.{class_sizes, words_of_class, blocks_of}
-use Rattle.crash_core.specs.declared.event.Event.TheVariants.{Tick, Load, Store, Settle, LookUsed, TakeFresh, KeepUsed, LookHead, LookLink, Pop, Push, LookAnchor, TakeAll, Give}
-use Rattle.crash_core.specs.declared.event.Shift.TheVariants.{Cut, Alloc, Free, Lift, Large, Split}
+use Rattle.crash_core.specs.declared.event.Event.TheVariants.{Tick, Store, LookUsed, TakeFresh, KeepUsed, LookHead, Pop, Push, Give}
+use Rattle.crash_core.specs.declared.event.Shift.TheVariants.{Large, Split}
 use Rattle.crash_core.specs.Cells.{Cell, used_cell, head_cell, info_cell, anchor_cell, link_cell, root_cell, data_cell, no_cell, cell_at}
-use Rattle.crash_core.specs.Memory.{Memory, volatile_at, durable_at, tickets}
-use Rattle.crash_core.specs.View.{Setup, View, Look, Snapshot, Batch, no_batch, times_own, times_raw}
-use Rattle.crash_core.specs.Effects.{place_of, left_there, view_after, chain, steps}
-use Rattle.crash_core.specs.Steps.{found_by, seat_after}
+use Rattle.crash_core.specs.Memory.{Memory}
+use Rattle.crash_core.specs.View.{Setup, View, Look, no_batch, times_own}
+use Rattle.crash_core.specs.Effects.{left_there, view_after, chain, steps}
+use Rattle.crash_core.specs.Steps.{seat_after}
 
 -- word indices and cells
 pub at_mark : cell_at 2 8 ≡ used_cell

@@ -1,18 +1,18 @@
 -- When a seat may do a step: what its parts and snapshots must be, what the memory must have, and, of a step that compares, that the word is as it was seen.
-use Rattle.std.specs.Prelude.{◌≡◌, ◌≢◌, ℕ, ◌+◌, ◌*◌, ◌<◌, ◌≤◌, ◌⊎◌, true, List, [], ◌∷◌, Option, None, Some, ⊤}
+use Rattle.std.specs.Prelude.{◌≡◌, ◌≢◌, ℕ, ◌+◌, ◌*◌, ◌<◌, ◌≤◌, ◌⊎◌, true, [], Option, None, Some, ⊤}
 use Rattle.heap_model.specs.Geometry.{lists, start_word}
-use Rattle.heap_model.specs.Sizes.{IsClass, words_of_class, blocks_of}
-use Rattle.heap_model.specs.Words.{head_first, anchor_state, anchor_first, anchor_count, empty_state, partial_state, full_state, full_anchor, large_info}
+use Rattle.heap_model.specs.Sizes.{IsClass, words_of_class}
+use Rattle.heap_model.specs.Words.{head_first, anchor_state, anchor_first, anchor_count, empty_state, partial_state, full_anchor, large_info}
 use Rattle.heap_model.specs.Counting.{times, total}
 use Rattle.heap_model.specs.Chains.{Walks}
 use Rattle.crash_core.specs.declared.event.Event.{Event}
 use Rattle.crash_core.specs.declared.event.Event.TheVariants.{Tick, Load, Store, Settle, LookUsed, TakeFresh, KeepUsed, LookHead, LookLink, Pop, Push, LookAnchor, TakeAll, Give}
 use Rattle.crash_core.specs.declared.event.Shift.{Shift}
 use Rattle.crash_core.specs.declared.event.Shift.TheVariants.{Cut, Alloc, Free, Lift, Large, Split}
-use Rattle.crash_core.specs.Cells.{Cell, used_cell, head_cell, info_cell, anchor_cell, link_cell, root_cell, data_cell, no_cell, cell_at, superblock_at}
-use Rattle.crash_core.specs.Memory.{Memory, used, head, info, anchor, link, next, durable_used, durable_info, read}
-use Rattle.crash_core.specs.View.{View, of_class, one_if_some, times_raw, times_classed, times_claimed, times_own}
-use Rattle.crash_core.specs.Effects.{place_of, seen, seen_word, seen_of, claim_class, span_count, class_blocks, first_of, last_of, batch_count}
+use Rattle.crash_core.specs.Cells.{Cell, anchor_cell, link_cell, data_cell, cell_at, superblock_at}
+use Rattle.crash_core.specs.Memory.{Memory, used, head, info, anchor, link, next, durable_used, durable_info}
+use Rattle.crash_core.specs.View.{View, of_class, one_if_some, times_classed, times_claimed, times_own}
+use Rattle.crash_core.specs.Effects.{seen, seen_word, seen_of, claim_class, span_count, class_blocks, first_of, last_of, batch_count}
 
 -- there is a snapshot, a ticket
 abbrev pub IsThere : {A : Type 0} → Option A → Type 0

@@ -6,7 +6,7 @@ use Rattle.heap_model.specs.Sizes.{words_of_class}
 use Rattle.heap_model.specs.Counting.{times}
 use Rattle.heap_model.specs.Image.{Image}
 use Rattle.heap_model.specs.Durability.{NamesAreDurable}
-use Rattle.crash_core.specs.View.{View, Setup, of_class}
+use Rattle.crash_core.specs.View.{View, of_class}
 use Rattle.crash_core.specs.Effects.{span_count}
 
 -- a block that the seat holds

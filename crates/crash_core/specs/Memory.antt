@@ -1,5 +1,5 @@
 -- The memory that seats share: two values of each word, and the ticket word; and how the words of the shared table stand for it.
-use Rattle.std.specs.Prelude.{ℕ, ◌+◌, ◌*◌, ◌&&◌, List, cond, nat_lt, length, get_or}
+use Rattle.std.specs.Prelude.{ℕ, ◌+◌, ◌*◌, List, cond, get_or}
 use Rattle.heap_model.specs.Geometry.{image_words}
 use Rattle.crash_core.specs.Cells.{Cell, used_cell, head_cell, info_cell, anchor_cell, link_cell, data_cell, same_cell, is_cell, index_of}
 

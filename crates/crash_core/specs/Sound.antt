@@ -1,5 +1,5 @@
 -- What is so of memory and seats between any two steps, as records over no more than each reads. "In exactly one place" is a sum over lists, seats and the superblocks that are full in no list.
-use Rattle.std.specs.Prelude.{◌≡◌, ◌≢◌, ℕ, ◌+◌, ◌*◌, ◌<◌, ◌≤◌, ◌⊎◌, ◌↔◌, Bool, true, not, ◌&&◌, nat_eq, nat_le, nat_lt, List, [], ◌∷◌, length, get_or, Contains, Option, None, Some, slice_index}
+use Rattle.std.specs.Prelude.{◌≡◌, ◌≢◌, ℕ, ◌+◌, ◌*◌, ◌<◌, ◌≤◌, ◌⊎◌, ◌↔◌, true, not, ◌&&◌, nat_eq, nat_lt, List, [], ◌∷◌, length, get_or, Contains, Option, None, Some, slice_index}
 use Rattle.heap_model.specs.Geometry.{lists, start_word, image_words, largest_capacity, capacity_word, used_word, IsFixed}
 use Rattle.heap_model.specs.Sizes.{IsClass, words_of_class, blocks_of}
 use Rattle.heap_model.specs.Words.{head_first, head_pops, anchor_state, anchor_first, anchor_count, empty_state, partial_state, full_state, full_anchor, large_info}
@@ -8,7 +8,7 @@ use Rattle.heap_model.specs.Rest.{list_numbers}
 use Rattle.heap_model.specs.Chains.{Follows, Walks}
 use Rattle.crash_core.specs.Cells.{Cell, anchor_cell, link_cell, is_cell, superblock_at}
 use Rattle.crash_core.specs.Memory.{Memory, used, head, info, anchor, link, next, durable_used, durable_info, table_length, memory_of}
-use Rattle.crash_core.specs.View.{Setup, View, Claim, Span, Batch, Snapshot, Look, of_class, one_if_some, known, times_raw, times_classed, times_claimed, times_large, times_block, times_own}
+use Rattle.crash_core.specs.View.{Setup, View, Claim, Span, Batch, Snapshot, of_class, one_if_some, known, times_raw, times_classed, times_claimed, times_large, times_block}
 use Rattle.crash_core.specs.Effects.{seen, seen_word, seen_of, claim_class, span_count, first_of, steps, batch_count, before}
 use Rattle.crash_core.specs.Guards.{IsThere, IsOwn}
 

@@ -2,9 +2,11 @@
 #![tactic(auto)]
 
 mod event;
+mod heads;
 mod laws;
 
 pub use event::{Event, Shift};
+pub use heads::{head_after_pop, head_after_push};
 pub use laws::{
     a_word_is_own_to_at_most_one_seat, an_opened_heap_is_sound,
     every_list_of_events_keeps_the_heap_sound, every_step_keeps_the_heap_sound,

@@ -1,4 +1,3 @@
-use Rattle.heap_model.specs.Geometry.{capacity_word}
 use Rattle.crash_core.specs.Opening.{setup_of, opened_state}
 use Rattle.crash_core.proofs.OpenedLemmas.{opened}
 use Rattle.crash_core.proofs.SoundLemmas.{sound_runs}
