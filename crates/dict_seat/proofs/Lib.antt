@@ -8,6 +8,7 @@ pub mod GrownLemmas
 pub mod MapPublishLemmas
 pub mod PublishLemmas
 pub mod QuietLemmas
+pub mod SearchLemmas
 pub mod TrailLemmas
 pub mod UnreachedLemmas
 pub mod WalkLemmas

@@ -2,6 +2,7 @@
 #![tactic(auto)]
 
 mod removal;
+mod search;
 mod walk;
 
 /// A shard of the dictionary, by its number: root number `number` leads to its table.

@@ -113,6 +113,13 @@ pub(crate) fn walk<H: HeapSeat>(
     }
 }
 
+/// The shard of a key, which is also the number of its root.
+pub(crate) fn shard_of(key: u64) -> u64
+    ensures { result ≡ shard_of key }
+{
+    key % SHARDS
+}
+
 /// The bucket of a key: the word of its shard's table that leads to its nodes.
 pub(crate) fn bucket_of(key: u64) -> u64
     ensures { result ≡ bucket_of key }
