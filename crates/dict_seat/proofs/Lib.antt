@@ -1,3 +1,4 @@
+pub mod DelLemmas
 pub mod RemovalLemmas
 pub mod ChangeLemmas
 pub mod DeleteLemmas

@@ -1,3 +1,4 @@
+pub mod Answers
 pub mod Removal
 pub mod Changes
 pub mod Maps

@@ -3,10 +3,7 @@
 
 mod removal;
 mod search;
+mod shard;
 mod walk;
 
-/// A shard of the dictionary, by its number: root number `number` leads to its table.
-pub struct Shard {
-    /// Which of the eight shards it is.
-    pub number: u64,
-}
+pub use shard::Shard;

@@ -14,6 +14,7 @@ use heap_seat::{HeapSeat, Spot};
 use line_memory::Stopped;
 
 /// Where the search for a key ends.
+#[derive(Clone, Copy)]
 pub(crate) enum SearchEnd {
     /// The shard has no table.
     NoTable,

@@ -1,0 +1,107 @@
+-- How a delete's search and its removal go together.
+use Rattle.std.proofs.Common.{◌≡◌, ◌≢◌, ℕ, ◌+◌, ◌*◌, ◌<◌, ◌≤◌, ◌↔◌, inl, inr, List, [], ◌∷◌, ◌++◌, length, Option, None, Some, Contains, Bool, true, false, IsTrue, cond, refl, ap, subst, sym, ◌∙◌, arith, rules}
+use Rattle.std.specs.Prelude.{nat_eq}
+use Rattle.std.proofs.lemmas.Bool.{cases_eq, cond-true, cond-false, eq-eqb, ne_eqb}
+use Rattle.std.proofs.lemmas.List.Elements.{Contains-append_left, Contains-append_right}
+use Rattle.heap_model.specs.declared.block.Block.{Block}
+use Rattle.heap_model.proofs.MemberLemmas.{in_head}
+use Rattle.heap_seat.specs.View.{View, word_of}
+use Rattle.heap_seat.specs.Words.{IsOwn, in_block, KeepsOwn}
+use Rattle.heap_seat.specs.Tickets.{Runs}
+use Rattle.heap_seat.specs.Rows.{IsRow}
+use Rattle.heap_seat.specs.Calls.{SameRefusals}
+use Rattle.heap_seat.specs.Sound.{IsSeat}
+use Rattle.heap_seat.proofs.RowLemmas.{row_then, row_more, runs_then}
+use Rattle.dict_model.specs.Nodes.{buckets, shard_of, bucket_of, key_in, value_in, find}
+use Rattle.dict_model.specs.Requests.{without_key}
+use Rattle.dict_model.specs.Shards.{Map, LeadsTo, IsPath, but}
+use Rattle.dict_model.proofs.ChainLemmas.{found_in}
+use Rattle.dict_seat.specs.declared.walk.Place.{Place}
+use Rattle.dict_seat.specs.declared.search.SearchEnd.{SearchEnd}
+use Rattle.dict_seat.specs.declared.search.SearchEnd.TheVariants.{NoTable, Missing, Found}
+use Rattle.dict_seat.specs.Maps.{Gives}
+use Rattle.dict_seat.specs.Trails.{IsSettling}
+use Rattle.dict_seat.specs.Walks.{IsFound, ListsKeys, IsQuietWalk}
+use Rattle.dict_seat.specs.Searches.{Searches}
+use Rattle.dict_seat.specs.Changes.{MayChange, Changes}
+use Rattle.dict_seat.specs.Removal.{IsShard}
+use Rattle.dict_seat.specs.Answers.{Deletes, MakesFew}
+use Rattle.dict_seat.proofs.GrownLemmas.{Grown, grown_keeps, gives_grown, only_grown}
+use Rattle.dict_seat.proofs.TrailLemmas.{now_image, now_completes, settling_in, is_along, found_at, bucket_below}
+use Rattle.dict_seat.proofs.RemovalLemmas.{found_held}
+use Rattle.dict_seat.proofs.CountLemmas.{lists_later}
+use Rattle.dict_seat.proofs.ChangeLemmas.{change_after, changes_after}
+
+-- maps with the same values are one
+pub gives_same : (v : View) (shard : ℕ) (a b : Map) → ((q : ℕ) → a q ≡ b q) → Gives v shard a → Gives v shard b
+gives_same v shard a b same gives = subst (Gives v shard) (one a b same) gives where
+  one : (a b : Map) → ((q : ℕ) → a q ≡ b q) → a ≡ b
+  one a b same i q = same q i
+
+-- without a key that it hasn't the map is the same
+pub without_missing : (map : Map) (key : ℕ) → map key ≡ None → (q : ℕ) → map q ≡ without_key map key q
+without_missing map key none q = elim (cases_eq key q) as (λ _. map q ≡ without_key map key q) [
+  | inl same ↦ subst (λ k. map k ≡ None) same none ∙ sym (cond-true (nat_eq key q) None (map q) (eq-eqb key q same))
+  | inr other ↦ sym (cond-false (nat_eq key q) None (map q) (ne_eqb key q other))
+]
+
+-- the map has a key whose node was found
+pub found_has : (w : View) (key : ℕ) (place : Place) → IsSeat w → IsFound w key place → (map : Map) → Gives w (shard_of key) map → map key ≢ None
+found_has w key place seat found map gives none =
+    let image = now_image w in
+    let completes = now_completes w in
+    let node = place.node in
+    let k = bucket_of key in
+    let along = is_along IsSettling w image seat (shard_of key) key map found.table (found.before ++ (node ∷ [])) (settling_in w image completes) found.come (gives.each image completes.mixes) in
+    let path : IsPath (but found.table (LeadsTo (Contains w.held))) image (shard_of key) k (found.table.first_word + k) ((found.before ++ (node ∷ [])) ++ along.rest) =
+    subst (λ (bs : List Block). IsPath (but found.table (LeadsTo (Contains w.held))) image (shard_of key) k (found.table.first_word + k) bs) along.is (along.chains k (bucket_below key)).path in
+    let room = found.room in
+    let key_is : key_in image node ≡ key = completes.seen (node.first_word + 1) key
+    (in_block node (node.first_word + 1) (found_held w key place found) (record { from = omega arith; until = omega arith })) found.key_seen in
+    let there = found_in (but found.table (LeadsTo (Contains w.held))) image (shard_of key) k (found.table.first_word + k) ((found.before ++ (node ∷ [])) ++ along.rest) node path
+    (Contains-append_left (found.before ++ (node ∷ [])) along.rest node (Contains-append_right found.before (node ∷ []) node (in_head node []))) in
+    let has : map key ≡ Some (value_in image node) =
+    found_at map image (shard_of key) key along.nodes along.means refl ∙ ap (λ (bs : List Block). find image key bs) along.is
+    ∙ ap (λ q. find image q ((found.before ++ (node ∷ [])) ++ along.rest)) (sym key_is) ∙ there in
+    let clash : Some (value_in image node) ≡ None = sym has ∙ none in
+    absurd (cc)
+
+-- nothing was found, so nothing was to be done
+pub deletes_nothing : (v w : View) (key : ℕ) → KeepsOwn v w → Runs v w → ((map : Map) → Gives v (shard_of key) map → map key ≡ None) → Deletes key false v w
+deletes_nothing v w key keeps runs none = record {
+  runs = runs;
+  gives = λ map gives.
+      gives_same w (shard_of key) map (without_key map key) (without_missing map key (none map gives)) (gives_grown v w (grown_keeps v w keeps) (shard_of key) map gives);
+  tells = λ map gives. ((λ yes. absurd (search rules)), λ has. absurd (has (none map gives)));
+}
+
+-- the node was found, and removed
+pub deletes_node : (v u w : View) (key : ℕ) (place : Place) → IsSeat u → KeepsOwn v u → Runs v u → IsFound u key place
+    → Changes (shard_of key) (λ map. without_key map key) u w → Runs u w → Deletes key true v w
+deletes_node v u w key place seat keeps runs found changes runs' =
+    let grown = grown_keeps v u keeps in
+    record {
+      runs = runs_then v u w runs runs';
+      gives = λ map gives. changes.gives map (gives_grown v u grown (shard_of key) map gives);
+      tells = λ map gives. ((λ yes. found_has u key place seat found map (gives_grown v u grown (shard_of key) map gives)), λ has. search rules);
+    }
+
+-- the shard is a map still after quiet calls
+pub shard_still : (v u : View) (shard : ℕ) → IsSeat u → KeepsOwn v u → IsShard v shard → IsShard u shard
+shard_still v u shard seat keeps is = record {
+  owned = subst (λ (rs : List ℕ). Contains rs shard) (sym keeps.roots) is.owned;
+  only = only_grown v u (grown_keeps v u keeps) seat is.only;
+  map = is.map;
+  gives = gives_grown v u (grown_keeps v u keeps) shard is.map is.gives;
+}
+
+-- the calls of a search, and some more
+pub few_calls : (small large most words shard : ℕ) (v u w : View) → small ≤ 500 + 2 * words → large ≤ 3 → IsQuietWalk 5 shard v u → IsRow small large most u w → MakesFew words most shard v w
+few_calls small large most words shard v u w s l walk row keys lists =
+    let few = walk.few keys lists in
+    row_more (walk.small + small) (0 + large) (0 + most) (512 + 2 * words + 4 * length keys) 3 most v w (omega arith) (omega arith) (omega arith) (row_then walk.small 0 0 small large most v u w walk.quiet.calls row)
+
+pub few_quiet : (words most shard : ℕ) (v u : View) → IsQuietWalk 5 shard v u → MakesFew words most shard v u
+few_quiet words most shard v u walk keys lists =
+    let few = walk.few keys lists in
+    row_more walk.small 0 0 (512 + 2 * words + 4 * length keys) 3 most v u (omega arith) (omega arith) (omega arith) walk.quiet.calls

@@ -1,0 +1,59 @@
+//! The requests to a shard.
+ghost use Rattle.std.specs.Prelude.{◌≡◌, ℕ, ◌<◌, IfOk, IfErr};
+ghost use Rattle.heap_seat.specs.View.{View};
+ghost use Rattle.heap_seat.specs.Tickets.{Stops};
+ghost use Rattle.heap_seat.specs.Calls.{SameRefusals};
+ghost use Rattle.dict_model.specs.Nodes.{shard_of};
+ghost use Rattle.dict_model.specs.Requests.{without_key};
+ghost use Rattle.dict_model.specs.Shards.{Map};
+ghost use Rattle.dict_seat.specs.Changes.{MayChange};
+ghost use Rattle.dict_seat.specs.Removal.{IsShard};
+ghost use Rattle.dict_seat.specs.Answers.{Deletes, MakesFew};
+
+use crate::removal::remove;
+use crate::search::{SearchEnd, search};
+use heap_seat::HeapSeat;
+use line_memory::Stopped;
+
+/// A shard of the dictionary, by its number: root number `number` leads to its table.
+pub struct Shard {
+    /// Which of the eight shards it is.
+    pub number: u64,
+}
+
+impl Shard {
+    /// The shard of this number.
+    pub fn at(number: u64) -> Shard
+        requires { number < 8 }
+        ensures { result.number ≡ number }
+    {
+        Shard { number }
+    }
+
+    /// Takes a key out; the answer is whether it was there.
+    ///
+    /// After `Stopped` a crash leaves the map with the key or without it.
+    pub fn del<H: HeapSeat>(&mut self, seat: &mut H, key: u64) -> Result<bool, Stopped>
+        requires key { shard_of key ≡ self.old.number }
+        requires shard { IsShard (H.view seat.old) (shard_of key) }
+        ensures ok { IfOk result (λ found. Deletes key found
+            (H.view seat.old) (H.view seat.new)) }
+        ensures cause { IfErr result (λ e. Stops e.step (H.view seat.old) (H.view seat.new)) }
+
+        // At every exit.
+        ensures crash { MayChange (shard_of key) (λ map. without_key map key)
+            (H.view seat.old) (H.view seat.new) }
+        ensures calls { MakesFew 0 0 (shard_of key) (H.view seat.old) (H.view seat.new) }
+        ensures refusals { SameRefusals (H.view seat.old) (H.view seat.new) }
+        ensures kept { H.keeps seat.old seat.new }
+    {
+        match search(seat, key)? {
+            SearchEnd::Found(place) => {
+                remove(seat, key, place)?;
+                Ok(true)
+            }
+            SearchEnd::Missing(_) => Ok(false),
+            SearchEnd::NoTable => Ok(false),
+        }
+    }
+}
