@@ -4,7 +4,7 @@ use Rattle.tool_ports.specs.Causes.{Rose}
 use Rattle.tool_ports.specs.Contents.{Contents}
 use Rattle.tool_run.specs.Command.{Command, image_name}
 use Rattle.tool_run.specs.declared.fault.Fault.{Fault}
-use Rattle.tool_run.specs.declared.fault.Fault.TheVariants.{Usage, Memory, ReadFault, WriteFault, Absent, Malformed, Outside}
+use Rattle.tool_run.specs.declared.fault.Fault.TheVariants.{Usage, Memory, ReadFault, WriteFault, Absent, Malformed, Outside, BadShard}
 use Rattle.tool_run.specs.Inside.{DeliveryFails, IsStopped, Refuses}
 use Rattle.tool_run.specs.Making.{Makes, Gets}
 use Rattle.tool_run.specs.Outcome.{IsCutOff, while_putting, while_printing}
@@ -29,6 +29,7 @@ wider_failure name text old new A A' B taken taken' image to ReadFault h = h
 wider_failure name text old new A A' B taken taken' image to Absent h = h
 wider_failure name text old new A A' B taken taken' image to (Malformed cause) h = h
 wider_failure name text old new A A' B taken taken' image to (Outside at value) h = h
+wider_failure name text old new A A' B taken taken' image to (BadShard shard at) h = h
 
 pub stops_at_delivery : (command : Command) (name text : List ℕ) (image : Option (List ℕ)) (old mid new : Contents) (first second third : ℕ) (print_failed : Type 0) (taken taken' : Option (List ℕ)) (fault : Fault)
     → Makes command old image text → name ≡ image_name command → mid ≡ old → first ≤ second

@@ -9,7 +9,7 @@ use Rattle.heap_model.specs.Recovered.{IsDrained}
 use Rattle.heap_model.specs.Recovery.{in_header}
 use Rattle.heap_model.proofs.HeaderLemmas.{well_formed}
 use Rattle.heap_model.proofs.ReachLemmas.{reached_block}
-use Rattle.dictionary.specs.DictLinks.{dict_links, root_kinds}
+use Rattle.dict_model.specs.Links.{dict_links, root_kind}
 use Rattle.heap_shape.specs.Draining.{IsDrainable, IsToDrain}
 use Rattle.heap_shape.proofs.RecoveredLemmas.{recovered_drainable, recovered_drains}
 use Rattle.heap_recover.specs.declared.answer.Recovered.{Recovered}
@@ -28,7 +28,7 @@ module _ (contents : Contents) (name : List ℕ) (recovered : Recovered) (is : I
   held_are b = (is.is.recovers.held_are.sound b, is.is.recovers.held_are.complete b)
 
   named : (b : Block) → IsKept image b → IsBlock (layout_of image) b
-  named b kept = reached_block image (slice_index root_kinds) dict_links b kept.kind kept.reach
+  named b kept = reached_block image root_kind dict_links b kept.kind kept.reach
 
   small : capacity_of image ≤ largest_capacity
   small = (well_formed _ image is.good).small

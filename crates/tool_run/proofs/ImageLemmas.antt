@@ -29,7 +29,12 @@ use Rattle.tool_run.specs.Calls.{get_limit}
 use Rattle.tool_run.specs.Command.{Command, image_name}
 use Rattle.tool_run.specs.Inside.{Refuses, fault_of_recovery, fault_of_get}
 use Rattle.tool_run.specs.Making.{Gets, fault_of, Shows, IsMalformed, HasOutside, PointsOutside, shown_text}
-use Rattle.tool_run.specs.Recovering.{IsRecovered, IsRecoveryOf, IsRecoveryFault, text_of}
+use Rattle.tool_run.specs.Recovering.{IsRecovered, IsRecoveryOf, IsRecoveryFault, IsTextOf, text_of}
+use Rattle.std.specs.BTreeMap.{BTreeMap}
+use Rattle.heap_model.specs.Rest.{IsReady}
+use Rattle.dict_model.specs.Links.{shards}
+use Rattle.dictionary.specs.Reading.{AreMaps}
+use Rattle.tool_run.proofs.MapLemmas.{maps_of_image}
 
 -- as many first bytes under another name
 pub first_limited : (contents : Contents) (name got : List ℕ) (most : ℕ) → most ≡ get_limit → HoldsFirst contents name most got → HoldsFirst contents name get_limit got
@@ -145,13 +150,13 @@ same_test Clean m n is = sym (eq-eqb m n (is.0 refl))
 same_test Dirty m n is = sym (ne_eqb m n (λ e. let yes : Dirty ≡ Clean = is.1 e in absurd (cc)))
 
 -- the text on a recovered heap is that on the image
-same_text : (image : Image) (recovered : Recovered) (with_map : Bool) → IsRecoveryOf image recovered
-    → text_of recovered with_map ≡ shown_text image with_map recovered.heap.held recovered.free.items (slice_index recovered.heap.words)
-same_text image recovered with_map is =
+same_text : (image : Image) (recovered : Recovered) (keys : List ℕ) (with_map : Bool) → IsRecoveryOf image recovered
+    → text_of recovered keys with_map ≡ shown_text image with_map keys recovered.heap.held recovered.free.items (slice_index recovered.heap.words)
+same_text image recovered keys with_map is =
     let capacity : slice_index recovered.heap.words capacity_word ≡ image capacity_word = is.recovers.words_are.same capacity_word (in_header capacity_word (inr (inr (inl refl)))) in
     let state : is_clean recovered.was ≡ nat_eq (state_of image) clean = same_test recovered.was (state_of image) clean is.was in
-    ap (λ n. report_of n (is_clean recovered.was) [] recovered.heap.held ++ (if with_map then map_of (slice_index recovered.heap.words) recovered.heap.held recovered.free.items else [])) capacity
-    ∙ ap (λ b. report_of (capacity_of image) b [] recovered.heap.held ++ (if with_map then map_of (slice_index recovered.heap.words) recovered.heap.held recovered.free.items else [])) state
+    ap (λ n. report_of n (is_clean recovered.was) keys recovered.heap.held ++ (if with_map then map_of (slice_index recovered.heap.words) recovered.heap.held recovered.free.items else [])) capacity
+    ∙ ap (λ b. report_of (capacity_of image) b keys recovered.heap.held ++ (if with_map then map_of (slice_index recovered.heap.words) recovered.heap.held recovered.free.items else [])) state
 
 -- an image that was recovered
 pub is_recovered : (contents : Contents) (name got shown : List ℕ) (recovered : Recovered) → IsWhole contents name got → shown ≡ got
@@ -165,9 +170,10 @@ is_recovered contents name got shown recovered whole are is inside = record {
 }
 
 -- the report on it
-pub shows : (contents : Contents) (name text : List ℕ) (with_map : Bool) (recovered : Recovered) → IsRecovered contents name recovered
-    → text ≡ text_of recovered with_map → Shows contents name with_map text
-shows contents name text with_map recovered is text_is = record {
+pub shows : (contents : Contents) (name text : List ℕ) (maps : List (BTreeMap ℕ (List ℕ))) (with_map : Bool) (recovered : Recovered) → IsRecovered contents name recovered
+    → IsReady recovered.heap.words recovered.heap.held → AreMaps (slice_index recovered.heap.words) shards maps
+    → IsTextOf recovered maps with_map text → Shows contents name with_map text
+shows contents name text maps with_map recovered is ready are text_is = record {
   bytes = is.bytes;
   is_there = is.is_there;
   good = is.good;
@@ -176,7 +182,11 @@ shows contents name text with_map recovered is text_is = record {
   free = recovered.free.items;
   words = slice_index recovered.heap.words;
   recovered = is.is.recovers;
-  text_is = text_is ∙ same_text (image_of_bytes is.bytes) recovered with_map is.is;
+  maps = maps;
+  maps_are = maps_of_image contents name recovered is ready maps are;
+  keys = text_is.keys;
+  keys_are = text_is.keys_are;
+  text_is = text_is.is ∙ same_text (image_of_bytes is.bytes) recovered text_is.keys with_map is.is;
 }
 
 -- the cause of a bad header, where a command gets the image

@@ -9,3 +9,6 @@ pub mod WordLemmas
 pub mod CallLemmas
 pub mod StatusLemmas
 pub mod OutsideLemmas
+pub mod BadShardLemmas
+pub mod CompleteLemmas
+pub mod MapLemmas

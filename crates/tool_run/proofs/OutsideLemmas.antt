@@ -4,7 +4,7 @@ use Rattle.tool_ports.specs.Contents.{Contents, Holds, told_of}
 use Rattle.heap_model.specs.Image.{image_of_bytes}
 use Rattle.tool_run.specs.Command.{Command, format_image, show_image, drain_image, image_name, Asks}
 use Rattle.tool_run.specs.declared.fault.Fault.{Fault}
-use Rattle.tool_run.specs.declared.fault.Fault.TheVariants.{Usage, Memory, ReadFault, WriteFault, Absent, Malformed, Outside}
+use Rattle.tool_run.specs.declared.fault.Fault.TheVariants.{Usage, Memory, ReadFault, WriteFault, Absent, Malformed, Outside, BadShard}
 use Rattle.tool_run.specs.Examples.{one_command}
 use Rattle.tool_run.specs.Inside.{Refuses, IsCarriedOut, IsStopped, status_of}
 use Rattle.tool_run.specs.Making.{Makes, Gets, PointsOutside, fault_of}
@@ -12,12 +12,12 @@ use Rattle.tool_run.specs.Outcome.{AsksToGet, HoldsOutside}
 use Rattle.tool_run.specs.Status.{out_of_memory, read_fault, outside}
 
 -- what holds where the store tells of a name, holds of what it tells
-of_told : (P : Option (List ℕ) → Type 0) (contents : Contents) (n name : List ℕ) (image : Option (List ℕ)) → n ≡ name
+pub of_told : (P : Option (List ℕ) → Type 0) (contents : Contents) (n name : List ℕ) (image : Option (List ℕ)) → n ≡ name
     → IfSome (told_of contents n) P → told_of contents name ≡ Some image → P image
 of_told P contents n name image named holds told =
     subst (λ (o : Option (Option (List ℕ))). IfSome o P) told (subst (λ (m : List ℕ). IfSome (told_of contents m) P) named holds)
 
-same_bytes : (contents : Contents) (n name a b : List ℕ) → n ≡ name → Holds contents n a → told_of contents name ≡ Some (Some b) → a ≡ b
+pub same_bytes : (contents : Contents) (n name a b : List ℕ) → n ≡ name → Holds contents n a → told_of contents name ≡ Some (Some b) → a ≡ b
 same_bytes contents n name a b named holds told =
     let same : Some b ≡ Some a = of_told (λ image. image ≡ Some a) contents n name (Some b) named holds told in cc
 
@@ -48,6 +48,9 @@ refused command contents name at get_failed status (Malformed cause) named has i
     let bad : fault_of has.bytes ≡ Some cause = subst (λ (l : List ℕ). fault_of l ≡ Some cause) same why.1.fault in
     let good : fault_of has.bytes ≡ None = has.good in
     absurd (cc)
+refused command contents name at get_failed status (BadShard shard place) named has is why =
+    let same : why.1.bytes ≡ has.bytes = same_bytes contents (image_name command) name why.1.bytes has.bytes named why.1.is_there has.held in
+    absurd (why.1.inside at (subst (λ (l : List ℕ). PointsOutside (image_of_bytes l) at) (sym same) has.points))
 refused command contents name at get_failed status (Outside place value) named has is why = inl is
 
 -- a command that gets such an image makes nothing

@@ -1,5 +1,5 @@
 -- What recovery of an image's words says of its bytes.
-use Rattle.std.proofs.Common.{◌≡◌, ◌↔◌, ℕ, ◌-◌, ◌*◌, ◌<◌, List, length, slice_index, slice_index_or, replicate, Result, Ok, Err, Some, None, IfOk, IfErr, OnOk, inl, inr, sym, ◌∙◌, subst, arith}
+use Rattle.std.proofs.Common.{◌≡◌, ◌↔◌, ℕ, ◌*◌, List, length, slice_index, Result, Ok, Err, Some, None, IfOk, IfErr, OnOk, sym, ◌∙◌, subst}
 use Rattle.heap_model.specs.declared.block.Block.{Block}
 use Rattle.heap_model.specs.Geometry.{clean}
 use Rattle.heap_model.specs.Image.{Image, image_of_bytes}
@@ -9,7 +9,7 @@ use Rattle.heap_model.specs.Reach.{IsReached, IsOutside}
 use Rattle.heap_model.specs.Recovered.{IsFreeSuperblock, AreAscending}
 use Rattle.heap_model.specs.Recovery.{IsRecovered}
 use Rattle.heap_model.proofs.HeaderLemmas.{no_fault}
-use Rattle.dictionary.specs.DictLinks.{dict_links, root_kinds}
+use Rattle.dict_model.specs.Links.{dict_links, root_kind}
 use Rattle.region_header.specs.Words.{AreWordsOf}
 use Rattle.heap_recover.specs.Fault.{TellsFault}
 use Rattle.heap_recover.specs.declared.answer.Recovered.{Recovered}
@@ -31,7 +31,7 @@ RecoversWith image kinds answer =
     × IsRecovered image (slice_index answer.heap.words) (IsReached image kinds dict_links)
     × ((answer.was ≡ Clean) ↔ (state_of image ≡ clean))
 
-module _ (words kinds bytes : List ℕ) (kinds_are : kinds ≡ root_kinds) (of : AreWordsOf words bytes) where
+module _ (words kinds bytes : List ℕ) (kinds_are : (i : ℕ) → slice_index kinds i ≡ root_kind i) (of : AreWordsOf words bytes) where
   -- the heap is what recovery of the bytes gives
   pub recovery_of : (result : Result Recovered RecoverFault)
       → IfOk result (λ answer. AreAscending (λ (b : Block). b.first_word) (IsReached (slice_index words) (slice_index kinds) dict_links) answer.heap.held)
@@ -43,14 +43,14 @@ module _ (words kinds bytes : List ℕ) (kinds_are : kinds ≡ root_kinds) (of :
   recovery_of (Err e) held free left was = tt
   recovery_of (Ok answer) held free left was =
       let here : RecoversWith (slice_index words) (slice_index kinds) answer = (held, free, left, was) in
-      let kinds_same : RecoversWith (slice_index words) (slice_index root_kinds) answer = subst (λ (ks : List ℕ). RecoversWith (slice_index words) (slice_index ks) answer) kinds_are here in
-      let there : RecoversWith (image_of_bytes bytes) (slice_index root_kinds) answer = subst (λ (image : Image). RecoversWith image (slice_index root_kinds) answer) (words_are words bytes of) kinds_same in
+      let kinds_same : RecoversWith (slice_index words) root_kind answer = subst (λ (ks : ℕ → ℕ). RecoversWith (slice_index words) ks answer) (λ i at. kinds_are at i) here in
+      let there : RecoversWith (image_of_bytes bytes) root_kind answer = subst (λ (image : Image). RecoversWith image root_kind answer) (words_are words bytes of) kinds_same in
       record { recovers = record { held_are = there.0; free_are = there.1; words_are = there.2 }; was = there.3 }
 
   -- what points outside in the bytes does so in the words
   outside_words : (at : ℕ) → PointsOutside (image_of_bytes bytes) at → IsOutside (slice_index words) (slice_index kinds) dict_links at
   outside_words at points =
-      let kinds_same : IsOutside (image_of_bytes bytes) (slice_index kinds) dict_links at = subst (λ (ks : List ℕ). IsOutside (image_of_bytes bytes) (slice_index ks) dict_links at) (sym kinds_are) points in
+      let kinds_same : IsOutside (image_of_bytes bytes) (slice_index kinds) dict_links at = subst (λ (ks : ℕ → ℕ). IsOutside (image_of_bytes bytes) ks dict_links at) (λ i w. sym (kinds_are w) i) points in
       subst (λ (image : Image). IsOutside image (slice_index kinds) dict_links at) (sym (words_are words bytes of)) kinds_same
 
   pub none_outside : (result : Result Recovered RecoverFault) → OnOk result ((at : ℕ) → IsOutside (slice_index words) (slice_index kinds) dict_links at → ⊥)
@@ -69,6 +69,6 @@ module _ (words kinds bytes : List ℕ) (kinds_are : kinds ≡ root_kinds) (of :
       let same : header_fault (length bytes) (image_of_bytes bytes) ≡ Some cause = subst (λ n. header_fault n (image_of_bytes bytes) ≡ Some cause) of.count some in
       absurd (cc)
   recovery_fault (Err (Outside at value)) good why =
-      let kinds_same : IsOutside (slice_index words) (slice_index root_kinds) dict_links at = subst (λ (ks : List ℕ). IsOutside (slice_index words) (slice_index ks) dict_links at) kinds_are why.1 in
-      let there : PointsOutside (image_of_bytes bytes) at = subst (λ (image : Image). IsOutside image (slice_index root_kinds) dict_links at) (words_are words bytes of) kinds_same in
+      let kinds_same : IsOutside (slice_index words) root_kind dict_links at = subst (λ (ks : ℕ → ℕ). IsOutside (slice_index words) ks dict_links at) (λ i w. kinds_are w i) why.1 in
+      let there : PointsOutside (image_of_bytes bytes) at = subst (λ (image : Image). IsOutside image root_kind dict_links at) (words_are words bytes of) kinds_same in
       (there, why.2 ∙ of.word at)

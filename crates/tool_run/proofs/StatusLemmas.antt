@@ -5,11 +5,11 @@ use Rattle.tool_ports.specs.Contents.{Contents}
 use Rattle.tool_ports.specs.Taken.{TakesPart}
 use Rattle.tool_run.specs.Command.{Command, image_name, Asks}
 use Rattle.tool_run.specs.declared.fault.Fault.{Fault}
-use Rattle.tool_run.specs.declared.fault.Fault.TheVariants.{Usage, Memory, ReadFault, WriteFault, Absent, Malformed, Outside}
+use Rattle.tool_run.specs.declared.fault.Fault.TheVariants.{Usage, Memory, ReadFault, WriteFault, Absent, Malformed, Outside, BadShard}
 use Rattle.tool_run.specs.Inside.{IsStopped, status_of, line_of}
 use Rattle.tool_run.specs.Lines.{Tells}
-use Rattle.tool_run.specs.Outcome.{AsksToGet, IsWriteFault, IsBadHeader, IsOutsideAt}
-use Rattle.tool_run.specs.Status.{statuses, read_fault, write_fault, bad_header, outside}
+use Rattle.tool_run.specs.Outcome.{AsksToGet, IsWriteFault, IsBadHeader, IsOutsideAt, IsBadShardAt}
+use Rattle.tool_run.specs.Status.{statuses, read_fault, write_fault, bad_header, outside, bad_shard}
 use Rattle.tool_run.proofs.CallLemmas.{rose_since}
 
 -- a fault has a status
@@ -21,6 +21,7 @@ has_status WriteFault status is = rw is (4, lit< tt, refl)
 has_status Absent status is = rw is (5, lit< tt, refl)
 has_status (Malformed cause) status is = rw is (6, lit< tt, refl)
 has_status (Outside at value) status is = rw is (7, lit< tt, refl)
+has_status (BadShard shard at) status is = rw is (8, lit< tt, refl)
 
 -- a line that tells, where the count is compared with an earlier one and what was taken goes by another name
 pub tells_since : (line : List ℕ) (first second third : ℕ) (taken mid new : Option (List ℕ)) → first ≤ second → mid ≡ taken → Tells line second third mid new → Tells line first third taken new
@@ -43,6 +44,7 @@ module _ (words : List (List ℕ)) (command : Command) (old new : Contents) (sto
   is_read_fault Absent stopped is four = absurd (omega arith)
   is_read_fault (Malformed cause) stopped is four = absurd (omega arith)
   is_read_fault (Outside at value) stopped is four = absurd (omega arith)
+  is_read_fault (BadShard shard at) stopped is four = absurd (omega arith)
 
   -- the result was cut off
   pub is_write_fault : (fault : Fault) (name : List ℕ) → IsStopped command old new store_failed (Rose first second) taken mid fault → status ≡ status_of fault
@@ -69,6 +71,7 @@ module _ (words : List (List ℕ)) (command : Command) (old new : Contents) (sto
   is_write_fault Absent name stopped is told five = absurd (omega arith)
   is_write_fault (Malformed cause) name stopped is told five = absurd (omega arith)
   is_write_fault (Outside at value) name stopped is told five = absurd (omega arith)
+  is_write_fault (BadShard shard at) name stopped is told five = absurd (omega arith)
 
   -- the image has a malformed header
   pub is_bad_header : (fault : Fault) (name : List ℕ) → IsStopped command old new store_failed (Rose first second) taken mid fault → status ≡ status_of fault
@@ -90,6 +93,7 @@ module _ (words : List (List ℕ)) (command : Command) (old new : Contents) (sto
   is_bad_header WriteFault name stopped is told seven = absurd (omega arith)
   is_bad_header Absent name stopped is told seven = absurd (omega arith)
   is_bad_header (Outside at value) name stopped is told seven = absurd (omega arith)
+  is_bad_header (BadShard shard at) name stopped is told seven = absurd (omega arith)
 
   -- a word of the image points outside
   pub is_outside : (fault : Fault) (name : List ℕ) → IsStopped command old new store_failed (Rose first second) taken mid fault → status ≡ status_of fault
@@ -112,3 +116,27 @@ module _ (words : List (List ℕ)) (command : Command) (old new : Contents) (sto
   is_outside WriteFault name stopped is told eight = absurd (omega arith)
   is_outside Absent name stopped is told eight = absurd (omega arith)
   is_outside (Malformed cause) name stopped is told eight = absurd (omega arith)
+  is_outside (BadShard shard at) name stopped is told eight = absurd (omega arith)
+
+  -- a shard of the image has no map
+  pub is_bad_shard : (fault : Fault) (name : List ℕ) → IsStopped command old new store_failed (Rose first second) taken mid fault → status ≡ status_of fault
+      → Tells (line_of fault name) second third mid final
+      → status ≡ bad_shard → IsBadShardAt words old (λ line. Tells line first third taken final)
+  is_bad_shard (BadShard shard at) name stopped is told nine = elim stopped.cause [
+    | inl (why, same) ↦ record {
+      name = image_name command;
+      asks = record { command = command; asked = asked; reads = why.0; is_named = refl };
+      shard = shard;
+      at = at;
+      has = why.1;
+      told = tells_since (line_of (BadShard shard at) name) first second third taken mid final low same.sink told;
+    }
+    | inr (image, text, made, why) ↦ absurd why
+  ]
+  is_bad_shard Usage name stopped is told nine = absurd (omega arith)
+  is_bad_shard Memory name stopped is told nine = absurd (omega arith)
+  is_bad_shard ReadFault name stopped is told nine = absurd (omega arith)
+  is_bad_shard WriteFault name stopped is told nine = absurd (omega arith)
+  is_bad_shard Absent name stopped is told nine = absurd (omega arith)
+  is_bad_shard (Malformed cause) name stopped is told nine = absurd (omega arith)
+  is_bad_shard (Outside at value) name stopped is told nine = absurd (omega arith)

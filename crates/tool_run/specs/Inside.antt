@@ -11,12 +11,14 @@ use Rattle.tool_ports.specs.Taken.{taken_with}
 use Rattle.tool_run.specs.declared.command.Invocation.{Invocation}
 use Rattle.tool_run.specs.declared.command.Invocation.TheVariants.{Format, Show, Drain}
 use Rattle.tool_run.specs.declared.fault.Fault.{Fault}
-use Rattle.tool_run.specs.declared.fault.Fault.TheVariants.{Usage, Memory, ReadFault, WriteFault, Absent, Malformed, Outside}
+use Rattle.tool_run.specs.declared.fault.Fault.TheVariants.{Usage, Memory, ReadFault, WriteFault, Absent, Malformed, Outside, BadShard}
+use Rattle.dictionary.specs.declared.fault.MapFault.{MapFault}
+use Rattle.dictionary.specs.declared.fault.MapFault.TheVariants.{BadShard as NoMap, Memory as MapMemory}
 use Rattle.tool_run.specs.Command.{Command, format_image, show_image, drain_image, image_name}
-use Rattle.tool_run.specs.Lines.{usage_line, memory_line, read_line, write_line, no_image_line, bad_header_line, outside_line}
-use Rattle.tool_run.specs.Making.{Makes, Gets, IsMalformed, HasOutside}
+use Rattle.tool_run.specs.Lines.{usage_line, memory_line, read_line, write_line, no_image_line, bad_header_line, outside_line, bad_shard_line}
+use Rattle.tool_run.specs.Making.{Makes, Gets, Reads, IsMalformed, HasOutside, HasBadShard}
 use Rattle.tool_run.specs.Outcome.{Puts, IsCutOff}
-use Rattle.tool_run.specs.Status.{usage, out_of_memory, read_fault, write_fault, no_image, bad_header, outside}
+use Rattle.tool_run.specs.Status.{usage, out_of_memory, read_fault, write_fault, no_image, bad_header, outside, bad_shard}
 
 -- the command that an invocation is
 abbrev pub command_of : Invocation → Command
@@ -33,6 +35,7 @@ status_of WriteFault = write_fault
 status_of Absent = no_image
 status_of (Malformed cause) = bad_header
 status_of (Outside at value) = outside
+status_of (BadShard shard at) = bad_shard
 
 -- the line of a fault, where the command is about the image of this name
 abbrev pub line_of : Fault → List ℕ → List ℕ
@@ -43,10 +46,12 @@ line_of WriteFault name = write_line
 line_of Absent name = no_image_line name
 line_of (Malformed cause) name = bad_header_line cause
 line_of (Outside at value) name = outside_line at value
+line_of (BadShard shard at) name = bad_shard_line shard at
 
 -- the line of the fault has no numbers
 abbrev pub IsPlain : Fault → Type 0
 IsPlain (Outside at value) = ⊥
+IsPlain (BadShard shard at) = ⊥
 IsPlain Usage = Unit {0}
 IsPlain Memory = Unit {0}
 IsPlain ReadFault = Unit {0}
@@ -63,6 +68,7 @@ Refuses command contents get_failed WriteFault = ⊥
 Refuses command contents get_failed Absent = Gets command × Lacks contents (image_name command)
 Refuses command contents get_failed (Malformed cause) = Gets command × IsMalformed contents (image_name command) cause
 Refuses command contents get_failed (Outside at value) = Gets command × HasOutside contents (image_name command) at value
+Refuses command contents get_failed (BadShard shard at) = Reads command × HasBadShard contents (image_name command) shard at
 
 -- the result was put and printed in full
 pub record IsDelivered (name : List ℕ) (image : Option (List ℕ)) (text : List ℕ) (old new : Contents)
@@ -87,6 +93,7 @@ DeliveryFails name image text old new put_failed print_failed taken taken' ReadF
 DeliveryFails name image text old new put_failed print_failed taken taken' Absent = ⊥
 DeliveryFails name image text old new put_failed print_failed taken taken' (Malformed cause) = ⊥
 DeliveryFails name image text old new put_failed print_failed taken taken' (Outside at value) = ⊥
+DeliveryFails name image text old new put_failed print_failed taken taken' (BadShard shard at) = ⊥
 
 -- a command's result was made, put and printed in full
 pub record IsCarriedOut (command : Command) (old new : Contents) (taken taken' : Option (List ℕ))
@@ -132,9 +139,15 @@ PutFails name image old new put_failed ReadFault = ⊥
 PutFails name image old new put_failed Absent = ⊥
 PutFails name image old new put_failed (Malformed cause) = ⊥
 PutFails name image old new put_failed (Outside at value) = ⊥
+PutFails name image old new put_failed (BadShard shard at) = ⊥
 
 -- a failed recovery
 abbrev pub fault_of_recovery : RecoverFault → Fault
 fault_of_recovery (Header cause) = Malformed cause
 fault_of_recovery (OutsideFound at value) = Outside at value
 fault_of_recovery RecoverMemory = Memory
+
+-- a shard that has no map
+abbrev pub fault_of_maps : MapFault → Fault
+fault_of_maps (NoMap shard at) = BadShard shard at
+fault_of_maps MapMemory = Memory

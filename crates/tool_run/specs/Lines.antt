@@ -43,6 +43,10 @@ bad_header_line cause = codes "bad header " ++ cause_name cause ++ line_feed
 abbrev pub outside_line : ℕ → ℕ → List ℕ
 outside_line at value = codes "pointer outside at " ++ decimal at ++ codes " value " ++ encode_lower (to_be_bytes w64 value) ++ line_feed
 
+-- the line on a shard that has no map: its number, and the index of its first bad word
+abbrev pub bad_shard_line : ℕ → ℕ → List ℕ
+bad_shard_line shard at = codes "bad shard " ++ decimal shard ++ codes " at " ++ decimal at ++ line_feed
+
 -- A sink took the line or, only where the count of its failures rose, a first part of it.
 abbrev pub Tells : List ℕ → ℕ → ℕ → Option (List ℕ) → Option (List ℕ) → Type 0
 Tells line faults faults' taken taken' =

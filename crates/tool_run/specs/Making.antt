@@ -1,5 +1,5 @@
 -- What a command is to put and to print.
-use Rattle.std.specs.Prelude.{◌≡◌, ℕ, ◌*◌, Bool, List, [], ◌++◌, length, nat_eq, if◌then◌else◌, Option, Some, None, codes, decimal, slice_index}
+use Rattle.std.specs.Prelude.{◌≡◌, ℕ, ◌*◌, ◌<◌, Bool, false, List, [], ◌++◌, length, nat_eq, if◌then◌else◌, Option, Some, None, codes, decimal}
 use Rattle.std.specs.List.{flat_map}
 use Rattle.heap_model.specs.declared.header.BadHeader.{BadHeader}
 use Rattle.heap_model.specs.declared.block.Block.{Block}
@@ -7,13 +7,17 @@ use Rattle.heap_model.specs.Blocks.{layout_of}
 use Rattle.heap_model.specs.Reach.{IsReached, IsOutside}
 use Rattle.heap_model.specs.Recovered.{IsFreeSuperblock, IsDrained, AreAscending}
 use Rattle.heap_model.specs.Recovery.{IsRecovered}
-use Rattle.dictionary.specs.DictLinks.{dict_links, root_kinds}
+use Rattle.dict_model.specs.Links.{dict_links, root_kind, shards}
+use Rattle.dict_model.specs.Shards.{Map, MapOf, BadShard}
+use Rattle.dictionary.specs.Reading.{AreMaps}
+use Rattle.std.specs.BTreeMap.{BTreeMap}
 use Rattle.heap_model.specs.Geometry.{clean, image_words}
 use Rattle.heap_model.specs.Image.{Image, image_of_bytes, bytes_of_words}
 use Rattle.heap_model.specs.Sizes.{size_of}
 use Rattle.heap_model.specs.Header.{capacity_of, state_of, header_fault, empty_words}
 use Rattle.tool_ports.specs.Contents.{Contents, Holds}
 use Rattle.trace_text.specs.Report.{line_feed, report_of}
+use Rattle.trace_text.specs.Keys.{TellsKeys}
 use Rattle.trace_text.specs.HeapMap.{map_of}
 use Rattle.tool_run.specs.Command.{Command, format_image, show_image, drain_image}
 
@@ -28,11 +32,11 @@ fault_of bytes = header_fault (length bytes) (image_of_bytes bytes)
 
 -- what the tool's filter reaches in an image: the dictionary's tables and nodes, and what the other roots lead to
 abbrev pub IsKept : Image → Block → Type 0
-IsKept image = IsReached image (slice_index root_kinds) dict_links
+IsKept image = IsReached image root_kind dict_links
 
 -- a root or linked word that points to no block
 abbrev pub PointsOutside : Image → ℕ → Type 0
-PointsOutside image at = IsOutside image (slice_index root_kinds) dict_links at
+PointsOutside image at = IsOutside image root_kind dict_links at
 
 -- recovery of the image keeps exactly these blocks, frees these superblocks, and leaves these words
 pub record Recovers (image : Image) (held : List Block) (free : List ℕ) (words : Image) : Type 0 where
@@ -40,10 +44,10 @@ pub record Recovers (image : Image) (held : List Block) (free : List ℕ) (words
   pub free_are : AreAscending (λ d. d) (IsFreeSuperblock (layout_of image) (IsKept image)) free
   pub words_are : IsRecovered image words (IsKept image)
 
--- the report on a recovered image, and its map where that is asked for
-abbrev pub shown_text : Image → Bool → List Block → List ℕ → Image → List ℕ
-shown_text image with_map held free words =
-    report_of (capacity_of image) (nat_eq (state_of image) clean) [] held ++ (if with_map then map_of words held free else [])
+-- the report on a recovered image, with what is told of its keys, and its map where that is asked for
+abbrev pub shown_text : Image → Bool → List ℕ → List Block → List ℕ → Image → List ℕ
+shown_text image with_map keys held free words =
+    report_of (capacity_of image) (nat_eq (state_of image) clean) keys held ++ (if with_map then map_of words held free else [])
 
 -- the line on a class that gives blocks at these byte offsets
 abbrev pub class_line : ℕ → List ℕ → List ℕ
@@ -79,7 +83,11 @@ pub record Shows (contents : Contents) (name : List ℕ) (with_map : Bool) (text
   pub free : List ℕ
   pub words : Image
   pub recovered : Recovers (image_of_bytes bytes) held free words
-  pub text_is : text ≡ shown_text (image_of_bytes bytes) with_map held free words
+  pub maps : List (BTreeMap ℕ (List ℕ))
+  pub maps_are : AreMaps (image_of_bytes bytes) shards maps
+  pub keys : List ℕ
+  pub keys_are : TellsKeys (Some maps) false keys
+  pub text_is : text ≡ shown_text (image_of_bytes bytes) with_map keys held free words
 
 -- the text on what the class gives of a named image that can be recovered
 pub record Drains (contents : Contents) (name : List ℕ) (class : ℕ) (text : List ℕ) : Type 0 where
@@ -105,6 +113,20 @@ pub record HasOutside (contents : Contents) (name : List ℕ) (at value : ℕ) :
   pub points : PointsOutside (image_of_bytes bytes) at
   pub value_is : value ≡ image_of_bytes bytes at
 
+-- the shard is the lowest of the image that has no map, and this is its first bad place
+pub record IsLowestBad (image : Image) (shard at : ℕ) : Type 0 where
+  pub below : shard < shards
+  pub bad : BadShard image shard at
+  pub lower : (i : ℕ) → i < shard → (map : Map) × MapOf image i map
+
+-- a shard of a named image that can be recovered has no map
+pub record HasBadShard (contents : Contents) (name : List ℕ) (shard at : ℕ) : Type 0 where
+  pub bytes : List ℕ
+  pub is_there : Holds contents name bytes
+  pub good : fault_of bytes ≡ None
+  pub inside : (at : ℕ) → PointsOutside (image_of_bytes bytes) at → ⊥
+  pub lowest : IsLowestBad (image_of_bytes bytes) shard at
+
 -- where the store holds this, the command is to put these bytes, if any, and to print this text
 abbrev pub Makes : Command → Contents → Option (List ℕ) → List ℕ → Type 0
 Makes (format_image image capacity) contents put text = IsFormatted capacity put text
@@ -116,3 +138,9 @@ abbrev pub Gets : Command → Type 0
 Gets (format_image image capacity) = ⊥
 Gets (show_image image with_map) = Unit {0}
 Gets (drain_image image class) = Unit {0}
+
+-- the command reads the maps of the image that it names
+abbrev pub Reads : Command → Type 0
+Reads (format_image image capacity) = ⊥
+Reads (show_image image with_map) = Unit {0}
+Reads (drain_image image class) = ⊥

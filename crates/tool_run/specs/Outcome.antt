@@ -1,13 +1,15 @@
 -- What a call of the tool has done, by its status. `old` is what the store held before it, `new` what
 -- it holds after it; `taken` and `taken'` are what the sink had taken.
-use Rattle.std.specs.Prelude.{◌≡◌, ℕ, ◌≤◌, List, Option, Some, None}
+use Rattle.std.specs.Prelude.{◌≡◌, ℕ, ◌<◌, ◌≤◌, List, Option, Some, None}
 use Rattle.heap_model.specs.declared.header.BadHeader.{BadHeader}
 use Rattle.tool_ports.specs.Causes.{Rose}
 use Rattle.tool_ports.specs.Contents.{Contents, Holds, HoldsOldOrNew, KeepsOthers, Lacks, told_of}
 use Rattle.tool_ports.specs.Taken.{taken_with, TakesPart}
 use Rattle.tool_run.specs.Command.{Command, format_image, show_image, drain_image, image_name, Asks}
-use Rattle.tool_run.specs.Lines.{Tells, write_line, no_image_line, bad_header_line, outside_line}
-use Rattle.tool_run.specs.Making.{Makes, Gets, IsMalformed, HasOutside, PointsOutside, fault_of}
+use Rattle.tool_run.specs.Lines.{Tells, write_line, no_image_line, bad_header_line, outside_line, bad_shard_line}
+use Rattle.tool_run.specs.Making.{Makes, Gets, Reads, IsMalformed, HasOutside, HasBadShard, PointsOutside, fault_of}
+use Rattle.dict_model.specs.Links.{shards}
+use Rattle.dict_model.specs.Shards.{Map, MapOf, BadShard}
 use Rattle.heap_model.specs.Image.{image_of_bytes}
 
 -- The image, if there is one, is under the name, and every other name has what it had.
@@ -107,8 +109,41 @@ pub record HoldsGood (contents : Contents) (name : List ℕ) : Type 0 where
   pub good : fault_of bytes ≡ None
   pub inside : (at : ℕ) → PointsOutside (image_of_bytes bytes) at → ⊥
 
+-- the words ask for a command that reads the maps of the image of this name
+pub record AsksToRead (words : List (List ℕ)) (name : List ℕ) : Type 0 where
+  pub command : Command
+  pub asked : Asks words command
+  pub reads : Reads command
+  pub is_named : image_name command ≡ name
+
+-- the words name an image in which a shard has no map: the lowest such shard, and its first bad place, are told
+pub record IsBadShardAt (words : List (List ℕ)) (contents : Contents) (Told : List ℕ → Type 0) : Type 0 where
+  pub name : List ℕ
+  pub asks : AsksToRead words name
+  pub shard : ℕ
+  pub at : ℕ
+  pub has : HasBadShard contents name shard at
+  pub told : Told (bad_shard_line shard at)
+
+-- the store tells that it has an image of this name that can be recovered, in which the shard has no map
+pub record HoldsBadShard (contents : Contents) (name : List ℕ) (shard at : ℕ) : Type 0 where
+  pub bytes : List ℕ
+  pub held : told_of contents name ≡ Some (Some bytes)
+  pub good : fault_of bytes ≡ None
+  pub inside : (w : ℕ) → PointsOutside (image_of_bytes bytes) w → ⊥
+  pub below : shard < shards
+  pub bad : BadShard (image_of_bytes bytes) shard at
+
+-- the store tells that it has an image of this name that can be recovered, in which each shard has a map
+pub record HoldsMaps (contents : Contents) (name : List ℕ) : Type 0 where
+  pub bytes : List ℕ
+  pub held : told_of contents name ≡ Some (Some bytes)
+  pub good : fault_of bytes ≡ None
+  pub inside : (at : ℕ) → PointsOutside (image_of_bytes bytes) at → ⊥
+  pub maps : (shard : ℕ) → shard < shards → (map : Map) × MapOf (image_of_bytes bytes) shard map
+
 -- nothing in the store stands against the command
 abbrev pub CanBeDone : Command → Contents → Type 0
 CanBeDone (format_image image capacity) contents = Unit {0}
-CanBeDone (show_image image with_map) contents = HoldsGood contents image
+CanBeDone (show_image image with_map) contents = HoldsMaps contents image
 CanBeDone (drain_image image class) contents = HoldsGood contents image

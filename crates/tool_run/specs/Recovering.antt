@@ -1,5 +1,5 @@
 -- What recovery of an image gives the tool, the text on it, and what draining a class of it gives.
-use Rattle.std.specs.Prelude.{◌≡◌, ◌≢◌, ◌↔◌, ℕ, ◌*◌, Bool, List, [], ◌++◌, None, Contains, AllPairs, slice_index, if◌then◌else◌}
+use Rattle.std.specs.Prelude.{◌≡◌, ◌≢◌, ◌↔◌, ℕ, ◌*◌, Bool, List, [], ◌++◌, None, Some, false, Contains, AllPairs, slice_index, if◌then◌else◌}
 use Rattle.heap_model.specs.declared.block.Block.{Block}
 use Rattle.heap_model.specs.Geometry.{clean}
 use Rattle.heap_model.specs.Image.{Image, image_of_bytes}
@@ -12,6 +12,8 @@ use Rattle.heap_recover.specs.declared.fault.RecoverFault.TheVariants.{Header, O
 use Rattle.heap_shape.specs.Draining.{IsDrainable, IsToDrain}
 use Rattle.tool_ports.specs.Contents.{Contents, Holds}
 use Rattle.trace_text.specs.Report.{report_of}
+use Rattle.std.specs.BTreeMap.{BTreeMap}
+use Rattle.trace_text.specs.Keys.{TellsKeys}
 use Rattle.trace_text.specs.HeapMap.{map_of}
 use Rattle.trace_text.specs.Recovered.{is_clean}
 use Rattle.tool_run.specs.Making.{Recovers, PointsOutside, fault_of, drained_text}
@@ -35,11 +37,17 @@ IsRecoveryFault image (Header cause) = ⊥
 IsRecoveryFault image (Outside at value) = PointsOutside image at × (value ≡ image at)
 IsRecoveryFault image Memory = Unit {0}
 
--- the text on a recovered heap
-abbrev pub text_of : Recovered → Bool → List ℕ
-text_of recovered with_map =
-    report_of (capacity_of (slice_index recovered.heap.words)) (is_clean recovered.was) [] recovered.heap.held
+-- the text on a recovered heap, with what is told of its keys
+abbrev pub text_of : Recovered → List ℕ → Bool → List ℕ
+text_of recovered keys with_map =
+    report_of (capacity_of (slice_index recovered.heap.words)) (is_clean recovered.was) keys recovered.heap.held
     ++ (if with_map then map_of (slice_index recovered.heap.words) recovered.heap.held recovered.free.items else [])
+
+-- the text is that on the heap and on these maps
+pub record IsTextOf (recovered : Recovered) (maps : List (BTreeMap ℕ (List ℕ))) (with_map : Bool) (text : List ℕ) : Type 0 where
+  pub keys : List ℕ
+  pub keys_are : TellsKeys (Some maps) false keys
+  pub is : text ≡ text_of recovered keys with_map
 
 -- each superblock of a heap at rest that holds no part of a held block is in its free list, or is cut for the class
 abbrev pub IsDrainableAtRest : List ℕ → List Block → ℕ → Type 0

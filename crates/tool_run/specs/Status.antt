@@ -34,8 +34,12 @@ bad_header = 7
 abbrev pub outside : ℕ
 outside = 8
 
+-- a shard of the image has no map
+abbrev pub bad_shard : ℕ
+bad_shard = 9
+
 abbrev pub statuses : List ℕ
-statuses = done ∷ usage ∷ out_of_memory ∷ read_fault ∷ write_fault ∷ no_image ∷ bad_header ∷ outside ∷ []
+statuses = done ∷ usage ∷ out_of_memory ∷ read_fault ∷ write_fault ∷ no_image ∷ bad_header ∷ outside ∷ bad_shard ∷ []
 
 -- a status after which the store is as it was, whatever the command
 pub record LeavesStore (status : ℕ) : Type 0 where

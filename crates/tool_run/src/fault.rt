@@ -2,14 +2,15 @@
 ghost use Rattle.std.specs.Prelude.{◌≡◌, ◌++◌, ◌≤◌, List, ℕ, OnOk, OnErr, IsErr};
 ghost use Rattle.tool_ports.specs.Causes.{HasCause};
 ghost use Rattle.tool_ports.specs.Taken.{taken_with, TakesPart};
-ghost use Rattle.tool_run.specs.Inside.{status_of, line_of, IsPlain, fault_of_get, fault_of_put, fault_of_recovery};
-ghost use Rattle.tool_run.specs.Lines.{Tells, cause_name, outside_line};
+ghost use Rattle.tool_run.specs.Inside.{status_of, line_of, IsPlain, fault_of_get, fault_of_put, fault_of_recovery, fault_of_maps};
+ghost use Rattle.tool_run.specs.Lines.{Tells, cause_name, outside_line, bad_shard_line};
 ghost use Rattle.tool_run.specs.declared.fault.Fault.TheVariants.{Memory, WriteFault, Malformed};
 ghost use Rattle.trace_text.specs.Report.{line_feed};
 ghost use Rattle.std.specs.Int.{w64, to_be_bytes};
 ghost use Rattle.hex.specs.Hex.{encode_lower};
 
 use crate::status::Status;
+use dictionary::MapFault;
 use heap_model::BadHeader;
 use heap_recover::RecoverFault;
 use itoa::Buffer;
@@ -26,6 +27,7 @@ pub enum Fault {
     Absent,
     Malformed(BadHeader),
     Outside { at: u64, value: u64 },
+    BadShard { shard: usize, at: u64 },
 }
 
 impl Fault {
@@ -40,6 +42,7 @@ impl Fault {
             Fault::Absent => 6,
             Fault::Malformed(_) => 7,
             Fault::Outside { at: _, value: _ } => 8,
+            Fault::BadShard { shard: _, at: _ } => 9,
         })
     }
 
@@ -56,6 +59,7 @@ impl Fault {
             Fault::Absent => ("no image ", image),
             Fault::Malformed(cause) => ("bad header ", name_of_cause(cause)),
             Fault::Outside { at: _, value: _ } => ("", ""),
+            Fault::BadShard { shard: _, at: _ } => ("", ""),
         }
     }
 
@@ -67,11 +71,14 @@ impl Fault {
             (TakesPart (line_of self image.now) (O.taken out.old) (O.taken out.new)) }
         ensures cause { HasCause (O.faults out.old) (O.faults out.new) (IsErr result) }
     {
-        if let Fault::Outside { at, value } = self {
-            return write_outside(out, at, value);
+        match self {
+            Fault::Outside { at, value } => write_outside(out, at, value),
+            Fault::BadShard { shard, at } => write_bad_shard(out, shard, at),
+            _ => {
+                let (text, detail) = self.line(image);
+                write_line(out, text, detail)
+            }
         }
-        let (text, detail) = self.line(image);
-        write_line(out, text, detail)
     }
 
     /// Prints the line of the fault, and gives its status. A line that the sink refuses is lost.
@@ -121,6 +128,20 @@ fn write_outside<O: Sink>(out: &mut O, at: u64, value: u64) -> Result<(), Failed
     let mut number = Buffer::new();
     write_two(out, b"pointer outside at ", number.format(at).as_bytes())?;
     write_two(out, b" value ", &word_digits(value))?;
+    write_all(out, b"\n")
+}
+
+fn write_bad_shard<O: Sink>(out: &mut O, shard: usize, at: u64) -> Result<(), Failed>
+    ensures ok { OnOk result
+        (O.taken out.new ≡ taken_with (O.taken out.old) (bad_shard_line shard at)) }
+    ensures err { OnErr result
+        (TakesPart (bad_shard_line shard at) (O.taken out.old) (O.taken out.new)) }
+    ensures cause { HasCause (O.faults out.old) (O.faults out.new) (IsErr result) }
+{
+    let mut number = Buffer::new();
+    write_two(out, b"bad shard ", number.format(shard).as_bytes())?;
+    let mut place = Buffer::new();
+    write_two(out, b" at ", place.format(at).as_bytes())?;
     write_all(out, b"\n")
 }
 
@@ -200,6 +221,17 @@ impl From<RecoverFault> for Fault {
             RecoverFault::Header(cause) => Fault::Malformed(cause),
             RecoverFault::Outside { at, value } => Fault::Outside { at, value },
             RecoverFault::Memory => Fault::Memory,
+        }
+    }
+}
+
+impl From<MapFault> for Fault {
+    ghost from_gives = { λ cause fault. fault ≡ fault_of_maps cause };
+
+    fn from(cause: MapFault) -> Self {
+        match cause {
+            MapFault::BadShard { shard, at } => Fault::BadShard { shard, at },
+            MapFault::Memory => Fault::Memory,
         }
     }
 }

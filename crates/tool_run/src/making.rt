@@ -6,15 +6,17 @@ ghost use Rattle.tool_run.specs.Calls.{get_limit, with_making};
 ghost use Rattle.tool_run.specs.Inside.{command_of, Refuses};
 ghost use Rattle.tool_run.specs.Command.{show_image};
 ghost use Rattle.tool_run.specs.Making.{Makes, IsFormatted, Shows};
-ghost use Rattle.tool_run.specs.Recovering.{text_of};
+ghost use Rattle.tool_run.specs.Recovering.{IsTextOf};
 
 use crate::command::Invocation;
 use crate::draining::drain_image;
 use crate::fault::Fault;
 use crate::recovering::recover_image;
+use dictionary::read_maps;
 use heap_recover::Recovered;
 use region_header::{Bytes, format, words_to_bytes};
 use std::alloc::{AllocError, Global};
+use std::collections::BTreeMap;
 use super_block::{Geometry, WORD_BYTES};
 use tool_ports::ImageStore;
 use trace_text::{map_text, report_text};
@@ -81,15 +83,21 @@ fn report<I: ImageStore>(
     ensures calls { I.calls images.new ≡ with_get get_limit (I.calls images.old) }
 {
     let recovered = recover_image(alloc, name, images)?;
-    let text = recovered_text(alloc, &recovered, with_map)?;
+    let maps = read_maps(alloc, &recovered)?;
+    let text = recovered_text(alloc, &recovered, &maps, with_map)?;
     Ok(Product { image: None, text })
 }
 
-// The report on a recovered heap, and its map where that is asked for.
-fn recovered_text(alloc: Global, recovered: &Recovered, with_map: bool) -> Result<Bytes, AllocError>
-    ensures ok { IfOk result (λ text. text ≡ text_of recovered.now with_map) }
+// The report on a recovered heap and its keys, and its map where that is asked for.
+fn recovered_text(
+    alloc: Global,
+    recovered: &Recovered,
+    maps: &[BTreeMap<u64, Bytes>],
+    with_map: bool,
+) -> Result<Bytes, AllocError>
+    ensures ok { IfOk result (IsTextOf recovered.now maps.now with_map) }
 {
-    let report = report_text(alloc, recovered, None, false)?;
+    let report = report_text(alloc, recovered, Some(maps), false)?;
     if !with_map {
         return Ok(report);
     }

@@ -7,8 +7,8 @@ ghost use Rattle.tool_run.specs.Calls.{get_limit, with_command, with_status};
 ghost use Rattle.tool_run.specs.Command.{Command, Asks, AsksToFormat, IsUsage, texts};
 ghost use Rattle.tool_run.specs.Inside.{command_of, status_of, IsCarriedOut, IsStopped};
 ghost use Rattle.tool_run.specs.Lines.{Tells, memory_line};
-ghost use Rattle.tool_run.specs.Outcome.{IsDone, IsWriteFault, AsksToGet, IsAbsent, IsBadHeader, IsOutsideAt, HoldsMalformed, HoldsOutside, CanBeDone};
-ghost use Rattle.tool_run.specs.Status.{done, usage, out_of_memory, read_fault, write_fault, no_image, bad_header, outside, statuses, LeavesStore, own_line};
+ghost use Rattle.tool_run.specs.Outcome.{IsDone, IsWriteFault, AsksToGet, AsksToRead, IsAbsent, IsBadHeader, IsOutsideAt, IsBadShardAt, HoldsMalformed, HoldsOutside, HoldsBadShard, CanBeDone};
+ghost use Rattle.tool_run.specs.Status.{done, usage, out_of_memory, read_fault, write_fault, no_image, bad_header, outside, bad_shard, statuses, LeavesStore, own_line};
 
 use crate::command::{Invocation, parse};
 use crate::delivery::deliver;
@@ -49,6 +49,8 @@ pub fn run_tool<R, I: ImageStore, O: Sink>(
         (λ line. Tells line (O.faults out.old) (O.faults out.new) (O.taken out.old) (O.taken out.new)) }
     ensures outside { result ≡ outside → IsOutsideAt (texts words.now) (I.contents images.old)
         (λ line. Tells line (O.faults out.old) (O.faults out.new) (O.taken out.old) (O.taken out.new)) }
+    ensures bad_shard { result ≡ bad_shard → IsBadShardAt (texts words.now) (I.contents images.old)
+        (λ line. Tells line (O.faults out.old) (O.faults out.new) (O.taken out.old) (O.taken out.new)) }
     ensures line { IfSome (own_line result)
         (λ line. Tells line (O.faults out.old) (O.faults out.new)
         (O.taken out.old) (O.taken out.new)) }
@@ -73,6 +75,9 @@ pub fn run_tool<R, I: ImageStore, O: Sink>(
     ensures always_outside { (name : List ℕ) (at : ℕ) → AsksToGet (texts words.now) name
         → HoldsOutside (I.contents images.old) name at
         → (result ≡ outside) ⊎ (result ≡ out_of_memory) ⊎ (result ≡ read_fault) }
+    ensures always_bad_shard { (name : List ℕ) (shard at : ℕ) → AsksToRead (texts words.now) name
+        → HoldsBadShard (I.contents images.old) name shard at
+        → (result ≡ bad_shard) ⊎ (result ≡ out_of_memory) ⊎ (result ≡ read_fault) }
     ensures complete { (command : Command) → Asks (texts words.now) command
         → CanBeDone command (I.contents images.old)
         → ¬ (Rose (I.faults images.old) (I.faults images.new))

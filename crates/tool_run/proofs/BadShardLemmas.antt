@@ -1,0 +1,74 @@
+-- What a command that reads the maps of an image comes to, where the store tells that a shard of it has no map.
+use Rattle.std.proofs.Common.{◌≡◌, ◌⊎◌, ℕ, List, Option, Some, None, inl, inr, sym, subst}
+use Rattle.tool_ports.specs.Contents.{Contents}
+use Rattle.heap_model.specs.Image.{image_of_bytes}
+use Rattle.dict_model.specs.Shards.{LeadsAlone, BadShard as IsBadShard}
+use Rattle.dict_model.proofs.ShardLemmas.{no_bad_place, alone_once}
+use Rattle.std.specs.BTreeMap.{get}
+use Rattle.std.specs.Ordering.{nat_cmp}
+use Rattle.tool_run.specs.Command.{Command, format_image, show_image, drain_image, image_name, Asks}
+use Rattle.tool_run.specs.declared.fault.Fault.{Fault}
+use Rattle.tool_run.specs.declared.fault.Fault.TheVariants.{Usage, Memory, ReadFault, WriteFault, Absent, Malformed, Outside, BadShard}
+use Rattle.tool_run.specs.Examples.{one_command}
+use Rattle.tool_run.specs.Inside.{Refuses, IsCarriedOut, IsStopped, status_of}
+use Rattle.tool_run.specs.Making.{Makes, Reads, PointsOutside, fault_of}
+use Rattle.tool_run.specs.Outcome.{AsksToRead, HoldsBadShard}
+use Rattle.tool_run.specs.Status.{out_of_memory, read_fault, bad_shard}
+use Rattle.tool_run.proofs.OutsideLemmas.{of_told, same_bytes}
+
+-- nothing is made then
+not_made : (command : Command) (contents : Contents) (name : List ℕ) (shard at : ℕ) (image : Option (List ℕ)) (text : List ℕ)
+    → Reads command → image_name command ≡ name → HoldsBadShard contents name shard at → Makes command contents image text → ⊥
+not_made (format_image n capacity) contents name shard at image text reads named has made = reads
+not_made (show_image n with_map) contents name shard at image text reads named has made =
+    let same : made.1.bytes ≡ has.bytes = same_bytes contents n name made.1.bytes has.bytes named made.1.is_there has.held in
+    let map = made.1.maps_are.each shard has.below in
+    no_bad_place (LeadsAlone (image_of_bytes made.1.bytes) shard) (alone_once (image_of_bytes made.1.bytes) shard) (image_of_bytes made.1.bytes) shard (get nat_cmp map.0) at map.2
+    (subst (λ (l : List ℕ). IsBadShard (image_of_bytes l) shard at) (sym same) has.bad)
+not_made (drain_image n class) contents name shard at image text reads named has made = reads
+
+-- want of memory, a failed get, or that
+refused : (command : Command) (contents : Contents) (name : List ℕ) (shard at : ℕ) (get_failed : Type 0) (status : ℕ) (fault : Fault)
+    → image_name command ≡ name → HoldsBadShard contents name shard at → status ≡ status_of fault → Refuses command contents get_failed fault
+    → (status ≡ bad_shard) ⊎ (status ≡ out_of_memory) ⊎ (status ≡ read_fault)
+refused command contents name shard at get_failed status Usage named has is why = absurd why
+refused command contents name shard at get_failed status Memory named has is why = inr (inl is)
+refused command contents name shard at get_failed status ReadFault named has is why = inr (inr is)
+refused command contents name shard at get_failed status WriteFault named has is why = absurd why
+refused command contents name shard at get_failed status Absent named has is why =
+    let none : Some has.bytes ≡ None = of_told (λ image. image ≡ None) contents (image_name command) name (Some has.bytes) named why.1 has.held in
+    absurd (cc)
+refused command contents name shard at get_failed status (Malformed cause) named has is why =
+    let same : why.1.bytes ≡ has.bytes = same_bytes contents (image_name command) name why.1.bytes has.bytes named why.1.held has.held in
+    let bad : fault_of has.bytes ≡ Some cause = subst (λ (l : List ℕ). fault_of l ≡ Some cause) same why.1.fault in
+    let good : fault_of has.bytes ≡ None = has.good in
+    absurd (cc)
+refused command contents name shard at get_failed status (Outside place value) named has is why =
+    let same : why.1.bytes ≡ has.bytes = same_bytes contents (image_name command) name why.1.bytes has.bytes named why.1.is_there has.held in
+    absurd (has.inside place (subst (λ (l : List ℕ). PointsOutside (image_of_bytes l) place) same why.1.points))
+refused command contents name shard at get_failed status (BadShard other place) named has is why = inl is
+
+-- a command that reads such an image makes nothing
+none_made : (words : List (List ℕ)) (command : Command) (contents : Contents) (image : Option (List ℕ)) (text : List ℕ) → Asks words command → Makes command contents image text
+    → (name : List ℕ) (shard at : ℕ) → AsksToRead words name → HoldsBadShard contents name shard at → ⊥
+none_made words command contents image text asked made name shard at asks has =
+    let same : asks.command ≡ command = one_command words asks.command command asks.asked asked in
+    not_made command contents name shard at image text (subst Reads same asks.reads) (subst (λ (c : Command). image_name c ≡ name) same asks.is_named) has made
+
+-- so it is not done
+pub not_done_bad : (words : List (List ℕ)) (command : Command) (old new : Contents) (taken taken' : Option (List ℕ)) (status : ℕ) → Asks words command → IsCarriedOut command old new taken taken'
+    → (name : List ℕ) (shard at : ℕ) → AsksToRead words name → HoldsBadShard old name shard at → (status ≡ bad_shard) ⊎ (status ≡ out_of_memory) ⊎ (status ≡ read_fault)
+not_done_bad words command old new taken taken' status asked done name shard at asks has = absurd (none_made words command old done.image done.text asked done.made name shard at asks has)
+
+-- why a command stopped
+pub stops_bad : (words : List (List ℕ)) (command : Command) (old new : Contents) (store_failed sink_failed : Type 0) (taken taken' : Option (List ℕ)) (status : ℕ) (fault : Fault)
+    → Asks words command → IsStopped command old new store_failed sink_failed taken taken' fault → status ≡ status_of fault
+    → (name : List ℕ) (shard at : ℕ) → AsksToRead words name → HoldsBadShard old name shard at
+    → (status ≡ bad_shard) ⊎ (status ≡ out_of_memory) ⊎ (status ≡ read_fault)
+stops_bad words command old new store_failed sink_failed taken taken' status fault asked stopped is name shard at asks has =
+    elim stopped.cause as (λ _. (status ≡ bad_shard) ⊎ (status ≡ out_of_memory) ⊎ (status ≡ read_fault)) [
+      | inl (why, untouched) ↦
+          let same : asks.command ≡ command = one_command words asks.command command asks.asked asked in
+          refused command old name shard at store_failed status fault (subst (λ (c : Command). image_name c ≡ name) same asks.is_named) has is why
+      | inr (image, text, made, why) ↦ absurd (none_made words command old image text asked made name shard at asks has)
+    ]
