@@ -1,35 +1,21 @@
 -- Links that agree, and sums over what is dealt out, for a heap that is opened.
-use Rattle.std.proofs.Common.{◌≡◌, ◌≢◌, ℕ, zero, suc, ◌+◌, ◌*◌, ◌/◌, ◌<◌, ◌≤◌, inl, inr, ◌⊎◌, Bool, true, false, nat_eq, nat_lt, nat_le, ◌&&◌, List, [], ◌∷◌, ◌++◌, map, replicate, Contains, get_or, length, slice_index, None, Some, refl, ap, sym, subst, ◌∙◌, eqb-true, lt-ltb, ltb-true, le-leb, leb-true, true≢false, get_or-append-add, length-append, arith}
-use Rattle.std.proofs.lemmas.Bool.{cases_eq, cases_lt}
-use Rattle.std.proofs.lemmas.List.{get_or_append_left, get_or-map, length-map}
+
+use Rattle.heap_model.proofs.MemberLemmas.{in_none, head_or_rest}
+use Rattle.std.proofs.Common.{◌≡◌, ℕ, zero, suc, get_or, replicate, ◌+◌, ◌*◌, ◌<◌, ◌≤◌, inl, inr, ◌⊎◌, Bool, nat_eq, nat_lt, List, [], ◌∷◌, map, Contains, length, refl, ap, sym, subst, ◌∙◌, arith}
 use Rattle.heap_model.specs.declared.block.Block.{Block}
-use Rattle.heap_model.specs.Geometry.{lists, roots, head_word, info_word, anchor_word, link_word, start_word, superblock_words, image_words, largest_capacity_fits}
+use Rattle.heap_model.specs.Geometry.{superblock_words}
 use Rattle.heap_model.specs.Sizes.{IsClass, words_of_class, blocks_of}
-use Rattle.heap_model.specs.Words.{head_first, head_pops, anchor_state, anchor_first, empty_state, partial_state, full_state, full_anchor, large_info}
+use Rattle.heap_model.specs.Words.{large_info}
 use Rattle.heap_model.specs.Counting.{times, total, one_if, below}
-use Rattle.heap_model.specs.Blocks.{Layout, layout_of, Begins, of_class, as_large}
+use Rattle.heap_model.specs.Blocks.{Layout, Begins, of_class, as_large}
 use Rattle.heap_model.specs.Chains.{Follows, Walks}
-use Rattle.heap_model.specs.Rest.{list_numbers, large_part, IsAnchored, IsReady}
-use Rattle.heap_model.proofs.SizeLemmas.{few_words, two_words}
-use Rattle.heap_model.proofs.MemberLemmas.{head_or_rest, in_none}
-use Rattle.heap_model.proofs.CountingLemmas.{times_some, one_if_true, one_if_false, number_below, total_some}
-use Rattle.crash_core.specs.Cells.{Cell, used_cell, head_cell, info_cell, anchor_cell, link_cell, data_cell, is_cell, index_of, superblock_at}
-use Rattle.crash_core.specs.Memory.{Memory, memory_of, table_length, used, head, info, anchor, link, next}
-use Rattle.crash_core.specs.View as seen_as
-use Rattle.crash_core.specs.View.{Setup, View, Span, Look, one_if_some, known, times_raw, times_classed, times_claimed, times_large, times_block}
-use Rattle.crash_core.specs.Effects.{seen, steps, first_of, span_count}
-use Rattle.crash_core.specs.Sound.{Shape, Tally, tally_of, IsInShape, IsCutBlock, IsAnchoredBy, AreChained, class_numbers, times_in_lists, times_cut, times_parked, IsSetUp, ClaimsOf, BlocksOf, Knows, KnowsWords, IsDrawn, HasTickets, Adds, HasLost, Good, Sound}
-use Rattle.crash_core.specs.Opening.{picked, tabulate, is_small, small_blocks, large_blocks, AreOwners, setup_of, unlooked, plain_view, opened_view}
-use Rattle.crash_core.proofs.TotalLemmas.{total_where, eq-eqb-one, ne-eqb-none}
-use Rattle.crash_core.proofs.FrameLemmas.{below_is, below_not, times_steps}
-use Rattle.crash_core.proofs.PlaceLemmas.{pick, index_within, and_both, and_is, not-lt}
-use Rattle.crash_core.proofs.OwnLemmas.{one_at_most, words_trimmed, length_only}
-use Rattle.crash_core.proofs.QuietLemmas.{not_there, none_drawn}
+use Rattle.crash_core.specs.Effects.{steps}
+use Rattle.crash_core.specs.Opening.{picked}
+use Rattle.crash_core.proofs.TotalLemmas.{eq-eqb-one}
+use Rattle.crash_core.proofs.FrameLemmas.{times_steps}
+use Rattle.crash_core.proofs.OwnLemmas.{one_at_most}
 use Rattle.crash_core.proofs.CountLemmas.{length_steps}
-use Rattle.crash_core.proofs.ListLemmas.{follows_small, in_lists_at, class_of}
-use Rattle.crash_core.proofs.BlockLemmas.{superblock_is, inside_of, full_anchored}
-use Rattle.crash_core.proofs.TableLemmas.{fixed_apart}
-use Rattle.crash_core.proofs.OpenLemmas.{picked_sum, picked_in, tabulate_sum, length_tabulate, tabulate_at, total_in, total_zero, small_at, small_sum, small_member, large_sum, span_of_block, small_from, span_from, each_tabulate}
+use Rattle.crash_core.proofs.OpenLemmas.{picked_sum, total_in}
 
 -- links that agree on the superblocks of the heap
 pub follows_alike : (f g : ℕ → ℕ) (c from : ℕ) (ds : List ℕ) → ((d : ℕ) → d < c → g d ≡ f d) → Follows f c from ds → Follows g c from ds
@@ -65,3 +51,19 @@ dealt_once n count dealers seats long below =
     let counted = total_in (λ j. times n (picked j (steps 0 1 count) dealers)) (λ j. total (λ x. one_if (nat_eq x n)) (picked j (steps 0 1 count) dealers)) (steps 0 1 seats) (λ j _. times_total n (picked j (steps 0 1 count) dealers)) in
     let all = picked_sum (λ x. one_if (nat_eq x n)) (steps 0 1 count) dealers seats (long ∙ sym (length_steps 0 1 count)) below in
     let back = times_total n (steps 0 1 count) in let t = times_steps n 0 count in let most = one_at_most (nat_lt n (0 + count)) in omega arith
+
+-- lists beyond their end, and of nothing
+pub beyond : (xs : List (List ℕ)) (class b : ℕ) → length xs ≤ class → times b (get_or xs class []) ≡ 0
+beyond [] class b past = refl
+beyond (x ∷ xs) zero b past = absurd (omega arith)
+beyond (x ∷ xs) (suc class) b past = beyond xs class b (omega arith)
+
+pub empty_at : (n class b : ℕ) → times b (get_or (replicate n []) class []) ≡ 0
+empty_at zero class b = refl
+empty_at (suc n) zero b = refl
+empty_at (suc n) (suc class) b = empty_at n class b
+
+-- one member's share of a sum
+pub member_at : (f : Block → ℕ) (ps : List Block) (p : Block) → Contains ps p → f p ≤ total f ps
+member_at f [] p there = absurd (in_none p there)
+member_at f (q ∷ ps) p there = elim (head_or_rest q p ps there) [ inl same ↦ let e = ap f same in omega arith | inr later ↦ let r = member_at f ps p later in omega arith ]

@@ -7,7 +7,7 @@ use Rattle.heap_model.specs.Geometry.{lists, roots, head_word, info_word, anchor
 use Rattle.heap_model.specs.Sizes.{IsClass, words_of_class, blocks_of}
 use Rattle.heap_model.specs.Words.{head_first, head_pops, anchor_state, anchor_first, empty_state, partial_state, full_state, full_anchor, large_info}
 use Rattle.heap_model.specs.Counting.{times, total, one_if, below}
-use Rattle.heap_model.specs.Blocks.{Layout, layout_of, Begins, of_class, as_large}
+use Rattle.heap_model.specs.Blocks.{layout_of}
 use Rattle.heap_model.specs.Chains.{Follows, Walks}
 use Rattle.heap_model.specs.Rest.{list_numbers, large_part, IsAnchored, IsReady}
 use Rattle.heap_model.proofs.SizeLemmas.{few_words, two_words}
@@ -21,7 +21,7 @@ use Rattle.crash_core.specs.Effects.{seen, steps, first_of, span_count}
 use Rattle.crash_core.specs.Sound.{Shape, Tally, tally_of, IsInShape, IsCutBlock, IsAnchoredBy, AreChained, class_numbers, times_in_lists, times_cut, times_parked, IsSetUp, ClaimsOf, BlocksOf, Knows, KnowsWords, IsDrawn, HasTickets, Adds, HasLost, Good, Sound}
 use Rattle.crash_core.specs.Opening.{picked, tabulate, is_small, small_blocks, large_blocks, AreOwners, setup_of, unlooked, plain_view, opened_view}
 use Rattle.crash_core.proofs.TotalLemmas.{total_where, eq-eqb-one, ne-eqb-none}
-use Rattle.crash_core.proofs.FrameLemmas.{below_is, below_not, times_steps}
+use Rattle.crash_core.proofs.FrameLemmas.{below_is, below_not}
 use Rattle.crash_core.proofs.PlaceLemmas.{pick, index_within, and_both, and_is, not-lt}
 use Rattle.crash_core.proofs.OwnLemmas.{one_at_most, words_trimmed, length_only}
 use Rattle.crash_core.proofs.QuietLemmas.{not_there, none_drawn}
@@ -30,7 +30,7 @@ use Rattle.crash_core.proofs.ListLemmas.{follows_small, in_lists_at, class_of}
 use Rattle.crash_core.proofs.BlockLemmas.{superblock_is, inside_of, full_anchored}
 use Rattle.crash_core.proofs.TableLemmas.{fixed_apart}
 use Rattle.crash_core.proofs.OpenLemmas.{picked_sum, picked_in, tabulate_sum, length_tabulate, tabulate_at, total_in, total_zero, small_at, small_sum, small_member, large_sum, span_of_block, small_from, span_from, each_tabulate}
-use Rattle.crash_core.proofs.OpenCountLemmas.{follows_alike, walks_alike, times_map, times_total, ones_most, begins_cases, dealt_once}
+use Rattle.crash_core.proofs.OpenCountLemmas.{beyond, empty_at, member_at, follows_alike, walks_alike, times_map, ones_most, begins_cases, dealt_once}
 
 module _ (words : List ℕ) (held : List Block) (budget seats : ℕ) (block_owners root_owners : List ℕ) (ready : IsReady words held) (owners : AreOwners held seats block_owners root_owners) where
   abbrev k : Setup
@@ -240,11 +240,6 @@ module _ (words : List ℕ) (held : List Block) (budget seats : ℕ) (block_owne
   info_cut : (d : ℕ) (some : 0 < times_cut g t d) → info m d ≡ (cut_as d some).class
   info_cut d some = info_is d (placed d (omega arith)).1 ∙ (cut_as d some).info_at
 
-  -- one member's share of a sum
-  member_at : (f : Block → ℕ) (ps : List Block) (p : Block) → Contains ps p → f p ≤ total f ps
-  member_at f [] p there = absurd (in_none p there)
-  member_at f (q ∷ ps) p there = elim (head_or_rest q p ps there) [ inl same ↦ let e = ap f same in omega arith | inr later ↦ let r = member_at f ps p later in omega arith ]
-
   -- a superblock of a class is no part of a large block
   no_large : (d : ℕ) (p : Block) → Contains held p → 0 < large_part c d p → (class : ℕ) → IsClass class → image (info_word d) ≡ class → ⊥
   no_large d p there some class is_class info_at = elim (held_cases p there) as (λ _. ⊥) [
@@ -386,16 +381,6 @@ module _ (words : List ℕ) (held : List Block) (budget seats : ℕ) (block_owne
   small_at_class : (j class : ℕ) → class < lists → get_or (V j).small class [] ≡ small_blocks c (λ d. image (info_word d)) class (picked j held block_owners)
   small_at_class j class less = tabulate_at (λ n. small_blocks c (λ d. image (info_word d)) n (picked j held block_owners)) 0 lists class [] less
       ∙ ap (λ n. small_blocks c (λ d. image (info_word d)) n (picked j held block_owners)) (let e : 0 + class ≡ class = omega arith in e)
-
-  beyond : (xs : List (List ℕ)) (class b : ℕ) → length xs ≤ class → times b (get_or xs class []) ≡ 0
-  beyond [] class b past = refl
-  beyond (x ∷ xs) zero b past = absurd (omega arith)
-  beyond (x ∷ xs) (suc class) b past = beyond xs class b (omega arith)
-
-  empty_at : (n class b : ℕ) → times b (get_or (replicate n []) class []) ≡ 0
-  empty_at zero class b = refl
-  empty_at (suc n) zero b = refl
-  empty_at (suc n) (suc class) b = empty_at n class b
 
   blocks : (j : ℕ) → BlocksOf m (V j)
   blocks j = record {

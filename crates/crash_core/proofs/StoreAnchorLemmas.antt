@@ -1,32 +1,25 @@
 -- A store to an anchor, and to any own word.
-use Rattle.std.proofs.Common.{◌≡◌, ◌≢◌, ℕ, zero, suc, ◌+◌, ◌*◌, ◌<◌, ◌≤◌, inl, inr, ◌⊎◌, cond, not, ◌&&◌, nat_eq, nat_lt, nat_le, List, [], ◌∷◌, get_or, set, length, Option, None, Some, refl, ap, ap₂, sym, subst, ◌∙◌, eq-eqb, ne_eqb, le-leb, lt-ltb, length-set, arith}
+use Rattle.std.proofs.Common.{◌≡◌, ◌≢◌, ℕ, zero, suc, ◌+◌, ◌<◌, ◌≤◌, inl, inr, ◌⊎◌, cond, not, ◌&&◌, nat_eq, nat_lt, List, [], ◌∷◌, get_or, set, length, Option, None, Some, refl, ap, ap₂, sym, subst, ◌∙◌, ne_eqb, length-set, arith}
 use Rattle.std.proofs.lemmas.Bool.{cases_eq, cases_lt}
-use Rattle.heap_model.specs.Geometry.{lists, start_word}
-use Rattle.heap_model.specs.Sizes.{IsClass, words_of_class}
-use Rattle.heap_model.specs.Words.{head_first, anchor_first, anchor_state, empty_state, partial_state, full_state, full_anchor}
-use Rattle.heap_model.specs.Chains.{Follows, Walks}
+use Rattle.heap_model.specs.Words.{anchor_state, empty_state, partial_state, full_state, full_anchor}
 use Rattle.heap_model.specs.Counting.{times, total, one_if, without}
-use Rattle.heap_model.proofs.SizeLemmas.{two_words}
-use Rattle.heap_model.proofs.CountingLemmas.{one_if_true}
-use Rattle.crash_core.proofs.PlaceLemmas.{and_is, not-lt}
+use Rattle.crash_core.proofs.PlaceLemmas.{not-lt}
 use Rattle.crash_core.specs.Cells.{Cell, used_cell, head_cell, info_cell, anchor_cell, link_cell, root_cell, data_cell, no_cell, cell_at, superblock_at}
 use Rattle.crash_core.specs.Memory.{Memory, volatile_at, used, head, anchor, info, link, next, write}
-use Rattle.crash_core.specs.View.{Setup, View, Batch, Span, Snapshot, Look, one_if_some, of_class, known, times_own, times_raw, times_classed, times_claimed, times_large, times_block}
-use Rattle.crash_core.specs.Effects.{before, seen, seen_word, seen_of, span_count, first_of, last_of, steps, batch_count, learn, used_up, stored, stored_anchor}
-use Rattle.crash_core.specs.Guards.{IsThere, IsOwn, MayStore, MayAnchor, MayChange, as_empty, as_full}
-use Rattle.crash_core.specs.Sound.{tally_of, IsInShape, IsSetUp, IsCutBlock, IsAnchoredBy, ClaimsOf, HasBlocks, BlocksOf, Knows, KnowsHead, KnowsWords, stale_anchor, stale_head, differs, times_in_lists, times_parked, times_cut, empties, Good}
+use Rattle.crash_core.specs.View.{Setup, View, Batch, Snapshot, Look, one_if_some, times_raw, times_classed, times_claimed, times_large, times_block}
+use Rattle.crash_core.specs.Effects.{seen, seen_word, seen_of, first_of, steps, batch_count, stored, stored_anchor}
+use Rattle.crash_core.specs.Guards.{IsThere, IsOwn, MayStore, MayAnchor, as_empty, as_full}
+use Rattle.crash_core.specs.Sound.{tally_of, IsInShape, IsAnchoredBy, ClaimsOf, HasBlocks, Knows, KnowsHead, stale_anchor, stale_head, differs, times_in_lists, times_parked, times_cut, empties, Good}
 use Rattle.crash_core.proofs.TotalLemmas.{total_same, total_at, total_alike, eq-eqb-one, ne-eqb-none}
-use Rattle.crash_core.proofs.FrameLemmas.{with_other, untouched, words_frame, below_not, times_without, without_none}
-use Rattle.crash_core.proofs.StepLemmas.{IsSeat, seat_at, good_step, adds_step, tally_same}
+use Rattle.crash_core.proofs.FrameLemmas.{times_without, without_none}
+use Rattle.crash_core.proofs.StepLemmas.{IsSeat, seat_at, good_step, adds_step}
 use Rattle.crash_core.proofs.QuietLemmas.{Counts, counts, done_tickets}
-use Rattle.crash_core.proofs.OwnLemmas.{Holdings, holdings, own_equal, one_at_most}
+use Rattle.crash_core.proofs.OwnLemmas.{Holdings, holdings, own_equal}
 use Rattle.crash_core.proofs.CountLemmas.{without_less}
 use Rattle.crash_core.proofs.ListLemmas.{in_lists_at}
-use Rattle.crash_core.proofs.BlockLemmas.{at_one, at_other, superblock_is}
-use Rattle.crash_core.proofs.OwnerLemmas.{in_lists_total, one_owner, covered, same_block, own_first, in_blocks}
-use Rattle.crash_core.proofs.OwnStepLemmas.{with_same, learned}
+use Rattle.crash_core.proofs.BlockLemmas.{at_one, at_other}
+use Rattle.crash_core.proofs.OwnerLemmas.{one_owner}
 use Rattle.crash_core.proofs.AnchorLemmas.{claims_anchor}
-
 use Rattle.crash_core.proofs.StoreLemmas as others
 
 module _ (k : Setup) (m : Memory) (views : List View) (i : ℕ) (v : View) (below_i : i < length views) (at : get_or views i v ≡ v) (good : Good k m views) (ticket : IsThere v.ticket) (word value : ℕ) where

@@ -57,7 +57,8 @@ descriptor_cell d at = cond (nat_eq at 0) (info_cell d) (cond (nat_eq at 1) (anc
 
 -- the word of the header
 abbrev pub header_cell : ℕ → Cell
-header_cell word = cond (nat_eq word used_word) used_cell (cond (nat_le (head_word 0) word && nat_lt word (head_word lists)) (head_cell (word - head_word 0)) no_cell)
+header_cell word = cond (nat_eq word used_word) used_cell (cond (nat_le (head_word 0) word && nat_lt word (head_word lists))
+    (head_cell (word - head_word 0)) no_cell)
 
 -- the word of header, roots, descriptors or superblocks that stands at a word index
 abbrev pub cell_at : ℕ → ℕ → Cell

@@ -93,7 +93,8 @@ learn values word value = set values word (Some value)
 -- of the words from an index on, what is known of own words alone
 abbrev pub only_own : View → ℕ → List (Option ℕ) → List (Option ℕ)
 only_own v index [] = []
-only_own v index (value ∷ values) = cond (nat_lt 0 (times_own v (cell_at v.setup.capacity index))) value None ∷ only_own v (index + 1) values
+only_own v index (value ∷ values) = cond (nat_lt 0 (times_own v (cell_at v.setup.capacity index))) value None ∷ only_own v
+    (index + 1) values
 
 -- the view, which knows nothing more of words that are not its own
 abbrev pub trimmed : View → View
@@ -116,7 +117,8 @@ look v word = record { word = word; ticket = v.ticket; wins = v.wins; taken = v.
 -- 0 becomes known of the info, the anchor and the link of n descriptors from u on
 abbrev pub learn_fresh : List (Option ℕ) → ℕ → ℕ → List (Option ℕ)
 learn_fresh values u zero = values
-learn_fresh values u (suc n) = learn_fresh (learn (learn (learn values (index_of (info_cell u)) 0) (index_of (anchor_cell u)) 0) (index_of (link_cell u)) 0) (u + 1) n
+learn_fresh values u (suc n) = learn_fresh (learn (learn (learn values (index_of (info_cell u)) 0) (index_of (anchor_cell u)) 0)
+    (index_of (link_cell u)) 0) (u + 1) n
 
 -- the views after the exchanges that are won
 abbrev pub taken_fresh : View → ℕ → View
@@ -135,25 +137,41 @@ claimed v d zero = record v { raw = d ∷ v.raw; floor = max v.floor (d + 1) }
 claimed v d (suc class) = record v { classed = record { descriptor = d; class = suc class } ∷ v.classed; floor = max v.floor (d + 1) }
 
 abbrev pub popped : View → ℕ → View
-popped v d = claimed (record (won v) { seen_head = None; seen_link = None; seen_anchor = cleared d 1 v.seen_anchor }) d (seen_of v.seen_head)
+popped v d = claimed (record (won v) {
+  seen_head = None;
+  seen_link = None;
+  seen_anchor = cleared d 1 v.seen_anchor;
+}) d (seen_of v.seen_head)
 
 abbrev pub pushed_raw : View → ℕ → View
-pushed_raw v d = trimmed (record (won v) { raw = without d v.raw; split = without d v.split; seen_head = None; seen_anchor = cleared d 1 v.seen_anchor })
+pushed_raw v d = trimmed (record (won v) {
+  raw = without d v.raw;
+  split = without d v.split;
+  seen_head = None;
+  seen_anchor = cleared d 1 v.seen_anchor;
+})
 
 -- a descriptor of a class that goes to the list of the free ones counts as moved there
 abbrev pub pushed_classed : View → ℕ → View
-pushed_classed v d = trimmed (record (won v) { classed = without_claim d v.classed; seen_head = None; seen_anchor = cleared d 1 v.seen_anchor; moves = cond (nat_eq (seen_of v.seen_head) 0) (v.moves + 1) v.moves })
+pushed_classed v d = trimmed (record (won v) {
+  classed = without_claim d v.classed;
+  seen_head = None;
+  seen_anchor = cleared d 1 v.seen_anchor;
+  moves = cond (nat_eq (seen_of v.seen_head) 0) (v.moves + 1) v.moves;
+})
 
 abbrev pub pushed : View → ℕ → View
 pushed v d = cond (nat_lt 0 (times d v.raw + times d v.split)) (pushed_raw v d) (pushed_classed v d)
 
 -- the blocks that an anchor leads to
 abbrev pub anchored_blocks : Memory → ℕ → ℕ → ℕ → ℕ → List ℕ
-anchored_blocks m capacity class d word = chain (next m) (start_word capacity d + anchor_first word * words_of_class class) (anchor_count word)
+anchored_blocks m capacity class d word = chain (next m) (start_word capacity d + anchor_first word * words_of_class class)
+    (anchor_count word)
 
 abbrev pub taken_all : Memory → View → ℕ → View
 taken_all m v d = trimmed (record (won v) {
-  caches = set v.caches (claim_class d v.classed) (anchored_blocks m v.setup.capacity (claim_class d v.classed) d (seen_word v.seen_anchor));
+  caches = set v.caches (claim_class d v.classed) (anchored_blocks m v.setup.capacity (claim_class d v.classed) d
+      (seen_word v.seen_anchor));
   classed = without_claim d v.classed;
   seen_anchor = None;
 })
@@ -173,14 +191,16 @@ pushed_head v d = head_of (d + 1) (head_pops (seen_word v.seen_head))
 
 -- the anchor of a superblock of `all` blocks after n more are free, of which block `first` comes first
 abbrev pub given_anchor : ℕ → ℕ → ℕ → ℕ → ℕ
-given_anchor word first n all = anchor_of (cond (nat_eq (n + anchor_count word) all) empty_state partial_state) first (n + anchor_count word)
+given_anchor word first n all = anchor_of (cond (nat_eq (n + anchor_count word) all) empty_state partial_state) first
+    (n + anchor_count word)
 
 abbrev pub batch_count : List ℕ → ℕ
 batch_count [] = 0
 batch_count (b ∷ bs) = batch_count bs + 1
 
 abbrev pub batch_anchor : View → ℕ → ℕ
-batch_anchor v d = given_anchor (seen_word v.seen_anchor) ((first_of v.batch.blocks - start_word v.setup.capacity d) / words_of_class v.batch.class)
+batch_anchor v d = given_anchor (seen_word v.seen_anchor) ((first_of v.batch.blocks - start_word v.setup.capacity d) / words_of_class
+    v.batch.class)
     (batch_count v.batch.blocks) (blocks_of v.batch.class)
 
 -- a store to an anchor begins or ends the making of blocks
@@ -191,7 +211,12 @@ stored_anchor v d (suc n) = record v { raw = without d v.raw; split = without d 
 -- a store to a block's word ends the link of the batch's last block where it is that link
 abbrev pub stored : View → Cell → ℕ → View
 stored v (anchor_cell d) value = stored_anchor v d value
-stored v (data_cell word) value = record v { batch = record v.batch { linked = cond (nat_eq word (last_of v.batch.blocks)) false v.batch.linked } }
+stored v (data_cell word) value = record v {
+  batch = record v.batch {
+    linked =
+        cond (nat_eq word (last_of v.batch.blocks)) false v.batch.linked;
+  };
+}
 stored v cell value = v
 
 -- the parts that a draw changes
@@ -204,10 +229,16 @@ after_cut m v d = trimmed (record v {
 })
 
 abbrev pub after_alloc : View → ℕ → View
-after_alloc v class = record v { small = set v.small class (first_of (of_class v.caches class) ∷ of_class v.small class); caches = set v.caches class (rest_of (of_class v.caches class)) }
+after_alloc v class = record v {
+  small = set v.small class (first_of (of_class v.caches class) ∷ of_class v.small class);
+  caches = set v.caches class (rest_of (of_class v.caches class));
+}
 
 abbrev pub after_free : View → ℕ → ℕ → View
-after_free v class block = record v { small = set v.small class (without block (of_class v.small class)); caches = set v.caches class (block ∷ of_class v.caches class) }
+after_free v class block = record v {
+  small = set v.small class (without block (of_class v.small class));
+  caches = set v.caches class (block ∷ of_class v.caches class);
+}
 
 abbrev pub after_lift : View → ℕ → View
 after_lift v class = record v {
@@ -221,7 +252,12 @@ after_lift v class = record v {
 }
 
 abbrev pub after_large : View → ℕ → ℕ → View
-after_large v d n = trimmed (record v { large = record { first = d; count = n } ∷ v.large; raw = without_range d n v.raw; split = without_range d n v.split; seen_anchor = cleared d n v.seen_anchor })
+after_large v d n = trimmed (record v {
+  large = record { first = d; count = n } ∷ v.large;
+  raw = without_range d n v.raw;
+  split = without_range d n v.split;
+  seen_anchor = cleared d n v.seen_anchor;
+})
 
 abbrev pub after_split : View → ℕ → View
 after_split v d = record v {
@@ -285,14 +321,25 @@ left_there m v (Give d) found = cond (nat_eq found (seen_word v.seen_anchor)) (b
 abbrev pub view_after : Memory → View → Event → ℕ → View
 view_after m v (Tick shift) found = cond (nat_lt found v.setup.budget) (shifted m (drew v found) shift) (stopped v found)
 view_after m v (Load word) found = record (used_up v) { volatile = learn v.volatile word found }
-view_after m v (Store word value) found = stored (record (used_up v) { volatile = learn v.volatile word value }) (cell_at v.setup.capacity word) value
-view_after m v (Settle word) found = record v { volatile = learn v.volatile word (m.volatile (cell_at v.setup.capacity word)); durable = learn v.durable word (m.volatile (cell_at v.setup.capacity word)) }
+view_after m v (Store word value) found = stored (record (used_up v) {
+  volatile =
+      learn v.volatile word value;
+}) (cell_at v.setup.capacity word) value
+view_after m v (Settle word) found = record v {
+  volatile = learn v.volatile word (m.volatile (cell_at v.setup.capacity word));
+  durable = learn v.durable word (m.volatile (cell_at v.setup.capacity word));
+}
 view_after m v LookUsed found = record (used_up v) { seen_used = Some found; used_look = look v found }
 view_after m v (TakeFresh n) found = cond (nat_eq found (seen v.seen_used)) (taken_fresh v n) (record (lost v) { seen_used = None })
 view_after m v KeepUsed found = record (used_up v) { floor = max v.floor (seen v.seen_used) }
-view_after m v (LookHead list) found = record (used_up v) { seen_head = Some (record { of = list; word = found }); seen_link = None; head_looks = set v.head_looks list (look v found) }
+view_after m v (LookHead list) found = record (used_up v) {
+  seen_head = Some (record { of = list; word = found });
+  seen_link = None;
+  head_looks = set v.head_looks list (look v found);
+}
 view_after m v LookLink found = record (used_up v) { seen_link = Some found }
-view_after m v Pop found = cond (nat_eq found (seen_word v.seen_head)) (popped v (before (head_first (seen_word v.seen_head)))) (record (lost v) { seen_head = None })
+view_after m v Pop found = cond (nat_eq found (seen_word v.seen_head)) (popped v (before (head_first (seen_word v.seen_head))))
+    (record (lost v) { seen_head = None })
 view_after m v (Push d) found = cond (nat_eq found (seen_word v.seen_head)) (pushed v d) (record (lost v) { seen_head = None })
 view_after m v (LookAnchor d) found = record (used_up v) { seen_anchor = Some (record { of = d; word = found }) }
 view_after m v (TakeAll d) found = cond (nat_eq found (seen_word v.seen_anchor)) (taken_all m v d) (record (lost v) { seen_anchor = None })

@@ -156,7 +156,10 @@ ends_cut = refl
 
 -- the batch of two blocks of class 20 goes back to a full superblock, which is then claimed
 abbrev batched : View
-batched = record idle { batch = record { descriptor = 0; class = 20; blocks = 2872 ∷ 1080 ∷ []; linked = true }; seen_anchor = Some (record { of = 0; word = 2 }) }
+batched = record idle {
+  batch = record { descriptor = 0; class = 20; blocks = 2872 ∷ 1080 ∷ []; linked = true };
+  seen_anchor = Some (record { of = 0; word = 2 });
+}
 
 pub gives : left_there memory batched (Give 0) 2 ≡ 17179869189
 unfolding words_of_class class_sizes blocks_of
@@ -173,7 +176,10 @@ pub two_along : chain (λ word. word + word) 5 2 ≡ 5 ∷ 10 ∷ []
 two_along = refl
 
 -- a large block of one superblock, and its split
-pub holds_large : (view_after memory (record idle { raw = 0 ∷ 1 ∷ [] }) (Tick (Some (Large 1 1))) 4).large ≡ record { first = 1; count = 1 } ∷ []
+pub holds_large : (view_after memory (record idle { raw = 0 ∷ 1 ∷ [] }) (Tick (Some (Large 1 1))) 4).large ≡ record {
+  first = 1;
+  count = 1;
+} ∷ []
 holds_large = refl
 
 pub splits : (view_after memory (record idle { large = record { first = 1; count = 1 } ∷ [] }) (Tick (Some (Split 9272))) 4).split ≡ 1 ∷ []

@@ -30,7 +30,8 @@ pub record IsFreelyClaimed (v : View) (d : ℕ) : Type 0 where
 -- an anchor becomes full or 0: full where it is empty or counts as empty, to begin the making of blocks
 pub data MayAnchor (m : Memory) (v : View) (d : ℕ) : ℕ → Type 0 where
   as_empty : (value : ℕ) → value ≡ 0 → MayAnchor m v d value
-  as_full : (value : ℕ) → value ≡ full_anchor → times d v.cutting ≡ 0 → (anchor_state (anchor m d) ≡ empty_state) ⊎ (0 < times d v.split) → MayAnchor m v d value
+  as_full : (value : ℕ) → value ≡ full_anchor → times d v.cutting ≡ 0
+      → (anchor_state (anchor m d) ≡ empty_state) ⊎ (0 < times d v.split) → MayAnchor m v d value
 
 -- the first words of cached blocks stay, and those of the batch but the last one's
 pub record MayChange (v : View) (word : ℕ) : Type 0 where
@@ -85,7 +86,8 @@ pub record MayGive (m : Memory) (v : View) (d : ℕ) : Type 0 where
   pub is_seen : IsThere v.seen_anchor
   pub of : seen_of v.seen_anchor ≡ d
   pub linked : anchor_count (seen_word v.seen_anchor) ≢ 0
-      → next m (last_of v.batch.blocks) ≡ start_word v.setup.capacity d + anchor_first (seen_word v.seen_anchor) * words_of_class v.batch.class
+      → next m (last_of v.batch.blocks) ≡ start_word v.setup.capacity d + anchor_first
+      (seen_word v.seen_anchor) * words_of_class v.batch.class
 
 pub record MayCut (m : Memory) (v : View) (d : ℕ) : Type 0 where
   pub cutting : 0 < times d v.cutting

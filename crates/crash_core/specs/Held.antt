@@ -12,7 +12,10 @@ use Rattle.crash_core.specs.Effects.{span_count}
 -- a block that the seat holds
 pub data IsHeld (v : View) : Block → Type 0 where
   a_small : (class b : ℕ) → 0 < times b (of_class v.small class) → IsHeld v (record { first_word = b; words = words_of_class class })
-  a_large : (d n : ℕ) → 0 < n → span_count d v.large ≡ n → IsHeld v (record { first_word = start_word v.setup.capacity d; words = superblock_words * n })
+  a_large : (d n : ℕ) → 0 < n → span_count d v.large ≡ n → IsHeld v (record {
+    first_word = start_word v.setup.capacity d;
+    words = superblock_words * n;
+  })
 
 -- a block that some seat holds
 pub record IsHeldBy (views : List View) (b : Block) : Type 0 where

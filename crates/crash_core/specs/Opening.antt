@@ -24,11 +24,15 @@ is_small b = nat_lt b.words superblock_words
 
 abbrev pub small_blocks : ℕ → (ℕ → ℕ) → ℕ → List Block → List ℕ
 small_blocks capacity info class [] = []
-small_blocks capacity info class (b ∷ bs) = cond (is_small b && nat_eq (info (superblock_at capacity b.first_word)) class) (b.first_word ∷ small_blocks capacity info class bs) (small_blocks capacity info class bs)
+small_blocks capacity info class (b ∷ bs) = cond (is_small b && nat_eq (info (superblock_at capacity b.first_word)) class)
+    (b.first_word ∷ small_blocks capacity info class bs) (small_blocks capacity info class bs)
 
 abbrev pub large_blocks : ℕ → List Block → List Span
 large_blocks capacity [] = []
-large_blocks capacity (b ∷ bs) = cond (is_small b) (large_blocks capacity bs) (record { first = superblock_at capacity b.first_word; count = b.words / superblock_words } ∷ large_blocks capacity bs)
+large_blocks capacity (b ∷ bs) = cond (is_small b) (large_blocks capacity bs) (record {
+  first = superblock_at capacity b.first_word;
+  count = b.words / superblock_words;
+} ∷ large_blocks capacity bs)
 
 -- who owns each held block, and each root: all below the number of seats
 pub record AreOwners (held : List Block) (seats : ℕ) (block_owners root_owners : List ℕ) : Type 0 where
@@ -38,7 +42,12 @@ pub record AreOwners (held : List Block) (seats : ℕ) (block_owners root_owners
   pub root_seats : (owner : ℕ) → Contains root_owners owner → owner < seats
 
 abbrev pub setup_of : List ℕ → ℕ → Setup
-setup_of words budget = record { capacity = slice_index words capacity_word; budget = budget; used = slice_index words used_word; opened = words }
+setup_of words budget = record {
+  capacity = slice_index words capacity_word;
+  budget = budget;
+  used = slice_index words used_word;
+  opened = words;
+}
 
 -- nothing was looked at yet
 abbrev pub unlooked : ℕ → Look
@@ -79,8 +88,12 @@ plain_view k held owned_roots = record {
 
 -- the seat knows its own words, which are as in the opened image
 abbrev pub opened_view : Setup → List Block → List ℕ → List ℕ → ℕ → View
-opened_view k held block_owners root_owners seat = trimmed (plain_view k (picked seat held block_owners) (picked seat (steps 0 1 roots) root_owners))
+opened_view k held block_owners root_owners seat = trimmed (plain_view k (picked seat held block_owners) (picked seat
+    (steps 0 1 roots) root_owners))
 
 -- the shared words and the views of an opened heap
 abbrev pub opened_state : Setup → List Block → List ℕ → List ℕ → ℕ → State
-opened_state k held block_owners root_owners seats = record { words = k.opened ++ (k.opened ++ (0 ∷ [])); views = tabulate (opened_view k held block_owners root_owners) 0 seats }
+opened_state k held block_owners root_owners seats = record {
+  words = k.opened ++ (k.opened ++ (0 ∷ []));
+  views = tabulate (opened_view k held block_owners root_owners) 0 seats;
+}

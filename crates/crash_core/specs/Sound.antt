@@ -86,7 +86,8 @@ pub record AreChained (capacity : ℕ) (info anchor next : ℕ → ℕ) (chains 
   pub anchored : (d : ℕ) → 0 < cut d → IsAnchoredBy next capacity (info d) d (anchor d) (chains d)
   pub owned : (d b : ℕ) → 0 < cut d → IsCutBlock capacity (info d) d b → times b (chains d) + blocks b ≡ 1
   pub chained : (d b : ℕ) → 0 < cut d → 0 < times b (chains d) → IsCutBlock capacity (info d) d b
-  pub inside : (b : ℕ) → 0 < blocks b → (0 < cut (superblock_at capacity b)) × IsCutBlock capacity (info (superblock_at capacity b)) (superblock_at capacity b) b
+  pub inside : (b : ℕ) → 0 < blocks b → (0 < cut (superblock_at capacity b))
+      × IsCutBlock capacity (info (superblock_at capacity b)) (superblock_at capacity b) b
 
 -- the marks are in order; superblocks that a crash must not forget lie below the durable one, and their infos are durable
 pub record IsDurable (capacity used durable_used : ℕ) (info durable_info free cut large : ℕ → ℕ) : Type 0 where
@@ -101,7 +102,8 @@ times_parked g t d = times_in_lists g d + t.classed d
 
 -- how many of those have an empty anchor
 abbrev pub empties : ℕ → (ℕ → ℕ) → (ℕ → ℕ) → ℕ
-empties capacity anchor parked = total (λ d. one_if (nat_lt 0 (parked d) && nat_eq (anchor_state (anchor d)) empty_state)) (steps 0 1 capacity)
+empties capacity anchor parked = total (λ d. one_if (nat_lt 0 (parked d) && nat_eq (anchor_state (anchor d)) empty_state))
+    (steps 0 1 capacity)
 
 -- everything that is said of superblocks, lists and blocks
 pub record IsInShape (capacity : ℕ) (m : Memory) (g : Shape) (t : Tally) : Type 0 where
@@ -130,8 +132,10 @@ pub record HasClaims (info anchor : ℕ → ℕ) (raw split cutting : List ℕ) 
   pub is_raw : (d : ℕ) → 0 < times d raw → anchor_state (anchor d) ≡ empty_state
   pub is_split : (d : ℕ) → 0 < times d split → anchor_state (anchor d) ≢ partial_state
   pub is_cutting : (d : ℕ) → 0 < times d cutting → anchor d ≡ full_anchor
-  pub is_classed : (d : ℕ) → 0 < times_classed d classed → IsClass (claim_class d classed) × (info d ≡ claim_class d classed) × (anchor_state (anchor d) < full_state)
-  pub is_large : (d : ℕ) → 0 < span_count d large → (info d ≡ large_info (span_count d large)) × ((e : ℕ) → d < e → e < d + span_count d large → info e ≡ 0)
+  pub is_classed : (d : ℕ) → 0 < times_classed d classed → IsClass (claim_class d classed) × (info d ≡ claim_class d classed)
+      × (anchor_state (anchor d) < full_state)
+  pub is_large : (d : ℕ) → 0 < span_count d large → (info d ≡ large_info (span_count d large)) × ((e : ℕ) → d < e
+      → e < d + span_count d large → info e ≡ 0)
   pub is_part : (d : ℕ) → 0 < times_large d large → anchor_state (anchor d) ≢ partial_state
   pub some : (span : Span) → Contains large span → 1 ≤ span.count
 
@@ -155,15 +159,19 @@ pub record KnowsHead (capacity : ℕ) (heads links : ℕ → ℕ) (descriptors :
   pub small : head_first word ≤ capacity
   pub pops : head_pops word ≤ head_pops (heads list)
   pub listed : head_pops word ≡ head_pops (heads list) → head_first word ≢ 0 → 0 < times (before (head_first word)) (descriptors list)
-  pub linked : IsThere link → (head_first word ≢ 0) × (head_pops word ≡ head_pops (heads list) → links (before (head_first word)) ≡ seen link)
+  pub linked : IsThere link → (head_first word ≢ 0) × (head_pops word ≡ head_pops (heads list)
+      → links (before (head_first word)) ≡ seen link)
 
 -- what the seat saw is still true as far as it goes
 pub record Knows (capacity : ℕ) (m : Memory) (g : Shape) (v : View) : Type 0 where
-  pub seen_head : IsThere v.seen_head → KnowsHead capacity (head m) (link m) g.lists (seen_of v.seen_head) (seen_word v.seen_head) v.seen_link
+  pub seen_head : IsThere v.seen_head → KnowsHead capacity (head m) (link m) g.lists (seen_of v.seen_head)
+      (seen_word v.seen_head) v.seen_link
   pub seen_used : IsThere v.seen_used → seen v.seen_used ≤ used m
   pub looked : v.used_look.word + v.taken ≤ used m + v.used_look.taken
-  pub seen_anchor : IsThere v.seen_anchor → (0 < times_claimed (seen_of v.seen_anchor) v) ⊎ ((v.batch.descriptor ≡ seen_of v.seen_anchor) × (1 ≤ batch_count v.batch.blocks))
-  pub seen_empty : IsThere v.seen_anchor → 0 < times_classed (seen_of v.seen_anchor) v.classed → anchor_state (seen_word v.seen_anchor) ≡ empty_state
+  pub seen_anchor : IsThere v.seen_anchor → (0 < times_claimed (seen_of v.seen_anchor) v)
+      ⊎ ((v.batch.descriptor ≡ seen_of v.seen_anchor) × (1 ≤ batch_count v.batch.blocks))
+  pub seen_empty : IsThere v.seen_anchor → 0 < times_classed (seen_of v.seen_anchor) v.classed
+      → anchor_state (seen_word v.seen_anchor) ≡ empty_state
       → anchor_state (anchor m (seen_of v.seen_anchor)) ≡ empty_state
   pub floor : v.floor ≤ durable_used m
 
@@ -182,8 +190,10 @@ pub record HasTickets (drawn : ℕ) (v : View) : Type 0 where
 
 -- what is known of a word is its value, and the word is the seat's own
 pub record KnowsWords (capacity : ℕ) (m : Memory) (v : View) : Type 0 where
-  pub volatile : (cell : Cell) (value : ℕ) → is_cell capacity cell ≡ true → known v.volatile cell ≡ Some value → IsOwn v cell × (m.volatile cell ≡ value)
-  pub durable : (cell : Cell) (value : ℕ) → is_cell capacity cell ≡ true → known v.durable cell ≡ Some value → IsOwn v cell × (m.durable cell ≡ value)
+  pub volatile : (cell : Cell) (value : ℕ) → is_cell capacity cell ≡ true → known v.volatile cell ≡ Some value
+      → IsOwn v cell × (m.volatile cell ≡ value)
+  pub durable : (cell : Cell) (value : ℕ) → is_cell capacity cell ≡ true → known v.durable cell ≡ Some value
+      → IsOwn v cell × (m.durable cell ≡ value)
 
 -- 1 where there is a snapshot that differs from the word now
 abbrev pub differs : Option ℕ → ℕ → ℕ
@@ -231,13 +241,15 @@ pub record Good (k : Setup) (m : Memory) (views : List View) : Type 0 where
   pub adds : Adds k m views
   pub lost : Each views (HasLost m views)
   -- superblocks that became empty in a list of their class came there by a give, or were so at the opening
-  pub moves : empties k.capacity (anchor m) (times_parked shape (tally_of views)) + total (λ (v : View). v.moves) views ≤ total (λ (v : View). v.gives) views + k.capacity
+  pub moves : empties k.capacity (anchor m) (times_parked shape (tally_of views)) + total (λ (v : View). v.moves) views ≤ total (λ
+      (v : View). v.gives) views + k.capacity
 
 -- the words of the shared table and the views of the seats are sound
 pub record Sound (k : Setup) (words : List ℕ) (views : List View) : Type 0 where
   pub some : 1 ≤ k.capacity
   pub long : length words ≡ table_length k.capacity
-  pub fixed : (word : ℕ) → IsFixed k.capacity word → (get_or words word 0 ≡ slice_index k.opened word) × (get_or words (image_words k.capacity + word) 0 ≡ slice_index k.opened word)
+  pub fixed : (word : ℕ) → IsFixed k.capacity word → (get_or words word 0 ≡ slice_index k.opened word)
+      × (get_or words (image_words k.capacity + word) 0 ≡ slice_index k.opened word)
   pub capacity : slice_index k.opened capacity_word ≡ k.capacity
   pub used : slice_index k.opened used_word ≡ k.used
   pub good : Good k (memory_of k.capacity words) views

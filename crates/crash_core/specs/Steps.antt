@@ -35,12 +35,17 @@ words_after k words v event = set words (table_index k.capacity (place_of v even
     (left_there (memory_of k.capacity words) v event (found_by (memory_of k.capacity words) v event))
 
 abbrev pub state_after : Setup → State → ℕ → View → Event → State
-state_after k s i v event = record { words = words_after k s.words v event; views = set s.views i (seat_after (memory_of k.capacity s.words) v event) }
+state_after k s i v event = record {
+  words = words_after k s.words v event;
+  views = set s.views i (seat_after (memory_of k.capacity s.words) v event);
+}
 
 -- what a seat's event makes of a state: the step is done, won where it compares; or it may not be done now, or the seat has stopped, and nothing changes
 pub data Goes (k : Setup) (s : State) (i : ℕ) (event : Event) : State → Type 0 where
-  is_done : (v : View) → get_or s.views i v ≡ v → MayDo (memory_of k.capacity s.words) v event → Goes k s i event (state_after k s i v event)
-  not_now : (v : View) → get_or s.views i v ≡ v → one_if_some v.stopped ≡ 0 → (MayDo (memory_of k.capacity s.words) v event → ⊥) → Goes k s i event s
+  is_done : (v : View) → get_or s.views i v ≡ v → MayDo (memory_of k.capacity s.words) v event
+      → Goes k s i event (state_after k s i v event)
+  not_now : (v : View) → get_or s.views i v ≡ v → one_if_some v.stopped ≡ 0 → (MayDo (memory_of k.capacity s.words) v event → ⊥)
+      → Goes k s i event s
   has_stopped : (v : View) → get_or s.views i v ≡ v → one_if_some v.stopped ≡ 1 → Goes k s i event s
 
 -- what a list of events makes of a state

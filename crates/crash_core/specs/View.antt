@@ -131,7 +131,8 @@ times_own v (info_cell d) = times_raw d v
 times_own v (anchor_cell d) = times_raw d v
 times_own v (link_cell d) = times_claimed d v
 times_own v (root_cell i) = times i v.roots
-times_own v (data_cell word) = times_in_classes word 0 v.small + times_in_classes word 0 v.caches + times_within (words_of_class v.batch.class) word v.batch.blocks
+times_own v (data_cell word) = times_in_classes word 0 v.small + times_in_classes word 0 v.caches + times_within
+    (words_of_class v.batch.class) word v.batch.blocks
     + times_large (superblock_at v.setup.capacity word) v.large + times_raw (superblock_at v.setup.capacity word) v
 times_own v no_cell = 0
 
