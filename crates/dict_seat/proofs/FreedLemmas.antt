@@ -82,7 +82,7 @@ module _ (u : View) (shard : ℕ) (small : shard < shards) (owned : Contains u.r
   table_reached image mixes table there =
       root_reach u shard table (root_kind shard) (image (root_word shard)) owned refl (mixes.each (root_word shard) (in_root shard (root_word shard) owned refl)) there.leads_there
 
-  used_reached : (seat : IsSeat u) (image : Image) → MixesOwn u image → (b : Block) → IsUsed (LeadsTo (Contains u.held)) image shard b → (kind : ℕ) × MayReach u shard b kind
+  pub used_reached : (seat : IsSeat u) (image : Image) → MixesOwn u image → (b : Block) → IsUsed (LeadsTo (Contains u.held)) image shard b → (kind : ℕ) × MayReach u shard b kind
   used_reached seat image mixes b (as_table there) = (root_kind shard, table_reached image mixes b there)
   used_reached seat image mixes b (as_node table nodes k there chains below h) = (
     node_kind,
