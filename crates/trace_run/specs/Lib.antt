@@ -1,3 +1,6 @@
 pub mod Examples
 pub mod Needs
+pub mod Opened
+pub mod Progress
 pub mod Runs
+pub mod Stands

@@ -1,5 +1,5 @@
 -- What a run of a trace by one worker is: which requests are answered, with which replies, and what image is left.
-use Rattle.std.specs.Prelude.{◌≡◌, ℕ, ◌+◌, ◌*◌, ◌<◌, ◌≤◌, ◌⊎◌, Bool, true, false, cond, List, [], ◌∷◌, ◌++◌, length, map, filter, replicate, sum_by, Option, None, Some}
+use Rattle.std.specs.Prelude.{◌≡◌, ℕ, ◌+◌, ◌*◌, ◌<◌, ◌⊎◌, Bool, true, false, cond, List, [], ◌∷◌, ◌++◌, length, map, filter, replicate, sum_by, Option, None, Some}
 use Rattle.heap_model.specs.declared.block.Block.{Block}
 use Rattle.heap_model.specs.Image.{Image}
 use Rattle.heap_model.specs.Geometry.{clean, dirty, state_word, root_word, roots, IsReserved}
@@ -9,6 +9,7 @@ use Rattle.heap_model.specs.Reach.{ReachFrom, IsOutside}
 use Rattle.dict_model.specs.Links.{shards, dict_links, root_kind}
 use Rattle.dict_model.specs.Requests.{Request, put, Reply, done, full, after, after_one, AreReplies}
 use Rattle.dict_model.specs.Shards.{Map, MapOf}
+use Rattle.trace_run.specs.Stands.{IsOtherRoot}
 use Rattle.trace_run.specs.Needs.{is_to, node_span, shards_put_into, ListsKeysOf, step_bound}
 
 -- the replies to a trace: none where a request is unanswered
@@ -74,18 +75,16 @@ pub record LeavesMaps (image : Image) (requests : List Request) (replies : Repli
   pub each : (shard : ℕ) (map : Map) → shard < shards → MapOf image shard map
       → IsMapLeft left shard (after map (of_shard shard (answered requests replies))) stopped (unanswered requests replies)
 
--- a root that is no shard's
-abbrev pub IsOtherRoot : ℕ → Type 0
-IsOtherRoot root = shards ≤ root
-
--- the image that is left can be opened again, and what belongs to no shard is in it as it was
-pub record LeavesGoodImage (image : Image) (length_left : ℕ) (left : Image) : Type 0 where
-  pub well_formed : header_fault (8 * length_left) left ≡ None
-  pub nothing_outside : (at : ℕ) → IsOutside left root_kind dict_links at → ⊥
+-- the image that is left has a good header and nothing outside, so it can be opened again; and what belongs to no shard is in it as it was
+pub record LeavesHeader (image : Image) (words_left : ℕ) (left : Image) : Type 0 where
+  pub well_formed : header_fault (8 * words_left) left ≡ None
   pub capacity : capacity_of left ≡ capacity_of image
-  pub other_roots : (root : ℕ) → IsOtherRoot root → root < roots → left (root_word root) ≡ image (root_word root)
-  pub their_blocks : (b : Block) (kind word : ℕ) → ReachFrom image IsOtherRoot root_kind dict_links b kind → IsIn b word → left word ≡ image word
   pub without_meaning : (word : ℕ) → IsReserved (capacity_of image) word → left word ≡ image word
+
+pub record LeavesOthers (image left : Image) : Type 0 where
+  pub nothing_outside : (at : ℕ) → IsOutside left root_kind dict_links at → ⊥
+  pub roots_are : (root : ℕ) → IsOtherRoot root → root < roots → left (root_word root) ≡ image (root_word root)
+  pub blocks_are : (b : Block) (kind word : ℕ) → ReachFrom image IsOtherRoot root_kind dict_links b kind → IsIn b word → left word ≡ image word
 
 -- it was closed where the run wasn't stopped
 abbrev pub LeavesState : Bool → Image → Type 0

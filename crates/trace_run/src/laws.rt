@@ -1,12 +1,20 @@
 //! What follows from the definitions, as functions with nothing to run: a caller cites their
 //! clauses.
 
-ghost use Rattle.std.specs.Prelude.{◌≡◌, ℕ, ◌+◌, ◌≤◌, List, ◌∷◌, ◌++◌, length};
+ghost use Rattle.std.specs.Prelude.{◌≡◌, ℕ, ◌+◌, ◌<◌, ◌≤◌, true, List, [], ◌∷◌, ◌++◌, length};
 ghost use Rattle.heap_model.specs.Image.{Image};
 ghost use Rattle.heap_model.specs.Header.{capacity_of, used_of};
-ghost use Rattle.dict_model.specs.Requests.{Request, Reply, put, full};
+ghost use Rattle.heap_seat.specs.View.{View};
+ghost use Rattle.heap_seat.specs.Words.{MixesOwn, NamesAll};
+ghost use Rattle.heap_seat.specs.Sound.{IsSeat};
+ghost use Rattle.dict_model.specs.Links.{shards};
+ghost use Rattle.dict_model.specs.Requests.{Request, Reply, put, full, after};
+ghost use Rattle.dict_model.specs.Shards.{Map, MapOf};
 ghost use Rattle.trace_run.specs.Needs.{superblocks_needed};
-ghost use Rattle.trace_run.specs.Runs.{Replies, answered, AnswersInOrder, IsFullRightly};
+ghost use Rattle.trace_run.specs.Runs.{Replies, answered, of_shard, AnswersInOrder, IsFullRightly, IsMapLeft, LeavesOthers};
+ghost use Rattle.trace_run.specs.Opened.{IsOpenedOver};
+ghost use Rattle.trace_run.specs.Progress.{Answers, MayAnswer, HasAnswered};
+ghost use Rattle.trace_run.specs.Stands.{StandsOver};
 
 /// Each request of a run has a reply or stands as unanswered; and where as many superblocks are left
 /// as the trace needs, no put is told that there is no room.
@@ -18,4 +26,37 @@ pub fn replies_fit_the_trace()
         → used_of image + superblocks_needed requests ≤ capacity_of image
         → (before later : List (Request × Reply)) (key : ℕ) (value : List ℕ)
         → answered requests replies ≡ before ++ (put key value, full) ∷ later → ⊥ }
+{}
+
+/// A run goes on request by request. It begins over a heap that was opened with an image of the
+/// dictionary; a request that is answered makes it longer by one; and wherever a request ends, what
+/// belongs to no shard stands.
+pub fn a_run_goes_on_request_by_request()
+    ensures begins { (image : Image) (v : View) → IsSeat v → IsOpenedOver image v
+        → HasAnswered image [] v }
+    ensures goes_on { (image : Image) (rs : List (Request × Reply)) (v w : View)
+        (request : Request) → IsSeat v → HasAnswered image rs v → MayAnswer request v w
+        → (reply : Reply) → Answers request reply v w
+        → HasAnswered image (rs ++ (request, reply) ∷ []) w }
+    ensures stands { (image : Image) (v w : View) (request : Request) → StandsOver image v
+        → MayAnswer request v w → StandsOver image w }
+{}
+
+/// What a run leaves is an image of the dictionary: each shard is its map after the answered
+/// requests, or, where the next request was stopped, it may be the map after that too; and nothing
+/// in it is outside.
+pub fn what_a_run_leaves_is_a_dictionary()
+    ensures maps { (image : Image) (rs : List (Request × Reply)) (v : View) (left : Image)
+        → IsSeat v → HasAnswered image rs v → MixesOwn v left → NamesAll left v.held
+        → (shard : ℕ) (map : Map) → shard < shards → MapOf image shard map
+        → MapOf left shard (after map (of_shard shard rs)) }
+    ensures stopped { (image : Image) (rs : List (Request × Reply)) (v w : View)
+        (request : Request) → IsSeat v → HasAnswered image rs v → MayAnswer request v w
+        → (left : Image) (others : List Request) → IsSeat w → MixesOwn w left
+        → NamesAll left w.held → (shard : ℕ) (map : Map) → shard < shards
+        → MapOf image shard map
+        → IsMapLeft left shard (after map (of_shard shard rs)) true (request ∷ others) }
+    ensures others { (image : Image) (v : View) (left : Image) → IsSeat v
+        → StandsOver image v → MixesOwn v left → NamesAll left v.held
+        → LeavesOthers image left }
 {}

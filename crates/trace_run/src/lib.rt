@@ -3,4 +3,6 @@
 
 mod laws;
 
-pub use laws::replies_fit_the_trace;
+pub use laws::{
+    a_run_goes_on_request_by_request, replies_fit_the_trace, what_a_run_leaves_is_a_dictionary,
+};

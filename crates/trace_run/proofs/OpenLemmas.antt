@@ -1,0 +1,133 @@
+-- A seat that was opened over a dictionary reaches only held blocks, and has the maps of the image.
+use Rattle.std.proofs.Common.{◌≡◌, ◌≢◌, ℕ, ◌+◌, ◌*◌, ◌^◌, ◌<◌, ◌⊎◌, inl, inr, List, [], ◌∷◌, Option, Some, Contains, refl, subst, sym, ◌∙◌, arith}
+use Rattle.std.proofs.lemmas.Bool.{cases_eq}
+use Rattle.heap_model.specs.declared.block.Block.{Block}
+use Rattle.heap_model.specs.Geometry.{root_word}
+use Rattle.heap_model.specs.Image.{Image}
+use Rattle.heap_model.specs.Pointers.{pointer_tag, IsPointerTo, Leads}
+use Rattle.heap_model.specs.Reach.{AnyRoot, ReachFrom, Reach, by_start, by_link, IsTraced, is_root, is_linked, IsReached}
+use Rattle.heap_model.proofs.DecisionLemmas.{both, at_most}
+use Rattle.heap_model.proofs.MemberLemmas.{in_none, in_head, in_rest, head_or_rest}
+use Rattle.heap_model.proofs.ReachLemmas.{closure_least, more_roots, reached_block}
+use Rattle.heap_seat.specs.View.{View}
+use Rattle.heap_seat.specs.Words.{in_root, in_block, MayBe, MayRead, MixesOwn}
+use Rattle.heap_seat.specs.Sound.{IsSeat}
+use Rattle.dict_model.specs.Links.{shards, root_kind, dict_links}
+use Rattle.dict_model.specs.Shards.{Map, LeadsTo, LeadsAlone, MapOf, IsMap}
+use Rattle.dict_model.proofs.MapLemmas.{map_wider, map_stays}
+use Rattle.dict_seat.specs.Maps.{IsMapIn, Gives}
+use Rattle.dict_seat.specs.Reached.{MayReach, IsNullOrHeld, ReachesOnlyHeld}
+use Rattle.dict_seat.proofs.GrownLemmas.{are_placed}
+use Rattle.dict_seat.proofs.TrailLemmas.{settled_in}
+use Rattle.trace_run.specs.Opened.{IsOpenedOver}
+use Rattle.trace_run.specs.Stands.{IsOtherRoot, HasOthers}
+use Rattle.trace_run.proofs.ShardReachLemmas.{block_lists, used_in_image, reached_alone}
+
+-- a word is a pointer to one of the blocks, or to none
+led_or_not : (word : ℕ) (bs : List Block) → ((b : Block) × Contains bs b × IsPointerTo word (8 * b.first_word)) ⊎ ((b : Block) → Contains bs b → IsPointerTo word (8 * b.first_word) → ⊥)
+led_or_not word [] = inr (λ b h to. in_none b h)
+led_or_not word (c ∷ bs) = elim (both (cases_eq word (pointer_tag + 8 * c.first_word)) (at_most (8 * c.first_word + 1) (2 ^ 48)))
+    as (λ _. ((b : Block) × Contains (c ∷ bs) b × IsPointerTo word (8 * b.first_word)) ⊎ ((b : Block) → Contains (c ∷ bs) b → IsPointerTo word (8 * b.first_word) → ⊥)) [
+      | inl first ↦ inl (c, in_head c bs, record { tagged = first.0; short = omega (arith, first.1) })
+      | inr other ↦ elim (led_or_not word bs) as (λ _. ((b : Block) × Contains (c ∷ bs) b × IsPointerTo word (8 * b.first_word)) ⊎ ((b : Block) → Contains (c ∷ bs) b → IsPointerTo word (8 * b.first_word) → ⊥)) [
+        | inl led ↦ inl (led.0, in_rest c led.0 bs led.1, led.2)
+        | inr none ↦ inr (λ b h to. elim (head_or_rest c b bs h) as (λ _. ⊥) [
+          | inl same ↦
+              let here : IsPointerTo word (8 * c.first_word) = subst (λ (x : Block). IsPointerTo word (8 * x.first_word)) (sym same) to in
+              let short = here.short in
+              other (here.tagged, omega arith)
+          | inr rest ↦ none b rest to
+        ])
+      ]
+    ]
+
+module _ (image : Image) (v : View) (seat : IsSeat v) (opened : IsOpenedOver image v) where
+  value_is : (known : Option ℕ) (x value : ℕ) → known ≡ Some x → MayBe known value → value ≡ x
+  value_is known x value seen may = subst (λ (k : Option ℕ). MayBe k value) seen may
+
+  read_is : (word value : ℕ) → MayRead v word value → value ≡ image word
+  read_is word value may = elim may as (λ _. value ≡ image word) [
+    | inl seen ↦ value_is (v.volatile word) (image word) value (opened.words word).seen seen
+    | inr left ↦ value_is (v.durable word) (image word) value (opened.words word).left left
+  ]
+
+  -- what leads to a held block leads to it in the image
+  leads_in : (at value : ℕ) (b : Block) → MayRead v at value → LeadsTo (Contains v.held) value b → Leads image (image at) b
+  leads_in at value b may leads =
+      let reached = (opened.dictionary.exact b).0 leads.0 in
+      subst (λ w. Leads image w b) (read_is at value may)
+      (record { pointer = leads.1; names = record { begins_at = refl; block = reached_block image root_kind dict_links b reached.kind reached.reach } })
+
+  reach_back : (root : ℕ) (b : Block) (kind : ℕ) → MayReach v root b kind → ReachFrom image (λ r. r ≡ root) root_kind dict_links b kind
+  reach_back root = closure_least (ReachFrom image (λ r. r ≡ root) root_kind dict_links)
+      (λ b kind start. by_start b kind (record {
+        root = root;
+        below = seat.roots_are root start.owned;
+        is_chosen = refl;
+        kind_is = start.kind_is;
+        leads = leads_in (root_word root) start.value b start.read start.leads;
+      }))
+      (λ a b from kind reached has link. by_link a b from kind has (record {
+        position = link.position;
+        listed = block_lists image a from link.position kind link.is_link;
+        leads = leads_in (a.first_word + link.position) link.value b link.read link.leads;
+      }))
+
+  -- what the image has where a trace looks is null or leads to a held block
+  good : (at : ℕ) → IsTraced image root_kind dict_links at → ((b : Block) → Leads image (image at) b → IsReached image root_kind dict_links b) → IsNullOrHeld v (image at)
+  good at traced reached = elim (cases_eq (image at) 0) as (λ _. IsNullOrHeld v (image at)) [
+    | inl null ↦ inl null
+    | inr some ↦ elim (led_or_not (image at) v.held) as (λ _. IsNullOrHeld v (image at)) [
+      | inl led ↦ inr (led.0, (led.1, led.2))
+      | inr none ↦ absurd (opened.dictionary.nothing_outside at (record {
+        traced = traced;
+        outside = record { not_null = some; nowhere = λ b leads. none b ((opened.dictionary.exact b).1 (reached b leads)) leads.pointer };
+      }))
+    ]
+  ]
+
+  any_reach : (root : ℕ) (b : Block) (kind : ℕ) → MayReach v root b kind → Reach image root_kind dict_links b kind
+  any_reach root b kind reached = more_roots {chosen = λ r. r ≡ root} {chosen' = AnyRoot} image root_kind dict_links (λ r e. tt) b kind (reach_back root b kind reached)
+
+  pub only_opened : ReachesOnlyHeld v
+  only_opened = record {
+    roots = λ root value owned may.
+        let below = seat.roots_are root owned in
+        subst (IsNullOrHeld v) (sym (read_is (root_word root) value may))
+        (good (root_word root) (is_root root (root_word root) below tt refl) (λ b leads. record {
+          kind = root_kind root;
+          reach = by_start b (root_kind root) (record { root = root; below = below; is_chosen = tt; kind_is = refl; leads = leads });
+        }));
+    links = λ root a from position kind value reached is may.
+        let there = any_reach root a from reached in
+        let listed = block_lists image a from position kind is in
+        subst (IsNullOrHeld v) (sym (read_is (a.first_word + position) value may))
+        (good (a.first_word + position) (is_linked a from position kind (a.first_word + position) there listed refl) (λ b leads. record {
+          kind = kind;
+          reach = by_link a b from kind there (record { position = position; listed = listed; leads = leads });
+        }));
+    alone = λ shard root b kind other small differs p q.
+        let map = opened.dictionary.maps shard small in
+        reached_alone image shard small map.0 map.1 b kind other (reach_back shard b kind p)
+        (more_roots {chosen = λ r. r ≡ root} {chosen' = λ r. r ≢ shard} image root_kind dict_links (λ r e same. differs (sym same ∙ e)) b other (reach_back root b other q));
+  }
+
+  pub gives_opened : (shard : ℕ) (map : Map) → shard < shards → MapOf image shard map → Gives v shard map
+  gives_opened shard map small is = record { each = λ mixed mixes. by_image mixed mixes } where
+    by_image : (mixed : Image) → MixesOwn v mixed → IsMapIn v mixed shard map
+    by_image mixed mixes =
+        let first : IsMap (LeadsTo (Contains v.held)) image shard map = map_wider (LeadsAlone image shard) (LeadsTo (Contains v.held)) image shard map
+        (λ word b used leads. let reached = used_in_image image shard small b used in ((opened.dictionary.exact b).1 (record { kind = reached.0; reach = reached.1 }), leads.0.pointer)) is in
+        map_stays (Contains v.held) (are_placed v seat) (LeadsTo (Contains v.held)) (λ word b leads. leads.0) image mixed shard
+        (settled_in v mixed mixes (root_word shard) (image (root_word shard)) (in_root shard (root_word shard) (opened.all_roots shard (omega arith)) refl) (opened.words (root_word shard)))
+        (λ b h word inside. settled_in v mixed mixes word (image word) (in_block b word h inside) (opened.words word)) map first
+
+  pub others_opened : HasOthers image v
+  others_opened = record {
+    root_words = λ root other below. opened.words (root_word root);
+    blocks = λ b kind reach. (opened.dictionary.exact b).1 (record {
+      kind = kind;
+      reach = more_roots {chosen = IsOtherRoot} {chosen' = AnyRoot} image root_kind dict_links (λ r e. tt) b kind reach;
+    });
+    words = λ b kind word reach inside. opened.words word;
+  }

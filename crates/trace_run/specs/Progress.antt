@@ -1,0 +1,32 @@
+-- How a run goes on: what a request does that is answered, what one may do wherever it ends, and how far the run has come.
+use Rattle.std.specs.Prelude.{ℕ, ◌<◌, List}
+use Rattle.heap_model.specs.Image.{Image}
+use Rattle.heap_seat.specs.View.{View}
+use Rattle.dict_model.specs.Links.{shards}
+use Rattle.dict_model.specs.Nodes.{shard_of}
+use Rattle.dict_model.specs.Requests.{Request, Reply, done, after, after_one, IsReply, AreReplies}
+use Rattle.dict_model.specs.Shards.{Map, MapOf}
+use Rattle.dict_seat.specs.Changes.{MayChange}
+use Rattle.dict_seat.specs.Maps.{Gives}
+use Rattle.trace_run.specs.Needs.{key_of}
+use Rattle.trace_run.specs.Runs.{of_shard}
+use Rattle.trace_run.specs.Stands.{StandsOver}
+
+-- the shard that a request is to
+abbrev pub shard_asked : Request → ℕ
+shard_asked request = shard_of (key_of request)
+
+-- the request was answered: the reply is right for the shard's map, and each mixture has the map after it
+pub record Answers (request : Request) (reply : Reply) (v w : View) : Type 0 where
+  pub right : (map : Map) → Gives v (shard_asked request) map → IsReply map request reply
+  pub gives : (map : Map) → Gives v (shard_asked request) map → Gives w (shard_asked request) (after_one map request reply)
+
+-- wherever the request ended, each mixture has the map before it or the map after it
+abbrev pub MayAnswer : Request → View → View → Type 0
+MayAnswer request = MayChange (shard_asked request) (λ map. after_one map request done)
+
+-- a run over the image has come so far: these requests have these replies
+pub record HasAnswered (image : Image) (rs : List (Request × Reply)) (v : View) : Type 0 where
+  pub stands : StandsOver image v
+  pub right : (shard : ℕ) (map : Map) → shard < shards → MapOf image shard map → AreReplies map (of_shard shard rs)
+  pub gives : (shard : ℕ) (map : Map) → shard < shards → MapOf image shard map → Gives v shard (after map (of_shard shard rs))
