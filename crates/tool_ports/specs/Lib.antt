@@ -1,7 +1,10 @@
+pub mod BytesSource
 pub mod Calls
 pub mod Causes
 pub mod Contents
 pub mod Images
+pub mod Left
 pub mod MapStore
+pub mod Seeded
 pub mod Taken
 pub mod VecSink

@@ -1,5 +1,6 @@
-//! Both forms in memory, through the traits' bounds, with failing calls and partial writes.
+//! The forms in memory, through the traits' bounds, with failing calls and calls that do a part.
 use crate::*;
+use line_memory::Chance;
 use std::alloc::Global;
 use std::test::Fail;
 
@@ -119,5 +120,101 @@ fn each_call_of_a_store_is_counted(rt: HostRuntime) -> Result<(), Fail> {
     let _ = get(&mut store, alloc, "heap", 4);
     let calls = store.calls();
     assert_eq!(rt; (calls.gets, calls.puts, calls.most), (2, 1, 9));
+    Ok(())
+}
+
+fn source_of(
+    alloc: Global,
+    failing: &[u64],
+    most: usize,
+    text: &str,
+) -> Result<BytesSource, std::alloc::AllocError> {
+    let failing = Vec::from_slice(alloc, failing)?;
+    let bytes = Vec::from_slice(alloc, text.as_bytes())?;
+    Ok(BytesSource::new(failing, most.max(1), bytes))
+}
+
+#[test]
+fn all_is_read_in_pieces_up_to_the_call_that_fails(rt: HostRuntime) -> Result<(), Fail> {
+    let alloc = rt.alloc();
+    let cases = [
+        (0, Err(ReadAllFault::Failed), "abcde"),
+        (1, Err(ReadAllFault::Failed), "cde"),
+        (2, Err(ReadAllFault::Failed), "e"),
+        (3, Err(ReadAllFault::Failed), ""),
+        (4, Ok(5), ""),
+    ];
+    for (failing, answer, rest) in cases {
+        let mut source = source_of(alloc, &[failing], 2, "abcde")?;
+        let read = read_all(alloc, &mut source, 9).map(|bytes| bytes.len());
+        assert_eq!(rt; read, answer, "call {failing} fails");
+        assert_eq!(rt; source.rest(), rest.as_bytes(), "call {failing} fails");
+    }
+    Ok(())
+}
+
+#[test]
+fn what_is_too_long_is_read_one_byte_further(rt: HostRuntime) -> Result<(), Fail> {
+    let alloc = rt.alloc();
+    for (most, want, rest) in [
+        (0, None, "bcde"),
+        (3, None, "e"),
+        (4, None, ""),
+        (5, Some(()), ""),
+    ] {
+        for by_call in [1, 2, 9] {
+            let mut source = source_of(alloc, &[], by_call, "abcde")?;
+            match read_all(alloc, &mut source, most) {
+                Ok(bytes) => {
+                    assert!(rt; want.is_some(), "at most {most}");
+                    assert_eq!(rt; bytes.as_slice(), b"abcde".as_slice());
+                }
+                Err(fault) => {
+                    assert!(rt; want.is_none(), "at most {most}");
+                    assert_eq!(rt; fault, ReadAllFault::TooLong);
+                }
+            }
+            assert_eq!(rt; source.rest(), rest.as_bytes(), "at most {most}");
+        }
+    }
+    Ok(())
+}
+
+#[test]
+fn an_empty_source_is_at_its_end(rt: HostRuntime) -> Result<(), Fail> {
+    let alloc = rt.alloc();
+    let mut source = source_of(alloc, &[], 3, "")?;
+    for most in [0, 1, usize::MAX] {
+        let read = read_all(alloc, &mut source, most).map(|bytes| bytes.len());
+        assert_eq!(rt; read, Ok(0));
+    }
+    Ok(())
+}
+
+// The first number of each worker and the first word, after this seed.
+fn first_numbers<C: Chances>(chances: &mut C, seed: u64) -> (u64, u64, u64) {
+    chances.seed(seed);
+    let mut zero = chances.chance(0);
+    let mut one = chances.chance(1);
+    (zero.draw(), one.draw(), chances.word())
+}
+
+#[test]
+fn a_seed_gives_the_same_numbers_again(rt: HostRuntime) -> Result<(), Fail> {
+    let mut chances = SeededChances::new();
+    let first = first_numbers(&mut chances, 42);
+    let other = first_numbers(&mut chances, 43);
+    assert_eq!(rt; first_numbers(&mut chances, 42), first);
+    assert!(rt; first.0 != other.0 && first.1 != other.1 && first.2 != other.2);
+    assert!(rt; first.0 != first.1 && first.0 != first.2);
+    Ok(())
+}
+
+#[test]
+fn a_gate_that_is_open_lets_each_request_by(rt: HostRuntime) -> Result<(), Fail> {
+    let gate = OpenGate;
+    gate.pass(0, 0);
+    gate.done(0, 0);
+    assert_eq!(rt; gate, OpenGate);
     Ok(())
 }
