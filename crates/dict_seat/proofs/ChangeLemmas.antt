@@ -1,12 +1,12 @@
 -- How what calls leave of a shard goes together.
-use Rattle.std.proofs.Common.{◌≡◌, ◌≢◌, ℕ, ◌+◌, ◌*◌, ◌<◌, ◌≤◌, ◌⊎◌, inl, inr, List, Contains, subst, sym, arith}
+use Rattle.std.proofs.Common.{ℕ, ◌<◌, inl, inr, Contains}
 use Rattle.heap_model.specs.declared.block.Block.{Block}
 use Rattle.heap_seat.specs.View.{View}
 use Rattle.heap_seat.specs.Free.{MayFree}
 use Rattle.heap_seat.specs.Sound.{IsSeat}
 use Rattle.dict_model.specs.Links.{shards}
 use Rattle.dict_model.specs.Shards.{Map}
-use Rattle.dict_seat.specs.Maps.{IsMapIn, Gives, GivesEither, KeepsOthers}
+use Rattle.dict_seat.specs.Maps.{Gives, KeepsOthers}
 use Rattle.dict_seat.specs.Reached.{MayReach, ReachesOnlyHeld}
 use Rattle.dict_seat.specs.Changes.{MayChange, Changes}
 use Rattle.dict_seat.proofs.GrownLemmas.{Grown, gives_grown, only_grown, others_grown, reached_before}

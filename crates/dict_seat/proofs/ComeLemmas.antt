@@ -1,40 +1,39 @@
 -- What is so of the blocks of a settled trail: the root reaches them, and they are apart from each other and from the table.
-use Rattle.std.proofs.Common.{◌≡◌, ◌≢◌, ℕ, ◌+◌, ◌*◌, ◌^◌, ◌<◌, ◌≤◌, ◌⊎◌, inl, inr, List, [], ◌∷◌, ◌++◌, Option, None, Some, Contains, cond, nat_lt, refl, ap, subst, sym, ◌∙◌, arith, rules}
+use Rattle.std.proofs.Common.{◌≡◌, ◌≢◌, ℕ, ◌+◌, ◌<◌, ◌≤◌, ◌⊎◌, inl, inr, List, [], ◌∷◌, ◌++◌, Contains, nat_lt, refl, ap, subst, sym, ◌∙◌, arith, rules}
 use Rattle.std.proofs.lemmas.Bool.{cond-true}
 use Rattle.std.proofs.lemmas.List.Elements.{Contains-append_left, Contains-append_right}
 use Rattle.heap_model.specs.declared.block.Block.{Block}
-use Rattle.heap_model.specs.Image.{Image}
 use Rattle.heap_model.specs.Geometry.{root_word}
 use Rattle.heap_model.specs.Blocks.{IsIn}
-use Rattle.heap_model.proofs.MemberLemmas.{in_none, in_head, in_rest, head_or_rest}
+use Rattle.heap_model.proofs.MemberLemmas.{in_none, in_head, head_or_rest}
 use Rattle.heap_seat.specs.View.{View}
-use Rattle.heap_seat.specs.Words.{IsOwn, in_root, in_block, MayRead}
+use Rattle.heap_seat.specs.Words.{MayRead}
 use Rattle.heap_seat.specs.Sound.{IsSeat}
 use Rattle.dict_model.specs.Links.{shards, root_kind, table_kind, node_kind, IsLink, in_table, in_node}
-use Rattle.dict_model.specs.Nodes.{buckets, shard_of, bucket_of, key_in, IsNode, find}
+use Rattle.dict_model.specs.Nodes.{shard_of, bucket_of, key_in, IsNode}
 use Rattle.dict_model.specs.Shards.{Map, LeadsTo, IsPath, but, link_behind}
 use Rattle.dict_model.proofs.ChainLemmas.{in_path, path_left, path_cross, not_of, behind_is}
 use Rattle.dict_model.proofs.SpliceLemmas.{one_holder, first_in}
 use Rattle.dict_seat.specs.Maps.{Gives}
-use Rattle.dict_seat.specs.Reached.{MayReach}
+use Rattle.dict_seat.specs.Reached.{MayReach, ReachesOnlyHeld}
 use Rattle.dict_seat.specs.Trails.{pointer_to, IsSettled, Trail, HasCome}
 use Rattle.dict_seat.proofs.GrownLemmas.{are_placed, root_reach, link_reach}
-use Rattle.dict_seat.proofs.PublishLemmas.{IsLinkOf, is_root, is_link}
-use Rattle.dict_seat.proofs.TrailLemmas.{now_image, now_completes, leads_held, settled_in, IsAlong, is_along, bucket_below, first_own}
-use Rattle.dict_seat.proofs.MapPublishLemmas.{seen_read, trail_held, trail_left}
+use Rattle.dict_seat.proofs.PublishLemmas.{IsLinkOf, is_link}
+use Rattle.dict_seat.proofs.TrailLemmas.{now_image, now_completes, leads_held, settled_in, is_along, bucket_below}
+use Rattle.dict_seat.proofs.MapPublishLemmas.{seen_read, trail_held}
 
 -- what a shard's root leads to is a table
 pub root_is_table : (shard : ℕ) → shard < shards → root_kind shard ≡ table_kind
 root_is_table shard small = cond-true (nat_lt shard shards) table_kind 0 (search rules)
 
 -- a link that the root may be followed to
-record IsFollowed (u : View) (shard at : ℕ) : Type 0 where
-  holder : Block
-  from : ℕ
-  position : ℕ
-  reached : MayReach u shard holder from
-  is_link : IsLink from holder.words position node_kind
-  at_is : at ≡ holder.first_word + position
+pub record IsFollowed (u : View) (shard at : ℕ) : Type 0 where
+  pub holder : Block
+  pub from : ℕ
+  pub position : ℕ
+  pub reached : MayReach u shard holder from
+  pub is_link : IsLink from holder.words position node_kind
+  pub at_is : at ≡ holder.first_word + position
 
 module _ (u : View) (seat : IsSeat u) (shard : ℕ) (small : shard < shards) where
   -- a block to which such a link leads
@@ -43,7 +42,7 @@ module _ (u : View) (seat : IsSeat u) (shard : ℕ) (small : shard < shards) whe
       link_reach u shard followed.holder b followed.from followed.position node_kind (pointer_to b) followed.reached followed.is_link
       (subst (λ w. MayRead u w (pointer_to b)) followed.at_is (seen_read u at (pointer_to b) settled.seen)) (leads_held u b seat h)
 
-  own_link_followed : (b : Block) → Contains u.held b → MayReach u shard b node_kind → IsFollowed u shard b.first_word
+  pub own_link_followed : (b : Block) → Contains u.held b → MayReach u shard b node_kind → IsFollowed u shard b.first_word
   own_link_followed b h reached = record {
     holder = b;
     from = node_kind;
@@ -52,6 +51,15 @@ module _ (u : View) (seat : IsSeat u) (shard : ℕ) (small : shard < shards) whe
     is_link = in_node b.words (seat.placed b h).some;
     at_is = omega arith;
   }
+
+  -- what such a link leads to is null, or a block that the root may reach
+  pub followed_leads : (at x : ℕ) → IsFollowed u shard at → IsSettled u at x → ReachesOnlyHeld u → (x ≡ 0) ⊎ ((f : Block) × LeadsTo (Contains u.held) x f × MayReach u shard f node_kind)
+  followed_leads at x followed settled only =
+      let read = subst (λ w. MayRead u w x) followed.at_is (seen_read u at x settled.seen) in
+      elim (only.links shard followed.holder followed.from followed.position node_kind x followed.reached followed.is_link read) as (λ _. (x ≡ 0) ⊎ ((f : Block) × LeadsTo (Contains u.held) x f × MayReach u shard f node_kind)) [
+        | inl null ↦ inl null
+        | inr f ↦ inr (f.0, f.1, link_reach u shard followed.holder f.0 followed.from followed.position node_kind x followed.reached followed.is_link read f.1)
+      ]
 
   trail_reached : (at : ℕ) (bs : List Block) → IsFollowed u shard at → Trail (IsSettled u) u.held at bs
       → ((b : Block) → Contains bs b → MayReach u shard b node_kind) × IsFollowed u shard (link_behind at bs)
@@ -66,7 +74,7 @@ module _ (u : View) (seat : IsSeat u) (key : ℕ) (small : shard_of key < shards
   table_is_reached = root_reach u (shard_of key) table (root_kind (shard_of key)) (pointer_to table) come.owned refl
       (seen_read u (root_word (shard_of key)) (pointer_to table) come.root.seen) (leads_held u table seat come.held_table)
 
-  bucket_followed : IsFollowed u (shard_of key) (table.first_word + bucket_of key)
+  pub bucket_followed : IsFollowed u (shard_of key) (table.first_word + bucket_of key)
   bucket_followed = record {
     holder = table;
     from = root_kind (shard_of key);

@@ -1,36 +1,30 @@
 -- How a delete's search and its removal go together.
-use Rattle.std.proofs.Common.{◌≡◌, ◌≢◌, ℕ, ◌+◌, ◌*◌, ◌<◌, ◌≤◌, ◌↔◌, inl, inr, List, [], ◌∷◌, ◌++◌, length, Option, None, Some, Contains, Bool, true, false, IsTrue, cond, refl, ap, subst, sym, ◌∙◌, arith, rules}
+use Rattle.std.proofs.Common.{◌≡◌, ◌≢◌, ℕ, ◌+◌, ◌*◌, ◌≤◌, inl, inr, List, [], ◌∷◌, ◌++◌, length, None, Some, Contains, true, false, refl, ap, subst, sym, ◌∙◌, arith, rules}
 use Rattle.std.specs.Prelude.{nat_eq}
 use Rattle.std.proofs.lemmas.Bool.{cases_eq, cond-true, cond-false, eq-eqb, ne_eqb}
 use Rattle.std.proofs.lemmas.List.Elements.{Contains-append_left, Contains-append_right}
 use Rattle.heap_model.specs.declared.block.Block.{Block}
 use Rattle.heap_model.proofs.MemberLemmas.{in_head}
-use Rattle.heap_seat.specs.View.{View, word_of}
-use Rattle.heap_seat.specs.Words.{IsOwn, in_block, KeepsOwn}
+use Rattle.heap_seat.specs.View.{View}
+use Rattle.heap_seat.specs.Words.{in_block, KeepsOwn}
 use Rattle.heap_seat.specs.Tickets.{Runs}
 use Rattle.heap_seat.specs.Rows.{IsRow}
-use Rattle.heap_seat.specs.Calls.{SameRefusals}
 use Rattle.heap_seat.specs.Sound.{IsSeat}
 use Rattle.heap_seat.proofs.RowLemmas.{row_then, row_more, runs_then}
-use Rattle.dict_model.specs.Nodes.{buckets, shard_of, bucket_of, key_in, value_in, find}
+use Rattle.dict_model.specs.Nodes.{shard_of, bucket_of, key_in, value_in, find}
 use Rattle.dict_model.specs.Requests.{without_key}
 use Rattle.dict_model.specs.Shards.{Map, LeadsTo, IsPath, but}
 use Rattle.dict_model.proofs.ChainLemmas.{found_in}
 use Rattle.dict_seat.specs.declared.walk.Place.{Place}
-use Rattle.dict_seat.specs.declared.search.SearchEnd.{SearchEnd}
-use Rattle.dict_seat.specs.declared.search.SearchEnd.TheVariants.{NoTable, Missing, Found}
 use Rattle.dict_seat.specs.Maps.{Gives}
 use Rattle.dict_seat.specs.Trails.{IsSettling}
-use Rattle.dict_seat.specs.Walks.{IsFound, ListsKeys, IsQuietWalk}
-use Rattle.dict_seat.specs.Searches.{Searches}
-use Rattle.dict_seat.specs.Changes.{MayChange, Changes}
+use Rattle.dict_seat.specs.Walks.{IsFound, IsQuietWalk}
+use Rattle.dict_seat.specs.Changes.{Changes}
 use Rattle.dict_seat.specs.Removal.{IsShard}
 use Rattle.dict_seat.specs.Answers.{Deletes, MakesFew}
-use Rattle.dict_seat.proofs.GrownLemmas.{Grown, grown_keeps, gives_grown, only_grown}
+use Rattle.dict_seat.proofs.GrownLemmas.{grown_keeps, gives_grown, only_grown}
 use Rattle.dict_seat.proofs.TrailLemmas.{now_image, now_completes, settling_in, is_along, found_at, bucket_below}
 use Rattle.dict_seat.proofs.RemovalLemmas.{found_held}
-use Rattle.dict_seat.proofs.CountLemmas.{lists_later}
-use Rattle.dict_seat.proofs.ChangeLemmas.{change_after, changes_after}
 
 -- maps with the same values are one
 pub gives_same : (v : View) (shard : ℕ) (a b : Map) → ((q : ℕ) → a q ≡ b q) → Gives v shard a → Gives v shard b

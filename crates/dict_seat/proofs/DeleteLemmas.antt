@@ -1,5 +1,5 @@
 -- What taking a node out of its chain leaves, and freeing it.
-use Rattle.std.proofs.Common.{◌≡◌, ◌≢◌, ℕ, ◌+◌, ◌*◌, ◌^◌, ◌<◌, ◌≤◌, ◌⊎◌, inl, inr, List, [], ◌∷◌, ◌++◌, Option, None, Some, Contains, cond, refl, ap, subst, sym, ◌∙◌, arith}
+use Rattle.std.proofs.Common.{◌≡◌, ◌≢◌, ℕ, ◌+◌, ◌<◌, ◌≤◌, inl, inr, List, [], ◌∷◌, ◌++◌, None, Some, Contains, refl, subst, sym, ◌∙◌, arith}
 use Rattle.std.specs.Prelude.{nat_eq}
 use Rattle.std.proofs.Math.Nat.{mod-lt}
 use Rattle.std.proofs.lemmas.Bool.{cases_eq, cond-true, eq-eqb}
@@ -10,26 +10,24 @@ use Rattle.heap_model.specs.Geometry.{root_word}
 use Rattle.heap_model.specs.Blocks.{IsIn}
 use Rattle.heap_model.proofs.MemberLemmas.{in_head}
 use Rattle.heap_seat.specs.View.{View, word_of}
-use Rattle.heap_seat.specs.Words.{IsOwn, in_root, in_block, MayRead, MixesOwn, KeepsOwn, KeepsWord, MayStore}
-use Rattle.heap_seat.specs.Free.{MayFree}
+use Rattle.heap_seat.specs.Words.{IsOwn, in_root, in_block, MayRead, MixesOwn, MayStore}
 use Rattle.heap_seat.specs.Sound.{IsSeat}
 use Rattle.heap_seat.proofs.CallerLemmas.{own_same}
-use Rattle.dict_model.specs.Links.{shards, root_kind, node_kind, IsLink, in_node}
-use Rattle.dict_model.specs.Nodes.{buckets, shard_of, bucket_of}
-use Rattle.dict_model.specs.Requests.{with_key, without_key}
-use Rattle.dict_model.specs.Shards.{Map, LeadsTo, link_behind}
+use Rattle.dict_model.specs.Links.{shards, node_kind, IsLink, in_node}
+use Rattle.dict_model.specs.Nodes.{shard_of, bucket_of}
+use Rattle.dict_model.specs.Requests.{without_key}
+use Rattle.dict_model.specs.Shards.{Map, link_behind}
 use Rattle.dict_seat.specs.declared.walk.Place.{Place}
-use Rattle.dict_seat.specs.Maps.{IsMapIn, Gives, GivesEither, KeepsOthers}
+use Rattle.dict_seat.specs.Maps.{IsMapIn, Gives}
 use Rattle.dict_seat.specs.Reached.{MayReach, ReachesOnlyHeld}
 use Rattle.dict_seat.specs.Trails.{pointer_to, IsSettled, Trail, HasCome}
-use Rattle.dict_seat.specs.Changes.{MayChange, Changes, IsTaken}
-use Rattle.dict_seat.proofs.GrownLemmas.{Grown, gives_grown, only_grown, others_grown, reached_before, link_reach, reached_held}
-use Rattle.dict_seat.proofs.PublishLemmas.{IsLinkOf, MayPublish, no_block, old, new, only_after, others_after, others_then, reached_after}
-use Rattle.dict_seat.proofs.TrailLemmas.{settled_stays, bucket_below}
+use Rattle.dict_seat.specs.Changes.{MayChange, IsTaken}
+use Rattle.dict_seat.proofs.GrownLemmas.{link_reach}
+use Rattle.dict_seat.proofs.PublishLemmas.{IsLinkOf, MayPublish, no_block, old, only_after, others_after, reached_after}
+use Rattle.dict_seat.proofs.TrailLemmas.{settled_stays}
 use Rattle.dict_seat.proofs.MapPublishLemmas.{seen_read, come_left, behind_own, either, exactly, take_out}
-use Rattle.dict_seat.proofs.ComeLemmas.{nodes_reached, link_followed, last_held, last_not_table, last_room, last_not_before, link_outside, link_behind_roots}
+use Rattle.dict_seat.proofs.ComeLemmas.{nodes_reached, link_followed, last_held, last_not_table, last_room, link_outside, link_behind_roots}
 use Rattle.dict_seat.proofs.UnreachedLemmas.{gone}
-use Rattle.dict_seat.proofs.FreedLemmas.{gives_freed, only_freed, others_freed, reached_freed}
 
 -- each key has one of the shards
 pub shard_below : (key : ℕ) → shard_of key < shards

@@ -16,6 +16,7 @@ use Rattle.dict_model.specs.Shards.{Map, LeadsTo}
 use Rattle.dict_model.proofs.SpliceLemmas.{ArePlaced, held_once}
 use Rattle.dict_model.proofs.MapLemmas.{map_wider}
 use Rattle.dict_seat.specs.Reached.{MayReach, IsNullOrHeld, ReachesOnlyHeld}
+pub use Rattle.dict_seat.specs.Quiet.{Grown}
 use Rattle.dict_seat.specs.Maps.{IsMapIn, Gives, KeepsOthers}
 
 -- the blocks of a seat are apart, lie behind the roots and have words
@@ -52,12 +53,6 @@ pub link_reach : (v : View) (root : ℕ) (a b : Block) (from position kind value
     → MayRead v (a.first_word + position) value → LeadsTo (Contains v.held) value b → MayReach v root b kind
 link_reach v root a b from position kind value reached is read leads =
     by_link a b from kind reached (record { position = position; is_link = is; value = value; read = read; leads = leads })
-
--- blocks may have come, and no word that was own was stored to
-pub record Grown (v w : View) : Type 0 where
-  pub keeps : (b : Block) → Contains v.held b → Contains w.held b
-  pub roots : w.roots ≡ v.roots
-  pub words : (word : ℕ) → IsOwn v.held v.roots word → KeepsWord v w word
 
 pub own_grown : (v w : View) (word : ℕ) → Grown v w → IsOwn v.held v.roots word → IsOwn w.held w.roots word
 own_grown v w word grown (in_block b _ h inside) = in_block b word (grown.keeps b h) inside

@@ -1,27 +1,25 @@
 -- A key's node on its way from being found to being freed.
-use Rattle.std.proofs.Common.{◌≡◌, ◌≢◌, ℕ, ◌+◌, ◌*◌, ◌<◌, ◌≤◌, ◌⊎◌, inl, inr, List, [], ◌∷◌, ◌++◌, Option, None, Some, Contains, refl, ap, subst, sym, ◌∙◌, arith}
+use Rattle.std.proofs.Common.{◌≡◌, ℕ, ◌+◌, ◌<◌, ◌≤◌, inl, List, [], ◌∷◌, ◌++◌, Contains, subst, sym, ◌∙◌, arith}
 use Rattle.std.proofs.lemmas.List.Elements.{Contains-append_right}
 use Rattle.heap_model.specs.declared.block.Block.{Block}
-use Rattle.heap_model.specs.Geometry.{root_word}
 use Rattle.heap_model.proofs.MemberLemmas.{in_head}
 use Rattle.heap_seat.specs.declared.spot.Spot.{Spot}
 use Rattle.heap_seat.specs.declared.spot.Spot.TheVariants.{InBlock, Root}
 use Rattle.heap_seat.specs.View.{View, word_of}
-use Rattle.heap_seat.specs.Words.{IsOwn, IsOwnSpot, in_block, KeepsOwn, KeepsWord, MayStore}
-use Rattle.heap_seat.specs.Calls.{WritesBack, Fences}
+use Rattle.heap_seat.specs.Words.{IsOwn, IsOwnSpot, in_block, KeepsOwn, MayStore}
+use Rattle.heap_seat.specs.Calls.{WritesBack}
 use Rattle.heap_seat.specs.Rows.{Settles}
 use Rattle.heap_seat.specs.Free.{MayFree}
 use Rattle.heap_seat.specs.Sound.{IsSeat}
 use Rattle.heap_seat.proofs.CallerLemmas.{own_same, spot_written, keeps_own_then}
-use Rattle.dict_model.specs.Links.{shards, node_kind}
+use Rattle.dict_model.specs.Links.{node_kind}
 use Rattle.dict_model.specs.Nodes.{shard_of, bucket_of}
 use Rattle.dict_model.specs.Requests.{without_key}
-use Rattle.dict_model.specs.Shards.{Map, link_behind}
 use Rattle.dict_seat.specs.declared.walk.Place.{Place}
-use Rattle.dict_seat.specs.Maps.{Gives, KeepsOthers}
-use Rattle.dict_seat.specs.Reached.{MayReach, ReachesOnlyHeld}
-use Rattle.dict_seat.specs.Trails.{IsSettled, IsSettling, HasCome}
-use Rattle.dict_seat.specs.Quiet.{IsQuiet, GoesPending, Follows}
+use Rattle.dict_seat.specs.Maps.{Gives}
+use Rattle.dict_seat.specs.Reached.{ReachesOnlyHeld}
+use Rattle.dict_seat.specs.Trails.{IsSettled, IsSettling}
+use Rattle.dict_seat.specs.Quiet.{GoesPending, Follows}
 use Rattle.dict_seat.specs.Walks.{IsFound}
 use Rattle.dict_seat.specs.Changes.{MayChange, Changes, IsTaken}
 use Rattle.dict_seat.specs.Removal.{IsShard, Takes}
@@ -29,7 +27,7 @@ use Rattle.dict_seat.proofs.GrownLemmas.{Grown, grown_keeps, gives_grown, only_g
 use Rattle.dict_seat.proofs.TrailLemmas.{come_stays, settles}
 use Rattle.dict_seat.proofs.MapPublishLemmas.{trail_held}
 use Rattle.dict_seat.proofs.QuietLemmas.{goes_then, still_settling}
-use Rattle.dict_seat.proofs.ChangeLemmas.{change_none, change_after, changes_after, freed}
+use Rattle.dict_seat.proofs.ChangeLemmas.{change_after, changes_after, freed}
 use Rattle.dict_seat.proofs.DeleteLemmas.{shard_below, node_held, node_reached, unlink_left, unlinked, unreached}
 
 -- the node that was found is held

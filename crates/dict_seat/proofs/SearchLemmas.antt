@@ -1,27 +1,25 @@
 -- What the word of a shard's root tells.
-use Rattle.std.proofs.Common.{◌≡◌, ◌≢◌, ℕ, ◌+◌, ◌*◌, ◌<◌, ◌≤◌, ◌⊎◌, inl, inr, List, [], ◌∷◌, Option, None, Some, IfSome, IfNone, Contains, refl, ap, subst, sym, ◌∙◌, arith}
+use Rattle.std.proofs.Common.{◌≡◌, ℕ, ◌+◌, ◌*◌, ◌≤◌, List, [], Option, None, Some, IfSome, IfNone, Contains, refl, ap, subst, sym, ◌∙◌, arith}
 use Rattle.heap_model.specs.declared.block.Block.{Block}
-use Rattle.heap_model.specs.Image.{Image}
 use Rattle.heap_model.specs.Geometry.{root_word}
 use Rattle.heap_model.proofs.ReachLemmas.{not_null}
-use Rattle.heap_seat.specs.View.{View, word_of}
-use Rattle.heap_seat.specs.Words.{IsOwn, in_root, KeepsOwn, MixesOwn}
+use Rattle.heap_seat.specs.View.{View}
+use Rattle.heap_seat.specs.Words.{IsOwn, in_root, KeepsOwn}
 use Rattle.heap_seat.specs.Sound.{IsSeat}
-use Rattle.heap_seat.proofs.CallerLemmas.{keeps_own_then}
 use Rattle.dict_model.specs.Nodes.{buckets, shard_of}
-use Rattle.dict_model.specs.Shards.{Map, LeadsTo, IsMap, is_empty, has_table}
+use Rattle.dict_model.specs.Shards.{Map, LeadsTo, is_empty, has_table}
 use Rattle.dict_model.proofs.SpliceLemmas.{held_once}
 use Rattle.dict_seat.specs.declared.walk.Place.{Place}
 use Rattle.dict_seat.specs.declared.search.SearchEnd.TheVariants.{NoTable, Missing, Found}
-use Rattle.dict_seat.specs.Maps.{IsMapIn, Gives}
-use Rattle.dict_seat.specs.Reached.{IsNullOrHeld, ReachesOnlyHeld}
-use Rattle.dict_seat.specs.Trails.{pointer_to, IsSettling, Completes, HasCome}
+use Rattle.dict_seat.specs.Maps.{IsMapIn}
+use Rattle.dict_seat.specs.Reached.{IsNullOrHeld}
+use Rattle.dict_seat.specs.Trails.{IsSettling, HasCome}
 use Rattle.dict_seat.specs.Quiet.{IsQuiet, GoesPending, Follows}
-use Rattle.dict_seat.specs.Walks.{Walks, IsQuietWalk, ListsKeys}
+use Rattle.dict_seat.specs.Walks.{Walks, IsQuietWalk}
 use Rattle.dict_seat.specs.Removal.{IsShard}
-use Rattle.dict_seat.specs.Searches.{HasRoot, HasNoRoot, FindsTable, Searches}
-use Rattle.dict_seat.proofs.GrownLemmas.{Grown, are_placed, grown_keeps, own_grown, null_or_held, gives_grown, only_grown}
-use Rattle.dict_seat.proofs.TrailLemmas.{now_image, now_completes, completes_before, come_stays}
+use Rattle.dict_seat.specs.Searches.{HasRoot, FindsTable, Searches}
+use Rattle.dict_seat.proofs.GrownLemmas.{Grown, are_placed, grown_keeps, own_grown, gives_grown, only_grown}
+use Rattle.dict_seat.proofs.TrailLemmas.{now_image, now_completes, come_stays}
 use Rattle.dict_seat.proofs.MapPublishLemmas.{seen_read}
 use Rattle.dict_seat.proofs.QuietLemmas.{goes_then, quiet_then, still_settling}
 use Rattle.dict_seat.proofs.CountLemmas.{lists_later}

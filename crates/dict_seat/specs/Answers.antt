@@ -1,5 +1,5 @@
 -- What the requests answer, and how many calls they make.
-use Rattle.std.specs.Prelude.{◌≡◌, ◌≢◌, ℕ, ◌+◌, ◌*◌, ◌↔◌, List, length, None, Bool, IsTrue}
+use Rattle.std.specs.Prelude.{◌≢◌, ℕ, ◌+◌, ◌*◌, ◌↔◌, List, length, None, Bool, IsTrue}
 use Rattle.heap_seat.specs.View.{View}
 use Rattle.heap_seat.specs.Tickets.{Runs}
 use Rattle.heap_seat.specs.Rows.{IsRow}

@@ -2,8 +2,11 @@ pub mod Answers
 pub mod Removal
 pub mod Changes
 pub mod Maps
+pub mod Nodes
+pub mod Puts
 pub mod Quiet
 pub mod Reached
 pub mod Searches
+pub mod Tables
 pub mod Trails
 pub mod Walks

@@ -1,7 +1,6 @@
 -- What a request for a key's node relies on, and what its parts leave.
-use Rattle.std.specs.Prelude.{◌≡◌, ℕ, ◌+◌, Contains}
+use Rattle.std.specs.Prelude.{ℕ, Contains}
 use Rattle.heap_seat.specs.View.{View}
-use Rattle.dict_model.specs.Nodes.{shard_of}
 use Rattle.dict_model.specs.Shards.{Map}
 use Rattle.dict_seat.specs.declared.walk.Place.{Place}
 use Rattle.dict_seat.specs.Maps.{Gives}

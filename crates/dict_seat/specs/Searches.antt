@@ -1,5 +1,5 @@
 -- The search for a key: from the shard's root to its table, and along the key's bucket.
-use Rattle.std.specs.Prelude.{◌≡◌, ◌≢◌, ℕ, List, [], Option, None, Some, IfSome, IfNone, Contains}
+use Rattle.std.specs.Prelude.{◌≡◌, ℕ, [], Option, None, IfSome, IfNone, Contains}
 use Rattle.heap_model.specs.declared.block.Block.{Block}
 use Rattle.heap_model.specs.Geometry.{root_word}
 use Rattle.heap_seat.specs.View.{View}

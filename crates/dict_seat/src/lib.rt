@@ -1,9 +1,16 @@
-//! A recoverable dictionary over any open heap.
+//! A recoverable dictionary over any open heap: the requests to its shards.
 #![tactic(auto)]
 
+mod laws;
+mod node;
+mod publish;
 mod removal;
 mod search;
 mod shard;
+mod table;
+mod value;
 mod walk;
 
+pub use heap_seat::AllocFault as PutFault;
+pub use laws::images_have_the_map;
 pub use shard::Shard;

@@ -1,18 +1,22 @@
 //! The requests to a shard.
-ghost use Rattle.std.specs.Prelude.{◌≡◌, ℕ, ◌<◌, IfOk, IfErr};
+ghost use Rattle.std.specs.Prelude.{◌≡◌, ℕ, ◌+◌, ◌<◌, ◌≤◌, length, OnOk, IfOk, IfErr};
+ghost use Rattle.heap_model.specs.Sizes.{span_of};
 ghost use Rattle.heap_seat.specs.View.{View};
-ghost use Rattle.heap_seat.specs.Tickets.{Stops};
+ghost use Rattle.heap_seat.specs.Tickets.{Runs, Stops};
 ghost use Rattle.heap_seat.specs.Calls.{SameRefusals};
-ghost use Rattle.dict_model.specs.Nodes.{shard_of};
-ghost use Rattle.dict_model.specs.Requests.{without_key};
+ghost use Rattle.dict_model.specs.Nodes.{largest_value, shard_of, value_words, node_bytes, table_bytes};
+ghost use Rattle.dict_model.specs.Requests.{with_key, without_key};
 ghost use Rattle.dict_model.specs.Shards.{Map};
-ghost use Rattle.dict_seat.specs.Changes.{MayChange};
+ghost use Rattle.dict_seat.specs.Changes.{MayChange, Changes};
 ghost use Rattle.dict_seat.specs.Removal.{IsShard};
+ghost use Rattle.dict_seat.specs.Puts.{PutAnswers};
 ghost use Rattle.dict_seat.specs.Answers.{Deletes, MakesFew};
 
+use crate::publish::{put_first, put_over};
 use crate::removal::remove;
 use crate::search::{SearchEnd, search};
-use heap_seat::HeapSeat;
+use crate::table::make_table;
+use heap_seat::{AllocFault, HeapSeat};
 use line_memory::Stopped;
 
 /// A shard of the dictionary, by its number: root number `number` leads to its table.
@@ -54,6 +58,44 @@ impl Shard {
             }
             SearchEnd::Missing(_) => Ok(false),
             SearchEnd::NoTable => Ok(false),
+        }
+    }
+
+    /// Sets a key. Its node is the first of its bucket, or takes the place of the old one, which is
+    /// freed.
+    ///
+    /// After `Stopped` a crash leaves the map as before or with the key set. `Full` leaves the map as
+    /// before; a table may have been made.
+    pub fn put<H: HeapSeat>(
+        &mut self,
+        seat: &mut H,
+        key: u64,
+        value: &[u8],
+    ) -> Result<(), AllocFault>
+        requires key { shard_of key ≡ self.old.number }
+        requires shard { IsShard (H.view seat.old) (shard_of key) }
+        requires short { length value.now ≤ largest_value }
+        ensures ok { OnOk result (Changes (shard_of key) (λ map. with_key map key value.now)
+            (H.view seat.old) (H.view seat.new)) }
+        ensures runs { OnOk result (Runs (H.view seat.old) (H.view seat.new)) }
+        ensures cause { IfErr result (λ fault. PutAnswers H.reads (node_bytes (length value.now))
+            (shard_of key) fault (H.view seat.old) (H.view seat.new)) }
+
+        // At every exit.
+        ensures crash { MayChange (shard_of key) (λ map. with_key map key value.now)
+            (H.view seat.old) (H.view seat.new) }
+        ensures calls { MakesFew (value_words (length value.now))
+            (span_of (node_bytes (length value.now)) + span_of table_bytes) (shard_of key)
+            (H.view seat.old) (H.view seat.new) }
+        ensures kept { H.keeps seat.old seat.new }
+    {
+        match search(seat, key)? {
+            SearchEnd::Found(place) => put_over(seat, place, key, value),
+            SearchEnd::Missing(table) => put_first(seat, table, key, value),
+            SearchEnd::NoTable => {
+                let table = make_table(seat, key)?;
+                put_first(seat, table, key, value)
+            }
         }
     }
 }

@@ -131,4 +131,4 @@ pub(crate) fn bucket_of(key: u64) -> u64
 const SHARDS: u64 = 8;
 
 /// How many buckets a table has.
-const BUCKETS: u64 = 128;
+pub(crate) const BUCKETS: u64 = 128;

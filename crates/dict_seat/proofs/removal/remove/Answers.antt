@@ -1,14 +1,11 @@
-use Rattle.std.proofs.Common.{◌≡◌, ◌<◌, ◌≤◌, arith}
 use Rattle.std.proofs.lemmas.Result.{on_ok_weaker}
-use Rattle.heap_seat.specs.View.{View, word_of}
+use Rattle.heap_seat.specs.View.{word_of}
 use Rattle.heap_seat.proofs.CallerLemmas.{keeps_own_then}
-use Rattle.heap_seat.proofs.RowLemmas.{row_then, row_more, row_small, row_large}
+use Rattle.heap_seat.proofs.RowLemmas.{row_then, row_small, row_large}
 use Rattle.dict_model.specs.Nodes.{shard_of}
 use Rattle.dict_model.specs.Requests.{without_key}
-use Rattle.dict_model.specs.Shards.{Map}
-use Rattle.dict_seat.specs.Changes.{IsTaken}
 use Rattle.dict_seat.specs.Trails.{IsSettled}
-use Rattle.dict_seat.proofs.GrownLemmas.{Grown, grown_keeps}
+use Rattle.dict_seat.proofs.GrownLemmas.{grown_keeps}
 use Rattle.dict_seat.proofs.ChangeLemmas.{change_none}
 use Rattle.dict_seat.proofs.RemovalLemmas.{taken_settled, left_stored, left_freed, node_still}
 use Rattle.dict_seat.proofs.removal.remove.Goals as goal

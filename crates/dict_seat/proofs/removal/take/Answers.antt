@@ -1,5 +1,4 @@
-use Rattle.std.proofs.Common.{◌≡◌, ◌<◌, ◌≤◌, arith}
-use Rattle.heap_seat.specs.View.{View}
+use Rattle.std.proofs.Common.{arith}
 use Rattle.dict_seat.proofs.RemovalLemmas.{found_held, still_held, takes}
 use Rattle.dict_seat.proofs.removal.take.Goals as goal
 

@@ -1,6 +1,5 @@
-use Rattle.std.proofs.Common.{ℕ, Option, Some, None, subst, arith}
+use Rattle.std.proofs.Common.{Option, subst}
 use Rattle.heap_model.specs.declared.block.Block.{Block}
-use Rattle.heap_seat.specs.View.{View}
 use Rattle.dict_model.specs.Nodes.{shard_of}
 use Rattle.dict_seat.specs.declared.walk.Place.{Place}
 use Rattle.dict_seat.specs.Searches.{FindsTable}

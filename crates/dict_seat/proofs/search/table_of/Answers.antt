@@ -1,6 +1,5 @@
 use Rattle.std.proofs.Common.{ℕ, subst}
 use Rattle.heap_model.specs.Geometry.{root_word}
-use Rattle.heap_seat.specs.View.{View}
 use Rattle.dict_model.specs.Nodes.{shard_of}
 use Rattle.dict_seat.specs.Quiet.{Follows}
 use Rattle.dict_seat.proofs.SearchLemmas.{root_null_or_held, table_found}

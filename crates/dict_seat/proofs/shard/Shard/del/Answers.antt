@@ -1,9 +1,6 @@
 use Rattle.std.proofs.Common.{subst}
-use Rattle.heap_seat.specs.View.{View}
-use Rattle.heap_seat.specs.Tickets.{Runs}
 use Rattle.dict_model.specs.Nodes.{shard_of}
 use Rattle.dict_model.specs.Requests.{without_key}
-use Rattle.dict_model.specs.Shards.{Map}
 use Rattle.dict_seat.specs.declared.search.SearchEnd.{SearchEnd}
 use Rattle.dict_seat.specs.Searches.{Searches}
 use Rattle.dict_seat.proofs.GrownLemmas.{grown_keeps}

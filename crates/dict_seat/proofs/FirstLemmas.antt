@@ -1,0 +1,140 @@
+-- Putting a new key in front of its bucket, and why a put was refused.
+use Rattle.std.proofs.Common.{◌≡◌, ℕ, ◌+◌, ◌<◌, ◌≤◌, List, [], length, get_or, None, refl, ◌∙◌, arith}
+use Rattle.heap_model.specs.declared.block.Block.{Block}
+use Rattle.heap_model.specs.Image.{Image}
+use Rattle.heap_seat.specs.declared.fault.AllocFault.{AllocFault}
+use Rattle.heap_seat.specs.declared.fault.AllocFault.TheVariants.{Full, Stopped}
+use Rattle.heap_seat.specs.declared.look.Look.{Look}
+use Rattle.heap_seat.specs.declared.fault.Looks.{Looks}
+use Rattle.heap_seat.specs.View.{View}
+use Rattle.heap_seat.specs.Words.{IsOwn, KeepsOwn, MixesOwn, MayStore}
+use Rattle.heap_seat.specs.Tickets.{Runs}
+use Rattle.heap_seat.specs.Calls.{SameRefusals}
+use Rattle.heap_seat.specs.Alloc.{FailsBy}
+use Rattle.heap_seat.specs.Looks.{IsLastSeen, FoundNone}
+use Rattle.heap_seat.specs.Sound.{IsSeat}
+use Rattle.heap_seat.proofs.RowLemmas.{runs_then, stops_then, same_refusals_then}
+use Rattle.dict_model.specs.Nodes.{largest_value, shard_of, bucket_of}
+use Rattle.dict_model.specs.Requests.{with_key}
+use Rattle.dict_model.specs.Shards.{Map}
+use Rattle.dict_seat.specs.Maps.{IsMapIn, Gives}
+use Rattle.dict_seat.specs.Reached.{ReachesOnlyHeld}
+use Rattle.dict_seat.specs.Trails.{pointer_to, IsSettled, IsSettling, HasCome}
+use Rattle.dict_seat.specs.Quiet.{Grown, Follows}
+use Rattle.dict_seat.specs.Nodes.{MakesNode}
+use Rattle.dict_seat.specs.Changes.{MayChange, Changes}
+use Rattle.dict_seat.specs.Removal.{IsShard}
+use Rattle.dict_seat.specs.Puts.{IsMissing, IsRefused, PutFails}
+use Rattle.dict_seat.proofs.GrownLemmas.{grown_keeps, grown_then, own_grown, gives_grown, only_grown}
+use Rattle.dict_seat.proofs.TrailLemmas.{settles, come_stays, bucket_own, bucket_below, same_map}
+use Rattle.dict_seat.proofs.QuietLemmas.{still_settling}
+use Rattle.dict_seat.proofs.ComeLemmas.{followed_leads, bucket_followed}
+use Rattle.dict_seat.proofs.PutLemmas.{put_left, put_done, new_key}
+use Rattle.dict_seat.proofs.ChangeLemmas.{change_after, changes_after}
+use Rattle.dict_seat.proofs.DeleteLemmas.{shard_below}
+
+-- a look by a later call is one by the whole row
+seen_before : (v u w : View) (look : Look) (seen : ℕ) → v.next ≤ u.next → IsLastSeen u w look seen → IsLastSeen v w look seen
+seen_before v u w look seen later last = record {
+  is = last.is;
+  ticket = last.ticket;
+  by = last.by;
+  drawn = record { from = let from = last.drawn.from in omega arith; until = last.drawn.until };
+  taken = last.taken;
+}
+
+none_before : (reads : ℕ → Type 0) (v u w : View) (list head : ℕ) → v.next ≤ u.next → FoundNone reads u w list head → FoundNone reads v w list head
+none_before reads v u w list head later none = record {
+  found = λ read. let empty = none.found read in record { last = seen_before v u w (w.head_look list) head later empty.last; empty = empty.empty };
+  unread = none.unread;
+}
+
+-- a refusal in a later call
+pub refused_before : (reads : ℕ → Type 0) (bytes : ℕ) (looks : Looks) (v u w : View) → Runs v u → SameRefusals v u → IsRefused reads bytes looks u w → IsRefused reads bytes looks v w
+refused_before reads bytes looks v u w runs same refused =
+    let later : v.next ≤ u.next = let drew = runs.drew in omega arith in
+    record {
+      runs = runs_then v u w runs refused.runs;
+      found = record {
+        used = seen_before v u w w.used_look looks.used later refused.found.used;
+        past = refused.found.past;
+        class = λ c least. none_before reads v u w c looks.class_head later (refused.found.class c least);
+        free = λ small. none_before reads v u w 0 looks.free_head later (refused.found.free small);
+        large = refused.found.large;
+      };
+      count = let a = same.count in let b = refused.count in omega arith;
+      bytes_are = refused.bytes_are;
+      looks_are = refused.looks_are;
+    }
+
+-- the cause of a refusal, and of a stop, over calls before
+pub put_fails : (reads : ℕ → Type 0) (bytes : ℕ) (fault : AllocFault) (v u w : View) → Runs v u → Grown v u → SameRefusals v u → Grown u w → FailsBy reads bytes fault u w → PutFails reads bytes fault v w
+put_fails reads bytes (Full looks) v u w runs before same after fails =
+    let later : v.next ≤ u.next = let drew = runs.drew in omega arith in (
+      record {
+        runs = runs_then v u w runs fails.runs;
+        found = record {
+          used = seen_before v u w w.used_look looks.used later fails.found.used;
+          past = fails.found.past;
+          class = λ c least. none_before reads v u w c looks.class_head later (fails.found.class c least);
+          free = λ small. none_before reads v u w 0 looks.free_head later (fails.found.free small);
+          large = fails.found.large;
+        };
+        count = let a = same.count in let b = fails.count in omega arith;
+        bytes_are = fails.bytes_are;
+        looks_are = fails.looks_are;
+      },
+      grown_then v u w before after,
+    )
+put_fails reads bytes (Stopped stopped) v u w runs before same after fails = (stops_then stopped.step v u w runs fails.0, same_refusals_then v u w same fails.1)
+
+module _ (v t u w : View) (seat_t : IsSeat t) (seat : IsSeat u) (key first x : ℕ) (value : List ℕ) (table n : Block) (shard : IsShard v (shard_of key)) (missing : IsMissing v key table)
+    (seat_v : IsSeat v) (keeps : KeepsOwn v t) (follows : Follows (table.first_word + bucket_of key) first v t) (grown_u : Grown t u) (makes : MakesNode n key first value t u)
+    (short : length value ≤ largest_value) (small : (k : ℕ) → k < length value → get_or value k 0 < 256) (points : x ≡ pointer_to n) (may : MayStore (table.first_word + bucket_of key) x u w) where
+  settle : (word y : ℕ) → IsOwn t.held t.roots word → IsSettling t word y → IsSettled u word y
+  settle word y own settling = settles t u word y own (grown_u.words word own) makes.settles settling
+
+  come_t : HasCome IsSettling t (shard_of key) key table []
+  come_t = come_stays IsSettling IsSettling v t (shard_of key) key table [] seat_v (grown_keeps v t keeps)
+      (λ word y own settling. still_settling v t word y own keeps follows.goes settling) missing.come
+
+  come_u : HasCome IsSettled u (shard_of key) key table []
+  come_u = come_stays IsSettling IsSettled t u (shard_of key) key table [] seat_t grown_u settle come_t
+
+  own_t : IsOwn t.held t.roots (table.first_word + bucket_of key)
+  own_t = bucket_own t table (bucket_of key) come_t.held_table come_t.size (bucket_below key)
+
+  grown_all : Grown v u
+  grown_all = grown_then v t u (grown_keeps v t keeps) grown_u
+
+  grown_t : Grown v t
+  grown_t = grown_keeps v t keeps
+
+  only_t : ReachesOnlyHeld t
+  only_t = only_grown v t grown_t seat_t shard.only
+
+  only_u : ReachesOnlyHeld u
+  only_u = only_grown v u grown_all seat shard.only
+
+  was : IsSettled u (table.first_word + bucket_of key) first
+  was = settle (table.first_word + bucket_of key) first own_t follows.settling
+
+  none_u : (map : Map) → Gives u (shard_of key) map → map key ≡ None
+  none_u map gives = same_map u seat (shard_of key) map shard.map gives (gives_grown v u grown_all (shard_of key) shard.map shard.gives) key ∙ missing.none shard.map shard.gives
+
+  new_map : (map : Map) → Gives u (shard_of key) map → (image : Image) → MixesOwn w image → image (table.first_word + bucket_of key) ≡ x → IsMapIn w image (shard_of key) (with_key map key value)
+  new_map = new_key t u seat grown_u only_t key first value n makes.held makes.new makes.room short small makes.written
+      (followed_leads u seat (shard_of key) (shard_below key) (table.first_word + bucket_of key) first (bucket_followed u seat key (shard_below key) table [] come_u) was only_u)
+      w only_u table [] [] come_u come_u (table.first_word + bucket_of key) x first refl was may points own_t come_t.held_table was (own_grown t u (table.first_word + bucket_of key) grown_u own_t) refl none_u
+
+  pub first_left : MayChange (shard_of key) (λ map. with_key map key value) v w
+  first_left = change_after (shard_of key) (λ map. with_key map key value) v u w grown_all seat shard.only
+      (put_left t u seat grown_u only_t key first value n makes.held makes.new makes.room short small makes.written
+      (followed_leads u seat (shard_of key) (shard_below key) (table.first_word + bucket_of key) first (bucket_followed u seat key (shard_below key) table [] come_u) was only_u)
+      w only_u table [] [] come_u come_u (table.first_word + bucket_of key) x first refl was may points own_t come_t.held_table was (own_grown t u (table.first_word + bucket_of key) grown_u own_t) new_map)
+
+  pub first_done : IsSettled w (table.first_word + bucket_of key) x → Changes (shard_of key) (λ map. with_key map key value) v w
+  first_done settled = changes_after (shard_of key) (λ map. with_key map key value) v u w grown_all
+      (put_done t u seat grown_u only_t key first value n makes.held makes.new makes.room short small makes.written
+      (followed_leads u seat (shard_of key) (shard_below key) (table.first_word + bucket_of key) first (bucket_followed u seat key (shard_below key) table [] come_u) was only_u)
+      w only_u table [] [] come_u come_u (table.first_word + bucket_of key) x first refl was may points own_t come_t.held_table was (own_grown t u (table.first_word + bucket_of key) grown_u own_t) new_map settled)

@@ -1,0 +1,202 @@
+-- Putting a node in the place of the key's old one, and freeing that.
+use Rattle.std.proofs.Common.{◌≡◌, ◌≢◌, ℕ, ◌+◌, ◌<◌, ◌≤◌, ◌⊎◌, inl, inr, List, [], ◌∷◌, ◌++◌, length, get_or, Contains, refl, ap, subst, sym, ◌∙◌, arith}
+use Rattle.std.proofs.lemmas.Bool.{cases_eq}
+use Rattle.heap_model.specs.declared.block.Block.{Block}
+use Rattle.heap_model.specs.Image.{Image}
+use Rattle.heap_model.specs.Geometry.{root_word}
+use Rattle.heap_model.specs.Blocks.{IsIn}
+use Rattle.std.proofs.lemmas.List.Elements.{Contains-append_right}
+use Rattle.heap_model.proofs.MemberLemmas.{in_head, in_rest}
+use Rattle.heap_seat.specs.declared.spot.Spot.{Spot}
+use Rattle.heap_seat.specs.declared.spot.Spot.TheVariants.{InBlock, Root}
+use Rattle.heap_seat.specs.View.{View, word_of}
+use Rattle.heap_seat.specs.Words.{IsOwn, IsOwnSpot, in_root, in_block, KeepsOwn, MixesOwn, MayStore}
+use Rattle.heap_seat.specs.Free.{MayFree}
+use Rattle.heap_seat.specs.Sound.{IsSeat}
+use Rattle.heap_seat.proofs.CallerLemmas.{own_same, own_spot}
+use Rattle.dict_model.specs.Links.{node_kind}
+use Rattle.dict_model.specs.Nodes.{largest_value, shard_of, bucket_of, key_in}
+use Rattle.dict_model.specs.Requests.{with_key}
+use Rattle.dict_model.specs.Shards.{Map, LeadsTo, IsPath, but, link_behind}
+use Rattle.dict_model.proofs.ChainLemmas.{behind_is, not_of, in_path}
+use Rattle.dict_model.proofs.SpliceLemmas.{one_holder, first_in}
+use Rattle.dict_seat.specs.declared.walk.Place.{Place}
+use Rattle.dict_seat.specs.Maps.{IsMapIn, Gives}
+use Rattle.dict_seat.specs.Reached.{MayReach, ReachesOnlyHeld}
+use Rattle.dict_seat.specs.Trails.{pointer_to, IsSettled, IsSettling, Trail, HasCome}
+use Rattle.dict_seat.specs.Quiet.{Grown}
+use Rattle.dict_seat.specs.Nodes.{MakesNode}
+use Rattle.dict_seat.specs.Changes.{MayChange, Changes, IsTaken}
+use Rattle.dict_seat.specs.Removal.{IsShard}
+use Rattle.dict_seat.proofs.GrownLemmas.{are_placed, grown_keeps, grown_then, gives_grown, only_grown}
+use Rattle.dict_seat.proofs.TrailLemmas.{now_image, settled_stays, come_stays, first_own, bucket_own, bucket_below, trail_more}
+use Rattle.dict_seat.proofs.MapPublishLemmas.{trail_held}
+use Rattle.dict_seat.proofs.ComeLemmas.{followed_leads, own_link_followed, begins_chain, link_behind_roots, last_not_table}
+use Rattle.dict_seat.proofs.PublishLemmas.{reached_after}
+use Rattle.dict_seat.proofs.PutLemmas.{put_left, put_done, old_key, publish, new_block_outside}
+use Rattle.dict_seat.proofs.ChangeLemmas.{change_after, changes_after, freed}
+use Rattle.dict_seat.proofs.DeleteLemmas.{shard_below, node_held, node_reached, come_to, link_kind, link_holds, node_word_own, key_in_node, outside}
+use Rattle.dict_seat.proofs.UnreachedLemmas.{replaced}
+
+-- what was taken stays where words settle and blocks come; its table, link and node were there before
+pub taken_made : (t u : View) (key next : ℕ) (place : Place) → IsSeat t → Grown t u → ((word value : ℕ) → IsOwn t.held t.roots word → IsSettling t word value → IsSettled u word value)
+    → IsTaken IsSettling t key place next
+    → (made : IsTaken IsSettled u key place next) × Contains t.held made.table × IsOwn t.held t.roots (word_of place.link) × Contains t.held place.node
+taken_made t u key next place seat grown settle taken =
+    let node = place.node in
+    let held = trail_held (IsSettling t) t.held (taken.table.first_word + bucket_of key) (taken.before ++ (node ∷ [])) node taken.come.trail
+    (Contains-append_right taken.before (node ∷ []) node (in_head node [])) in
+    let some = (seat.placed node held).some in
+    let room = taken.room in (
+      record {
+        table = taken.table;
+        before = taken.before;
+        come = come_stays IsSettling IsSettled t u (shard_of key) key taken.table (taken.before ++ (node ∷ [])) seat grown settle taken.come;
+        at_is = taken.at_is;
+        own = own_spot_grown t u place.link grown taken.own;
+        room = taken.room;
+        next_is = settle node.first_word next (in_block node node.first_word held (record { from = omega arith; until = omega arith })) taken.next_is;
+        key_is = settle (node.first_word + 1) key (in_block node (node.first_word + 1) held (record { from = omega arith; until = omega arith })) taken.key_is;
+      },
+      taken.come.held_table,
+      own_spot t place.link taken.own,
+      held,
+    ) where
+      own_spot_grown : (t u : View) (s : Spot) → Grown t u → IsOwnSpot t s → IsOwnSpot u s
+      own_spot_grown t u (InBlock b index) grown h = (grown.keeps b h.0, h.1)
+      own_spot_grown t u (Root i) grown h = subst (λ (rs : List ℕ). Contains rs i) (sym grown.roots) h
+
+-- a trail whose last link is stored to is one up to that link
+trail_kept : (u w : View) (p x : ℕ) → IsSeat u → MayStore p x u w → (table : Block) (image : Image) (shard k at : ℕ) (bs : List Block) → p ≡ link_behind at bs
+    → ((c : Block) → Contains bs c → at ≢ c.first_word) → IsPath (but table (LeadsTo (Contains u.held))) image shard k at bs → IsOwn u.held u.roots at → Trail (IsSettled u) u.held at bs
+    → Trail (IsSettled w) w.held at bs
+trail_kept u w p x seat may table image shard k at [] is apart path own trail = tt
+trail_kept u w p x seat may table image shard k at (b ∷ bs) is apart path own trail =
+    let last : (c : Block) × Contains (b ∷ bs) c × (p ≡ c.first_word) =
+    elim (behind_is b.first_word bs) as (λ _. (c : Block) × Contains (b ∷ bs) c × (p ≡ c.first_word)) [
+      | inl only ↦ (b, in_head b bs, is ∙ only.1)
+      | inr l ↦ (l.0, in_rest b l.0 bs l.1, is ∙ l.2)
+    ] in
+    let start : at ≢ p = λ e. apart last.0 last.1 (e ∙ last.2) in (
+      subst (λ (held : List Block). Contains held b) (sym may.held) trail.0,
+      settled_stays u w at (pointer_to b) (may.others at own start) trail.1,
+      trail_kept u w p x seat may table image shard k b.first_word bs is
+          (λ c h e. not_of image (key_in image b) bs c path.2 h (sym (ap (λ word. image (word + 1)) e))) path.3 (first_own u b seat trail.0) trail.2,
+    )
+
+module _ (v t u w : View) (seat_t : IsSeat t) (seat : IsSeat u) (key next x : ℕ) (value : List ℕ) (place : Place) (n : Block) (shard : IsShard v (shard_of key)) (keeps : KeepsOwn v t)
+    (taken : IsTaken IsSettled u key place next) (table_t : Contains t.held taken.table) (own_t : IsOwn t.held t.roots (word_of place.link)) (node_t : Contains t.held place.node)
+    (grown_u : Grown t u) (makes : MakesNode n key next value t u)
+    (short : length value ≤ largest_value) (small : (k : ℕ) → k < length value → get_or value k 0 < 256) (points : x ≡ pointer_to n) (may : MayStore (word_of place.link) x u w) where
+  grown_all : Grown v u
+  grown_all = grown_then v t u (grown_keeps v t keeps) grown_u
+
+  only_t : ReachesOnlyHeld t
+  only_t = only_grown v t (grown_keeps v t keeps) seat_t shard.only
+
+  only_u : ReachesOnlyHeld u
+  only_u = only_grown v u grown_all seat shard.only
+
+  gives_u : Gives u (shard_of key) shard.map
+  gives_u = gives_grown v u grown_all (shard_of key) shard.map shard.gives
+
+  before_come : HasCome IsSettled u (shard_of key) key taken.table taken.before
+  before_come = come_to u seat key place next taken shard.map gives_u
+
+  old_held : Contains u.held place.node
+  old_held = node_held u seat key place next taken shard.map gives_u
+
+  old_reached : MayReach u (shard_of key) place.node node_kind
+  old_reached = node_reached u seat key place next taken shard.map gives_u
+
+  next_leads : (next ≡ 0) ⊎ ((f : Block) × LeadsTo (Contains u.held) next f × MayReach u (shard_of key) f node_kind)
+  next_leads = followed_leads u seat (shard_of key) (shard_below key) place.node.first_word next (own_link_followed u seat (shard_of key) (shard_below key) place.node old_held old_reached) taken.next_is only_u
+
+  holds : IsSettled u (word_of place.link) (pointer_to place.node)
+  holds = link_holds u seat key place next taken shard.map gives_u
+
+  first_word_own : IsOwn u.held u.roots place.node.first_word
+  first_word_own = first_own u place.node seat old_held
+
+  key_word_own : IsOwn u.held u.roots (place.node.first_word + 1)
+  key_word_own = node_word_own u seat key place next taken shard.map gives_u (place.node.first_word + 1) (key_in_node u seat key place next taken shard.map gives_u)
+
+  new_map : (map : Map) → Gives u (shard_of key) map → (image : Image) → MixesOwn w image → image (word_of place.link) ≡ x → IsMapIn w image (shard_of key) (with_key map key value)
+  new_map = old_key t u seat grown_u only_t key next value n makes.held makes.new makes.room short small makes.written next_leads
+      w only_u taken.table taken.before (place.node ∷ []) taken.come before_come (word_of place.link) x (pointer_to place.node) taken.at_is holds may points own_t table_t taken.next_is first_word_own
+      place.node refl taken.key_is key_word_own
+
+  left_here : MayChange (shard_of key) (λ map. with_key map key value) u w
+  left_here = put_left t u seat grown_u only_t key next value n makes.held makes.new makes.room short small makes.written next_leads
+      w only_u taken.table taken.before (place.node ∷ []) taken.come before_come (word_of place.link) x (pointer_to place.node) taken.at_is holds may points own_t table_t taken.next_is first_word_own new_map
+
+  pub over_left : MayChange (shard_of key) (λ map. with_key map key value) v w
+  over_left = change_after (shard_of key) (λ map. with_key map key value) v u w grown_all seat shard.only left_here
+
+  pub old_still : Contains w.held place.node
+  old_still = subst (λ (bs : List Block). Contains bs place.node) (sym may.held) old_held
+
+  module _ (seat_w : IsSeat w) (settled : IsSettled w (word_of place.link) x) where
+    done_here : Changes (shard_of key) (λ map. with_key map key value) u w
+    done_here = put_done t u seat grown_u only_t key next value n makes.held makes.new makes.room short small makes.written next_leads
+        w only_u taken.table taken.before (place.node ∷ []) taken.come before_come (word_of place.link) x (pointer_to place.node) taken.at_is holds may points own_t table_t taken.next_is first_word_own new_map settled
+
+    kept : (word y : ℕ) → IsOwn u.held u.roots word → word ≢ word_of place.link → IsSettled u word y → IsSettled w word y
+    kept word y own differs was = settled_stays u w word y (may.others word own differs) was
+
+    path : IsPath (but taken.table (LeadsTo (Contains u.held))) (now_image u) (shard_of key) (bucket_of key) (taken.table.first_word + bucket_of key) taken.before
+    path = begins_chain u seat key (shard_below key) taken.table taken.before before_come shard.map gives_u
+
+    come_w : HasCome IsSettled w (shard_of key) key taken.table (taken.before ++ (n ∷ []))
+    come_w = record {
+      owned = subst (λ (rs : List ℕ). Contains rs (shard_of key)) (sym may.roots) taken.come.owned;
+      in_shard = refl;
+      held_table = subst (λ (bs : List Block). Contains bs taken.table) (sym may.held) taken.come.held_table;
+      size = taken.come.size;
+      root = kept (root_word (shard_of key)) (pointer_to taken.table) (in_root (shard_of key) (root_word (shard_of key)) taken.come.owned refl)
+          (λ e. link_behind_roots u key taken.table taken.before (shard_of key) seat taken.come.owned before_come (e ∙ taken.at_is)) taken.come.root;
+      trail = trail_more (IsSettled w) w.held (taken.table.first_word + bucket_of key) taken.before n
+          (trail_kept u w (word_of place.link) x seat may taken.table (now_image u) (shard_of key) (bucket_of key) (taken.table.first_word + bucket_of key) taken.before taken.at_is
+          (λ c h e.
+          let c_is = (in_path (but taken.table (LeadsTo (Contains u.held))) (now_image u) (shard_of key) (bucket_of key) (taken.table.first_word + bucket_of key) taken.before c path h).0.1 in
+          c_is.1 (one_holder (Contains u.held) (are_placed u seat) c taken.table (taken.table.first_word + bucket_of key) c_is.0.0 taken.come.held_table
+          (subst (IsIn c) (sym e) (first_in (Contains u.held) (are_placed u seat) c c_is.0.0))
+          (record { from = omega arith; until = let below = bucket_below key in let size = taken.come.size in omega arith })))
+          path (bucket_own u taken.table (bucket_of key) taken.come.held_table taken.come.size (bucket_below key)) before_come.trail)
+          (subst (λ (bs : List Block). Contains bs n) (sym may.held) makes.held) (subst (IsSettled w (link_behind (taken.table.first_word + bucket_of key) taken.before)) points (subst (λ q. IsSettled w q x) taken.at_is settled));
+    }
+
+    n_outside : (word : ℕ) → IsIn n word → word ≢ word_of place.link
+    n_outside word inside same = new_block_outside t u n seat grown_u makes.held makes.new (word_of place.link) own_t (subst (IsIn n) same inside)
+
+    n_key : IsIn n (n.first_word + 1)
+    n_key = record { from = omega arith; until = let room = makes.room in omega arith }
+
+    n_key_own : IsOwn u.held u.roots (n.first_word + 1)
+    n_key_own = in_block n (n.first_word + 1) makes.held n_key
+
+    unreached : (root kind : ℕ) → MayReach w root place.node kind → ⊥
+    unreached root kind reached = elim (cases_eq (shard_of key) root) as (λ _. ⊥) [
+      | inl same ↦
+          replaced w seat_w (shard_of key) (with_key shard.map key value) (done_here.gives shard.map gives_u) taken.table come_w.owned come_w.held_table come_w.size come_w.root
+          place.node n key kind taken.before (last_not_table u seat key (shard_below key) shard.map gives_u taken.table place.node taken.before taken.come)
+          (λ e. makes.new (subst (Contains t.held) e node_t))
+          (kept (place.node.first_word + 1) key key_word_own (outside u seat key place next taken shard.map gives_u (place.node.first_word + 1) (key_in_node u seat key place next taken shard.map gives_u)) taken.key_is)
+          (own_same u w (place.node.first_word + 1) may.held may.roots key_word_own)
+          (kept (n.first_word + 1) key n_key_own (n_outside (n.first_word + 1) n_key) makes.written.key_is) (own_same u w (n.first_word + 1) may.held may.roots n_key_own)
+          come_w (subst (λ r. MayReach w r place.node kind) (sym same) reached)
+      | inr differs ↦
+          let at = link_kind u seat key place next taken shard.map gives_u in
+          let may_publish = publish t u seat grown_u only_t key next value n makes.held makes.new makes.room short small makes.written next_leads
+          w only_u taken.table taken.before (place.node ∷ []) taken.come before_come (word_of place.link) x (pointer_to place.node) taken.at_is holds may points own_t table_t taken.next_is first_word_own in
+          elim (reached_after u w (shard_of key) (word_of place.link) x node_kind seat (shard_below key) may only_u at may_publish root place.node kind reached) as (λ _. ⊥) [
+            | inl before ↦ only_u.alone (shard_of key) root place.node node_kind kind (shard_below key) differs old_reached before
+            | inr fresh ↦ differs (sym fresh.0)
+          ]
+    ]
+
+    pub over_freed : (y : View) → MayFree place.node w y → Changes (shard_of key) (λ map. with_key map key value) v y × MayChange (shard_of key) (λ map. with_key map key value) v y
+    over_freed y freeing =
+        let both = freed (shard_of key) (λ map. with_key map key value) u w y place.node node_kind (shard_below key) seat_w come_w.owned old_still done_here left_here.only left_here.others
+        old_reached unreached freeing in
+        (changes_after (shard_of key) (λ map. with_key map key value) v u y grown_all both.0, change_after (shard_of key) (λ map. with_key map key value) v u y grown_all seat shard.only both.1)
