@@ -30,3 +30,4 @@ pub mod HeldLemmas
 pub mod OpenLemmas
 pub mod OpenCountLemmas
 pub mod OpenedLemmas
+pub mod CrashLemmas

@@ -1,5 +1,5 @@
 -- A heap at rest that is opened is sound.
-use Rattle.std.proofs.Common.{◌≡◌, ◌≢◌, ℕ, zero, suc, ◌+◌, ◌*◌, ◌/◌, ◌<◌, ◌≤◌, inl, inr, ◌⊎◌, Bool, true, false, nat_eq, nat_lt, nat_le, ◌&&◌, List, [], ◌∷◌, ◌++◌, map, replicate, Contains, get_or, length, slice_index, None, Some, refl, ap, sym, subst, ◌∙◌, eqb-true, lt-ltb, ltb-true, le-leb, leb-true, true≢false, get_or-append-add, length-append, arith}
+use Rattle.std.proofs.Common.{◌≡◌, ◌≢◌, ℕ, ◌+◌, ◌*◌, ◌/◌, ◌<◌, ◌≤◌, inl, inr, ◌⊎◌, Bool, true, false, nat_eq, nat_lt, nat_le, ◌&&◌, List, [], ◌∷◌, ◌++◌, map, replicate, Contains, get_or, length, slice_index, None, Some, refl, ap, sym, subst, ◌∙◌, eqb-true, lt-ltb, ltb-true, le-leb, leb-true, true≢false, get_or-append-add, length-append, arith}
 use Rattle.std.proofs.lemmas.Bool.{cases_eq, cases_lt}
 use Rattle.std.proofs.lemmas.List.{get_or_append_left, get_or-map, length-map}
 use Rattle.heap_model.specs.declared.block.Block.{Block}
@@ -11,7 +11,6 @@ use Rattle.heap_model.specs.Blocks.{layout_of}
 use Rattle.heap_model.specs.Chains.{Follows, Walks}
 use Rattle.heap_model.specs.Rest.{list_numbers, large_part, IsAnchored, IsReady}
 use Rattle.heap_model.proofs.SizeLemmas.{few_words, two_words}
-use Rattle.heap_model.proofs.MemberLemmas.{head_or_rest, in_none}
 use Rattle.heap_model.proofs.CountingLemmas.{times_some, one_if_true, one_if_false, number_below, total_some}
 use Rattle.crash_core.specs.Cells.{Cell, used_cell, head_cell, info_cell, anchor_cell, link_cell, data_cell, is_cell, index_of, superblock_at}
 use Rattle.crash_core.specs.Memory.{Memory, memory_of, table_length, used, head, info, anchor, link, next}

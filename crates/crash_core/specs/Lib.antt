@@ -8,3 +8,4 @@ pub mod Steps
 pub mod Examples
 pub mod Held
 pub mod Opening
+pub mod Crash

@@ -1,10 +1,12 @@
 //! The core of the shared heap: every interleaving of the atomic steps of its seats keeps it sound.
 #![tactic(auto)]
 
+mod crash;
 mod event;
 mod heads;
 mod laws;
 
+pub use crash::crash_image;
 pub use event::{Event, Shift};
 pub use heads::{head_after_pop, head_after_push};
 pub use laws::{
