@@ -1,11 +1,13 @@
 //! The core of the shared heap: every interleaving of the atomic steps of its seats keeps it sound.
 #![tactic(auto)]
 
+mod anchors;
 mod crash;
 mod event;
 mod heads;
 mod laws;
 
+pub use anchors::{anchor_after_give, anchor_after_take_all};
 pub use crash::crash_image;
 pub use event::{Event, Shift};
 pub use heads::{head_after_pop, head_after_push};
