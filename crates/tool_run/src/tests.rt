@@ -199,7 +199,7 @@ const LAST_NODE: (usize, u64) = (1_328, 0x5250_0000_0000_2980);
 
 #[test]
 fn what_the_roots_reach_is_shown(rt: HostRuntime) -> Result<(), Fail> {
-    let map = "heap 1 clean\nheld 1024 2\nused 1 free 0 fresh 0\nsb 0 class 12 held 0 2\n";
+    let map = "heap 1 clean\nkey 0 -\nheld 1024 2\nused 1 free 0 fresh 0\nsb 0 class 12 held 0 2\n";
     let fresh = "heap 1 clean\nused 0 free 0 fresh 1\n";
     let free = "heap 1 clean\nused 1 free 1 fresh 0\nsb 0 free\n";
     let one = "heap 1 clean\nheld 1024 1\n";
@@ -211,7 +211,12 @@ fn what_the_roots_reach_is_shown(rt: HostRuntime) -> Result<(), Fail> {
             (&[], "show h --map", 0, fresh),
             (&[USED, INFO, ROOT, (3, 2)], "show h", 0, dirty),
             (&[USED, INFO, ROOT, NODE], "show h --map", 0, map),
-            (&[USED, INFO, ROOT, NODE, LAST_NODE], "show h --map", 0, map),
+            (
+                &[USED, INFO, ROOT, NODE, LAST_NODE],
+                "show h --map",
+                9,
+                "bad shard 0 at 1328\n",
+            ),
             (&[USED, INFO, OTHER_ROOT, (1_075, 5)], "show h", 0, one),
             (&[USED, INFO], "show h --map", 0, free),
         ],
@@ -257,10 +262,83 @@ const WIDE_OTHER_ROOT: (usize, u64) = (48, 0x5250_0000_0000_21c0);
 
 const BUCKET: (usize, u64) = (1_080, 0x5250_0000_0001_21c0);
 
+// The second superblock has nodes of four words, and these are pointers to the first two.
+const NODES: (usize, u64) = (1_072, 2);
+
+const FIRST: u64 = 0x5250_0000_0001_21c0;
+
+const SECOND: u64 = 0x5250_0000_0001_21e0;
+
+#[test]
+fn the_lowest_bad_shard_is_told_with_its_first_bad_link(rt: HostRuntime) -> Result<(), Fail> {
+    for (changes, text) in [
+        // A root leads to a node, or to a table that another root leads to.
+        (&[(40, FIRST), (1_080, 0)], "bad shard 0 at 40\n"),
+        (
+            &[(41, 0x5250_0000_0000_21c0), (9_273, 0)],
+            "bad shard 0 at 40\n",
+        ),
+        (&[WIDE_OTHER_ROOT, (9_273, 0)], "bad shard 0 at 40\n"),
+        (&[(47, SECOND), (9_273, 0)], "bad shard 7 at 47\n"),
+        // A bucket leads to the table, or to a node that another root reaches.
+        (
+            &[(1_080, 0x5250_0000_0000_21c0), (9_273, 0)],
+            "bad shard 0 at 1080\n",
+        ),
+        (&[(48, FIRST), (9_273, 0)], "bad shard 0 at 1080\n"),
+        (
+            &[(41, 0x5250_0000_0000_25c0), (1_208, FIRST)],
+            "bad shard 0 at 1080\n",
+        ),
+        // The key is of another bucket or shard, or the value has no room.
+        (&[(9_273, 8), (9_274, 0)], "bad shard 0 at 1080\n"),
+        (&[(9_273, 1), (9_274, 0)], "bad shard 0 at 1080\n"),
+        (&[(9_274, 9), (9_275, 0)], "bad shard 0 at 1080\n"),
+        (&[(9_274, 131_073), (9_275, 0)], "bad shard 0 at 1080\n"),
+        (
+            &[(9_274, 0xffff_ffff_ffff_ffff), (9_275, 0)],
+            "bad shard 0 at 1080\n",
+        ),
+        // A node leads to itself, to a node with its key, or to one of another bucket.
+        (&[(9_272, FIRST), (9_273, 0)], "bad shard 0 at 9272\n"),
+        (&[(9_272, SECOND), (9_277, 0)], "bad shard 0 at 9272\n"),
+        (&[(9_272, SECOND), (9_277, 8)], "bad shard 0 at 9272\n"),
+        // A later bucket leads to a node of the first, or to one that is not its own.
+        (&[(1_081, FIRST), (9_273, 0)], "bad shard 0 at 1081\n"),
+        (&[(1_207, SECOND), (9_277, 1_024)], "bad shard 0 at 1207\n"),
+    ] {
+        let all = [
+            TWO_USED, INFO, NODES, WIDE_ROOT, BUCKET, changes[0], changes[1],
+        ];
+        show_each(&rt, true, &[(&all, "show h --map", 9, text)])?;
+    }
+    Ok(())
+}
+
+#[test]
+fn the_keys_of_all_shards_are_shown_in_ascending_order(rt: HostRuntime) -> Result<(), Fail> {
+    let keys = "heap 2 clean\nkey 0 4142\nkey 9 -\nkey 1024 -\nheld 32 3\nheld 1024 2\n";
+    let all = [
+        TWO_USED,
+        INFO,
+        NODES,
+        WIDE_ROOT,
+        (1_080, SECOND),
+        (9_276, FIRST),
+        (9_277, 1_024),
+        (9_274, 2),
+        (9_275, 0x4241),
+        (41, 0x5250_0000_0000_25c0),
+        (1_209, 0x5250_0000_0001_2200),
+        (9_281, 9),
+    ];
+    show_each(&rt, true, &[(&all, "show h", 0, keys)])
+}
+
 #[test]
 fn superblocks_of_two_kinds_are_shown(rt: HostRuntime) -> Result<(), Fail> {
-    let base = "heap 2 clean\nheld 32 1\nheld 1024 1\n";
-    let with_large = "heap 2 clean\nheld 1024 1\nheld large 1 1\n";
+    let base = "heap 2 clean\nkey 0 -\nheld 32 1\nheld 1024 1\n";
+    let with_large = "heap 2 clean\nkey 0 -\nheld 1024 1\nheld large 1 1\n";
     let outside = "pointer outside at 1080 value 52500000000121c0\n";
     let large =
         "heap 2 clean\nheld large 2 1\nused 2 free 0 fresh 0\nsb 0 large 2\nsb 1 inside 0\n";
