@@ -82,7 +82,7 @@ put_parts words key_word value_word same =
     rest ∙ append_assoc key_word (32 ∷ []) value_word
 
 -- texts that begin otherwise differ
-heads_differ : (x y : ℕ) (a b : List ℕ) → x ∷ a ≡ y ∷ b → x ≢ y → ⊥
+pub heads_differ : (x y : ℕ) (a b : List ℕ) → x ∷ a ≡ y ∷ b → x ≢ y → ⊥
 heads_differ x y a b same other = other (ap (λ (l : List ℕ). get_or l 0 0) same)
 
 -- so there is a space

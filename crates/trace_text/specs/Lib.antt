@@ -7,5 +7,6 @@ pub mod HeapMap
 pub mod Laws
 pub mod Trace
 pub mod Values
+pub mod Replies
 pub mod Generated
 pub mod Examples
