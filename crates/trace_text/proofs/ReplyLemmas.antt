@@ -1,19 +1,6 @@
--- A text of one line for each item of a list, written line by line.
-use Rattle.std.proofs.Common.{◌≡◌, ℕ, cond, ◌+◌, ◌<◌, List, [], ◌∷◌, ◌++◌, length, get_or, take, Result, Ok, Err, refl, sym, ap, ◌∙◌, append_assoc}
-use Rattle.std.proofs.lemmas.List.{take_more, append-nil}
-use Rattle.std.proofs.lemmas.Grind.{flat_map-append}
-use Rattle.std.specs.List.{flat_map}
+-- A text of seven parts, written one after the other.
+use Rattle.std.proofs.Common.{◌≡◌, ℕ, cond, List, ◌++◌, Result, Ok, Err, ap, ◌∙◌, append_assoc}
 use Rattle.std.specs.Result.{OnOk, is_ok}
-
--- a line behind the lines of the items before it
-pub item_more : {X : Type 0} (f : X → List ℕ) (items : List X) (i : ℕ) (x : X) (start old new : List ℕ) → i < length items → x ≡ get_or items i x
-    → old ≡ start ++ flat_map f (take i items) → new ≡ old ++ f x → new ≡ start ++ flat_map f (take (i + 1) items)
-item_more {X} f items i x start old new below at before written =
-    let more : flat_map f (take (i + 1) items) ≡ flat_map f (take i items) ++ f x =
-    ap (flat_map f) (take_more items i x below) ∙ flat_map-append f (take i items) (get_or items i x ∷ [])
-    ∙ ap (λ (l : List ℕ). flat_map f (take i items) ++ l) (append-nil (f (get_or items i x)) ∙ ap f (sym at)) in
-    written ∙ ap (λ (l : List ℕ). l ++ f x) before ∙ append_assoc start (flat_map f (take i items)) (f x)
-    ∙ ap (λ (l : List ℕ). start ++ l) (sym more)
 
 -- two texts behind a text, one after the other
 appended : (start middle end a b : List ℕ) → middle ≡ start ++ a → end ≡ middle ++ b → end ≡ start ++ (a ++ b)

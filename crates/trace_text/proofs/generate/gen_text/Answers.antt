@@ -1,4 +1,4 @@
-use Rattle.std.proofs.Common.{◌≡◌, ◌+◌, List, ℕ, [], arith}
+use Rattle.std.proofs.Common.{◌+◌, [], arith}
 use Rattle.trace_text.specs.Generated.{request_line, made_request}
 use Rattle.trace_text.proofs.TextLemmas.{line_more}
 use Rattle.trace_text.proofs.generate.gen_text.Goals as goal

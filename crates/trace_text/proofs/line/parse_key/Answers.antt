@@ -1,4 +1,4 @@
-use Rattle.std.proofs.Common.{◌≡◌, ◌≢◌, ℕ, Bool, true, false, [], ◌∷◌, List, ◌∙◌, sym}
+use Rattle.std.proofs.Common.{◌≢◌, [], ◌∷◌, ◌∙◌, sym}
 use Rattle.std.proofs.lemmas.Bool.Decides.{Decides-eqb}
 use Rattle.std.proofs.lemmas.Slice.Eq.{slice_eq-Decides}
 use Rattle.trace_text.proofs.WordLemmas.{zero_is_key, key_begins}

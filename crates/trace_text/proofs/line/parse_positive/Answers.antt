@@ -1,4 +1,3 @@
-use Rattle.std.proofs.Common.{◌≡◌, ℕ, ◌<◌, List}
 use Rattle.trace_text.proofs.WordLemmas.{number_reading, key_is_text}
 use Rattle.trace_text.proofs.line.parse_positive.Goals as goal
 

@@ -1,5 +1,5 @@
-use Rattle.std.proofs.Common.{◌≡◌, ◌++◌, ◌∷◌, ℕ, List}
-use Rattle.trace_text.specs.Trace.{IsValue, IsValueReading}
+use Rattle.std.proofs.Common.{ℕ, List}
+use Rattle.trace_text.specs.Trace.{IsValue}
 use Rattle.trace_text.proofs.WordLemmas.{put_has_space, put_words, put_line}
 use Rattle.trace_text.proofs.line.parse_put.Goals as goal
 

@@ -1,4 +1,4 @@
-use Rattle.std.proofs.Common.{◌≡◌, ℕ, ◌<◌, ◌≤◌, length, [], ◌∷◌, List, ◌∙◌, inr, arith, rules}
+use Rattle.std.proofs.Common.{◌≡◌, ◌<◌, length, inr, arith, rules}
 use Rattle.hex.proofs.HexLemmas.{decode_of-ok}
 use Rattle.trace_text.proofs.WordLemmas.{value_fits}
 use Rattle.trace_text.proofs.line.parse_value.Goals as goal

@@ -1,4 +1,4 @@
-use Rattle.std.proofs.Common.{◌≡◌, ◌++◌, List, ℕ, [], ◌∷◌, codes, length, count_by}
+use Rattle.std.proofs.Common.{◌≡◌, ◌++◌, [], ◌∷◌, codes, length, count_by}
 use Rattle.std.specs.String.{string_bytes}
 use Rattle.trace_text.specs.Replies.{is_ok, is_none, is_value, is_full, is_unanswered, counted}
 use Rattle.trace_text.proofs.ReplyLemmas.{seven_parts}

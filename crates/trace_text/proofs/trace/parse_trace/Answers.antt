@@ -1,6 +1,5 @@
-use Rattle.std.proofs.Common.{◌≡◌, ◌+◌, ◌++◌, ◌≤◌, ◌∷◌, [], List, length, ap, rules, arith}
-use Rattle.std.specs.Vec.{vec_len, vec_capacity}
-use Rattle.trace_text.specs.Trace.{lines_of, IsLine, IsOutside}
+use Rattle.std.proofs.Common.{◌+◌, length, ap, rules, arith}
+use Rattle.trace_text.specs.Trace.{IsLine, IsOutside}
 use Rattle.trace_text.proofs.TraceLemmas.{line_read, line_outside}
 use Rattle.trace_text.proofs.trace.parse_trace.Goals as goal
 
