@@ -1,24 +1,19 @@
 -- The keys of maps and their values, as bytes of a text.
-use Rattle.std.specs.Prelude.{◌≡◌, ℕ, if◌then◌else◌, Bool, List, [], ◌∷◌, ◌++◌, Option, None, Some, codes, decimal, length}
+use Rattle.std.specs.Prelude.{◌≡◌, ℕ, if◌then◌else◌, Bool, List, [], ◌++◌, Option, None, Some, codes, decimal, length}
 use Rattle.std.specs.List.{flat_map, sum_by}
 use Rattle.std.specs.List.Sorted.{IsPermutation, IsNonDecreasingBy}
 use Rattle.std.specs.BTreeMap.{BTreeMap}
-use Rattle.hex.specs.Hex.{encode_lower}
 use Rattle.heap_model.specs.declared.block.Block.{Block}
 use Rattle.trace_text.specs.Report.{line_feed, report_of}
+use Rattle.trace_text.specs.Values.{value_word}
 
 -- keys, each with its value
 abbrev pub Entries : Type 0
 Entries = List (ℕ × List ℕ)
 
--- a value, as two lower-case digits for each byte, or a hyphen where it is empty
-abbrev pub value_text : List ℕ → List ℕ
-value_text [] = codes "-"
-value_text (b ∷ bytes) = encode_lower (b ∷ bytes)
-
 -- the line of a key
 abbrev pub key_line : ℕ × List ℕ → List ℕ
-key_line entry = codes "key " ++ decimal entry.0 ++ codes " " ++ value_text entry.1 ++ line_feed
+key_line entry = codes "key " ++ decimal entry.0 ++ codes " " ++ value_word entry.1 ++ line_feed
 
 -- the bytes of all values
 abbrev pub bytes_of : Entries → ℕ

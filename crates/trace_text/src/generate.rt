@@ -31,7 +31,7 @@ fn write_made(alloc: Global, text: &mut String, seed: u64, i: u64) -> Result<(),
 {
     let number = (40_503 * i + 977 * seed) % 65_536;
     let request = make_request(alloc, number, i)?;
-    write_request(alloc, text, &request)
+    write_request(text, &request)
 }
 
 /// The request that is made of a number, the `i`th of its trace.
@@ -58,18 +58,14 @@ fn make_value(alloc: Global, number: u64) -> Result<Vec<u8>, AllocError>
 }
 
 /// Writes a request in a line.
-pub(crate) fn write_request(
-    alloc: Global,
-    text: &mut String,
-    request: &Request,
-) -> Result<(), AllocError>
+pub(crate) fn write_request(text: &mut String, request: &Request) -> Result<(), AllocError>
     ensures ok { OnOk result
         (string_bytes text.new ≡ string_bytes text.old ++ request_line request.now) }
 {
     match request {
         Request::Put(key, value) => {
             write!(text, "put {key} ")?;
-            write_value(alloc, text, value.as_slice())?;
+            write_value(text, value.as_slice())?;
             text.push_str("\n")
         }
         Request::Get(key) => writeln!(text, "get {key}"),

@@ -5,7 +5,7 @@ ghost use Rattle.std.specs.List.{flat_map};
 ghost use Rattle.trace_text.specs.Keys.{key_line, sum_line, bytes_of, AreEntries, WritesKeys};
 ghost use Rattle.trace_text.specs.Shown.{shown};
 
-use hex::encode;
+use crate::value::write_value;
 use region_header::Bytes;
 use std::alloc::{AllocError, Global};
 use std::collections::BTreeMap;
@@ -88,9 +88,7 @@ fn write_lines(text: &mut String, entries: &[(u64, &Bytes)]) -> Result<(), Alloc
 fn write_line(text: &mut String, key: u64, value: &[u8]) -> Result<(), AllocError>
     ensures ok { OnOk result (string_bytes text.new ≡ string_bytes text.old ++ key_line (key, value.now)) }
 {
-    if value.is_empty() {
-        return writeln!(text, "key {key} -");
-    }
-    let digits = encode(*text.allocator(), value)?;
-    writeln!(text, "key {key} {digits}")
+    write!(text, "key {key} ")?;
+    write_value(text, value)?;
+    text.push_str("\n")
 }

@@ -66,7 +66,7 @@ pub fn reply_text(
     ensures ok { IfOk result (λ text. text ≡ replies_text replies.now stopped sum) }
 {
     let mut text = String::new(alloc);
-    write_reply_lines(alloc, &mut text, replies, sum)?;
+    write_reply_lines(&mut text, replies, sum)?;
     write_end(&mut text, stopped)?;
     Ok(Bytes::from_vec(text.into_bytes()))
 }
@@ -79,32 +79,27 @@ fn write_end(text: &mut String, stopped: bool) -> Result<(), AllocError>
     writeln!(text, "run {end}")
 }
 
-fn write_reply_lines(
-    alloc: Global,
-    text: &mut String,
-    replies: &[Reply],
-    sum: bool,
-) -> Result<(), AllocError>
+fn write_reply_lines(text: &mut String, replies: &[Reply], sum: bool) -> Result<(), AllocError>
     ensures ok { OnOk result
         (string_bytes text.new ≡ string_bytes text.old ++ reply_lines sum replies.now) }
 {
     if sum {
         return write_summary(text, replies);
     }
-    write_replies(alloc, text, replies)
+    write_replies(text, replies)
 }
 
-fn write_replies(alloc: Global, text: &mut String, replies: &[Reply]) -> Result<(), AllocError>
+fn write_replies(text: &mut String, replies: &[Reply]) -> Result<(), AllocError>
     ensures ok { OnOk result
         (string_bytes text.new ≡ string_bytes text.old ++ flat_map reply_line replies.now) }
 {
     for reply in replies {
-        write_reply(alloc, text, reply)?;
+        write_reply(text, reply)?;
     }
     Ok(())
 }
 
-fn write_reply(alloc: Global, text: &mut String, reply: &Reply) -> Result<(), AllocError>
+fn write_reply(text: &mut String, reply: &Reply) -> Result<(), AllocError>
     ensures ok { OnOk result
         (string_bytes text.new ≡ string_bytes text.old ++ reply_line reply.now) }
 {
@@ -113,7 +108,7 @@ fn write_reply(alloc: Global, text: &mut String, reply: &Reply) -> Result<(), Al
         Reply::Full => text.push_str("full\n"),
         Reply::None => text.push_str("none\n"),
         Reply::Value(value) => {
-            write_value(alloc, text, value.as_slice())?;
+            write_value(text, value.as_slice())?;
             text.push_str("\n")
         }
         Reply::Unanswered => text.push_str("unanswered\n"),
