@@ -11,3 +11,6 @@ pub use fault::MapFault;
 pub use filter::{DictFilter, NODE, OTHER, SHARDS, TABLE, root_kinds};
 pub use laws::recovery_keeps_each_shard;
 pub use read::{read_map, read_maps};
+
+#[cfg(test)]
+mod tests;
