@@ -39,7 +39,8 @@ pub record AddsNode (image : Image) (b : Block) (old new : BTreeMap ℕ (List �
   pub small : btree_map_len new < 2 ^ 63
 
 -- what has been read of a shard: the chains of the first buckets, and a part of the chain of the next one
-pub record HasReadTo (leads : Leading) (image : Image) (shard : ℕ) (table : Block) (k : ℕ) (map : Map) (nodes : ℕ → List Block) : Type 0 where
+pub record HasReadTo (leads : Leading) (image : Image) (shard : ℕ) (table : Block) (k : ℕ) (map : Map)
+    (nodes : ℕ → List Block) : Type 0 where
   pub chains : HasChains leads image shard table k nodes
   pub path : IsPath (but table leads) image shard k (table.first_word + k) (nodes k)
   pub rest : (j : ℕ) → k < j → nodes j ≡ []
@@ -65,7 +66,8 @@ TellsBad image i Memory = Unit {0}
 
 -- a fault tells the lowest shard that has no map, and its first bad place
 abbrev pub TellsLowest : Image → MapFault → Type 0
-TellsLowest image (BadShard shard at) = (shard < shards) × IsBadShard image shard at × ((i : ℕ) → i < shard → (map : Map) × MapOf image i map)
+TellsLowest image (BadShard shard at) = (shard < shards) × IsBadShard image shard at × ((i : ℕ) → i < shard
+    → (map : Map) × MapOf image i map)
 TellsLowest image Memory = Unit {0}
 
 -- the maps are those of the first shards, in order

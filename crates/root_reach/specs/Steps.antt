@@ -16,14 +16,17 @@ use Rattle.root_reach.specs.Reaching.{Tells, HasRoom}
 
 -- what adding an origin of a pair leaves: nothing new where it is covered, else the joined one, found and in its label
 pub data Adds (count : ℕ) (b : Block) (kind : ℕ) (origin : Origin) (found found' : List Finding) (labels labels' : List ℕ) : Type 0 where
-  present : Covers (origin_at count labels b kind) origin → found' ≡ found → labels' ≡ labels → Adds count b kind origin found found' labels labels'
+  present : Covers (origin_at count labels b kind) origin → found' ≡ found → labels' ≡ labels
+      → Adds count b kind origin found found' labels labels'
   added : (joined : Origin) → Joins (origin_at count labels b kind) origin joined
       → found' ≡ found ++ record { block = b; kind = kind; origin = joined } ∷ []
       → labels' ≡ slice_set labels (mark_of count b kind) (label_of joined) → Adds count b kind origin found found' labels labels'
 
 -- what following a word leaves: nothing new where it leads nowhere, else the origin added to what it leads to
-pub data Follows (image : Image) (count at kind : ℕ) (origin : Origin) (found found' : List Finding) (labels labels' : List ℕ) : Type 0 where
-  nowhere : ((b : Block) → Leads image (image at) b → ⊥) → found' ≡ found → labels' ≡ labels → Follows image count at kind origin found found' labels labels'
+pub data Follows (image : Image) (count at kind : ℕ) (origin : Origin) (found found' : List Finding)
+    (labels labels' : List ℕ) : Type 0 where
+  nowhere : ((b : Block) → Leads image (image at) b → ⊥) → found' ≡ found → labels' ≡ labels
+      → Follows image count at kind origin found found' labels labels'
   lead : (b : Block) → Leads image (image at) b → Adds count b kind origin found found' labels labels'
       → Follows image count at kind origin found found' labels labels'
 
@@ -43,7 +46,8 @@ HasSettled image links count labels f = AreSettled image count labels f.block f.
 pub record IsFound (image : Image) (kinds : ℕ → ℕ) (links : Links) (count : ℕ) (found : List Finding) (labels : List ℕ) : Type 0 where
   pub room : HasRoom (layout_of image) count labels
   pub sound : (f : Finding) → Contains found f → (f.kind < count) × Tells image kinds links f.block f.kind f.origin
-  pub told : (b : Block) (kind : ℕ) (origin : Origin) → IsBlock (layout_of image) b → kind < count → origin_at count labels b kind ≡ Some origin
+  pub told : (b : Block) (kind : ℕ) (origin : Origin) → IsBlock (layout_of image) b → kind < count
+      → origin_at count labels b kind ≡ Some origin
       → Contains found (record { block = b; kind = kind; origin = origin })
   pub few : length found ≤ sum_by rank labels
 
@@ -51,11 +55,13 @@ pub record IsFound (image : Image) (kinds : ℕ → ℕ) (links : Links) (count 
 pub record Grows (found found' : List Finding) (labels labels' : List ℕ) : Type 0 where
   pub more : List Finding
   pub is : found' ≡ found ++ more
-  pub still : (i : ℕ) (origin : Origin) → Covers (origin_in (slice_index labels i)) origin → Covers (origin_in (slice_index labels' i)) origin
+  pub still : (i : ℕ) (origin : Origin) → Covers (origin_in (slice_index labels i)) origin
+      → Covers (origin_in (slice_index labels' i)) origin
   pub long : length labels' ≡ length labels
 
 -- what following the first roots leaves
-pub record FollowsRoots (image : Image) (kinds : ℕ → ℕ) (links : Links) (count upto : ℕ) (found : List Finding) (labels : List ℕ) : Type 0 where
+pub record FollowsRoots (image : Image) (kinds : ℕ → ℕ) (links : Links) (count upto : ℕ) (found : List Finding)
+    (labels : List ℕ) : Type 0 where
   pub so_far : IsFound image kinds links count found labels
   pub settled : (i : ℕ) → i < upto → IsSettled image count labels (root_word i) (kinds i) (One i)
 

@@ -44,7 +44,8 @@ pub record WritesKeys (maps : Option (List (BTreeMap ℕ (List ℕ)))) (sum : Bo
   pub is : new ≡ old ++ keys
 
 -- the text is the report on a heap of this capacity with these held blocks, and on these maps
-pub record IsReport (capacity : ℕ) (is_clean : Bool) (maps : Option (List (BTreeMap ℕ (List ℕ)))) (sum : Bool) (held : List Block) (text : List ℕ) : Type 0 where
+pub record IsReport (capacity : ℕ) (is_clean : Bool) (maps : Option (List (BTreeMap ℕ (List ℕ)))) (sum : Bool) (held : List Block)
+    (text : List ℕ) : Type 0 where
   pub keys : List ℕ
   pub tells : TellsKeys maps sum keys
   pub is : text ≡ report_of capacity is_clean keys held
