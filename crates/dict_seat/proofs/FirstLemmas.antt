@@ -50,8 +50,9 @@ none_before reads v u w list head later none = record {
 }
 
 -- a refusal in a later call
-pub refused_before : (reads : ℕ → Type 0) (bytes : ℕ) (looks : Looks) (v u w : View) → Runs v u → SameRefusals v u → IsRefused reads bytes looks u w → IsRefused reads bytes looks v w
-refused_before reads bytes looks v u w runs same refused =
+pub refused_before : (reads : ℕ → Type 0) (bytes before behind most : ℕ) (looks : Looks) (v u w : View) → Runs v u → SameRefusals v u → u.taken ≤ v.taken + before → before + behind ≤ most
+    → IsRefused reads bytes behind looks u w → IsRefused reads bytes most looks v w
+refused_before reads bytes before behind most looks v u w runs same taken sum refused =
     let later : v.next ≤ u.next = let drew = runs.drew in omega arith in
     record {
       runs = runs_then v u w runs refused.runs;
@@ -65,28 +66,24 @@ refused_before reads bytes looks v u w runs same refused =
       count = let a = same.count in let b = refused.count in omega arith;
       bytes_are = refused.bytes_are;
       looks_are = refused.looks_are;
+      taken = let t = refused.taken in omega arith;
     }
 
 -- the cause of a refusal, and of a stop, over calls before
-pub put_fails : (reads : ℕ → Type 0) (bytes : ℕ) (fault : AllocFault) (v u w : View) → Runs v u → Grown v u → SameRefusals v u → Grown u w → FailsBy reads bytes fault u w → PutFails reads bytes fault v w
-put_fails reads bytes (Full looks) v u w runs before same after fails =
-    let later : v.next ≤ u.next = let drew = runs.drew in omega arith in (
-      record {
-        runs = runs_then v u w runs fails.runs;
-        found = record {
-          used = seen_before v u w w.used_look looks.used later fails.found.used;
-          past = fails.found.past;
-          class = λ c least. none_before reads v u w c looks.class_head later (fails.found.class c least);
-          free = λ small. none_before reads v u w 0 looks.free_head later (fails.found.free small);
-          large = fails.found.large;
-        };
-        count = let a = same.count in let b = fails.count in omega arith;
-        bytes_are = fails.bytes_are;
-        looks_are = fails.looks_are;
-      },
-      grown_then v u w before after,
-    )
-put_fails reads bytes (Stopped stopped) v u w runs before same after fails = (stops_then stopped.step v u w runs fails.0, same_refusals_then v u w same fails.1)
+pub put_fails : (reads : ℕ → Type 0) (bytes : ℕ) (fault : AllocFault) (v u w : View) → Runs v u → Grown v u → SameRefusals v u → u.taken ≤ v.taken + 0 → Grown u w → FailsBy reads bytes fault u w
+    → PutFails reads bytes fault v w
+put_fails reads bytes (Full looks) v u w runs before same taken after fails = (
+  refused_before reads bytes 0 0 0 looks v u w runs same taken (omega arith) (record {
+    runs = fails.runs;
+    found = fails.found;
+    count = fails.count;
+    bytes_are = fails.bytes_are;
+    looks_are = fails.looks_are;
+    taken = let t = fails.taken in omega arith;
+  }),
+  grown_then v u w before after,
+)
+put_fails reads bytes (Stopped stopped) v u w runs before same taken after fails = (stops_then stopped.step v u w runs fails.0, same_refusals_then v u w same fails.1)
 
 module _ (v t u w : View) (seat_t : IsSeat t) (seat : IsSeat u) (key first x : ℕ) (value : List ℕ) (table n : Block) (shard : IsShard v (shard_of key)) (missing : IsMissing v key table)
     (seat_v : IsSeat v) (keeps : KeepsOwn v t) (follows : Follows (table.first_word + bucket_of key) first v t) (grown_u : Grown t u) (makes : MakesNode n key first value t u)

@@ -1,9 +1,13 @@
 -- How a put's search, its table and its node go together.
-use Rattle.std.proofs.Common.{ℕ, inl, inr}
+use Rattle.std.proofs.Common.{ℕ, ◌+◌, ◌≤◌, List, Contains, refl, subst, sym, arith}
 use Rattle.heap_model.specs.declared.block.Block.{Block}
 use Rattle.heap_seat.specs.declared.fault.AllocFault.{AllocFault}
 use Rattle.heap_seat.specs.declared.fault.AllocFault.TheVariants.{Full, Stopped}
+use Rattle.heap_model.specs.Geometry.{root_word}
+use Rattle.heap_model.specs.Sizes.{span_of}
 use Rattle.heap_seat.specs.View.{View}
+use Rattle.heap_seat.specs.Words.{IsOwn, in_root, KeepsOwn}
+use Rattle.dict_seat.specs.Trails.{pointer_to, IsSettling}
 use Rattle.heap_seat.specs.Tickets.{Runs}
 use Rattle.heap_seat.specs.Calls.{SameRefusals}
 use Rattle.heap_seat.proofs.RowLemmas.{runs_then, stops_then, same_refusals_then}
@@ -14,30 +18,59 @@ use Rattle.dict_seat.specs.Quiet.{Grown}
 use Rattle.dict_seat.specs.Changes.{MayChange, Changes}
 use Rattle.dict_seat.specs.Tables.{MakesTable}
 use Rattle.dict_seat.specs.Removal.{IsShard}
-use Rattle.dict_seat.specs.Puts.{PutFails, PutAnswers}
+use Rattle.dict_seat.specs.Puts.{PutFails, PutAnswers, of_node, of_node_behind_table, of_table, WasNull, RootIsSet}
 use Rattle.dict_seat.proofs.GrownLemmas.{gives_grown}
 use Rattle.dict_seat.proofs.PublishLemmas.{others_then}
 use Rattle.dict_seat.proofs.FirstLemmas.{refused_before}
 
--- over quiet calls before: a node's refusal, and a table's
-pub answers_node : (reads : ℕ → Type 0) (bytes shard : ℕ) (fault : AllocFault) (v u w : View) → Runs v u → Grown v u → SameRefusals v u → PutFails reads bytes fault u w → PutAnswers reads bytes shard fault v w
-answers_node reads bytes shard (Full looks) v u w runs grown same fails =
-    (inl (refused_before reads bytes looks v u w runs same fails.0), λ map gives. gives_grown u w fails.1 shard map (gives_grown v u grown shard map gives))
-answers_node reads bytes shard (Stopped stopped) v u w runs grown same fails = (stops_then stopped.step v u w runs fails.0, same_refusals_then v u w same fails.1)
+-- the root of a shard is the seat's own
+root_own : (v : View) (shard : ℕ) → Contains v.roots shard → IsOwn v.held v.roots (root_word shard)
+root_own v shard owned = in_root shard (root_word shard) owned refl
 
-pub answers_table : (reads : ℕ → Type 0) (bytes shard : ℕ) (fault : AllocFault) (v u w : View) → Runs v u → Grown v u → SameRefusals v u → PutFails reads table_bytes fault u w → PutAnswers reads bytes shard fault v w
-answers_table reads bytes shard (Full looks) v u w runs grown same fails =
-    (inr (refused_before reads table_bytes looks v u w runs same fails.0), λ map gives. gives_grown u w fails.1 shard map (gives_grown v u grown shard map gives))
-answers_table reads bytes shard (Stopped stopped) v u w runs grown same fails = (stops_then stopped.step v u w runs fails.0, same_refusals_then v u w same fails.1)
+pub still_owned : (v u : View) (shard : ℕ) → KeepsOwn v u → Contains v.roots shard → Contains u.roots shard
+still_owned v u shard keeps owned = subst (λ (rs : List ℕ). Contains rs shard) (sym keeps.roots) owned
+
+-- a root that is null after quiet calls was null before, if it was known
+pub was_null : (v u : View) (shard : ℕ) → Contains v.roots shard → Grown v u → IsSettling u (root_word shard) 0 → WasNull v shard
+was_null v u shard owned grown root x seen =
+    let now = (grown.words (root_word shard) (root_own v shard owned)).volatile x seen in
+    let null = root.seen in
+    cc
+
+-- a root that leads to a table isn't null, and stays so where nothing is stored
+pub has_table : (u w : View) (shard : ℕ) (table : Block) → Contains u.roots shard → IsSettling u (root_word shard) (pointer_to table) → Grown u w → RootIsSet w shard
+has_table u w shard table owned root grown = record {
+  value = pointer_to table;
+  seen = (grown.words (root_word shard) (root_own u shard owned)).volatile (pointer_to table) root.seen;
+  some = λ null. omega arith;
+}
+
+-- over quiet calls before: a node's refusal, and a table's
+pub answers_node : (reads : ℕ → Type 0) (bytes shard : ℕ) (fault : AllocFault) (table : Block) (v u w : View) → Runs v u → Grown v u → SameRefusals v u → u.taken ≤ v.taken + 0
+    → Contains u.roots shard → IsSettling u (root_word shard) (pointer_to table) → PutFails reads bytes fault u w → PutAnswers reads bytes shard fault v w
+answers_node reads bytes shard (Full looks) table v u w runs grown same taken owned root fails = (
+  of_node (has_table u w shard table owned root fails.1) (refused_before reads bytes 0 0 0 looks v u w runs same taken (omega arith) fails.0),
+  λ map gives. gives_grown u w fails.1 shard map (gives_grown v u grown shard map gives),
+)
+answers_node reads bytes shard (Stopped stopped) table v u w runs grown same taken owned root fails = (stops_then stopped.step v u w runs fails.0, same_refusals_then v u w same fails.1)
+
+pub answers_table : (reads : ℕ → Type 0) (bytes shard : ℕ) (fault : AllocFault) (v u w : View) → Runs v u → Grown v u → SameRefusals v u → u.taken ≤ v.taken + 0
+    → Contains u.roots shard → IsSettling u (root_word shard) 0 → PutFails reads table_bytes fault u w → PutAnswers reads bytes shard fault v w
+answers_table reads bytes shard (Full looks) v u w runs grown same taken owned root fails = (
+  of_table ((fails.1.words (root_word shard) (root_own u shard owned)).volatile 0 root.seen) (refused_before reads table_bytes 0 0 0 looks v u w runs same taken (omega arith) fails.0),
+  λ map gives. gives_grown u w fails.1 shard map (gives_grown v u grown shard map gives),
+)
+answers_table reads bytes shard (Stopped stopped) v u w runs grown same taken owned root fails = (stops_then stopped.step v u w runs fails.0, same_refusals_then v u w same fails.1)
 
 -- and behind a table that was made
-pub answers_behind : (reads : ℕ → Type 0) (bytes key : ℕ) (fault : AllocFault) (table : Block) (v u y w : View) → Runs v u → Grown v u → SameRefusals v u → MakesTable key table u y
-    → PutFails reads bytes fault y w → PutAnswers reads bytes (shard_of key) fault v w
-answers_behind reads bytes key (Full looks) table v u y w runs grown same makes fails = (
-  inl (refused_before reads bytes looks v y w (runs_then v u y runs makes.runs) (same_refusals_then v u y same makes.refusals) fails.0),
+pub answers_behind : (reads : ℕ → Type 0) (bytes key : ℕ) (fault : AllocFault) (table : Block) (v u y w : View) → Runs v u → Grown v u → SameRefusals v u → u.taken ≤ v.taken + 0
+    → WasNull v (shard_of key) → MakesTable key table u y → y.taken ≤ u.taken + span_of table_bytes → PutFails reads bytes fault y w → PutAnswers reads bytes (shard_of key) fault v w
+answers_behind reads bytes key (Full looks) table v u y w runs grown same taken null makes few fails = (
+  of_node_behind_table null (has_table y w (shard_of key) table makes.missing.come.owned makes.missing.come.root fails.1)
+      (refused_before reads bytes (span_of table_bytes) 0 (span_of table_bytes) looks v y w (runs_then v u y runs makes.runs) (same_refusals_then v u y same makes.refusals) (omega arith) (omega arith) fails.0),
   λ map gives. gives_grown y w fails.1 (shard_of key) map (makes.gives map (gives_grown v u grown (shard_of key) map gives)),
 )
-answers_behind reads bytes key (Stopped stopped) table v u y w runs grown same makes fails =
+answers_behind reads bytes key (Stopped stopped) table v u y w runs grown same taken null makes few fails =
     (stops_then stopped.step v y w (runs_then v u y runs makes.runs) fails.0, same_refusals_then v y w (same_refusals_then v u y same makes.refusals) fails.1)
 
 -- a change behind a table that was made

@@ -9,7 +9,7 @@ ghost use Rattle.dict_model.specs.Requests.{with_key, without_key};
 ghost use Rattle.dict_model.specs.Shards.{Map};
 ghost use Rattle.dict_seat.specs.Changes.{MayChange, Changes};
 ghost use Rattle.dict_seat.specs.Removal.{IsShard};
-ghost use Rattle.dict_seat.specs.Puts.{PutAnswers};
+ghost use Rattle.dict_seat.specs.Puts.{PutAnswers, PutTakes};
 ghost use Rattle.dict_seat.specs.Answers.{Deletes, MakesFew};
 
 use crate::publish::{put_first, put_over};
@@ -50,6 +50,7 @@ impl Shard {
         ensures calls { MakesFew 0 0 (shard_of key) (H.view seat.old) (H.view seat.new) }
         ensures refusals { SameRefusals (H.view seat.old) (H.view seat.new) }
         ensures kept { H.keeps seat.old seat.new }
+        ensures same { self.new ≡ self.old }
     {
         match search(seat, key)? {
             SearchEnd::Found(place) => {
@@ -78,6 +79,8 @@ impl Shard {
         ensures ok { OnOk result (Changes (shard_of key) (λ map. with_key map key value.now)
             (H.view seat.old) (H.view seat.new)) }
         ensures runs { OnOk result (Runs (H.view seat.old) (H.view seat.new)) }
+        ensures taken { OnOk result (PutTakes (node_bytes (length value.now)) (shard_of key)
+            (H.view seat.old) (H.view seat.new)) }
         ensures cause { IfErr result (λ fault. PutAnswers H.reads (node_bytes (length value.now))
             (shard_of key) fault (H.view seat.old) (H.view seat.new)) }
 
@@ -88,6 +91,7 @@ impl Shard {
             (span_of (node_bytes (length value.now)) + span_of table_bytes) (shard_of key)
             (H.view seat.old) (H.view seat.new) }
         ensures kept { H.keeps seat.old seat.new }
+        ensures same { self.new ≡ self.old }
     {
         match search(seat, key)? {
             SearchEnd::Found(place) => put_over(seat, place, key, value),

@@ -7,12 +7,12 @@ use Rattle.dict_model.specs.Nodes.{shard_of, value_words, node_bytes, table_byte
 use Rattle.dict_model.specs.Requests.{with_key}
 use Rattle.dict_seat.specs.declared.search.SearchEnd.{SearchEnd}
 use Rattle.dict_seat.specs.Searches.{Searches}
-use Rattle.dict_seat.specs.Puts.{PutFails, PutAnswers}
+use Rattle.dict_seat.specs.Puts.{PutFails, PutAnswers, for_node, for_both}
 use Rattle.dict_seat.proofs.GrownLemmas.{grown_keeps, gives_grown}
 use Rattle.dict_seat.proofs.TrailLemmas.{same_map}
 use Rattle.dict_seat.proofs.ChangeLemmas.{change_none, change_after, changes_after}
 use Rattle.dict_seat.proofs.DelLemmas.{shard_still, few_calls}
-use Rattle.dict_seat.proofs.RequestLemmas.{answers_node, answers_table, answers_behind, change_behind, changes_behind, shard_behind}
+use Rattle.dict_seat.proofs.RequestLemmas.{was_null, still_owned, answers_node, answers_table, answers_behind, change_behind, changes_behind, shard_behind}
 use Rattle.dict_seat.proofs.shard.Shard.put.Goals as goal
 
 pub returns-in_err-place-clause-crash : goal.returns-in_err-place-clause-crash
@@ -98,7 +98,7 @@ returns-in_err-table-in-NoTable-clause-cause g c =
     let p = err_from_is_err_and c.from_residual-in_err-table-in-NoTable.result c.from_residual-in_err-table-in-NoTable.ensures.1 in
     rw (p.1, p.2)
     (answers_table g.H.HeapSeat.reads (node_bytes (length c.args.value.now)) (shard_of c.args.key) c.in_err-table-in-NoTable.field-0.0 v u y searches.goes.runs grown c.search.ensures.quiet.quiet.refusals
-    c.in_err-table-in-NoTable.ensures.cause)
+    c.search.ensures.quiet.quiet.calls.few (still_owned v u (shard_of c.args.key) keeps c.requires.shard.owned) searches.ends.root c.in_err-table-in-NoTable.ensures.cause)
 
 pub returns-in_err-table-in-NoTable-clause-crash : goal.returns-in_err-table-in-NoTable-clause-crash
 returns-in_err-table-in-NoTable-clause-crash g c =
@@ -145,7 +145,19 @@ returns-in-Found-clause-cause g c =
     let w = view c.put_over.new.seat in
     IfErr-weaker c.put_over.result (λ (fault : AllocFault). PutFails g.H.HeapSeat.reads (node_bytes (length c.args.value.now)) fault u w)
     (λ (fault : AllocFault). PutAnswers g.H.HeapSeat.reads (node_bytes (length c.args.value.now)) (shard_of c.args.key) fault v w)
-    (λ fault fails. answers_node g.H.HeapSeat.reads (node_bytes (length c.args.value.now)) (shard_of c.args.key) fault v u w searches.goes.runs grown c.search.ensures.quiet.quiet.refusals fails) c.put_over.ensures.cause
+    (λ fault fails. answers_node g.H.HeapSeat.reads (node_bytes (length c.args.value.now)) (shard_of c.args.key) fault searches.ends.table v u w searches.goes.runs grown c.search.ensures.quiet.quiet.refusals c.search.ensures.quiet.quiet.calls.few
+    (still_owned v u (shard_of c.args.key) keeps c.requires.shard.owned) searches.ends.come.root fails) c.put_over.ensures.cause
+
+pub returns-in-Found-clause-taken : goal.returns-in-Found-clause-taken
+returns-in-Found-clause-taken g c =
+    let view = g.H.HeapSeat.view in
+    let v = view c.args.seat.now in
+    let u = view c.search.new.seat in
+    let keeps = c.search.ensures.quiet.quiet.unchanged in
+    let grown = grown_keeps v u keeps in
+    let seat = g.met.H.HeapSeat.seat c.search.new.seat in
+    let w = view c.put_over.new.seat in
+    on_ok_weaker c.put_over.result (λ done. for_node (let a = c.search.ensures.quiet.quiet.calls.few in let b = c.put_over.ensures.calls.few in omega arith)) c.put_over.ensures.ok
 
 pub returns-in-Found-clause-crash : goal.returns-in-Found-clause-crash
 returns-in-Found-clause-crash g c =
@@ -181,7 +193,19 @@ returns-in-Missing-clause-cause g c =
     let w = view c.put_first.new.seat in
     IfErr-weaker c.put_first.result (λ (fault : AllocFault). PutFails g.H.HeapSeat.reads (node_bytes (length c.args.value.now)) fault u w)
     (λ (fault : AllocFault). PutAnswers g.H.HeapSeat.reads (node_bytes (length c.args.value.now)) (shard_of c.args.key) fault v w)
-    (λ fault fails. answers_node g.H.HeapSeat.reads (node_bytes (length c.args.value.now)) (shard_of c.args.key) fault v u w searches.goes.runs grown c.search.ensures.quiet.quiet.refusals fails) c.put_first.ensures.cause
+    (λ fault fails. answers_node g.H.HeapSeat.reads (node_bytes (length c.args.value.now)) (shard_of c.args.key) fault c.in-Missing.table v u w searches.goes.runs grown c.search.ensures.quiet.quiet.refusals c.search.ensures.quiet.quiet.calls.few
+    (still_owned v u (shard_of c.args.key) keeps c.requires.shard.owned) searches.ends.0.root fails) c.put_first.ensures.cause
+
+pub returns-in-Missing-clause-taken : goal.returns-in-Missing-clause-taken
+returns-in-Missing-clause-taken g c =
+    let view = g.H.HeapSeat.view in
+    let v = view c.args.seat.now in
+    let u = view c.search.new.seat in
+    let keeps = c.search.ensures.quiet.quiet.unchanged in
+    let grown = grown_keeps v u keeps in
+    let seat = g.met.H.HeapSeat.seat c.search.new.seat in
+    let w = view c.put_first.new.seat in
+    on_ok_weaker c.put_first.result (λ done. for_node (let a = c.search.ensures.quiet.quiet.calls.few in let b = c.put_first.ensures.calls.few in omega arith)) c.put_first.ensures.ok
 
 pub returns-in-Missing-clause-crash : goal.returns-in-Missing-clause-crash
 returns-in-Missing-clause-crash g c =
@@ -223,8 +247,26 @@ returns-in_ok-table-in-NoTable-clause-cause g c =
     let table = c.in_ok-table-in-NoTable.table in
     IfErr-weaker c.put_first-in-NoTable.result (λ (fault : AllocFault). PutFails g.H.HeapSeat.reads (node_bytes (length c.args.value.now)) fault y w)
     (λ (fault : AllocFault). PutAnswers g.H.HeapSeat.reads (node_bytes (length c.args.value.now)) (shard_of c.args.key) fault v w)
-    (λ fault fails. answers_behind g.H.HeapSeat.reads (node_bytes (length c.args.value.now)) c.args.key fault table v u y w searches.goes.runs grown c.search.ensures.quiet.quiet.refusals makes fails)
+    (λ fault fails. answers_behind g.H.HeapSeat.reads (node_bytes (length c.args.value.now)) c.args.key fault table v u y w searches.goes.runs grown c.search.ensures.quiet.quiet.refusals c.search.ensures.quiet.quiet.calls.few
+    (was_null v u (shard_of c.args.key) c.requires.shard.owned grown searches.ends.root) makes c.make_table.ensures.calls.few fails)
     c.put_first-in-NoTable.ensures.cause
+
+pub returns-in_ok-table-in-NoTable-clause-taken : goal.returns-in_ok-table-in-NoTable-clause-taken
+returns-in_ok-table-in-NoTable-clause-taken g c =
+    let view = g.H.HeapSeat.view in
+    let v = view c.args.seat.now in
+    let u = view c.search.new.seat in
+    let keeps = c.search.ensures.quiet.quiet.unchanged in
+    let grown = grown_keeps v u keeps in
+    let seat = g.met.H.HeapSeat.seat c.search.new.seat in
+    let searches = subst (λ (e : SearchEnd). Searches c.args.key e v u) c.in-NoTable.is c.in_ok-place.ensures.ok in
+    let y = view c.make_table.new.seat in
+    let w = view c.put_first-in-NoTable.new.seat in
+    let makes = c.in_ok-table-in-NoTable.ensures.ok in
+    let table = c.in_ok-table-in-NoTable.table in
+    on_ok_weaker c.put_first-in-NoTable.result
+    (λ done. for_both (was_null v u (shard_of c.args.key) c.requires.shard.owned grown searches.ends.root)
+    (let a = c.search.ensures.quiet.quiet.calls.few in let b = c.make_table.ensures.calls.few in let d = c.put_first-in-NoTable.ensures.calls.few in omega arith)) c.put_first-in-NoTable.ensures.ok
 
 pub returns-in_ok-table-in-NoTable-clause-crash : goal.returns-in_ok-table-in-NoTable-clause-crash
 returns-in_ok-table-in-NoTable-clause-crash g c =
