@@ -1,48 +1,44 @@
 -- Every mixed image of a sound state names each held block.
-use Rattle.std.proofs.Common.{◌≡◌, ℕ, ◌+◌, ◌-◌, ◌*◌, ◌<◌, ◌≤◌, inl, inr, ◌⊎◌, nat_lt, List, get_or, length, refl, ap, sym, subst, ◌∙◌, lt-ltb, arith}
+use Rattle.std.proofs.Common.{◌≡◌, ◌≢◌, ℕ, ◌+◌, ◌-◌, ◌*◌, ◌<◌, ◌≤◌, inl, inr, ◌⊎◌, nat_lt, List, get_or, length, refl, ap, sym, subst, ◌∙◌, lt-ltb, arith}
 use Rattle.heap_model.specs.declared.block.Block.{Block}
 use Rattle.heap_model.specs.Geometry.{start_word, superblock_words, image_words, info_word}
 use Rattle.heap_model.specs.Sizes.{IsClass, words_of_class, blocks_of}
 use Rattle.heap_model.specs.Words.{large_info}
 use Rattle.heap_model.specs.Image.{Image}
 use Rattle.heap_model.specs.Header.{capacity_of, used_of}
-use Rattle.heap_model.specs.Blocks.{layout_of, of_class, as_large, IsBlock}
-use Rattle.heap_model.specs.Durability.{Mixes}
+use Rattle.heap_model.specs.Blocks.{layout_of, of_class, as_large, IsBlock, Names}
+use Rattle.heap_model.specs.Durability.{IsTransient, is_head, is_anchor, is_link, IsCrashImage, IsClosedImage}
 use Rattle.crash_core.specs.Cells.{superblock_at}
 use Rattle.crash_core.specs.Memory.{Memory, info, durable_used, durable_info, memory_of}
 use Rattle.crash_core.specs.View.{Setup, View, times_large, times_block}
 use Rattle.crash_core.specs.Sound.{IsCutBlock, Good, Sound}
-use Rattle.crash_core.specs.Held.{IsHeld, a_small, a_large, volatile_image, durable_image, IsFirm}
+use Rattle.crash_core.specs.Held.{IsHeldBy, IsHeld, a_small, a_large, volatile_image, durable_image, IsFirm}
 use Rattle.crash_core.proofs.TotalLemmas.{total_at}
 use Rattle.crash_core.proofs.PlaceLemmas.{pick}
 use Rattle.crash_core.proofs.OwnerLemmas.{in_lists_total}
 use Rattle.crash_core.proofs.LinkFrameLemmas.{span_covers}
 
-module _ (k : Setup) (words : List ℕ) (views : List View) (sound : Sound k words views) (image : Image) (mixed : Mixes (volatile_image k.capacity words) (durable_image k.capacity words) image) where
+-- what names need of an image: the capacity, a mark no lower than the durable one, and the infos that are durable
+pub record IsNaming (k : Setup) (m : Memory) (image : Image) : Type 0 where
+  pub capacity : capacity_of image ≡ k.capacity
+  pub used_least : durable_used m ≤ used_of image
+  pub infos : (d : ℕ) → d < k.capacity → durable_info m d ≡ info m d → image (info_word d) ≡ info m d
+
+module _ (k : Setup) (words : List ℕ) (views : List View) (sound : Sound k words views) (image : Image) (naming : IsNaming k (memory_of k.capacity words) image) where
   abbrev m : Memory
   m = memory_of k.capacity words
 
   good : Good k m views
   good = sound.good
 
-  -- a word of the image has one of its two values
-  either : (word : ℕ) → word < image_words k.capacity → (image word ≡ get_or words word 0) ⊎ (image word ≡ get_or words (image_words k.capacity + word) 0)
-  either word inside = elim (mixed.each word) [
-    | inl volatile ↦ inl (volatile ∙ pick (nat_lt word (image_words k.capacity)) _ _ (lt-ltb word (image_words k.capacity) inside))
-    | inr durable ↦ inr (durable ∙ pick (nat_lt word (image_words k.capacity)) _ _ (lt-ltb word (image_words k.capacity) inside))
-  ]
-
   capacity_is : capacity_of image ≡ k.capacity
-  capacity_is = let fixed = sound.fixed 2 (inl (omega arith)) in elim (either 2 (omega arith)) [ inl volatile ↦ volatile ∙ fixed.0 ∙ sound.capacity | inr durable ↦ durable ∙ fixed.1 ∙ sound.capacity ]
+  capacity_is = naming.capacity
 
-  used_least : durable_used m ≤ used_of image
-  used_least = let behind = good.shaped.durable.behind in elim (either 8 (omega arith)) [ inl volatile ↦ omega arith | inr durable ↦ omega arith ]
+  pub used_least : durable_used m ≤ used_of image
+  used_least = naming.used_least
 
   info_is : (d : ℕ) → d < k.capacity → durable_info m d ≡ info m d → image (info_word d) ≡ info m d
-  info_is d inside same = elim (either (info_word d) (omega arith)) [
-    | inl volatile ↦ volatile ∙ sym (pick (nat_lt d k.capacity) _ _ (lt-ltb d k.capacity inside))
-    | inr durable ↦ durable ∙ sym (pick (nat_lt d k.capacity) _ _ (lt-ltb d k.capacity inside)) ∙ same
-  ]
+  info_is = naming.infos
 
   durable_inside : (d : ℕ) → d < durable_used m → d < k.capacity
   durable_inside d less = let behind = good.shaped.durable.behind in let room = good.shaped.durable.room in omega arith
@@ -96,5 +92,53 @@ module _ (k : Setup) (words : List ℕ) (views : List View) (sound : Sound k wor
         };
       }
 
+  pub names_held : (b : Block) → IsHeldBy views b → Names image (8 * b.first_word) b
+  names_held b held = record { begins_at = refl; block = names held.seat held.view held.below held.at b held.holds }
+
+-- an image that has at each of these words the volatile or the durable value
+naming_by : (k : Setup) (words : List ℕ) (views : List View) → Sound k words views → (image : Image)
+    → ((word : ℕ) → word < image_words k.capacity → word ≢ 3 → (IsTransient k.capacity word → ⊥) → (image word ≡ get_or words word 0) ⊎ (image word ≡ get_or words (image_words k.capacity + word) 0))
+    → IsNaming k (memory_of k.capacity words) image
+naming_by k words views sound image either = record {
+  capacity = let fixed = sound.fixed 2 (inl (omega arith)) in
+      elim (either 2 (omega arith) (λ e. omega (arith, e)) (λ t. not_transient 2 (omega arith) t)) [ inl volatile ↦ volatile ∙ fixed.0 ∙ sound.capacity | inr durable ↦ durable ∙ fixed.1 ∙ sound.capacity ];
+  used_least = let behind = sound.good.shaped.durable.behind in
+      elim (either 8 (omega arith) (λ e. omega (arith, e)) (λ t. not_transient 8 (omega arith) t)) [ inl volatile ↦ omega arith | inr durable ↦ omega arith ];
+  infos = λ d inside same. elim (either (info_word d) (omega arith) (λ e. omega (arith, e)) (λ t. not_info d t)) [
+    | inl volatile ↦ volatile ∙ sym (pick (nat_lt d k.capacity) _ _ (lt-ltb d k.capacity inside))
+    | inr durable ↦ durable ∙ sym (pick (nat_lt d k.capacity) _ _ (lt-ltb d k.capacity inside)) ∙ same
+  ];
+} where
+  not_transient : (word : ℕ) → word < 16 → IsTransient k.capacity word → ⊥
+  not_transient word low (is_head list w less same) = omega (arith, same, low)
+  not_transient word low (is_anchor d w less same) = omega (arith, same, low)
+  not_transient word low (is_link d w less same) = omega (arith, same, low)
+
+  not_info : (d : ℕ) → IsTransient k.capacity (info_word d) → ⊥
+  not_info d t = by_word (info_word d) refl t where
+    by_word : (word : ℕ) → word ≡ info_word d → IsTransient k.capacity word → ⊥
+    by_word word is (is_head list w less same) = omega (arith, same, is, less)
+    by_word word is (is_anchor e w less same) = omega (arith, same, is)
+    by_word word is (is_link e w less same) = omega (arith, same, is)
+
 pub firm : (k : Setup) (words : List ℕ) (views : List View) → Sound k words views → IsFirm k.capacity words views
-firm k words views sound = record { each = λ image mixed b held. record { begins_at = refl; block = names k words views sound image mixed held.seat held.view held.below held.at b held.holds } }
+firm k words views sound = record {
+  each = λ image mixed b held. names_held k words views sound image (naming_by k words views sound image (λ word inside _ _. elim (mixed.each word) [
+    | inl volatile ↦ inl (volatile ∙ pick (nat_lt word (image_words k.capacity)) _ _ (lt-ltb word (image_words k.capacity) inside))
+    | inr durable ↦ inr (durable ∙ pick (nat_lt word (image_words k.capacity)) _ _ (lt-ltb word (image_words k.capacity) inside))
+  ])) b held;
+}
+
+-- the durable capacity
+durable_capacity : (k : Setup) (words : List ℕ) (views : List View) → Sound k words views → durable_image k.capacity words 2 ≡ k.capacity
+durable_capacity k words views sound = pick (nat_lt 2 (image_words k.capacity)) _ _ (lt-ltb 2 (image_words k.capacity) (omega arith)) ∙ (sound.fixed 2 (inl (omega arith))).1 ∙ sound.capacity
+
+-- what a crash leaves names each held block
+pub crash_names : (k : Setup) (words : List ℕ) (views : List View) → Sound k words views → (image : Image) → IsCrashImage (durable_image k.capacity words) image → (b : Block) → IsHeldBy views b → Names image (8 * b.first_word) b
+crash_names k words views sound image crash b held = names_held k words views sound image (naming_by k words views sound image (λ word inside not_state apart.
+    inr (crash.others word not_state (λ t. apart (subst (λ c. IsTransient c word) (durable_capacity k words views sound) t)) ∙ pick (nat_lt word (image_words k.capacity)) _ _ (lt-ltb word (image_words k.capacity) inside)))) b held
+
+-- and so does what a close leaves
+pub closed_names : (k : Setup) (words : List ℕ) (views : List View) → Sound k words views → (image : Image) → IsClosedImage (volatile_image k.capacity words) image → (b : Block) → IsHeldBy views b → Names image (8 * b.first_word) b
+closed_names k words views sound image closed b held = names_held k words views sound image (naming_by k words views sound image (λ word inside not_state _.
+    inl (closed.others word not_state ∙ pick (nat_lt word (image_words k.capacity)) _ _ (lt-ltb word (image_words k.capacity) inside)))) b held

@@ -111,3 +111,12 @@ sound_runs k s s' (e ∷ events) sound runs = sound_runs k runs.0 s' events (aft
   after_one next (is_done v at may) = sound_step k s.words s.views e.0 v e.1 runs.1 at sound may.may
   after_one next (not_now v at going refused) = sound
   after_one next (has_stopped v at stop) = sound
+
+-- a place of the table has a word there
+pub in_length : (k : Setup) (s : State) (i : ℕ) (v : View) (event : Event) → i < length s.views → get_or s.views i v ≡ v → Sound k s.words s.views → MayStep (memory_of k.capacity s.words) v event
+    → table_index k.capacity (place_of v event) < length s.words
+in_length k s i v event below at sound may = by_place (place_of v event) (in_table k (memory_of k.capacity s.words) s.views i v below at sound.good event may) where
+  by_place : (p : Place) → is_place k.capacity p ≡ true → table_index k.capacity p < length s.words
+  by_place (volatile_at cell) is = let w = index_within k.capacity cell is in let l = sound.long in omega arith
+  by_place (durable_at cell) is = let w = index_within k.capacity cell is in let l = sound.long in omega arith
+  by_place tickets is = let l = sound.long in omega arith

@@ -1,18 +1,22 @@
 //! What follows from the definitions, as functions with nothing to run: a caller cites their clauses.
 
-ghost use Rattle.std.specs.Prelude.{◌≡◌, ◌≢◌, ◌<◌, ℕ, List, get_or, set, length, slice_index};
+ghost use Rattle.std.specs.Prelude.{◌≡◌, ◌≢◌, ◌<◌, ◌*◌, ℕ, List, get_or, set, length, slice_index};
 ghost use Rattle.heap_model.specs.declared.block.Block.{Block};
 ghost use Rattle.heap_model.specs.Geometry.{capacity_word};
 ghost use Rattle.heap_model.specs.Rest.{IsReady};
 ghost use Rattle.crash_core.specs.declared.event.Event.{Event};
 ghost use Rattle.crash_core.specs.Cells.{Cell};
-ghost use Rattle.crash_core.specs.Memory.{Memory, memory_of};
+ghost use Rattle.crash_core.specs.Memory.{Memory, memory_of, table_index};
 ghost use Rattle.crash_core.specs.View.{Setup, View, times_own};
 ghost use Rattle.crash_core.specs.Guards.{IsOwn, MayStep};
 ghost use Rattle.crash_core.specs.Sound.{Good, Sound};
 ghost use Rattle.crash_core.specs.Steps.{Keeps, State, IsSoundState, Runs, words_after, seat_after};
 ghost use Rattle.crash_core.specs.Opening.{AreOwners, setup_of, opened_state};
-ghost use Rattle.crash_core.specs.Held.{IsFirm};
+ghost use Rattle.crash_core.specs.Held.{IsHeldBy, IsFirm, volatile_image, durable_image};
+ghost use Rattle.heap_model.specs.Image.{Image};
+ghost use Rattle.heap_model.specs.Blocks.{Names};
+ghost use Rattle.heap_model.specs.Durability.{IsCrashImage, IsClosedImage};
+ghost use Rattle.crash_core.specs.Effects.{place_of};
 
 /// Each kind of step that a seat may take keeps memory and seats fitting together, whether an
 /// exchange is won or lost, and whether a draw gives a ticket or stops the seat.
@@ -56,6 +60,24 @@ pub fn an_opened_heap_is_sound()
         → (events : List (ℕ × Event)) (s : State) → Runs (setup_of words budget)
         (opened_state (setup_of words budget) held block_owners root_owners seats) events s
         → IsFirm (slice_index words capacity_word) s.words s.views }
+{}
+
+/// Whatever a crash leaves of a sound state, or a close, names each held block.
+pub fn a_crash_leaves_each_held_block_named()
+    ensures crash { (k : Setup) (s : State) → IsSoundState k s → (image : Image)
+        → IsCrashImage (durable_image k.capacity s.words) image
+        → (b : Block) → IsHeldBy s.views b → Names image (8 * b.first_word) b }
+    ensures closed { (k : Setup) (s : State) → IsSoundState k s → (image : Image)
+        → IsClosedImage (volatile_image k.capacity s.words) image
+        → (b : Block) → IsHeldBy s.views b → Names image (8 * b.first_word) b }
+{}
+
+/// A step that a seat may take works on a word of the shared table.
+pub fn a_step_works_on_a_word_of_the_table()
+    ensures { (k : Setup) (s : State) (i : ℕ) (v : View) (event : Event)
+        → i < length s.views → get_or s.views i v ≡ v → IsSoundState k s
+        → MayStep (memory_of k.capacity s.words) v event
+        → table_index k.capacity (place_of v event) < length s.words }
 {}
 
 /// No word is own to two seats.
