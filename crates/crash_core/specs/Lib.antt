@@ -9,3 +9,4 @@ pub mod Examples
 pub mod Held
 pub mod Opening
 pub mod Crash
+pub mod OwnerLists

@@ -6,6 +6,7 @@ mod crash;
 mod event;
 mod heads;
 mod laws;
+mod opening;
 
 pub use anchors::{anchor_after_give, anchor_after_take_all};
 pub use crash::crash_image;
@@ -16,3 +17,4 @@ pub use laws::{
     a_word_is_own_to_at_most_one_seat, an_opened_heap_is_sound,
     every_list_of_events_keeps_the_heap_sound, every_step_keeps_the_heap_sound,
 };
+pub use opening::{Owners, opened_table};
