@@ -31,3 +31,4 @@ pub mod OpenLemmas
 pub mod OpenCountLemmas
 pub mod OpenedLemmas
 pub mod CrashLemmas
+pub mod SplittingLemmas

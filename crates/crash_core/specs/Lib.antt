@@ -10,3 +10,4 @@ pub mod Held
 pub mod Opening
 pub mod Crash
 pub mod OwnerLists
+pub mod Splitting
