@@ -32,3 +32,4 @@ pub mod OpenCountLemmas
 pub mod OpenedLemmas
 pub mod CrashLemmas
 pub mod SplittingLemmas
+mod ExampleLemmas

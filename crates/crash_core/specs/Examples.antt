@@ -1,11 +1,11 @@
 -- Worked examples by computation: two superblocks, of which the first is in the list of the free ones, and a seat with ticket 3.
-use Rattle.std.specs.Prelude.{◌≡◌, ℕ, ◌+◌, cond, nat_eq, true, [], ◌∷◌, replicate, None, Some, refl}
+use Rattle.std.specs.Prelude.{◌≡◌, ℕ, ◌+◌, cond, nat_eq, true, [], ◌∷◌, replicate, None, Some, refl, get_or, set}
 use Rattle.heap_model.specs.Sizes.{class_sizes, words_of_class, blocks_of}
-use Rattle.crash_core.specs.declared.event.Event.TheVariants.{Tick, Store, LookUsed, TakeFresh, KeepUsed, LookHead, Pop, Push, Give}
-use Rattle.crash_core.specs.declared.event.Shift.TheVariants.{Large, Split}
+use Rattle.crash_core.specs.declared.event.Event.TheVariants.{Tick, Load, Store, Settle, LookUsed, TakeFresh, KeepUsed, LookHead, LookLink, Pop, Push, LookAnchor, TakeAll, Give}
+use Rattle.crash_core.specs.declared.event.Shift.TheVariants.{Cut, Alloc, Free, Lift, Large, Split}
 use Rattle.crash_core.specs.Cells.{Cell, used_cell, head_cell, info_cell, anchor_cell, link_cell, root_cell, data_cell, no_cell, cell_at}
-use Rattle.crash_core.specs.Memory.{Memory}
-use Rattle.crash_core.specs.View.{Setup, View, Look, no_batch, times_own}
+use Rattle.crash_core.specs.Memory.{Memory, write, volatile_at}
+use Rattle.crash_core.specs.View.{Setup, View, Look, no_batch, times_own, of_class}
 use Rattle.crash_core.specs.Effects.{left_there, view_after, chain, steps}
 use Rattle.crash_core.specs.Steps.{seat_after}
 
@@ -38,7 +38,7 @@ abbrev unread : Look
 unread = record { word = 1; ticket = None; wins = 0; taken = 0 }
 
 -- nothing is the seat's own but a ticket
-abbrev idle : View
+abbrev pub idle : View
 idle = record {
   setup = setup;
   small = replicate 21 [];
@@ -82,7 +82,7 @@ values (root_cell i) = 0
 values (data_cell word) = 0
 values no_cell = 0
 
-abbrev memory : Memory
+abbrev pub memory : Memory
 memory = record { volatile = values; durable = values; drawn = 4 }
 
 -- a draw below the budget, and one at it, which stops the seat
@@ -100,7 +100,7 @@ pub looks_at_head : (seat_after memory idle (LookHead 0)).seen_head ≡ Some (re
 looks_at_head = refl
 
 -- the mark is taken further where it is as it was seen, and not where another was seen
-abbrev saw_used : ℕ → View
+abbrev pub saw_used : ℕ → View
 saw_used n = record idle { seen_used = Some n }
 
 pub takes : left_there memory (saw_used 1) (TakeFresh 1) 1 ≡ 2
@@ -119,7 +119,7 @@ pub keeps_used : (seat_after memory (saw_used 1) KeepUsed).floor ≡ 1
 keeps_used = refl
 
 -- a pop counts, and the descriptor is claimed; with an old head it is lost
-abbrev saw_head : ℕ → View
+abbrev pub saw_head : ℕ → View
 saw_head word = record idle { seen_head = Some (record { of = 0; word = word }); seen_link = Some 0 }
 
 pub pops : left_there memory (saw_head 16777217) Pop 16777217 ≡ 33554432
@@ -184,3 +184,70 @@ holds_large = refl
 
 pub splits : (view_after memory (record idle { large = record { first = 1; count = 1 } ∷ [] }) (Tick (Some (Split 9272))) 4).split ≡ 1 ∷ []
 splits = refl
+
+-- what a load, a store and a settling tell of a root
+abbrev with_root : View
+with_root = record idle { roots = 1 ∷ []; volatile = replicate 50 None; durable = replicate 50 None }
+
+pub loads : get_or (seat_after memory with_root (Load 41)).volatile 41 None ≡ Some 0
+loads = refl
+
+pub stores : get_or (seat_after memory with_root (Store 41 7)).volatile 41 None ≡ Some 7
+stores = refl
+
+pub settles : get_or (seat_after memory with_root (Settle 41)).durable 41 None ≡ Some 0
+settles = refl
+
+pub owns_root : times_own with_root (cell_at 2 41) ≡ 1
+owns_root = refl
+
+-- looks at a link and at an anchor
+pub looks_at_link : (seat_after memory (saw_head 16777217) LookLink).seen_link ≡ Some 0
+looks_at_link = refl
+
+pub looks_at_anchor : (seat_after memory (record idle { raw = 0 ∷ [] }) (LookAnchor 0)).seen_anchor ≡ Some (record { of = 0; word = 0 })
+looks_at_anchor = refl
+
+-- two blocks of a partial superblock go to the cache of its class; the second one's link was never written
+abbrev partial : View
+partial = record idle { classed = record { descriptor = 0; class = 20 } ∷ []; seen_anchor = Some (record { of = 0; word = 17179869185 }) }
+
+pub takes_all : left_there memory partial (TakeAll 0) 17179869185 ≡ 2
+takes_all = refl
+
+pub has_all : of_class (view_after memory partial (TakeAll 0) 17179869185).caches 20 ≡ 1080 ∷ 0 ∷ []
+unfolding words_of_class class_sizes
+has_all = refl
+
+pub is_done_with : (view_after memory partial (TakeAll 0) 17179869185).classed ≡ []
+is_done_with = refl
+
+pub loses_all : (view_after memory partial (TakeAll 0) 2).losses ≡ 1
+loses_all = refl
+
+-- a block is held, freed, and put behind the batch
+abbrev cached : View
+cached = record idle { caches = set (replicate 21 []) 20 (1080 ∷ 2872 ∷ []) }
+
+pub allocates : of_class (view_after memory cached (Tick (Some (Alloc 20))) 4).small 20 ≡ 1080 ∷ []
+allocates = refl
+
+pub leaves_one : of_class (view_after memory cached (Tick (Some (Alloc 20))) 4).caches 20 ≡ 2872 ∷ []
+leaves_one = refl
+
+pub lifts : (view_after memory cached (Tick (Some (Lift 20))) 4).batch.blocks ≡ 1080 ∷ []
+lifts = refl
+
+pub lifts_from : (view_after memory cached (Tick (Some (Lift 20))) 4).batch.descriptor ≡ 0
+lifts_from = refl
+
+-- superblock 1 is of class 20
+abbrev of_20 : Memory
+of_20 = write memory (volatile_at (info_cell 1)) 20
+
+pub frees : of_class (view_after of_20 (record idle { small = set (replicate 21 []) 20 (9272 ∷ []) }) (Tick (Some (Free 9272))) 4).caches 20 ≡ 9272 ∷ []
+frees = refl
+
+pub cuts : of_class (view_after of_20 (record idle { cutting = 1 ∷ [] }) (Tick (Some (Cut 1))) 4).caches 20 ≡ 9272 ∷ 11064 ∷ 12856 ∷ 14648 ∷ []
+unfolding words_of_class class_sizes blocks_of
+cuts = refl

@@ -1,5 +1,5 @@
 -- A seat that gives some of its held blocks and roots to a new seat.
-use Rattle.std.specs.Prelude.{ℕ, Bool, not, cond, List, [], ◌∷◌, map, replicate, None}
+use Rattle.std.specs.Prelude.{ℕ, Bool, not, cond, List, [], ◌∷◌, replicate, None}
 use Rattle.heap_model.specs.Geometry.{lists}
 use Rattle.crash_core.specs.View.{View, Span, no_batch}
 use Rattle.crash_core.specs.Effects.{trimmed}
@@ -28,16 +28,45 @@ chosen_lists test (xs ∷ lists) = chosen test xs ∷ chosen_lists test lists
 
 -- the seat without what goes
 abbrev pub remaining : Choice → View → View
-remaining c v = trimmed (record v { small = chosen_lists (others c).blocks v.small; large = chosen_spans (others c).spans v.large;
-    roots = chosen (others c).roots v.roots })
+remaining c v = trimmed (record v {
+  small = chosen_lists (others c).blocks v.small;
+  large = chosen_spans (others c).spans v.large;
+  roots = chosen (others c).roots v.roots;
+})
 
 -- the new seat, which has what goes and has done nothing yet
 abbrev pub new_seat : Choice → View → View
-new_seat c v = record { setup = v.setup; small = chosen_lists c.blocks v.small; large = chosen_spans c.spans v.large;
-    roots = chosen c.roots v.roots; caches = replicate lists []; batch = no_batch; raw = []; split = []; cutting = []; classed = [];
-    seen_used = None; seen_head = None; seen_link = None; seen_anchor = None; used_look = unlooked v.setup.used; head_looks = v.head_looks;
-    volatile = v.volatile; durable = v.durable; floor = v.floor; ticket = None; last_ticket = None; stopped = None;
-    taken = 0; draws = 0; cuts = 0; wins = 0; losses = 0; gives = 0; moves = 0 }
+new_seat c v = record {
+  setup = v.setup;
+  small = chosen_lists c.blocks v.small;
+  large = chosen_spans c.spans v.large;
+  roots = chosen c.roots v.roots;
+  caches = replicate lists [];
+  batch = no_batch;
+  raw = [];
+  split = [];
+  cutting = [];
+  classed = [];
+  seen_used = None;
+  seen_head = None;
+  seen_link = None;
+  seen_anchor = None;
+  used_look = unlooked v.setup.used;
+  head_looks = v.head_looks;
+  volatile = v.volatile;
+  durable = v.durable;
+  floor = v.floor;
+  ticket = None;
+  last_ticket = None;
+  stopped = None;
+  taken = 0;
+  draws = 0;
+  cuts = 0;
+  wins = 0;
+  losses = 0;
+  gives = 0;
+  moves = 0;
+}
 
 abbrev pub given_off : Choice → View → View
 given_off c v = trimmed (new_seat c v)

@@ -1,6 +1,6 @@
 //! What follows from the definitions, as functions with nothing to run: a caller cites their clauses.
 
-ghost use Rattle.std.specs.Prelude.{◌≡◌, ◌≢◌, ◌<◌, ◌*◌, ℕ, List, get_or, set, length, slice_index};
+ghost use Rattle.std.specs.Prelude.{◌≡◌, ◌≢◌, ◌<◌, ◌*◌, ◌++◌, ◌∷◌, [], ℕ, List, get_or, set, length, slice_index};
 ghost use Rattle.heap_model.specs.declared.block.Block.{Block};
 ghost use Rattle.heap_model.specs.Geometry.{capacity_word};
 ghost use Rattle.heap_model.specs.Rest.{IsReady};
@@ -11,6 +11,7 @@ ghost use Rattle.crash_core.specs.View.{Setup, View, times_own};
 ghost use Rattle.crash_core.specs.Guards.{IsOwn, MayStep};
 ghost use Rattle.crash_core.specs.Sound.{Good, Sound};
 ghost use Rattle.crash_core.specs.Steps.{Keeps, State, IsSoundState, Runs, words_after, seat_after};
+ghost use Rattle.crash_core.specs.Splitting.{Choice, remaining, given_off};
 ghost use Rattle.crash_core.specs.Opening.{AreOwners, setup_of, opened_state};
 ghost use Rattle.crash_core.specs.Held.{IsHeldBy, IsFirm, volatile_image, durable_image};
 ghost use Rattle.heap_model.specs.Image.{Image};
@@ -60,6 +61,14 @@ pub fn an_opened_heap_is_sound()
         → (events : List (ℕ × Event)) (s : State) → Runs (setup_of words budget)
         (opened_state (setup_of words budget) held block_owners root_owners seats) events s
         → IsFirm (slice_index words capacity_word) s.words s.views }
+{}
+
+/// A seat may give some of its held blocks and roots, whichever are chosen, to a new seat that has
+/// done nothing yet: no word changes, and the state stays sound.
+pub fn a_seat_may_be_split()
+    ensures { (k : Setup) (words : List ℕ) (views : List View) (i : ℕ) (v : View)
+        → i < length views → get_or views i v ≡ v → Sound k words views → (c : Choice)
+        → Sound k words (set views i (remaining c v) ++ given_off c v ∷ []) }
 {}
 
 /// Whatever a crash leaves of a sound state, or a close, names each held block.
