@@ -3,6 +3,7 @@ pub mod RunLemmas
 pub mod OrderLemmas
 pub mod MapLemmas
 pub mod LawLemmas
+pub mod ReadingLemmas
 pub mod ReplyLemmas
 pub mod UseLemmas
 pub mod WordLemmas

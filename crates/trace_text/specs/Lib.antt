@@ -10,3 +10,4 @@ pub mod Values
 pub mod Replies
 pub mod Generated
 pub mod Examples
+pub mod TraceExamples

@@ -10,6 +10,8 @@ ghost use Rattle.heap_model.specs.Sizes.{IsClass, words_of_class};
 ghost use Rattle.trace_text.specs.HeapMap.{begins_in, index_of, first_of, use_of};
 ghost use Rattle.trace_text.specs.Ranges.{longest_runs, AreLongestRuns};
 ghost use Rattle.trace_text.specs.Laws.{IsCounted, IsUse};
+ghost use Rattle.trace_text.specs.Trace.{AreLines, IsFirstOutside};
+ghost use Rattle.trace_text.specs.declared.request.Request.{Request};
 
 /// The texts tell of each held block.
 pub fn each_held_block_is_told()
@@ -43,4 +45,19 @@ pub fn each_use_is_told()
 /// The runs that are printed are the longest.
 pub fn runs_are_the_longest()
     ensures { (ns : List ℕ) → AreLongestRuns ns (longest_runs ns) }
+{}
+
+/// A trace is read in one way.
+pub fn a_trace_has_one_reading()
+    // Lines ask for one list of requests.
+    ensures requests { (lines : List (List ℕ)) (a b : List Request) → AreLines lines a
+        → AreLines lines b → a ≡ b }
+
+    // Lines that ask for requests have none that is outside the grammar.
+    ensures both { (lines : List (List ℕ)) (requests : List Request) (number : ℕ)
+        → AreLines lines requests → IsFirstOutside lines number → ⊥ }
+
+    // One line is the first that is outside.
+    ensures first { (lines : List (List ℕ)) (a b : ℕ) → IsFirstOutside lines a
+        → IsFirstOutside lines b → a ≡ b }
 {}

@@ -17,7 +17,9 @@ mod trace;
 mod value;
 
 pub use generate::gen_text;
-pub use laws::{each_held_block_is_told, each_use_is_told, runs_are_the_longest};
+pub use laws::{
+    a_trace_has_one_reading, each_held_block_is_told, each_use_is_told, runs_are_the_longest,
+};
 pub use map::map_lines;
 pub use recovered::{map_text, report_text};
 pub use reply::{Reply, reply_text};
@@ -27,3 +29,5 @@ pub use trace::parse_trace;
 
 #[cfg(test)]
 mod tests;
+#[cfg(test)]
+mod trace_tests;

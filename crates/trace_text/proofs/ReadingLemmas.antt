@@ -1,0 +1,97 @@
+-- A trace is read in one way.
+use Rattle.std.proofs.Common.{◌≡◌, ℕ, suc, ◌+◌, inl, inr, List, [], ◌∷◌, ◌++◌, length, codes, refl, sym, ap, subst, ◌∙◌, arith, append_assoc}
+use Rattle.std.proofs.lemmas.Fmt.{decimal_injective}
+use Rattle.hex.proofs.HexLemmas.{decode_of-ok, decode_of-same}
+use Rattle.trace_text.specs.declared.request.Request.{Request}
+use Rattle.trace_text.specs.declared.request.Request.TheVariants.{Put, Get, Del}
+use Rattle.trace_text.specs.Trace.{IsKey, IsValue, IsPutLine, IsKeyLine, IsLine, IsOutside, AreLines, IsFirstOutside}
+use Rattle.trace_text.proofs.WordLemmas.{key_has_no_space, same_parts, heads_differ}
+
+-- a word writes one key
+one_key : (word : List ℕ) (k m : ℕ) → IsKey word k → IsKey word m → k ≡ m
+one_key word k m is_k is_m = decimal_injective k m is_k.0 is_m.0 (sym is_k.1 ∙ is_m.1)
+
+-- and one value
+one_value : (word v w : List ℕ) → IsValue word v → IsValue word w → v ≡ w
+one_value word v w (inl none_v) (inl none_w) = none_v.1 ∙ sym none_w.1
+one_value word v w (inl none_v) (inr some_w) =
+    let twice = (decode_of-ok word w some_w.0).2 in
+    let one : length word ≡ 1 = ap length none_v.0 in
+    absurd (omega arith)
+one_value word v w (inr some_v) (inl none_w) =
+    let twice = (decode_of-ok word v some_v.0).2 in
+    let one : length word ≡ 1 = ap length none_w.0 in
+    absurd (omega arith)
+one_value word v w (inr some_v) (inr some_w) = decode_of-same word v w some_v.0 some_w.0
+
+-- lines of a key with the same verb
+one_key_line : (what line : List ℕ) (k m : ℕ) → ((a b : List ℕ) → what ++ codes " " ++ a ≡ what ++ codes " " ++ b → a ≡ b)
+    → IsKeyLine what line k → IsKeyLine what line m → k ≡ m
+one_key_line what line k m split a b =
+    let word : a.word ≡ b.word = split a.word b.word (sym a.line_is ∙ b.line_is) in
+    one_key b.word k m (rw word at a.key_is) b.key_is
+
+-- lines of a key and a value
+put_same : (line : List ℕ) (k m : ℕ) (v w : List ℕ) → IsPutLine line k v → IsPutLine line m w → Put k v ≡ Put m w
+put_same line k m v w a b =
+    let whole : codes "put " ++ a.key_word ++ codes " " ++ a.value_word ≡ codes "put " ++ b.key_word ++ codes " " ++ b.value_word = sym a.line_is ∙ b.line_is in
+    let rest : (a.key_word ++ 32 ∷ []) ++ a.value_word ≡ (b.key_word ++ 32 ∷ []) ++ b.value_word = cc in
+    let cut = sym (append_assoc a.key_word (32 ∷ []) a.value_word) ∙ rest ∙ append_assoc b.key_word (32 ∷ []) b.value_word in
+    let parts = same_parts 32 a.key_word b.key_word a.value_word b.value_word (key_has_no_space a.key_word k a.key_is) (key_has_no_space b.key_word m b.key_is) cut in
+    let key = one_key b.key_word k m (rw parts.0 at a.key_is) b.key_is in
+    let value = one_value b.value_word v w (rw parts.1 at a.value_is) b.value_is in
+    ap (λ n. Put n v) key ∙ ap (λ l. Put m l) value
+
+-- a line asks for one request
+pub one_request : (line : List ℕ) (a b : Request) → IsLine line a → IsLine line b → a ≡ b
+one_request line (Put k v) (Put m w) is_a is_b = put_same line k m v w is_a is_b
+one_request line (Put k v) (Get m) is_a is_b = absurd (heads_differ 112 103 _ _ (sym is_a.line_is ∙ is_b.line_is) (λ same. absurd (omega arith)))
+one_request line (Put k v) (Del m) is_a is_b = absurd (heads_differ 112 100 _ _ (sym is_a.line_is ∙ is_b.line_is) (λ same. absurd (omega arith)))
+one_request line (Get k) (Put m w) is_a is_b = absurd (heads_differ 103 112 _ _ (sym is_a.line_is ∙ is_b.line_is) (λ same. absurd (omega arith)))
+one_request line (Get k) (Get m) is_a is_b = ap Get (one_key_line (codes "get") line k m (λ a b same. cc) is_a is_b)
+one_request line (Get k) (Del m) is_a is_b = absurd (heads_differ 103 100 _ _ (sym is_a.line_is ∙ is_b.line_is) (λ same. absurd (omega arith)))
+one_request line (Del k) (Put m w) is_a is_b = absurd (heads_differ 100 112 _ _ (sym is_a.line_is ∙ is_b.line_is) (λ same. absurd (omega arith)))
+one_request line (Del k) (Get m) is_a is_b = absurd (heads_differ 100 103 _ _ (sym is_a.line_is ∙ is_b.line_is) (λ same. absurd (omega arith)))
+one_request line (Del k) (Del m) is_a is_b = ap Del (one_key_line (codes "del") line k m (λ a b same. cc) is_a is_b)
+
+-- so lines ask for one list of requests
+pub one_reading : (lines : List (List ℕ)) (xs ys : List Request) → AreLines lines xs → AreLines lines ys → xs ≡ ys
+one_reading [] [] [] are_a are_b = refl
+one_reading [] [] (b ∷ ys) are_a are_b = absurd are_b
+one_reading [] (a ∷ xs) ys are_a are_b = absurd are_a
+one_reading (line ∷ lines) [] ys are_a are_b = absurd are_a
+one_reading (line ∷ lines) (a ∷ xs) [] are_a are_b = absurd are_b
+one_reading (line ∷ lines) (a ∷ xs) (b ∷ ys) are_a are_b =
+    let first = one_request line a b are_a.0 are_b.0 in
+    let rest = one_reading lines xs ys are_a.1 are_b.1 in
+    ap (λ r. r ∷ xs) first ∙ ap (λ (l : List Request). b ∷ l) rest
+
+-- lines that ask for requests have none that is outside the grammar
+outside_between : (before : List (List ℕ)) (line : List ℕ) (after : List (List ℕ)) (asks : List Request) → AreLines (before ++ line ∷ after) asks → IsOutside line → ⊥
+outside_between [] line after [] are outside = are
+outside_between [] line after (a ∷ asks) are outside = outside a are.0
+outside_between (first ∷ before) line after [] are outside = are
+outside_between (first ∷ before) line after (a ∷ asks) are outside = outside_between before line after asks are.1 outside
+
+pub read_or_outside : (lines : List (List ℕ)) (asks : List Request) (number : ℕ) → AreLines lines asks → IsFirstOutside lines number → ⊥
+read_or_outside lines asks number are is = outside_between is.before is.outside is.after asks (subst (λ l. AreLines l asks) is.lines_are are) is.nothing
+
+-- and only one line is the first outside
+first_outside : (b c : List (List ℕ)) (x y : List ℕ) (p q : List (List ℕ)) (r s : List Request) → b ++ x ∷ p ≡ c ++ y ∷ q → AreLines b r → AreLines c s
+    → IsOutside x → IsOutside y → length b ≡ length c
+first_outside [] [] x y p q r s same are_b are_c out_x out_y = refl
+first_outside [] (m ∷ c) x y p q r [] same are_b are_c out_x out_y = absurd are_c
+first_outside [] (m ∷ c) x y p q r (a ∷ s) same are_b are_c out_x out_y = let head : m ≡ x = cc in absurd (out_x a (subst (λ l. IsLine l a) head are_c.0))
+first_outside (l ∷ b) [] x y p q [] s same are_b are_c out_x out_y = absurd are_b
+first_outside (l ∷ b) [] x y p q (a ∷ r) s same are_b are_c out_x out_y = let head : l ≡ y = cc in absurd (out_y a (subst (λ l. IsLine l a) head are_b.0))
+first_outside (l ∷ b) (m ∷ c) x y p q [] s same are_b are_c out_x out_y = absurd are_b
+first_outside (l ∷ b) (m ∷ c) x y p q (a ∷ r) [] same are_b are_c out_x out_y = absurd are_c
+first_outside (l ∷ b) (m ∷ c) x y p q (a ∷ r) (d ∷ s) same are_b are_c out_x out_y =
+    let rest : b ++ x ∷ p ≡ c ++ y ∷ q = cc in
+    let count = first_outside b c x y p q r s rest are_b.1 are_c.1 out_x out_y in
+    ap suc count
+
+pub one_first_outside : (lines : List (List ℕ)) (m n : ℕ) → IsFirstOutside lines m → IsFirstOutside lines n → m ≡ n
+one_first_outside lines m n a b =
+    let same = first_outside a.before b.before a.outside b.outside a.after b.after a.asks b.asks (sym a.lines_are ∙ b.lines_are) a.asked b.asked a.nothing b.nothing in
+    a.counted ∙ ap (λ k. k + 1) same ∙ sym b.counted
