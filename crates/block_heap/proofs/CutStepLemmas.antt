@@ -35,7 +35,7 @@ use Rattle.block_heap.specs.Parts.{Parts, image_of, held_in, cache_at}
 use Rattle.block_heap.specs.Refill.{SameBut, Cuts}
 use Rattle.block_heap.specs.Running.{IsRunning, IsCacheOf, KnowsSizes, IsSettled, Serves}
 use Rattle.block_heap.specs.Lists.{head_at, IsEmptyList, LeadsAlong, IsInList}
-use Rattle.block_heap.specs.Order.{CutsAll}
+use Rattle.block_heap.specs.Order.{CutsAll, CutsFirst}
 use Rattle.block_heap.specs.Steps.{Fills, Spends}
 use Rattle.block_heap.specs.Works.{UsedFits, Works, IsAllocatorWord, is_info, is_anchor, is_inside}
 use Rattle.block_heap.proofs.HeldLemmas.{has_map}
@@ -275,11 +275,17 @@ module _ (p : Parts) (class d : ℕ) (popped : Popped) (w : View) (look : Look) 
           (let kept : volatile_at w used_word ≡ image_of p used_word = moved.volatile used_word (λ m. moved_used p.capacity used_word m refl) in let least =
           run.few in omega arith)
 
+      head_kept : (c : ℕ) → IsClass c → head_at q c ≡ head_at p c
+      head_kept c is_c =
+          stores.volatile (head_word c) (divide_before p.capacity d (head_word c) (let last = is_c.last in omega arith))
+          ∙ pop_stores.volatile (head_word c) (λ at. let first = is_c.some in omega arith)
+
       pub free_fills : Fills class p q
       free_fills = record {
         running = free_running;
         held = same.held;
         caches = cut_others p class d w (set p.head_looks 0 look) p.used_look p.taken q run is free_within stores same cuts;
+        heads = λ c is_c other. head_kept c is_c;
         drains = cut_free_drains p.capacity class d (image_of p) (λ word. volatile_at w word) (image_of q) (held_in p) run.shape rest is run.is listed
             (popped_of p 0 popped w run zero_list pop pop_stores d some) image_cut;
       }
@@ -290,19 +296,23 @@ module _ (p : Parts) (class d : ℕ) (popped : Popped) (w : View) (look : Look) 
           (subst (λ (es : List ℕ). Follows (λ e. image_of q (link_word e)) p.capacity (head_first (head_at q list)) es) is_ds (free_shape.follows list less))
 
       -- it left the free list, and no other did
-      pub free_cuts : IsInList p 0 d × CutsAll class d p q
-      free_cuts = (
-        in_list_along p 0 d (run.shape.listed 0) (run.is.follows 0 zero_list) (subst (λ xs. Contains xs d) (sym listed) (in_head d rest)),
-        record {
+      pub free_cuts : CutsFirst class d p q
+      free_cuts = record {
+        behind = rest;
+        was = subst (λ (ds : List ℕ). LeadsAlong p 0 ds) listed (run.is.follows 0 zero_list);
+        rest = free_list 0 rest zero_list (with_at_same run.shape.listed 0 rest);
+        class_head = head_kept class is;
+        cuts = record {
           info = cuts.divided.info;
+          linked = cuts.divided.linked;
           cache = cut_cache p class d w (set p.head_looks 0 look) p.used_look p.taken q run is free_within stores same cuts;
           free = λ e other there.
               elim (head_or_rest d e rest (subst (λ xs. Contains xs e) listed (there (run.shape.listed 0) (run.is.follows 0 zero_list)))) as (λ _. IsInList q 0 e) [
                 | inl here ↦ absurd (other (sym here))
                 | inr later ↦ in_list_along q 0 e rest (free_list 0 rest zero_list (with_at_same run.shape.listed 0 rest)) later
               ];
-        },
-      )
+        };
+      }
 
       pub free_spends : Spends 1 class p q
       free_spends =
@@ -367,6 +377,7 @@ module _ (p : Parts) (w : View) (run : IsRunning p) (stores : StoresOnly (λ wor
         };
         held = refl;
         caches = λ c is_c other. refl;
+        heads = λ c is_c other. ap (λ (xs : List ℕ). get_or xs (head_word c) 0) no_words.0;
         drains = subst (λ (xs : List ℕ). DrainsSame p.capacity class (held_in p) (image_of p) (λ word. get_or xs word 0)) (sym no_words.0)
             (drains_none p.capacity class (held_in p) (image_of p));
       }
@@ -457,6 +468,9 @@ module _ (p : Parts) (w : View) (run : IsRunning p) (stores : StoresOnly (λ wor
             running = fresh_running;
             held = same.held;
             caches = cut_others p class d w p.head_looks look (p.taken + 1) q run is within cut_stores same cuts;
+            heads = λ c is_c other.
+                cut_stores.volatile (head_word c) (divide_before p.capacity d (head_word c) (let last = is_c.last in omega arith))
+                ∙ stores.volatile (head_word c) (λ at. let last = is_c.last in omega arith);
             drains = cut_fresh_drains p.capacity class d (image_of p) (λ word. volatile_at w word) (image_of q) (held_in p) run.shape is run.is past within
                 used_set fresh_image;
           }
@@ -472,6 +486,7 @@ module _ (p : Parts) (w : View) (run : IsRunning p) (stores : StoresOnly (λ wor
             subst (λ k. CutsAll class k p q) (sym past) (record {
               info = cuts.divided.info;
               cache = cut_cache p class d w p.head_looks look (p.taken + 1) q run is within cut_stores same cuts;
+              linked = cuts.divided.linked;
               free = λ e other there. list_kept p q 0 0 (run.shape.listed 0) (run.shape.listed 0) (run.is.follows 0 (omega arith)) (fresh_list 0 (omega arith))
                   (λ k has. has) e there;
             }),

@@ -1,6 +1,7 @@
 -- In which list a superblock is, and how a request of a class comes to its block in order.
-use Rattle.std.proofs.Common.{◌≡◌, ◌≢◌, ℕ, ◌⊎◌, inl, inr, List, [], get_or, Contains, refl, ap, sym, subst, ◌∙◌, ◌∷◌, ◌++◌, append_assoc}
+use Rattle.std.proofs.Common.{◌≡◌, ◌≢◌, ℕ, ◌≤◌, ◌⊎◌, inl, inr, List, [], get_or, Contains, refl, ap, sym, subst, ◌∙◌, arith, ◌∷◌, ◌++◌, reverse, append_assoc, append-nil}
 use Rattle.std.proofs.lemmas.List.Elements.{Contains-append_cases}
+use Rattle.std.proofs.lemmas.List.{reverse-append}
 use Rattle.heap_model.specs.declared.block.Block.{Block}
 use Rattle.heap_model.specs.Geometry.{anchor_word, link_word, start_word}
 use Rattle.heap_model.specs.Sizes.{words_of_class, blocks_of}
@@ -11,9 +12,11 @@ use Rattle.heap_shape.specs.Standing.{first_of}
 use Rattle.heap_shape.specs.Moves.{AddsTo}
 use Rattle.heap_shape.proofs.OwnLemmas.{one_following}
 use Rattle.block_heap.specs.declared.cache.Cache.{Cache}
+use Rattle.block_heap.specs.Divide.{AreLinked}
 use Rattle.block_heap.specs.Lists.{head_at, IsEmptyList, LeadsAlong, IsInList, KeepsFree}
-use Rattle.block_heap.specs.Order.{HasNothing, TakesAll, CutsAll, FillsFrom, from_free_list, TakesFirst, MovesEmpty, Stocked, in_stock, is_filled, IsServed, from_class_list, from_fresh}
+use Rattle.block_heap.specs.Order.{HasNothing, KeepsChains, Frees, TakesAll, CutsAll, CutsFirst, FillsFrom, from_free_list, TakesFirst, MovesEmpty, Stocked, in_stock, is_filled, IsServed, from_class_list, from_fresh}
 use Rattle.block_heap.specs.Parts.{Parts, image_of, held_in, cache_at}
+use Rattle.block_heap.specs.Running.{IsRunning}
 use Rattle.block_heap.specs.Steps.{HandsOut}
 
 -- caches with the same first block and count are the same
@@ -43,36 +46,44 @@ list_same p q list d capacity same before ds leads = before ds (leads_same p q l
 pub nothing_in_empty : (class : ℕ) (p : Parts) → IsEmptyList p class → HasNothing class p
 nothing_in_empty class p empty d listed = absurd (in_none d (listed [] empty))
 
+-- what stays over two rows of steps, and what went to the free list
+chains_then : (p q r : Parts) → q.capacity ≡ p.capacity → KeepsChains p q → KeepsChains q r → KeepsChains p r
+chains_then p q r capacity a b word from = b word (subst (λ n. start_word n 0 ≤ word) (sym capacity) from) ∙ a word from
+
+frees_then : (xs ys : List ℕ) (p q r : Parts) → Frees xs p q → Frees ys q r → Frees (xs ++ ys) p r
+frees_then xs ys p q r a b fs leads =
+    let order : reverse ys ++ (reverse xs ++ fs) ≡ reverse (xs ++ ys) ++ fs =
+    sym (append_assoc (reverse ys) (reverse xs) fs) ∙ ap (λ zs. zs ++ fs) (sym (reverse-append xs ys)) in
+    subst (λ zs. LeadsAlong r 0 zs) order (b (reverse xs ++ fs) (a fs leads))
+
 -- superblocks with all blocks free that went to the free list, in two rows of steps
 pub moves_none : (class : ℕ) (p : Parts) → MovesEmpty class p p
 moves_none class p = record {
   capacity = refl;
   anchors = λ d. refl;
-  passed = λ ds leads. ([], leads, λ e none. absurd (in_none e none));
-  was = λ d listed. listed;
+  chains = λ word from. refl;
+  moved = [];
+  were = λ ds leads. leads;
+  passed = λ e none. absurd (in_none e none);
+  frees = λ fs leads. leads;
   nothing = λ none. none;
   free = λ d listed. listed;
-  from = λ d listed. inr listed;
 }
 
 pub moves_then : (class : ℕ) (p q r : Parts) → MovesEmpty class p q → MovesEmpty class q r → MovesEmpty class p r
 moves_then class p q r a b = record {
   capacity = b.capacity ∙ a.capacity;
   anchors = λ d. b.anchors d ∙ a.anchors d;
-  passed = λ ds leads.
-      let second = b.passed ds leads in
-      let first = a.passed (second.0 ++ ds) second.1 in (
-        first.0 ++ second.0,
-        subst (λ es. LeadsAlong p class es) (sym (append_assoc first.0 second.0 ds)) first.1,
-        λ e has. elim (Contains-append_cases first.0 second.0 e has) as (λ _. anchor_state (image_of p (anchor_word e)) ≡ empty_state) [
-          | inl early ↦ first.2 e early
-          | inr late ↦ ap anchor_state (sym (a.anchors e)) ∙ second.2 e late
-        ],
-      );
-  was = λ d listed. a.was d (b.was d listed);
+  chains = chains_then p q r a.capacity a.chains b.chains;
+  moved = a.moved ++ b.moved;
+  were = λ ds leads. subst (λ es. LeadsAlong p class es) (sym (append_assoc a.moved b.moved ds)) (a.were (b.moved ++ ds) (b.were ds leads));
+  passed = λ e has. elim (Contains-append_cases a.moved b.moved e has) as (λ _. anchor_state (image_of p (anchor_word e)) ≡ empty_state) [
+    | inl early ↦ a.passed e early
+    | inr late ↦ ap anchor_state (sym (a.anchors e)) ∙ b.passed e late
+  ];
+  frees = frees_then a.moved b.moved p q r a.frees b.frees;
   nothing = λ none. a.nothing (b.nothing none);
   free = λ d listed. b.free d (a.free d listed);
-  from = λ d listed. elim (b.from d listed) as (λ _. IsInList p class d ⊎ IsInList p 0 d) [ inl before ↦ inl (a.was d before) | inr there ↦ a.from d there ];
 }
 
 -- and none where loads see the same
@@ -80,23 +91,25 @@ pub moves_same : (class : ℕ) (p q : Parts) → q.capacity ≡ p.capacity → q
 moves_same class p q capacity same = record {
   capacity = capacity;
   anchors = λ d. ap (λ (xs : List ℕ). get_or xs (anchor_word d) 0) same;
-  passed = λ ds leads. ([], leads_same p q class ds capacity same leads, λ e none. absurd (in_none e none));
-  was = λ d listed. list_same q p class d (sym capacity) (sym same) listed;
+  chains = λ word from. ap (λ (xs : List ℕ). get_or xs word 0) same;
+  moved = [];
+  were = λ ds leads. leads_same p q class ds capacity same leads;
+  passed = λ e none. absurd (in_none e none);
+  frees = λ fs leads. leads_same q p 0 fs (sym capacity) (sym same) leads;
   nothing = λ none d listed. ap (λ (xs : List ℕ). anchor_state (get_or xs (anchor_word d) 0)) (sym same) ∙ none d (list_same p q class d capacity same listed);
   free = λ d listed. list_same p q 0 d capacity same listed;
-  from = λ d listed. inr (list_same q p 0 d (sym capacity) (sym same) listed);
 }
 
 -- a superblock whose free blocks were taken after that
 pub takes_after : (class d : ℕ) (p q r : Parts) → MovesEmpty class p q → q.taken ≡ p.taken → TakesAll class d q r → TakesAll class d p r
 takes_after class d p q r moves taken takes =
-    let same : image_of q (anchor_word d) ≡ image_of p (anchor_word d) = moves.anchors d in
-    let found = moves.passed (takes.before ++ d ∷ takes.behind) takes.leads in record {
-      before = found.0 ++ takes.before;
+    let same : image_of q (anchor_word d) ≡ image_of p (anchor_word d) = moves.anchors d in record {
+      before = moves.moved ++ takes.before;
       behind = takes.behind;
-      leads = subst (λ es. LeadsAlong p class es) (sym (append_assoc found.0 takes.before (d ∷ takes.behind))) found.1;
-      passed = λ e has. elim (Contains-append_cases found.0 takes.before e has) as (λ _. anchor_state (image_of p (anchor_word e)) ≡ empty_state) [
-        | inl early ↦ found.2 e early
+      leads = subst (λ es. LeadsAlong p class es) (sym (append_assoc moves.moved takes.before (d ∷ takes.behind)))
+          (moves.were (takes.before ++ d ∷ takes.behind) takes.leads);
+      passed = λ e has. elim (Contains-append_cases moves.moved takes.before e has) as (λ _. anchor_state (image_of p (anchor_word e)) ≡ empty_state) [
+        | inl early ↦ moves.passed e early
         | inr late ↦ ap anchor_state (sym (moves.anchors e)) ∙ takes.passed e late
       ];
       rest = takes.rest;
@@ -105,6 +118,8 @@ takes_after class d p q r moves taken takes =
           ∙ ap (λ n. record { first = first_of n class d (anchor_first (image_of q (anchor_word d))); count = anchor_count (image_of q (anchor_word d)) }) moves.capacity
           ∙ ap (λ a. record { first = first_of p.capacity class d (anchor_first a); count = anchor_count a }) same;
       now = takes.now;
+      chains = chains_then p q r moves.capacity moves.chains takes.chains;
+      frees = frees_then moves.moved takes.before p q r moves.frees takes.frees;
       free = λ e listed. takes.free e (moves.free e listed);
       taken = takes.taken ∙ taken;
     }
@@ -114,14 +129,26 @@ pub cuts_after : (class d : ℕ) (p q r : Parts) → q.capacity ≡ p.capacity �
 cuts_after class d p q r capacity free cuts = record {
   info = cuts.info;
   cache = subst (λ n. cache_at r.caches class ≡ record { first = start_word n d; count = blocks_of class }) capacity cuts.cache;
+  linked = subst (λ n. AreLinked n class d (blocks_of class) r.words) capacity cuts.linked;
   free = λ e other listed. cuts.free e other (free e listed);
 }
 
 -- The list of the class had nothing to give.
-module _ (class : ℕ) (p a q : Parts) (moves : MovesEmpty class p a) (nothing : HasNothing class p) (taken : a.taken ≡ p.taken) where
-  -- a free superblock was cut
-  pub fills_free : (d : ℕ) → IsInList a 0 d → CutsAll class d a q → q.taken ≡ a.taken → FillsFrom class p q
-  fills_free d listed cuts same = from_free_list d nothing (moves.from d listed) (cuts_after class d p a q moves.capacity moves.free cuts) (same ∙ taken)
+module _ (class : ℕ) (p a q : Parts) (moves : MovesEmpty class p a) (nothing : HasNothing class p) (taken : a.taken ≡ p.taken)
+    (run : IsRunning p) (empty : IsEmptyList a class) where
+  -- the first free superblock was cut
+  pub fills_free : (d : ℕ) → CutsFirst class d a q → q.taken ≡ a.taken → FillsFrom class p q
+  fills_free d first same = from_free_list d nothing (record {
+    listed = moves.moved;
+    free = run.shape.listed 0;
+    behind = first.behind;
+    class_leads = subst (λ es. LeadsAlong p class es) (append-nil moves.moved) (moves.were [] empty);
+    free_leads = run.is.follows 0 (omega arith);
+    first = one_following (λ e. image_of a (link_word e)) a.capacity (head_first (head_at a 0)) (reverse moves.moved ++ run.shape.listed 0) (d ∷ first.behind)
+        (moves.frees (run.shape.listed 0) (run.is.follows 0 (omega arith))) first.was;
+    empty = ap head_first first.class_head ∙ empty;
+    rest = first.rest;
+  }) (cuts_after class d p a q moves.capacity moves.free first.cuts) (same ∙ taken)
 
 -- the first block of the cache was handed out
 pub takes_first : (class : ℕ) (b : Block) (p q : Parts) → q.capacity ≡ p.capacity → HandsOut class b p q → TakesFirst class p q
@@ -146,12 +173,12 @@ module _ (class : ℕ) (p r : Parts) (served : IsServed class p r) where
   fresh_last taken = by_stock served.stocked where
     by_source : FillsFrom class p q → IsEmptyList p class × IsEmptyList p 0
     by_source (from_class_list d takes) = absurd (taken (served.takes.taken ∙ takes.taken))
-    by_source (from_free_list d nothing listed cuts same) = absurd (taken (served.takes.taken ∙ same))
+    by_source (from_free_list d nothing takes cuts same) = absurd (taken (served.takes.taken ∙ same))
     by_source (from_fresh class_empty free_empty cuts more) = (class_empty, free_empty)
 
     by_stock : Stocked class p q → ((cache_at p.caches class).count ≡ 0) × IsEmptyList p class × IsEmptyList p 0
     by_stock (in_stock some same) = absurd (taken (served.takes.taken ∙ ap (λ (x : Parts). x.taken) same))
-    by_stock (is_filled empty held fills) = let found = by_source fills in (empty, found.0, found.1)
+    by_stock (is_filled empty held others fills) = let found = by_source fills in (empty, found.0, found.1)
 
   -- and took one from the free list only where the list of the class had nothing to give
   pub free_later : (d : ℕ) → IsInList p 0 d → (IsInList r 0 d → ⊥) → ((cache_at p.caches class).count ≡ 0) × HasNothing class p
@@ -161,9 +188,9 @@ module _ (class : ℕ) (p r : Parts) (served : IsServed class p r) where
 
     by_source : FillsFrom class p q → HasNothing class p
     by_source (from_class_list e takes) = absurd (still (takes.free d before))
-    by_source (from_free_list e nothing listed cuts same) = nothing
+    by_source (from_free_list e nothing takes cuts same) = nothing
     by_source (from_fresh class_empty free_empty cuts more) = nothing_in_empty class p class_empty
 
     by_stock : Stocked class p q → ((cache_at p.caches class).count ≡ 0) × HasNothing class p
     by_stock (in_stock some same) = absurd (still (subst (λ (x : Parts). IsInList x 0 d) (sym same) before))
-    by_stock (is_filled empty held fills) = (empty, by_source fills)
+    by_stock (is_filled empty held others fills) = (empty, by_source fills)

@@ -26,13 +26,14 @@ use Rattle.block_heap.proofs.RefillLemmas.{serves_same, serves_then, drains_none
 
 -- nothing done yet, and two rows of steps
 pub fills_none : (class : ℕ) (p : Parts) → IsRunning p → Fills class p p
-fills_none class p run = record { running = run; held = refl; caches = λ c is other. refl; drains = drains_none p.capacity class (held_in p) (image_of p) }
+fills_none class p run = record { running = run; held = refl; caches = λ c is other. refl; heads = λ c is other. refl; drains = drains_none p.capacity class (held_in p) (image_of p) }
 
 pub fills_then : (class : ℕ) (p u q : Parts) → u.capacity ≡ p.capacity → Fills class p u → Fills class u q → Fills class p q
 fills_then class p u q capacity a b = record {
   running = b.running;
   held = b.held ∙ a.held;
   caches = λ c is other. b.caches c is other ∙ a.caches c is other;
+  heads = λ c is other. b.heads c is other ∙ a.heads c is other;
   drains = drains_then p.capacity class (held_in p) (image_of p) (image_of u) (image_of q) a.drains
       (subst (λ n. DrainsSame n class (held_in p) (image_of u) (image_of q)) capacity
       (subst (λ (h : List Block). DrainsSame u.capacity class h (image_of u) (image_of q)) a.held b.drains));

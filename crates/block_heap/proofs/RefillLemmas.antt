@@ -3,7 +3,7 @@ use Rattle.std.proofs.Common.{◌≡◌, ◌≢◌, ℕ, ◌+◌, ◌*◌, ◌<�
 use Rattle.std.proofs.lemmas.Bool.{cases_eq}
 use Rattle.std.proofs.lemmas.List.{nil_from_length}
 use Rattle.heap_model.specs.declared.block.Block.{Block}
-use Rattle.heap_model.specs.Geometry.{lists, head_word, info_word, anchor_word, link_word, used_word, image_words}
+use Rattle.heap_model.specs.Geometry.{lists, head_word, info_word, anchor_word, link_word, used_word, start_word, image_words}
 use Rattle.heap_model.specs.Image.{Image}
 use Rattle.heap_model.specs.Sizes.{IsClass, blocks_of, words_of_class}
 use Rattle.heap_model.specs.Words.{head_first, head_pops, head_of}
@@ -47,7 +47,7 @@ pub data IsMoved (capacity word : ℕ) : Type 0 where
   an_anchor : (d : ℕ) → d < capacity → word ≡ anchor_word d → IsMoved capacity word
   a_link : (d : ℕ) → d < capacity → word ≡ link_word d → IsMoved capacity word
 
--- it is no info, and not `used`, and an allocator may store to it
+-- it is no info, not `used`, and lies in no superblock, and an allocator may store to it
 pub moved_info : (capacity d word : ℕ) → IsMoved capacity word → word ≡ info_word d → ⊥
 moved_info capacity d word (a_head list below at) e = omega arith
 moved_info capacity d word (an_anchor c below at) e = omega arith
@@ -57,6 +57,11 @@ pub moved_used : (capacity word : ℕ) → IsMoved capacity word → word ≡ us
 moved_used capacity word (a_head list below at) e = omega arith
 moved_used capacity word (an_anchor c below at) e = omega arith
 moved_used capacity word (a_link c below at) e = omega arith
+
+pub moved_start : (capacity word : ℕ) → IsMoved capacity word → start_word capacity 0 ≤ word → ⊥
+moved_start capacity word (a_head list below at) from = omega arith
+moved_start capacity word (an_anchor c below at) from = omega arith
+moved_start capacity word (a_link c below at) from = omega arith
 
 pub moved_word : (capacity : ℕ) (held : List Block) (word : ℕ) → IsMoved capacity word → IsAllocatorWord capacity held word
 moved_word capacity held word (a_head list below at) = is_head list below at
@@ -312,6 +317,7 @@ module _ (p : Parts) (class list : ℕ) (popped : Popped) (w : View) (look : Loo
     running = emptied_running;
     held = refl;
     caches = λ c is other. refl;
+    heads = λ c is other. ap (λ (xs : List ℕ). get_or xs (head_word c) 0) same_words;
     drains = subst (λ (xs : List ℕ). DrainsSame p.capacity class (held_in p) (image_of p) (λ word. get_or xs word 0)) (sym same_words)
         (drains_none p.capacity class (held_in p) (image_of p));
   }

@@ -32,7 +32,7 @@ use Rattle.block_heap.proofs.MediumLemmas.{stores_then, stores_more}
 use Rattle.block_heap.proofs.RunningLemmas.{set_is, settled_kept}
 use Rattle.block_heap.proofs.SpendLemmas.{spends_by}
 use Rattle.block_heap.proofs.LookLemmas.{IsNextLook, looked_at_head}
-use Rattle.block_heap.proofs.RefillLemmas.{IsMoved, a_head, an_anchor, a_link, moved_info, moved_used, serves_moved, IsMade, made, caches_filled, caches_other, sizes_kept, none_cached, pop_moved, popped_head, popped_of, popped_pops, popped_list, popped_place}
+use Rattle.block_heap.proofs.RefillLemmas.{IsMoved, a_head, an_anchor, a_link, moved_info, moved_used, moved_start, serves_moved, IsMade, made, caches_filled, caches_other, sizes_kept, none_cached, pop_moved, popped_head, popped_of, popped_pops, popped_list, popped_place}
 
 module _ (p : Parts) (class d : ℕ) (popped : Popped) (w : View) (look : Look) (run : IsRunning p) (is : IsClass class) (pop : IsPopped class popped p.words w)
     (pop_stores : StoresOnly (λ word. word ≡ head_word class) p.words w) (some : popped.first ≡ Some d) where
@@ -50,6 +50,10 @@ module _ (p : Parts) (class d : ℕ) (popped : Popped) (w : View) (look : Look) 
       → q.head_looks ≡ set p.head_looks class look → MakesLooks p q
   first_looked q next later more used heads =
       looked_at_head p q class look (let long = run.looks_long in omega arith) next (let drew = pop.goes.drew in omega arith) more used heads
+
+  -- the free list is that of the shape
+  free_one : (fs : List ℕ) → LeadsAlong p 0 fs → run.shape.listed 0 ≡ fs
+  free_one fs leads = one_following (λ e. image_of p (link_word e)) p.capacity (head_first (head_at p 0)) (run.shape.listed 0) fs (run.is.follows 0 (omega arith)) leads
 
   place : run.shape.place d ≡ in_list class
   place = (popped_place p class popped w run below pop pop_stores d some).0
@@ -150,6 +154,9 @@ module _ (p : Parts) (class d : ℕ) (popped : Popped) (w : View) (look : Look) 
         running = made p taken_parts shape run made_taken;
         held = refl;
         caches = λ c is_c other. caches_other p.caches class cache c is_c other;
+        heads = λ c is_c other.
+            take_stores.volatile (head_word c) (λ e. let last = is_c.last in omega arith)
+            ∙ pop_stores.volatile (head_word c) (λ e. other (omega arith));
         drains = take_drains p.capacity class d (image_of p) (λ word. volatile_at w word) (image_of taken_parts) (held_in p) run.shape rest is run.is listed
             (popped_of p class popped w run below pop pop_stores d some) anchor_set;
       }
@@ -183,6 +190,8 @@ module _ (p : Parts) (class d : ℕ) (popped : Popped) (w : View) (look : Look) 
         cache = get_or-set_same p.caches class cache (record { first = 0; count = 0 }) (let long = run.caches_long in let less = below in omega arith)
             ∙ same_cache cache (record { first = first; count = anchor_count (image_of p (anchor_word d)) }) cache_first (is_taken.words.2 ∙ ap anchor_count anchor_kept);
         now = anchor_set.at;
+        chains = λ word from. take_moved.volatile word (λ m. moved_start p.capacity word m from);
+        frees = λ fs leads. subst (λ xs. LeadsAlong taken_parts 0 xs) (free_one fs leads) free_stays;
         free = list_kept p taken_parts 0 0 (run.shape.listed 0) (run.shape.listed 0) (run.is.follows 0 (omega arith)) free_stays (λ e has. has);
         taken = refl;
       }
@@ -305,6 +314,13 @@ module _ (p : Parts) (class d : ℕ) (popped : Popped) (w : View) (look : Look) 
           running = made p recycled shape_then run made_recycled;
           held = refl;
           caches = λ c is_c other. refl;
+          heads = λ c is_c other.
+              push_stores.volatile (head_word c) (λ t. elim t as (λ _. ⊥) [
+                | inl e ↦ let some = is_c.some in omega arith
+                | inr e ↦ let last = is_c.last in omega arith
+              ])
+              ∙ take_stores.volatile (head_word c) (λ e. let last = is_c.last in omega arith)
+              ∙ pop_stores.volatile (head_word c) (λ e. other (omega arith));
           drains = recycle_drains p.capacity class d (image_of p) (λ word. volatile_at w word) (image_of recycled) (held_in p) run.shape rest is run.is listed
               (popped_of p class popped w run below pop pop_stores d some) pushed_on;
         }
@@ -359,26 +375,22 @@ module _ (p : Parts) (class d : ℕ) (popped : Popped) (w : View) (look : Look) 
         recycled_moves = record {
           capacity = refl;
           anchors = anchors_stay;
-          passed = λ ds leads. (
-            d ∷ [],
-            subst (λ es. LeadsAlong p class (d ∷ es))
-                (one_following (λ e. image_of recycled (link_word e)) p.capacity (head_first (head_at recycled class)) rest ds rest_leads leads) list_leads,
-            λ e has. elim (head_or_rest d e [] has) as (λ _. anchor_state (image_of p (anchor_word e)) ≡ empty_state) [
-              | inl same ↦ subst (λ k. anchor_state (image_of p (anchor_word k)) ≡ empty_state) same all_free
-              | inr none ↦ absurd (in_none e none)
-            ],
-          );
-          was = list_kept recycled p class class rest (d ∷ rest) rest_leads list_leads (λ e. in_rest d e rest);
+          chains = λ word from. push_moved.volatile word (λ m. moved_start p.capacity word m from);
+          moved = d ∷ [];
+          were = λ ds leads.
+              subst (λ es. LeadsAlong p class (d ∷ es))
+              (one_following (λ e. image_of recycled (link_word e)) p.capacity (head_first (head_at recycled class)) rest ds rest_leads leads) list_leads;
+          passed = λ e has. elim (head_or_rest d e [] has) as (λ _. anchor_state (image_of p (anchor_word e)) ≡ empty_state) [
+            | inl same ↦ subst (λ k. anchor_state (image_of p (anchor_word k)) ≡ empty_state) same all_free
+            | inr none ↦ absurd (in_none e none)
+          ];
+          frees = λ fs leads. subst (λ xs. LeadsAlong recycled 0 (d ∷ xs)) (free_one fs leads) free_leads;
           nothing = λ none e there. elim (head_or_rest d e rest (there (d ∷ rest) list_leads)) as (λ _. anchor_state (image_of p (anchor_word e)) ≡ empty_state) [
             | inl same ↦ subst (λ k. anchor_state (image_of p (anchor_word k)) ≡ empty_state) same all_free
             | inr later ↦ ap anchor_state (sym (anchors_stay e)) ∙ none e (in_list_along recycled class e rest rest_leads later)
           ];
           free = list_kept p recycled 0 0 (run.shape.listed 0) (d ∷ run.shape.listed 0) (run.is.follows 0 (omega arith)) free_leads
               (λ e. in_rest d e (run.shape.listed 0));
-          from = λ e there. elim (head_or_rest d e (run.shape.listed 0) (there (d ∷ run.shape.listed 0) free_leads)) as (λ _. IsInList p class e ⊎ IsInList p 0 e) [
-            | inl same ↦ inl (subst (λ k. IsInList p class k) same (in_list_along p class d (d ∷ rest) list_leads (in_head d rest)))
-            | inr before ↦ inr (in_list_along p 0 e (run.shape.listed 0) (run.is.follows 0 (omega arith)) before)
-          ];
         }
 
         -- the free list is longer by it

@@ -1,5 +1,5 @@
 -- Where a request of a class gets its block.
-use Rattle.std.specs.Prelude.{◌≡◌, ◌≢◌, ℕ, ◌+◌, ◌≤◌, ◌⊎◌, ⊤, Bool, true, false, Option, MatchOption, List, ◌∷◌, ◌++◌, Contains}
+use Rattle.std.specs.Prelude.{◌≡◌, ◌≢◌, ℕ, ◌+◌, ◌≤◌, ⊤, Bool, true, false, Option, MatchOption, List, ◌∷◌, ◌++◌, reverse, Contains}
 use Rattle.heap_model.specs.declared.block.Block.{Block}
 use Rattle.heap_model.specs.Geometry.{anchor_word, info_word, used_word, start_word}
 use Rattle.heap_model.specs.Sizes.{IsClass, IsLeastClassFor, blocks_of, words_of_class}
@@ -8,14 +8,23 @@ use Rattle.heap_shape.specs.Standing.{first_of}
 use Rattle.heap_shape.specs.Moves.{AddsTo}
 use Rattle.block_heap.specs.declared.refill.Found.{Found}
 use Rattle.block_heap.specs.declared.refill.Found.TheVariants.{Blocks, Recycled, Nothing}
-use Rattle.block_heap.specs.Lists.{IsEmptyList, LeadsAlong, IsInList, KeepsFree}
+use Rattle.block_heap.specs.Lists.{head_at, IsEmptyList, LeadsAlong, IsInList, KeepsFree}
 use Rattle.block_heap.specs.Parts.{Parts, image_of, held_in, cache_at}
+use Rattle.block_heap.specs.Divide.{AreLinked}
 
 -- each superblock in the list of the class has all its blocks free: the list has nothing to give
 abbrev pub HasNothing : ℕ → Parts → Type 0
 HasNothing class p = (d : ℕ) → IsInList p class d → anchor_state (image_of p (anchor_word d)) ≡ empty_state
 
--- superblock d is the first in the list of the class that has blocks in use: all that it had free are in the cache, and the list begins behind it
+-- the words of superblocks stay, so blocks stay chained as they are
+abbrev pub KeepsChains : Parts → Parts → Type 0
+KeepsChains p q = (word : ℕ) → start_word p.capacity 0 ≤ word → image_of q word ≡ image_of p word
+
+-- these went to the free list, one after another: the last of them is its first now
+abbrev pub Frees : List ℕ → Parts → Parts → Type 0
+Frees ds p q = (fs : List ℕ) → LeadsAlong p 0 fs → LeadsAlong q 0 (reverse ds ++ fs)
+
+-- superblock d is the first in the list of the class that has blocks in use: all that it had free are in the cache, chained as they were, and the list begins behind it
 pub record TakesAll (class d : ℕ) (p q : Parts) : Type 0 where
   pub before : List ℕ
   pub behind : List ℕ
@@ -28,27 +37,47 @@ pub record TakesAll (class d : ℕ) (p q : Parts) : Type 0 where
     count = anchor_count (image_of p (anchor_word d));
   }
   pub now : image_of q (anchor_word d) ≡ full_anchor
+  pub chains : KeepsChains p q
+  pub frees : Frees before p q
   pub free : KeepsFree p q
   pub taken : q.taken ≡ p.taken
 
--- superblock d is cut for the class, and all its blocks are in the cache; no other leaves the free list
+-- superblock d is cut for the class, and all its blocks are in the cache, chained in ascending order; no other leaves the free list
 pub record CutsAll (class d : ℕ) (p q : Parts) : Type 0 where
   pub info : image_of q (info_word d) ≡ class
   pub cache : cache_at q.caches class ≡ record { first = start_word p.capacity d; count = blocks_of class }
+  pub linked : AreLinked p.capacity class d (blocks_of class) q.words
   pub free : (e : ℕ) → e ≢ d → IsInList p 0 e → IsInList q 0 e
+
+-- the superblocks in the list of the class went to the free list, one after another, and d, the first there then, left it
+pub record TakesFree (class d : ℕ) (p q : Parts) : Type 0 where
+  pub listed : List ℕ
+  pub free : List ℕ
+  pub behind : List ℕ
+  pub class_leads : LeadsAlong p class listed
+  pub free_leads : LeadsAlong p 0 free
+  pub first : reverse listed ++ free ≡ d ∷ behind
+  pub empty : IsEmptyList q class
+  pub rest : LeadsAlong q 0 behind
 
 -- where the empty cache of a class is filled from: its list; if that has nothing to give a free superblock, which may have been in it; if there is none a superblock that was never taken
 pub data FillsFrom (class : ℕ) (p q : Parts) : Type 0 where
   from_class_list : (d : ℕ) → TakesAll class d p q → FillsFrom class p q
-  from_free_list : (d : ℕ) → HasNothing class p → IsInList p class d ⊎ IsInList p 0 d → CutsAll class d p q → q.taken ≡ p.taken
+  from_free_list : (d : ℕ) → HasNothing class p → TakesFree class d p q → CutsAll class d p q → q.taken ≡ p.taken
       → FillsFrom class p q
   from_fresh : IsEmptyList p class → IsEmptyList p 0 → CutsAll class (image_of p used_word) p q → q.taken ≡ p.taken + 1
       → FillsFrom class p q
 
+-- the caches and the lists of the other classes stay
+pub record KeepsOthers (class : ℕ) (p q : Parts) : Type 0 where
+  pub caches : (c : ℕ) → IsClass c → c ≢ class → cache_at q.caches c ≡ cache_at p.caches c
+  pub heads : (c : ℕ) → IsClass c → c ≢ class → head_at q c ≡ head_at p c
+
 -- the cache has blocks, or is filled
 pub data Stocked (class : ℕ) (p q : Parts) : Type 0 where
   in_stock : 1 ≤ (cache_at p.caches class).count → q ≡ p → Stocked class p q
-  is_filled : (cache_at p.caches class).count ≡ 0 → held_in q ≡ held_in p → FillsFrom class p q → Stocked class p q
+  is_filled : (cache_at p.caches class).count ≡ 0 → held_in q ≡ held_in p → KeepsOthers class p q → FillsFrom class p q
+      → Stocked class p q
 
 -- the first block of the cache left it and is held: no word is stored to, and the other caches stay
 pub record TakesFirst (class : ℕ) (p q : Parts) : Type 0 where
@@ -73,16 +102,17 @@ ServesInOrder class answer p q = MatchOption answer ⊤ (λ _. IsServed class p 
 abbrev pub IsServedInOrder : ℕ → Parts → Parts → Type 0
 IsServedInOrder bytes p q = (class : ℕ) → IsLeastClassFor bytes class → IsServed class p q
 
--- superblocks with all their blocks free went from the list of the class to the free list
+-- the first superblocks of the list of the class, with all their blocks free, went to the free list
 pub record MovesEmpty (class : ℕ) (p q : Parts) : Type 0 where
   pub capacity : q.capacity ≡ p.capacity
   pub anchors : (d : ℕ) → image_of q (anchor_word d) ≡ image_of p (anchor_word d)
-  pub passed : (ds : List ℕ) → LeadsAlong q class ds → (es : List ℕ) × LeadsAlong p class (es ++ ds)
-      × ((e : ℕ) → Contains es e → anchor_state (image_of p (anchor_word e)) ≡ empty_state)
-  pub was : (d : ℕ) → IsInList q class d → IsInList p class d
+  pub chains : KeepsChains p q
+  pub moved : List ℕ
+  pub were : (ds : List ℕ) → LeadsAlong q class ds → LeadsAlong p class (moved ++ ds)
+  pub passed : (e : ℕ) → Contains moved e → anchor_state (image_of p (anchor_word e)) ≡ empty_state
+  pub frees : Frees moved p q
   pub nothing : HasNothing class q → HasNothing class p
   pub free : KeepsFree p q
-  pub from : (d : ℕ) → IsInList q 0 d → IsInList p class d ⊎ IsInList p 0 d
 
 -- what was found first in the list of the class, and what after all with nothing to give had left it
 abbrev pub OrdersFirst : ℕ → Found → Parts → Parts → Type 0
@@ -94,9 +124,16 @@ abbrev pub OrdersPartial : ℕ → Bool → Parts → Parts → Type 0
 OrdersPartial class true p q = (d : ℕ) × TakesAll class d p q
 OrdersPartial class false p q = MovesEmpty class p q × HasNothing class p
 
--- a free superblock was cut, or one that was never taken
+-- the first free superblock was cut, or one that was never taken
+pub record CutsFirst (class d : ℕ) (p q : Parts) : Type 0 where
+  pub behind : List ℕ
+  pub was : LeadsAlong p 0 (d ∷ behind)
+  pub rest : LeadsAlong q 0 behind
+  pub class_head : head_at q class ≡ head_at p class
+  pub cuts : CutsAll class d p q
+
 abbrev pub OrdersFree : ℕ → Bool → Parts → Parts → Type 0
-OrdersFree class true p q = (d : ℕ) × IsInList p 0 d × CutsAll class d p q
+OrdersFree class true p q = (d : ℕ) × CutsFirst class d p q
 OrdersFree class false p q = ⊤
 
 abbrev pub OrdersFresh : ℕ → Bool → Parts → Parts → Type 0

@@ -84,8 +84,9 @@ pub returns-in_default-clause-order : goal.returns-in_default-clause-order
 returns-in_default-clause-order g c = tt
 
 pub returns-clause-order : goal.returns-clause-order
-returns-clause-order g c =
-    let cuts = free_cuts (parts_of c.args.self.now) c.args.class c.in-Some.d c.in_ok-popped.popped (medium_view c.pop.new.self) c.by.result c.requires.running
-    c.requires.class c.in_ok-popped.ensures.ok c.pop.ensures.others c.in-Some.is
-    (parts_of c.cut.new.self) c.cut.ensures.others c.cut.ensures.same c.requires.empty c.in_ok-cut.ensures.ok in
-    (c.in-Some.d, cuts.0, cuts.1)
+returns-clause-order g c = (
+  c.in-Some.d,
+  free_cuts (parts_of c.args.self.now) c.args.class c.in-Some.d c.in_ok-popped.popped (medium_view c.pop.new.self) c.by.result c.requires.running
+      c.requires.class c.in_ok-popped.ensures.ok c.pop.ensures.others c.in-Some.is
+      (parts_of c.cut.new.self) c.cut.ensures.others c.cut.ensures.same c.requires.empty c.in_ok-cut.ensures.ok,
+)

@@ -104,7 +104,9 @@ returns-then-branch-clause-order g c = λ is.
       | then-branch-via-else-branch+in_ok-cut_free+then-branch-2 w ↦ subst (λ (x : Arena _). FillsFrom class p (parts_of x)) (sym w.self-is)
           (let found = subst (λ some. OrdersPartial class some p a) w.if-branch.false c.in_ok-take_partial.ensures.order in
           let cuts = subst (λ some. OrdersFree class some a (parts_of w.cut_free.new.self)) w.if-branch-2.true w.in_ok-cut_free.ensures.order in
-          fills_free class p a (parts_of w.cut_free.new.self) found.0 found.1 c.in_ok-take_partial.ensures.taken cuts.0 cuts.1 cuts.2 w.in_ok-cut_free.ensures.taken)
+          let part = subst (λ some. FindsPartial class some p a) w.if-branch.false c.in_ok-take_partial.ensures.ok in
+          fills_free class p a (parts_of w.cut_free.new.self) found.0 found.1 c.in_ok-take_partial.ensures.taken c.requires.running part.1.0 cuts.0 cuts.1
+          w.in_ok-cut_free.ensures.taken)
     ]
 
 pub returns-clause-order : goal.returns-clause-order
