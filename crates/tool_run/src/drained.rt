@@ -1,5 +1,5 @@
 //! Drains a class of a recovered heap.
-ghost use Rattle.std.specs.Prelude.{◌≡◌, IfOk};
+ghost use Rattle.std.specs.Prelude.{IfOk};
 ghost use Rattle.tool_run.specs.Recovering.{IsDrainableAtRest, AreGiven};
 
 use crate::size_class::SizeClass;
@@ -10,25 +10,18 @@ use super_block::Ready;
 /// The greatest budget that a heap can be opened with. Draining a class takes less.
 const BUDGET: u64 = (1 << 40) - 1;
 
-// A source of chance that always gives 0.
-#[derive(Drop)]
-struct Never;
-
-impl Chance for Never {
-    ghost draw_gives = { λ _ number _. number ≡ 0 };
-
-    fn draw(&mut self) -> u64 {
-        0
-    }
-}
-
 /// The offsets of the blocks that the class of a heap gives until nothing is left, in the order in
-/// which it gives them.
-pub fn drain_heap(alloc: Global, heap: Ready, class: SizeClass) -> Result<Vec<u64>, AllocError>
+/// which it gives them. They are the same whatever the chance settles early.
+pub fn drain_heap<C: Chance>(
+    alloc: Global,
+    heap: Ready,
+    class: SizeClass,
+    chance: C,
+) -> Result<Vec<u64>, AllocError>
     requires { IsDrainableAtRest heap.words heap.held class.number }
     ensures { IfOk result (λ offsets. AreGiven heap.words heap.held class.number offsets.items) }
 {
-    let mut heap = SeqHeap::new(alloc, heap, BUDGET, Never)?;
+    let mut heap = SeqHeap::new(alloc, heap, BUDGET, chance)?;
     match heap.drain(alloc, class.number) {
         Ok(offsets) => Ok(offsets),
         Err(DrainFault::Memory) => Err(AllocError),

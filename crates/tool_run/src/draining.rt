@@ -13,19 +13,21 @@ use crate::fault::Fault;
 use crate::making::Product;
 use crate::recovering::recover_image;
 use crate::size_class::SizeClass;
+use block_heap::Chance;
 use heap_recover::Recovered;
 use region_header::Bytes;
 use size_table::size_of;
 use std::alloc::{AllocError, Global};
 use super_block::Ready;
-use tool_ports::ImageStore;
+use tool_ports::{Chances, ImageStore};
 
 /// The offsets of the blocks that the class of an image gives until nothing is left.
-pub fn drain_image<I: ImageStore>(
+pub fn drain_image<I: ImageStore, C: Chances>(
     alloc: Global,
     name: &str,
     class: SizeClass,
     images: &mut I,
+    chances: &mut C,
 ) -> Result<Product, Fault>
     ensures ok { IfOk result (λ product. (product.image ≡ None)
         × Drains (I.contents images.old) name.now class.number product.text) }
@@ -41,16 +43,22 @@ pub fn drain_image<I: ImageStore>(
         was: _,
         free: _,
     } = recovered;
-    let text = heap_text(alloc, heap, class)?;
+    chances.seed(0);
+    let text = heap_text(alloc, heap, class, chances.chance(0))?;
     Ok(Product { image: None, text })
 }
 
 // The text on what a heap gives.
-fn heap_text(alloc: Global, heap: Ready, class: SizeClass) -> Result<Bytes, AllocError>
+fn heap_text<C: Chance>(
+    alloc: Global,
+    heap: Ready,
+    class: SizeClass,
+    chance: C,
+) -> Result<Bytes, AllocError>
     requires { IsDrainableAtRest heap.words heap.held class.number }
     ensures { IfOk result (IsGivenText heap.words heap.held class.number) }
 {
-    let mut offsets = drain_heap(alloc, heap, class)?;
+    let mut offsets = drain_heap(alloc, heap, class, chance)?;
     offsets.sort_unstable();
     offsets_text(alloc, class, &offsets)
 }

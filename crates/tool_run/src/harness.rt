@@ -6,7 +6,7 @@ use region_header::{format, words_to_bytes};
 use std::alloc::{AllocError, Global};
 use std::process::Abort;
 use std::test::Fail;
-use tool_ports::{FailedPut, ImageStore, MapStore, VecSink};
+use tool_ports::{BytesSource, FailedPut, ImageStore, MapStore, OpenGate, SeededChances, VecSink};
 
 // Room for the longest text of a test, on 32,768 offsets.
 const ROOM: usize = 1 << 19;
@@ -26,7 +26,18 @@ fn call(
         words.push(String::from_str(alloc, word)?)?;
     }
     let mut out = VecSink::new(alloc, Vec::from_slice(alloc, failing)?, 8, ROOM)?;
-    let status = run_tool(&(), alloc, &words, images, &mut out);
+    let mut trace = BytesSource::new(Vec::new(alloc), 1, Vec::new(alloc));
+    let mut chances = SeededChances::new();
+    let status = run_tool(
+        &(),
+        alloc,
+        &words,
+        images,
+        &mut trace,
+        &mut out,
+        &OpenGate,
+        &mut chances,
+    );
     Ok((status.code(), out))
 }
 

@@ -18,7 +18,7 @@ use region_header::{Bytes, format, words_to_bytes};
 use std::alloc::{AllocError, Global};
 use std::collections::BTreeMap;
 use super_block::{Geometry, WORD_BYTES};
-use tool_ports::ImageStore;
+use tool_ports::{Chances, ImageStore};
 use trace_text::{map_text, report_text};
 
 /// What a command has made: the image that is to be put, if any, and the text to be printed.
@@ -29,10 +29,11 @@ pub struct Product {
 }
 
 /// Makes what the command is to put and to print.
-pub fn make<I: ImageStore>(
+pub fn make<I: ImageStore, C: Chances>(
     alloc: Global,
     command: Invocation<'_>,
     images: &mut I,
+    chances: &mut C,
 ) -> Result<Product, Fault>
     ensures ok { IfOk result (λ product.
         Makes (command_of command.entry) (I.contents images.old) product.image product.text) }
@@ -46,7 +47,7 @@ pub fn make<I: ImageStore>(
     match command {
         Invocation::Format { image: _, layout } => Ok(empty_image(alloc, layout)?),
         Invocation::Show { image, with_map } => report(alloc, image, with_map, images),
-        Invocation::Drain { image, class } => drain_image(alloc, image, class, images),
+        Invocation::Drain { image, class } => { drain_image(alloc, image, class, images, chances) }
     }
 }
 

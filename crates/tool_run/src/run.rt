@@ -16,19 +16,23 @@ use crate::fault::Fault;
 use crate::making::make;
 use crate::status::Status;
 use std::alloc::Global;
-use tool_ports::{ImageStore, Sink};
+use tool_ports::{Chances, Gate, ImageStore, Sink, Source};
 
 /// Does what the words ask for. They are those after the program's name: `format IMAGE S` puts an
 /// empty image of S superblocks, `show IMAGE` recovers an image and prints a report on it,
 /// `show IMAGE --map` prints a map too, and `drain IMAGE CLASS` recovers an image and prints the
 /// offsets of the blocks that the class then gives. Where there is no result, a line tells why; one
-/// that the sink refuses is lost.
-pub fn run_tool<R, I: ImageStore, O: Sink>(
+/// that the sink refuses is lost. What a drained heap settles early comes from `chances` with the
+/// seed 0. No command reads the trace or passes the gate yet: they are for runs.
+pub fn run_tool<R, I: ImageStore, T: Source, O: Sink, G: Gate + Sync, C: Chances>(
     _rt: &R,
     alloc: Global,
     words: &[String],
     images: &mut I,
+    trace: &mut T,
     out: &mut O,
+    _gate: &G,
+    chances: &mut C,
 ) -> Status
     ensures known { Contains statuses result }
 
@@ -55,6 +59,9 @@ pub fn run_tool<R, I: ImageStore, O: Sink>(
         (λ line. Tells line (O.faults out.old) (O.faults out.new)
         (O.taken out.old) (O.taken out.new)) }
     ensures unchanged { LeavesStore result → I.contents images.new ≡ I.contents images.old }
+
+    // No command reads the trace.
+    ensures unread { trace.new ≡ trace.old }
 
     // How often the store is called: not at all, or for one get, or for one put.
     ensures no_call { IsUsage (texts words.now) → I.calls images.new ≡ I.calls images.old }
@@ -87,7 +94,7 @@ pub fn run_tool<R, I: ImageStore, O: Sink>(
     let Some(command) = parse(words) else {
         return Fault::Usage.tell("", out);
     };
-    match carry_out(alloc, command, images, out) {
+    match carry_out(alloc, command, images, out, chances) {
         Ok(()) => Status::new(0),
         Err(fault) => fault.tell(command.image(), out),
     }
@@ -103,11 +110,12 @@ pub fn tell_out_of_memory<O: Sink>(out: &mut O) -> Status
 }
 
 // Makes the whole result first, then puts and prints it.
-fn carry_out<I: ImageStore, O: Sink>(
+fn carry_out<I: ImageStore, O: Sink, C: Chances>(
     alloc: Global,
     command: Invocation<'_>,
     images: &mut I,
     out: &mut O,
+    chances: &mut C,
 ) -> Result<(), Fault>
     ensures ok { OnOk result (IsCarriedOut (command_of command.entry)
         (I.contents images.old) (I.contents images.new) (O.taken out.old) (O.taken out.new)) }
@@ -122,6 +130,6 @@ fn carry_out<I: ImageStore, O: Sink>(
     ensures calls_err { IfErr result (λ fault. I.calls images.new
         ≡ with_status (command_of command.entry) (status_of fault) (I.calls images.old)) }
 {
-    let product = make(alloc, command, images)?;
+    let product = make(alloc, command, images, chances)?;
     deliver(alloc, command.image(), &product, images, out)
 }
