@@ -3,11 +3,12 @@ use Rattle.std.proofs.Common.{◌≡◌, ◌≢◌, ℕ, ◌+◌, ◌<◌, ◌�
 use Rattle.std.proofs.lemmas.Bool.{cond-true}
 use Rattle.std.proofs.lemmas.List.Elements.{Contains-append_left, Contains-append_right}
 use Rattle.heap_model.specs.declared.block.Block.{Block}
+use Rattle.heap_model.specs.Image.{Image}
 use Rattle.heap_model.specs.Geometry.{root_word}
 use Rattle.heap_model.specs.Blocks.{IsIn}
-use Rattle.heap_model.proofs.MemberLemmas.{in_none, in_head, head_or_rest}
+use Rattle.heap_model.proofs.MemberLemmas.{in_none, in_head, head_or_rest, in_rest}
 use Rattle.heap_seat.specs.View.{View}
-use Rattle.heap_seat.specs.Words.{MayRead}
+use Rattle.heap_seat.specs.Words.{MayRead, IsOwn, MayStore}
 use Rattle.heap_seat.specs.Sound.{IsSeat}
 use Rattle.dict_model.specs.Links.{shards, root_kind, table_kind, node_kind, IsLink, in_table, in_node}
 use Rattle.dict_model.specs.Nodes.{shard_of, bucket_of, key_in, IsNode}
@@ -19,7 +20,7 @@ use Rattle.dict_seat.specs.Reached.{MayReach, ReachesOnlyHeld}
 use Rattle.dict_seat.specs.Trails.{pointer_to, IsSettled, Trail, HasCome}
 use Rattle.dict_seat.proofs.GrownLemmas.{are_placed, root_reach, link_reach}
 use Rattle.dict_seat.proofs.PublishLemmas.{IsLinkOf, is_link}
-use Rattle.dict_seat.proofs.TrailLemmas.{now_image, now_completes, leads_held, settled_in, is_along, bucket_below}
+use Rattle.dict_seat.proofs.TrailLemmas.{now_image, now_completes, leads_held, settled_in, is_along, bucket_below, first_own, settled_stays}
 use Rattle.dict_seat.proofs.MapPublishLemmas.{seen_read, trail_held}
 
 -- what a shard's root leads to is a table
@@ -153,3 +154,21 @@ link_behind_roots u key table before root seat owned come is = elim (behind_is (
       let behind = (seat.placed last.0 held).behind in
       let below = seat.roots_are root owned in omega (arith, last.2)
 ]
+
+-- a trail whose last link is stored to is one up to that link
+pub trail_kept : (u w : View) (p x : ℕ) → IsSeat u → MayStore p x u w → (table : Block) (image : Image) (shard k at : ℕ) (bs : List Block) → p ≡ link_behind at bs
+    → ((c : Block) → Contains bs c → at ≢ c.first_word) → IsPath (but table (LeadsTo (Contains u.held))) image shard k at bs → IsOwn u.held u.roots at → Trail (IsSettled u) u.held at bs
+    → Trail (IsSettled w) w.held at bs
+trail_kept u w p x seat may table image shard k at [] is apart path own trail = tt
+trail_kept u w p x seat may table image shard k at (b ∷ bs) is apart path own trail =
+    let last : (c : Block) × Contains (b ∷ bs) c × (p ≡ c.first_word) =
+    elim (behind_is b.first_word bs) as (λ _. (c : Block) × Contains (b ∷ bs) c × (p ≡ c.first_word)) [
+      | inl only ↦ (b, in_head b bs, is ∙ only.1)
+      | inr l ↦ (l.0, in_rest b l.0 bs l.1, is ∙ l.2)
+    ] in
+    let start : at ≢ p = λ e. apart last.0 last.1 (e ∙ last.2) in (
+      subst (λ (held : List Block). Contains held b) (sym may.held) trail.0,
+      settled_stays u w at (pointer_to b) (may.others at own start) trail.1,
+      trail_kept u w p x seat may table image shard k b.first_word bs is
+          (λ c h e. not_of image (key_in image b) bs c path.2 h (sym (ap (λ word. image (word + 1)) e))) path.3 (first_own u b seat trail.0) trail.2,
+    )

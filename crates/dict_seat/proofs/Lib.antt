@@ -4,6 +4,8 @@ pub mod ChangeLemmas
 pub mod DeleteLemmas
 pub mod ComeLemmas
 pub mod CountLemmas
+pub mod ExactCallLemmas
+pub mod ExactLemmas
 pub mod FirstLemmas
 pub mod FreedLemmas
 pub mod GrownLemmas

@@ -31,7 +31,7 @@ use Rattle.dict_seat.specs.Removal.{IsShard}
 use Rattle.dict_seat.proofs.GrownLemmas.{are_placed, grown_keeps, grown_then, gives_grown, only_grown}
 use Rattle.dict_seat.proofs.TrailLemmas.{now_image, settled_stays, come_stays, first_own, bucket_own, bucket_below, trail_more}
 use Rattle.dict_seat.proofs.MapPublishLemmas.{trail_held}
-use Rattle.dict_seat.proofs.ComeLemmas.{followed_leads, own_link_followed, begins_chain, link_behind_roots, last_not_table}
+use Rattle.dict_seat.proofs.ComeLemmas.{followed_leads, own_link_followed, begins_chain, link_behind_roots, last_not_table, trail_kept}
 use Rattle.dict_seat.proofs.PublishLemmas.{reached_after}
 use Rattle.dict_seat.proofs.PutLemmas.{put_left, put_done, old_key, publish, new_block_outside}
 use Rattle.dict_seat.proofs.ChangeLemmas.{change_after, changes_after, freed}
@@ -65,24 +65,6 @@ taken_made t u key next place seat grown settle taken =
       own_spot_grown : (t u : View) (s : Spot) → Grown t u → IsOwnSpot t s → IsOwnSpot u s
       own_spot_grown t u (InBlock b index) grown h = (grown.keeps b h.0, h.1)
       own_spot_grown t u (Root i) grown h = subst (λ (rs : List ℕ). Contains rs i) (sym grown.roots) h
-
--- a trail whose last link is stored to is one up to that link
-trail_kept : (u w : View) (p x : ℕ) → IsSeat u → MayStore p x u w → (table : Block) (image : Image) (shard k at : ℕ) (bs : List Block) → p ≡ link_behind at bs
-    → ((c : Block) → Contains bs c → at ≢ c.first_word) → IsPath (but table (LeadsTo (Contains u.held))) image shard k at bs → IsOwn u.held u.roots at → Trail (IsSettled u) u.held at bs
-    → Trail (IsSettled w) w.held at bs
-trail_kept u w p x seat may table image shard k at [] is apart path own trail = tt
-trail_kept u w p x seat may table image shard k at (b ∷ bs) is apart path own trail =
-    let last : (c : Block) × Contains (b ∷ bs) c × (p ≡ c.first_word) =
-    elim (behind_is b.first_word bs) as (λ _. (c : Block) × Contains (b ∷ bs) c × (p ≡ c.first_word)) [
-      | inl only ↦ (b, in_head b bs, is ∙ only.1)
-      | inr l ↦ (l.0, in_rest b l.0 bs l.1, is ∙ l.2)
-    ] in
-    let start : at ≢ p = λ e. apart last.0 last.1 (e ∙ last.2) in (
-      subst (λ (held : List Block). Contains held b) (sym may.held) trail.0,
-      settled_stays u w at (pointer_to b) (may.others at own start) trail.1,
-      trail_kept u w p x seat may table image shard k b.first_word bs is
-          (λ c h e. not_of image (key_in image b) bs c path.2 h (sym (ap (λ word. image (word + 1)) e))) path.3 (first_own u b seat trail.0) trail.2,
-    )
 
 module _ (v t u w : View) (seat_t : IsSeat t) (seat : IsSeat u) (key next x : ℕ) (value : List ℕ) (place : Place) (n : Block) (shard : IsShard v (shard_of key)) (keeps : KeepsOwn v t)
     (taken : IsTaken IsSettled u key place next) (table_t : Contains t.held taken.table) (own_t : IsOwn t.held t.roots (word_of place.link)) (node_t : Contains t.held place.node)

@@ -80,7 +80,7 @@ module _ (u w : View) (shard p x kind : ℕ) (seat : IsSeat u) (small : shard < 
         let behind = (seat.placed a (reached_held u shard a from reached)).behind in
         let below = seat.roots_are root owned in absurd (omega arith)
 
-  link_at_link : (root : ℕ) (a : Block) (from position to : ℕ) → MayReach u root a from → IsLink from a.words position to → a.first_word + position ≡ p → (root ≡ shard) × (to ≡ kind)
+  pub link_at_link : (root : ℕ) (a : Block) (from position to : ℕ) → MayReach u root a from → IsLink from a.words position to → a.first_word + position ≡ p → (root ≡ shard) × (to ≡ kind)
   link_at_link root a from position to reached is at = by_case kind link where
     by_case : (k : ℕ) → IsLinkOf u shard p k → (root ≡ shard) × (to ≡ k)
     by_case _ (is_root owned at') =

@@ -24,7 +24,7 @@ use Rattle.dict_seat.proofs.PublishLemmas.{put_same, put_other, put_mixes}
 use Rattle.dict_seat.proofs.TrailLemmas.{now_image, now_completes, leads_held, settled_in, is_along, found_at, behind_more}
 
 -- a node has one link
-at_first : (from words position kind : ℕ) → IsLink from words position kind → from ≡ node_kind → position ≡ 0
+pub at_first : (from words position kind : ℕ) → IsLink from words position kind → from ≡ node_kind → position ≡ 0
 at_first _ _ _ _ (in_node words some) is = refl
 at_first _ _ _ _ (in_table words position inside) is = absurd (omega arith)
 
@@ -123,6 +123,13 @@ module _ (u : View) (seat : IsSeat u) (shard : ℕ) (map : Map) (gives : Gives u
         (begins k image ((before ++ (a ∷ [])) ++ (b ∷ [])) below new
         (along_more (LeadsTo (Contains u.held)) image (table.first_word + k) (before ++ (a ∷ [])) b
         (path_along table (LeadsTo (Contains u.held)) image shard k (table.first_word + k) (before ++ (a ∷ [])) kept.0) leads))
+
+  -- what is reached and isn't the table is a node
+  pub only_node : (b : Block) (kind : ℕ) → b ≢ table → MayReach u shard b kind → kind ≡ node_kind
+  only_node b kind apart reached = by_case (hangs b kind reached) where
+    by_case : HangsOn b kind → kind ≡ node_kind
+    by_case (is_table same) = absurd (apart same)
+    by_case (on_chain is_node k image before below mixes path) = is_node
 
   -- a node of a key that the map hasn't is reached no more
   pub gone : (b : Block) (key kind : ℕ) → b ≢ table → IsSettled u (b.first_word + 1) key → IsOwn u.held u.roots (b.first_word + 1) → map key ≡ None → MayReach u shard b kind → ⊥

@@ -10,6 +10,7 @@ ghost use Rattle.dict_model.specs.Shards.{Map};
 ghost use Rattle.dict_seat.specs.Quiet.{IsQuiet};
 ghost use Rattle.dict_seat.specs.Walks.{IsFound};
 ghost use Rattle.dict_seat.specs.Changes.{MayChange, Changes};
+ghost use Rattle.dict_seat.specs.Reached.{ReachesAllHeld};
 ghost use Rattle.dict_seat.specs.Removal.{IsShard, Takes};
 
 use crate::walk::{KEY, NEXT, Place, follow};
@@ -37,6 +38,8 @@ pub(crate) fn remove<H: HeapSeat>(seat: &mut H, key: u64, place: Place) -> Resul
     ensures ok { OnOk result (Changes (shard_of key) (λ map. without_key map key)
         (H.view seat.old) (H.view seat.new)) }
     ensures runs { OnOk result (Runs (H.view seat.old) (H.view seat.new)) }
+    ensures exact { OnOk result (ReachesAllHeld (H.view seat.old)
+        → ReachesAllHeld (H.view seat.new)) }
     ensures cause { IfErr result (λ e. Stops e.step (H.view seat.old) (H.view seat.new)) }
     ensures crash { MayChange (shard_of key) (λ map. without_key map key)
         (H.view seat.old) (H.view seat.new) }

@@ -8,6 +8,7 @@ ghost use Rattle.dict_model.specs.Nodes.{largest_value, shard_of, value_words, n
 ghost use Rattle.dict_model.specs.Requests.{with_key, without_key};
 ghost use Rattle.dict_model.specs.Shards.{Map};
 ghost use Rattle.dict_seat.specs.Changes.{MayChange, Changes};
+ghost use Rattle.dict_seat.specs.Reached.{ReachesAllHeld};
 ghost use Rattle.dict_seat.specs.Removal.{IsShard};
 ghost use Rattle.dict_seat.specs.Puts.{PutAnswers, PutTakes};
 ghost use Rattle.dict_seat.specs.Answers.{Deletes, MakesFew};
@@ -42,6 +43,8 @@ impl Shard {
         requires shard { IsShard (H.view seat.old) (shard_of key) }
         ensures ok { IfOk result (λ found. Deletes key found
             (H.view seat.old) (H.view seat.new)) }
+        ensures exact { OnOk result (ReachesAllHeld (H.view seat.old)
+            → ReachesAllHeld (H.view seat.new)) }
         ensures cause { IfErr result (λ e. Stops e.step (H.view seat.old) (H.view seat.new)) }
 
         // At every exit.

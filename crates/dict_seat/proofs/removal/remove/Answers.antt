@@ -5,7 +5,8 @@ use Rattle.heap_seat.proofs.RowLemmas.{row_then, row_small, row_large}
 use Rattle.dict_model.specs.Nodes.{shard_of}
 use Rattle.dict_model.specs.Requests.{without_key}
 use Rattle.dict_seat.specs.Trails.{IsSettled}
-use Rattle.dict_seat.proofs.GrownLemmas.{grown_keeps}
+use Rattle.dict_seat.proofs.GrownLemmas.{grown_keeps, gives_grown, only_grown}
+use Rattle.dict_seat.proofs.ExactCallLemmas.{all_quiet, all_removed}
 use Rattle.dict_seat.proofs.ChangeLemmas.{change_none}
 use Rattle.dict_seat.proofs.RemovalLemmas.{taken_settled, left_stored, left_freed, node_still}
 use Rattle.dict_seat.proofs.removal.remove.Goals as goal
@@ -91,3 +92,24 @@ returns-clause-calls g c =
     let a = row_then 3 0 0 1 0 0 v t u c.take.ensures.quiet.calls (row_small t u c.fence.ensures.counted) in
     let b = row_then 4 0 0 3 0 0 v u w a c.persist.ensures.calls in
     row_then 7 0 0 0 1 0 v w x b (row_large 0 w x c.free.ensures.counted)
+
+pub returns-clause-exact : goal.returns-clause-exact
+returns-clause-exact g c =
+    let view = g.H.HeapSeat.view in
+    let v = view c.args.seat.now in
+    let t = view c.take.new.seat in
+    let u = view c.fence.new.self in
+    let w = view c.persist.new.heap in
+    let x = view c.free.new.self in
+    let seat = g.met.H.HeapSeat.seat c.fence.new.self in
+    let seat_w = g.met.H.HeapSeat.seat c.persist.new.heap in
+    let taken = taken_settled t u c.args.key c.in_ok-next.next c.args.place (g.met.H.HeapSeat.seat c.take.new.seat) c.fence.ensures.unchanged
+      (record { each = c.in_ok-fence.ensures.ok.durable }) c.in_ok-next.ensures.ok.taken in
+    let keeps = keeps_own_then v t u c.take.ensures.quiet.unchanged c.fence.ensures.unchanged in
+    let grown = grown_keeps v u keeps in
+    let settled : IsSettled w (word_of c.args.place.link) c.in_ok-next.next = record { seen = c.in_ok-persist.ensures.ok; left = c.in_ok-persist.ensures.durable } in
+    let only_x = (left_freed v u c.args.key c.args.place c.in_ok-next.next seat c.requires.shard grown taken w c.persist.ensures.crash x seat_w settled c.free.ensures.others).1.only in
+    on_ok_weaker c.free.result
+    (λ frees all. all_removed u w seat seat_w c.args.key c.args.place c.in_ok-next.next taken c.requires.shard.map
+    (gives_grown v u grown (shard_of c.args.key) c.requires.shard.map c.requires.shard.gives) (only_grown v u grown seat c.requires.shard.only)
+    c.persist.ensures.crash settled x c.free.ensures.others frees.gone only_x (all_quiet v u seat keeps all)) c.free.ensures.ok

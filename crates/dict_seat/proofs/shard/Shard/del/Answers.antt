@@ -1,11 +1,12 @@
-use Rattle.std.proofs.Common.{subst}
+use Rattle.std.proofs.Common.{◌+◌, ◌*◌, ◌≤◌, subst, arith}
 use Rattle.dict_model.specs.Nodes.{shard_of}
 use Rattle.dict_model.specs.Requests.{without_key}
 use Rattle.dict_seat.specs.declared.search.SearchEnd.{SearchEnd}
 use Rattle.dict_seat.specs.Searches.{Searches}
 use Rattle.dict_seat.proofs.GrownLemmas.{grown_keeps}
+use Rattle.dict_seat.proofs.ExactCallLemmas.{all_quiet}
 use Rattle.dict_seat.proofs.ChangeLemmas.{change_none, change_after}
-use Rattle.dict_seat.proofs.DelLemmas.{deletes_nothing, deletes_node, shard_still}
+use Rattle.dict_seat.proofs.DelLemmas.{few_calls, deletes_nothing, deletes_node, shard_still}
 use Rattle.dict_seat.proofs.shard.Shard.del.Goals as goal
 
 pub returns-in_err-place-clause-crash : goal.returns-in_err-place-clause-crash
@@ -91,3 +92,35 @@ returns-in-NoTable-clause-ok g c =
     let seat = g.met.H.HeapSeat.seat c.search.new.seat in
     let searches = subst (λ (e : SearchEnd). Searches c.args.key e v u) c.in-NoTable.is c.in_ok-place.ensures.ok in
     deletes_nothing v u c.args.key keeps searches.goes.runs (λ map gives. searches.ends.empty map gives c.args.key)
+
+pub returns-in-Missing-clause-exact : goal.returns-in-Missing-clause-exact
+returns-in-Missing-clause-exact g c =
+    let view = g.H.HeapSeat.view in
+    let v = view c.args.seat.now in
+    let u = view c.search.new.seat in
+    let keeps = c.search.ensures.quiet.quiet.unchanged in
+    let seat = g.met.H.HeapSeat.seat c.search.new.seat in
+    all_quiet v u seat keeps
+
+pub returns-in-NoTable-clause-exact : goal.returns-in-NoTable-clause-exact
+returns-in-NoTable-clause-exact g c =
+    let view = g.H.HeapSeat.view in
+    let v = view c.args.seat.now in
+    let u = view c.search.new.seat in
+    let keeps = c.search.ensures.quiet.quiet.unchanged in
+    let seat = g.met.H.HeapSeat.seat c.search.new.seat in
+    all_quiet v u seat keeps
+
+pub returns-in_ok-remove-in-Found-clause-exact : goal.returns-in_ok-remove-in-Found-clause-exact
+returns-in_ok-remove-in-Found-clause-exact g c =
+    let view = g.H.HeapSeat.view in
+    let v = view c.args.seat.now in
+    let u = view c.search.new.seat in
+    let keeps = c.search.ensures.quiet.quiet.unchanged in
+    let seat = g.met.H.HeapSeat.seat c.search.new.seat in
+    λ all. c.in_ok-remove-in-Found.ensures.exact (all_quiet v u seat keeps all)
+
+pub returns-in_ok-remove-in-Found-clause-calls : goal.returns-in_ok-remove-in-Found-clause-calls
+returns-in_ok-remove-in-Found-clause-calls g c =
+    let view = g.H.HeapSeat.view in
+    few_calls 7 1 0 0 (shard_of c.args.key) (view c.args.seat.now) (view c.search.new.seat) (view c.remove.new.seat) (omega arith) (omega arith) c.search.ensures.quiet c.remove.ensures.calls
