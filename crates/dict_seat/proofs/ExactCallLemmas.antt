@@ -1,14 +1,14 @@
 -- Where all held blocks were reached, they are after a request: nothing that was replaced or taken out stays held.
-use Rattle.std.proofs.Common.{◌≡◌, ◌≢◌, ℕ, ◌+◌, ◌*◌, ◌<◌, ◌≤◌, ◌⊎◌, inl, inr, List, [], ◌∷◌, ◌++◌, Contains, Some, refl, ap, subst, sym, ◌∙◌, arith}
+use Rattle.std.proofs.Common.{◌≡◌, ◌≢◌, ℕ, ◌+◌, inl, inr, List, Contains, Some, refl, ap, subst, sym, ◌∙◌, arith}
 use Rattle.std.proofs.lemmas.Bool.{cases_eq}
 use Rattle.heap_model.specs.declared.block.Block.{Block}
 use Rattle.heap_model.specs.Geometry.{root_word}
 use Rattle.heap_model.specs.Blocks.{IsIn}
 use Rattle.heap_seat.specs.View.{View, word_of}
-use Rattle.heap_seat.specs.Words.{IsOwn, in_root, KeepsOwn, MayStore}
+use Rattle.heap_seat.specs.Words.{in_root, KeepsOwn, MayStore}
 use Rattle.heap_seat.specs.Free.{MayFree}
 use Rattle.heap_seat.specs.Sound.{IsSeat}
-use Rattle.dict_model.specs.Links.{shards, node_kind}
+use Rattle.dict_model.specs.Links.{node_kind}
 use Rattle.dict_model.specs.Nodes.{shard_of, bucket_of}
 use Rattle.dict_model.specs.Shards.{Map, LeadsTo, IsPath, but, link_behind}
 use Rattle.dict_model.proofs.ChainLemmas.{in_path}
@@ -17,7 +17,6 @@ use Rattle.dict_seat.specs.declared.walk.Place.{Place}
 use Rattle.dict_seat.specs.Maps.{Gives}
 use Rattle.dict_seat.specs.Reached.{MayReach, Reaches, ReachesOnlyHeld, ReachesAllHeld}
 use Rattle.dict_seat.specs.Trails.{pointer_to, IsSettled, HasCome}
-use Rattle.dict_seat.specs.Quiet.{Grown}
 use Rattle.dict_seat.specs.Changes.{IsTaken}
 use Rattle.dict_seat.proofs.GrownLemmas.{are_placed, grown_keeps, only_grown}
 use Rattle.dict_seat.proofs.TrailLemmas.{now_image, settled_stays, leads_held, bucket_own, bucket_below}
@@ -69,8 +68,11 @@ module _ (u w : View) (seat : IsSeat u) (seat_w : IsSeat w) (key : ℕ) (place :
   one_kind root a kind same reached =
       let may_node : MayReach u root place.node kind = subst (λ (d : Block). MayReach u root d kind) same (sees_may u root a kind reached) in
       elim (cases_eq (shard_of key) root) as (λ _. (root ≡ shard_of key) × (kind ≡ node_kind)) [
-        | inl is ↦ (sym is, only_node u seat (shard_of key) map gives taken.table taken.come.owned taken.come.held_table taken.come.size taken.come.root place.node kind
-            (last_not_table u seat key (shard_below key) map gives taken.table place.node taken.before taken.come) (subst (λ r. MayReach u r place.node kind) (sym is) may_node))
+        | inl is ↦ (
+          sym is,
+          only_node u seat (shard_of key) map gives taken.table taken.come.owned taken.come.held_table taken.come.size taken.come.root place.node kind
+              (last_not_table u seat key (shard_below key) map gives taken.table place.node taken.before taken.come) (subst (λ r. MayReach u r place.node kind) (sym is) may_node),
+        )
         | inr differs ↦ absurd (only.alone (shard_of key) root place.node node_kind kind (shard_below key) differs (node_reached u seat key place next taken map gives) may_node)
       ]
 
@@ -100,8 +102,12 @@ module _ (u w : View) (seat : IsSeat u) (seat_w : IsSeat w) (key : ℕ) (place :
         inr (target_sees w (shard_of key) (word_of place.link) next d link_w settled.seen
         (subst (λ q. LeadsTo (Contains w.held) q d) (next_value a value same seen) (subst (λ (bs : List Block). Contains bs d) (sym may.held) leads.0, leads.1))))
         one_kind r.0 c r.1 r.2) as (λ _. (root : ℕ) × (kind : ℕ) × Reaches x root c kind) [
-          | inl reached ↦ (r.0, r.1, sees_freed w x place.node seat_w freeing (subst (λ (bs : List Block). Contains bs place.node) (sym may.held) held_u)
-              (unreached u seat key place next taken map gives w may seat_w only settled) r.0 c r.1 reached)
+          | inl reached ↦ (
+            r.0,
+            r.1,
+            sees_freed w x place.node seat_w freeing (subst (λ (bs : List Block). Contains bs place.node) (sym may.held) held_u)
+                (unreached u seat key place next taken map gives w may seat_w only settled) r.0 c r.1 reached,
+          )
           | inr same ↦ absurd (gone (subst (Contains x.held) same h))
         ];
   } where

@@ -1,14 +1,12 @@
 -- What loads see reached stays reached, but for the node that a request takes out.
-use Rattle.std.proofs.Common.{◌≡◌, ◌≢◌, ℕ, ◌+◌, ◌*◌, ◌<◌, ◌≤◌, ◌⊎◌, inl, inr, List, [], ◌∷◌, ◌++◌, Some, Contains, refl, ap, subst, sym, ◌∙◌, arith}
+use Rattle.std.proofs.Common.{◌≡◌, ◌≢◌, ℕ, ◌+◌, ◌<◌, ◌⊎◌, inl, inr, List, [], ◌∷◌, Some, Contains, refl, subst, sym, arith}
 use Rattle.std.proofs.lemmas.Bool.{cases_eq}
 use Rattle.heap_model.specs.declared.block.Block.{Block}
 use Rattle.heap_model.specs.Geometry.{root_word}
-use Rattle.heap_model.specs.Blocks.{IsIn}
-use Rattle.heap_model.specs.Reach.{Closure, by_start, by_link}
+use Rattle.heap_model.specs.Reach.{by_start, by_link}
 use Rattle.heap_model.proofs.ReachLemmas.{closure_least, closure_included}
-use Rattle.heap_model.proofs.MemberLemmas.{in_none, head_or_rest}
 use Rattle.heap_seat.specs.View.{View}
-use Rattle.heap_seat.specs.Words.{IsOwn, in_root, KeepsWord, MayStore}
+use Rattle.heap_seat.specs.Words.{in_root, MayStore}
 use Rattle.heap_seat.specs.Free.{MayFree}
 use Rattle.heap_seat.specs.Sound.{IsSeat}
 use Rattle.dict_model.specs.Links.{shards, root_kind, node_kind, IsLink, in_table, in_node}
@@ -151,8 +149,11 @@ sees_freed w x b seat may h unreached root = closure_included
           let behind = (seat.placed b h).behind in
           let below = seat.roots_are root start.owned in
           let from = inside.from in omega arith)).volatile start.value start.read;
-      leads = (may.keeps c start.leads.0 (λ same. unreached root k (subst (λ (d : Block). MayReach w root d k) same
-          (sees_may w root c k (root_sees w root c k start.value start.owned start.kind_is start.read start.leads)))), start.leads.1);
+      leads = (
+        may.keeps c start.leads.0 (λ same. unreached root k (subst (λ (d : Block). MayReach w root d k) same
+            (sees_may w root c k (root_sees w root c k start.value start.owned start.kind_is start.read start.leads)))),
+        start.leads.1,
+      );
     })
     (λ a c from k reached l.
     let differs : a ≢ b = λ same. unreached root from (subst (λ (d : Block). MayReach w root d from) same (sees_may w root a from reached)) in
@@ -163,6 +164,9 @@ sees_freed w x b seat may h unreached root = closure_included
       value = l.value;
       read = (may.words (a.first_word + l.position) (link_own w a from l.position k a_held l.is_link) (λ inside.
           differs (one_holder (Contains w.held) (are_placed w seat) a b (a.first_word + l.position) a_held h (link_in a from l.position k l.is_link) inside))).volatile l.value l.read;
-      leads = (may.keeps c l.leads.0 (λ same. unreached root k (subst (λ (d : Block). MayReach w root d k) same
-          (sees_may w root c k (link_sees w root a c from l.position k l.value reached l.is_link l.read l.leads)))), l.leads.1);
+      leads = (
+        may.keeps c l.leads.0 (λ same. unreached root k (subst (λ (d : Block). MayReach w root d k) same
+            (sees_may w root c k (link_sees w root a c from l.position k l.value reached l.is_link l.read l.leads)))),
+        l.leads.1,
+      );
     })

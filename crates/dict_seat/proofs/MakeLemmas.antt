@@ -71,6 +71,7 @@ module _ (bytes : ℕ) (b : Block) (v u t : View) (seat : IsSeat u) (allocates :
     runs = runs_then v t w (runs_then v u t allocates.runs writes.done.runs) fences.runs;
     new = allocates.blocks.new;
     held = subst (λ (bs : List Block). Contains bs b) (sym quiet.held) held_t;
+    only = λ a h. allocates.blocks.only a (subst (λ (bs : List Block). Contains bs a) (within.held) (subst (λ (bs : List Block). Contains bs a) quiet.held h));
     room = room;
     settles = settles_all writes.done w quiet fences;
     written = record {

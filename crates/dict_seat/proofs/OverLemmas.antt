@@ -1,12 +1,12 @@
 -- Putting a node in the place of the key's old one, and freeing that.
-use Rattle.std.proofs.Common.{◌≡◌, ◌≢◌, ℕ, ◌+◌, ◌<◌, ◌≤◌, ◌⊎◌, inl, inr, List, [], ◌∷◌, ◌++◌, length, get_or, Contains, refl, ap, subst, sym, ◌∙◌, arith}
+use Rattle.std.proofs.Common.{◌≡◌, ◌≢◌, ℕ, ◌+◌, ◌<◌, ◌≤◌, ◌⊎◌, inl, inr, List, [], ◌∷◌, ◌++◌, length, get_or, Contains, refl, subst, sym, ◌∙◌, arith, Some}
 use Rattle.std.proofs.lemmas.Bool.{cases_eq}
 use Rattle.heap_model.specs.declared.block.Block.{Block}
 use Rattle.heap_model.specs.Image.{Image}
 use Rattle.heap_model.specs.Geometry.{root_word}
 use Rattle.heap_model.specs.Blocks.{IsIn}
 use Rattle.std.proofs.lemmas.List.Elements.{Contains-append_right}
-use Rattle.heap_model.proofs.MemberLemmas.{in_head, in_rest}
+use Rattle.heap_model.proofs.MemberLemmas.{in_head}
 use Rattle.heap_seat.specs.declared.spot.Spot.{Spot}
 use Rattle.heap_seat.specs.declared.spot.Spot.TheVariants.{InBlock, Root}
 use Rattle.heap_seat.specs.View.{View, word_of}
@@ -15,25 +15,27 @@ use Rattle.heap_seat.specs.Free.{MayFree}
 use Rattle.heap_seat.specs.Sound.{IsSeat}
 use Rattle.heap_seat.proofs.CallerLemmas.{own_same, own_spot}
 use Rattle.dict_model.specs.Links.{node_kind}
-use Rattle.dict_model.specs.Nodes.{largest_value, shard_of, bucket_of, key_in}
+use Rattle.dict_model.specs.Nodes.{largest_value, shard_of, bucket_of}
 use Rattle.dict_model.specs.Requests.{with_key}
 use Rattle.dict_model.specs.Shards.{Map, LeadsTo, IsPath, but, link_behind}
-use Rattle.dict_model.proofs.ChainLemmas.{behind_is, not_of, in_path}
+use Rattle.dict_model.proofs.ChainLemmas.{in_path}
 use Rattle.dict_model.proofs.SpliceLemmas.{one_holder, first_in}
 use Rattle.dict_seat.specs.declared.walk.Place.{Place}
 use Rattle.dict_seat.specs.Maps.{IsMapIn, Gives}
-use Rattle.dict_seat.specs.Reached.{MayReach, ReachesOnlyHeld}
-use Rattle.dict_seat.specs.Trails.{pointer_to, IsSettled, IsSettling, Trail, HasCome}
+use Rattle.dict_seat.specs.Reached.{MayReach, ReachesOnlyHeld, Reaches, ReachesAllHeld}
+use Rattle.dict_seat.specs.Trails.{pointer_to, IsSettled, IsSettling, HasCome}
 use Rattle.dict_seat.specs.Quiet.{Grown}
 use Rattle.dict_seat.specs.Nodes.{MakesNode}
 use Rattle.dict_seat.specs.Changes.{MayChange, Changes, IsTaken}
 use Rattle.dict_seat.specs.Removal.{IsShard}
 use Rattle.dict_seat.proofs.GrownLemmas.{are_placed, grown_keeps, grown_then, gives_grown, only_grown}
-use Rattle.dict_seat.proofs.TrailLemmas.{now_image, settled_stays, come_stays, first_own, bucket_own, bucket_below, trail_more}
+use Rattle.dict_seat.proofs.TrailLemmas.{now_image, settled_stays, come_stays, first_own, bucket_own, bucket_below, trail_more, leads_held}
 use Rattle.dict_seat.proofs.MapPublishLemmas.{trail_held}
 use Rattle.dict_seat.proofs.ComeLemmas.{followed_leads, own_link_followed, begins_chain, link_behind_roots, last_not_table, trail_kept}
 use Rattle.dict_seat.proofs.PublishLemmas.{reached_after}
 use Rattle.dict_seat.proofs.PutLemmas.{put_left, put_done, old_key, publish, new_block_outside}
+use Rattle.dict_seat.proofs.ExactLemmas.{SeesLink, target_sees, come_sees, node_link, sees_grown, sees_after, sees_freed}
+use Rattle.dict_seat.proofs.ExactCallLemmas.{come_kept, one_kind, leads_to_node, next_value, not_root}
 use Rattle.dict_seat.proofs.ChangeLemmas.{change_after, changes_after, freed}
 use Rattle.dict_seat.proofs.DeleteLemmas.{shard_below, node_held, node_reached, come_to, link_kind, link_holds, node_word_own, key_in_node, outside}
 use Rattle.dict_seat.proofs.UnreachedLemmas.{replaced}
@@ -182,3 +184,43 @@ module _ (v t u w : View) (seat_t : IsSeat t) (seat : IsSeat u) (key next x : �
         let both = freed (shard_of key) (λ map. with_key map key value) u w y place.node node_kind (shard_below key) seat_w come_w.owned old_still done_here left_here.only left_here.others
         old_reached unreached freeing in
         (changes_after (shard_of key) (λ map. with_key map key value) v u y grown_all both.0, change_after (shard_of key) (λ map. with_key map key value) v u y grown_all seat shard.only both.1)
+
+    -- all that is held is reached still, the new node in the old one's place
+    pub all_over : (y : View) → MayFree place.node w y → (Contains y.held place.node → ⊥) → ReachesAllHeld v → ReachesAllHeld y
+    all_over y freeing gone all = record { only = (over_freed y freeing).1.only; all = reached } where
+      n_reached : Reaches w (shard_of key) n node_kind
+      n_reached = target_sees w (shard_of key) (word_of place.link) x n
+          (subst (λ q. SeesLink w (shard_of key) q) (sym taken.at_is)
+          (come_sees w key taken.table taken.before seat_w (come_kept u w key (word_of place.link) x taken.table taken.before shard.map seat gives_u before_come taken.at_is may)))
+          settled.seen (subst (λ q. LeadsTo (Contains w.held) q n) (sym points) (leads_held w n seat_w (subst (λ (bs : List Block). Contains bs n) (sym may.held) makes.held)))
+
+      n_next : w.volatile n.first_word ≡ Some next
+      n_next =
+          let room = makes.room in
+          let zero_more : n.first_word + 0 ≡ n.first_word = omega arith in
+          let inside : IsIn n (n.first_word + 0) = record { from = omega arith; until = omega arith } in
+          subst (λ q. w.volatile q ≡ Some next) zero_more
+          (kept (n.first_word + 0) next (in_block n (n.first_word + 0) makes.held inside) (n_outside (n.first_word + 0) inside) makes.written.next_is).seen
+
+      past : (root : ℕ) (c : Block) (k : ℕ) → Reaches u root c k → Reaches w root c k ⊎ (c ≡ place.node)
+      past = sees_after u w seat (shard_of key) (word_of place.link) x (pointer_to place.node) (shard_below key) may only_u (link_kind u seat key place next taken shard.map gives_u)
+          (publish t u seat grown_u only_t key next value n makes.held makes.new makes.room short small makes.written next_leads
+          w only_u taken.table taken.before (place.node ∷ []) taken.come before_come (word_of place.link) x (pointer_to place.node) taken.at_is holds may points own_t table_t taken.next_is first_word_own)
+          holds (not_root u w seat seat_w key place next taken shard.map gives_u only_u) (λ d. d ≡ place.node)
+          (λ d leads. inl (leads_to_node u w seat seat_w key place next taken shard.map gives_u only_u d leads))
+          (λ a d read same seen leads.
+          inr (target_sees w (shard_of key) n.first_word next d (node_link w (shard_of key) n seat_w n_reached) n_next
+          (subst (λ q. LeadsTo (Contains w.held) q d) (next_value u w seat seat_w key place next taken shard.map gives_u only_u a read same seen)
+          (subst (λ (bs : List Block). Contains bs d) (sym may.held) leads.0, leads.1))))
+          (one_kind u w seat seat_w key place next taken shard.map gives_u only_u)
+
+      reached : (c : Block) → Contains y.held c → (root : ℕ) × (kind : ℕ) × Reaches y root c kind
+      reached c h = elim (makes.only c (subst (λ (bs : List Block). Contains bs c) may.held (freeing.only c h))) as (λ _. (root : ℕ) × (kind : ℕ) × Reaches y root c kind) [
+        | inl same ↦ (shard_of key, node_kind, sees_freed w y place.node seat_w freeing old_still unreached (shard_of key) c node_kind (subst (λ (d : Block). Reaches w (shard_of key) d node_kind) (sym same) n_reached))
+        | inr was ↦
+            let r = all.all c (subst (λ (bs : List Block). Contains bs c) keeps.held was) in
+            elim (past r.0 c r.1 (sees_grown v u grown_all r.0 c r.1 r.2)) as (λ _. (root : ℕ) × (kind : ℕ) × Reaches y root c kind) [
+              | inl on ↦ (r.0, r.1, sees_freed w y place.node seat_w freeing old_still unreached r.0 c r.1 on)
+              | inr same ↦ absurd (gone (subst (Contains y.held) same h))
+            ]
+      ]

@@ -1,5 +1,5 @@
 -- Making a table: its size, and what publishing it at the root leaves.
-use Rattle.std.proofs.Common.{◌≡◌, ℕ, ◌+◌, ◌*◌, ◌<◌, ◌≤◌, ◌⊎◌, ◌||◌, inl, inr, List, Bool, true, nat_eq, nat_le, None, Contains, refl, subst, sym, ◌∙◌, arith}
+use Rattle.std.proofs.Common.{◌≡◌, ℕ, ◌+◌, ◌*◌, ◌<◌, ◌≤◌, ◌⊎◌, ◌||◌, inl, inr, List, Bool, true, nat_eq, nat_le, None, Contains, refl, subst, sym, ◌∙◌, arith, Some}
 use Rattle.std.proofs.lemmas.Bool.{cases_eq, or_cases, leb-true, eqb-true}
 use Rattle.heap_model.specs.declared.block.Block.{Block}
 use Rattle.heap_model.specs.Image.{Image}
@@ -17,14 +17,17 @@ use Rattle.dict_model.specs.Shards.{Map, LeadsTo, IsMap}
 use Rattle.dict_model.proofs.MapLemmas.{table_made}
 use Rattle.dict_model.proofs.SpliceLemmas.{held_once}
 use Rattle.dict_seat.specs.Maps.{IsMapIn, Gives}
-use Rattle.dict_seat.specs.Reached.{MayReach, ReachesOnlyHeld}
+use Rattle.dict_seat.specs.Reached.{MayReach, ReachesOnlyHeld, Reaches, ReachesAllHeld}
 use Rattle.dict_seat.specs.Trails.{pointer_to, IsSettled}
 use Rattle.dict_seat.specs.Quiet.{Grown}
 use Rattle.dict_seat.specs.Changes.{MayChange}
 use Rattle.dict_seat.specs.Puts.{IsMissing}
-use Rattle.dict_seat.proofs.GrownLemmas.{are_placed, gives_grown, only_grown, others_grown, reached_before, reached_held, link_inside}
+use Rattle.dict_seat.proofs.GrownLemmas.{are_placed, gives_grown, only_grown, others_grown, reached_before, reached_held, link_inside, link_own}
 use Rattle.dict_seat.proofs.PublishLemmas.{IsLinkOf, is_root, MayPublish, new, IsFresh, only_after, others_after, others_then, reached_after}
 use Rattle.dict_seat.proofs.TrailLemmas.{settled_in, settled_stays, leads_held, same_map}
+use Rattle.heap_model.proofs.ReachLemmas.{closure_included, not_null}
+use Rattle.dict_seat.proofs.ExactLemmas.{root_sees, sees_held, sees_grown}
+use Rattle.dict_seat.proofs.DeleteLemmas.{seen_value}
 use Rattle.dict_seat.proofs.PutLemmas.{one_reading}
 
 module _ (v u w : View) (seat : IsSeat u) (seat_w : IsSeat w) (grown : Grown v u) (only_v : ReachesOnlyHeld v) (shard x : ℕ) (table : Block) (small : shard < shards) (owned : Contains v.roots shard)
@@ -92,6 +95,46 @@ module _ (v u w : View) (seat : IsSeat u) (seat_w : IsSeat w) (grown : Grown v u
     others = others_then shard v u w (λ b kind h reached. reached_before v u grown seat only_v shard b kind reached) (others_grown v u grown shard)
         (others_after u w shard (root_word shard) x (root_kind shard) seat small may only_u link publish);
   }
+
+  -- what loads see reached is so still, and the table too
+  pub table_all : u.volatile (root_word shard) ≡ Some 0 → w.volatile (root_word shard) ≡ Some x → ((a : Block) → Contains u.held a → (a ≡ table) ⊎ Contains v.held a) → ReachesAllHeld v → ReachesAllHeld w
+  table_all null seen either all = record { only = (table_left (λ map. map)).only; all = reached } where
+    on_held : (c : Block) → Contains u.held c → Contains w.held c
+    on_held c h = subst (λ (bs : List Block). Contains bs c) (sym may.held) h
+
+    past : (root : ℕ) (c : Block) (k : ℕ) → Reaches u root c k → Reaches w root c k
+    past root = closure_included
+        (λ c k start. record {
+          owned = subst (λ (rs : List ℕ). Contains rs root) (sym may.roots) start.owned;
+          kind_is = start.kind_is;
+          value = start.value;
+          read = (may.others (root_word root) (in_root root (root_word root) start.owned refl) (λ e.
+              let zero : start.value ≡ 0 = seen_value u (root_word shard) start.value 0 (subst (λ q. u.volatile q ≡ Some start.value) e start.read) null in
+              not_null start.value (8 * c.first_word) start.leads.1 zero)).volatile start.value start.read;
+          leads = (on_held c start.leads.0, start.leads.1);
+        })
+        (λ a c from k before l.
+        let a_held = sees_held u root a from before in
+        let behind = (seat.placed a a_held).behind in
+        let low = seat.roots_are shard owned_u in
+        record {
+          position = l.position;
+          is_link = l.is_link;
+          value = l.value;
+          read = (may.others (a.first_word + l.position) (link_own u a from l.position k a_held l.is_link) (λ e. omega arith)).volatile l.value l.read;
+          leads = (on_held c l.leads.0, l.leads.1);
+        })
+
+    reached : (c : Block) → Contains w.held c → (root : ℕ) × (kind : ℕ) × Reaches w root c kind
+    reached c h = elim (either c (subst (λ (bs : List Block). Contains bs c) may.held h)) as (λ _. (root : ℕ) × (kind : ℕ) × Reaches w root c kind) [
+      | inl same ↦ (
+        shard,
+        root_kind shard,
+        root_sees w shard c (root_kind shard) x (subst (λ (rs : List ℕ). Contains rs shard) (sym may.roots) owned_u) refl seen
+            (subst (λ (d : Block). LeadsTo (Contains w.held) x d) (sym same) (subst (λ q. LeadsTo (Contains w.held) q table) (sym points) (leads_held w table seat_w (on_held table held)))),
+      )
+      | inr was ↦ let r = all.all c was in (r.0, r.1, past r.0 c r.1 (sees_grown v u grown r.0 c r.1 r.2))
+    ]
 
 -- the table has no key
 pub table_missing : (v w : View) (key x : ℕ) (table : Block) → IsSeat w → Contains w.roots (shard_of key) → Contains w.held table → table.words ≡ buckets → x ≡ pointer_to table

@@ -63,6 +63,7 @@ pub record MakesNode (b : Block) (key next : ℕ) (value : List ℕ) (v w : View
   pub runs : Runs v w
   pub new : Contains v.held b → ⊥
   pub held : Contains w.held b
+  pub only : (a : Block) → Contains w.held a → (a ≡ b) ⊎ Contains v.held a
   pub room : 3 + value_words (length value) ≤ b.words
   pub settles : Settles v w
   pub written : IsWritten (IsSettled w) b key next value

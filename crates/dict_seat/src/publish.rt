@@ -9,6 +9,7 @@ ghost use Rattle.dict_model.specs.Nodes.{largest_value, shard_of, value_words, n
 ghost use Rattle.dict_model.specs.Requests.{with_key};
 ghost use Rattle.dict_model.specs.Shards.{Map};
 ghost use Rattle.dict_seat.specs.Changes.{MayChange, Changes};
+ghost use Rattle.dict_seat.specs.Reached.{ReachesAllHeld};
 ghost use Rattle.dict_seat.specs.Removal.{IsShard};
 ghost use Rattle.dict_seat.specs.Walks.{IsFound};
 ghost use Rattle.dict_seat.specs.Puts.{IsMissing, PutFails};
@@ -34,6 +35,8 @@ pub(crate) fn put_first<H: HeapSeat>(
     ensures ok { OnOk result (Changes (shard_of key) (λ map. with_key map key value.now)
         (H.view seat.old) (H.view seat.new)) }
     ensures runs { OnOk result (Runs (H.view seat.old) (H.view seat.new)) }
+    ensures exact { OnOk result (ReachesAllHeld (H.view seat.old)
+        → ReachesAllHeld (H.view seat.new)) }
     ensures cause { IfErr result (λ fault. PutFails H.reads (node_bytes (length value.now)) fault
         (H.view seat.old) (H.view seat.new)) }
     ensures crash { MayChange (shard_of key) (λ map. with_key map key value.now)
@@ -62,6 +65,8 @@ pub(crate) fn put_over<H: HeapSeat>(
     ensures ok { OnOk result (Changes (shard_of key) (λ map. with_key map key value.now)
         (H.view seat.old) (H.view seat.new)) }
     ensures runs { OnOk result (Runs (H.view seat.old) (H.view seat.new)) }
+    ensures exact { OnOk result (ReachesAllHeld (H.view seat.old)
+        → ReachesAllHeld (H.view seat.new)) }
     ensures cause { IfErr result (λ fault. PutFails H.reads (node_bytes (length value.now)) fault
         (H.view seat.old) (H.view seat.new)) }
     ensures crash { MayChange (shard_of key) (λ map. with_key map key value.now)

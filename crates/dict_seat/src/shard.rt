@@ -82,6 +82,8 @@ impl Shard {
         ensures ok { OnOk result (Changes (shard_of key) (λ map. with_key map key value.now)
             (H.view seat.old) (H.view seat.new)) }
         ensures runs { OnOk result (Runs (H.view seat.old) (H.view seat.new)) }
+        ensures exact { OnOk result (ReachesAllHeld (H.view seat.old)
+            → ReachesAllHeld (H.view seat.new)) }
         ensures taken { OnOk result (PutTakes (node_bytes (length value.now)) (shard_of key)
             (H.view seat.old) (H.view seat.new)) }
         ensures cause { IfErr result (λ fault. PutAnswers H.reads (node_bytes (length value.now))

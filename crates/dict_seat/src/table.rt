@@ -8,6 +8,7 @@ ghost use Rattle.heap_seat.specs.Rows.{IsRow};
 ghost use Rattle.dict_model.specs.Nodes.{buckets, table_bytes, shard_of};
 ghost use Rattle.dict_model.specs.Shards.{Map};
 ghost use Rattle.dict_seat.specs.Changes.{MayChange};
+ghost use Rattle.dict_seat.specs.Reached.{ReachesAllHeld};
 ghost use Rattle.dict_seat.specs.Removal.{IsShard};
 ghost use Rattle.dict_seat.specs.Searches.{HasNoRoot};
 ghost use Rattle.dict_seat.specs.Puts.{PutFails};
@@ -43,6 +44,8 @@ pub(crate) fn make_table<H: HeapSeat>(seat: &mut H, key: u64) -> Result<Block, A
     requires none { HasNoRoot (shard_of key) (H.view seat.old) (H.view seat.old) }
     ensures ok { IfOk result (λ table. MakesTable key table
         (H.view seat.old) (H.view seat.new)) }
+    ensures exact { OnOk result (ReachesAllHeld (H.view seat.old)
+        → ReachesAllHeld (H.view seat.new)) }
     ensures cause { IfErr result (λ fault. PutFails H.reads table_bytes fault
         (H.view seat.old) (H.view seat.new)) }
     ensures crash { (after : Map → Map) → MayChange (shard_of key) after

@@ -10,7 +10,7 @@ use Rattle.dict_seat.specs.Quiet.{Follows}
 use Rattle.dict_seat.specs.Trails.{IsSettled}
 use Rattle.dict_seat.proofs.GrownLemmas.{grown_keeps, grown_then}
 use Rattle.dict_seat.proofs.ChangeLemmas.{change_none}
-use Rattle.dict_seat.proofs.FirstLemmas.{put_fails, first_left, first_done}
+use Rattle.dict_seat.proofs.FirstLemmas.{put_fails, first_left, first_done, all_first}
 use Rattle.dict_seat.proofs.TrailLemmas.{bucket_below}
 use Rattle.dict_seat.proofs.publish.put_first.Goals as goal
 
@@ -125,3 +125,19 @@ returns-clause-calls g c =
     let a = row_then 2 0 0 (2 * n + 7) 1 most v t u c.follow.ensures.quiet.calls c.make_node.ensures.calls in
     row_more (2 + (2 * n + 7) + 3) (0 + 1 + 0) (0 + most + 0) (2 * n + 12) 1 most v w (omega arith) (omega arith) (omega arith)
     (row_then (2 + (2 * n + 7)) (0 + 1) (0 + most) 3 0 0 v u w a c.persist.ensures.calls)
+
+pub returns-clause-exact : goal.returns-clause-exact
+returns-clause-exact g c =
+    let view = g.H.HeapSeat.view in
+    let v = view c.args.seat.now in
+    let t = view c.follow.new.seat in
+    let u = view c.make_node.new.seat in
+    let w = view c.persist.new.heap in
+    let bucket = c.bucket_of.ensures in
+    let follows = subst (λ (k : ℕ). Follows (c.args.table.first_word + k) c.in_ok-first.first v t) bucket c.in_ok-first.ensures.ok in
+    let may = subst (λ (k : ℕ). MayStore (c.args.table.first_word + k) c.encode.result u w) bucket c.persist.ensures.crash in
+    let settled : IsSettled w (c.args.table.first_word + bucket_of c.args.key) c.encode.result =
+    subst (λ (k : ℕ). IsSettled w (c.args.table.first_word + k) c.encode.result) bucket (record { seen = c.in_ok-persist.ensures.ok; left = c.in_ok-persist.ensures.durable }) in
+    all_first v t u w (g.met.H.HeapSeat.seat c.follow.new.seat) (g.met.H.HeapSeat.seat c.make_node.new.seat) c.args.key c.in_ok-first.first c.encode.result c.args.value.now c.args.table c.in_ok-node.node
+    c.requires.shard c.requires.missing (g.met.H.HeapSeat.seat c.args.seat.now) c.follow.ensures.quiet.unchanged follows c.make_node.ensures.grown c.in_ok-node.ensures.ok c.requires.short (λ k less. omega (arith, c.type_inv.value k))
+    c.encode.ensures.tagged may (g.met.H.HeapSeat.seat c.persist.new.heap) settled

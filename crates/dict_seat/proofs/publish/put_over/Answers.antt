@@ -10,7 +10,7 @@ use Rattle.dict_seat.proofs.GrownLemmas.{grown_keeps, grown_then}
 use Rattle.dict_seat.proofs.TrailLemmas.{settles}
 use Rattle.dict_seat.proofs.ChangeLemmas.{change_none}
 use Rattle.dict_seat.proofs.FirstLemmas.{put_fails}
-use Rattle.dict_seat.proofs.OverLemmas.{taken_made, over_left, old_still, over_freed}
+use Rattle.dict_seat.proofs.OverLemmas.{taken_made, over_left, old_still, over_freed, all_over}
 use Rattle.dict_seat.proofs.publish.put_over.Goals as goal
 
 pub returns-in_err-next-clause-crash : goal.returns-in_err-next-clause-crash
@@ -192,3 +192,20 @@ returns-clause-kept g c =
     row c.args.seat.now c.persist.new.heap c.free.new.self
     (row c.args.seat.now c.make_node.new.seat c.persist.new.heap (row c.args.seat.now c.take.new.seat c.make_node.new.seat c.take.ensures.kept c.make_node.ensures.kept) c.persist.ensures.kept)
     c.free.ensures.kept
+
+pub returns-clause-exact : goal.returns-clause-exact
+returns-clause-exact g c =
+    let view = g.H.HeapSeat.view in
+    let v = view c.args.seat.now in
+    let t = view c.take.new.seat in
+    let u = view c.make_node.new.seat in
+    let w = view c.persist.new.heap in
+    let y = view c.free.new.self in
+    let seat_t = g.met.H.HeapSeat.seat c.take.new.seat in
+    let makes = c.in_ok-node.ensures.ok in
+    let made = taken_made t u c.args.key c.in_ok-next.next c.args.place seat_t c.make_node.ensures.grown
+    (λ word y own settling. settles t u word y own (c.make_node.ensures.grown.words word own) makes.settles settling) c.in_ok-next.ensures.ok.taken in
+    let settled : IsSettled w (word_of c.args.place.link) c.encode.result = record { seen = c.in_ok-persist.ensures.ok; left = c.in_ok-persist.ensures.durable } in
+    all_over v t u w seat_t (g.met.H.HeapSeat.seat c.make_node.new.seat) c.args.key c.in_ok-next.next c.encode.result c.args.value.now c.args.place c.in_ok-node.node c.requires.shard
+    c.take.ensures.quiet.unchanged made.0 made.1 made.2 made.3 c.make_node.ensures.grown makes c.requires.short (λ k less. omega (arith, c.type_inv.value k)) c.encode.ensures.tagged c.persist.ensures.crash
+    (g.met.H.HeapSeat.seat c.persist.new.heap) settled y c.free.ensures.others c.in_ok-free.ensures.ok.gone

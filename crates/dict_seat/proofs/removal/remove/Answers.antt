@@ -104,7 +104,7 @@ returns-clause-exact g c =
     let seat = g.met.H.HeapSeat.seat c.fence.new.self in
     let seat_w = g.met.H.HeapSeat.seat c.persist.new.heap in
     let taken = taken_settled t u c.args.key c.in_ok-next.next c.args.place (g.met.H.HeapSeat.seat c.take.new.seat) c.fence.ensures.unchanged
-      (record { each = c.in_ok-fence.ensures.ok.durable }) c.in_ok-next.ensures.ok.taken in
+    (record { each = c.in_ok-fence.ensures.ok.durable }) c.in_ok-next.ensures.ok.taken in
     let keeps = keeps_own_then v t u c.take.ensures.quiet.unchanged c.fence.ensures.unchanged in
     let grown = grown_keeps v u keeps in
     let settled : IsSettled w (word_of c.args.place.link) c.in_ok-next.next = record { seen = c.in_ok-persist.ensures.ok; left = c.in_ok-persist.ensures.durable } in

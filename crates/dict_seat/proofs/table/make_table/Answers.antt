@@ -1,7 +1,7 @@
-use Rattle.std.proofs.Common.{ℕ, ◌+◌, ◌<◌, List, Contains, inl, inr, subst, sym, ◌∙◌, arith}
+use Rattle.std.proofs.Common.{◌≡◌, ℕ, ◌+◌, ◌<◌, List, Contains, inl, inr, refl, Some, subst, sym, ◌∙◌, arith}
 use Rattle.heap_model.specs.declared.block.Block.{Block}
 use Rattle.heap_model.specs.Geometry.{root_word}
-use Rattle.heap_seat.specs.Words.{IsOwn, in_block, MayStore}
+use Rattle.heap_seat.specs.Words.{IsOwn, in_block, in_root, MayStore}
 use Rattle.heap_seat.specs.Tickets.{Runs}
 use Rattle.heap_seat.proofs.RowLemmas.{row_then, row_small, runs_then, same_refusals_then}
 use Rattle.dict_model.specs.Nodes.{shard_of}
@@ -11,7 +11,7 @@ use Rattle.dict_seat.proofs.TrailLemmas.{settles}
 use Rattle.dict_seat.proofs.ChangeLemmas.{change_none}
 use Rattle.dict_seat.proofs.MakeLemmas.{grown_within, refusals_within, made_row}
 use Rattle.dict_seat.proofs.DeleteLemmas.{shard_below}
-use Rattle.dict_seat.proofs.TableLemmas.{table_size, table_left, table_gives, table_reached, table_missing}
+use Rattle.dict_seat.proofs.TableLemmas.{table_size, table_left, table_gives, table_reached, table_all, table_missing}
 use Rattle.dict_seat.proofs.table.make_table.Goals as goal
 
 pub returns-in_err-table-clause-crash : goal.returns-in_err-table-clause-crash
@@ -180,3 +180,28 @@ returns-clause-ok g c =
           (same_refusals_then v t s (refusals_within 1024 table v u t (g.met.H.HeapSeat.seat c.alloc.new.self) c.in_ok-table.ensures.ok 256 c.clear.ensures.within) c.fence.ensures.counted.refusals)
           c.persist.ensures.refusals;
     }
+
+pub returns-clause-exact : goal.returns-clause-exact
+returns-clause-exact g c =
+    let view = g.H.HeapSeat.view in
+    let v = view c.args.seat.now in
+    let u = view c.alloc.new.self in
+    let shard = shard_of c.args.key in
+    let t = view c.clear.new.seat in
+    let grown_t = grown_within 1024 c.in_ok-table.table v u t (g.met.H.HeapSeat.seat c.alloc.new.self) c.in_ok-table.ensures.ok 256 c.clear.ensures.within in
+    let s = view c.fence.new.self in
+    let grown_s = grown_then v t s grown_t (grown_keeps t s c.fence.ensures.unchanged) in
+    let w = view c.persist.new.heap in
+    let table = c.in_ok-table.table in
+    let size = table_size table.words c.in_ok-table.ensures.ok.size in
+    let held_t : Contains t.held table = subst (λ (bs : List Block). Contains bs table) (sym c.clear.ensures.within.held) c.in_ok-table.ensures.ok.blocks.has in
+    let held_s : Contains s.held table = subst (λ (bs : List Block). Contains bs table) (sym c.fence.ensures.unchanged.held) held_t in
+    let nulls : (i : ℕ) → i < 128 → IsSettled s (table.first_word + i) 0 = λ i below.
+    let own : IsOwn t.held t.roots (table.first_word + i) = in_block table (table.first_word + i) held_t (record { from = omega arith; until = omega arith }) in
+    settles t s (table.first_word + i) 0 own (c.fence.ensures.unchanged.words (table.first_word + i) own) (record { each = c.in_ok-fence.ensures.ok.durable }) (c.in_ok-clear.ensures.ok.nulls i below) in
+    let may = subst (λ (i : ℕ). MayStore (root_word i) c.encode.result s w) c.shard_of.ensures c.persist.ensures.crash in
+    let null = (grown_s.words (root_word shard) (in_root shard (root_word shard) c.requires.shard.owned refl)).volatile 0 c.requires.none.root.seen in
+    let seen = subst (λ (i : ℕ). w.volatile (root_word i) ≡ Some c.encode.result) c.shard_of.ensures c.in_ok-persist.ensures.ok in
+    table_all v s w (g.met.H.HeapSeat.seat c.fence.new.self) (g.met.H.HeapSeat.seat c.persist.new.heap) grown_s c.requires.shard.only shard c.encode.result table (shard_below c.args.key) c.requires.shard.owned
+    held_s c.in_ok-table.ensures.ok.blocks.new size nulls c.encode.ensures.tagged may c.requires.none.empty null seen
+    (λ a h. c.in_ok-table.ensures.ok.blocks.only a (subst (λ (bs : List Block). Contains bs a) c.clear.ensures.within.held (subst (λ (bs : List Block). Contains bs a) c.fence.ensures.unchanged.held h)))

@@ -9,6 +9,7 @@ use Rattle.dict_seat.specs.declared.search.SearchEnd.{SearchEnd}
 use Rattle.dict_seat.specs.Searches.{Searches}
 use Rattle.dict_seat.specs.Puts.{PutFails, PutAnswers, for_node, for_both}
 use Rattle.dict_seat.proofs.GrownLemmas.{grown_keeps, gives_grown}
+use Rattle.dict_seat.proofs.ExactCallLemmas.{all_quiet}
 use Rattle.dict_seat.proofs.TrailLemmas.{same_map}
 use Rattle.dict_seat.proofs.ChangeLemmas.{change_none, change_after, changes_after}
 use Rattle.dict_seat.proofs.DelLemmas.{shard_still, few_calls}
@@ -217,6 +218,36 @@ returns-in-Missing-clause-crash g c =
     let seat = g.met.H.HeapSeat.seat c.search.new.seat in
     let w = view c.put_first.new.seat in
     change_after (shard_of c.args.key) (λ map. with_key map c.args.key c.args.value.now) v u w grown seat c.requires.shard.only c.put_first.ensures.crash
+
+pub returns-in-Found-clause-exact : goal.returns-in-Found-clause-exact
+returns-in-Found-clause-exact g c =
+    let view = g.H.HeapSeat.view in
+    let v = view c.args.seat.now in
+    let u = view c.search.new.seat in
+    let keeps = c.search.ensures.quiet.quiet.unchanged in
+    let grown = grown_keeps v u keeps in
+    let seat = g.met.H.HeapSeat.seat c.search.new.seat in
+    on_ok_weaker c.put_over.result (λ exact all. exact (all_quiet v u seat keeps all)) c.put_over.ensures.exact
+
+pub returns-in-Missing-clause-exact : goal.returns-in-Missing-clause-exact
+returns-in-Missing-clause-exact g c =
+    let view = g.H.HeapSeat.view in
+    let v = view c.args.seat.now in
+    let u = view c.search.new.seat in
+    let keeps = c.search.ensures.quiet.quiet.unchanged in
+    let grown = grown_keeps v u keeps in
+    let seat = g.met.H.HeapSeat.seat c.search.new.seat in
+    on_ok_weaker c.put_first.result (λ exact all. exact (all_quiet v u seat keeps all)) c.put_first.ensures.exact
+
+pub returns-in_ok-table-in-NoTable-clause-exact : goal.returns-in_ok-table-in-NoTable-clause-exact
+returns-in_ok-table-in-NoTable-clause-exact g c =
+    let view = g.H.HeapSeat.view in
+    let v = view c.args.seat.now in
+    let u = view c.search.new.seat in
+    let keeps = c.search.ensures.quiet.quiet.unchanged in
+    let grown = grown_keeps v u keeps in
+    let seat = g.met.H.HeapSeat.seat c.search.new.seat in
+    on_ok_weaker c.put_first-in-NoTable.result (λ exact all. exact (c.in_ok-table-in-NoTable.ensures.exact (all_quiet v u seat keeps all))) c.put_first-in-NoTable.ensures.exact
 
 pub returns-in_ok-table-in-NoTable-clause-ok : goal.returns-in_ok-table-in-NoTable-clause-ok
 returns-in_ok-table-in-NoTable-clause-ok g c =
