@@ -1,5 +1,6 @@
 -- Heads, anchors and links change nothing else of an image.
-use Rattle.std.proofs.Common.{◌≡◌, ℕ, zero, suc, ◌+◌, ◌-◌, ◌*◌, ◌<◌, ◌≤◌, inl, inr, ◌⊎◌, nat_lt, List, [], ◌∷◌, ◌++◌, length, slice_index, get_or, set, take, drop, refl, ap, sym, subst, ◌∙◌, length-set, length-take, length-drop, get_or-take, get_or-drop, lt-ltb, arith}
+use Rattle.std.proofs.Math.ListN.{get_or-eq_default}
+use Rattle.std.proofs.Common.{◌≡◌, ℕ, ◌+◌, ◌-◌, ◌*◌, ◌<◌, ◌≤◌, inl, inr, ◌⊎◌, nat_lt, List, [], ◌++◌, length, slice_index, get_or, set, take, drop, refl, ap, sym, subst, ◌∙◌, length-set, length-take, length-drop, get_or-take, get_or-drop, lt-ltb, arith}
 use Rattle.std.proofs.lemmas.Bool.{cases_lt}
 use Rattle.std.proofs.lemmas.List.{get_or-set_same, get_or-set_other}
 use Rattle.heap_model.specs.Geometry.{image_words}
@@ -29,11 +30,6 @@ copied c n table base items none same long is = (
   plain : items ≡ take (2 * n - n) (drop n table)
   plain = is ∙ ap (λ xs. xs ++ take (2 * n - n) (drop n table)) none
 
-beyond : (xs : List ℕ) (i : ℕ) → length xs ≤ i → get_or xs i 0 ≡ 0
-beyond [] i past = refl
-beyond (x ∷ xs) zero past = absurd (omega arith)
-beyond (x ∷ xs) (suc i) past = beyond xs i (omega arith)
-
 -- the state word is no head, anchor or link
 state_stays : (capacity : ℕ) → IsTransient capacity 3 → ⊥
 state_stays capacity (is_head list word less same) = omega (arith, same)
@@ -50,4 +46,4 @@ crash_left c table items heads final long same capacity first second = record {
 } where
   by_place : (word : ℕ) → (word < image_words c) ⊎ (image_words c ≤ word) → get_or items word 0 ≡ durable_image c table word
   by_place word (inl inside) = same word inside ∙ sym (pick (nat_lt word (image_words c)) _ _ (lt-ltb word (image_words c) inside))
-  by_place word (inr past) = beyond items word (omega arith) ∙ sym (skip (nat_lt word (image_words c)) _ _ (not-lt word (image_words c) past))
+  by_place word (inr past) = get_or-eq_default items 0 {n = word} (omega arith) ∙ sym (skip (nat_lt word (image_words c)) _ _ (not-lt word (image_words c) past))

@@ -1,5 +1,5 @@
 -- The batch goes back to its superblock.
-use Rattle.std.proofs.Common.{◌≡◌, ◌≢◌, ℕ, zero, suc, ◌+◌, ◌-◌, ◌*◌, ◌/◌, ◌<◌, ◌≤◌, max, inl, inr, Bool, true, false, cond, ◌&&◌, nat_eq, nat_lt, List, [], ◌∷◌, ◌++◌, get_or, set, length, None, refl, ap, ap₂, sym, subst, ◌∙◌, eq-eqb, ne_eqb, mul-div_cancel, arith}
+use Rattle.std.proofs.Common.{◌≡◌, ◌≢◌, ℕ, zero, suc, ◌+◌, ◌-◌, ◌*◌, ◌/◌, ◌<◌, ◌≤◌, max, inl, inr, Bool, true, false, cond, ◌&&◌, nat_eq, nat_lt, List, [], ◌∷◌, ◌++◌, get_or, set, length, None, refl, ap, ap₂, sym, subst, ◌∙◌, eq-eqb, ne_eqb, mul-div_cancel, length-append, arith}
 use Rattle.std.proofs.lemmas.Bool.{cases_eq, cases_lt}
 use Rattle.heap_model.specs.Geometry.{start_word}
 use Rattle.heap_model.specs.Sizes.{IsClass, words_of_class, blocks_of}
@@ -20,7 +20,7 @@ use Rattle.crash_core.proofs.OwnLemmas.{one_at_most, won_tickets, length_only}
 use Rattle.crash_core.proofs.QuietLemmas.{not_there}
 use Rattle.crash_core.proofs.CountLemmas.{all_home}
 use Rattle.crash_core.proofs.ListLemmas.{class_of}
-use Rattle.crash_core.proofs.BlockLemmas.{superblock_is, walks_append, after_last, length_append, count_length, parts_of, at_one, at_other}
+use Rattle.crash_core.proofs.BlockLemmas.{superblock_is, walks_append, after_last, count_length, parts_of, at_one, at_other, first_there}
 use Rattle.crash_core.proofs.AnchorLemmas as on_anchor
 
 module _ (k : Setup) (m : Memory) (views : List View) (i : ℕ) (v : View) (below_i : i < length views) (at : get_or views i v ≡ v) (good : Good k m views)
@@ -49,10 +49,6 @@ module _ (k : Setup) (m : Memory) (views : List View) (i : ℕ) (v : View) (belo
   some_length : 0 < length bs
   some_length = let c = count_length bs in let s = may.some in omega arith
 
-  first_there : (xs : List ℕ) → 0 < length xs → 0 < times (first_of xs) xs
-  first_there [] some = absurd (omega arith)
-  first_there (b ∷ xs) some = let one = eq-eqb-one b b refl in omega arith
-
   -- each block of the batch is of the superblock
   out : (b : ℕ) → 0 < times b bs → 0 < (tally_of views).blocks b
   out b some = let t = total_at (times_block b) views i v below_i at in omega arith
@@ -62,10 +58,10 @@ module _ (k : Setup) (m : Memory) (views : List View) (i : ℕ) (v : View) (belo
       (ap (λ c. superblock_at c b) (sym cap) ∙ s.0 ∙ may.batch, ap (info m) (sym may.batch) ∙ s.1)
 
   info_is : info m d ≡ class
-  info_is = (of_batch (first_of bs) (first_there bs some_length)).1
+  info_is = (of_batch (first_of bs) (first_there bs may.some)).1
 
   cut_d : 0 < times_cut good.shape (tally_of views) d
-  cut_d = let b = first_of bs in let some = first_there bs some_length in
+  cut_d = let b = first_of bs in let some = first_there bs may.some in
       subst (λ e. 0 < times_cut good.shape (tally_of views) e) (of_batch b some).0 (good.shaped.chained.inside b (out b some)).0
 
   in_batch : (b : ℕ) → 0 < times b bs → IsCutBlock k.capacity class d b
@@ -83,7 +79,7 @@ module _ (k : Setup) (m : Memory) (views : List View) (i : ℕ) (v : View) (belo
 
   -- the new anchor
   first_block : IsCutBlock k.capacity class d (first_of bs)
-  first_block = in_batch (first_of bs) (first_there bs some_length)
+  first_block = in_batch (first_of bs) (first_there bs may.some)
 
   index_is : (first_of bs - start_word v.setup.capacity d) / words_of_class class ≡ first_block.index
   index_is =
@@ -92,7 +88,7 @@ module _ (k : Setup) (m : Memory) (views : List View) (i : ℕ) (v : View) (belo
       ap (λ n. n / words_of_class class) e ∙ mul-div_cancel first_block.index {n = words_of_class class} (omega arith)
 
   count_is : batch_count bs + anchor_count word ≡ length chain'
-  count_is = let a = count_length bs in let b = length_append bs (good.shape.chains d) in let c = anchored.count in let z = ap anchor_count as_seen in omega arith
+  count_is = let a = count_length bs in let b = length-append bs (good.shape.chains d) in let c = anchored.count in let z = ap anchor_count as_seen in omega arith
 
   abbrev state' : ℕ
   state' = cond (nat_eq (batch_count bs + anchor_count word) (blocks_of class)) empty_state partial_state
@@ -144,7 +140,7 @@ module _ (k : Setup) (m : Memory) (views : List View) (i : ℕ) (v : View) (belo
     empty = (λ e. elim (cases_eq (length chain') (blocks_of class)) as (λ _. length chain' ≡ blocks_of class) [ inl all ↦ all | inr some ↦ absurd (let p = state_part some in omega (arith, p, e)) ], state_full);
     full = (
       λ e. absurd (let s = state_x in let z : anchor_state x ≡ anchor_state 2 = ap anchor_state e in two_not z s),
-      λ e. absurd (let a = length_append bs (good.shape.chains d) in let s = some_length in omega arith),
+      λ e. absurd (let a = length-append bs (good.shape.chains d) in let s = some_length in omega arith),
     );
     partial = λ some not_all. state_part not_all;
   } where
@@ -158,7 +154,7 @@ module _ (k : Setup) (m : Memory) (views : List View) (i : ℕ) (v : View) (belo
   -- the anchor was not empty, since the batch was out
   was_not_empty : anchor_state (anchor m d) ≡ empty_state → ⊥
   was_not_empty empty =
-      let c = good.shaped.chained in let b = first_of bs in let some = first_there bs some_length in
+      let c = good.shaped.chained in let b = first_of bs in let some = first_there bs may.some in
       let all = all_home k.capacity class d (good.shape.chains d) is_class (anchored.empty.0 empty)
       (λ y there. subst (λ c. IsCutBlock k.capacity c d y) info_is (c.chained d y cut_d there))
       (λ y is. let o = c.owned d y cut_d (subst (λ c. IsCutBlock k.capacity c d y) (sym info_is) is) in omega arith) b first_block in

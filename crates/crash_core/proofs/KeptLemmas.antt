@@ -1,17 +1,17 @@
 -- Each kind of step keeps memory and seats fitting together, won or lost.
-use Rattle.std.proofs.Common.{◌≡◌, ◌≢◌, ℕ, ◌+◌, ◌<◌, ◌≤◌, inl, inr, Bool, true, false, cond, nat_eq, nat_lt, List, [], ◌∷◌, Option, None, Some, get_or, set, length, refl, ap, sym, subst, ◌∙◌, eq-eqb, ne_eqb, lt-ltb, length-set, arith}
+use Rattle.std.proofs.Common.{◌≡◌, ◌≢◌, ℕ, ◌+◌, ◌<◌, inl, inr, Bool, true, false, cond, nat_eq, nat_lt, List, Option, None, Some, get_or, set, length, refl, ap, sym, subst, ◌∙◌, eq-eqb, ne_eqb, lt-ltb, length-set, arith}
 use Rattle.std.proofs.lemmas.Bool.{cases_eq, cases_lt}
 use Rattle.crash_core.specs.declared.event.Event.{Event}
 use Rattle.crash_core.specs.declared.event.Event.TheVariants.{Tick, Load, Store, Settle, LookUsed, TakeFresh, KeepUsed, LookHead, LookLink, Pop, Push, LookAnchor, TakeAll, Give}
 use Rattle.crash_core.specs.Memory.{Memory, Place, tickets, used, head, anchor, info, read, write}
 use Rattle.crash_core.specs.View.{Setup, View, one_if_some, times_raw, times_classed, times_block}
-use Rattle.crash_core.specs.Effects.{seen, seen_word, seen_of, before, place_of, taken_fresh, lost, drew, stopped, shifted, after_cut, after_alloc, after_free, after_lift, after_large, after_split, popped, popped_head, pushed, pushed_head, taken_all, given, batch_anchor, batch_count, first_of}
+use Rattle.crash_core.specs.Effects.{seen, seen_word, seen_of, before, place_of, taken_fresh, lost, drew, stopped, shifted, after_cut, after_alloc, after_free, after_lift, after_large, after_split, popped, popped_head, pushed, pushed_head, taken_all, given, batch_anchor, first_of}
 use Rattle.heap_model.specs.Words.{head_first, full_anchor}
-use Rattle.heap_model.specs.Counting.{times}
 use Rattle.crash_core.specs.Cells.{cell_at, superblock_at}
 use Rattle.crash_core.specs.declared.event.Shift.{Shift}
 use Rattle.crash_core.specs.declared.event.Shift.TheVariants.{Cut, Alloc, Free, Lift, Large, Split}
 use Rattle.crash_core.specs.Guards.{MayShift, MayStep}
+use Rattle.crash_core.proofs.BlockLemmas.{first_there}
 use Rattle.crash_core.proofs.PlaceLemmas.{not-lt}
 use Rattle.std.proofs.lemmas.List.{get_or-set_same, set-set}
 use Rattle.crash_core.specs.Sound.{tally_of, times_cut, Good}
@@ -30,7 +30,7 @@ use Rattle.crash_core.proofs.ShiftLemmas as shifts
 use Rattle.crash_core.proofs.SpanLemmas as spans
 use Rattle.crash_core.proofs.CutLemmas as cuts
 use Rattle.crash_core.proofs.OwnLemmas.{one_at_most}
-use Rattle.crash_core.proofs.TotalLemmas.{total_at, eq-eqb-one}
+use Rattle.crash_core.proofs.TotalLemmas.{total_at}
 
 -- by whether the word is as it was seen
 exchange : (a b : ℕ) (P : Bool → Type 0) → (a ≡ b → P true) → (a ≢ b → P false) → P (nat_eq a b)
@@ -93,10 +93,6 @@ module _ (k : Setup) (m : Memory) (views : List View) (i : ℕ) (v : View) (belo
       (λ same. give.give k m views i v below at good may.ticket d may.ready same)
       (λ other. reads (place_of v (Give d)) _ (quiet.lost_anchor k m views i v below at good may.ticket may.ready.is_seen
       (subst (λ x. times_raw x v ≡ 0) (sym may.ready.of) not_raw) (λ same. other (ap (anchor m) (sym may.ready.of) ∙ same)))) where
-        first_there : (xs : List ℕ) → 1 ≤ batch_count xs → 0 < times (first_of xs) xs
-        first_there [] some = absurd (omega arith)
-        first_there (b ∷ xs) some = let one = eq-eqb-one b b refl in omega arith
-
         not_raw : times_raw d v ≡ 0
         not_raw = let b = first_of v.batch.blocks in let there = first_there v.batch.blocks may.ready.some in let t = total_at (times_block b) views i v below at in
             let cut = (good.shaped.chained.inside b (omega arith)).0 in let s = good.set_up i v below at in

@@ -9,7 +9,7 @@ use Rattle.heap_model.specs.Words.{large_info}
 use Rattle.heap_model.specs.Counting.{times, total, one_if, below}
 use Rattle.heap_model.specs.Blocks.{Layout, Begins, of_class, as_large}
 use Rattle.heap_model.specs.Chains.{Follows, Walks}
-use Rattle.crash_core.specs.Effects.{steps}
+use Rattle.crash_core.specs.Effects.{steps, first_of}
 use Rattle.crash_core.specs.Opening.{picked}
 use Rattle.crash_core.proofs.TotalLemmas.{eq-eqb-one}
 use Rattle.crash_core.proofs.FrameLemmas.{times_steps}
@@ -67,3 +67,8 @@ empty_at (suc n) (suc class) b = empty_at n class b
 pub member_at : (f : Block → ℕ) (ps : List Block) (p : Block) → Contains ps p → f p ≤ total f ps
 member_at f [] p there = absurd (in_none p there)
 member_at f (q ∷ ps) p there = elim (head_or_rest q p ps there) [ inl same ↦ let e = ap f same in omega arith | inr later ↦ let r = member_at f ps p later in omega arith ]
+
+-- a list without members is walked
+pub no_walk : (next : ℕ → ℕ) (bs : List ℕ) → ((b : ℕ) → times b bs ≡ 0) → Walks next (first_of bs) bs
+no_walk next [] none = tt
+no_walk next (b ∷ bs) none = absurd (let n = none b in let one = eq-eqb-one b b refl in omega arith)

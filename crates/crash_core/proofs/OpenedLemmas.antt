@@ -8,7 +8,7 @@ use Rattle.heap_model.specs.Sizes.{IsClass, words_of_class, blocks_of}
 use Rattle.heap_model.specs.Words.{head_first, head_pops, anchor_state, anchor_first, empty_state, partial_state, full_state, full_anchor, large_info}
 use Rattle.heap_model.specs.Counting.{times, total, one_if, below}
 use Rattle.heap_model.specs.Blocks.{layout_of}
-use Rattle.heap_model.specs.Chains.{Follows, Walks}
+use Rattle.heap_model.specs.Chains.{Follows}
 use Rattle.heap_model.specs.Rest.{list_numbers, large_part, IsAnchored, IsReady}
 use Rattle.heap_model.proofs.SizeLemmas.{few_words, two_words}
 use Rattle.heap_model.proofs.CountingLemmas.{times_some, one_if_true, one_if_false, number_below, total_some}
@@ -16,10 +16,10 @@ use Rattle.crash_core.specs.Cells.{Cell, used_cell, head_cell, info_cell, anchor
 use Rattle.crash_core.specs.Memory.{Memory, memory_of, table_length, used, head, info, anchor, link, next}
 use Rattle.crash_core.specs.View as seen_as
 use Rattle.crash_core.specs.View.{Setup, View, Span, Look, one_if_some, known, times_raw, times_classed, times_claimed, times_large, times_block}
-use Rattle.crash_core.specs.Effects.{seen, steps, first_of, span_count}
+use Rattle.crash_core.specs.Effects.{seen, steps, span_count}
 use Rattle.crash_core.specs.Sound.{Shape, Tally, tally_of, IsInShape, IsCutBlock, IsAnchoredBy, AreChained, class_numbers, times_in_lists, times_cut, times_parked, IsSetUp, ClaimsOf, BlocksOf, Knows, KnowsWords, IsDrawn, HasTickets, Adds, HasLost, Good, Sound}
 use Rattle.crash_core.specs.Opening.{picked, tabulate, is_small, small_blocks, large_blocks, AreOwners, setup_of, unlooked, plain_view, opened_view}
-use Rattle.crash_core.proofs.TotalLemmas.{total_where, eq-eqb-one, ne-eqb-none}
+use Rattle.crash_core.proofs.TotalLemmas.{total_where, ne-eqb-none}
 use Rattle.crash_core.proofs.FrameLemmas.{below_is, below_not}
 use Rattle.crash_core.proofs.PlaceLemmas.{pick, index_within, and_both, and_is, not-lt}
 use Rattle.crash_core.proofs.OwnLemmas.{one_at_most, words_trimmed, length_only}
@@ -29,7 +29,7 @@ use Rattle.crash_core.proofs.ListLemmas.{follows_small, in_lists_at, class_of}
 use Rattle.crash_core.proofs.BlockLemmas.{superblock_is, inside_of, full_anchored}
 use Rattle.crash_core.proofs.TableLemmas.{fixed_apart}
 use Rattle.crash_core.proofs.OpenLemmas.{picked_sum, picked_in, tabulate_sum, length_tabulate, tabulate_at, total_in, total_zero, small_at, small_sum, small_member, large_sum, span_of_block, small_from, span_from, each_tabulate}
-use Rattle.crash_core.proofs.OpenCountLemmas.{beyond, empty_at, member_at, follows_alike, walks_alike, times_map, ones_most, begins_cases, dealt_once}
+use Rattle.crash_core.proofs.OpenCountLemmas.{beyond, empty_at, member_at, follows_alike, walks_alike, times_map, ones_most, begins_cases, dealt_once, no_walk}
 
 module _ (words : List ℕ) (held : List Block) (budget seats : ℕ) (block_owners root_owners : List ℕ) (ready : IsReady words held) (owners : AreOwners held seats block_owners root_owners) where
   abbrev k : Setup
@@ -394,12 +394,9 @@ module _ (words : List ℕ) (held : List Block) (budget seats : ℕ) (block_owne
     ];
     cached = λ class b some. absurd (let n = empty_at 21 class b in omega arith);
     batched = λ b some. absurd (omega (arith, some));
-    cache_linked = λ class. no_walk (get_or (replicate 21 []) class []) (λ b. empty_at 21 class b);
+    cache_linked = λ class. no_walk (next m) (get_or (replicate 21 []) class []) (λ b. empty_at 21 class b);
     batch_linked = tt;
-  } where
-    no_walk : (bs : List ℕ) → ((b : ℕ) → times b bs ≡ 0) → Walks (next m) (first_of bs) bs
-    no_walk [] none = tt
-    no_walk (b ∷ bs) none = absurd (let n = none b in let one = eq-eqb-one b b refl in omega arith)
+  }
 
   knows : (j : ℕ) → Knows c m g (V j)
   knows j = record {

@@ -16,7 +16,7 @@ use Rattle.crash_core.proofs.FrameLemmas.{times_append, times_without}
 use Rattle.crash_core.proofs.StepLemmas.{IsSeat, seat_at, good_step, adds_step}
 use Rattle.crash_core.proofs.QuietLemmas.{Counts, counts}
 use Rattle.crash_core.proofs.OwnLemmas.{words_grow}
-use Rattle.crash_core.proofs.BlockLemmas.{walks_first, walks_append, after_last, of_class_same, of_class_other, total_lists}
+use Rattle.crash_core.proofs.BlockLemmas.{walks_first, walks_append, after_last, of_class_same, of_class_other, total_lists, first_there}
 use Rattle.crash_core.proofs.OwnerLemmas.{in_blocks}
 
 -- the words of blocks by class, where one list changes
@@ -273,10 +273,7 @@ module _ (k : Setup) (m : Memory) (views : List View) (i : ℕ) (v : View) (belo
         -- the batch's own class, where it has blocks
         same_class : 1 ≤ batch_count v.batch.blocks → v.batch.class ≡ class
         same_class some = let behind = may.behind some in let q = seat.blocks.batched (first_of v.batch.blocks) (first_there v.batch.blocks some) in
-            sym q.1 ∙ ap (info m) behind.same ∙ info_b where
-              first_there : (xs : List ℕ) → 1 ≤ batch_count xs → 0 < times (first_of xs) xs
-              first_there [] none = absurd (omega arith)
-              first_there (x ∷ xs) one = let e = eq-eqb-one x x refl in omega arith
+            sym q.1 ∙ ap (info m) behind.same ∙ info_b
 
         batch_within : (word : ℕ) → times_within (words_of_class class) word v.batch.blocks ≡ times_within (words_of_class v.batch.class) word v.batch.blocks
         batch_within word = elim (cases_lt 0 (batch_count v.batch.blocks)) [

@@ -4,7 +4,6 @@ use Rattle.std.proofs.lemmas.Bool.{cases_lt}
 use Rattle.std.proofs.lemmas.List.{get_or-set_other}
 use Rattle.heap_model.specs.Geometry.{lists, image_words, IsFixed}
 use Rattle.heap_model.specs.Words.{head_first}
-use Rattle.heap_model.specs.Counting.{times}
 use Rattle.crash_core.specs.declared.event.Event.{Event}
 use Rattle.crash_core.specs.declared.event.Event.TheVariants.{Tick, Load, Store, Settle, LookUsed, TakeFresh, KeepUsed, LookHead, LookLink, Pop, Push, LookAnchor, TakeAll, Give}
 use Rattle.crash_core.specs.Cells.{used_cell, is_cell, index_of, cell_at, superblock_at}
@@ -14,7 +13,8 @@ use Rattle.crash_core.specs.Effects.{before, seen_of, seen_word, first_of, batch
 use Rattle.crash_core.specs.Guards.{IsOwn, MayStep}
 use Rattle.crash_core.specs.Sound.{Good, Sound, tally_of, times_cut}
 use Rattle.crash_core.specs.Steps.{State, words_after, seat_after, found_by, Goes, is_done, not_now, has_stopped, Runs}
-use Rattle.crash_core.proofs.TotalLemmas.{total_at, eq-eqb-one}
+use Rattle.crash_core.proofs.BlockLemmas.{first_there}
+use Rattle.crash_core.proofs.TotalLemmas.{total_at}
 use Rattle.crash_core.proofs.FrameLemmas.{below_not}
 use Rattle.crash_core.proofs.PlaceLemmas.{cell_there, index_within}
 use Rattle.crash_core.proofs.TableLemmas.{is_place, memory_set, fixed_apart}
@@ -37,10 +37,6 @@ module _ (k : Setup) (m : Memory) (views : List View) (i : ℕ) (v : View) (belo
     | inr past ↦ absurd (let raw = total_at (times_raw d) views i v below_i at in let classed = total_at (λ (u : View). times_classed d u.classed) views i v below_i at in
         let p = good.shaped.placed.one_place d in let none = below_not d (used m) past in omega arith)
   ]
-
-  first_there : (xs : List ℕ) → 1 ≤ batch_count xs → 0 < times (first_of xs) xs
-  first_there [] some = absurd (omega arith)
-  first_there (b ∷ xs) some = let one = eq-eqb-one b b refl in omega arith
 
   batched : (d : ℕ) → v.batch.descriptor ≡ d → 1 ≤ batch_count v.batch.blocks → d < k.capacity
   batched d of some = let b = first_of v.batch.blocks in let there = first_there v.batch.blocks some in let t = total_at (times_block b) views i v below_i at in

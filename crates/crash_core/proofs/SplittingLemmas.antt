@@ -2,22 +2,21 @@
 use Rattle.std.proofs.Common.{◌≡◌, ℕ, zero, suc, ◌+◌, ◌<◌, ◌≤◌, inl, inr, Bool, true, false, cond, not, nat_eq, List, [], ◌∷◌, ◌++◌, Contains, replicate, get_or, set, length, refl, ap, sym, subst, ◌∙◌, ne_eqb, length-append, true≢false, arith}
 use Rattle.std.proofs.lemmas.Bool.{cases_lt}
 use Rattle.std.proofs.lemmas.List.{get_or_append_left, get_or_default}
-use Rattle.heap_model.specs.Chains.{Walks}
 use Rattle.heap_model.specs.Words.{large_info}
 use Rattle.heap_model.specs.Counting.{times, total, one_if}
 use Rattle.heap_model.proofs.MemberLemmas.{in_head, in_rest, head_or_rest}
 use Rattle.crash_core.specs.Cells.{superblock_at}
 use Rattle.crash_core.specs.Memory.{Memory, memory_of, anchor, info, next}
 use Rattle.crash_core.specs.View.{Setup, View, Span, Look, no_batch, one_if_some, of_class, known, takes, times_raw, times_classed, times_large, times_block}
-use Rattle.crash_core.specs.Effects.{span_count, first_of, trimmed}
+use Rattle.crash_core.specs.Effects.{span_count, trimmed}
 use Rattle.crash_core.specs.Opening.{unlooked}
 use Rattle.crash_core.specs.Splitting.{Choice, others, chosen, chosen_spans, chosen_lists, remaining, new_seat, given_off}
 use Rattle.crash_core.specs.Sound.{Tally, tally_of, IsInShape, Each, IsSetUp, ClaimsOf, HasClaims, BlocksOf, HasBlocks, Knows, KnowsWords, IsDrawn, HasTickets, HasLost, times_parked, empties, Good, Sound}
-use Rattle.crash_core.proofs.TotalLemmas.{total_set, each_set, eq-eqb-one}
+use Rattle.crash_core.proofs.TotalLemmas.{total_set, each_set}
 use Rattle.crash_core.proofs.StepLemmas.{IsSeat, seat_at}
 use Rattle.crash_core.proofs.OwnLemmas.{words_trimmed, length_only}
 use Rattle.crash_core.proofs.QuietLemmas.{not_there, none_drawn}
-use Rattle.crash_core.proofs.OpenCountLemmas.{empty_at}
+use Rattle.crash_core.proofs.OpenCountLemmas.{empty_at, no_walk}
 
 -- what goes and what stays is all
 chosen_both : (test : ℕ → Bool) (n : ℕ) (xs : List ℕ) → times n (chosen (λ x. not (test x)) xs) + times n (chosen test xs) ≡ times n xs
@@ -165,12 +164,9 @@ module _ (k : Setup) (m : Memory) (views : List View) (i : ℕ) (v : View) (belo
     held = held_of c.blocks;
     cached = λ class n some. absurd (let z = empty_at 21 class n in omega arith);
     batched = λ n some. absurd (omega (arith, some));
-    cache_linked = λ class. no_walk (get_or (replicate 21 []) class []) (λ n. empty_at 21 class n);
+    cache_linked = λ class. no_walk (next m) (get_or (replicate 21 []) class []) (λ n. empty_at 21 class n);
     batch_linked = tt;
-  } where
-    no_walk : (bs : List ℕ) → ((n : ℕ) → times n bs ≡ 0) → Walks (next m) (first_of bs) bs
-    no_walk [] none = tt
-    no_walk (x ∷ bs) none = absurd (let z = none x in let one = eq-eqb-one x x refl in omega arith)
+  }
 
   words_of : (y : View) → y.setup ≡ v.setup → y.volatile ≡ v.volatile → y.durable ≡ v.durable → KnowsWords k.capacity m (trimmed y)
   words_of y setup volatile durable = words_trimmed k.capacity m y (ap (λ (z : Setup). z.capacity) (setup ∙ seat.set_up.setup))

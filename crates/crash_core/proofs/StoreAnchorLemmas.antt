@@ -1,5 +1,5 @@
 -- A store to an anchor, and to any own word.
-use Rattle.std.proofs.Common.{◌≡◌, ◌≢◌, ℕ, zero, suc, ◌+◌, ◌<◌, ◌≤◌, inl, inr, ◌⊎◌, cond, not, ◌&&◌, nat_eq, nat_lt, List, [], ◌∷◌, get_or, set, length, Option, None, Some, refl, ap, ap₂, sym, subst, ◌∙◌, ne_eqb, length-set, arith}
+use Rattle.std.proofs.Common.{◌≡◌, ◌≢◌, ℕ, zero, suc, ◌+◌, ◌<◌, ◌≤◌, inl, inr, ◌⊎◌, cond, not, ◌&&◌, nat_eq, nat_lt, List, get_or, set, length, Option, None, Some, refl, ap, ap₂, sym, subst, ◌∙◌, ne_eqb, length-set, arith}
 use Rattle.std.proofs.lemmas.Bool.{cases_eq, cases_lt}
 use Rattle.heap_model.specs.Words.{anchor_state, empty_state, partial_state, full_state, full_anchor}
 use Rattle.heap_model.specs.Counting.{times, total, one_if, without}
@@ -17,7 +17,7 @@ use Rattle.crash_core.proofs.QuietLemmas.{Counts, counts, done_tickets}
 use Rattle.crash_core.proofs.OwnLemmas.{Holdings, holdings, own_equal}
 use Rattle.crash_core.proofs.CountLemmas.{without_less}
 use Rattle.crash_core.proofs.ListLemmas.{in_lists_at}
-use Rattle.crash_core.proofs.BlockLemmas.{at_one, at_other}
+use Rattle.crash_core.proofs.BlockLemmas.{at_one, at_other, first_there}
 use Rattle.crash_core.proofs.OwnerLemmas.{one_owner}
 use Rattle.crash_core.proofs.AnchorLemmas.{claims_anchor}
 use Rattle.crash_core.proofs.StoreLemmas as others
@@ -56,10 +56,6 @@ module _ (k : Setup) (m : Memory) (views : List View) (i : ℕ) (v : View) (belo
           | inl claimed ↦ let none = one_owner k m views good i j v u other below_i at b a (link_cell d) (let o : 0 < times_claimed d v = omega arith in o) in let q = ap (λ x. times_claimed x u) same in omega (arith, claimed, none, q)
           | inr batch ↦ in_batch h batch.0 batch.1
         ] where
-          first_there : (xs : List ℕ) → 1 ≤ batch_count xs → 0 < times (first_of xs) xs
-          first_there [] some = absurd (omega arith)
-          first_there (b ∷ xs) some = let one = eq-eqb-one b b refl in omega arith
-
           in_batch : IsSeat k m good.shape u → u.batch.descriptor ≡ seen_of u.seen_anchor → 1 ≤ batch_count u.batch.blocks → ⊥
           in_batch h of some =
               let b0 = first_of u.batch.blocks in let there_b = first_there u.batch.blocks some in
