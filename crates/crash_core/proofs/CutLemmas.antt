@@ -192,7 +192,7 @@ module _ (k : Setup) (m : Memory) (views : List View) (i : ℕ) (v : View) (belo
         blocks = blocks_now;
         knows = spans.knows_after k m views i v below_i at good d 1 w g' refl refl refl refl refl refl refl refl refl raw_out seat.knows.floor;
         words = spans.words_after k m views i v below_i at good base refl refl refl;
-        tickets = (let t = seat.tickets in record { ticket = t.ticket; last = t.last; used_look = t.used_look; head_looks = t.head_looks; counts = t.counts; gives = t.gives; cuts = omega arith });
+        tickets = (let t = seat.tickets in record { ticket = t.ticket; last = t.last; used_look = t.used_look; head_looks = t.head_looks; counts = t.counts; state = t.state; looked_then = t.looked_then; gives = t.gives; cuts = omega arith });
       })
       refl refl refl refl (spans.stale_after k m views i v below_i at good d 1 w refl refl refl raw_out)
       (let e = ap (λ (t : Tally). empties k.capacity (anchor m) (times_parked g' t)) tally in omega arith)

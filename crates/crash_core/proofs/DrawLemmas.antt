@@ -5,10 +5,10 @@ use Rattle.heap_model.specs.Rest.{list_numbers}
 use Rattle.heap_model.specs.Counting.{times, total}
 use Rattle.crash_core.specs.Memory.{Memory, tickets, head, anchor, write}
 use Rattle.crash_core.specs.View.{Setup, View, one_if_some}
-use Rattle.crash_core.specs.Effects.{drew, stopped}
+use Rattle.crash_core.specs.Effects.{seen, drew, stopped}
 use Rattle.crash_core.specs.Sound.{tally_of, IsInShape, IsSetUp, HasClaims, HasBlocks, Knows, IsDrawn, HasTickets, stale, times_parked, empties, Good}
 use Rattle.crash_core.proofs.TotalLemmas.{total_set, total_same}
-use Rattle.crash_core.proofs.QuietLemmas.{words_same, none_drawn}
+use Rattle.crash_core.proofs.QuietLemmas.{words_same, none_drawn, not_there}
 use Rattle.crash_core.proofs.StepLemmas.{IsSeat, seat_at, good_step, Parts, parts, tally_same}
 use Rattle.crash_core.specs.Cells.{info_cell, anchor_cell, data_cell}
 
@@ -34,14 +34,14 @@ module _ (k : Setup) (m : Memory) (views : List View) (i : ℕ) (v : View) (belo
       last = drawn_later m.drawn u.last_ticket t.last;
       used_look = drawn_later m.drawn u.used_look.ticket t.used_look;
       head_looks = λ list is. drawn_later m.drawn (get_or u.head_looks list u.used_look).ticket (t.head_looks list is);
-      counts = t.counts;
+      counts = t.counts; state = t.state; looked_then = t.looked_then;
       gives = t.gives;
       cuts = t.cuts;
     });
   }
 
   -- the seat has one draw more, and a ticket or a stop
-  after_draw : (w : View) → parts w ≡ parts v → IsSetUp k w → Knows k.capacity m' good.shape w → w.volatile ≡ v.volatile → w.durable ≡ v.durable → HasTickets m'.drawn w
+  after_draw : (w : View) → parts w ≡ parts v → IsSetUp k w → Knows k.capacity m' good.shape w → w.volatile ≡ v.volatile → w.durable ≡ v.durable → HasTickets k.budget m'.drawn w
       → w.draws ≡ v.draws + 1 → w.taken ≡ v.taken → w.gives ≡ v.gives → w.moves ≡ v.moves → w.wins ≡ v.wins → w.losses ≡ v.losses → stale m' w ≤ stale m v
       → one_if_some w.ticket + one_if_some w.stopped ≡ 1 → (one_if_some w.ticket ≡ 1 → m.drawn < k.budget)
       → Good k m' (set views i w)
@@ -97,13 +97,16 @@ module _ (k : Setup) (m : Memory) (views : List View) (i : ℕ) (v : View) (belo
         used_look = drawn_later m.drawn v.used_look.ticket t.used_look;
         head_looks = λ list is. drawn_later m.drawn (get_or v.head_looks list v.used_look).ticket (t.head_looks list is);
         counts = (let c = t.counts in omega arith);
+        state = record { stopping = λ n e. absurd (let s = ap one_if_some e in omega arith); in_hand = λ _. (refl, let e = ap (λ (s : Setup). s.budget) seat.set_up.setup in omega arith);
+          going = λ _ _. let e = ap (λ (s : Setup). s.budget) seat.set_up.setup in omega arith };
+        looked_then = t.looked_then;
         gives = t.gives;
         cuts = let c = t.cuts in omega arith;
       })
       refl refl refl refl refl refl (omega arith) (omega arith) (λ _. let e = ap (λ (s : Setup). s.budget) seat.set_up.setup in omega arith)
 
-  pub stop : Good k m' (set views i (stopped v m.drawn))
-  stop = after_draw (stopped v m.drawn) refl
+  pub stop : v.setup.budget ≤ m.drawn → Good k m' (set views i (stopped v m.drawn))
+  stop spent = after_draw (stopped v m.drawn) refl
       (let s = seat.set_up in record { setup = s.setup; small = s.small; caches = s.caches; looks = s.looks; volatile = s.volatile; durable = s.durable })
       (let s = seat.knows in record { seen_head = s.seen_head; seen_used = s.seen_used; looked = s.looked; seen_anchor = s.seen_anchor; seen_empty = s.seen_empty; floor = s.floor }) refl refl
       (let t = seat.tickets in record {
@@ -112,6 +115,9 @@ module _ (k : Setup) (m : Memory) (views : List View) (i : ℕ) (v : View) (belo
         used_look = drawn_later m.drawn v.used_look.ticket t.used_look;
         head_looks = λ list is. drawn_later m.drawn (get_or v.head_looks list v.used_look).ticket (t.head_looks list is);
         counts = (let c = t.counts in omega arith);
+        state = record { stopping = λ n e. (let b = ap (λ (s : Setup). s.budget) seat.set_up.setup in let d = ap seen e in omega arith, e, refl); in_hand = λ e. absurd (not_there e);
+          going = λ e. absurd (let s = ap one_if_some e in omega arith) };
+        looked_then = t.looked_then;
         gives = t.gives;
         cuts = let c = t.cuts in omega arith;
       })

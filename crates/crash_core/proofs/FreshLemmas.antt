@@ -240,7 +240,7 @@ module _ (k : Setup) (m : Memory) (views : List View) (i : ℕ) (v : View) (belo
           blocks = seat.blocks;
           knows = knows;
           words = words;
-          tickets = won_tickets m.drawn v w seat.tickets ticket refl refl refl refl refl refl refl refl (omega arith);
+          tickets = won_tickets k.budget m.drawn v w seat.tickets ticket refl refl (omega arith) refl refl refl refl refl refl refl (omega arith);
         })
         (λ j x other b a h. record {
           set_up = h.set_up;

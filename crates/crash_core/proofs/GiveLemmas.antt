@@ -245,7 +245,7 @@ module _ (k : Setup) (m : Memory) (views : List View) (i : ℕ) (v : View) (belo
         blocks = blocks_now;
         knows = (let n = seat.knows in record { seen_head = n.seen_head; seen_used = n.seen_used; looked = n.looked; seen_anchor = λ e. absurd (not_there e); seen_empty = λ e. absurd (not_there e); floor = n.floor });
         words = on_anchor.words_after k m views i v below_i at good d x cut_d w0 refl refl refl;
-        tickets = won_tickets m.drawn v w seat.tickets ticket refl refl refl refl refl refl refl refl (omega arith);
+        tickets = won_tickets k.budget m.drawn v w seat.tickets ticket refl refl (omega arith) refl refl refl refl refl refl refl (omega arith);
       })
       (λ j u other b a h. others g' refl j u b a h)
       (on_anchor.adds_after k m views i v below_i at good d x cut_d w refl refl refl refl refl)
@@ -303,7 +303,7 @@ module _ (k : Setup) (m : Memory) (views : List View) (i : ℕ) (v : View) (belo
           floor = let f = n.floor in let less = good.shaped.durable.below d (let c = cut_d in omega arith) in omega arith;
         });
         words = on_anchor.words_after k m views i v below_i at good d x cut_d w1 refl refl refl;
-        tickets = won_tickets m.drawn v w seat.tickets ticket refl refl refl refl refl refl refl refl (omega arith);
+        tickets = won_tickets k.budget m.drawn v w seat.tickets ticket refl refl (omega arith) refl refl refl refl refl refl refl (omega arith);
       })
       (λ j u other b a h. others g' refl j u b a h)
       (on_anchor.adds_after k m views i v below_i at good d x cut_d w refl refl refl refl refl)

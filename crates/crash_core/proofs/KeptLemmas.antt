@@ -151,7 +151,7 @@ module _ (k : Setup) (m : Memory) (views : List View) (i : ℕ) (v : View) (belo
   pub kept_tick : (shift : Option Shift) → MayStep m v (Tick shift) → Keeps k m views i v (Tick shift)
   kept_tick shift may = elim (cases_lt m.drawn v.setup.budget) [
     | inl room ↦ subst (λ t. Good k (write m tickets (m.drawn + 1)) (set views i (cond t (shifted m (drew v m.drawn) shift) (stopped v m.drawn)))) (sym (lt-ltb m.drawn v.setup.budget room)) (shift_kept may.going room shift may.ready)
-    | inr spent ↦ subst (λ t. Good k (write m tickets (m.drawn + 1)) (set views i (cond t (shifted m (drew v m.drawn) shift) (stopped v m.drawn)))) (sym (not-lt m.drawn v.setup.budget spent)) (draws.stop k m views i v below at good may.going)
+    | inr spent ↦ subst (λ t. Good k (write m tickets (m.drawn + 1)) (set views i (cond t (shifted m (drew v m.drawn) shift) (stopped v m.drawn)))) (sym (not-lt m.drawn v.setup.budget spent)) (draws.stop k m views i v below at good may.going spent)
   ]
 
   -- every kind of step

@@ -425,13 +425,15 @@ module _ (words : List ℕ) (held : List Block) (budget seats : ℕ) (block_owne
     durable = length_only (plain_view k (picked j held block_owners) (picked j (steps 0 1 roots) root_owners)) 0 (map (λ word. Some word) words) ∙ length-map words (λ word. Some word) ∙ long;
   }
 
-  tickets : (j : ℕ) → HasTickets m.drawn (V j)
+  tickets : (j : ℕ) → HasTickets k.budget m.drawn (V j)
   tickets j = record {
     ticket = none_drawn m.drawn;
     last = none_drawn m.drawn;
     used_look = none_drawn m.drawn;
     head_looks = λ list is. subst (λ (l : Look). IsDrawn m.drawn l.ticket) (sym (tabulate_at (λ n. unlooked (image (head_word n))) 0 lists list (unlooked k.used) is)) (none_drawn m.drawn);
     counts = omega arith;
+    state = record { stopping = λ n e. absurd (let z = ap one_if_some e in omega (arith, z)); in_hand = λ e. absurd (not_there e); going = λ _ e. absurd (not_there e) };
+    looked_then = (omega arith, omega arith);
     gives = omega arith;
     cuts = omega arith;
   }
@@ -469,7 +471,7 @@ module _ (words : List ℕ) (held : List Block) (budget seats : ℕ) (block_owne
     blocks = each_tabulate V seats (BlocksOf m) (λ j _. blocks j);
     knows = each_tabulate V seats (Knows c m g) (λ j _. knows j);
     words = each_tabulate V seats (KnowsWords c m) (λ j _. own_words j);
-    tickets = each_tabulate V seats (HasTickets m.drawn) (λ j _. tickets j);
+    tickets = each_tabulate V seats (HasTickets k.budget m.drawn) (λ j _. tickets j);
     adds = adds;
     lost = each_tabulate V seats (HasLost m views) (λ j _. omega arith);
     moves = (let n = nothing (λ (v : View). v.moves) (λ j. refl) in let e = ones_most (λ d. nat_lt 0 (times_parked g t d) && nat_eq (anchor_state (anchor m d)) empty_state) (steps 0 1 c) in let l = length_steps 0 1 c in omega arith);

@@ -9,7 +9,7 @@ use Rattle.crash_core.specs.Effects.{seen, seen_of, cleared, only_own, trimmed}
 use Rattle.crash_core.specs.Guards.{IsThere, IsOwn}
 use Rattle.crash_core.specs.Sound.{KnowsWords, IsDrawn, HasTickets, differs, stale_head, stale_anchor}
 use Rattle.crash_core.proofs.PlaceLemmas.{cell_at_index, and_is}
-use Rattle.crash_core.proofs.QuietLemmas.{none_drawn, not_there, own_same}
+use Rattle.crash_core.proofs.QuietLemmas.{none_drawn, not_there, own_same, ticket_given_up}
 
 -- the parts that are not superblocks
 pub record Holdings : Type 0 where
@@ -104,15 +104,17 @@ stale_anchor_most m v None = omega arith
 stale_anchor_most m v (Some s) = one_at_most (nat_eq (times_raw s.of v) 0 && not (nat_eq s.word (anchor m s.of)))
 
 -- the tickets of a seat that won an exchange
-pub won_tickets : (drawn : ℕ) (v w : View) → HasTickets drawn v → IsThere v.ticket → w.ticket ≡ None → w.last_ticket ≡ v.last_ticket → w.used_look ≡ v.used_look → w.head_looks ≡ v.head_looks
-    → w.wins ≡ v.wins + 1 → w.losses ≡ v.losses → w.draws ≡ v.draws → w.cuts ≡ v.cuts → w.gives + w.moves ≤ v.gives + v.moves + 1 → HasTickets drawn w
-won_tickets drawn v w s there none last used_look head_looks wins losses draws cuts gives = record {
+pub won_tickets : (budget drawn : ℕ) (v w : View) → HasTickets budget drawn v → IsThere v.ticket → w.ticket ≡ None → w.stopped ≡ v.stopped → v.taken ≤ w.taken → w.last_ticket ≡ v.last_ticket → w.used_look ≡ v.used_look → w.head_looks ≡ v.head_looks
+    → w.wins ≡ v.wins + 1 → w.losses ≡ v.losses → w.draws ≡ v.draws → w.cuts ≡ v.cuts → w.gives + w.moves ≤ v.gives + v.moves + 1 → HasTickets budget drawn w
+won_tickets budget drawn v w s there none stop more last used_look head_looks wins losses draws cuts gives = record {
   ticket = subst (IsDrawn drawn) (sym none) (none_drawn drawn);
   last = subst (IsDrawn drawn) (sym last) s.last;
   used_look = subst (λ (l : Look). IsDrawn drawn l.ticket) (sym used_look) s.used_look;
   head_looks = λ list is. subst (λ (l : Look). IsDrawn drawn l.ticket) (sym (ap₂ (λ looks (l : Look). get_or looks list l) head_looks used_look)) (s.head_looks list is);
   counts = let c = s.counts in let n = ap one_if_some none in omega arith;
-  gives = let c = s.gives in omega arith;
+  state = ticket_given_up budget v w s.state none last stop;
+    looked_then = (let l = s.looked_then in let a = ap (λ (x : Look). x.taken) used_look in let b = ap (λ (x : Look). x.wins) used_look in let p = l.0 in let q = l.1 in (omega arith, omega arith));
+    gives = let c = s.gives in omega arith;
   cuts = let c = s.cuts in omega arith;
 }
 

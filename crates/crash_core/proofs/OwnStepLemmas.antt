@@ -125,7 +125,7 @@ module _ (k : Setup) (m : Memory) (views : List View) (i : ℕ) (v : View) (belo
               (λ z own_z other. with_other m.durable cell x z (λ same. other (same ∙ sym same_cells))) seat.words.durable y value is knows in
               (subst (λ n. 0 < n) (sym (own_same v settled refl y)) r.0, r.1);
         };
-        tickets = (let t = seat.tickets in record { ticket = t.ticket; last = t.last; used_look = t.used_look; head_looks = t.head_looks; counts = t.counts; gives = t.gives; cuts = t.cuts });
+        tickets = (let t = seat.tickets in record { ticket = t.ticket; last = t.last; used_look = t.used_look; head_looks = t.head_looks; counts = t.counts; state = t.state; looked_then = t.looked_then; gives = t.gives; cuts = t.cuts });
       })
       (λ j u other b a h. record {
         set_up = h.set_up;

@@ -167,7 +167,7 @@ module _ (k : Setup) (m : Memory) (views : List View) (i : ℕ) (v : View) (belo
         knows = knows_after w refl refl refl refl refl refl (λ e. omega arith) (λ e other. refl) refl;
         words = words_frame k.capacity m m' w (λ cell own. untouched w m.volatile (head_cell l) (popped_head v) cell refl own) (λ cell own. refl)
             (words_grow k.capacity m v w refl refl (own_grows v w refl (λ e. omega arith) (λ e. omega arith) (λ e. omega arith)) seat.words);
-        tickets = won_tickets m.drawn v w seat.tickets ticket refl refl refl refl refl refl refl refl (omega arith);
+        tickets = won_tickets k.budget m.drawn v w seat.tickets ticket refl refl (omega arith) refl refl refl refl refl refl refl (omega arith);
       })
       (λ j x other b a h. others j x h)
       (adds_after w refl refl refl refl refl)
@@ -224,7 +224,7 @@ module _ (k : Setup) (m : Memory) (views : List View) (i : ℕ) (v : View) (belo
         knows = knows_after w refl refl refl refl refl refl (λ e. omega arith) (λ e other. let n = ne-eqb-none d e other in omega arith) refl;
         words = words_frame k.capacity m m' w (λ cell own. untouched w m.volatile (head_cell l) (popped_head v) cell refl own) (λ cell own. refl)
             (words_grow k.capacity m v w refl refl (own_grows v w refl (λ e. omega arith) (λ e. omega arith) (λ e. omega arith)) seat.words);
-        tickets = won_tickets m.drawn v w seat.tickets ticket refl refl refl refl refl refl refl refl (omega arith);
+        tickets = won_tickets k.budget m.drawn v w seat.tickets ticket refl refl (omega arith) refl refl refl refl refl refl refl (omega arith);
       })
       (λ j x other b a h. others j x h)
       (adds_after w refl refl refl refl refl)

@@ -188,7 +188,7 @@ module _ (k : Setup) (m : Memory) (views : List View) (i : ℕ) (v : View) (belo
         blocks = seat.blocks;
         knows = knows_after w refl refl refl refl refl refl (λ e other. let z = raw_is e in let n = ne-eqb-none d e other in omega arith) (λ e other. refl) refl;
         words = words_after base refl refl refl;
-        tickets = won_tickets m.drawn v w seat.tickets ticket refl refl refl refl refl refl refl refl (omega arith);
+        tickets = won_tickets k.budget m.drawn v w seat.tickets ticket refl refl (omega arith) refl refl refl refl refl refl refl (omega arith);
       })
       (λ j x other b a h. others j x h)
       (adds_after w refl refl refl refl refl)
@@ -279,7 +279,7 @@ module _ (k : Setup) (m : Memory) (views : List View) (i : ℕ) (v : View) (belo
       blocks = seat.blocks;
       knows = knows_after w refl refl refl refl refl refl (λ e other. let z = classed_is e in let n = ne-eqb-none d e other in omega arith) (λ e other. let z = classed_is e in let n = ne-eqb-none d e other in omega arith) refl;
       words = words_after base refl refl refl;
-      tickets = won_tickets m.drawn v w seat.tickets ticket refl refl refl refl refl refl refl refl (moved (nat_eq l 0));
+      tickets = won_tickets k.budget m.drawn v w seat.tickets ticket refl refl (omega arith) refl refl refl refl refl refl refl (moved (nat_eq l 0));
     } where
       moved : (test : Bool) → v.gives + cond test (v.moves + 1) v.moves ≤ v.gives + v.moves + 1
       moved true = omega arith

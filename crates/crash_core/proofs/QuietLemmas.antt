@@ -13,7 +13,7 @@ use Rattle.crash_core.specs.Memory.{Memory, used, head, anchor, link}
 use Rattle.crash_core.specs.View.{Setup, View, Snapshot, Look, one_if_some, known, times_own, times_raw, times_classed, times_large, times_in_classes, times_within}
 use Rattle.crash_core.specs.Effects.{seen, seen_word, seen_of, before, used_up, lost, look}
 use Rattle.crash_core.specs.Guards.{IsThere, MayLink, MayLookAt}
-use Rattle.crash_core.specs.Sound.{Shape, Tally, tally_of, IsInShape, IsSetUp, HasClaims, HasBlocks, Knows, KnowsWords, IsDrawn, HasTickets, stale, differs, stale_head, stale_anchor, times_parked, empties, Good}
+use Rattle.crash_core.specs.Sound.{Shape, Tally, tally_of, IsInShape, IsSetUp, HasClaims, HasBlocks, Knows, KnowsWords, IsDrawn, IsTicketed, HasTickets, stale, differs, stale_head, stale_anchor, times_parked, empties, Good}
 use Rattle.crash_core.proofs.TotalLemmas.{total_same}
 use Rattle.crash_core.proofs.StepLemmas.{IsSeat, seat_at, good_step, Parts, parts, tally_same, adds_step}
 
@@ -32,7 +32,7 @@ counts v = record { taken = v.taken; draws = v.draws; stopped = v.stopped; gives
 -- a step that changes no word, no part and none of these counts
 pub quiet : (k : Setup) (m : Memory) (views : List View) (i : ℕ) (v w : View) → i < length views → get_or views i v ≡ v → (good : Good k m views)
     → parts w ≡ parts v → counts w ≡ counts v
-    → IsSetUp k w → Knows k.capacity m good.shape w → KnowsWords k.capacity m w → HasTickets m.drawn w
+    → IsSetUp k w → Knows k.capacity m good.shape w → KnowsWords k.capacity m w → HasTickets k.budget m.drawn w
     → one_if_some w.ticket ≤ one_if_some v.ticket
     → w.losses + stale m w ≤ v.losses + stale m v
     → Good k m (set views i w)
@@ -87,6 +87,15 @@ not_there e = omega (arith, e)
 pub none_drawn : (drawn : ℕ) → IsDrawn drawn None
 none_drawn drawn = record { is_drawn = λ e. absurd (not_there e) }
 
+-- a ticket that is used up
+pub given_up : (budget : ℕ) (ticket last stopped : Option ℕ) → IsTicketed budget ticket last stopped → IsTicketed budget None last stopped
+given_up budget ticket last stopped h = record { stopping = λ t e. let o = h.stopping t e in (o.0, o.1, refl); in_hand = λ e. absurd (not_there e); going = h.going }
+
+pub ticket_given_up : (budget : ℕ) (v w : View) → IsTicketed budget v.ticket v.last_ticket v.stopped → w.ticket ≡ None → w.last_ticket ≡ v.last_ticket → w.stopped ≡ v.stopped → IsTicketed budget w.ticket w.last_ticket w.stopped
+ticket_given_up budget v w state none last stop =
+    subst (λ x. IsTicketed budget x w.last_ticket w.stopped) (sym none) (subst (λ x. IsTicketed budget None x w.stopped) (sym last)
+      (subst (λ x. IsTicketed budget None v.last_ticket x) (sym stop) (given_up budget v.ticket v.last_ticket v.stopped state)))
+
 -- a snapshot that is no different from the word
 pub differs_none : (word : ℕ) → differs (Some word) word ≡ 0
 differs_none word = ap (λ t. one_if (not t)) (eq-eqb word word refl)
@@ -123,7 +132,7 @@ module _ (k : Setup) (m : Memory) (views : List View) (i : ℕ) (v : View) (belo
       (let s = seat.set_up in record { setup = s.setup; small = s.small; caches = s.caches; looks = s.looks; volatile = s.volatile; durable = s.durable })
       (let s = seat.knows in record { seen_head = s.seen_head; seen_used = λ _. omega arith; looked = omega arith; seen_anchor = s.seen_anchor; seen_empty = s.seen_empty; floor = s.floor })
       (words_same k.capacity m v (record (used_up v) { seen_used = Some (used m); used_look = look v (used m) }) refl refl refl seat.words)
-      (let s = seat.tickets in record { ticket = none_drawn m.drawn; last = s.last; used_look = s.ticket; head_looks = λ list is. looks list is; counts = let c = s.counts in omega arith; gives = s.gives; cuts = s.cuts })
+      (let s = seat.tickets in record { state = given_up k.budget v.ticket v.last_ticket v.stopped s.state; looked_then = (omega arith, omega arith); ticket = none_drawn m.drawn; last = s.last; used_look = s.ticket; head_looks = λ list is. looks list is; counts = let c = s.counts in omega arith; gives = s.gives; cuts = s.cuts })
       (omega arith)
       (let e = differs_none (used m) in omega arith) where
         looks : (list : ℕ) → list < lists → IsDrawn m.drawn (get_or v.head_looks list (look v (used m))).ticket
@@ -131,9 +140,11 @@ module _ (k : Setup) (m : Memory) (views : List View) (i : ℕ) (v : View) (belo
 
   -- the ticket is used up
   pub done_tickets : (w : View) → w.ticket ≡ None → w.last_ticket ≡ v.last_ticket → w.used_look ≡ v.used_look → w.head_looks ≡ v.head_looks → counts w ≡ counts v → w.cuts ≡ v.cuts
-      → w.losses ≤ v.losses + 1 → HasTickets m.drawn w
+      → w.losses ≤ v.losses + 1 → HasTickets k.budget m.drawn w
   done_tickets w none last used_looks head_looks kept cuts losses = let s = seat.tickets in record {
-    ticket = subst (IsDrawn m.drawn) (sym none) (none_drawn m.drawn);
+    state = ticket_given_up k.budget v w s.state none last (ap (λ (c : Counts). c.stopped) kept);
+      looked_then = (let l = s.looked_then in let a = ap (λ (x : Look). x.taken) used_looks in let b = ap (λ (x : Look). x.wins) used_looks in let t = ap (λ (c : Counts). c.taken) kept in let u = ap (λ (c : Counts). c.wins) kept in let p = l.0 in let q = l.1 in (omega arith, omega arith));
+      ticket = subst (IsDrawn m.drawn) (sym none) (none_drawn m.drawn);
     last = subst (IsDrawn m.drawn) (sym last) s.last;
     used_look = subst (λ (l : Look). IsDrawn m.drawn l.ticket) (sym used_looks) s.used_look;
     head_looks = λ list is. subst (λ (l : Look). IsDrawn m.drawn l.ticket) (sym (ap₂ (λ looks (l : Look). get_or looks list l) head_looks used_looks)) (s.head_looks list is);
@@ -162,7 +173,7 @@ module _ (k : Setup) (m : Memory) (views : List View) (i : ℕ) (v : View) (belo
         floor = s.floor;
       })
       (words_same k.capacity m v (record (used_up v) { seen_head = Some (record { of = list; word = head m list }); seen_link = None; head_looks = set v.head_looks list (look v (head m list)) }) refl refl refl seat.words)
-      (let s = seat.tickets in record { ticket = none_drawn m.drawn; last = s.last; used_look = s.used_look; head_looks = looks; counts = let c = s.counts in omega arith; gives = s.gives; cuts = s.cuts })
+      (let s = seat.tickets in record { state = given_up k.budget v.ticket v.last_ticket v.stopped s.state; looked_then = s.looked_then; ticket = none_drawn m.drawn; last = s.last; used_look = s.used_look; head_looks = looks; counts = let c = s.counts in omega arith; gives = s.gives; cuts = s.cuts })
       (omega arith)
       (let e : stale_head m (Some (record { of = list; word = head m list })) ≡ 0 = ap (λ t. one_if (not t)) (eq-eqb (head m list) (head m list) refl) in omega arith) where
         looks : (other : ℕ) → other < lists → IsDrawn m.drawn (get_or (set v.head_looks list (look v (head m list))) other v.used_look).ticket

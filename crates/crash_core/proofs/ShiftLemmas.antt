@@ -113,7 +113,7 @@ module _ (k : Setup) (m : Memory) (views : List View) (i : ℕ) (v : View) (belo
         blocks = blocks_now;
         knows = (let n = seat.knows in record { seen_head = n.seen_head; seen_used = n.seen_used; looked = n.looked; seen_anchor = n.seen_anchor; seen_empty = n.seen_empty; floor = n.floor });
         words = words_grow k.capacity m v w refl refl (λ cell. let e = own_moved v w refl refl refl refl refl refl refl in_same cell in omega arith) seat.words;
-        tickets = (let t = seat.tickets in record { ticket = t.ticket; last = t.last; used_look = t.used_look; head_looks = t.head_looks; counts = t.counts; gives = t.gives; cuts = t.cuts });
+        tickets = (let t = seat.tickets in record { ticket = t.ticket; last = t.last; used_look = t.used_look; head_looks = t.head_looks; counts = t.counts; state = t.state; looked_then = t.looked_then; gives = t.gives; cuts = t.cuts });
       })
       refl refl refl refl (omega arith) (let e = ap (λ t. empties k.capacity (anchor m) (times_parked good.shape t)) tally in omega arith) where
         w : View
@@ -174,7 +174,7 @@ module _ (k : Setup) (m : Memory) (views : List View) (i : ℕ) (v : View) (belo
         blocks = blocks_now;
         knows = (let n = seat.knows in record { seen_head = n.seen_head; seen_used = n.seen_used; looked = n.looked; seen_anchor = n.seen_anchor; seen_empty = n.seen_empty; floor = n.floor });
         words = words_grow k.capacity m v w refl refl (λ cell. let e = own_moved v w refl refl refl refl refl refl refl in_same cell in omega arith) seat.words;
-        tickets = (let t = seat.tickets in record { ticket = t.ticket; last = t.last; used_look = t.used_look; head_looks = t.head_looks; counts = t.counts; gives = t.gives; cuts = t.cuts });
+        tickets = (let t = seat.tickets in record { ticket = t.ticket; last = t.last; used_look = t.used_look; head_looks = t.head_looks; counts = t.counts; state = t.state; looked_then = t.looked_then; gives = t.gives; cuts = t.cuts });
       })
       refl refl refl refl (omega arith) (let e = ap (λ t. empties k.capacity (anchor m) (times_parked good.shape t)) tally in omega arith) where
         class : ℕ
@@ -242,7 +242,7 @@ module _ (k : Setup) (m : Memory) (views : List View) (i : ℕ) (v : View) (belo
           floor = n.floor;
         });
         words = words_grow k.capacity m v w refl refl (λ cell. let e = own_moved v w refl refl refl refl refl refl refl in_same cell in omega arith) seat.words;
-        tickets = (let t = seat.tickets in record { ticket = t.ticket; last = t.last; used_look = t.used_look; head_looks = t.head_looks; counts = t.counts; gives = t.gives; cuts = t.cuts });
+        tickets = (let t = seat.tickets in record { ticket = t.ticket; last = t.last; used_look = t.used_look; head_looks = t.head_looks; counts = t.counts; state = t.state; looked_then = t.looked_then; gives = t.gives; cuts = t.cuts });
       })
       refl refl refl refl (omega arith) (let e = ap (λ t. empties k.capacity (anchor m) (times_parked good.shape t)) tally in omega arith) where
         w : View

@@ -173,7 +173,7 @@ module _ (k : Setup) (m : Memory) (views : List View) (i : ℕ) (v : View) (belo
         blocks = seat.blocks;
         knows = knows_after d n w good.shape refl refl refl refl refl refl refl refl refl raw_out seat.knows.floor;
         words = words_after base refl refl refl;
-        tickets = (let t = seat.tickets in record { ticket = t.ticket; last = t.last; used_look = t.used_look; head_looks = t.head_looks; counts = t.counts; gives = t.gives; cuts = t.cuts });
+        tickets = (let t = seat.tickets in record { ticket = t.ticket; last = t.last; used_look = t.used_look; head_looks = t.head_looks; counts = t.counts; state = t.state; looked_then = t.looked_then; gives = t.gives; cuts = t.cuts });
       })
       refl refl refl refl (stale_after d n w refl refl refl raw_out) (let e = ap (λ t. empties k.capacity (anchor m) (times_parked good.shape t)) tally in omega arith) where
         base : View
@@ -250,7 +250,7 @@ module _ (k : Setup) (m : Memory) (views : List View) (i : ℕ) (v : View) (belo
         blocks = seat.blocks;
         knows = knows_after d n w good.shape refl refl refl refl refl refl refl refl refl (λ e out. let z = raw_is e in omega arith) floor;
         words = words_grow k.capacity m v w refl refl (own_grows v w refl (λ e. let z = raw_is e in omega arith) (λ e. let z = raw_is e in omega arith) (λ e. let z = raw_is e in let l = large_is e in omega arith)) seat.words;
-        tickets = (let t = seat.tickets in record { ticket = t.ticket; last = t.last; used_look = t.used_look; head_looks = t.head_looks; counts = t.counts; gives = t.gives; cuts = t.cuts });
+        tickets = (let t = seat.tickets in record { ticket = t.ticket; last = t.last; used_look = t.used_look; head_looks = t.head_looks; counts = t.counts; state = t.state; looked_then = t.looked_then; gives = t.gives; cuts = t.cuts });
       })
       refl refl refl refl (stale_after d n w refl refl refl (λ e out. let z = raw_is e in omega arith)) (let e = ap (λ t. empties k.capacity (anchor m) (times_parked good.shape t)) tally in omega arith) where
         d : ℕ

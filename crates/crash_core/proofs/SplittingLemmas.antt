@@ -206,16 +206,18 @@ module _ (k : Setup) (m : Memory) (views : List View) (i : ℕ) (v : View) (belo
     floor = seat.knows.floor;
   }
 
-  tickets_rest : HasTickets m.drawn a
-  tickets_rest = let t = seat.tickets in record { ticket = t.ticket; last = t.last; used_look = t.used_look; head_looks = t.head_looks; counts = t.counts; gives = t.gives; cuts = t.cuts }
+  tickets_rest : HasTickets k.budget m.drawn a
+  tickets_rest = let t = seat.tickets in record { ticket = t.ticket; last = t.last; used_look = t.used_look; head_looks = t.head_looks; counts = t.counts; state = t.state; looked_then = t.looked_then; gives = t.gives; cuts = t.cuts }
 
-  tickets_new : HasTickets m.drawn b
+  tickets_new : HasTickets k.budget m.drawn b
   tickets_new = record {
     ticket = none_drawn m.drawn;
     last = none_drawn m.drawn;
     used_look = none_drawn m.drawn;
     head_looks = λ list is. subst (λ (l : Look). IsDrawn m.drawn l.ticket) (get_or_default v.head_looks list v.used_look (unlooked v.setup.used) (let e = seat.set_up.looks in omega arith)) (seat.tickets.head_looks list is);
     counts = omega arith;
+    state = record { stopping = λ n e. absurd (let z = ap one_if_some e in omega (arith, z)); in_hand = λ e. absurd (not_there e); going = λ _ e. absurd (not_there e) };
+    looked_then = (omega arith, omega arith);
     gives = omega arith;
     cuts = omega arith;
   }
@@ -234,7 +236,7 @@ module _ (k : Setup) (m : Memory) (views : List View) (i : ℕ) (v : View) (belo
     knows = each_behind (set views i a) b (Knows k.capacity m good.shape) (each_set views i a (Knows k.capacity m good.shape) below_i (λ j u other l e. good.knows j u l e) knows_rest) knows_new;
     words = each_behind (set views i a) b (KnowsWords k.capacity m) (each_set views i a (KnowsWords k.capacity m) below_i (λ j u other l e. good.words j u l e)
         (words_of (record v { small = chosen_lists (others c).blocks v.small; large = chosen_spans (others c).spans v.large; roots = chosen (others c).roots v.roots }) refl refl refl)) (words_of (new_seat c v) refl refl refl);
-    tickets = each_behind (set views i a) b (HasTickets m.drawn) (each_set views i a (HasTickets m.drawn) below_i (λ j u other l e. good.tickets j u l e) tickets_rest) tickets_new;
+    tickets = each_behind (set views i a) b (HasTickets k.budget m.drawn) (each_set views i a (HasTickets k.budget m.drawn) below_i (λ j u other l e. good.tickets j u l e) tickets_rest) tickets_new;
     adds = (let x = good.adds in let drawn = dealt (λ (y : View). y.draws) (omega arith) in let tickets = dealt (λ (y : View). one_if_some y.ticket) (omega arith) in
         let stopped = dealt (λ (y : View). one_if_some y.stopped) (omega arith) in let taken = dealt (λ (y : View). y.taken) (omega arith) in
         let p = x.draws in let q = x.pops in let r = x.budget in let s = x.stopped in let t = x.taken in

@@ -15,7 +15,7 @@ pub record IsSeat (k : Setup) (m : Memory) (g : Shape) (v : View) : Type 0 where
   pub blocks : BlocksOf m v
   pub knows : Knows k.capacity m g v
   pub words : KnowsWords k.capacity m v
-  pub tickets : HasTickets m.drawn v
+  pub tickets : HasTickets k.budget m.drawn v
 
 pub seat_at : (k : Setup) (m : Memory) (views : List View) (good : Good k m views) (i : ℕ) (v : View) → i < length views → get_or views i v ≡ v → IsSeat k m good.shape v
 seat_at k m views good i v below at = record {
@@ -51,7 +51,7 @@ good_step k m m' views i v w good g below at shaped mine others adds loses their
   blocks = each_set views i w (BlocksOf m') below (λ j u other b a. (seat j u other b a).blocks) mine.blocks;
   knows = each_set views i w (Knows k.capacity m' g) below (λ j u other b a. (seat j u other b a).knows) mine.knows;
   words = each_set views i w (KnowsWords k.capacity m') below (λ j u other b a. (seat j u other b a).words) mine.words;
-  tickets = each_set views i w (HasTickets m'.drawn) below (λ j u other b a. (seat j u other b a).tickets) mine.tickets;
+  tickets = each_set views i w (HasTickets k.budget m'.drawn) below (λ j u other b a. (seat j u other b a).tickets) mine.tickets;
   adds = adds;
   lost = each_set views i w (HasLost m' (set views i w)) below
       (λ j u other b a. let old = good.lost j u b a in let step = theirs j u other b a in let wins = total_set (λ (x : View). x.wins) views i v w below at in omega arith)

@@ -178,7 +178,7 @@ module _ (k : Setup) (m : Memory) (views : List View) (i : ℕ) (v : View) (belo
     blocks = blocks_of_seat;
     knows = (let n = seat.knows in record { seen_head = n.seen_head; seen_used = n.seen_used; looked = n.looked; seen_anchor = λ e. absurd (not_there e); seen_empty = λ e. absurd (not_there e); floor = n.floor });
     words = on_anchor.words_after k m views i v below_i at good d full_anchor cut_d base refl refl refl;
-    tickets = won_tickets m.drawn v w seat.tickets ticket refl refl refl refl refl refl refl refl (omega arith);
+    tickets = won_tickets k.budget m.drawn v w seat.tickets ticket refl refl (omega arith) refl refl refl refl refl refl refl (omega arith);
   }
 
   empties_same : empties k.capacity (anchor m') (times_parked g' t') ≡ empties k.capacity (anchor m) (times_parked good.shape (tally_of views))

@@ -179,12 +179,20 @@ pub record Knows (capacity : ℕ) (m : Memory) (g : Shape) (v : View) : Type 0 w
 pub record IsDrawn (drawn : ℕ) (ticket : Option ℕ) : Type 0 where
   pub is_drawn : IsThere ticket → seen ticket < drawn
 
-pub record HasTickets (drawn : ℕ) (v : View) : Type 0 where
+-- a seat stops at its last ticket, which is not below the budget, and has none in hand then; a ticket in hand is the last one, and below the budget; and so are the tickets of a seat that has not stopped
+pub record IsTicketed (budget : ℕ) (ticket last stopped : Option ℕ) : Type 0 where
+  pub stopping : (t : ℕ) → stopped ≡ Some t → (budget ≤ t) × (last ≡ Some t) × (ticket ≡ None)
+  pub in_hand : IsThere ticket → (last ≡ ticket) × (seen ticket < budget)
+  pub going : stopped ≡ None → IsThere last → seen last < budget
+
+pub record HasTickets (budget drawn : ℕ) (v : View) : Type 0 where
   pub ticket : IsDrawn drawn v.ticket
   pub last : IsDrawn drawn v.last_ticket
   pub used_look : IsDrawn drawn v.used_look.ticket
   pub head_looks : (list : ℕ) → list < lists → IsDrawn drawn (get_or v.head_looks list v.used_look).ticket
   pub counts : v.wins + v.losses + one_if_some v.ticket ≤ v.draws
+  pub state : IsTicketed budget v.ticket v.last_ticket v.stopped
+  pub looked_then : (v.used_look.taken ≤ v.taken) × (v.used_look.wins ≤ v.wins)
   pub gives : v.gives + v.moves ≤ v.wins
   pub cuts : v.cuts ≤ v.draws
 
@@ -237,7 +245,7 @@ pub record Good (k : Setup) (m : Memory) (views : List View) : Type 0 where
   pub blocks : Each views (BlocksOf m)
   pub knows : Each views (Knows k.capacity m shape)
   pub words : Each views (KnowsWords k.capacity m)
-  pub tickets : Each views (HasTickets m.drawn)
+  pub tickets : Each views (HasTickets k.budget m.drawn)
   pub adds : Adds k m views
   pub lost : Each views (HasLost m views)
   -- superblocks that became empty in a list of their class came there by a give, or were so at the opening
