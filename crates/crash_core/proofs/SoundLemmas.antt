@@ -4,6 +4,7 @@ use Rattle.std.proofs.lemmas.Bool.{cases_lt}
 use Rattle.std.proofs.lemmas.List.{get_or-set_other}
 use Rattle.heap_model.specs.Geometry.{lists, image_words, IsFixed}
 use Rattle.heap_model.specs.Words.{head_first}
+use Rattle.crash_core.specs.declared.answer.StepAnswer.{StepAnswer}
 use Rattle.crash_core.specs.declared.event.Event.{Event}
 use Rattle.crash_core.specs.declared.event.Event.TheVariants.{Tick, Load, Store, Settle, LookUsed, TakeFresh, KeepUsed, LookHead, LookLink, Pop, Push, LookAnchor, TakeAll, Give}
 use Rattle.crash_core.specs.Cells.{used_cell, is_cell, index_of, cell_at, superblock_at}
@@ -12,7 +13,7 @@ use Rattle.crash_core.specs.View.{Setup, View, times_own, times_raw, times_class
 use Rattle.crash_core.specs.Effects.{before, seen_of, seen_word, first_of, batch_count, place_of, left_there}
 use Rattle.crash_core.specs.Guards.{IsOwn, MayStep}
 use Rattle.crash_core.specs.Sound.{Good, Sound, tally_of, times_cut}
-use Rattle.crash_core.specs.Steps.{State, words_after, seat_after, found_by, Goes, is_done, not_now, has_stopped, Runs}
+use Rattle.crash_core.specs.Steps.{State, words_after, seat_after, found_by, Goes, is_done, stops, not_now, has_stopped, Runs}
 use Rattle.crash_core.proofs.BlockLemmas.{first_there}
 use Rattle.crash_core.proofs.TotalLemmas.{total_at}
 use Rattle.crash_core.proofs.FrameLemmas.{below_not}
@@ -100,13 +101,16 @@ sound_step k words views i v event below_i at sound may = record {
   fixed_durable tickets is word fixed = get_or-set_other words (2 * image_words k.capacity) (image_words k.capacity + word) x 0 (λ z. let w = (fixed_apart k.capacity word used_cell fixed refl).1 in omega (arith, z, w))
 
 -- and so does every list of events
-pub sound_runs : (k : Setup) (s s' : State) (events : List (ℕ × Event)) → Sound k s.words s.views → Runs k s events s' → Sound k s'.words s'.views
-sound_runs k s s' [] sound runs = subst (λ (x : State). Sound k x.words x.views) runs sound
-sound_runs k s s' (e ∷ events) sound runs = sound_runs k runs.0 s' events (after_one runs.0 runs.2) runs.3 where
-  after_one : (next : State) → Goes k s e.0 e.1 next → Sound k next.words next.views
-  after_one next (is_done v at may) = sound_step k s.words s.views e.0 v e.1 runs.1 at sound may.may
-  after_one next (not_now v at going refused) = sound
-  after_one next (has_stopped v at stop) = sound
+pub sound_runs : (k : Setup) (s s' : State) (events : List (ℕ × Event)) (answers : List StepAnswer) → Sound k s.words s.views → Runs k s events answers s' → Sound k s'.words s'.views
+sound_runs k s s' [] [] sound runs = subst (λ (x : State). Sound k x.words x.views) runs sound
+sound_runs k s s' [] (answer ∷ answers) sound runs = absurd runs
+sound_runs k s s' (e ∷ events) [] sound runs = absurd runs
+sound_runs k s s' (e ∷ events) (answer ∷ answers) sound runs = sound_runs k runs.0 s' events answers (after_one answer runs.0 runs.2) runs.3 where
+  after_one : (a : StepAnswer) (next : State) → Goes k s e.0 e.1 a next → Sound k next.words next.views
+  after_one a next (is_done v at may on) = sound_step k s.words s.views e.0 v e.1 runs.1 at sound may.may
+  after_one a next (stops v step at may stop) = sound_step k s.words s.views e.0 v e.1 runs.1 at sound may.may
+  after_one a next (not_now v at going refused) = sound
+  after_one a next (has_stopped v step at stop) = sound
 
 -- a place of the table has a word there
 pub in_length : (k : Setup) (s : State) (i : ℕ) (v : View) (event : Event) → i < length s.views → get_or s.views i v ≡ v → Sound k s.words s.views → MayStep (memory_of k.capacity s.words) v event

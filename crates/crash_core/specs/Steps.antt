@@ -1,8 +1,10 @@
 -- A step of a seat as one change: the memory after it, and the seat's view after it.
-use Rattle.std.specs.Prelude.{◌≡◌, ℕ, ◌<◌, List, [], ◌∷◌, get_or, length, set}
+use Rattle.std.specs.Prelude.{◌≡◌, ℕ, ◌<◌, List, [], ◌∷◌, get_or, length, set, None, Some}
+use Rattle.crash_core.specs.declared.answer.StepAnswer.{StepAnswer}
+use Rattle.crash_core.specs.declared.answer.StepAnswer.TheVariants.{Done, Stopped, NotNow}
 use Rattle.crash_core.specs.declared.event.Event.{Event}
 use Rattle.crash_core.specs.Memory.{Memory, read, write, table_index, memory_of}
-use Rattle.crash_core.specs.View.{Setup, View, one_if_some}
+use Rattle.crash_core.specs.View.{Setup, View}
 use Rattle.crash_core.specs.Effects.{place_of, left_there, view_after}
 use Rattle.crash_core.specs.Guards.{MayDo}
 use Rattle.crash_core.specs.Sound.{Good, Sound}
@@ -40,15 +42,20 @@ state_after k s i v event = record {
   views = set s.views i (seat_after (memory_of k.capacity s.words) v event);
 }
 
--- what a seat's event makes of a state: the step is done, won where it compares; or it may not be done now, or the seat has stopped, and nothing changes
-pub data Goes (k : Setup) (s : State) (i : ℕ) (event : Event) : State → Type 0 where
+-- what a seat's event makes of a state, and what it answers: the step is done, won where it compares; a draw stops the seat; it may not be done now, or the seat has stopped, and nothing changes
+pub data Goes (k : Setup) (s : State) (i : ℕ) (event : Event) : StepAnswer → State → Type 0 where
   is_done : (v : View) → get_or s.views i v ≡ v → MayDo (memory_of k.capacity s.words) v event
-      → Goes k s i event (state_after k s i v event)
-  not_now : (v : View) → get_or s.views i v ≡ v → one_if_some v.stopped ≡ 0 → (MayDo (memory_of k.capacity s.words) v event → ⊥)
-      → Goes k s i event s
-  has_stopped : (v : View) → get_or s.views i v ≡ v → one_if_some v.stopped ≡ 1 → Goes k s i event s
+      → (seat_after (memory_of k.capacity s.words) v event).stopped ≡ None → Goes k s i event Done (state_after k s i v event)
+  stops : (v : View) (step : ℕ) → get_or s.views i v ≡ v → MayDo (memory_of k.capacity s.words) v event
+      → (seat_after (memory_of k.capacity s.words) v event).stopped ≡ Some step → Goes k s i event (Stopped step) (state_after k s i v event)
+  not_now : (v : View) → get_or s.views i v ≡ v → v.stopped ≡ None
+      → (MayDo (memory_of k.capacity s.words) v event → ⊥) → Goes k s i event NotNow s
+  has_stopped : (v : View) (step : ℕ) → get_or s.views i v ≡ v → v.stopped ≡ Some step → Goes k s i event (Stopped step) s
 
--- what a list of events makes of a state
-abbrev pub Runs : Setup → State → List (ℕ × Event) → State → Type 0
-Runs k s [] s' = s ≡ s'
-Runs k s (e ∷ events) s' = (next : State) × (e.0 < length s.views) × Goes k s e.0 e.1 next × Runs k next events s'
+-- what a list of events makes of a state, with an answer for each event
+abbrev pub Runs : Setup → State → List (ℕ × Event) → List StepAnswer → State → Type 0
+Runs k s [] [] s' = s ≡ s'
+Runs k s [] (answer ∷ answers) s' = ⊥
+Runs k s (e ∷ events) [] s' = ⊥
+Runs k s (e ∷ events) (answer ∷ answers) s' =
+    (next : State) × (e.0 < length s.views) × Goes k s e.0 e.1 answer next × Runs k next events answers s'

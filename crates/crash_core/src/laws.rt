@@ -4,6 +4,7 @@ ghost use Rattle.std.specs.Prelude.{◌≡◌, ◌≢◌, ◌<◌, ◌*◌, ◌+
 ghost use Rattle.heap_model.specs.declared.block.Block.{Block};
 ghost use Rattle.heap_model.specs.Geometry.{capacity_word};
 ghost use Rattle.heap_model.specs.Rest.{IsReady};
+ghost use Rattle.crash_core.specs.declared.answer.StepAnswer.{StepAnswer};
 ghost use Rattle.crash_core.specs.declared.event.Event.{Event};
 ghost use Rattle.crash_core.specs.Cells.{Cell};
 ghost use Rattle.crash_core.specs.Memory.{Memory, memory_of, table_index};
@@ -36,9 +37,9 @@ pub fn every_step_keeps_the_heap_sound()
 /// mixture of volatile and durable words names each held block.
 pub fn every_list_of_events_keeps_the_heap_sound()
     ensures sound { (k : Setup) (s s' : State) (events : List (ℕ × Event))
-        → IsSoundState k s → Runs k s events s' → IsSoundState k s' }
+        (answers : List StepAnswer) → IsSoundState k s → Runs k s events answers s' → IsSoundState k s' }
     ensures firm { (k : Setup) (s s' : State) (events : List (ℕ × Event))
-        → IsSoundState k s → Runs k s events s' → IsFirm k.capacity s'.words s'.views }
+        (answers : List StepAnswer) → IsSoundState k s → Runs k s events answers s' → IsFirm k.capacity s'.words s'.views }
 {}
 
 /// A heap at rest that is opened for some seats, with an owner for each held block and each root,
@@ -52,14 +53,18 @@ pub fn an_opened_heap_is_sound()
     ensures running { (words : List ℕ) (held : List Block) (budget seats : ℕ)
         (block_owners root_owners : List ℕ) → IsReady words held
         → AreOwners held seats block_owners root_owners
-        → (events : List (ℕ × Event)) (s : State) → Runs (setup_of words budget)
-        (opened_state (setup_of words budget) held block_owners root_owners seats) events s
+        → (events : List (ℕ × Event)) (answers : List StepAnswer) (s : State)
+        → Runs (setup_of words budget)
+            (opened_state (setup_of words budget) held block_owners root_owners seats) events
+            answers s
         → IsSoundState (setup_of words budget) s }
     ensures firm { (words : List ℕ) (held : List Block) (budget seats : ℕ)
         (block_owners root_owners : List ℕ) → IsReady words held
         → AreOwners held seats block_owners root_owners
-        → (events : List (ℕ × Event)) (s : State) → Runs (setup_of words budget)
-        (opened_state (setup_of words budget) held block_owners root_owners seats) events s
+        → (events : List (ℕ × Event)) (answers : List StepAnswer) (s : State)
+        → Runs (setup_of words budget)
+            (opened_state (setup_of words budget) held block_owners root_owners seats) events
+            answers s
         → IsFirm (slice_index words capacity_word) s.words s.views }
 {}
 

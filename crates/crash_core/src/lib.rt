@@ -2,6 +2,7 @@
 #![tactic(auto)]
 
 mod anchors;
+mod answer;
 mod crash;
 mod event;
 mod heads;
@@ -9,6 +10,7 @@ mod laws;
 mod opening;
 
 pub use anchors::{anchor_after_give, anchor_after_take_all};
+pub use answer::StepAnswer;
 pub use crash::crash_image;
 pub use event::{Event, Shift};
 pub use heads::{head_after_pop, head_after_push};

@@ -8,10 +8,10 @@ pub returns-clause-opened : goal.returns-clause-opened
 returns-clause-opened c = opened
 
 pub returns-clause-running : goal.returns-clause-running
-returns-clause-running c words held budget seats block_owners root_owners ready owners events s runs =
-    sound_runs (setup_of words budget) (opened_state (setup_of words budget) held block_owners root_owners seats) s events (opened words held budget seats block_owners root_owners ready owners) runs
+returns-clause-running c words held budget seats block_owners root_owners ready owners events answers s runs =
+    sound_runs (setup_of words budget) (opened_state (setup_of words budget) held block_owners root_owners seats) s events answers (opened words held budget seats block_owners root_owners ready owners) runs
 
 pub returns-clause-firm : goal.returns-clause-firm
-returns-clause-firm c words held budget seats block_owners root_owners ready owners events s runs =
+returns-clause-firm c words held budget seats block_owners root_owners ready owners events answers s runs =
     firm (setup_of words budget) s.words s.views
-    (sound_runs (setup_of words budget) (opened_state (setup_of words budget) held block_owners root_owners seats) s events (opened words held budget seats block_owners root_owners ready owners) runs)
+    (sound_runs (setup_of words budget) (opened_state (setup_of words budget) held block_owners root_owners seats) s events answers (opened words held budget seats block_owners root_owners ready owners) runs)

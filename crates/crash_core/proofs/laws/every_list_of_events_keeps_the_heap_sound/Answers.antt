@@ -6,4 +6,4 @@ pub returns-clause-sound : goal.returns-clause-sound
 returns-clause-sound c = sound_runs
 
 pub returns-clause-firm : goal.returns-clause-firm
-returns-clause-firm c k s s' events sound runs = firm k s'.words s'.views (sound_runs k s s' events sound runs)
+returns-clause-firm c k s s' events answers sound runs = firm k s'.words s'.views (sound_runs k s s' events answers sound runs)
