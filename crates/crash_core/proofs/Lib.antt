@@ -30,6 +30,7 @@ pub mod HeldLemmas
 pub mod OpenLemmas
 pub mod OpenCountLemmas
 pub mod OpenedLemmas
+pub mod OpenedHeldLemmas
 pub mod CrashLemmas
 pub mod SplittingLemmas
 mod ExampleLemmas

@@ -32,25 +32,25 @@ use Rattle.crash_core.proofs.OpenLemmas.{picked_sum, picked_in, tabulate_sum, le
 use Rattle.crash_core.proofs.OpenCountLemmas.{beyond, empty_at, member_at, follows_alike, walks_alike, times_map, ones_most, begins_cases, dealt_once, no_walk}
 
 module _ (words : List ℕ) (held : List Block) (budget seats : ℕ) (block_owners root_owners : List ℕ) (ready : IsReady words held) (owners : AreOwners held seats block_owners root_owners) where
-  abbrev k : Setup
+  abbrev pub k : Setup
   k = setup_of words budget
 
-  abbrev c : ℕ
+  abbrev pub c : ℕ
   c = slice_index words 2
 
-  abbrev image : ℕ → ℕ
+  abbrev pub image : ℕ → ℕ
   image = slice_index words
 
-  abbrev table : List ℕ
+  abbrev pub table : List ℕ
   table = words ++ (words ++ (0 ∷ []))
 
-  abbrev m : Memory
+  abbrev pub m : Memory
   m = memory_of c table
 
-  abbrev V : ℕ → View
+  abbrev pub V : ℕ → View
   V = opened_view k held block_owners root_owners
 
-  abbrev views : List View
+  abbrev pub views : List View
   views = tabulate V 0 seats
 
   long : length words ≡ image_words c
@@ -80,30 +80,30 @@ module _ (words : List ℕ) (held : List Block) (budget seats : ℕ) (block_owne
   next_is word low high = volatile_is (data_cell word) (and_is (nat_le (start_word c 0) word) (nat_lt word (image_words c)) (le-leb (start_word c 0) word low) (lt-ltb word (image_words c) high))
 
   -- held blocks
-  record IsSmall (p : Block) : Type 0 where
-    class : ℕ
-    d : ℕ
-    info_at : image (info_word d) ≡ class
-    is_class : IsClass class
-    taken : d < image 8
-    is : IsCutBlock c class d p.first_word
-    size : p.words ≡ words_of_class class
-    small : is_small p ≡ true
-    here : superblock_at c p.first_word ≡ d
+  pub record IsSmall (p : Block) : Type 0 where
+    pub class : ℕ
+    pub d : ℕ
+    pub info_at : image (info_word d) ≡ class
+    pub is_class : IsClass class
+    pub taken : d < image 8
+    pub is : IsCutBlock c class d p.first_word
+    pub size : p.words ≡ words_of_class class
+    pub small : is_small p ≡ true
+    pub here : superblock_at c p.first_word ≡ d
 
-  record IsLarge (p : Block) : Type 0 where
-    count : ℕ
-    d : ℕ
-    some : 1 ≤ count
-    info_at : image (info_word d) ≡ large_info count
-    fits : d + count ≤ image 8
-    others : (e : ℕ) → d < e → e < d + count → image (info_word e) ≡ 0
-    first : p.first_word ≡ start_word c d
-    size : p.words ≡ superblock_words * count
-    large : is_small p ≡ false
-    here : superblock_at c p.first_word ≡ d
+  pub record IsLarge (p : Block) : Type 0 where
+    pub count : ℕ
+    pub d : ℕ
+    pub some : 1 ≤ count
+    pub info_at : image (info_word d) ≡ large_info count
+    pub fits : d + count ≤ image 8
+    pub others : (e : ℕ) → d < e → e < d + count → image (info_word e) ≡ 0
+    pub first : p.first_word ≡ start_word c d
+    pub size : p.words ≡ superblock_words * count
+    pub large : is_small p ≡ false
+    pub here : superblock_at c p.first_word ≡ d
 
-  held_cases : (p : Block) → Contains held p → IsSmall p ⊎ IsLarge p
+  pub held_cases : (p : Block) → Contains held p → IsSmall p ⊎ IsLarge p
   held_cases p there = let b = ready.blocks p there in let o = b.is_of in elim (begins_cases (layout_of image) b.superblock b.words b.count o.begins) [
     | inl s ↦ let cut : IsCutBlock c s.0 b.superblock p.first_word = record { index = b.index; below = (let e = o.below in let f = s.4 in omega arith); at = o.at ∙ ap (λ n. start_word c b.superblock + b.index * n) s.3 } in
         inl (record {
@@ -155,10 +155,10 @@ module _ (words : List ℕ) (held : List Block) (budget seats : ℕ) (block_owne
   small_part : (d : ℕ) (p : Block) → is_small p ≡ true → large_part c d p ≡ 0
   small_part d p small = one_if_false _ (λ t. let b = and_both _ _ t in let l : superblock_words ≤ p.words = leb-true superblock_words p.words b.0 in let s : p.words < superblock_words = ltb-true p.words superblock_words small in omega arith)
 
-  large_of : (p : Block) → Contains held p → is_small p ≡ false → IsLarge p
+  pub large_of : (p : Block) → Contains held p → is_small p ≡ false → IsLarge p
   large_of p there large = elim (held_cases p there) [ inl s ↦ absurd (true≢false (sym s.small ∙ large)) | inr l ↦ l ]
 
-  small_of : (p : Block) → Contains held p → is_small p ≡ true → IsSmall p
+  pub small_of : (p : Block) → Contains held p → is_small p ≡ true → IsSmall p
   small_of p there small = elim (held_cases p there) [ inl s ↦ s | inr l ↦ absurd (true≢false (sym small ∙ l.large)) ]
 
   -- the sums over the seats
@@ -377,7 +377,7 @@ module _ (words : List ℕ) (held : List Block) (budget seats : ℕ) (block_owne
           λ e low high. info_is e (in_used e (omega arith)) ∙ l.others e (omega arith) (omega arith),
         )
 
-  small_at_class : (j class : ℕ) → class < lists → get_or (V j).small class [] ≡ small_blocks c (λ d. image (info_word d)) class (picked j held block_owners)
+  pub small_at_class : (j class : ℕ) → class < lists → get_or (V j).small class [] ≡ small_blocks c (λ d. image (info_word d)) class (picked j held block_owners)
   small_at_class j class less = tabulate_at (λ n. small_blocks c (λ d. image (info_word d)) n (picked j held block_owners)) 0 lists class [] less
       ∙ ap (λ n. small_blocks c (λ d. image (info_word d)) n (picked j held block_owners)) (let e : 0 + class ≡ class = omega arith in e)
 

@@ -1,5 +1,5 @@
 -- A heap at rest as it is opened for some seats: each held block and each root belongs to one seat, nothing is cached, batched or claimed, and all words are durable.
-use Rattle.std.specs.Prelude.{◌≡◌, ℕ, zero, suc, ◌+◌, ◌/◌, ◌<◌, Bool, cond, ◌&&◌, nat_eq, nat_lt, List, [], ◌∷◌, ◌++◌, length, map, replicate, slice_index, Contains, None, Some}
+use Rattle.std.specs.Prelude.{◌≡◌, ℕ, zero, suc, ◌+◌, ◌/◌, ◌<◌, Bool, cond, ◌&&◌, nat_eq, nat_lt, List, [], ◌∷◌, ◌++◌, length, map, replicate, slice_index, Contains, None, Some, get_or}
 use Rattle.heap_model.specs.declared.block.Block.{Block}
 use Rattle.heap_model.specs.Geometry.{roots, lists, info_word, head_word, capacity_word, used_word, superblock_words}
 use Rattle.crash_core.specs.Cells.{superblock_at}
@@ -97,3 +97,10 @@ opened_state k held block_owners root_owners seats = record {
   words = k.opened ++ (k.opened ++ (0 ∷ []));
   views = tabulate (opened_view k held block_owners root_owners) 0 seats;
 }
+
+-- the block stands in the list where the seat is the owner
+pub record IsOwnerOf (held : List Block) (block_owners : List ℕ) (seat : ℕ) (b : Block) : Type 0 where
+  pub at : ℕ
+  pub inside : at < length held
+  pub is : get_or held at b ≡ b
+  pub owner : get_or block_owners at (seat + 1) ≡ seat
