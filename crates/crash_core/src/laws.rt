@@ -1,8 +1,9 @@
 //! What follows from the definitions, as functions with nothing to run: a caller cites their clauses.
 
-ghost use Rattle.std.specs.Prelude.{◌≡◌, ◌≢◌, ◌<◌, ◌*◌, ◌++◌, ◌∷◌, [], ℕ, List, get_or, set, length, slice_index};
+ghost use Rattle.std.specs.Prelude.{◌≡◌, ◌≢◌, ◌<◌, ◌*◌, ◌++◌, ◌∷◌, [], ℕ, List, get_or, set, length, slice_index, ◌↔◌, ◌+◌};
 ghost use Rattle.heap_model.specs.declared.block.Block.{Block};
-ghost use Rattle.heap_model.specs.Geometry.{capacity_word};
+ghost use Rattle.heap_model.specs.Geometry.{capacity_word, roots};
+ghost use Rattle.heap_model.specs.Counting.{times};
 ghost use Rattle.heap_model.specs.Rest.{IsReady};
 ghost use Rattle.crash_core.specs.declared.answer.StepAnswer.{StepAnswer};
 ghost use Rattle.crash_core.specs.declared.event.Event.{Event};
@@ -13,8 +14,8 @@ ghost use Rattle.crash_core.specs.Guards.{IsOwn, MayStep};
 ghost use Rattle.crash_core.specs.Sound.{Good, Sound};
 ghost use Rattle.crash_core.specs.Steps.{Keeps, State, IsSoundState, Runs, words_after, seat_after};
 ghost use Rattle.crash_core.specs.Splitting.{Choice, remaining, given_off};
-ghost use Rattle.crash_core.specs.Opening.{AreOwners, setup_of, opened_state};
-ghost use Rattle.crash_core.specs.Held.{IsHeldBy, IsFirm, volatile_image, durable_image};
+ghost use Rattle.crash_core.specs.Opening.{AreOwners, IsOwnerOf, setup_of, opened_view, opened_state};
+ghost use Rattle.crash_core.specs.Held.{IsHeld, IsHeldBy, IsFirm, volatile_image, durable_image};
 ghost use Rattle.heap_model.specs.Image.{Image};
 ghost use Rattle.heap_model.specs.Blocks.{Names};
 ghost use Rattle.heap_model.specs.Durability.{IsCrashImage, IsClosedImage};
@@ -43,13 +44,23 @@ pub fn every_list_of_events_keeps_the_heap_sound()
 {}
 
 /// A heap at rest that is opened for some seats, with an owner for each held block and each root,
-/// is sound; so is whatever the seats make of it.
+/// is sound, and each seat has exactly what it owns; sound is whatever the seats make of it.
 pub fn an_opened_heap_is_sound()
     ensures opened { (words : List ℕ) (held : List Block) (budget seats : ℕ)
         (block_owners root_owners : List ℕ) → IsReady words held
         → AreOwners held seats block_owners root_owners
         → IsSoundState (setup_of words budget)
         (opened_state (setup_of words budget) held block_owners root_owners seats) }
+    ensures held { (words : List ℕ) (held : List Block) (budget seats : ℕ)
+        (block_owners root_owners : List ℕ) → IsReady words held
+        → AreOwners held seats block_owners root_owners → (i : ℕ) (b : Block)
+        → IsHeld (opened_view (setup_of words budget) held block_owners root_owners i) b
+        ↔ IsOwnerOf held block_owners i b }
+    ensures owned { (words : List ℕ) (held : List Block) (budget seats : ℕ)
+        (block_owners root_owners : List ℕ) → AreOwners held seats block_owners root_owners
+        → (i n : ℕ) → (0 < times n
+            (opened_view (setup_of words budget) held block_owners root_owners i).roots)
+        ↔ ((n < roots) × (get_or root_owners n (i + 1) ≡ i)) }
     ensures running { (words : List ℕ) (held : List Block) (budget seats : ℕ)
         (block_owners root_owners : List ℕ) → IsReady words held
         → AreOwners held seats block_owners root_owners

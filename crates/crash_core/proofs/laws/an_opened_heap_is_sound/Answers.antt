@@ -1,11 +1,19 @@
 use Rattle.crash_core.specs.Opening.{setup_of, opened_state}
+use Rattle.heap_model.specs.Geometry.{roots}
 use Rattle.crash_core.proofs.OpenedLemmas.{opened}
+use Rattle.crash_core.proofs.OpenedHeldLemmas.{holds_exactly, owns_root}
 use Rattle.crash_core.proofs.SoundLemmas.{sound_runs}
 use Rattle.crash_core.proofs.HeldLemmas.{firm}
 use Rattle.crash_core.proofs.laws.an_opened_heap_is_sound.Goals as goal
 
 pub returns-clause-opened : goal.returns-clause-opened
 returns-clause-opened c = opened
+
+pub returns-clause-held : goal.returns-clause-held
+returns-clause-held c = holds_exactly
+
+pub returns-clause-owned : goal.returns-clause-owned
+returns-clause-owned c words held budget seats block_owners root_owners owners i n = owns_root i roots root_owners n
 
 pub returns-clause-running : goal.returns-clause-running
 returns-clause-running c words held budget seats block_owners root_owners ready owners events answers s runs =
