@@ -4,6 +4,7 @@ pub mod OrderLemmas
 pub mod MapLemmas
 pub mod LawLemmas
 pub mod ReadingLemmas
+pub mod PrintedLemmas
 pub mod ReplyLemmas
 pub mod UseLemmas
 pub mod WordLemmas

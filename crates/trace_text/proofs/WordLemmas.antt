@@ -52,11 +52,11 @@ value_fits word value (inr some) =
     let twice = (decode_of-ok word value some.0).2 in
     (omega arith, omega arith)
 
--- no byte of a key is a space
-pub key_has_no_space : (word : List ℕ) (key : ℕ) → IsKey word key → All (λ b. b ≢ 32) word
-key_has_no_space word key is =
+-- no byte of a key is below the digits
+pub key_has_no : (s : ℕ) (word : List ℕ) (key : ℕ) → s < 48 → IsKey word key → All (λ b. b ≢ s) word
+key_has_no s word key low is =
     let digit = (decimal_is_IsNumeral key is.0).0.1 in
-    rw is.1 (λ k d below space. let at = digit_at (decimal key) k digit below in let same = get_or_default (decimal key) k d 0 below in absurd (omega arith))
+    rw is.1 (λ k d below found. let at = digit_at (decimal key) k digit below in let same = get_or_default (decimal key) k d 0 below in absurd (omega arith))
 
 -- what is before the first separator, and what is behind it
 pub same_parts : (s : ℕ) (a b x y : List ℕ) → All (λ c. c ≢ s) a → All (λ c. c ≢ s) b → a ++ s ∷ x ≡ b ++ s ∷ y → (a ≡ b) × (x ≡ y)
@@ -96,7 +96,7 @@ pub put_words : (words first rest : List ℕ) (request : Request) → words ≡ 
     → (key : ℕ) × (value : List ℕ) × IsKey first key × IsValue rest value
 put_words words first rest (Put key value) cut free is =
     let parts = put_parts words is.key_word is.value_word is.line_is in
-    let same = same_parts 32 first is.key_word rest is.value_word free (key_has_no_space is.key_word key is.key_is) (sym cut ∙ parts) in
+    let same = same_parts 32 first is.key_word rest is.value_word free (key_has_no 32 is.key_word key (omega arith) is.key_is) (sym cut ∙ parts) in
     (key, value, rw same.0 is.key_is, rw same.1 is.value_is)
 put_words words first rest (Get key) cut free is = absurd (heads_differ 112 103 _ _ is.line_is (λ same. absurd (omega arith)))
 put_words words first rest (Del key) cut free is = absurd (heads_differ 112 100 _ _ is.line_is (λ same. absurd (omega arith)))

@@ -34,7 +34,13 @@ a_put = record {
 
 an_empty_put : IsLine (codes "put 0 -") (Put 0 [])
 unfolding digits
-an_empty_put = record { key_word = codes "0"; value_word = codes "-"; line_is = refl; key_is = (omega arith, refl); value_is = inl (refl, refl) }
+an_empty_put = record {
+  key_word = codes "0";
+  value_word = codes "-";
+  line_is = refl;
+  key_is = (omega arith, refl);
+  value_is = inl (refl, refl);
+}
 
 a_get : IsLine (codes "get 10") (Get 10)
 unfolding digits
@@ -42,7 +48,8 @@ a_get = record { word = codes "10"; line_is = refl; key_is = (omega arith, refl)
 
 -- replies, and how many there are of each kind: a value of no bytes is a value
 four_replies : replies_text (Ok ∷ Value [] ∷ Full ∷ Unanswered ∷ []) true false
-    ≡ codes "ok" ++ line_feed ++ codes "-" ++ line_feed ++ codes "full" ++ line_feed ++ codes "unanswered" ++ line_feed ++ codes "run stopped" ++ line_feed
+    ≡ codes "ok" ++ line_feed ++ codes "-" ++ line_feed ++ codes "full" ++ line_feed
+    ++ codes "unanswered" ++ line_feed ++ codes "run stopped" ++ line_feed
 four_replies = refl
 
 four_counted : replies_text (Ok ∷ Value [] ∷ Full ∷ Unanswered ∷ []) true true

@@ -1,5 +1,6 @@
 //! What the texts tell of a heap at rest, as functions with nothing to run.
-ghost use Rattle.std.specs.Prelude.{◌≡◌, ◌<◌, ◌+◌, ◌-◌, ◌*◌, ◌/◌, ℕ, List, true, Contains, slice_index};
+ghost use Rattle.std.specs.Prelude.{◌≡◌, ◌<◌, ◌+◌, ◌-◌, ◌*◌, ◌/◌, ℕ, List, true, Contains, map, slice_index};
+ghost use Rattle.std.specs.List.{All, flat_map, range_with_len};
 ghost use Rattle.heap_model.specs.declared.block.Block.{Block};
 ghost use Rattle.heap_model.specs.Blocks.{layout_of};
 ghost use Rattle.heap_model.specs.Geometry.{start_word, superblock_words};
@@ -10,7 +11,8 @@ ghost use Rattle.heap_model.specs.Sizes.{IsClass, words_of_class};
 ghost use Rattle.trace_text.specs.HeapMap.{begins_in, index_of, first_of, use_of};
 ghost use Rattle.trace_text.specs.Ranges.{longest_runs, AreLongestRuns};
 ghost use Rattle.trace_text.specs.Laws.{IsCounted, IsUse};
-ghost use Rattle.trace_text.specs.Trace.{AreLines, IsFirstOutside};
+ghost use Rattle.trace_text.specs.Trace.{lines_of, AreLines, IsFirstOutside};
+ghost use Rattle.trace_text.specs.Generated.{request_line, made_request, made_trace, IsWithinBounds};
 ghost use Rattle.trace_text.specs.declared.request.Request.{Request};
 
 /// The texts tell of each held block.
@@ -60,4 +62,13 @@ pub fn a_trace_has_one_reading()
     // One line is the first that is outside.
     ensures first { (lines : List (List ℕ)) (a b : ℕ) → IsFirstOutside lines a
         → IsFirstOutside lines b → a ≡ b }
+{}
+
+/// Requests are read as they are printed, and so is a trace that is made.
+pub fn printed_requests_are_read()
+    ensures printed { (requests : List Request) → All IsWithinBounds requests
+        → AreLines (lines_of (flat_map request_line requests)) requests }
+
+    ensures made { (n seed : ℕ) → AreLines (lines_of (made_trace n seed))
+        (map (made_request seed) (range_with_len 0 n)) }
 {}
