@@ -1,6 +1,6 @@
 //! Reads a line of a trace, and its words.
-ghost use Rattle.std.specs.Prelude.{◌++◌, ◌<◌, ◌≤◌, ◌↔◌, codes, slice_index, IfOk, IsTrue};
-ghost use Rattle.trace_text.specs.Trace.{IsReading, IsKeyReading, IsValueReading};
+ghost use Rattle.std.specs.Prelude.{◌++◌, ◌<◌, ◌≤◌, ◌*◌, ◌↔◌, codes, length, slice_index, IfOk, IsTrue};
+ghost use Rattle.trace_text.specs.Trace.{longest_value, IsReading, IsKeyReading, IsValueReading};
 
 use crate::pieces::{behind, split_once};
 use crate::request::Request;
@@ -81,7 +81,7 @@ fn parse_value(alloc: Global, word: &[u8]) -> Result<Option<Bytes>, AllocError>
     if word == b"-".as_slice() {
         return Ok(Some(Bytes::from_vec(Vec::new(alloc))));
     }
-    if word.is_empty() || 2 * LONGEST_VALUE < word.len() {
+    if !may_be_digits(word) {
         return Ok(None);
     }
     match hex::decode(alloc, word) {
@@ -89,4 +89,11 @@ fn parse_value(alloc: Global, word: &[u8]) -> Result<Option<Bytes>, AllocError>
         Err(FromHexError::OutOfMemory) => Err(AllocError),
         Err(_) => Ok(None),
     }
+}
+
+/// Whether the word is as long as the digits of a value of some bytes.
+fn may_be_digits(word: &[u8]) -> bool
+    ensures { IsTrue result ↔ ((1 ≤ length word.now) × (length word.now ≤ 2 * longest_value)) }
+{
+    !word.is_empty() && word.len() <= 2 * LONGEST_VALUE
 }

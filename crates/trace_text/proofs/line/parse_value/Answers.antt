@@ -1,19 +1,12 @@
-use Rattle.std.proofs.Common.{◌≡◌, ◌<◌, length, inr, arith, rules}
+use Rattle.std.proofs.Common.{◌<◌, length, inr, sym, ◌∙◌, arith, rules}
 use Rattle.hex.proofs.HexLemmas.{decode_of-ok}
 use Rattle.trace_text.proofs.WordLemmas.{value_fits}
 use Rattle.trace_text.proofs.line.parse_value.Goals as goal
-use Rattle.trace_text.proofs.line.parse_value.Goals.{then-is_empty-via-then-is_empty, then-is_empty-via-else-is_empty+then-word}
 
-pub returns-then-is_empty : goal.returns-then-is_empty
-returns-then-is_empty c = record {
-  ok = λ value is.
-      let fits = value_fits c.args.word.now value is in
-      elim c.then-is_empty.branch [
-        | then-is_empty-via-then-is_empty w ↦
-            let none : length c.args.word.now ≡ 0 = search rules in
-            absurd (omega arith)
-        | then-is_empty-via-else-is_empty+then-word w ↦ absurd (omega (arith, fits, w.if-word.true))
-      ];
+pub returns-then-not-may_be_digits : goal.returns-then-not-may_be_digits
+returns-then-not-may_be_digits c = record {
+  ok = λ value is. let fits = value_fits c.args.word.now value is in
+      cc (sym c.if-not-may_be_digits.true ∙ c.may_be_digits.ensures.1 (fits.0, fits.1));
 }
 
 pub returns-in-Ok : goal.returns-in-Ok
