@@ -40,7 +40,7 @@ use Rattle.block_heap.specs.Steps.{Fills, Spends}
 use Rattle.block_heap.specs.Works.{UsedFits, Works, IsAllocatorWord, is_info, is_anchor, is_inside}
 use Rattle.block_heap.proofs.HeldLemmas.{has_map}
 use Rattle.block_heap.proofs.MediumLemmas.{stores_then, stores_more}
-use Rattle.block_heap.proofs.OrderLemmas.{in_list_along, list_kept}
+use Rattle.block_heap.proofs.OrderLemmas.{in_list_along, in_list_has, list_kept}
 use Rattle.block_heap.proofs.RunningLemmas.{set_is, settled_kept, running_words}
 use Rattle.block_heap.proofs.SpendLemmas.{spends_none, spends_by}
 use Rattle.block_heap.proofs.StableLemmas.{works_of, works_then, works_raised}
@@ -307,7 +307,7 @@ module _ (p : Parts) (class d : ℕ) (popped : Popped) (w : View) (look : Look) 
           linked = cuts.divided.linked;
           cache = cut_cache p class d w (set p.head_looks 0 look) p.used_look p.taken q run is free_within stores same cuts;
           free = λ e other there.
-              elim (head_or_rest d e rest (subst (λ xs. Contains xs e) listed (there (run.shape.listed 0) (run.is.follows 0 zero_list)))) as (λ _. IsInList q 0 e) [
+              elim (head_or_rest d e rest (subst (λ xs. Contains xs e) listed (in_list_has p 0 e (run.shape.listed 0) there (run.is.follows 0 zero_list)))) as (λ _. IsInList q 0 e) [
                 | inl here ↦ absurd (other (sym here))
                 | inr later ↦ in_list_along q 0 e rest (free_list 0 rest zero_list (with_at_same run.shape.listed 0 rest)) later
               ];

@@ -23,15 +23,19 @@ use Rattle.block_heap.specs.Steps.{HandsOut}
 pub same_cache : (a b : Cache) → a.first ≡ b.first → a.count ≡ b.count → a ≡ b
 same_cache a b first count = ap (λ x. record { first = x; count = a.count }) first ∙ ap (λ n. record { first = b.first; count = n }) count
 
--- what the head leads along is in the list
+-- what the head leads along is in the list, and nothing else
 pub in_list_along : (p : Parts) (list d : ℕ) (ds : List ℕ) → LeadsAlong p list ds → Contains ds d → IsInList p list d
-in_list_along p list d ds leads has es others =
-    subst (λ xs. Contains xs d) (one_following (λ e. image_of p (link_word e)) p.capacity (head_first (head_at p list)) ds es leads others) has
+in_list_along p list d ds leads has = (ds, leads, has)
+
+pub in_list_has : (p : Parts) (list d : ℕ) (ds : List ℕ) → IsInList p list d → LeadsAlong p list ds → Contains ds d
+in_list_has p list d ds there leads =
+    subst (λ xs. Contains xs d) (one_following (λ e. image_of p (link_word e)) p.capacity (head_first (head_at p list)) there.0 ds there.1 leads)
+    there.2
 
 -- where one list has all of another, it has each superblock of it
 pub list_kept : (p q : Parts) (list other : ℕ) (ds es : List ℕ) → LeadsAlong p list ds → LeadsAlong q other es
     → ((d : ℕ) → Contains ds d → Contains es d) → (d : ℕ) → IsInList p list d → IsInList q other d
-list_kept p q list other ds es leads now all d before = in_list_along q other d es now (all d (before ds leads))
+list_kept p q list other ds es leads now all d before = in_list_along q other d es now (all d (in_list_has p list d ds before leads))
 
 -- lists stay where loads see the same
 pub leads_same : (p q : Parts) (list : ℕ) (ds : List ℕ) → q.capacity ≡ p.capacity → q.words.volatile ≡ p.words.volatile → LeadsAlong q list ds → LeadsAlong p list ds
@@ -40,11 +44,11 @@ leads_same p q list ds capacity same leads =
     (subst (λ (xs : List ℕ). LeadsAlong (record q { words = record q.words { volatile = xs } }) list ds) same leads)
 
 pub list_same : (p q : Parts) (list d : ℕ) → q.capacity ≡ p.capacity → q.words.volatile ≡ p.words.volatile → IsInList p list d → IsInList q list d
-list_same p q list d capacity same before ds leads = before ds (leads_same p q list ds capacity same leads)
+list_same p q list d capacity same before = (before.0, leads_same q p list before.0 (sym capacity) (sym same) before.1, before.2)
 
 -- an empty list has nothing to give
 pub nothing_in_empty : (class : ℕ) (p : Parts) → IsEmptyList p class → HasNothing class p
-nothing_in_empty class p empty d listed = absurd (in_none d (listed [] empty))
+nothing_in_empty class p empty d listed = absurd (in_none d (in_list_has p class d [] listed empty))
 
 -- what stays over two rows of steps, and what went to the free list
 chains_then : (p q r : Parts) → q.capacity ≡ p.capacity → KeepsChains p q → KeepsChains q r → KeepsChains p r

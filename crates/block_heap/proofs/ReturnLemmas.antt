@@ -29,7 +29,7 @@ use Rattle.block_heap.specs.Parts.{Parts, image_of, held_in, cache_at}
 use Rattle.block_heap.specs.Returns.{CachesAlong, CachesAllOf, Flushes, IsLongest, GivesTo}
 use Rattle.block_heap.specs.Running.{IsRunning}
 use Rattle.block_heap.proofs.FlushLemmas.{split, rest_long, none_of_zero, front_fits, gave_listed, gave_shape, gave_fixed, listed_fixed, all_shape, some_shape}
-use Rattle.block_heap.proofs.OrderLemmas.{in_list_along, list_kept, list_same}
+use Rattle.block_heap.proofs.OrderLemmas.{in_list_along, in_list_has, list_kept, list_same}
 use Rattle.block_heap.proofs.SmallLemmas.{changed}
 
 -- what is behind the front of a walk, and where a walk begins
@@ -144,7 +144,7 @@ module _ (p : Parts) (class : ℕ) (is : IsClass class) (run : IsRunning p) (fro
 
     free_only : (d : ℕ) → IsInList (parts_with x) 0 d → IsInList p 0 d ⊎ ((d ≡ front.d) × (list ≡ 0))
     free_only d there =
-        let has = there (with_at run.shape.listed list (front.d ∷ run.shape.listed list) 0) (now_leads 0 (omega arith)) in
+        let has = in_list_has (parts_with x) 0 d (with_at run.shape.listed list (front.d ∷ run.shape.listed list) 0) there (now_leads 0 (omega arith)) in
         elim (cases_eq 0 list) as (λ _. IsInList p 0 d ⊎ ((d ≡ front.d) × (list ≡ 0))) [
           | inr other ↦ inl (in_list_along p 0 d (run.shape.listed 0) free_leads
               (subst (λ ds. Contains ds d) (with_at_other run.shape.listed list (front.d ∷ run.shape.listed list) 0 other) has))

@@ -27,7 +27,7 @@ use Rattle.block_heap.specs.Running.{IsRunning, Serves, MakesLooks}
 use Rattle.block_heap.specs.Steps.{Fills, Recycles, Spends}
 use Rattle.block_heap.specs.Lists.{head_at, IsEmptyList, LeadsAlong, IsInList}
 use Rattle.block_heap.specs.Order.{TakesAll, MovesEmpty}
-use Rattle.block_heap.proofs.OrderLemmas.{in_list_along, list_kept, same_cache}
+use Rattle.block_heap.proofs.OrderLemmas.{in_list_along, in_list_has, list_kept, same_cache}
 use Rattle.block_heap.proofs.MediumLemmas.{stores_then, stores_more}
 use Rattle.block_heap.proofs.RunningLemmas.{set_is, settled_kept}
 use Rattle.block_heap.proofs.SpendLemmas.{spends_by}
@@ -385,7 +385,7 @@ module _ (p : Parts) (class d : ℕ) (popped : Popped) (w : View) (look : Look) 
             | inr none ↦ absurd (in_none e none)
           ];
           frees = λ fs leads. subst (λ xs. LeadsAlong recycled 0 (d ∷ xs)) (free_one fs leads) free_leads;
-          nothing = λ none e there. elim (head_or_rest d e rest (there (d ∷ rest) list_leads)) as (λ _. anchor_state (image_of p (anchor_word e)) ≡ empty_state) [
+          nothing = λ none e there. elim (head_or_rest d e rest (in_list_has p class e (d ∷ rest) there list_leads)) as (λ _. anchor_state (image_of p (anchor_word e)) ≡ empty_state) [
             | inl same ↦ subst (λ k. anchor_state (image_of p (anchor_word k)) ≡ empty_state) same all_free
             | inr later ↦ ap anchor_state (sym (anchors_stay e)) ∙ none e (in_list_along recycled class e rest rest_leads later)
           ];

@@ -16,9 +16,9 @@ IsEmptyList p list = head_first (head_at p list) ≡ 0
 abbrev pub LeadsAlong : Parts → ℕ → List ℕ → Type 0
 LeadsAlong p list ds = Follows (λ d. image_of p (link_word d)) p.capacity (head_first (head_at p list)) ds
 
--- superblock d is in the list
+-- superblock d is in the list: the head leads along descriptors to an end, and that of d is among them
 abbrev pub IsInList : Parts → ℕ → ℕ → Type 0
-IsInList p list d = (ds : List ℕ) → LeadsAlong p list ds → Contains ds d
+IsInList p list d = (ds : List ℕ) × LeadsAlong p list ds × Contains ds d
 
 -- the free list loses none
 abbrev pub KeepsFree : Parts → Parts → Type 0
