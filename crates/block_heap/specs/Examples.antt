@@ -1,5 +1,5 @@
 -- Worked examples by computation: the words of an allocator, and a small drain.
-use Rattle.std.specs.Prelude.{◌≡◌, ◌+◌, ◌*◌, ◌<◌, ◌≤◌, ℕ, zero, suc, List, [], ◌∷◌, Contains, slice_index_or, refl}
+use Rattle.std.specs.Prelude.{◌≡◌, ◌+◌, ◌*◌, ◌<◌, ◌≤◌, ℕ, zero, suc, List, [], ◌∷◌, ◌++◌, reverse, Contains, slice_index_or, refl}
 use Rattle.std.proofs.Common.{arith, ap, subst, sym, ◌∙◌}
 use Rattle.heap_model.specs.declared.block.Block.{Block}
 use Rattle.heap_model.specs.Geometry.{start_word, info_word, root_word, used_word}
@@ -10,6 +10,16 @@ use Rattle.block_heap.specs.Parts.{image_of}
 use Rattle.block_heap.specs.Requests.{Drains}
 use Rattle.block_heap.specs.SeqState.{SeqState}
 use Rattle.block_heap.specs.Works.{IsAllocatorWord, is_used, is_head, is_info, is_anchor, is_link, is_inside}
+
+-- superblocks 3 and 5 of a class have nothing in use, and superblock 7 is free: 3 and then 5 go to the free list, so 5 is cut, and 3 and 7 stay
+abbrev three_then_five : List ℕ
+three_then_five = 3 ∷ 5 ∷ []
+
+abbrev seven : List ℕ
+seven = 7 ∷ []
+
+three_and_five : reverse three_then_five ++ seven ≡ 5 ∷ 3 ∷ 7 ∷ []
+three_and_five = refl
 
 -- block 1 of class 3, of 6 words, in superblock 0 of a heap of one: the border of a line is behind its second word
 abbrev small_block : Block
