@@ -1,5 +1,5 @@
 -- Where a block goes that is freed in its class.
-use Rattle.std.proofs.Common.{◌≡◌, ◌≢◌, ℕ, ◌+◌, inl, inr, List, ◌∷◌, length, set, Contains, ap, subst, ◌∙◌, arith, get_or-set_same}
+use Rattle.std.proofs.Common.{◌≡◌, ◌≢◌, ℕ, ◌+◌, inl, inr, List, ◌∷◌, length, set, Contains, refl, ap, subst, ◌∙◌, arith, get_or-set_same}
 use Rattle.heap_model.specs.declared.block.Block.{Block}
 use Rattle.heap_model.specs.Sizes.{IsClass, words_of_class, blocks_of}
 use Rattle.heap_model.specs.Chains.{Walks}
@@ -39,6 +39,7 @@ module _ (p : Parts) (class : ℕ) (is : IsClass class) (run : IsRunning p) (b :
   -- it is in front of the cache
   freed_caches : CachesBlock class b.first_word p q
   freed_caches = record {
+    capacity = refl;
     cache = now ∙ ap (λ (x : Cache). record { first = b.first_word; count = x.count + 1 }) cache_is;
     caches = λ c is_c other. other_cache p.caches class new c other;
     volatile = stored.volatile ∙ ap (λ (x : Cache). set p.words.volatile b.first_word x.first) cache_is;
