@@ -5,6 +5,7 @@ use Rattle.heap_model.specs.declared.block.Block.{Block}
 use Rattle.heap_model.specs.Geometry.{lists, head_word, info_word, anchor_word, link_word, used_word, start_word, superblock_words, largest_capacity, largest_capacity_fits}
 use Rattle.heap_model.specs.Sizes.{IsClass, words_of_class}
 use Rattle.heap_model.specs.Words.{head_first, head_of, head_pops}
+use Rattle.heap_model.specs.Recovered.{HasPartIn}
 use Rattle.heap_model.specs.Chains.{Follows}
 use Rattle.heap_model.proofs.CountingLemmas.{times_some}
 use Rattle.heap_model.proofs.MemberLemmas.{in_head, in_rest, head_or_rest}
@@ -25,14 +26,14 @@ use Rattle.block_heap.specs.Held.{held_of, at_mark, block_of_mark, HasMark}
 use Rattle.block_heap.specs.Accounts.{IsUsed, AreAccounted, GivesUse}
 use Rattle.block_heap.specs.Links.{IsOpen, IsPushed, IsPushWord}
 use Rattle.block_heap.specs.Medium.{StoresOnly, Goes, IsStored}
-use Rattle.block_heap.specs.Lists.{LeadsAlong, IsInList, KeepsFree}
+use Rattle.block_heap.specs.Lists.{head_at, LeadsAlong, IsInList, KeepsFree}
 use Rattle.block_heap.specs.Returns.{FreesLarge, FreesOne}
 use Rattle.block_heap.specs.Parts.{Parts, image_of, held_in}
 use Rattle.block_heap.specs.Running.{IsRunning, Serves}
 use Rattle.block_heap.specs.Large.{IsDropped}
 use Rattle.block_heap.specs.Works.{IsAllocatorWord, is_head, is_anchor, is_link, Works}
 use Rattle.block_heap.proofs.MediumLemmas.{stores_then, stores_more}
-use Rattle.block_heap.proofs.OrderLemmas.{in_list_along, list_kept}
+use Rattle.block_heap.proofs.OrderLemmas.{in_list_along, in_list_has, list_kept}
 use Rattle.block_heap.proofs.RunningLemmas.{set_is, settled_kept}
 use Rattle.block_heap.proofs.HeldLemmas.{only_map, mark_block}
 use Rattle.block_heap.proofs.LookLemmas.{looks_kept, looks_then}
@@ -116,6 +117,13 @@ split_not_used d (inr push) = elim push as (λ _. ⊥) [ inl head ↦ omega arit
 split_not_info : (d e : ℕ) → IsSplitWord d (info_word e) → ⊥
 split_not_info d e (inl anchor) = omega arith
 split_not_info d e (inr push) = elim push as (λ _. ⊥) [ inl head ↦ omega arith | inr link ↦ omega arith ]
+
+split_not_head : (d class : ℕ) → IsClass class → IsSplitWord d (head_word class) → ⊥
+split_not_head d class is (inl anchor) = let last = is.last in omega arith
+split_not_head d class is (inr push) = elim push as (λ _. ⊥) [
+  | inl head ↦ let some = is.some in omega arith
+  | inr link ↦ let last = is.last in omega arith
+]
 
 -- One superblock of a freed large block goes to the free list: first its anchor is stored, then it is pushed.
 module _ (p : Parts) (d anchor : ℕ) (u w : View) (run : IsRunning p) (dropped : IsDropped p d) (at : anchor ≡ anchor_word d)
@@ -218,10 +226,19 @@ module _ (p : Parts) (d anchor : ℕ) (u w : View) (run : IsRunning p) (dropped 
       -- the free list loses none
       pub split_frees : FreesOne d p (record p { words = w })
       split_frees =
-          let leads : LeadsAlong (record p { words = w }) 0 (d ∷ s.listed 0) = is_shape.follows 0 (omega arith) in (
-            in_list_along (record p { words = w }) 0 d (d ∷ s.listed 0) leads (in_head d (s.listed 0)),
-            list_kept p (record p { words = w }) 0 0 (s.listed 0) (d ∷ s.listed 0) (run.is.follows 0 (omega arith)) leads (λ e. in_rest d e (s.listed 0)),
-          )
+          let leads : LeadsAlong (record p { words = w }) 0 (d ∷ s.listed 0) = is_shape.follows 0 (omega arith) in record {
+            freed = in_list_along (record p { words = w }) 0 d (d ∷ s.listed 0) leads (in_head d (s.listed 0));
+            only = λ e there.
+                elim (head_or_rest d e (s.listed 0) (in_list_has (record p { words = w }) 0 e (d ∷ s.listed 0) there leads))
+                as (λ _. IsInList p 0 e ⊎ (e ≡ d)) [
+                  | inl same ↦ inr (sym same)
+                  | inr before ↦ inl (in_list_along p 0 e (s.listed 0) (run.is.follows 0 (omega arith)) before)
+                ];
+            free = list_kept p (record p { words = w }) 0 0 (s.listed 0) (d ∷ s.listed 0) (run.is.follows 0 (omega arith)) leads
+                (λ e. in_rest d e (s.listed 0));
+            heads = λ class is. split_stores.volatile (head_word class) (split_not_head d class is);
+            infos = info_same;
+          }
 
       -- the other dropped superblocks stay so
       pub split_others : (e : ℕ) → e ≢ d → IsDropped p e → IsDropped (record p { words = w }) e
@@ -263,12 +280,16 @@ record IsWhole (capacity : ℕ) (b : Block) : Type 0 where
 pub record IsFreed (first d end : ℕ) (p q : Parts) : Type 0 where
   pub some : first + 1 ≤ end
   pub most : end ≤ first + largest_capacity
+  pub until : d ≤ end
   pub running : IsRunning q
   pub left : (e : ℕ) → d ≤ e → e < end → IsDropped q e
   pub used : image_of q used_word ≡ image_of p used_word
   pub uses : (e : ℕ) → ((first ≤ e) × (e < d)) ⊎ IsUsed p e → IsUsed q e
   pub listed : (e : ℕ) → first ≤ e → e < d → IsInList q 0 e
+  pub only : (e : ℕ) → IsInList q 0 e → IsInList p 0 e ⊎ ((first ≤ e) × (e < d))
   pub free : KeepsFree p q
+  pub heads : (class : ℕ) → IsClass class → head_at q class ≡ head_at p class
+  pub infos : (e : ℕ) → image_of q (info_word e) ≡ image_of p (info_word e)
   pub serves : Serves (held_in p) p q
   pub blocks : q.blocks ≡ p.blocks
   pub caches : q.caches ≡ p.caches
@@ -292,15 +313,25 @@ pub freed_more : (first d end : ℕ) (p q r : Parts) → d < end → IsFreed fir
 freed_more first d end p q r below freed running others gives frees goes blocks serves caches taken = record {
   some = freed.some;
   most = freed.most;
+  until = omega arith;
   running = running;
   left = λ e from until. others e (λ same. omega arith) (freed.left e (omega arith) until);
   used = gives.used ∙ freed.used;
   uses = uses;
   listed = λ e from until. elim (cases_eq e d) as (λ _. IsInList r 0 e) [
-    | inl same ↦ subst (λ k. IsInList r 0 k) (sym same) frees.0
-    | inr other ↦ frees.1 e (freed.listed e from (omega arith))
+    | inl same ↦ subst (λ k. IsInList r 0 k) (sym same) frees.freed
+    | inr other ↦ frees.free e (freed.listed e from (omega arith))
   ];
-  free = λ e there. frees.1 e (freed.free e there);
+  only = λ e there. elim (frees.only e there) as (λ _. IsInList p 0 e ⊎ ((first ≤ e) × (e < d + 1))) [
+    | inl before ↦ elim (freed.only e before) as (λ _. IsInList p 0 e ⊎ ((first ≤ e) × (e < d + 1))) [
+      | inl was ↦ inl was
+      | inr one ↦ inr (one.0, omega (arith, one.1))
+    ]
+    | inr same ↦ inr (let few = freed.few in let more = freed.serves.works.stores.drawn in omega arith, omega arith)
+  ];
+  free = λ e there. frees.free e (freed.free e there);
+  heads = λ class is. frees.heads class is ∙ freed.heads class is;
+  infos = λ e. frees.infos e ∙ freed.infos e;
   serves = serves_then (held_in p) p q r freed.serves (subst (λ (h : HeldBlocks). Serves (held_of h) q r) freed.blocks serves);
   blocks = blocks ∙ freed.blocks;
   caches = caches ∙ freed.caches;
@@ -415,12 +446,16 @@ module _ (p : Parts) (b : Block) (run : IsRunning p) (holds : Contains (held_in 
         record {
           some = omega arith;
           most = omega arith;
+          until = omega arith;
           running = drop_running;
           left = λ e from until. drop_left e (omega arith) (omega arith);
           used = refl;
           uses = λ e before. elim before as (λ _. IsUsed (record p { blocks = h }) e) [ inl none ↦ absurd (omega (arith, none.0, none.1)) | inr same ↦ same ];
           listed = λ e from until. absurd (omega arith);
+          only = λ e there. inl there;
           free = λ e there. there;
+          heads = λ class is. refl;
+          infos = λ e. refl;
           serves = record {
             capacity = refl;
             works = works_none p.capacity (held_of h) p.words;
@@ -445,7 +480,13 @@ module _ (p : Parts) (b : Block) (run : IsRunning p) (holds : Contains (held_in 
         let one : first ≡ whole.first = omega arith in
         let count : b.words / 8192 ≡ whole.count = omega arith in record {
           all = λ e part. let begins = part.begins in let ends = part.ends in freed.listed e (omega arith) (omega arith);
+          only = λ e there. elim (freed.only e there) as (λ _. IsInList p 0 e ⊎ HasPartIn p.capacity b e) [
+            | inl before ↦ inl before
+            | inr part ↦ let until = freed.until in inr (record { begins = omega (arith, part.0, part.1); ends = omega (arith, part.0, part.1) })
+          ];
           free = freed.free;
+          heads = freed.heads;
+          infos = λ e below. freed.infos e;
           caches = freed.caches;
         }
 

@@ -8,7 +8,7 @@ use Rattle.heap_model.specs.Chains.{Walks}
 use Rattle.heap_shape.specs.Standing.{IsFirstOf}
 use Rattle.heap_shape.specs.Effects.{IsInSuperblock}
 use Rattle.block_heap.specs.declared.small.Front.{Front}
-use Rattle.block_heap.specs.Lists.{IsInList, KeepsFree}
+use Rattle.block_heap.specs.Lists.{head_at, IsInList, KeepsFree}
 use Rattle.block_heap.specs.Parts.{Parts, image_of, cache_at}
 
 -- the cache of the class leads along these blocks
@@ -55,10 +55,13 @@ pub record FreesSmall (class word : ℕ) (p r : Parts) : Type 0 where
   pub all : (d : ℕ) → IsFirstOf p.capacity class d word → (cache_at p.caches class).count + 1 ≡ blocks_of class
       → CachesOnlyOf class d p → IsInList r 0 d
 
--- the superblocks of a freed large block are in the free list
+-- the superblocks of a freed large block came to the free list, and no others: each keeps its info until it is cut again
 pub record FreesLarge (b : Block) (p q : Parts) : Type 0 where
   pub all : (d : ℕ) → HasPartIn p.capacity b d → IsInList q 0 d
+  pub only : (d : ℕ) → IsInList q 0 d → IsInList p 0 d ⊎ HasPartIn p.capacity b d
   pub free : KeepsFree p q
+  pub heads : (class : ℕ) → IsClass class → head_at q class ≡ head_at p class
+  pub infos : (d : ℕ) → d < p.capacity → image_of q (info_word d) ≡ image_of p (info_word d)
   pub caches : q.caches ≡ p.caches
 
 -- where a freed block goes, by its size
@@ -79,6 +82,10 @@ pub record GivesTo (class : ℕ) (front : Front) (p q : Parts) : Type 0 where
   pub only : (d : ℕ) → IsInList q 0 d → IsInList p 0 d ⊎ ((d ≡ front.d) × (front.batch.count ≡ blocks_of class))
   pub infos : (d : ℕ) → d < p.capacity → image_of q (info_word d) ≡ image_of p (info_word d)
 
--- superblock d is in the free list, which loses none
-abbrev pub FreesOne : ℕ → Parts → Parts → Type 0
-FreesOne d p q = IsInList q 0 d × KeepsFree p q
+-- superblock d came to the free list: the lists of the classes and all infos stay
+pub record FreesOne (d : ℕ) (p q : Parts) : Type 0 where
+  pub freed : IsInList q 0 d
+  pub only : (e : ℕ) → IsInList q 0 e → IsInList p 0 e ⊎ (e ≡ d)
+  pub free : KeepsFree p q
+  pub heads : (class : ℕ) → IsClass class → head_at q class ≡ head_at p class
+  pub infos : (e : ℕ) → image_of q (info_word e) ≡ image_of p (info_word e)
