@@ -2,7 +2,7 @@
 use Rattle.std.proofs.Common.{◌≡◌, ◌≢◌, ℕ, ◌+◌, ◌<◌, List, [], ◌∷◌, ◌++◌, None, Some, cond, refl, sym, subst, ◌∙◌, ap, arith, inl, inr, below_more, length-append, length, zero, suc}
 use Rattle.std.specs.Prelude.{nat_eq, IsSome, slice_get}
 use Rattle.std.specs.Map.{lookup}
-use Rattle.std.specs.BTreeMap.{BTreeMap, get, is_at}
+use Rattle.std.specs.BTreeMap.{BTreeMap, get, is_at, IsOrdered}
 use Rattle.std.specs.Ordering.{nat_cmp}
 use Rattle.std.proofs.lemmas.Bool.{cond-true, cond-false, cond_both, cases_eq, ne_eqb, eq-eqb}
 use Rattle.heap_model.specs.declared.block.Block.{Block}
@@ -181,12 +181,12 @@ get-push_last [] m = refl
 get-push_last (y ∷ maps) m = get-push_last maps m
 
 pub maps_push : (image : Image) (n : ℕ) (maps : List (BTreeMap ℕ (List ℕ))) (m : BTreeMap ℕ (List ℕ)) → AreMaps image n maps → MapOf image n (get nat_cmp m)
-    → AreMaps image (n + 1) (maps ++ m ∷ [])
-maps_push image n maps m are is = record {
+    → IsOrdered nat_cmp m → AreMaps image (n + 1) (maps ++ m ∷ [])
+maps_push image n maps m are is ordered = record {
   long = let more = length-append maps (m ∷ []) in let long = are.long in omega arith;
-  each = below_more (λ i. (x : BTreeMap ℕ (List ℕ)) × (slice_get (maps ++ m ∷ []) i ≡ Some x) × MapOf image i (get nat_cmp x)) n
-      (λ i below. let each = are.each i below in (each.0, get-push_left maps m i each.0 each.1, each.2))
-      (m, subst (λ i. slice_get (maps ++ m ∷ []) i ≡ Some m) are.long (get-push_last maps m), is);
+  each = below_more (λ i. (x : BTreeMap ℕ (List ℕ)) × (slice_get (maps ++ m ∷ []) i ≡ Some x) × MapOf image i (get nat_cmp x) × IsOrdered nat_cmp x) n
+      (λ i below. let each = are.each i below in (each.0, get-push_left maps m i each.0 each.1, each.2, each.3))
+      (m, subst (λ i. slice_get (maps ++ m ∷ []) i ≡ Some m) are.long (get-push_last maps m), is, ordered);
 }
 
 -- where the maps of the shards below are there, a bad shard is the lowest

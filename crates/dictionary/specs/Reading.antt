@@ -1,6 +1,6 @@
 -- What the steps of reading a shard tell, and when its reading fails.
 use Rattle.std.specs.Prelude.{◌≡◌, ℕ, ◌+◌, ◌*◌, ◌<◌, ◌≤◌, ◌^◌, List, [], length, None, Some, cond, nat_eq, slice_index, slice_get}
-use Rattle.std.specs.BTreeMap.{BTreeMap, get, btree_map_len}
+use Rattle.std.specs.BTreeMap.{BTreeMap, get, btree_map_len, IsOrdered}
 use Rattle.std.specs.Ordering.{nat_cmp}
 use Rattle.heap_model.specs.declared.block.Block.{Block}
 use Rattle.heap_model.specs.Image.{Image}
@@ -70,10 +70,11 @@ TellsLowest image (BadShard shard at) = (shard < shards) × IsBadShard image sha
     → (map : Map) × MapOf image i map)
 TellsLowest image Memory = Unit {0}
 
--- the maps are those of the first shards, in order
+-- the maps are those of the first shards, in order, each with its keys in order
 pub record AreMaps (image : Image) (count : ℕ) (maps : List (BTreeMap ℕ (List ℕ))) : Type 0 where
   pub long : length maps ≡ count
   pub each : (i : ℕ) → i < count → (m : BTreeMap ℕ (List ℕ)) × (slice_get maps i ≡ Some m) × MapOf image i (get nat_cmp m)
+      × IsOrdered nat_cmp m
 
 -- recovery makes the one image of the other, in which no word that it looks at leads outside; what is reached there is a block here
 pub record RecoversTo (old new : Image) : Type 0 where

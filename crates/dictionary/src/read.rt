@@ -1,6 +1,6 @@
 //! Reading the shards of a recovered heap as maps.
 ghost use Rattle.std.specs.Prelude.{◌≡◌, ◌+◌, ◌<◌, ◌≤◌, ℕ, length, slice_index, IfOk, OnOk, IfErr};
-ghost use Rattle.std.specs.BTreeMap.{get};
+ghost use Rattle.std.specs.BTreeMap.{get, IsOrdered};
 ghost use Rattle.std.specs.Ordering.{nat_cmp};
 ghost use Rattle.heap_model.specs.declared.block.Block.{Block};
 ghost use Rattle.heap_model.specs.Rest.{IsReady};
@@ -30,6 +30,7 @@ pub fn read_map(
 ) -> Result<BTreeMap<u64, Bytes>, MapFault>
     requires { i < 8 }
     ensures ok { IfOk result (λ map. MapOf (slice_index recovered.now.heap.words) i (get nat_cmp map)) }
+    ensures ordered { IfOk result (λ map. IsOrdered nat_cmp map) }
     ensures err { IfErr result (TellsBad (slice_index recovered.now.heap.words) i) }
 {
     let words = recovered.heap.words();
@@ -79,6 +80,7 @@ fn read_shard(
     requires read { IsRead scan.words.now scan.directory.now origins.now }
     requires shard { shard < 8 }
     ensures ok { IfOk result (λ map. MapOf (slice_index scan.entry.words.now) shard (get nat_cmp map)) }
+    ensures ordered { IfOk result (λ map. IsOrdered nat_cmp map) }
     ensures err { IfErr result (TellsBad (slice_index scan.entry.words.now) shard) }
 {
     let walk = Walk {
@@ -113,7 +115,9 @@ fn read_chain(
     requires table { HasTable (LeadsAlone (slice_index walk.now.scan.words.now) walk.now.shard) (slice_index walk.now.scan.words.now) walk.now.shard table }
     requires bucket { bucket < buckets }
     requires upto { IsMapUpTo (LeadsAlone (slice_index walk.now.scan.words.now) walk.now.shard) (slice_index walk.now.scan.words.now) walk.now.shard table bucket (get nat_cmp map.old) }
+    requires ordered { IsOrdered nat_cmp map.old }
     ensures ok { OnOk result (IsMapUpTo (LeadsAlone (slice_index walk.now.scan.words.now) walk.now.shard) (slice_index walk.now.scan.words.now) walk.now.shard table (bucket + 1) (get nat_cmp map.new)) }
+    ensures ordered { OnOk result (IsOrdered nat_cmp map.new) }
     ensures err { IfErr result (TellsBad (slice_index walk.now.scan.words.now) walk.now.shard) }
 {
     let mut at = table.first_word + bucket;

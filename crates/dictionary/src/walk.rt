@@ -1,6 +1,6 @@
 //! The steps of reading a shard: where its root and links lead, and what stands in a node.
-ghost use Rattle.std.specs.Prelude.{◌≡◌, ◌≢◌, ◌+◌, ◌*◌, ◌<◌, ◌≤◌, ◌^◌, ◌↔◌, ℕ, false, length, slice_index, IfOk, IsTrue, IsSome};
-ghost use Rattle.std.specs.BTreeMap.{get};
+ghost use Rattle.std.specs.Prelude.{◌≡◌, ◌≢◌, ◌+◌, ◌*◌, ◌<◌, ◌≤◌, ◌^◌, ◌↔◌, ℕ, false, length, slice_index, IfOk, OnOk, IsTrue, IsSome};
+ghost use Rattle.std.specs.BTreeMap.{get, IsOrdered};
 ghost use Rattle.std.specs.Ordering.{nat_cmp};
 ghost use Rattle.heap_model.specs.declared.block.Block.{Block};
 ghost use Rattle.heap_model.specs.Blocks.{layout_of, IsBlock};
@@ -166,6 +166,7 @@ impl Walk<'_> {
         requires block { IsBlock (layout_of (slice_index self.now.scan.words.now)) block }
         requires fits { 3 + value_words (length_in (slice_index self.now.scan.words.now) block) ≤ block.words }
         ensures new { IfOk result (λ new. IsTrue new → AddsNode (slice_index self.now.scan.words.now) block map.old map.new) }
+        ensures ordered { OnOk result (IsOrdered nat_cmp map.new) }
         ensures known { IfOk result (λ new. new ≡ false → IsSome (get nat_cmp map.old (key_in (slice_index self.now.scan.words.now) block))) }
     {
         let key = self.word(block, 1);

@@ -14,6 +14,7 @@ loop-node-init c =
     record {
       before = chain_begins (LeadsAlone (slice_index c.args.walk.now.scan.words.now) c.args.walk.now.shard) (slice_index c.args.walk.now.scan.words.now) c.args.walk.now.shard c.args.table c.args.bucket
           (get nat_cmp c.args.map.now) c.requires.upto;
+      ordered = c.requires.ordered;
       inside = omega arith;
     }
 
@@ -40,5 +41,6 @@ loop-node-preserved c =
     record {
       before = chain_step (LeadsAlone (slice_index c.args.walk.now.scan.words.now) c.args.walk.now.shard) (slice_index c.args.walk.now.scan.words.now) c.args.walk.now.shard c.args.table c.args.bucket
           c.loop-node.at c.loop-node.map c.add.new.map c.in-To.node c.loop-node.invariant.before c.in-To.ensures.0 c.in-To.ensures.1 (c.in_ok-add.ensures.new c.if-not-branch.false);
+      ordered = c.in_ok-add.ensures.ordered;
       inside = omega arith;
     }

@@ -20,7 +20,7 @@ read_shard-requires-clause-read c = record {
 
 pub loop-shard-preserved : goal.loop-shard-preserved
 loop-shard-preserved c = rw (c.in-Ok.ensures.items)
-    (maps_push (slice_index c.words-words.result.now) c.loop-shard.shard c.loop-shard.maps.items c.in_ok-read_shard.field-0 c.loop-shard.invariant c.in_ok-read_shard.ensures.ok)
+    (maps_push (slice_index c.words-words.result.now) c.loop-shard.shard c.loop-shard.maps.items c.in_ok-read_shard.field-0 c.loop-shard.invariant c.in_ok-read_shard.ensures.ok c.in_ok-read_shard.ensures.ordered)
 
 pub returns-in_err-read_shard-clause-err : goal.returns-in_err-read_shard-clause-err
 returns-in_err-read_shard-clause-err c =
