@@ -13,6 +13,7 @@ use Rattle.heap_seat.specs.Calls.{SameRefusals}
 use Rattle.heap_seat.specs.Alloc.{FailsBy}
 use Rattle.heap_seat.specs.Looks.{IsLastSeen, FoundNone}
 use Rattle.heap_seat.specs.Sound.{IsSeat}
+use Rattle.heap_seat.proofs.CallerLemmas.{keeps_own_then}
 use Rattle.heap_seat.proofs.RowLemmas.{runs_then, stops_then, same_refusals_then}
 use Rattle.dict_model.specs.Nodes.{largest_value, shard_of, bucket_of}
 use Rattle.dict_model.specs.Requests.{with_key}
@@ -74,7 +75,7 @@ refused_before reads bytes before behind most looks v u w runs same taken sum re
     }
 
 -- the cause of a refusal, and of a stop, over calls before
-pub put_fails : (reads : ℕ → Type 0) (bytes : ℕ) (fault : AllocFault) (v u w : View) → Runs v u → Grown v u → SameRefusals v u → u.taken ≤ v.taken + 0 → Grown u w → FailsBy reads bytes fault u w
+pub put_fails : (reads : ℕ → Type 0) (bytes : ℕ) (fault : AllocFault) (v u w : View) → Runs v u → KeepsOwn v u → SameRefusals v u → u.taken ≤ v.taken + 0 → ((looks : Looks) → fault ≡ Full looks → KeepsOwn u w) → FailsBy reads bytes fault u w
     → PutFails reads bytes fault v w
 put_fails reads bytes (Full looks) v u w runs before same taken after fails = (
   refused_before reads bytes 0 0 0 looks v u w runs same taken (omega arith) (record {
@@ -85,7 +86,7 @@ put_fails reads bytes (Full looks) v u w runs before same taken after fails = (
     looks_are = fails.looks_are;
     taken = let t = fails.taken in omega arith;
   }),
-  grown_then v u w before after,
+  keeps_own_then v u w before (after looks refl),
 )
 put_fails reads bytes (Stopped stopped) v u w runs before same taken after fails = (stops_then stopped.step v u w runs fails.0, same_refusals_then v u w same fails.1)
 

@@ -7,6 +7,7 @@ use Rattle.heap_seat.specs.declared.fault.Looks.{Looks}
 use Rattle.heap_model.specs.Geometry.{root_word}
 use Rattle.heap_model.specs.Sizes.{span_of}
 use Rattle.heap_seat.specs.View.{View}
+use Rattle.heap_seat.specs.Words.{KeepsOwn}
 use Rattle.heap_seat.specs.Tickets.{Runs, Stops}
 use Rattle.heap_seat.specs.Calls.{SameRefusals}
 use Rattle.heap_seat.specs.Looks.{FoundNoRoom}
@@ -14,7 +15,6 @@ use Rattle.dict_model.specs.Nodes.{shard_of, table_bytes}
 use Rattle.dict_model.specs.Shards.{Map}
 use Rattle.dict_seat.specs.Maps.{Gives}
 use Rattle.dict_seat.specs.Trails.{IsSettling, HasCome}
-use Rattle.dict_seat.specs.Quiet.{Grown}
 
 -- the table has no node of the key
 pub record IsMissing (v : View) (key : ℕ) (table : Block) : Type 0 where
@@ -32,7 +32,7 @@ pub record IsRefused (reads : ℕ → Type 0) (bytes most : ℕ) (looks : Looks)
 
 -- why a put was not done: this request was refused, and no word was stored to; or the seat stopped
 abbrev pub PutFails : (ℕ → Type 0) → ℕ → AllocFault → View → View → Type 0
-PutFails reads bytes (Full looks) v w = IsRefused reads bytes 0 looks v w × Grown v w
+PutFails reads bytes (Full looks) v w = IsRefused reads bytes 0 looks v w × KeepsOwn v w
 PutFails reads bytes (Stopped stopped) v w = Stops stopped.step v w × SameRefusals v w
 
 -- as far as loads' view of the shard's root was known, it was null

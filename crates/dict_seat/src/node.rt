@@ -2,7 +2,9 @@
 ghost use Rattle.std.specs.Prelude.{◌≡◌, ◌≢◌, ℕ, ◌+◌, ◌*◌, ◌/◌, ◌<◌, ◌≤◌, ◌^◌, length, OnOk, IfOk, IfErr, Contains};
 ghost use Rattle.heap_model.specs.declared.block.Block.{Block};
 ghost use Rattle.heap_seat.specs.View.{View};
-ghost use Rattle.heap_seat.specs.Words.{MayStore};
+ghost use Rattle.heap_seat.specs.Words.{KeepsOwn, MayStore};
+ghost use Rattle.heap_seat.specs.declared.fault.AllocFault.TheVariants.{Full};
+ghost use Rattle.heap_seat.specs.declared.fault.Looks.{Looks};
 ghost use Rattle.heap_seat.specs.Tickets.{Stops};
 ghost use Rattle.heap_seat.specs.Calls.{SameRefusals};
 ghost use Rattle.heap_seat.specs.Rows.{IsRow};
@@ -100,6 +102,8 @@ pub(crate) fn make_node<H: HeapSeat>(
         (H.view seat.old) (H.view seat.new)) }
     ensures cause { IfErr result (λ fault. FailsBy H.reads (node_bytes (length value.now)) fault
         (H.view seat.old) (H.view seat.new)) }
+    ensures full { IfErr result (λ fault. (looks : Looks) → fault ≡ Full looks
+        → KeepsOwn (H.view seat.old) (H.view seat.new)) }
     ensures grown { Grown (H.view seat.old) (H.view seat.new) }
     ensures calls { IsRow (2 * value_words (length value.now) + 7) 1
         (span_of (node_bytes (length value.now))) (H.view seat.old) (H.view seat.new) }

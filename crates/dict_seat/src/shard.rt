@@ -1,6 +1,8 @@
 //! The requests to a shard.
 ghost use Rattle.std.specs.Prelude.{◌≡◌, ℕ, ◌+◌, ◌<◌, ◌≤◌, length, OnOk, IfOk, IfErr};
 ghost use Rattle.heap_model.specs.Sizes.{span_of};
+ghost use Rattle.heap_seat.specs.declared.fault.AllocFault.TheVariants.{Full};
+ghost use Rattle.heap_seat.specs.declared.fault.Looks.{Looks};
 ghost use Rattle.heap_seat.specs.View.{View};
 ghost use Rattle.heap_seat.specs.Tickets.{Runs, Stops};
 ghost use Rattle.heap_seat.specs.Calls.{SameRefusals};
@@ -84,6 +86,8 @@ impl Shard {
         ensures runs { OnOk result (Runs (H.view seat.old) (H.view seat.new)) }
         ensures exact { OnOk result (ReachesAllHeld (H.view seat.old)
             → ReachesAllHeld (H.view seat.new)) }
+        ensures exact_full { IfErr result (λ fault. (looks : Looks) → fault ≡ Full looks
+            → ReachesAllHeld (H.view seat.old) → ReachesAllHeld (H.view seat.new)) }
         ensures taken { OnOk result (PutTakes (node_bytes (length value.now)) (shard_of key)
             (H.view seat.old) (H.view seat.new)) }
         ensures cause { IfErr result (λ fault. PutAnswers H.reads (node_bytes (length value.now))

@@ -1,7 +1,10 @@
-use Rattle.std.proofs.Common.{◌+◌, ◌*◌, length, ◌∙◌, subst, arith}
+use Rattle.std.proofs.Common.{◌≡◌, ◌+◌, ◌*◌, length, ◌∙◌, subst, arith}
 use Rattle.std.proofs.lemmas.Result.{err_from_is_err_and, on_ok_weaker, IfErr-weaker}
 use Rattle.heap_model.specs.Sizes.{span_of}
 use Rattle.heap_seat.specs.declared.fault.AllocFault.{AllocFault}
+use Rattle.heap_seat.specs.declared.fault.AllocFault.TheVariants.{Full}
+use Rattle.heap_seat.specs.declared.fault.Looks.{Looks}
+use Rattle.dict_seat.specs.Reached.{ReachesAllHeld}
 use Rattle.heap_seat.proofs.RowLemmas.{row_then, row_more}
 use Rattle.dict_model.specs.Nodes.{shard_of, value_words, node_bytes, table_bytes}
 use Rattle.dict_model.specs.Requests.{with_key}
@@ -13,7 +16,7 @@ use Rattle.dict_seat.proofs.ExactCallLemmas.{all_quiet}
 use Rattle.dict_seat.proofs.TrailLemmas.{same_map}
 use Rattle.dict_seat.proofs.ChangeLemmas.{change_none, change_after, changes_after}
 use Rattle.dict_seat.proofs.DelLemmas.{shard_still, few_calls}
-use Rattle.dict_seat.proofs.RequestLemmas.{was_null, still_owned, answers_node, answers_table, answers_behind, change_behind, changes_behind, shard_behind}
+use Rattle.dict_seat.proofs.RequestLemmas.{full_keeps, was_null, still_owned, answers_node, answers_table, answers_behind, change_behind, changes_behind, shard_behind}
 use Rattle.dict_seat.proofs.shard.Shard.put.Goals as goal
 
 pub returns-in_err-place-clause-crash : goal.returns-in_err-place-clause-crash
@@ -238,6 +241,63 @@ returns-in-Missing-clause-exact g c =
     let grown = grown_keeps v u keeps in
     let seat = g.met.H.HeapSeat.seat c.search.new.seat in
     on_ok_weaker c.put_first.result (λ exact all. exact (all_quiet v u seat keeps all)) c.put_first.ensures.exact
+
+pub returns-in-Found-clause-exact_full : goal.returns-in-Found-clause-exact_full
+returns-in-Found-clause-exact_full g c =
+    let view = g.H.HeapSeat.view in
+    let v = view c.args.seat.now in
+    let u = view c.search.new.seat in
+    let keeps = c.search.ensures.quiet.quiet.unchanged in
+    let grown = grown_keeps v u keeps in
+    let seat = g.met.H.HeapSeat.seat c.search.new.seat in
+    let w = view c.put_over.new.seat in
+    IfErr-weaker c.put_over.result (λ (fault : AllocFault). PutFails g.H.HeapSeat.reads (node_bytes (length c.args.value.now)) fault u w)
+    (λ (fault : AllocFault). (looks : Looks) → fault ≡ Full looks → ReachesAllHeld v → ReachesAllHeld w)
+    (λ fault fails looks is all. all_quiet u w (g.met.H.HeapSeat.seat c.put_over.new.seat)
+    (full_keeps g.H.HeapSeat.reads (node_bytes (length c.args.value.now)) fault u w looks is fails) (all_quiet v u seat keeps all)) c.put_over.ensures.cause
+
+pub returns-in-Missing-clause-exact_full : goal.returns-in-Missing-clause-exact_full
+returns-in-Missing-clause-exact_full g c =
+    let view = g.H.HeapSeat.view in
+    let v = view c.args.seat.now in
+    let u = view c.search.new.seat in
+    let keeps = c.search.ensures.quiet.quiet.unchanged in
+    let grown = grown_keeps v u keeps in
+    let seat = g.met.H.HeapSeat.seat c.search.new.seat in
+    let w = view c.put_first.new.seat in
+    IfErr-weaker c.put_first.result (λ (fault : AllocFault). PutFails g.H.HeapSeat.reads (node_bytes (length c.args.value.now)) fault u w)
+    (λ (fault : AllocFault). (looks : Looks) → fault ≡ Full looks → ReachesAllHeld v → ReachesAllHeld w)
+    (λ fault fails looks is all. all_quiet u w (g.met.H.HeapSeat.seat c.put_first.new.seat)
+    (full_keeps g.H.HeapSeat.reads (node_bytes (length c.args.value.now)) fault u w looks is fails) (all_quiet v u seat keeps all)) c.put_first.ensures.cause
+
+pub returns-in_ok-table-in-NoTable-clause-exact_full : goal.returns-in_ok-table-in-NoTable-clause-exact_full
+returns-in_ok-table-in-NoTable-clause-exact_full g c =
+    let view = g.H.HeapSeat.view in
+    let v = view c.args.seat.now in
+    let u = view c.search.new.seat in
+    let keeps = c.search.ensures.quiet.quiet.unchanged in
+    let grown = grown_keeps v u keeps in
+    let seat = g.met.H.HeapSeat.seat c.search.new.seat in
+    let y = view c.make_table.new.seat in
+    let w = view c.put_first-in-NoTable.new.seat in
+    IfErr-weaker c.put_first-in-NoTable.result (λ (fault : AllocFault). PutFails g.H.HeapSeat.reads (node_bytes (length c.args.value.now)) fault y w)
+    (λ (fault : AllocFault). (looks : Looks) → fault ≡ Full looks → ReachesAllHeld v → ReachesAllHeld w)
+    (λ fault fails looks is all. all_quiet y w (g.met.H.HeapSeat.seat c.put_first-in-NoTable.new.seat)
+    (full_keeps g.H.HeapSeat.reads (node_bytes (length c.args.value.now)) fault y w looks is fails) (c.in_ok-table-in-NoTable.ensures.exact (all_quiet v u seat keeps all))) c.put_first-in-NoTable.ensures.cause
+
+pub returns-in_err-table-in-NoTable-clause-exact_full : goal.returns-in_err-table-in-NoTable-clause-exact_full
+returns-in_err-table-in-NoTable-clause-exact_full g c =
+    let view = g.H.HeapSeat.view in
+    let v = view c.args.seat.now in
+    let u = view c.search.new.seat in
+    let keeps = c.search.ensures.quiet.quiet.unchanged in
+    let grown = grown_keeps v u keeps in
+    let seat = g.met.H.HeapSeat.seat c.search.new.seat in
+    let y = view c.make_table.new.seat in
+    let p = err_from_is_err_and c.from_residual-in_err-table-in-NoTable.result c.from_residual-in_err-table-in-NoTable.ensures.1 in
+    rw (p.1, p.2)
+    (λ looks is all. all_quiet u y (g.met.H.HeapSeat.seat c.make_table.new.seat)
+    (full_keeps g.H.HeapSeat.reads table_bytes c.in_err-table-in-NoTable.field-0.0 u y looks is c.in_err-table-in-NoTable.ensures.cause) (all_quiet v u seat keeps all))
 
 pub returns-in_ok-table-in-NoTable-clause-exact : goal.returns-in_ok-table-in-NoTable-clause-exact
 returns-in_ok-table-in-NoTable-clause-exact g c =
