@@ -48,7 +48,8 @@ pub record RootIsSet (w : View) (shard : ℕ) : Type 0 where
 -- which request a put had refused: its node's, where the shard had a table or just behind one that was made; or that for a missing table
 pub data PutRefused (reads : ℕ → Type 0) (bytes shard : ℕ) (looks : Looks) (v w : View) : Type 0 where
   of_node : RootIsSet w shard → IsRefused reads bytes 0 looks v w → PutRefused reads bytes shard looks v w
-  of_node_behind_table : WasNull v shard → RootIsSet w shard → IsRefused reads bytes (span_of table_bytes) looks v w → PutRefused reads bytes shard looks v w
+  of_node_behind_table : WasNull v shard → RootIsSet w shard → IsRefused reads bytes (span_of table_bytes) looks v w
+      → PutRefused reads bytes shard looks v w
   of_table : w.volatile (root_word shard) ≡ Some 0 → IsRefused reads table_bytes 0 looks v w → PutRefused reads bytes shard looks v w
 
 -- why a put answers a fault: a request was refused, and every mixture gives the map as before; or the seat stopped

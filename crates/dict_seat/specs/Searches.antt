@@ -33,7 +33,8 @@ pub record FindsTable (shard : ℕ) (table : Option Block) (v w : View) : Type 0
 -- where the search for a key came to: there is no table, or the key isn't in it, or its node was found
 abbrev pub EndsAt : ℕ → View → View → SearchEnd → Type 0
 EndsAt key v w NoTable = HasNoRoot (shard_of key) v w
-EndsAt key v w (Missing table) = HasCome IsSettling w (shard_of key) key table [] × ((map : Map) → Gives v (shard_of key) map → map key ≡ None)
+EndsAt key v w (Missing table) =
+    HasCome IsSettling w (shard_of key) key table [] × ((map : Map) → Gives v (shard_of key) map → map key ≡ None)
 EndsAt key v w (Found place) = IsFound w key place
 
 pub record Searches (key : ℕ) (search : SearchEnd) (v w : View) : Type 0 where
