@@ -10,7 +10,7 @@ use Rattle.heap_model.proofs.BlockLemmas.{block_step}
 use Rattle.heap_model.proofs.SizeLemmas.{blocks_fit, two_words, four_blocks}
 use Rattle.crash_core.proofs.TotalLemmas.{eq-eqb-one}
 use Rattle.crash_core.specs.Cells.{superblock_at}
-use Rattle.crash_core.specs.Effects.{chain, first_of, last_of, batch_count}
+use Rattle.crash_core.specs.Effects.{chain, first_of, last_of}
 use Rattle.crash_core.specs.Sound.{IsCutBlock, IsAnchoredBy}
 use Rattle.crash_core.proofs.TotalLemmas.{total_set}
 
@@ -43,12 +43,8 @@ pub after_last : (next : ℕ → ℕ) (from b : ℕ) (bs : List ℕ) → Walks n
 after_last next from b [] w = refl
 after_last next from b (c ∷ bs) w = after_last next (next b) c bs w.1
 
-pub count_length : (bs : List ℕ) → batch_count bs ≡ length bs
-count_length [] = refl
-count_length (b ∷ bs) = let rest = count_length bs in omega arith
-
 -- the first of some blocks is one of them
-pub first_there : (xs : List ℕ) → 1 ≤ batch_count xs → 0 < times (first_of xs) xs
+pub first_there : (xs : List ℕ) → 1 ≤ length xs → 0 < times (first_of xs) xs
 first_there [] some = absurd (omega arith)
 first_there (b ∷ xs) some = let one = eq-eqb-one b b refl in omega arith
 

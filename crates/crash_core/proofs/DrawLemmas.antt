@@ -34,7 +34,9 @@ module _ (k : Setup) (m : Memory) (views : List View) (i : ℕ) (v : View) (belo
       last = drawn_later m.drawn u.last_ticket t.last;
       used_look = drawn_later m.drawn u.used_look.ticket t.used_look;
       head_looks = λ list is. drawn_later m.drawn (get_or u.head_looks list u.used_look).ticket (t.head_looks list is);
-      counts = t.counts; state = t.state; looked_then = t.looked_then;
+      counts = t.counts;
+      state = t.state;
+      looked_then = t.looked_then;
       gives = t.gives;
       cuts = t.cuts;
     });
@@ -97,8 +99,11 @@ module _ (k : Setup) (m : Memory) (views : List View) (i : ℕ) (v : View) (belo
         used_look = drawn_later m.drawn v.used_look.ticket t.used_look;
         head_looks = λ list is. drawn_later m.drawn (get_or v.head_looks list v.used_look).ticket (t.head_looks list is);
         counts = (let c = t.counts in omega arith);
-        state = record { stopping = λ n e. absurd (let s = ap one_if_some e in omega arith); in_hand = λ _. (refl, let e = ap (λ (s : Setup). s.budget) seat.set_up.setup in omega arith);
-          going = λ _ _. let e = ap (λ (s : Setup). s.budget) seat.set_up.setup in omega arith };
+        state = record {
+          stopping = λ n e. absurd (let s = ap one_if_some e in omega arith);
+          in_hand = λ _. (refl, let e = ap (λ (s : Setup). s.budget) seat.set_up.setup in omega arith);
+          going = λ _ _. let e = ap (λ (s : Setup). s.budget) seat.set_up.setup in omega arith;
+        };
         looked_then = t.looked_then;
         gives = t.gives;
         cuts = let c = t.cuts in omega arith;
@@ -115,8 +120,11 @@ module _ (k : Setup) (m : Memory) (views : List View) (i : ℕ) (v : View) (belo
         used_look = drawn_later m.drawn v.used_look.ticket t.used_look;
         head_looks = λ list is. drawn_later m.drawn (get_or v.head_looks list v.used_look).ticket (t.head_looks list is);
         counts = (let c = t.counts in omega arith);
-        state = record { stopping = λ n e. (let b = ap (λ (s : Setup). s.budget) seat.set_up.setup in let d = ap seen e in omega arith, e, refl); in_hand = λ e. absurd (not_there e);
-          going = λ e. absurd (let s = ap one_if_some e in omega arith) };
+        state = record {
+          stopping = λ n e. (let b = ap (λ (s : Setup). s.budget) seat.set_up.setup in let d = ap seen e in omega arith, e, refl);
+          in_hand = λ e. absurd (not_there e);
+          going = λ e. absurd (let s = ap one_if_some e in omega arith);
+        };
         looked_then = t.looked_then;
         gives = t.gives;
         cuts = let c = t.cuts in omega arith;

@@ -7,7 +7,7 @@ use Rattle.heap_model.specs.Counting.{times, total, below}
 use Rattle.crash_core.specs.Cells.{Cell, used_cell, info_cell, anchor_cell, link_cell, is_cell, index_of}
 use Rattle.crash_core.specs.Memory.{Memory, volatile_at, durable_at, used, durable_used, anchor, write}
 use Rattle.crash_core.specs.View.{Setup, View, Snapshot, known, times_own, times_raw, times_classed, times_claimed, times_large, times_block}
-use Rattle.crash_core.specs.Effects.{seen, seen_word, seen_of, cleared, steps, batch_count, learn, learn_fresh, used_up, taken_fresh}
+use Rattle.crash_core.specs.Effects.{seen, seen_word, seen_of, cleared, steps, learn, learn_fresh, used_up, taken_fresh}
 use Rattle.crash_core.specs.Guards.{IsThere, IsOwn, MayTake}
 use Rattle.crash_core.specs.Sound.{tally_of, IsInShape, Knows, KnowsWords, IsBlank, times_parked, empties, Good}
 use Rattle.crash_core.proofs.TotalLemmas.{total_set, total_same}
@@ -205,7 +205,7 @@ module _ (k : Setup) (m : Memory) (views : List View) (i : ℕ) (v : View) (belo
       seen_used = λ _. omega arith;
       looked = let l = s.looked in omega arith;
       seen_anchor = λ there. let same = cleared_same u n v.seen_anchor there in
-          subst (λ (x : Option Snapshot). (0 < times_claimed (seen_of x) w) ⊎ ((v.batch.descriptor ≡ seen_of x) × (1 ≤ batch_count v.batch.blocks))) (sym same)
+          subst (λ (x : Option Snapshot). (0 < times_claimed (seen_of x) w) ⊎ ((v.batch.descriptor ≡ seen_of x) × (1 ≤ length v.batch.blocks))) (sym same)
           (elim (s.seen_anchor (subst IsThere same there)) [ inl claimed ↦ inl (let e = claimed_more (seen_of v.seen_anchor) in omega arith) | inr batch ↦ inr batch ]);
       seen_empty = λ there. let same = cleared_same u n v.seen_anchor there in
           subst (λ (x : Option Snapshot). 0 < times_classed (seen_of x) v.classed → anchor_state (seen_word x) ≡ empty_state → anchor_state (anchor m (seen_of x)) ≡ empty_state) (sym same)

@@ -10,7 +10,7 @@ use Rattle.heap_model.proofs.SizeLemmas.{two_words, few_blocks}
 use Rattle.crash_core.specs.Cells.{anchor_cell, superblock_at}
 use Rattle.crash_core.specs.Memory.{Memory, volatile_at, anchor, info, next, write}
 use Rattle.crash_core.specs.View.{Setup, View, Batch, no_batch, times_raw, times_classed, times_large, times_block}
-use Rattle.crash_core.specs.Effects.{seen_word, steps, first_of, last_of, batch_count, trimmed, claim_class, claimed, won, given, batch_anchor}
+use Rattle.crash_core.specs.Effects.{seen_word, steps, first_of, last_of, trimmed, claim_class, claimed, won, given, batch_anchor}
 use Rattle.crash_core.specs.Guards.{IsThere, MayGive}
 use Rattle.crash_core.specs.Sound.{Shape, Tally, tally_of, IsInShape, IsSetUp, IsCutBlock, IsAnchoredBy, AreChained, ClaimsOf, HasBlocks, class_numbers, times_in_lists, times_parked, times_cut, empties, Good}
 use Rattle.crash_core.proofs.TotalLemmas.{total_set, total_same, total_at, total_change, total_where, eq-eqb-one, ne-eqb-none}
@@ -20,7 +20,7 @@ use Rattle.crash_core.proofs.OwnLemmas.{one_at_most, won_tickets, length_only}
 use Rattle.crash_core.proofs.QuietLemmas.{not_there}
 use Rattle.crash_core.proofs.CountLemmas.{all_home}
 use Rattle.crash_core.proofs.ListLemmas.{class_of}
-use Rattle.crash_core.proofs.BlockLemmas.{superblock_is, walks_append, after_last, count_length, parts_of, at_one, at_other, first_there}
+use Rattle.crash_core.proofs.BlockLemmas.{superblock_is, walks_append, after_last, parts_of, at_one, at_other, first_there}
 use Rattle.crash_core.proofs.AnchorLemmas as on_anchor
 
 module _ (k : Setup) (m : Memory) (views : List View) (i : ℕ) (v : View) (below_i : i < length views) (at : get_or views i v ≡ v) (good : Good k m views)
@@ -47,7 +47,7 @@ module _ (k : Setup) (m : Memory) (views : List View) (i : ℕ) (v : View) (belo
   cap = ap (λ (s : Setup). s.capacity) seat.set_up.setup
 
   some_length : 0 < length bs
-  some_length = let c = count_length bs in let s = may.some in omega arith
+  some_length = let s = may.some in omega arith
 
   -- each block of the batch is of the superblock
   out : (b : ℕ) → 0 < times b bs → 0 < (tally_of views).blocks b
@@ -87,21 +87,21 @@ module _ (k : Setup) (m : Memory) (views : List View) (i : ℕ) (v : View) (belo
       let two = two_words class is_class in
       ap (λ n. n / words_of_class class) e ∙ mul-div_cancel first_block.index {n = words_of_class class} (omega arith)
 
-  count_is : batch_count bs + anchor_count word ≡ length chain'
-  count_is = let a = count_length bs in let b = length-append bs (good.shape.chains d) in let c = anchored.count in let z = ap anchor_count as_seen in omega arith
+  count_is : length bs + anchor_count word ≡ length chain'
+  count_is = let b = length-append bs (good.shape.chains d) in let c = anchored.count in let z = ap anchor_count as_seen in omega arith
 
   abbrev state' : ℕ
-  state' = cond (nat_eq (batch_count bs + anchor_count word) (blocks_of class)) empty_state partial_state
+  state' = cond (nat_eq (length bs + anchor_count word) (blocks_of class)) empty_state partial_state
 
   state_small : state' < 2
-  state_small = by_test (nat_eq (batch_count bs + anchor_count word) (blocks_of class)) where
+  state_small = by_test (nat_eq (length bs + anchor_count word) (blocks_of class)) where
     by_test : (test : Bool) → cond test empty_state partial_state < 2
     by_test true = omega arith
     by_test false = omega arith
 
   parts : (anchor_state x ≡ state') × (anchor_first x ≡ first_block.index) × (anchor_count x ≡ length chain')
   parts = let few = few_blocks class is_class in let below = first_block.below in let small = state_small in
-      let p = parts_of state' ((first_of bs - start_word v.setup.capacity d) / words_of_class class) (batch_count bs + anchor_count word) (omega arith) (let e = index_is in omega arith) in
+      let p = parts_of state' ((first_of bs - start_word v.setup.capacity d) / words_of_class class) (length bs + anchor_count word) (omega arith) (let e = index_is in omega arith) in
       (p.0, p.1 ∙ index_is, p.2 ∙ count_is)
 
   state_x : anchor_state x < full_state
@@ -128,10 +128,10 @@ module _ (k : Setup) (m : Memory) (views : List View) (i : ℕ) (v : View) (belo
           ∙ ap (λ y. start_word y d + anchor_first word * words_of_class class) cap ∙ ap (λ a. start_word k.capacity d + anchor_first a * words_of_class class) (sym as_seen))) w
 
   state_full : length chain' ≡ blocks_of class → anchor_state x ≡ empty_state
-  state_full all = parts.0 ∙ ap (λ t. cond t empty_state partial_state) (eq-eqb (batch_count bs + anchor_count word) (blocks_of class) (count_is ∙ all))
+  state_full all = parts.0 ∙ ap (λ t. cond t empty_state partial_state) (eq-eqb (length bs + anchor_count word) (blocks_of class) (count_is ∙ all))
 
   state_part : length chain' ≢ blocks_of class → anchor_state x ≡ partial_state
-  state_part some = parts.0 ∙ ap (λ t. cond t empty_state partial_state) (ne_eqb (batch_count bs + anchor_count word) (blocks_of class) (λ z. some (sym count_is ∙ z)))
+  state_part some = parts.0 ∙ ap (λ t. cond t empty_state partial_state) (ne_eqb (length bs + anchor_count word) (blocks_of class) (λ z. some (sym count_is ∙ z)))
 
   anchored_now : IsAnchoredBy (next m) k.capacity class d x chain'
   anchored_now = record {

@@ -113,8 +113,8 @@ won_tickets budget drawn v w s there none stop more last used_look head_looks wi
   head_looks = λ list is. subst (λ (l : Look). IsDrawn drawn l.ticket) (sym (ap₂ (λ looks (l : Look). get_or looks list l) head_looks used_look)) (s.head_looks list is);
   counts = let c = s.counts in let n = ap one_if_some none in omega arith;
   state = ticket_given_up budget v w s.state none last stop;
-    looked_then = (let l = s.looked_then in let a = ap (λ (x : Look). x.taken) used_look in let b = ap (λ (x : Look). x.wins) used_look in let p = l.0 in let q = l.1 in (omega arith, omega arith));
-    gives = let c = s.gives in omega arith;
+  looked_then = (let l = s.looked_then in let a = ap (λ (x : Look). x.taken) used_look in let b = ap (λ (x : Look). x.wins) used_look in let p = l.0 in let q = l.1 in (omega arith, omega arith));
+  gives = let c = s.gives in omega arith;
   cuts = let c = s.cuts in omega arith;
 }
 

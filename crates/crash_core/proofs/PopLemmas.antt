@@ -9,7 +9,7 @@ use Rattle.heap_model.specs.Counting.{times, total, one_if}
 use Rattle.crash_core.specs.Cells.{head_cell}
 use Rattle.crash_core.specs.Memory.{Memory, volatile_at, used, durable_used, head, anchor, info, link, next, write}
 use Rattle.crash_core.specs.View.{Setup, View, Batch, Snapshot, Look, one_if_some, times_raw, times_classed, times_claimed, times_large, times_block}
-use Rattle.crash_core.specs.Effects.{before, seen, seen_word, seen_of, cleared, claim_class, batch_count, won, claimed, popped_head}
+use Rattle.crash_core.specs.Effects.{before, seen, seen_word, seen_of, cleared, claim_class, won, claimed, popped_head}
 use Rattle.crash_core.specs.Guards.{IsThere, MayPop}
 use Rattle.crash_core.specs.Sound.{Shape, Tally, tally_of, IsInShape, AreChained, Knows, KnowsHead, Adds, stale, stale_anchor, stale_head, differs, class_numbers, times_in_lists, times_parked, times_cut, empties, Good}
 use Rattle.crash_core.proofs.TotalLemmas.{total_set, total_same, total_unchanged, eq-eqb-one, ne-eqb-none}
@@ -111,8 +111,8 @@ module _ (k : Setup) (m : Memory) (views : List View) (i : ℕ) (v : View) (belo
     seen_used = subst (λ x. IsThere x → seen x ≤ used m) (sym used_same) s.seen_used;
     looked = (let l = s.looked in let a = ap (λ (x : Look). x.word) look_same in let b = ap (λ (x : Look). x.taken) look_same in omega arith);
     seen_anchor = λ t. let same = anchor_same ∙ cleared_same d 1 v.seen_anchor (subst IsThere anchor_same t) in
-        subst (λ (x : Option Snapshot). (0 < times_claimed (seen_of x) w) ⊎ ((w.batch.descriptor ≡ seen_of x) × (1 ≤ batch_count w.batch.blocks))) (sym same)
-        (subst (λ (b : Batch). (0 < times_claimed (seen_of v.seen_anchor) w) ⊎ ((b.descriptor ≡ seen_of v.seen_anchor) × (1 ≤ batch_count b.blocks))) (sym batch)
+        subst (λ (x : Option Snapshot). (0 < times_claimed (seen_of x) w) ⊎ ((w.batch.descriptor ≡ seen_of x) × (1 ≤ length w.batch.blocks))) (sym same)
+        (subst (λ (b : Batch). (0 < times_claimed (seen_of v.seen_anchor) w) ⊎ ((b.descriptor ≡ seen_of v.seen_anchor) × (1 ≤ length b.blocks))) (sym batch)
         (elim (s.seen_anchor (subst IsThere same t)) [ inl c ↦ inl (let e = more (seen_of v.seen_anchor) in omega arith) | inr b ↦ inr b ]));
     seen_empty = λ t. let still = subst IsThere anchor_same t in let same = anchor_same ∙ cleared_same d 1 v.seen_anchor still in
         subst (λ (x : Option Snapshot). 0 < times_classed (seen_of x) w.classed → anchor_state (seen_word x) ≡ empty_state → anchor_state (anchor m (seen_of x)) ≡ empty_state) (sym same)

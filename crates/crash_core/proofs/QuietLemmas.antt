@@ -94,7 +94,7 @@ given_up budget ticket last stopped h = record { stopping = λ t e. let o = h.st
 pub ticket_given_up : (budget : ℕ) (v w : View) → IsTicketed budget v.ticket v.last_ticket v.stopped → w.ticket ≡ None → w.last_ticket ≡ v.last_ticket → w.stopped ≡ v.stopped → IsTicketed budget w.ticket w.last_ticket w.stopped
 ticket_given_up budget v w state none last stop =
     subst (λ x. IsTicketed budget x w.last_ticket w.stopped) (sym none) (subst (λ x. IsTicketed budget None x w.stopped) (sym last)
-      (subst (λ x. IsTicketed budget None v.last_ticket x) (sym stop) (given_up budget v.ticket v.last_ticket v.stopped state)))
+    (subst (λ x. IsTicketed budget None v.last_ticket x) (sym stop) (given_up budget v.ticket v.last_ticket v.stopped state)))
 
 -- a snapshot that is no different from the word
 pub differs_none : (word : ℕ) → differs (Some word) word ≡ 0
@@ -143,8 +143,8 @@ module _ (k : Setup) (m : Memory) (views : List View) (i : ℕ) (v : View) (belo
       → w.losses ≤ v.losses + 1 → HasTickets k.budget m.drawn w
   done_tickets w none last used_looks head_looks kept cuts losses = let s = seat.tickets in record {
     state = ticket_given_up k.budget v w s.state none last (ap (λ (c : Counts). c.stopped) kept);
-      looked_then = (let l = s.looked_then in let a = ap (λ (x : Look). x.taken) used_looks in let b = ap (λ (x : Look). x.wins) used_looks in let t = ap (λ (c : Counts). c.taken) kept in let u = ap (λ (c : Counts). c.wins) kept in let p = l.0 in let q = l.1 in (omega arith, omega arith));
-      ticket = subst (IsDrawn m.drawn) (sym none) (none_drawn m.drawn);
+    looked_then = (let l = s.looked_then in let a = ap (λ (x : Look). x.taken) used_looks in let b = ap (λ (x : Look). x.wins) used_looks in let t = ap (λ (c : Counts). c.taken) kept in let u = ap (λ (c : Counts). c.wins) kept in let p = l.0 in let q = l.1 in (omega arith, omega arith));
+    ticket = subst (IsDrawn m.drawn) (sym none) (none_drawn m.drawn);
     last = subst (IsDrawn m.drawn) (sym last) s.last;
     used_look = subst (λ (l : Look). IsDrawn m.drawn l.ticket) (sym used_looks) s.used_look;
     head_looks = λ list is. subst (λ (l : Look). IsDrawn m.drawn l.ticket) (sym (ap₂ (λ looks (l : Look). get_or looks list l) head_looks used_looks)) (s.head_looks list is);

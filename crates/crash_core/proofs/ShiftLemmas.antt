@@ -8,7 +8,7 @@ use Rattle.heap_model.specs.Counting.{times, one_if, without}
 use Rattle.crash_core.specs.Cells.{Cell, used_cell, head_cell, info_cell, anchor_cell, link_cell, root_cell, data_cell, no_cell, superblock_at}
 use Rattle.crash_core.specs.Memory.{Memory, head, anchor, info, link, next}
 use Rattle.crash_core.specs.View.{Setup, View, one_if_some, of_class, times_own, times_raw, times_classed, times_large, times_block, times_within, times_in_classes}
-use Rattle.crash_core.specs.Effects.{seen_word, seen_of, first_of, last_of, rest_of, batch_count, after_alloc, after_free, after_lift}
+use Rattle.crash_core.specs.Effects.{seen_word, seen_of, first_of, last_of, rest_of, after_alloc, after_free, after_lift}
 use Rattle.crash_core.specs.Guards.{IsThere, MayAlloc, MayFree, MayLift}
 use Rattle.crash_core.specs.Sound.{Shape, tally_of, IsInShape, HasBlocks, KnowsHead, stale, times_parked, empties, Good}
 use Rattle.crash_core.proofs.TotalLemmas.{total_same, eq-eqb-one, ne-eqb-none}
@@ -42,7 +42,7 @@ within_without words word b (x ∷ bs) some = elim (cases_eq x b) as (λ _. time
       (let none = ne-eqb-none x b other in let rest = within_without words word b bs (omega arith) in omega arith)
 ]
 
-pub first_rest : (bs : List ℕ) → 1 ≤ batch_count bs → bs ≡ first_of bs ∷ rest_of bs
+pub first_rest : (bs : List ℕ) → 1 ≤ length bs → bs ≡ first_of bs ∷ rest_of bs
 first_rest [] some = absurd (omega arith)
 first_rest (b ∷ bs) some = refl
 
@@ -222,7 +222,7 @@ module _ (k : Setup) (m : Memory) (views : List View) (i : ℕ) (v : View) (belo
           ];
           batch_linked = s.batch_linked;
         } where
-          in_front : (bs : List ℕ) → (1 ≤ batch_count bs → next m block ≡ first_of bs) → Walks (next m) (first_of bs) bs → Walks (next m) (next m block) bs
+          in_front : (bs : List ℕ) → (1 ≤ length bs → next m block ≡ first_of bs) → Walks (next m) (first_of bs) bs → Walks (next m) (next m block) bs
           in_front [] leads walk = tt
           in_front (x ∷ bs) leads walk = (leads (omega arith), walk.1)
 
@@ -260,7 +260,7 @@ module _ (k : Setup) (m : Memory) (views : List View) (i : ℕ) (v : View) (belo
         is_cs : cs ≡ b ∷ rest_of cs
         is_cs = first_rest cs may.cached
 
-        counts_one : (bs : List ℕ) (x : ℕ) → 1 ≤ batch_count (bs ++ x ∷ [])
+        counts_one : (bs : List ℕ) (x : ℕ) → 1 ≤ length (bs ++ x ∷ [])
         counts_one [] x = omega arith
         counts_one (y ∷ bs) x = omega arith
 
@@ -271,16 +271,16 @@ module _ (k : Setup) (m : Memory) (views : List View) (i : ℕ) (v : View) (belo
         blocks_same x = let c = total_lists x v.caches class (rest_of cs) fits.1 in let e = ap (times x) is_cs in let a = times_append x v.batch.blocks (b ∷ []) in omega arith
 
         -- the batch's own class, where it has blocks
-        same_class : 1 ≤ batch_count v.batch.blocks → v.batch.class ≡ class
+        same_class : 1 ≤ length v.batch.blocks → v.batch.class ≡ class
         same_class some = let behind = may.behind some in let q = seat.blocks.batched (first_of v.batch.blocks) (first_there v.batch.blocks some) in
             sym q.1 ∙ ap (info m) behind.same ∙ info_b
 
         batch_within : (word : ℕ) → times_within (words_of_class class) word v.batch.blocks ≡ times_within (words_of_class v.batch.class) word v.batch.blocks
-        batch_within word = elim (cases_lt 0 (batch_count v.batch.blocks)) [
+        batch_within word = elim (cases_lt 0 (length v.batch.blocks)) [
           | inl some ↦ ap (λ c. times_within (words_of_class c) word v.batch.blocks) (sym (same_class some))
           | inr none ↦ of_none v.batch.blocks none
         ] where
-          of_none : (bs : List ℕ) → batch_count bs ≤ 0 → times_within (words_of_class class) word bs ≡ times_within (words_of_class v.batch.class) word bs
+          of_none : (bs : List ℕ) → length bs ≤ 0 → times_within (words_of_class class) word bs ≡ times_within (words_of_class v.batch.class) word bs
           of_none [] e = refl
           of_none (x ∷ bs) e = absurd (omega arith)
 
@@ -316,13 +316,13 @@ module _ (k : Setup) (m : Memory) (views : List View) (i : ℕ) (v : View) (belo
           rest_walks [] walk = tt
           rest_walks (x ∷ bs) walk = walks_first (next m) (next m x) bs walk.1
 
-          some_count : (x : ℕ) (bs : List ℕ) → 0 < times x bs → 1 ≤ batch_count bs
+          some_count : (x : ℕ) (bs : List ℕ) → 0 < times x bs → 1 ≤ length bs
           some_count x [] some = absurd (omega arith)
           some_count x (y ∷ bs) some = omega arith
 
           is_new : (y x : ℕ) → 0 < times x (y ∷ []) → y ≡ x
           is_new y x some = elim (cases_eq y x) [ inl same ↦ same | inr other ↦ absurd (let n = ne-eqb-none y x other in omega arith) ]
 
-          behind_batch : (bs : List ℕ) → (1 ≤ batch_count bs → next m (last_of bs) ≡ b) → Walks (next m) (first_of bs) bs → Walks (next m) (first_of (bs ++ b ∷ [])) (bs ++ b ∷ [])
+          behind_batch : (bs : List ℕ) → (1 ≤ length bs → next m (last_of bs) ≡ b) → Walks (next m) (first_of bs) bs → Walks (next m) (first_of (bs ++ b ∷ [])) (bs ++ b ∷ [])
           behind_batch [] leads walk = (refl, tt)
           behind_batch (x ∷ bs) leads walk = walks_append (next m) x (x ∷ bs) (b ∷ []) walk (after_last (next m) x x bs walk ∙ leads (omega arith), tt)

@@ -10,10 +10,10 @@ use Rattle.crash_core.specs.declared.event.Event.TheVariants.{Tick, Load, Store,
 use Rattle.crash_core.specs.Cells.{used_cell, is_cell, index_of, cell_at, superblock_at}
 use Rattle.crash_core.specs.Memory.{Memory, Place, volatile_at, durable_at, tickets, used, table_index, memory_of}
 use Rattle.crash_core.specs.View.{Setup, View, times_own, times_raw, times_classed, times_block}
-use Rattle.crash_core.specs.Effects.{before, seen_of, seen_word, first_of, batch_count, place_of, left_there}
+use Rattle.crash_core.specs.Effects.{before, seen_of, seen_word, first_of, place_of, left_there}
 use Rattle.crash_core.specs.Guards.{IsOwn, MayStep}
 use Rattle.crash_core.specs.Sound.{Good, Sound, tally_of, times_cut}
-use Rattle.crash_core.specs.Steps.{State, words_after, seat_after, found_by, Goes, is_done, stops, not_now, has_stopped, Runs}
+use Rattle.crash_core.specs.Steps.{State, words_after, seat_after, found_by, StepsTo, is_done, stops, not_now, has_stopped, Runs}
 use Rattle.crash_core.proofs.BlockLemmas.{first_there}
 use Rattle.crash_core.proofs.TotalLemmas.{total_at}
 use Rattle.crash_core.proofs.FrameLemmas.{below_not}
@@ -39,7 +39,7 @@ module _ (k : Setup) (m : Memory) (views : List View) (i : ℕ) (v : View) (belo
         let p = good.shaped.placed.one_place d in let none = below_not d (used m) past in omega arith)
   ]
 
-  batched : (d : ℕ) → v.batch.descriptor ≡ d → 1 ≤ batch_count v.batch.blocks → d < k.capacity
+  batched : (d : ℕ) → v.batch.descriptor ≡ d → 1 ≤ length v.batch.blocks → d < k.capacity
   batched d of some = let b = first_of v.batch.blocks in let there = first_there v.batch.blocks some in let t = total_at (times_block b) views i v below_i at in
       let cut = (good.shaped.chained.inside b (omega arith)).0 in
       let here : superblock_at k.capacity b ≡ d = ap (λ c. superblock_at c b) (sym cap) ∙ ((good.blocks i v below_i at).batched b there).0 ∙ of in
@@ -106,7 +106,7 @@ sound_runs k s s' [] [] sound runs = subst (λ (x : State). Sound k x.words x.vi
 sound_runs k s s' [] (answer ∷ answers) sound runs = absurd runs
 sound_runs k s s' (e ∷ events) [] sound runs = absurd runs
 sound_runs k s s' (e ∷ events) (answer ∷ answers) sound runs = sound_runs k runs.0 s' events answers (after_one answer runs.0 runs.2) runs.3 where
-  after_one : (a : StepAnswer) (next : State) → Goes k s e.0 e.1 a next → Sound k next.words next.views
+  after_one : (a : StepAnswer) (next : State) → StepsTo k s e.0 e.1 a next → Sound k next.words next.views
   after_one a next (is_done v at may on) = sound_step k s.words s.views e.0 v e.1 runs.1 at sound may.may
   after_one a next (stops v step at may stop) = sound_step k s.words s.views e.0 v e.1 runs.1 at sound may.may
   after_one a next (not_now v at going refused) = sound

@@ -10,7 +10,7 @@ use Rattle.heap_model.proofs.MemberLemmas.{head_or_rest, in_head, in_rest}
 use Rattle.crash_core.specs.Cells.{superblock_at}
 use Rattle.crash_core.specs.Memory.{Memory, used, durable_used, head, anchor, info, link}
 use Rattle.crash_core.specs.View.{Setup, View, Batch, Span, Snapshot, Look, known, takes, times_raw, times_classed, times_claimed, times_large, times_block}
-use Rattle.crash_core.specs.Effects.{seen, seen_word, seen_of, steps, class_blocks, batch_count, cleared, without_range, span_count, without_span, trimmed, after_large, after_split}
+use Rattle.crash_core.specs.Effects.{seen, seen_word, seen_of, steps, class_blocks, cleared, without_range, span_count, without_span, trimmed, after_large, after_split}
 use Rattle.crash_core.specs.Guards.{IsThere, MayHoldLarge, MaySplit}
 use Rattle.crash_core.specs.Sound.{Shape, tally_of, IsInShape, IsCutBlock, Knows, KnowsHead, KnowsWords, stale, stale_anchor, stale_head, differs, times_parked, empties, Good}
 use Rattle.crash_core.proofs.TotalLemmas.{total_set, total_same, total_at, ne-eqb-none}
@@ -127,8 +127,8 @@ module _ (k : Setup) (m : Memory) (views : List View) (i : ℕ) (v : View) (belo
     seen_used = subst (λ x. IsThere x → seen x ≤ used m) (sym used_same) s.seen_used;
     looked = (let l = s.looked in let a = ap (λ (x : Look). x.word) look_same in let b = ap (λ (x : Look). x.taken) look_same in omega arith);
     seen_anchor = λ t. let still = subst IsThere anchor_same t in let same = anchor_same ∙ cleared_same from n v.seen_anchor still in
-        subst (λ (x : Option Snapshot). (0 < times_claimed (seen_of x) w) ⊎ ((w.batch.descriptor ≡ seen_of x) × (1 ≤ batch_count w.batch.blocks))) (sym same)
-        (subst (λ (b : Batch). (0 < times_claimed (seen_of v.seen_anchor) w) ⊎ ((b.descriptor ≡ seen_of v.seen_anchor) × (1 ≤ batch_count b.blocks))) (sym batch)
+        subst (λ (x : Option Snapshot). (0 < times_claimed (seen_of x) w) ⊎ ((w.batch.descriptor ≡ seen_of x) × (1 ≤ length w.batch.blocks))) (sym same)
+        (subst (λ (b : Batch). (0 < times_claimed (seen_of v.seen_anchor) w) ⊎ ((b.descriptor ≡ seen_of v.seen_anchor) × (1 ≤ length b.blocks))) (sym batch)
         (elim (s.seen_anchor (subst IsThere same t)) [ inl c ↦ inl (let e = raw (seen_of v.seen_anchor) (cleared_other from n v.seen_anchor still) in let f = ap (times_classed (seen_of v.seen_anchor)) classed in omega arith) | inr b ↦ inr b ]));
     seen_empty = λ t. let still = subst IsThere anchor_same t in let same = anchor_same ∙ cleared_same from n v.seen_anchor still in
         subst (λ (x : Option Snapshot). 0 < times_classed (seen_of x) w.classed → anchor_state (seen_word x) ≡ empty_state → anchor_state (anchor m (seen_of x)) ≡ empty_state) (sym same)

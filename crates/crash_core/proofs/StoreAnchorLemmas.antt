@@ -7,7 +7,7 @@ use Rattle.crash_core.proofs.PlaceLemmas.{not-lt}
 use Rattle.crash_core.specs.Cells.{Cell, used_cell, head_cell, info_cell, anchor_cell, link_cell, root_cell, data_cell, no_cell, cell_at, superblock_at}
 use Rattle.crash_core.specs.Memory.{Memory, volatile_at, used, head, anchor, info, link, next, write}
 use Rattle.crash_core.specs.View.{Setup, View, Batch, Snapshot, Look, one_if_some, times_raw, times_classed, times_claimed, times_large, times_block}
-use Rattle.crash_core.specs.Effects.{seen, seen_word, seen_of, first_of, steps, batch_count, stored, stored_anchor}
+use Rattle.crash_core.specs.Effects.{seen, seen_word, seen_of, first_of, steps, stored, stored_anchor}
 use Rattle.crash_core.specs.Guards.{IsThere, IsOwn, MayStore, MayAnchor, as_empty, as_full}
 use Rattle.crash_core.specs.Sound.{tally_of, IsInShape, IsAnchoredBy, ClaimsOf, HasBlocks, Knows, KnowsHead, stale_anchor, stale_head, differs, times_in_lists, times_parked, times_cut, empties, Good}
 use Rattle.crash_core.proofs.TotalLemmas.{total_same, total_at, total_alike, eq-eqb-one, ne-eqb-none}
@@ -56,7 +56,7 @@ module _ (k : Setup) (m : Memory) (views : List View) (i : ℕ) (v : View) (belo
           | inl claimed ↦ let none = one_owner k m views good i j v u other below_i at b a (link_cell d) (let o : 0 < times_claimed d v = omega arith in o) in let q = ap (λ x. times_claimed x u) same in omega (arith, claimed, none, q)
           | inr batch ↦ in_batch h batch.0 batch.1
         ] where
-          in_batch : IsSeat k m good.shape u → u.batch.descriptor ≡ seen_of u.seen_anchor → 1 ≤ batch_count u.batch.blocks → ⊥
+          in_batch : IsSeat k m good.shape u → u.batch.descriptor ≡ seen_of u.seen_anchor → 1 ≤ length u.batch.blocks → ⊥
           in_batch h of some =
               let b0 = first_of u.batch.blocks in let there_b = first_there u.batch.blocks some in
               let t = total_at (times_block b0) views j u b a in
@@ -155,8 +155,8 @@ module _ (k : Setup) (m : Memory) (views : List View) (i : ℕ) (v : View) (belo
                 (subst (λ x. IsThere v.seen_head → KnowsHead k.capacity (head m) (link m) good.shape.lists (seen_of v.seen_head) (seen_word v.seen_head) x) (sym seen_link) s.seen_head);
             seen_used = subst (λ x. IsThere x → seen x ≤ used m) (sym seen_used) s.seen_used;
             looked = (let l = s.looked in let a = ap (λ (x : Look). x.word) used_look in let b = ap (λ (x : Look). x.taken) used_look in let t = ap (λ (c : Counts). c.taken) kept in omega arith);
-            seen_anchor = subst (λ x. IsThere x → (0 < times_claimed (seen_of x) w) ⊎ ((w.batch.descriptor ≡ seen_of x) × (1 ≤ batch_count w.batch.blocks))) (sym seen_anchor)
-                (subst (λ (x : Batch). IsThere v.seen_anchor → (0 < times_claimed (seen_of v.seen_anchor) w) ⊎ ((x.descriptor ≡ seen_of v.seen_anchor) × (1 ≤ batch_count x.blocks))) (sym batch)
+            seen_anchor = subst (λ x. IsThere x → (0 < times_claimed (seen_of x) w) ⊎ ((w.batch.descriptor ≡ seen_of x) × (1 ≤ length w.batch.blocks))) (sym seen_anchor)
+                (subst (λ (x : Batch). IsThere v.seen_anchor → (0 < times_claimed (seen_of v.seen_anchor) w) ⊎ ((x.descriptor ≡ seen_of v.seen_anchor) × (1 ≤ length x.blocks))) (sym batch)
                 (λ there. elim (s.seen_anchor there) [ inl c ↦ inl (let e = raw (seen_of v.seen_anchor) in let f = ap (times_classed (seen_of v.seen_anchor)) classed in omega arith) | inr b ↦ inr b ]));
             seen_empty = subst (λ x. IsThere x → 0 < times_classed (seen_of x) w.classed → anchor_state (seen_word x) ≡ empty_state → anchor_state (anchor ma (seen_of x)) ≡ empty_state) (sym seen_anchor)
                 (λ there some empty. subst (λ x. anchor_state x ≡ empty_state)

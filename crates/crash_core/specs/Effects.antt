@@ -1,5 +1,5 @@
 -- What each step does: the word that it works on, what it leaves there, and the seat's view after it. A step that compares says both what it does where the word is as it was seen, and what where it is not.
-use Rattle.std.specs.Prelude.{ℕ, zero, suc, ◌+◌, ◌-◌, ◌*◌, ◌/◌, true, false, cond, ◌&&◌, nat_eq, nat_le, nat_lt, max, List, [], ◌∷◌, ◌++◌, set, Option, None, Some}
+use Rattle.std.specs.Prelude.{ℕ, zero, suc, ◌+◌, ◌-◌, ◌*◌, ◌/◌, true, false, cond, ◌&&◌, nat_eq, nat_le, nat_lt, max, List, [], ◌∷◌, ◌++◌, set, Option, None, Some, length}
 use Rattle.heap_model.specs.Geometry.{start_word}
 use Rattle.heap_model.specs.Sizes.{words_of_class, blocks_of}
 use Rattle.heap_model.specs.Words.{head_of, head_first, head_pops, anchor_of, anchor_first, anchor_count, empty_state, partial_state, full_anchor}
@@ -194,14 +194,10 @@ abbrev pub given_anchor : ℕ → ℕ → ℕ → ℕ → ℕ
 given_anchor word first n all = anchor_of (cond (nat_eq (n + anchor_count word) all) empty_state partial_state) first
     (n + anchor_count word)
 
-abbrev pub batch_count : List ℕ → ℕ
-batch_count [] = 0
-batch_count (b ∷ bs) = batch_count bs + 1
-
 abbrev pub batch_anchor : View → ℕ → ℕ
 batch_anchor v d = given_anchor (seen_word v.seen_anchor) ((first_of v.batch.blocks - start_word v.setup.capacity d) / words_of_class
     v.batch.class)
-    (batch_count v.batch.blocks) (blocks_of v.batch.class)
+    (length v.batch.blocks) (blocks_of v.batch.class)
 
 -- a store to an anchor begins or ends the making of blocks
 abbrev pub stored_anchor : View → ℕ → ℕ → View

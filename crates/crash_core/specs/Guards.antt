@@ -1,5 +1,5 @@
 -- When a seat may do a step: what its parts and snapshots must be, what the memory must have, and, of a step that compares, that the word is as it was seen.
-use Rattle.std.specs.Prelude.{◌≡◌, ◌≢◌, ℕ, ◌+◌, ◌*◌, ◌<◌, ◌≤◌, ◌⊎◌, true, [], Option, None, Some, ⊤}
+use Rattle.std.specs.Prelude.{◌≡◌, ◌≢◌, ℕ, ◌+◌, ◌*◌, ◌<◌, ◌≤◌, ◌⊎◌, true, [], Option, None, Some, ⊤, length}
 use Rattle.heap_model.specs.Geometry.{lists, start_word}
 use Rattle.heap_model.specs.Sizes.{IsClass, words_of_class}
 use Rattle.heap_model.specs.Words.{head_first, anchor_state, anchor_first, anchor_count, empty_state, partial_state, full_anchor, large_info}
@@ -12,7 +12,7 @@ use Rattle.crash_core.specs.declared.event.Shift.TheVariants.{Cut, Alloc, Free, 
 use Rattle.crash_core.specs.Cells.{Cell, anchor_cell, link_cell, data_cell, cell_at, superblock_at}
 use Rattle.crash_core.specs.Memory.{Memory, used, head, info, anchor, link, next, durable_used, durable_info}
 use Rattle.crash_core.specs.View.{View, of_class, one_if_some, times_classed, times_claimed, times_own}
-use Rattle.crash_core.specs.Effects.{seen, seen_word, seen_of, claim_class, span_count, class_blocks, first_of, last_of, batch_count}
+use Rattle.crash_core.specs.Effects.{seen, seen_word, seen_of, claim_class, span_count, class_blocks, first_of, last_of}
 
 -- there is a snapshot, a ticket
 abbrev pub IsThere : {A : Type 0} → Option A → Type 0
@@ -71,7 +71,7 @@ pub record MayPush (m : Memory) (v : View) (d : ℕ) : Type 0 where
   pub listed : MayList m v d (seen_of v.seen_head)
 
 abbrev pub MayLookAt : View → ℕ → Type 0
-MayLookAt v d = IsFreelyClaimed v d ⊎ ((v.batch.descriptor ≡ d) × (1 ≤ batch_count v.batch.blocks))
+MayLookAt v d = IsFreelyClaimed v d ⊎ ((v.batch.descriptor ≡ d) × (1 ≤ length v.batch.blocks))
 
 pub record MayTakeAll (v : View) (d : ℕ) : Type 0 where
   pub claimed : 0 < times_classed d v.classed
@@ -82,7 +82,7 @@ pub record MayTakeAll (v : View) (d : ℕ) : Type 0 where
 
 pub record MayGive (m : Memory) (v : View) (d : ℕ) : Type 0 where
   pub batch : v.batch.descriptor ≡ d
-  pub some : 1 ≤ batch_count v.batch.blocks
+  pub some : 1 ≤ length v.batch.blocks
   pub is_seen : IsThere v.seen_anchor
   pub of : seen_of v.seen_anchor ≡ d
   pub linked : anchor_count (seen_word v.seen_anchor) ≢ 0
@@ -99,12 +99,12 @@ pub record MayCut (m : Memory) (v : View) (d : ℕ) : Type 0 where
 
 pub record MayAlloc (v : View) (class : ℕ) : Type 0 where
   pub is_class : IsClass class
-  pub cached : 1 ≤ batch_count (of_class v.caches class)
+  pub cached : 1 ≤ length (of_class v.caches class)
 
 pub record MayFree (m : Memory) (v : View) (block : ℕ) : Type 0 where
   pub is_class : IsClass (info m (superblock_at v.setup.capacity block))
   pub held : 0 < times block (of_class v.small (info m (superblock_at v.setup.capacity block)))
-  pub linked : 1 ≤ batch_count (of_class v.caches (info m (superblock_at v.setup.capacity block)))
+  pub linked : 1 ≤ length (of_class v.caches (info m (superblock_at v.setup.capacity block)))
       → next m block ≡ first_of (of_class v.caches (info m (superblock_at v.setup.capacity block)))
 
 -- the batch is empty, or of the block's superblock, and its last block is still linked to the block
@@ -115,8 +115,8 @@ pub record IsBehind (m : Memory) (v : View) (block : ℕ) : Type 0 where
 
 pub record MayLift (m : Memory) (v : View) (class : ℕ) : Type 0 where
   pub is_class : IsClass class
-  pub cached : 1 ≤ batch_count (of_class v.caches class)
-  pub behind : 1 ≤ batch_count v.batch.blocks → IsBehind m v (first_of (of_class v.caches class))
+  pub cached : 1 ≤ length (of_class v.caches class)
+  pub behind : 1 ≤ length v.batch.blocks → IsBehind m v (first_of (of_class v.caches class))
 
 -- n claimed superblocks with empty anchors and durable infos become a large block
 pub record MayHoldLarge (m : Memory) (v : View) (d n : ℕ) : Type 0 where

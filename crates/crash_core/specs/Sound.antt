@@ -9,7 +9,7 @@ use Rattle.heap_model.specs.Chains.{Follows, Walks}
 use Rattle.crash_core.specs.Cells.{Cell, anchor_cell, link_cell, is_cell, superblock_at}
 use Rattle.crash_core.specs.Memory.{Memory, used, head, info, anchor, link, next, durable_used, durable_info, table_length, memory_of}
 use Rattle.crash_core.specs.View.{Setup, View, Claim, Span, Batch, Snapshot, of_class, one_if_some, known, times_raw, times_classed, times_claimed, times_large, times_block}
-use Rattle.crash_core.specs.Effects.{seen, seen_word, seen_of, claim_class, span_count, first_of, steps, batch_count, before}
+use Rattle.crash_core.specs.Effects.{seen, seen_word, seen_of, claim_class, span_count, first_of, steps, before}
 use Rattle.crash_core.specs.Guards.{IsThere, IsOwn}
 
 -- the seats' parts of the heap, each added up: how often a superblock is claimed without a class, with one, or part of a held large block; and how often a small block is held, cached or batched
@@ -90,7 +90,7 @@ pub record AreChained (capacity : ℕ) (info anchor next : ℕ → ℕ) (chains 
       × IsCutBlock capacity (info (superblock_at capacity b)) (superblock_at capacity b) b
 
 -- the marks are in order; superblocks that a crash must not forget lie below the durable one, and their infos are durable
-pub record IsDurable (capacity used durable_used : ℕ) (info durable_info free cut large : ℕ → ℕ) : Type 0 where
+pub record AreDurable (capacity used durable_used : ℕ) (info durable_info free cut large : ℕ → ℕ) : Type 0 where
   pub behind : durable_used ≤ used
   pub room : used ≤ capacity
   pub below : (d : ℕ) → 0 < free d + cut d + large d → d < durable_used
@@ -112,7 +112,7 @@ pub record IsInShape (capacity : ℕ) (m : Memory) (g : Shape) (t : Tally) : Typ
   pub untaken : AreUntaken capacity m
   pub listed : AreListed (info m) (anchor m) g.lists g.full
   pub chained : AreChained capacity (info m) (anchor m) (next m) g.chains (times_cut g t) t.blocks
-  pub durable : IsDurable capacity (used m) (durable_used m) (info m) (durable_info m) (λ d. times d (g.lists 0)) (times_cut g t) t.large
+  pub durable : AreDurable capacity (used m) (durable_used m) (info m) (durable_info m) (λ d. times d (g.lists 0)) (times_cut g t) t.large
 
 -- each seat
 abbrev pub Each : List View → (View → Type 0) → Type 0
@@ -169,7 +169,7 @@ pub record Knows (capacity : ℕ) (m : Memory) (g : Shape) (v : View) : Type 0 w
   pub seen_used : IsThere v.seen_used → seen v.seen_used ≤ used m
   pub looked : v.used_look.word + v.taken ≤ used m + v.used_look.taken
   pub seen_anchor : IsThere v.seen_anchor → (0 < times_claimed (seen_of v.seen_anchor) v)
-      ⊎ ((v.batch.descriptor ≡ seen_of v.seen_anchor) × (1 ≤ batch_count v.batch.blocks))
+      ⊎ ((v.batch.descriptor ≡ seen_of v.seen_anchor) × (1 ≤ length v.batch.blocks))
   pub seen_empty : IsThere v.seen_anchor → 0 < times_classed (seen_of v.seen_anchor) v.classed
       → anchor_state (seen_word v.seen_anchor) ≡ empty_state
       → anchor_state (anchor m (seen_of v.seen_anchor)) ≡ empty_state

@@ -43,14 +43,14 @@ state_after k s i v event = record {
 }
 
 -- what a seat's event makes of a state, and what it answers: the step is done, won where it compares; a draw stops the seat; it may not be done now, or the seat has stopped, and nothing changes
-pub data Goes (k : Setup) (s : State) (i : ℕ) (event : Event) : StepAnswer → State → Type 0 where
+pub data StepsTo (k : Setup) (s : State) (i : ℕ) (event : Event) : StepAnswer → State → Type 0 where
   is_done : (v : View) → get_or s.views i v ≡ v → MayDo (memory_of k.capacity s.words) v event
-      → (seat_after (memory_of k.capacity s.words) v event).stopped ≡ None → Goes k s i event Done (state_after k s i v event)
+      → (seat_after (memory_of k.capacity s.words) v event).stopped ≡ None → StepsTo k s i event Done (state_after k s i v event)
   stops : (v : View) (step : ℕ) → get_or s.views i v ≡ v → MayDo (memory_of k.capacity s.words) v event
-      → (seat_after (memory_of k.capacity s.words) v event).stopped ≡ Some step → Goes k s i event (Stopped step) (state_after k s i v event)
+      → (seat_after (memory_of k.capacity s.words) v event).stopped ≡ Some step → StepsTo k s i event (Stopped step) (state_after k s i v event)
   not_now : (v : View) → get_or s.views i v ≡ v → v.stopped ≡ None
-      → (MayDo (memory_of k.capacity s.words) v event → ⊥) → Goes k s i event NotNow s
-  has_stopped : (v : View) (step : ℕ) → get_or s.views i v ≡ v → v.stopped ≡ Some step → Goes k s i event (Stopped step) s
+      → (MayDo (memory_of k.capacity s.words) v event → ⊥) → StepsTo k s i event NotNow s
+  has_stopped : (v : View) (step : ℕ) → get_or s.views i v ≡ v → v.stopped ≡ Some step → StepsTo k s i event (Stopped step) s
 
 -- what a list of events makes of a state, with an answer for each event
 abbrev pub Runs : Setup → State → List (ℕ × Event) → List StepAnswer → State → Type 0
@@ -58,4 +58,4 @@ Runs k s [] [] s' = s ≡ s'
 Runs k s [] (answer ∷ answers) s' = ⊥
 Runs k s (e ∷ events) [] s' = ⊥
 Runs k s (e ∷ events) (answer ∷ answers) s' =
-    (next : State) × (e.0 < length s.views) × Goes k s e.0 e.1 answer next × Runs k next events answers s'
+    (next : State) × (e.0 < length s.views) × StepsTo k s e.0 e.1 answer next × Runs k next events answers s'

@@ -59,23 +59,23 @@ pub fn an_opened_heap_is_sound()
     ensures owned { (words : List ℕ) (held : List Block) (budget seats : ℕ)
         (block_owners root_owners : List ℕ) → AreOwners held seats block_owners root_owners
         → (i n : ℕ) → (0 < times n
-            (opened_view (setup_of words budget) held block_owners root_owners i).roots)
+        (opened_view (setup_of words budget) held block_owners root_owners i).roots)
         ↔ ((n < roots) × (get_or root_owners n (i + 1) ≡ i)) }
     ensures running { (words : List ℕ) (held : List Block) (budget seats : ℕ)
         (block_owners root_owners : List ℕ) → IsReady words held
         → AreOwners held seats block_owners root_owners
         → (events : List (ℕ × Event)) (answers : List StepAnswer) (s : State)
         → Runs (setup_of words budget)
-            (opened_state (setup_of words budget) held block_owners root_owners seats) events
-            answers s
+        (opened_state (setup_of words budget) held block_owners root_owners seats) events
+        answers s
         → IsSoundState (setup_of words budget) s }
     ensures firm { (words : List ℕ) (held : List Block) (budget seats : ℕ)
         (block_owners root_owners : List ℕ) → IsReady words held
         → AreOwners held seats block_owners root_owners
         → (events : List (ℕ × Event)) (answers : List StepAnswer) (s : State)
         → Runs (setup_of words budget)
-            (opened_state (setup_of words budget) held block_owners root_owners seats) events
-            answers s
+        (opened_state (setup_of words budget) held block_owners root_owners seats) events
+        answers s
         → IsFirm (slice_index words capacity_word) s.words s.views }
 {}
 
