@@ -245,9 +245,13 @@ lifts_from = refl
 abbrev of_20 : Memory
 of_20 = write memory (volatile_at (info_cell 1)) 20
 
-pub frees : of_class (view_after of_20 (record idle { small = set (replicate 21 []) 20 (9272 ∷ []) }) (Tick (Some (Free 9272))) 4).caches 20 ≡ 9272 ∷ []
+abbrev holding : View
+holding = record idle { small = set (replicate 21 []) 20 (9272 ∷ []) }
+
+pub frees : of_class (view_after of_20 holding (Tick (Some (Free 9272))) 4).caches 20 ≡ 9272 ∷ []
 frees = refl
 
-pub cuts : of_class (view_after of_20 (record idle { cutting = 1 ∷ [] }) (Tick (Some (Cut 1))) 4).caches 20 ≡ 9272 ∷ 11064 ∷ 12856 ∷ 14648 ∷ []
+pub cuts : of_class (view_after of_20 (record idle { cutting = 1 ∷ [] }) (Tick (Some (Cut 1))) 4).caches 20
+    ≡ 9272 ∷ 11064 ∷ 12856 ∷ 14648 ∷ []
 unfolding words_of_class class_sizes blocks_of
 cuts = refl

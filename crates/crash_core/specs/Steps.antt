@@ -47,7 +47,8 @@ pub data StepsTo (k : Setup) (s : State) (i : ℕ) (event : Event) : StepAnswer 
   is_done : (v : View) → get_or s.views i v ≡ v → MayDo (memory_of k.capacity s.words) v event
       → (seat_after (memory_of k.capacity s.words) v event).stopped ≡ None → StepsTo k s i event Done (state_after k s i v event)
   stops : (v : View) (step : ℕ) → get_or s.views i v ≡ v → MayDo (memory_of k.capacity s.words) v event
-      → (seat_after (memory_of k.capacity s.words) v event).stopped ≡ Some step → StepsTo k s i event (Stopped step) (state_after k s i v event)
+      → (seat_after (memory_of k.capacity s.words) v event).stopped ≡ Some step
+      → StepsTo k s i event (Stopped step) (state_after k s i v event)
   not_now : (v : View) → get_or s.views i v ≡ v → v.stopped ≡ None
       → (MayDo (memory_of k.capacity s.words) v event → ⊥) → StepsTo k s i event NotNow s
   has_stopped : (v : View) (step : ℕ) → get_or s.views i v ≡ v → v.stopped ≡ Some step → StepsTo k s i event (Stopped step) s

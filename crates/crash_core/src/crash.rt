@@ -21,7 +21,8 @@ pub fn crash_image<C: Chance>(
     scramble: &mut C,
 ) -> Result<Vec<u64>, AllocError>
     requires long { length table.now ≡ table_length geometry.capacity }
-    requires capacity { durable_image geometry.capacity table.now capacity_word ≡ geometry.capacity }
+    requires capacity { durable_image geometry.capacity table.now capacity_word
+        ≡ geometry.capacity }
     ensures ok { IfOk result (λ image. IsCrashImage (durable_image geometry.capacity table.now)
         (slice_index image.items)) }
     ensures length { IfOk result (λ image. length image.items ≡ image_words geometry.capacity) }

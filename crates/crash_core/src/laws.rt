@@ -1,4 +1,5 @@
-//! What follows from the definitions, as functions with nothing to run: a caller cites their clauses.
+//! What follows from the definitions, as functions with nothing to run: a caller cites their
+//! clauses.
 
 ghost use Rattle.std.specs.Prelude.{◌≡◌, ◌≢◌, ◌<◌, ◌*◌, ◌++◌, ◌∷◌, [], ℕ, List, get_or, set, length, slice_index, ◌↔◌, ◌+◌};
 ghost use Rattle.heap_model.specs.declared.block.Block.{Block};
@@ -27,8 +28,8 @@ pub fn every_step_keeps_the_heap_sound()
     ensures memory { (k : Setup) (m : Memory) (views : List View) (i : ℕ) (v : View)
         → i < length views → get_or views i v ≡ v → Good k m views
         → (event : Event) → MayStep m v event → Keeps k m views i v event }
-    ensures table { (k : Setup) (words : List ℕ) (views : List View) (i : ℕ) (v : View) (event : Event)
-        → i < length views → get_or views i v ≡ v → Sound k words views
+    ensures table { (k : Setup) (words : List ℕ) (views : List View) (i : ℕ) (v : View)
+        (event : Event) → i < length views → get_or views i v ≡ v → Sound k words views
         → MayStep (memory_of k.capacity words) v event
         → Sound k (words_after k words v event)
         (set views i (seat_after (memory_of k.capacity words) v event)) }
@@ -38,9 +39,11 @@ pub fn every_step_keeps_the_heap_sound()
 /// mixture of volatile and durable words names each held block.
 pub fn every_list_of_events_keeps_the_heap_sound()
     ensures sound { (k : Setup) (s s' : State) (events : List (ℕ × Event))
-        (answers : List StepAnswer) → IsSoundState k s → Runs k s events answers s' → IsSoundState k s' }
+        (answers : List StepAnswer) → IsSoundState k s → Runs k s events answers s'
+        → IsSoundState k s' }
     ensures firm { (k : Setup) (s s' : State) (events : List (ℕ × Event))
-        (answers : List StepAnswer) → IsSoundState k s → Runs k s events answers s' → IsFirm k.capacity s'.words s'.views }
+        (answers : List StepAnswer) → IsSoundState k s → Runs k s events answers s'
+        → IsFirm k.capacity s'.words s'.views }
 {}
 
 /// A heap at rest that is opened for some seats, with an owner for each held block and each root,
