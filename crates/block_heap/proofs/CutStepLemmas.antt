@@ -2,17 +2,17 @@
 use Rattle.std.proofs.Common.{◌≡◌, ◌≢◌, ℕ, zero, suc, ◌+◌, ◌*◌, ◌/◌, ◌<◌, ◌≤◌, ◌⊎◌, inl, inr, Option, None, Some, MatchOption, List, ◌∷◌, length, get_or, set, Contains, refl, ap, sym, subst, ◌∙◌, arith, get_or-set_same, get_or-set_other, length-set}
 use Rattle.std.proofs.lemmas.Bool.{cases_eq}
 use Rattle.heap_model.specs.declared.block.Block.{Block}
-use Rattle.heap_model.specs.Geometry.{lists, head_word, info_word, anchor_word, link_word, used_word, start_word}
+use Rattle.heap_model.specs.Geometry.{lists, head_word, info_word, link_word, used_word, start_word}
 use Rattle.heap_model.specs.Sizes.{IsClass, blocks_of, words_of_class}
 use Rattle.heap_model.specs.Words.{head_first, head_pops}
 use Rattle.heap_model.specs.Chains.{Follows}
 use Rattle.heap_model.proofs.BlockLemmas.{block_words}
-use Rattle.heap_model.proofs.MemberLemmas.{in_head, head_or_rest}
+use Rattle.heap_model.proofs.MemberLemmas.{head_or_rest}
 use Rattle.heap_model.proofs.SizeLemmas.{four_blocks}
 use Rattle.heap_shape.specs.Shape.{in_list, is_full, Shape, with_at}
 use Rattle.heap_shape.specs.Standing.{first_of, HasNoHeld}
 use Rattle.heap_shape.specs.Whole.{layout_at, IsShape}
-use Rattle.heap_shape.specs.Effects.{IsSet, IsCut, IsInSuperblock, firsts_from, all_firsts}
+use Rattle.heap_shape.specs.Effects.{IsSet, IsCut, firsts_from, all_firsts}
 use Rattle.heap_shape.specs.Draining.{DrainsSame}
 use Rattle.heap_shape.specs.Moves.{after_cut, after_fresh}
 use Rattle.heap_shape.proofs.BasicLemmas.{with_at_same, with_at_other, in_free_list}
@@ -27,7 +27,7 @@ use Rattle.block_heap.specs.declared.cache.Cache.{Cache}
 use Rattle.block_heap.specs.declared.lists.Popped.{Popped}
 use Rattle.heap_seat.specs.declared.look.Look.{Look}
 use Rattle.block_heap.specs.declared.superblocks.Fresh.{Fresh}
-use Rattle.block_heap.specs.Divide.{IsDivideWord, IsDivided}
+use Rattle.block_heap.specs.Divide.{IsDivideWord}
 use Rattle.block_heap.specs.Held.{block_of_mark}
 use Rattle.block_heap.specs.Links.{IsPopped, IsFresh}
 use Rattle.block_heap.specs.Medium.{StoresOnly}
@@ -37,7 +37,7 @@ use Rattle.block_heap.specs.Running.{IsRunning, IsCacheOf, KnowsSizes, IsSettled
 use Rattle.block_heap.specs.Lists.{head_at, IsEmptyList, LeadsAlong, IsInList}
 use Rattle.block_heap.specs.Order.{CutsAll, CutsFirst}
 use Rattle.block_heap.specs.Steps.{Fills, Spends}
-use Rattle.block_heap.specs.Works.{UsedFits, Works, IsAllocatorWord, is_info, is_anchor, is_inside}
+use Rattle.block_heap.specs.Works.{UsedFits, Works, IsAllocatorWord}
 use Rattle.block_heap.proofs.HeldLemmas.{has_map}
 use Rattle.block_heap.proofs.MediumLemmas.{stores_then, stores_more}
 use Rattle.block_heap.proofs.OrderLemmas.{in_list_along, in_list_has, list_kept}
@@ -46,60 +46,7 @@ use Rattle.block_heap.proofs.SpendLemmas.{spends_none, spends_by}
 use Rattle.block_heap.proofs.StableLemmas.{works_of, works_then, works_raised}
 use Rattle.block_heap.proofs.LookLemmas.{looks_kept, IsNextLook, looked_at_head, looked_at_used}
 use Rattle.block_heap.proofs.RefillLemmas.{IsMoved, moved_word, moved_info, moved_used, serves_of, drains_none, made, caches_filled, caches_other, none_cached, head_moved, popped_head, popped_of, popped_pops, popped_list, popped_place}
-
--- a word of a superblock that no held block has a part in, and its info and anchor: an allocator may store to them
-pub divide_word : (capacity d : ℕ) (held : List Block) (word : ℕ) → d < capacity → HasNoHeld capacity held d → IsDivideWord capacity d word
-    → IsAllocatorWord capacity held word
-divide_word capacity d held word within none (inl inside) =
-    let from = inside.from in
-    let until = inside.until in
-    is_inside (omega arith) (λ b holds in_b.
-    let first = in_b.from in
-    let last = in_b.until in
-    none b holds (record { begins = omega arith; ends = omega arith }))
-divide_word capacity d held word within none (inr (inl info)) = is_info d within none info
-divide_word capacity d held word within none (inr (inr anchor)) = is_anchor d within anchor
-
--- none of them is `used`, a head, or the info of another superblock
-divide_before : (capacity d word : ℕ) → word < 1064 → IsDivideWord capacity d word → ⊥
-divide_before capacity d word less (inl inside) = let from = inside.from in omega arith
-divide_before capacity d word less (inr (inl info)) = omega arith
-divide_before capacity d word less (inr (inr anchor)) = omega arith
-
-divide_info : (capacity d e : ℕ) → e < capacity → e ≢ d → IsDivideWord capacity d (info_word e) → ⊥
-divide_info capacity d e within other (inl inside) = let from = inside.from in omega arith
-divide_info capacity d e within other (inr (inl info)) = other (omega arith)
-divide_info capacity d e within other (inr (inr anchor)) = omega arith
-
--- a division, as an image
-cut_is : (capacity class d : ℕ) (v w : View) → StoresOnly (IsDivideWord capacity d) v w → IsDivided capacity class d v w
-    → IsCut capacity (λ word. volatile_at v word) (λ word. volatile_at w word) class d
-cut_is capacity class d v w stores divided = record {
-  info = divided.info;
-  anchor = divided.anchor;
-  linked = divided.linked;
-  others = λ word out not_info not_anchor. stores.volatile word (λ t. by_word word out not_info not_anchor t);
-} where
-  by_word : (word : ℕ) → (IsInSuperblock capacity d word → ⊥) → word ≢ info_word d → word ≢ anchor_word d → IsDivideWord capacity d word → ⊥
-  by_word word out not_info not_anchor (inl inside) = out inside
-  by_word word out not_info not_anchor (inr (inl info)) = not_info info
-  by_word word out not_info not_anchor (inr (inr anchor)) = not_anchor anchor
-
--- it leaves infos and `used` durable
-settled_cut : (capacity class d : ℕ) (v w : View) → IsSettled capacity v → StoresOnly (IsDivideWord capacity d) v w → IsDivided capacity class d v w
-    → IsSettled capacity w
-settled_cut capacity class d v w settled stores divided = record {
-  infos = λ e within. elim (cases_eq e d) as (λ _. durable_at w (info_word e) ≡ volatile_at w (info_word e)) [
-    | inl same ↦ subst (λ k. durable_at w (info_word k) ≡ volatile_at w (info_word k)) (sym same) (divided.info_durable ∙ sym divided.info)
-    | inr other ↦ one (info_word e) (divide_info capacity d e within other) (settled.infos e within)
-  ];
-  used = one used_word (divide_before capacity d used_word (omega arith)) settled.used;
-} where
-  one : (word : ℕ) → (IsDivideWord capacity d word → ⊥) → durable_at v word ≡ volatile_at v word → durable_at w word ≡ volatile_at w word
-  one word out same = elim (stores.durable word out) as (λ _. durable_at w word ≡ volatile_at w word) [
-    | inl e ↦ e ∙ same ∙ sym (stores.volatile word out)
-    | inr e ↦ e ∙ sym (stores.volatile word out)
-  ]
+use Rattle.block_heap.proofs.CutWordLemmas.{divide_word, divide_before, divide_info, cut_is, settled_cut, others_kept}
 
 -- no mark lies in a superblock that no held block has a part in
 pub unmarked : (p : Parts) (d : ℕ) → IsRunning p → HasNoHeld p.capacity (held_in p) d → (mark : ℕ) → IsMarked p.blocks.marks.items mark → mark / 4096 ≢ d
@@ -305,6 +252,7 @@ module _ (p : Parts) (class d : ℕ) (popped : Popped) (w : View) (look : Look) 
         cuts = record {
           info = cuts.divided.info;
           linked = cuts.divided.linked;
+          others = others_kept p q w d (head_word 0) free_within (omega arith) pop_stores stores;
           cache = cut_cache p class d w (set p.head_looks 0 look) p.used_look p.taken q run is free_within stores same cuts;
           free = λ e other there.
               elim (head_or_rest d e rest (subst (λ xs. Contains xs e) listed (in_list_has p 0 e (run.shape.listed 0) there (run.is.follows 0 zero_list)))) as (λ _. IsInList q 0 e) [
@@ -487,6 +435,7 @@ module _ (p : Parts) (w : View) (run : IsRunning p) (stores : StoresOnly (λ wor
               info = cuts.divided.info;
               cache = cut_cache p class d w p.head_looks look (p.taken + 1) q run is within cut_stores same cuts;
               linked = cuts.divided.linked;
+              others = others_kept p q w d used_word within (omega arith) stores cut_stores;
               free = λ e other there. list_kept p q 0 0 (run.shape.listed 0) (run.shape.listed 0) (run.is.follows 0 (omega arith)) (fresh_list 0 (omega arith))
                   (λ k has. has) e there;
             }),

@@ -9,6 +9,7 @@ pub mod LookLemmas
 pub mod MediumLemmas
 pub mod OpeningLemmas
 pub mod OpenedLemmas
+pub mod PushLemmas
 pub mod SplitLemmas
 pub mod StableLemmas
 pub mod RunningLemmas
@@ -17,6 +18,7 @@ pub mod OpenLastLemmas
 pub mod StoreLemmas
 pub mod RefillLemmas
 pub mod TakeLemmas
+pub mod CutWordLemmas
 pub mod CutStepLemmas
 pub mod BlockMarkLemmas
 pub mod SmallLemmas

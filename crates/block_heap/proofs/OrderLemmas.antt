@@ -1,20 +1,21 @@
 -- In which list a superblock is, and how a request of a class comes to its block in order.
-use Rattle.std.proofs.Common.{◌≡◌, ◌≢◌, ℕ, ◌≤◌, ◌⊎◌, inl, inr, List, [], get_or, Contains, refl, ap, sym, subst, ◌∙◌, arith, ◌∷◌, ◌++◌, reverse, append_assoc, append-nil}
+use Rattle.std.proofs.Common.{◌≡◌, ◌≢◌, ℕ, ◌<◌, inl, inr, List, [], get_or, Contains, refl, ap, sym, subst, ◌∙◌, arith, ◌∷◌, ◌++◌, reverse, append_assoc, append-nil}
 use Rattle.std.proofs.lemmas.List.Elements.{Contains-append_cases}
 use Rattle.std.proofs.lemmas.List.{reverse-append}
 use Rattle.heap_model.specs.declared.block.Block.{Block}
-use Rattle.heap_model.specs.Geometry.{anchor_word, link_word, start_word}
+use Rattle.heap_model.specs.Geometry.{anchor_word, info_word, link_word, start_word}
 use Rattle.heap_model.specs.Sizes.{words_of_class, blocks_of}
 use Rattle.heap_model.specs.Words.{head_first, anchor_state, anchor_first, anchor_count, empty_state}
 use Rattle.heap_model.proofs.MemberLemmas.{in_none}
 use Rattle.heap_model.proofs.PartLemmas.{same_fields}
 use Rattle.heap_shape.specs.Standing.{first_of}
+use Rattle.heap_shape.specs.Effects.{IsInSuperblock}
 use Rattle.heap_shape.specs.Moves.{AddsTo}
 use Rattle.heap_shape.proofs.OwnLemmas.{one_following}
 use Rattle.block_heap.specs.declared.cache.Cache.{Cache}
 use Rattle.block_heap.specs.Divide.{AreLinked}
-use Rattle.block_heap.specs.Lists.{head_at, IsEmptyList, LeadsAlong, IsInList, KeepsFree}
-use Rattle.block_heap.specs.Order.{HasNothing, KeepsChains, Frees, TakesAll, CutsAll, CutsFirst, FillsFrom, from_free_list, TakesFirst, MovesEmpty, Stocked, in_stock, is_filled, IsServed, from_class_list, from_fresh}
+use Rattle.block_heap.specs.Lists.{head_at, IsEmptyList, LeadsAlong, IsInList}
+use Rattle.block_heap.specs.Order.{HasNothing, KeepsSuperblock, Frees, TakesAll, CutsAll, CutsFirst, FillsFrom, from_free_list, TakesFirst, MovesEmpty, Stocked, in_stock, is_filled, IsServed, from_class_list, from_fresh}
 use Rattle.block_heap.specs.Parts.{Parts, image_of, held_in, cache_at}
 use Rattle.block_heap.specs.Running.{IsRunning}
 use Rattle.block_heap.specs.Steps.{HandsOut}
@@ -51,8 +52,15 @@ pub nothing_in_empty : (class : ℕ) (p : Parts) → IsEmptyList p class → Has
 nothing_in_empty class p empty d listed = absurd (in_none d (in_list_has p class d [] listed empty))
 
 -- what stays over two rows of steps, and what went to the free list
-chains_then : (p q r : Parts) → q.capacity ≡ p.capacity → KeepsChains p q → KeepsChains q r → KeepsChains p r
-chains_then p q r capacity a b word from = b word (subst (λ n. start_word n 0 ≤ word) (sym capacity) from) ∙ a word from
+keeps_then : (e : ℕ) (p q r : Parts) → q.capacity ≡ p.capacity → KeepsSuperblock e p q → KeepsSuperblock e q r → KeepsSuperblock e p r
+keeps_then e p q r capacity a b = record {
+  info = b.info ∙ a.info;
+  anchor = b.anchor ∙ a.anchor;
+  words = λ word inside. b.words word (subst (λ n. IsInSuperblock n e word) (sym capacity) inside) ∙ a.words word inside;
+}
+
+within_then : (e : ℕ) (p q : Parts) → q.capacity ≡ p.capacity → e < p.capacity → e < q.capacity
+within_then e p q capacity below = subst (λ n. e < n) (sym capacity) below
 
 frees_then : (xs ys : List ℕ) (p q r : Parts) → Frees xs p q → Frees ys q r → Frees (xs ++ ys) p r
 frees_then xs ys p q r a b fs leads =
@@ -64,8 +72,8 @@ frees_then xs ys p q r a b fs leads =
 pub moves_none : (class : ℕ) (p : Parts) → MovesEmpty class p p
 moves_none class p = record {
   capacity = refl;
+  all = λ e below. record { info = refl; anchor = refl; words = λ word inside. refl };
   anchors = λ d. refl;
-  chains = λ word from. refl;
   moved = [];
   were = λ ds leads. leads;
   passed = λ e none. absurd (in_none e none);
@@ -78,7 +86,7 @@ pub moves_then : (class : ℕ) (p q r : Parts) → MovesEmpty class p q → Move
 moves_then class p q r a b = record {
   capacity = b.capacity ∙ a.capacity;
   anchors = λ d. b.anchors d ∙ a.anchors d;
-  chains = chains_then p q r a.capacity a.chains b.chains;
+  all = λ e below. keeps_then e p q r a.capacity (a.all e below) (b.all e (within_then e p q a.capacity below));
   moved = a.moved ++ b.moved;
   were = λ ds leads. subst (λ es. LeadsAlong p class es) (sym (append_assoc a.moved b.moved ds)) (a.were (b.moved ++ ds) (b.were ds leads));
   passed = λ e has. elim (Contains-append_cases a.moved b.moved e has) as (λ _. anchor_state (image_of p (anchor_word e)) ≡ empty_state) [
@@ -95,7 +103,11 @@ pub moves_same : (class : ℕ) (p q : Parts) → q.capacity ≡ p.capacity → q
 moves_same class p q capacity same = record {
   capacity = capacity;
   anchors = λ d. ap (λ (xs : List ℕ). get_or xs (anchor_word d) 0) same;
-  chains = λ word from. ap (λ (xs : List ℕ). get_or xs word 0) same;
+  all = λ e below. record {
+    info = ap (λ (xs : List ℕ). get_or xs (info_word e) 0) same;
+    anchor = ap (λ (xs : List ℕ). get_or xs (anchor_word e) 0) same;
+    words = λ word inside. ap (λ (xs : List ℕ). get_or xs word 0) same;
+  };
   moved = [];
   were = λ ds leads. leads_same p q class ds capacity same leads;
   passed = λ e none. absurd (in_none e none);
@@ -107,7 +119,9 @@ moves_same class p q capacity same = record {
 -- a superblock whose free blocks were taken after that
 pub takes_after : (class d : ℕ) (p q r : Parts) → MovesEmpty class p q → q.taken ≡ p.taken → TakesAll class d q r → TakesAll class d p r
 takes_after class d p q r moves taken takes =
+    let within : d < p.capacity = subst (λ n. d < n) moves.capacity takes.within in
     let same : image_of q (anchor_word d) ≡ image_of p (anchor_word d) = moves.anchors d in record {
+      within = within;
       before = moves.moved ++ takes.before;
       behind = takes.behind;
       leads = subst (λ es. LeadsAlong p class es) (sym (append_assoc moves.moved takes.before (d ∷ takes.behind)))
@@ -122,19 +136,22 @@ takes_after class d p q r moves taken takes =
           ∙ ap (λ n. record { first = first_of n class d (anchor_first (image_of q (anchor_word d))); count = anchor_count (image_of q (anchor_word d)) }) moves.capacity
           ∙ ap (λ a. record { first = first_of p.capacity class d (anchor_first a); count = anchor_count a }) same;
       now = takes.now;
-      chains = chains_then p q r moves.capacity moves.chains takes.chains;
+      info = takes.info ∙ (moves.all d within).info;
+      words = λ word inside. takes.words word (subst (λ n. IsInSuperblock n d word) (sym moves.capacity) inside) ∙ (moves.all d within).words word inside;
+      others = λ e below other. keeps_then e p q r moves.capacity (moves.all e below) (takes.others e (within_then e p q moves.capacity below) other);
       frees = frees_then moves.moved takes.before p q r moves.frees takes.frees;
       free = λ e listed. takes.free e (moves.free e listed);
       taken = takes.taken ∙ taken;
     }
 
--- a superblock that was cut after steps that keep the free list
-pub cuts_after : (class d : ℕ) (p q r : Parts) → q.capacity ≡ p.capacity → KeepsFree p q → CutsAll class d q r → CutsAll class d p r
-cuts_after class d p q r capacity free cuts = record {
+-- a superblock that was cut after that
+pub cuts_after : (class d : ℕ) (p q r : Parts) → MovesEmpty class p q → CutsAll class d q r → CutsAll class d p r
+cuts_after class d p q r moves cuts = record {
   info = cuts.info;
-  cache = subst (λ n. cache_at r.caches class ≡ record { first = start_word n d; count = blocks_of class }) capacity cuts.cache;
-  linked = subst (λ n. AreLinked n class d (blocks_of class) r.words) capacity cuts.linked;
-  free = λ e other listed. cuts.free e other (free e listed);
+  cache = subst (λ n. cache_at r.caches class ≡ record { first = start_word n d; count = blocks_of class }) moves.capacity cuts.cache;
+  linked = subst (λ n. AreLinked n class d (blocks_of class) r.words) moves.capacity cuts.linked;
+  others = λ e below other. keeps_then e p q r moves.capacity (moves.all e below) (cuts.others e (within_then e p q moves.capacity below) other);
+  free = λ e other listed. cuts.free e other (moves.free e listed);
 }
 
 -- The list of the class had nothing to give.
@@ -152,7 +169,7 @@ module _ (class : ℕ) (p a q : Parts) (moves : MovesEmpty class p a) (nothing :
         (moves.frees (run.shape.listed 0) (run.is.follows 0 (omega arith))) first.was;
     empty = ap head_first first.class_head ∙ empty;
     rest = first.rest;
-  }) (cuts_after class d p a q moves.capacity moves.free first.cuts) (same ∙ taken)
+  }) (cuts_after class d p a q moves first.cuts) (same ∙ taken)
 
 -- the first block of the cache was handed out
 pub takes_first : (class : ℕ) (b : Block) (p q : Parts) → q.capacity ≡ p.capacity → HandsOut class b p q → TakesFirst class p q

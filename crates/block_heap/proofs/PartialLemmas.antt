@@ -19,7 +19,7 @@ use Rattle.block_heap.specs.Serving.{HasRoom, in_cache, in_class_list, in_free_l
 use Rattle.block_heap.specs.Lists.{head_at, IsEmptyList, LeadsAlong}
 use Rattle.block_heap.specs.Steps.{look_at, IsLook, Fills, FindsFirst, FindsEmpty, Recycles, Spends, used_up}
 use Rattle.block_heap.specs.Order.{CutsAll, FillsFrom, from_fresh, MovesEmpty, OrdersFirst, OrdersPartial, OrdersFresh}
-use Rattle.block_heap.proofs.OrderLemmas.{list_same, moves_none, moves_then, moves_same, takes_after, cuts_after, nothing_in_empty}
+use Rattle.block_heap.proofs.OrderLemmas.{moves_none, moves_then, moves_same, takes_after, cuts_after, nothing_in_empty}
 use Rattle.block_heap.proofs.SpendLemmas.{spends_none, spends_then}
 use Rattle.std.proofs.lemmas.Bool.{cases_eq}
 use Rattle.block_heap.proofs.RefillLemmas.{serves_same, serves_then, drains_none, drains_then}
@@ -188,8 +188,8 @@ module _ (class : ℕ) (p a b : Parts) (is : IsClass class) (a_serves : Serves (
         let cuts = subst (λ s. OrdersFresh class s b q) is orders in
         let none = part.3 finds.empty in
         from_fresh none.1 none.0
-        (subst (λ d. CutsAll class d p q) used_then (cuts_after class (image_of b used_word) p b q (b_serves.capacity ∙ a_serves.capacity)
-        (λ e there. list_same a b 0 e b_serves.capacity finds.volatile (found.0.free e there)) cuts.0))
+        (subst (λ d. CutsAll class d p q) used_then (cuts_after class (image_of b used_word) p b q
+        (moves_then class p a b found.0 (moves_same class a b b_serves.capacity finds.volatile)) cuts.0))
         (let now = cuts.1 in let before = b_taken in let first = a_taken in omega arith)
 
     some_fresh : FindsFresh class true b q → Refills class true p q

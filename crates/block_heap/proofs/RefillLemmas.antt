@@ -3,7 +3,7 @@ use Rattle.std.proofs.Common.{◌≡◌, ◌≢◌, ℕ, ◌+◌, ◌*◌, ◌<�
 use Rattle.std.proofs.lemmas.Bool.{cases_eq}
 use Rattle.std.proofs.lemmas.List.{nil_from_length}
 use Rattle.heap_model.specs.declared.block.Block.{Block}
-use Rattle.heap_model.specs.Geometry.{lists, head_word, info_word, anchor_word, link_word, used_word, start_word, image_words}
+use Rattle.heap_model.specs.Geometry.{lists, head_word, info_word, anchor_word, link_word, used_word, image_words}
 use Rattle.heap_model.specs.Image.{Image}
 use Rattle.heap_model.specs.Sizes.{IsClass, blocks_of, words_of_class}
 use Rattle.heap_model.specs.Words.{head_first, head_pops, head_of}
@@ -11,7 +11,7 @@ use Rattle.heap_model.specs.Chains.{Follows}
 use Rattle.heap_model.specs.Counting.{times}
 use Rattle.heap_shape.specs.Shape.{in_list, is_full, Shape, with_at}
 use Rattle.heap_shape.specs.Whole.{IsShape}
-use Rattle.heap_shape.specs.Effects.{IsPoppedOf}
+use Rattle.heap_shape.specs.Effects.{IsPoppedOf, IsInSuperblock}
 use Rattle.heap_shape.specs.Draining.{DrainsSame}
 use Rattle.heap_shape.proofs.BasicLemmas.{with_at_same, with_at_other, first_place}
 use Rattle.line_memory.specs.View.{View, word_count, volatile_at}
@@ -58,10 +58,10 @@ moved_used capacity word (a_head list below at) e = omega arith
 moved_used capacity word (an_anchor c below at) e = omega arith
 moved_used capacity word (a_link c below at) e = omega arith
 
-pub moved_start : (capacity word : ℕ) → IsMoved capacity word → start_word capacity 0 ≤ word → ⊥
-moved_start capacity word (a_head list below at) from = omega arith
-moved_start capacity word (an_anchor c below at) from = omega arith
-moved_start capacity word (a_link c below at) from = omega arith
+pub moved_inside : (capacity d word : ℕ) → IsMoved capacity word → IsInSuperblock capacity d word → ⊥
+moved_inside capacity d word (a_head list below at) inside = let from = inside.from in omega arith
+moved_inside capacity d word (an_anchor c below at) inside = let from = inside.from in omega arith
+moved_inside capacity d word (a_link c below at) inside = let from = inside.from in omega arith
 
 pub moved_word : (capacity : ℕ) (held : List Block) (word : ℕ) → IsMoved capacity word → IsAllocatorWord capacity held word
 moved_word capacity held word (a_head list below at) = is_head list below at

@@ -1,10 +1,10 @@
 -- How a large block is freed: its mark is taken back, and then each of its superblocks goes to the free list.
-use Rattle.std.proofs.Common.{◌≡◌, ◌≢◌, ℕ, zero, suc, ◌+◌, ◌-◌, ◌*◌, ◌/◌, ◌<◌, ◌≤◌, ◌^◌, ◌⊎◌, inl, inr, List, ◌∷◌, length, get_or, set, Contains, refl, ap, sym, subst, ◌∙◌, arith, length-set}
+use Rattle.std.proofs.Common.{◌≡◌, ◌≢◌, ℕ, zero, suc, ◌+◌, ◌-◌, ◌*◌, ◌/◌, ◌<◌, ◌≤◌, ◌^◌, ◌⊎◌, inl, inr, List, ◌∷◌, length, get_or, set, Contains, refl, ap, sym, subst, ◌∙◌, arith}
 use Rattle.std.proofs.lemmas.Bool.{cases_eq}
 use Rattle.heap_model.specs.declared.block.Block.{Block}
 use Rattle.heap_model.specs.Geometry.{lists, head_word, info_word, anchor_word, link_word, used_word, start_word, superblock_words, largest_capacity, largest_capacity_fits}
 use Rattle.heap_model.specs.Sizes.{IsClass, words_of_class}
-use Rattle.heap_model.specs.Words.{head_first, head_of, head_pops}
+use Rattle.heap_model.specs.Words.{head_first, head_pops}
 use Rattle.heap_model.specs.Recovered.{HasPartIn}
 use Rattle.heap_model.specs.Chains.{Follows}
 use Rattle.heap_model.proofs.CountingLemmas.{times_some}
@@ -24,7 +24,7 @@ use Rattle.line_memory.specs.Marks.{marked_words}
 use Rattle.block_heap.specs.declared.held.HeldBlocks.{HeldBlocks}
 use Rattle.block_heap.specs.Held.{held_of, at_mark, block_of_mark, HasMark}
 use Rattle.block_heap.specs.Accounts.{IsUsed, AreAccounted, GivesUse}
-use Rattle.block_heap.specs.Links.{IsOpen, IsPushed, IsPushWord}
+use Rattle.block_heap.specs.Links.{IsPushed, IsPushWord}
 use Rattle.block_heap.specs.Medium.{StoresOnly, Goes, IsStored}
 use Rattle.block_heap.specs.Lists.{head_at, LeadsAlong, IsInList, KeepsFree}
 use Rattle.block_heap.specs.Returns.{FreesLarge, FreesOne}
@@ -38,41 +38,7 @@ use Rattle.block_heap.proofs.RunningLemmas.{set_is, settled_kept}
 use Rattle.block_heap.proofs.HeldLemmas.{only_map, mark_block}
 use Rattle.block_heap.proofs.LookLemmas.{looks_kept, looks_then}
 use Rattle.block_heap.proofs.StableLemmas.{works_none, works_of, works_then}
-
--- a push, as an image
-pub pushed_is : (list d : ℕ) (v w : View) → list < lists → head_word list < word_count v → link_word d < word_count v → IsPushed list d v w
-    → IsPushedOn (volatile_at v) (volatile_at w) list d
-pushed_is list d v w less head link pushed =
-    let long = length-set v.volatile (link_word d) (head_first (volatile_at v (head_word list))) in
-    record {
-      middle = volatile_at (record v { volatile = set v.volatile (link_word d) (head_first (volatile_at v (head_word list))) });
-      pops = head_pops (volatile_at v (head_word list));
-      link = set_is v.volatile (set v.volatile (link_word d) (head_first (volatile_at v (head_word list)))) (link_word d)
-          (head_first (volatile_at v (head_word list))) link refl;
-      head = set_is (set v.volatile (link_word d) (head_first (volatile_at v (head_word list)))) w.volatile (head_word list)
-          (head_of (d + 1) (head_pops (volatile_at v (head_word list)))) (omega arith) pushed.words;
-    }
-
--- it keeps how often each list was popped
-pub pushed_pops : (list d : ℕ) (v w : View) → list < lists → head_word list < word_count v → link_word d < word_count v → d < 16777215 → IsPushed list d v w
-    → (other : ℕ) → other < lists → head_pops (volatile_at w (head_word other)) ≡ head_pops (volatile_at v (head_word other))
-pushed_pops list d v w less head link small pushed other below =
-    let long = length-set v.volatile (link_word d) (head_first (volatile_at v (head_word list))) in
-    let first = set_is v.volatile (set v.volatile (link_word d) (head_first (volatile_at v (head_word list)))) (link_word d)
-    (head_first (volatile_at v (head_word list))) link refl in
-    let second = set_is (set v.volatile (link_word d) (head_first (volatile_at v (head_word list)))) w.volatile (head_word list)
-    (head_of (d + 1) (head_pops (volatile_at v (head_word list)))) (omega arith) pushed.words in
-    elim (cases_eq other list) as (λ _. head_pops (volatile_at w (head_word other)) ≡ head_pops (volatile_at v (head_word other))) [
-      | inl same ↦
-          let now : volatile_at w (head_word list) ≡ d + 1 + 16777216 * head_pops (volatile_at v (head_word list)) = second.at in
-          subst (λ k. head_pops (volatile_at w (head_word k)) ≡ head_pops (volatile_at v (head_word k))) (sym same) (omega arith)
-      | inr differs ↦ ap head_pops (second.others (head_word other) (λ e. differs (omega arith)) ∙ first.others (head_word other) (λ e. omega arith))
-    ]
-
--- the words of an open heap
-pub words_inside : (capacity d list : ℕ) (v : View) → IsOpen capacity v → d < capacity → list < lists
-    → (head_word list < word_count v) × (anchor_word d < word_count v) × (link_word d < word_count v)
-words_inside capacity d list v is within less = let long = is.long in (omega arith, omega arith, omega arith)
+use Rattle.block_heap.proofs.PushLemmas.{pushed_is, pushed_pops, words_inside}
 
 -- parts with other words serve, where each word stored to is an allocator's
 pub serves_words : (held : List Block) (p : Parts) (to : ℕ → Type 0) (w : View) → ((word : ℕ) → to word → IsAllocatorWord p.capacity held word) → (to used_word → ⊥)

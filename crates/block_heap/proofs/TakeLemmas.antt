@@ -5,7 +5,7 @@ use Rattle.heap_model.specs.Geometry.{lists, head_word, info_word, anchor_word, 
 use Rattle.heap_model.specs.Sizes.{IsClass, blocks_of}
 use Rattle.heap_model.specs.Words.{head_first, head_pops, head_of, anchor_state, anchor_first, anchor_count, empty_state, partial_state, full_anchor}
 use Rattle.heap_model.specs.Chains.{Follows}
-use Rattle.heap_model.proofs.MemberLemmas.{in_none, in_head, in_rest, head_or_rest}
+use Rattle.heap_model.proofs.MemberLemmas.{in_none, in_rest, head_or_rest}
 use Rattle.heap_shape.specs.Shape.{in_list, is_full, Shape, with_at}
 use Rattle.heap_shape.specs.Standing.{first_of, IsListed}
 use Rattle.heap_shape.specs.Effects.{IsSet, IsPushedOn}
@@ -25,14 +25,14 @@ use Rattle.block_heap.specs.Medium.{StoresOnly}
 use Rattle.block_heap.specs.Parts.{Parts, image_of, held_in, cache_at}
 use Rattle.block_heap.specs.Running.{IsRunning, Serves, MakesLooks}
 use Rattle.block_heap.specs.Steps.{Fills, Recycles, Spends}
-use Rattle.block_heap.specs.Lists.{head_at, IsEmptyList, LeadsAlong, IsInList}
+use Rattle.block_heap.specs.Lists.{head_at, IsEmptyList, LeadsAlong}
 use Rattle.block_heap.specs.Order.{TakesAll, MovesEmpty}
 use Rattle.block_heap.proofs.OrderLemmas.{in_list_along, in_list_has, list_kept, same_cache}
 use Rattle.block_heap.proofs.MediumLemmas.{stores_then, stores_more}
 use Rattle.block_heap.proofs.RunningLemmas.{set_is, settled_kept}
 use Rattle.block_heap.proofs.SpendLemmas.{spends_by}
 use Rattle.block_heap.proofs.LookLemmas.{IsNextLook, looked_at_head}
-use Rattle.block_heap.proofs.RefillLemmas.{IsMoved, a_head, an_anchor, a_link, moved_info, moved_used, moved_start, serves_moved, IsMade, made, caches_filled, caches_other, sizes_kept, none_cached, pop_moved, popped_head, popped_of, popped_pops, popped_list, popped_place}
+use Rattle.block_heap.proofs.RefillLemmas.{IsMoved, a_head, an_anchor, a_link, moved_info, moved_used, moved_inside, serves_moved, IsMade, made, caches_filled, caches_other, sizes_kept, none_cached, pop_moved, popped_head, popped_of, popped_pops, popped_list, popped_place}
 
 module _ (p : Parts) (class d : ℕ) (popped : Popped) (w : View) (look : Look) (run : IsRunning p) (is : IsClass class) (pop : IsPopped class popped p.words w)
     (pop_stores : StoresOnly (λ word. word ≡ head_word class) p.words w) (some : popped.first ≡ Some d) where
@@ -181,6 +181,7 @@ module _ (p : Parts) (class d : ℕ) (popped : Popped) (w : View) (look : Look) 
 
       pub taken_all : TakesAll class d p taken_parts
       taken_all = record {
+        within = first_within;
         before = [];
         behind = rest;
         leads = subst (λ (ds : List ℕ). LeadsAlong p class ds) listed (run.is.follows class below);
@@ -190,7 +191,15 @@ module _ (p : Parts) (class d : ℕ) (popped : Popped) (w : View) (look : Look) 
         cache = get_or-set_same p.caches class cache (record { first = 0; count = 0 }) (let long = run.caches_long in let less = below in omega arith)
             ∙ same_cache cache (record { first = first; count = anchor_count (image_of p (anchor_word d)) }) cache_first (is_taken.words.2 ∙ ap anchor_count anchor_kept);
         now = anchor_set.at;
-        chains = λ word from. take_moved.volatile word (λ m. moved_start p.capacity word m from);
+        info = take_moved.volatile (info_word d) (λ m. moved_info p.capacity d (info_word d) m refl);
+        words = λ word inside. take_moved.volatile word (λ m. moved_inside p.capacity d word m inside);
+        others = λ e less other. record {
+          info = take_moved.volatile (info_word e) (λ m. moved_info p.capacity e (info_word e) m refl);
+          anchor =
+              take_stores.volatile (anchor_word e) (λ at. other (omega arith))
+              ∙ pop_stores.volatile (anchor_word e) (λ at. let last = is.last in omega arith);
+          words = λ word inside. take_moved.volatile word (λ m. moved_inside p.capacity e word m inside);
+        };
         frees = λ fs leads. subst (λ xs. LeadsAlong taken_parts 0 xs) (free_one fs leads) free_stays;
         free = list_kept p taken_parts 0 0 (run.shape.listed 0) (run.shape.listed 0) (run.is.follows 0 (omega arith)) free_stays (λ e has. has);
         taken = refl;
@@ -375,7 +384,11 @@ module _ (p : Parts) (class d : ℕ) (popped : Popped) (w : View) (look : Look) 
         recycled_moves = record {
           capacity = refl;
           anchors = anchors_stay;
-          chains = λ word from. push_moved.volatile word (λ m. moved_start p.capacity word m from);
+          all = λ e less. record {
+            info = push_moved.volatile (info_word e) (λ m. moved_info p.capacity e (info_word e) m refl);
+            anchor = anchors_stay e;
+            words = λ word inside. push_moved.volatile word (λ m. moved_inside p.capacity e word m inside);
+          };
           moved = d ∷ [];
           were = λ ds leads.
               subst (λ es. LeadsAlong p class (d ∷ es))

@@ -1,10 +1,11 @@
 -- Where a request of a class gets its block.
-use Rattle.std.specs.Prelude.{◌≡◌, ◌≢◌, ℕ, ◌+◌, ◌≤◌, ⊤, Bool, true, false, Option, MatchOption, List, ◌∷◌, ◌++◌, reverse, Contains}
+use Rattle.std.specs.Prelude.{◌≡◌, ◌≢◌, ℕ, ◌+◌, ◌<◌, ◌≤◌, ⊤, Bool, true, false, Option, MatchOption, List, ◌∷◌, ◌++◌, reverse, Contains}
 use Rattle.heap_model.specs.declared.block.Block.{Block}
 use Rattle.heap_model.specs.Geometry.{anchor_word, info_word, used_word, start_word}
 use Rattle.heap_model.specs.Sizes.{IsClass, IsLeastClassFor, blocks_of, words_of_class}
 use Rattle.heap_model.specs.Words.{anchor_state, anchor_first, anchor_count, empty_state, partial_state, full_anchor}
 use Rattle.heap_shape.specs.Standing.{first_of}
+use Rattle.heap_shape.specs.Effects.{IsInSuperblock}
 use Rattle.heap_shape.specs.Moves.{AddsTo}
 use Rattle.block_heap.specs.declared.refill.Found.{Found}
 use Rattle.block_heap.specs.declared.refill.Found.TheVariants.{Blocks, Recycled, Nothing}
@@ -16,16 +17,19 @@ use Rattle.block_heap.specs.Divide.{AreLinked}
 abbrev pub HasNothing : ℕ → Parts → Type 0
 HasNothing class p = (d : ℕ) → IsInList p class d → anchor_state (image_of p (anchor_word d)) ≡ empty_state
 
--- the words of superblocks stay, so blocks stay chained as they are
-abbrev pub KeepsChains : Parts → Parts → Type 0
-KeepsChains p q = (word : ℕ) → start_word p.capacity 0 ≤ word → image_of q word ≡ image_of p word
+-- superblock e stays: its info, its anchor and its words
+pub record KeepsSuperblock (e : ℕ) (p q : Parts) : Type 0 where
+  pub info : image_of q (info_word e) ≡ image_of p (info_word e)
+  pub anchor : image_of q (anchor_word e) ≡ image_of p (anchor_word e)
+  pub words : (word : ℕ) → IsInSuperblock p.capacity e word → image_of q word ≡ image_of p word
 
 -- these went to the free list, one after another: the last of them is its first now
 abbrev pub Frees : List ℕ → Parts → Parts → Type 0
 Frees ds p q = (fs : List ℕ) → LeadsAlong p 0 fs → LeadsAlong q 0 (reverse ds ++ fs)
 
--- superblock d is the first in the list of the class that has blocks in use: all that it had free are in the cache, chained as they were, and the list begins behind it
+-- superblock d is the first in the list of the class that has blocks in use: all that it had free are in the cache, chained as they were, and the list begins behind it; each other superblock stays
 pub record TakesAll (class d : ℕ) (p q : Parts) : Type 0 where
+  pub within : d < p.capacity
   pub before : List ℕ
   pub behind : List ℕ
   pub leads : LeadsAlong p class (before ++ d ∷ behind)
@@ -37,16 +41,19 @@ pub record TakesAll (class d : ℕ) (p q : Parts) : Type 0 where
     count = anchor_count (image_of p (anchor_word d));
   }
   pub now : image_of q (anchor_word d) ≡ full_anchor
-  pub chains : KeepsChains p q
+  pub info : image_of q (info_word d) ≡ image_of p (info_word d)
+  pub words : (word : ℕ) → IsInSuperblock p.capacity d word → image_of q word ≡ image_of p word
+  pub others : (e : ℕ) → e < p.capacity → e ≢ d → KeepsSuperblock e p q
   pub frees : Frees before p q
   pub free : KeepsFree p q
   pub taken : q.taken ≡ p.taken
 
--- superblock d is cut for the class, and all its blocks are in the cache, chained in ascending order; no other leaves the free list
+-- superblock d is cut for the class, and all its blocks are in the cache, chained in ascending order; each other superblock stays, and none leaves the free list
 pub record CutsAll (class d : ℕ) (p q : Parts) : Type 0 where
   pub info : image_of q (info_word d) ≡ class
   pub cache : cache_at q.caches class ≡ record { first = start_word p.capacity d; count = blocks_of class }
   pub linked : AreLinked p.capacity class d (blocks_of class) q.words
+  pub others : (e : ℕ) → e < p.capacity → e ≢ d → KeepsSuperblock e p q
   pub free : (e : ℕ) → e ≢ d → IsInList p 0 e → IsInList q 0 e
 
 -- the superblocks in the list of the class went to the free list, one after another, and d, the first there then, left it
@@ -105,8 +112,8 @@ IsServedInOrder bytes p q = (class : ℕ) → IsLeastClassFor bytes class → Is
 -- the first superblocks of the list of the class, with all their blocks free, went to the free list
 pub record MovesEmpty (class : ℕ) (p q : Parts) : Type 0 where
   pub capacity : q.capacity ≡ p.capacity
-  pub anchors : (d : ℕ) → image_of q (anchor_word d) ≡ image_of p (anchor_word d)
-  pub chains : KeepsChains p q
+  pub all : (e : ℕ) → e < p.capacity → KeepsSuperblock e p q
+  pub anchors : (e : ℕ) → image_of q (anchor_word e) ≡ image_of p (anchor_word e)
   pub moved : List ℕ
   pub were : (ds : List ℕ) → LeadsAlong q class ds → LeadsAlong p class (moved ++ ds)
   pub passed : (e : ℕ) → Contains moved e → anchor_state (image_of p (anchor_word e)) ≡ empty_state
