@@ -38,7 +38,7 @@ ascending_push {A} key is is' xs x old before to here from = record {
 }
 
 -- what holds of the pairs of each list, and of one of the first with one of the second, holds of the pairs of both
-all_pairs_append : {A : Type 0} (R : A → A → Type 0) (xs ys : List A) → AllPairs R xs → AllPairs R ys → ((x y : A) → Contains xs x → Contains ys y → R x y) → AllPairs R (xs ++ ys)
+pub all_pairs_append : {A : Type 0} (R : A → A → Type 0) (xs ys : List A) → AllPairs R xs → AllPairs R ys → ((x y : A) → Contains xs x → Contains ys y → R x y) → AllPairs R (xs ++ ys)
 all_pairs_append {A} R xs ys in_xs in_ys across i j d less below =
     let long = length-append xs ys in
     elim (cases_lt j (length xs)) as (λ _. R (get_or (xs ++ ys) i d) (get_or (xs ++ ys) j d)) [
