@@ -4,8 +4,6 @@ use Rattle.tool_ports.specs.Contents.{Contents}
 use Rattle.heap_model.specs.Image.{image_of_bytes}
 use Rattle.dict_model.specs.Shards.{LeadsAlone, BadShard as IsBadShard}
 use Rattle.dict_model.proofs.ShardLemmas.{no_bad_place, alone_once}
-use Rattle.std.specs.BTreeMap.{get}
-use Rattle.std.specs.Ordering.{nat_cmp}
 use Rattle.tool_run.specs.Command.{Command, format_image, show_image, drain_image, image_name, Asks}
 use Rattle.tool_run.specs.declared.fault.Fault.{Fault}
 use Rattle.tool_run.specs.declared.fault.Fault.TheVariants.{Usage, Memory, ReadFault, WriteFault, Absent, Malformed, Outside, BadShard}
@@ -22,8 +20,8 @@ not_made : (command : Command) (contents : Contents) (name : List ℕ) (shard at
 not_made (format_image n capacity) contents name shard at image text reads named has made = reads
 not_made (show_image n with_map) contents name shard at image text reads named has made =
     let same : made.1.bytes ≡ has.bytes = same_bytes contents n name made.1.bytes has.bytes named made.1.is_there has.held in
-    let map = made.1.maps_are.each shard has.below in
-    no_bad_place (LeadsAlone (image_of_bytes made.1.bytes) shard) (alone_once (image_of_bytes made.1.bytes) shard) (image_of_bytes made.1.bytes) shard (get nat_cmp map.0) at map.2
+    let map = made.1.maps shard has.below in
+    no_bad_place (LeadsAlone (image_of_bytes made.1.bytes) shard) (alone_once (image_of_bytes made.1.bytes) shard) (image_of_bytes made.1.bytes) shard map.0 at map.1
     (subst (λ (l : List ℕ). IsBadShard (image_of_bytes l) shard at) (sym same) has.bad)
 not_made (drain_image n class) contents name shard at image text reads named has made = reads
 

@@ -22,6 +22,7 @@ use Rattle.tool_ports.specs.declared.image_store.GetFault.{GetFault}
 use Rattle.tool_ports.specs.declared.image_store.GetFault.TheVariants.{Absent as NoSuchImage, Failed as GetFailed, Memory as GetMemory}
 use Rattle.trace_text.specs.Report.{report_of}
 use Rattle.trace_text.specs.HeapMap.{map_of}
+use Rattle.trace_text.specs.Keys.{TellsKeys}
 use Rattle.trace_text.specs.Recovered.{is_clean}
 use Rattle.tool_run.specs.declared.fault.Fault.{Fault}
 use Rattle.tool_run.specs.declared.fault.Fault.TheVariants.{Malformed}
@@ -30,11 +31,13 @@ use Rattle.tool_run.specs.Command.{Command, image_name}
 use Rattle.tool_run.specs.Inside.{Refuses, fault_of_recovery, fault_of_get}
 use Rattle.tool_run.specs.Making.{Gets, fault_of, Shows, IsMalformed, HasOutside, PointsOutside, shown_text}
 use Rattle.tool_run.specs.Recovering.{IsRecovered, IsRecoveryOf, IsRecoveryFault, IsTextOf, text_of}
-use Rattle.std.specs.BTreeMap.{BTreeMap}
+use Rattle.std.specs.BTreeMap.{BTreeMap, get}
+use Rattle.std.specs.Ordering.{nat_cmp}
 use Rattle.heap_model.specs.Rest.{IsReady}
 use Rattle.dict_model.specs.Links.{shards}
 use Rattle.dictionary.specs.Reading.{AreMaps}
 use Rattle.tool_run.proofs.MapLemmas.{maps_of_image}
+use Rattle.tool_run.proofs.EntryLemmas.{entries_ascend}
 
 -- as many first bytes under another name
 pub first_limited : (contents : Contents) (name got : List ℕ) (most : ℕ) → most ≡ get_limit → HoldsFirst contents name most got → HoldsFirst contents name get_limit got
@@ -173,21 +176,24 @@ is_recovered contents name got shown recovered whole are is inside = record {
 pub shows : (contents : Contents) (name text : List ℕ) (maps : List (BTreeMap ℕ (List ℕ))) (with_map : Bool) (recovered : Recovered) → IsRecovered contents name recovered
     → IsReady recovered.heap.words recovered.heap.held → AreMaps (slice_index recovered.heap.words) shards maps
     → IsTextOf recovered maps with_map text → Shows contents name with_map text
-shows contents name text maps with_map recovered is ready are text_is = record {
-  bytes = is.bytes;
-  is_there = is.is_there;
-  good = is.good;
-  inside = is.inside;
-  held = recovered.heap.held;
-  free = recovered.free.items;
-  words = slice_index recovered.heap.words;
-  recovered = is.is.recovers;
-  maps = maps;
-  maps_are = maps_of_image contents name recovered is ready maps are;
-  keys = text_is.keys;
-  keys_are = text_is.keys_are;
-  text_is = text_is.is ∙ same_text (image_of_bytes is.bytes) recovered text_is.keys with_map is.is;
-}
+shows contents name text maps with_map recovered is ready are text_is =
+    let told : TellsKeys (Some maps) false text_is.keys = text_is.keys_are in
+    let of_image = maps_of_image contents name recovered is ready maps are in
+    record {
+      bytes = is.bytes;
+      is_there = is.is_there;
+      good = is.good;
+      inside = is.inside;
+      held = recovered.heap.held;
+      free = recovered.free.items;
+      words = slice_index recovered.heap.words;
+      recovered = is.is.recovers;
+      maps = λ i below. let each = of_image.each i below in (get nat_cmp each.0, each.2);
+      entries = told.0;
+      entries_are = entries_ascend (image_of_bytes is.bytes) maps of_image told.0 told.1;
+      text_is = text_is.is ∙ same_text (image_of_bytes is.bytes) recovered text_is.keys with_map is.is
+          ∙ ap (λ (keys : List ℕ). shown_text (image_of_bytes is.bytes) with_map keys recovered.heap.held recovered.free.items (slice_index recovered.heap.words)) told.2;
+    }
 
 -- the cause of a bad header, where a command gets the image
 pub is_malformed : (contents : Contents) (name got shown : List ℕ) (get_failed : Type 0) (cause : BadHeader) (fault : Fault) → fault ≡ Malformed cause

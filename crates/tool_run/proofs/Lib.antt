@@ -12,3 +12,4 @@ pub mod OutsideLemmas
 pub mod BadShardLemmas
 pub mod CompleteLemmas
 pub mod MapLemmas
+pub mod EntryLemmas

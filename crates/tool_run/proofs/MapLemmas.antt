@@ -28,7 +28,7 @@ module _ (contents : Contents) (name : List ℕ) (recovered : Recovered) (is : I
   maps_of_image maps are = record {
     long = are.long;
     each = λ i below. let each = are.each i below in
-        (each.0, each.1, map_kept (image_of_bytes is.bytes) (slice_index recovered.heap.words) recovers_to i _ below each.2);
+        (each.0, each.1, map_kept (image_of_bytes is.bytes) (slice_index recovered.heap.words) recovers_to i _ below each.2, each.3);
   }
 
   pub refuses_maps : (with_map : Bool) (get_failed : Type 0) (cause : MapFault) (fault : Fault) → fault ≡ fault_of_maps cause → TellsLowest (slice_index recovered.heap.words) cause

@@ -25,7 +25,7 @@ flips x y = elim (cases_eq x y) as (λ _. nat_eq x y ≡ nat_eq y x) [
 ]
 
 -- numbers that differ do so in any order
-still_once : (xs ys : List ℕ) → IsPermutation xs ys → AllPairs (λ x y. x ≢ y) xs → AllPairs (λ x y. x ≢ y) ys
+pub still_once : (xs ys : List ℕ) → IsPermutation xs ys → AllPairs (λ x y. x ≢ y) xs → AllPairs (λ x y. x ≢ y) ys
 still_once xs ys moved once =
     AllPairs-from_IsDistinct Decides-eqb ys (IsDistinct-IsPermutation nat_eq flips xs ys moved (IsDistinct-from_AllPairs Decides-eqb xs once))
 

@@ -9,15 +9,13 @@ use Rattle.heap_model.specs.Recovered.{IsFreeSuperblock, IsDrained, AreAscending
 use Rattle.heap_model.specs.Recovery.{IsRecovered}
 use Rattle.dict_model.specs.Links.{dict_links, root_kind, shards}
 use Rattle.dict_model.specs.Shards.{Map, MapOf, BadShard}
-use Rattle.dictionary.specs.Reading.{AreMaps}
-use Rattle.std.specs.BTreeMap.{BTreeMap}
 use Rattle.heap_model.specs.Geometry.{clean, image_words}
 use Rattle.heap_model.specs.Image.{Image, image_of_bytes, bytes_of_words}
 use Rattle.heap_model.specs.Sizes.{size_of}
 use Rattle.heap_model.specs.Header.{capacity_of, state_of, header_fault, empty_words}
 use Rattle.tool_ports.specs.Contents.{Contents, Holds}
 use Rattle.trace_text.specs.Report.{line_feed, report_of}
-use Rattle.trace_text.specs.Keys.{TellsKeys}
+use Rattle.trace_text.specs.Keys.{Entries, keys_text}
 use Rattle.trace_text.specs.HeapMap.{map_of}
 use Rattle.tool_run.specs.Command.{Command, format_image, show_image, drain_image}
 
@@ -43,6 +41,14 @@ pub record Recovers (image : Image) (held : List Block) (free : List ℕ) (words
   pub held_are : AreAscending (λ (b : Block). b.first_word) (IsKept image) held
   pub free_are : AreAscending (λ d. d) (IsFreeSuperblock (layout_of image) (IsKept image)) free
   pub words_are : IsRecovered image words (IsKept image)
+
+-- a key of one of the shards, with its value
+pub record IsEntryOf (image : Image) (entry : ℕ × List ℕ) : Type 0 where
+  pub shard : ℕ
+  pub below : shard < shards
+  pub keys : Map
+  pub keys_are : MapOf image shard keys
+  pub has : keys entry.0 ≡ Some entry.1
 
 -- the report on a recovered image, with what is told of its keys, and its map where that is asked for
 abbrev pub shown_text : Image → Bool → List ℕ → List Block → List ℕ → Image → List ℕ
@@ -83,11 +89,10 @@ pub record Shows (contents : Contents) (name : List ℕ) (with_map : Bool) (text
   pub free : List ℕ
   pub words : Image
   pub recovered : Recovers (image_of_bytes bytes) held free words
-  pub maps : List (BTreeMap ℕ (List ℕ))
-  pub maps_are : AreMaps (image_of_bytes bytes) shards maps
-  pub keys : List ℕ
-  pub keys_are : TellsKeys (Some maps) false keys
-  pub text_is : text ≡ shown_text (image_of_bytes bytes) with_map keys held free words
+  pub maps : (i : ℕ) → i < shards → (map : Map) × MapOf (image_of_bytes bytes) i map
+  pub entries : Entries
+  pub entries_are : AreAscending (λ entry. entry.0) (IsEntryOf (image_of_bytes bytes)) entries
+  pub text_is : text ≡ shown_text (image_of_bytes bytes) with_map (keys_text false entries) held free words
 
 -- the text on what the class gives of a named image that can be recovered
 pub record Drains (contents : Contents) (name : List ℕ) (class : ℕ) (text : List ℕ) : Type 0 where
