@@ -170,7 +170,7 @@ module _ (p : Parts) (class : ℕ) (is : IsClass class) (run : IsRunning p) (fro
       (λ b holds is_in. cached_apart p.capacity (image_of p) (held_in p) s class front.batch.last b run.is is last_cached holds
       (subst (λ x. IsIn b x) at is_in))
 
-  give_low : (word : ℕ) → word < start_word p.capacity 0 → word ≢ anchor_word front.d → IsGiveWord front.d front.batch word → ⊥
+  pub give_low : (word : ℕ) → word < start_word p.capacity 0 → word ≢ anchor_word front.d → IsGiveWord front.d front.batch word → ⊥
   give_low word low other (inl at) = other at
   give_low word low other (inr at) = let from = last_inside.from in omega arith
 

@@ -3,7 +3,7 @@ use Rattle.std.proofs.Common.{◌≡◌, ◌≢◌, ℕ, ◌<◌, ◌≤◌, ◌
 use Rattle.std.proofs.lemmas.Bool.{cases_eq}
 use Rattle.std.proofs.lemmas.List.Elements.{Contains-append_left, Contains-append_right}
 use Rattle.heap_model.specs.declared.block.Block.{Block}
-use Rattle.heap_model.specs.Geometry.{lists, info_word}
+use Rattle.heap_model.specs.Geometry.{lists, head_word, info_word}
 use Rattle.heap_model.specs.Counting.{times}
 use Rattle.heap_model.specs.Sizes.{IsClass, blocks_of}
 use Rattle.heap_model.specs.Chains.{Walks}
@@ -23,12 +23,12 @@ use Rattle.block_heap.specs.declared.small.Front.{Front}
 use Rattle.block_heap.specs.Batches.{IsGiven, IsGiveWord}
 use Rattle.block_heap.specs.Flush.{IsFront, KeepsAll}
 use Rattle.block_heap.specs.Links.{IsPushed, IsPushWord}
-use Rattle.block_heap.specs.Lists.{LeadsAlong, IsInList, KeepsFree}
+use Rattle.block_heap.specs.Lists.{head_at, LeadsAlong, IsInList, KeepsFree}
 use Rattle.block_heap.specs.Medium.{StoresOnly}
 use Rattle.block_heap.specs.Parts.{Parts, image_of, held_in, cache_at}
 use Rattle.block_heap.specs.Returns.{CachesAlong, CachesAllOf, Flushes, IsLongest, GivesTo}
 use Rattle.block_heap.specs.Running.{IsRunning}
-use Rattle.block_heap.proofs.FlushLemmas.{split, rest_long, none_of_zero, front_fits, gave_listed, gave_shape, gave_fixed, listed_fixed, all_shape, some_shape}
+use Rattle.block_heap.proofs.FlushLemmas.{give_low, split, rest_long, none_of_zero, front_fits, gave_listed, gave_shape, gave_fixed, listed_fixed, all_shape, some_shape}
 use Rattle.block_heap.proofs.OrderLemmas.{in_list_along, in_list_has, list_kept, list_same}
 use Rattle.block_heap.proofs.SmallLemmas.{changed}
 
@@ -97,6 +97,10 @@ module _ (p : Parts) (class : ℕ) (is : IsClass class) (run : IsRunning p) (fro
   abbrev parts_with : View → Parts
   parts_with v = changed p v (set p.caches class front.rest) p.blocks
 
+  -- the heads stay, but for that of a push
+  head_given : (list : ℕ) → list < lists → volatile_at w (head_word list) ≡ image_of p (head_word list)
+  head_given list less = stores.volatile (head_word list) (give_low p class is run front is_front (head_word list) (omega arith) (omega arith))
+
   -- to a superblock that has some of its blocks free
   module _ (other : anchor.state ≢ Full) where
     stands : run.shape.place front.d ≡ in_list class
@@ -124,6 +128,7 @@ module _ (p : Parts) (class : ℕ) (is : IsClass class) (run : IsRunning p) (fro
       some = λ some. in_list_along (parts_with w) class front.d (run.shape.listed class) class_now
           (listed_where p.capacity (image_of p) (held_in p) run.shape run.is class front.d below stands);
       only = λ d there. inl (list_kept (parts_with w) p 0 0 (run.shape.listed 0) (run.shape.listed 0) free_now free_leads (λ e has. has) d there);
+      heads = λ c is_c other. head_given c (let last = is_c.last in omega arith);
       infos = (gave_fixed p class is run front is_front w anchor given stores).infos;
     }
 
@@ -158,6 +163,14 @@ module _ (p : Parts) (class : ℕ) (is : IsClass class) (run : IsRunning p) (fro
               ]
         ]
 
+    heads_kept : (list ≡ 0) ⊎ (list ≡ class) → (c : ℕ) → IsClass c → c ≢ class → volatile_at x (head_word c) ≡ image_of p (head_word c)
+    heads_kept at c is_c other =
+        push_stores.volatile (head_word c) (λ t. elim t as (λ _. ⊥) [
+          | inl same ↦ let from = is_c.some in elim at as (λ _. ⊥) [ inl free ↦ omega arith | inr here ↦ other (omega arith) ]
+          | inr link ↦ let last = is_c.last in omega arith
+        ])
+        ∙ head_given c (let last = is_c.last in omega arith)
+
     infos_kept : (d : ℕ) → d < p.capacity → volatile_at x (info_word d) ≡ image_of p (info_word d)
     infos_kept = (listed_fixed p class is run front is_front w anchor given stores full list x pushed push_stores list_below).infos
 
@@ -169,6 +182,7 @@ module _ (p : Parts) (class : ℕ) (is : IsClass class) (run : IsRunning p) (fro
       some = λ some. absurd (some all);
       only = λ d there. elim (free_only d there) as (λ _. IsInList p 0 d ⊎ ((d ≡ front.d) × (front.batch.count ≡ blocks_of class)))
           [ inl before ↦ inl before | inr now ↦ inr (now.0, all) ];
+      heads = heads_kept (inl same);
       infos = infos_kept;
     }
 
@@ -180,6 +194,7 @@ module _ (p : Parts) (class : ℕ) (is : IsClass class) (run : IsRunning p) (fro
       some = λ _. subst (λ k. IsInList (parts_with x) k front.d) same here;
       only = λ d there. elim (free_only d there) as (λ _. IsInList p 0 d ⊎ ((d ≡ front.d) × (front.batch.count ≡ blocks_of class)))
           [ inl before ↦ inl before | inr now ↦ absurd (let from = is.some in let zero = now.1 in omega arith) ];
+      heads = heads_kept (inr same);
       infos = infos_kept;
     }
 
@@ -281,12 +296,13 @@ pub record FlushesSoFar (class : ℕ) (p q : Parts) : Type 0 where
   pub listed : (d : ℕ) → IsInList p class d → IsInList q class d
   pub only : (d : ℕ) → IsInList q 0 d → IsInList p 0 d ⊎ CachesAllOf class d p
   pub same_capacity : q.capacity ≡ p.capacity
+  pub heads : (c : ℕ) → IsClass c → c ≢ class → head_at q c ≡ head_at p c
   pub infos : (d : ℕ) → d < p.capacity → image_of q (info_word d) ≡ image_of p (info_word d)
   pub way : ((q.capacity ≡ p.capacity) × (q.words.volatile ≡ p.words.volatile) × (cache_at q.caches class ≡ cache_at p.caches class))
       ⊎ (((cache_at q.caches class).count < (cache_at p.caches class).count) × ((d : ℕ) → CachesAllOf class d p → IsInList q 0 d))
 
 pub flushes_none : (class : ℕ) (p : Parts) → FlushesSoFar class p p
-flushes_none class p = record { free = λ d there. there; listed = λ d there. there; only = λ d there. inl there; same_capacity = refl; infos = λ d below. refl; way = inl (refl, refl, refl) }
+flushes_none class p = record { free = λ d there. there; listed = λ d there. there; only = λ d there. inl there; same_capacity = refl; heads = λ c is other. refl; infos = λ d below. refl; way = inl (refl, refl, refl) }
 
 -- one front more
 module _ (class : ℕ) (p q r t : Parts) (is : IsClass class) (most : (cache_at p.caches class).count ≤ blocks_of class) (before : FlushesSoFar class p q)
@@ -331,6 +347,8 @@ module _ (class : ℕ) (p q r t : Parts) (is : IsClass class) (most : (cache_at 
       | inr now ↦ inr (subst (λ k. CachesAllOf class k p) (sym now.0) (was_all now.1))
     ];
     same_capacity = now_capacity ∙ capacity ∙ before.same_capacity;
+    heads = λ c is_c other.
+        to.heads c is_c other ∙ ap (λ (xs : List ℕ). get_or xs (head_word c) 0) volatile ∙ before.heads c is_c other;
     infos = λ d below.
         let inside : d < r.capacity = subst (λ n. d < n) (sym (capacity ∙ before.same_capacity)) below in
         to.infos d inside ∙ ap (λ (xs : List ℕ). get_or xs (info_word d) 0) volatile ∙ before.infos d below;
@@ -409,6 +427,8 @@ pub flushes_all : (class : ℕ) (p q : Parts) → IsClass class → IsRunning p 
 flushes_all class p q is run now held so_far keeps empty = record {
   empty = empty;
   caches = keeps.caches;
+  heads = so_far.heads;
+  infos = so_far.infos;
   free = so_far.free;
   listed = so_far.listed;
   all = λ d all. elim so_far.way as (λ _. IsInList q 0 d) [

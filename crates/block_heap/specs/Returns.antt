@@ -36,6 +36,8 @@ pub record CachesBlock (class word : ℕ) (p q : Parts) : Type 0 where
 pub record Flushes (class : ℕ) (p q : Parts) : Type 0 where
   pub empty : (cache_at q.caches class).count ≡ 0
   pub caches : (c : ℕ) → IsClass c → c ≢ class → cache_at q.caches c ≡ cache_at p.caches c
+  pub heads : (c : ℕ) → IsClass c → c ≢ class → head_at q c ≡ head_at p c
+  pub infos : (d : ℕ) → d < p.capacity → image_of q (info_word d) ≡ image_of p (info_word d)
   pub free : KeepsFree p q
   pub listed : (d : ℕ) → IsInList p class d → IsInList q class d
   pub all : (d : ℕ) → CachesAllOf class d p → IsInList q 0 d
@@ -80,6 +82,7 @@ pub record GivesTo (class : ℕ) (front : Front) (p q : Parts) : Type 0 where
   pub all : front.batch.count ≡ blocks_of class → IsInList q 0 front.d
   pub some : front.batch.count ≢ blocks_of class → IsInList q class front.d
   pub only : (d : ℕ) → IsInList q 0 d → IsInList p 0 d ⊎ ((d ≡ front.d) × (front.batch.count ≡ blocks_of class))
+  pub heads : (c : ℕ) → IsClass c → c ≢ class → head_at q c ≡ head_at p c
   pub infos : (d : ℕ) → d < p.capacity → image_of q (info_word d) ≡ image_of p (info_word d)
 
 -- superblock d came to the free list: the lists of the classes and all infos stay
