@@ -64,6 +64,7 @@ mod tests {
     use tool_ports::{ReadAllFault, read_all};
 
     // Gives one byte by each call, is interrupted before each, and fails at a call.
+    #[derive(Drop)]
     struct Uneven {
         calls: u64,
         fails_at: u64,

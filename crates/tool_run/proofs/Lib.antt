@@ -5,10 +5,11 @@ pub mod RecoveryLemmas
 pub mod OffsetLemmas
 pub mod DrainLemmas
 pub mod OpenedLemmas
-pub mod WordLemmas
+pub mod CommandLemmas
 pub mod CallLemmas
 pub mod StatusLemmas
 pub mod OutsideLemmas
+pub mod MalformedLemmas
 pub mod BadShardLemmas
 pub mod CompleteLemmas
 pub mod MapLemmas

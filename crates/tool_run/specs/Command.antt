@@ -1,9 +1,10 @@
 -- The words of the command line, and the command that they ask for.
-use Rattle.std.specs.Prelude.{◌≡◌, ◌≢◌, ℕ, ◌<◌, ◌≤◌, Bool, true, false, List, [], ◌∷◌, length, slice_index, map, codes, String, string_bytes}
+use Rattle.std.specs.Prelude.{ℕ, ◌≤◌, Bool, List, map, String, string_bytes}
 use Rattle.std.specs.declared.alloc.Global.{Global}
-use Rattle.std.specs.Str.Parse.{IsNumeral, digits_value}
+use Rattle.clap.specs.Words.{matches_of}
 use Rattle.heap_model.specs.Geometry.{largest_capacity}
 use Rattle.heap_model.specs.Sizes.{IsClass}
+use Rattle.tool_run.specs.CommandLine.{format_app, show_app, drain_app, image_id, capacity_id, class_id, map_id, IsTaken, HasText, HasNumber, HasFlag}
 
 -- what the tool can be asked for, each with the name of an image
 pub data Command : Type 0 where
@@ -21,45 +22,25 @@ image_name (drain_image image class) = image
 abbrev pub texts : List (String Global) → List (List ℕ)
 texts words = map (λ word. string_bytes word) words
 
--- a hyphen, with which an option begins
-abbrev pub hyphen : ℕ
-hyphen = 45
-
--- a word that names an image: it isn't empty, and isn't an option
-pub record IsImageName (word : List ℕ) : Type 0 where
-  pub some : 0 < length word
-  pub no_option : slice_index word 0 ≢ hyphen
-
--- one decimal digit or more, which write the number
-pub record IsNumber (word : List ℕ) (number : ℕ) : Type 0 where
-  pub digits : IsNumeral 10 word
-  pub value : digits_value 10 word ≡ number
-
 -- the words 'format IMAGE S'
 pub record AsksToFormat (words : List (List ℕ)) (image : List ℕ) (capacity : ℕ) : Type 0 where
-  pub number : List ℕ
-  pub words_are : words ≡ codes "format" ∷ image ∷ number ∷ []
-  pub named : IsImageName image
-  pub counted : IsNumber number capacity
+  pub taken : IsTaken format_app words
+  pub named : HasText (matches_of format_app words) image_id image
+  pub counted : HasNumber (matches_of format_app words) capacity_id capacity
   pub least : 1 ≤ capacity
   pub most : capacity ≤ largest_capacity
 
--- the word that asks for a map too
-abbrev pub map_option : Bool → List (List ℕ)
-map_option true = codes "--map" ∷ []
-map_option false = []
-
--- the words 'show IMAGE' or 'show IMAGE --map'
+-- the words 'show IMAGE', with the option '--map' or without
 pub record AsksToShow (words : List (List ℕ)) (image : List ℕ) (with_map : Bool) : Type 0 where
-  pub words_are : words ≡ codes "show" ∷ image ∷ map_option with_map
-  pub named : IsImageName image
+  pub taken : IsTaken show_app words
+  pub named : HasText (matches_of show_app words) image_id image
+  pub flagged : HasFlag (matches_of show_app words) map_id with_map
 
 -- the words 'drain IMAGE CLASS'
 pub record AsksToDrain (words : List (List ℕ)) (image : List ℕ) (class : ℕ) : Type 0 where
-  pub number : List ℕ
-  pub words_are : words ≡ codes "drain" ∷ image ∷ number ∷ []
-  pub named : IsImageName image
-  pub counted : IsNumber number class
+  pub taken : IsTaken drain_app words
+  pub named : HasText (matches_of drain_app words) image_id image
+  pub counted : HasNumber (matches_of drain_app words) class_id class
   pub is_class : IsClass class
 
 -- the words ask for this command

@@ -1,13 +1,17 @@
 -- Worked examples: words and what they ask for, and the lines that are printed.
-use Rattle.std.specs.Prelude.{◌≡◌, List, [], ◌∷◌, ◌++◌, codes, Some, None, true, false, refl}
+use Rattle.std.specs.Prelude.{◌≡◌, List, [], ◌∷◌, ◌++◌, codes, Bool, Some, None, true, false, refl, slice_get, unwrap_or}
 use Rattle.std.specs.Fmt.{digits}
-use Rattle.std.specs.Str.Parse.{digits_value}
-use Rattle.std.proofs.Common.{ℕ, length, slice_index_or, sym, ap, ◌∙◌, arith, lit<, lit≤}
+use Rattle.std.specs.Str.Parse.{digits_value, without_leading_plus}
+use Rattle.clap.specs.Words.{Row, fault_of, matches_of}
+use Rattle.clap.specs.declared.error.kind.ErrorKind.TheVariants.{ValueValidation, ArgumentConflict, DisplayHelp}
+use Rattle.clap.proofs.OnLiterals.{clap_on_literals}
+use Rattle.std.proofs.Common.{ℕ, length, sym, ap, ◌∙◌, arith, lit<, lit≤}
 use Rattle.heap_model.specs.Geometry.{largest_capacity}
 use Rattle.heap_model.specs.Sizes.{size_of, class_sizes}
 use Rattle.heap_model.specs.declared.header.BadHeader.TheVariants.{Length}
 use Rattle.trace_text.specs.Report.{line_feed}
-use Rattle.tool_run.specs.Command.{Command, Asks, IsUsage, format_image, show_image, drain_image, IsImageName, IsNumber}
+use Rattle.tool_run.specs.Command.{Command, Asks, format_image, show_image, drain_image}
+use Rattle.tool_run.specs.CommandLine.{format_app, drain_app, show_app, image_id, capacity_id, class_id, map_id, HasText, HasNumber, HasFlag, IsNumber}
 use Rattle.tool_run.specs.Lines.{no_image_line, bad_header_line}
 use Rattle.tool_run.specs.Making.{formatted_line, drained_text}
 use Rattle.tool_run.specs.Status.{own_line, usage, done, bad_header}
@@ -44,83 +48,90 @@ no_own_line = (refl, refl)
 number_one : IsNumber (codes "01") 1
 number_one = record { digits = (lit< tt, (lit< tt, (lit< tt, tt))); value = refl }
 
-name_h : IsImageName (codes "h")
-name_h = record { some = lit< tt; no_option = λ e. omega (arith, e) }
-
 format_one : Asks (codes "format" ∷ codes "h" ∷ codes "01" ∷ []) (format_image (codes "h") 1)
-unfolding largest_capacity
+unfolding largest_capacity clap_on_literals
 format_one = record {
-  number = codes "01";
-  words_are = refl;
-  named = name_h;
-  counted = number_one;
+  taken = record { named = refl; faultless = refl };
+  named = refl;
+  counted = record { text = codes "01"; given = refl; counted = number_one };
   least = lit≤ tt;
   most = lit≤ tt;
 }
 
 show_one : Asks (codes "show" ∷ codes "h" ∷ []) (show_image (codes "h") false)
-show_one = record { words_are = refl; named = name_h }
+unfolding clap_on_literals
+show_one = record { taken = record { named = refl; faultless = refl }; named = refl; flagged = (λ e. cc, λ e. cc) }
+
+-- an option stands anywhere behind the command
+show_map : Asks (codes "show" ∷ codes "--map" ∷ codes "h" ∷ []) (show_image (codes "h") true)
+unfolding clap_on_literals
+show_map = record { taken = record { named = refl; faultless = refl }; named = refl; flagged = (λ e. refl, λ e. refl) }
 
 drain_one : Asks (codes "drain" ∷ codes "h" ∷ codes "01" ∷ []) (drain_image (codes "h") 1)
+unfolding clap_on_literals
 drain_one = record {
-  number = codes "01";
-  words_are = refl;
-  named = name_h;
-  counted = number_one;
+  taken = record { named = refl; faultless = refl };
+  named = refl;
+  counted = record { text = codes "01"; given = refl; counted = number_one };
   is_class = record { some = lit≤ tt; last = lit≤ tt };
 }
 
-no_words : IsUsage []
-no_words (format_image image capacity) asks = omega (arith, ap length asks.words_are)
-no_words (show_image image true) asks = omega (arith, ap length asks.words_are)
-no_words (show_image image false) asks = omega (arith, ap length asks.words_are)
-no_words (drain_image image class) asks = omega (arith, ap length asks.words_are)
+-- a class that there isn't, an option given twice, and a wish for help
+class_past_the_last : fault_of drain_app (codes "drain" ∷ codes "h" ∷ codes "21" ∷ []) ≡ ValueValidation ∷ []
+unfolding clap_on_literals
+class_past_the_last = refl
 
-show_map : Asks (codes "show" ∷ codes "h" ∷ codes "--map" ∷ []) (show_image (codes "h") true)
-show_map = record { words_are = refl; named = name_h }
+map_twice : fault_of show_app (codes "show" ∷ codes "h" ∷ codes "--map" ∷ codes "--map" ∷ []) ≡ ArgumentConflict ∷ []
+unfolding clap_on_literals
+map_twice = refl
 
--- word i of the words
-word_at : ℕ → List (List ℕ) → List ℕ
-word_at i words = slice_index_or words i []
+help_wanted : fault_of show_app (codes "show" ∷ codes "--help" ∷ []) ≡ DisplayHelp ∷ []
+unfolding clap_on_literals
+help_wanted = refl
+
+-- one number is written
+one_number : (rows : List Row) (id : List ℕ) (n m : ℕ) → HasNumber rows id n → HasNumber rows id m → n ≡ m
+one_number rows id n m has also =
+    let same : has.text ≡ also.text = ap (λ o. unwrap_or o []) (sym has.given ∙ also.given) in
+    sym has.counted.value ∙ ap (λ text. digits_value 10 (without_leading_plus text)) same ∙ also.counted.value
+
+-- one text is given
+one_text_given : (rows : List Row) (id text other : List ℕ) → HasText rows id text → HasText rows id other → text ≡ other
+one_text_given rows id text other has also = ap (λ o. unwrap_or o []) (sym has ∙ also)
+
+-- an option is given or not
+one_flag : (rows : List Row) (id : List ℕ) (a b : Bool) → HasFlag rows id a → HasFlag rows id b → a ≡ b
+one_flag rows id true b has also = sym (also.1 (has.0 refl))
+one_flag rows id false true has also = has.1 (also.0 refl)
+one_flag rows id false false has also = refl
+
+-- the words have one first word
+one_name : (words : List (List ℕ)) (a b : List ℕ) → slice_get words 0 ≡ Some a → slice_get words 0 ≡ Some b → length a ≡ length b
+one_name words a b first second = ap (λ o. length (unwrap_or o a)) (sym first ∙ second)
 
 -- words ask for one command at most
 pub one_command : (words : List (List ℕ)) (a b : Command) → Asks words a → Asks words b → a ≡ b
-unfolding word_at
 one_command words (format_image image capacity) (format_image other count) asks also =
-    let same : asks.number ≡ also.number =
-    sym (ap (word_at 2) asks.words_are) ∙ ap (word_at 2) also.words_are in
-    let named : image ≡ other =
-    sym (ap (word_at 1) asks.words_are) ∙ ap (word_at 1) also.words_are in
-    let counted : capacity ≡ count =
-    sym asks.counted.value ∙ ap (digits_value 10) same ∙ also.counted.value in
+    let named = one_text_given (matches_of format_app words) image_id image other asks.named also.named in
+    let counted = one_number (matches_of format_app words) capacity_id capacity count asks.counted also.counted in
     cc
 one_command words (drain_image image class) (drain_image other number) asks also =
-    let same : asks.number ≡ also.number =
-    sym (ap (word_at 2) asks.words_are) ∙ ap (word_at 2) also.words_are in
-    let named : image ≡ other =
-    sym (ap (word_at 1) asks.words_are) ∙ ap (word_at 1) also.words_are in
-    let counted : class ≡ number =
-    sym asks.counted.value ∙ ap (digits_value 10) same ∙ also.counted.value in
+    let named = one_text_given (matches_of drain_app words) image_id image other asks.named also.named in
+    let counted = one_number (matches_of drain_app words) class_id class number asks.counted also.counted in
     cc
-one_command words (show_image image true) (show_image other true) asks also =
-    let named : image ≡ other = sym (ap (word_at 1) asks.words_are) ∙ ap (word_at 1) also.words_are in
+one_command words (show_image image flag) (show_image other set) asks also =
+    let named = one_text_given (matches_of show_app words) image_id image other asks.named also.named in
+    let flagged = one_flag (matches_of show_app words) map_id flag set asks.flagged also.flagged in
     cc
-one_command words (show_image image false) (show_image other false) asks also =
-    let named : image ≡ other = sym (ap (word_at 1) asks.words_are) ∙ ap (word_at 1) also.words_are in
-    cc
-one_command words (show_image image true) (show_image other false) asks also =
-    absurd (omega (arith, ap length asks.words_are, ap length also.words_are))
-one_command words (show_image image false) (show_image other true) asks also =
-    absurd (omega (arith, ap length asks.words_are, ap length also.words_are))
-one_command words (format_image image capacity) (show_image other with_map) asks also =
-    absurd (omega (arith, ap (λ ws. length (word_at 0 ws)) asks.words_are, ap (λ ws. length (word_at 0 ws)) also.words_are))
-one_command words (show_image image with_map) (format_image other count) asks also =
-    absurd (omega (arith, ap (λ ws. length (word_at 0 ws)) asks.words_are, ap (λ ws. length (word_at 0 ws)) also.words_are))
+one_command words (format_image image capacity) (show_image other flag) asks also =
+    absurd (omega (arith, one_name words _ _ asks.taken.named also.taken.named))
+one_command words (show_image image flag) (format_image other count) asks also =
+    absurd (omega (arith, one_name words _ _ asks.taken.named also.taken.named))
 one_command words (format_image image capacity) (drain_image other class) asks also =
-    absurd (omega (arith, ap (λ ws. length (word_at 0 ws)) asks.words_are, ap (λ ws. length (word_at 0 ws)) also.words_are))
+    absurd (omega (arith, one_name words _ _ asks.taken.named also.taken.named))
 one_command words (drain_image image class) (format_image other capacity) asks also =
-    absurd (omega (arith, ap (λ ws. length (word_at 0 ws)) asks.words_are, ap (λ ws. length (word_at 0 ws)) also.words_are))
-one_command words (show_image image with_map) (drain_image other class) asks also =
-    absurd (omega (arith, ap (λ ws. length (word_at 0 ws)) asks.words_are, ap (λ ws. length (word_at 0 ws)) also.words_are))
-one_command words (drain_image image class) (show_image other with_map) asks also =
-    absurd (omega (arith, ap (λ ws. length (word_at 0 ws)) asks.words_are, ap (λ ws. length (word_at 0 ws)) also.words_are))
+    absurd (omega (arith, one_name words _ _ asks.taken.named also.taken.named))
+one_command words (show_image image flag) (drain_image other class) asks also =
+    absurd (omega (arith, one_name words _ _ asks.taken.named also.taken.named))
+one_command words (drain_image image class) (show_image other flag) asks also =
+    absurd (omega (arith, one_name words _ _ asks.taken.named also.taken.named))

@@ -1,4 +1,5 @@
 pub mod Command
+pub mod CommandLine
 pub mod Calls
 pub mod Status
 pub mod Lines

@@ -1,9 +1,13 @@
-//! The words of the command line, read by hand.
-ghost use Rattle.std.specs.Prelude.{◌≡◌, ◌≢◌, ℕ, ◌≤◌, ◌∷◌, [], codes, IsTrue, ◌↔◌, IfSome, IfNone};
-ghost use Rattle.tool_run.specs.Command.{Asks, IsUsage, IsImageName, IsNumber, texts, image_name};
+//! The command that the words of the command line ask for, as the crate clap takes them.
+ghost use Rattle.std.specs.Prelude.{◌≡◌, ℕ, Bool, List, Some, codes, slice_get, IfOk, IsErrOf};
+ghost use Rattle.tool_run.specs.Command.{Asks, AsksToFormat, AsksToShow, AsksToDrain, IsUsage, texts, image_name};
 ghost use Rattle.tool_run.specs.Inside.{command_of};
 
+use crate::command_line::{
+    Refusal, drain_command, format_command, has_flag, match_words, number_of, show_command, text_of,
+};
 use crate::size_class::SizeClass;
+use std::alloc::Global;
 use super_block::{Geometry, LARGEST_CAPACITY, LAST_CLASS};
 
 /// What the words ask for.
@@ -27,111 +31,82 @@ impl<'a> Invocation<'a> {
     }
 }
 
-/// The invocation that the words are, or `None` where they are none.
-pub fn parse(words: &[String]) -> Option<Invocation<'_>>
-    ensures some { IfSome result (λ invocation. Asks (texts words.now) (command_of invocation)) }
-    ensures none { IfNone result (IsUsage (texts words.now)) }
+/// The invocation that the words are. The first one chooses the command; clap reads the others.
+pub fn parse<'a>(alloc: Global, words: &'a [String]) -> Result<Invocation<'a>, Refusal>
+    ensures ok { IfOk result (λ invocation. Asks (texts words.entry.now) (command_of invocation)) }
+    ensures err { IsErrOf result Refusal.Usage → IsUsage (texts words.entry.now) }
 {
     match words {
-        [command, image, last] => { parse_three(command.as_str(), image.as_str(), last.as_str()) }
-        [command, image] => parse_show(command.as_str(), image.as_str()),
-        _ => None,
+        [first, ..] => parse_command(alloc, first.as_str(), words),
+        [] => Err(Refusal::Usage),
     }
 }
 
-fn parse_three<'a>(command: &str, image: &'a str, last: &str) -> Option<Invocation<'a>>
-    ensures some { IfSome result
-        (λ invocation. Asks (command.now ∷ image.now ∷ last.now ∷ []) (command_of invocation)) }
-    ensures none { IfNone result (IsUsage (command.now ∷ image.now ∷ last.now ∷ [])) }
+fn parse_command<'a>(
+    alloc: Global,
+    command: &str,
+    words: &'a [String],
+) -> Result<Invocation<'a>, Refusal>
+    requires { slice_get (texts words.now) 0 ≡ Some command.now }
+    ensures ok { IfOk result (λ invocation. Asks (texts words.entry.now) (command_of invocation)) }
+    ensures err { IsErrOf result Refusal.Usage → IsUsage (texts words.entry.now) }
 {
+    if command == "format" {
+        return parse_format(alloc, words);
+    }
     if command == "show" {
-        return parse_show_map(image, last);
+        return parse_show(alloc, words);
     }
     if command == "drain" {
-        return parse_drain(image, last);
+        return parse_drain(alloc, words);
     }
-    parse_format(command, image, last)
+    Err(Refusal::Usage)
 }
 
-fn parse_show_map<'a>(image: &'a str, option: &str) -> Option<Invocation<'a>>
-    ensures some { IfSome result
-        (λ invocation. Asks (codes "show" ∷ image.now ∷ option.now ∷ []) (command_of invocation)) }
-    ensures none { IfNone result (IsUsage (codes "show" ∷ image.now ∷ option.now ∷ [])) }
+fn parse_format<'a>(alloc: Global, words: &'a [String]) -> Result<Invocation<'a>, Refusal>
+    requires { slice_get (texts words.now) 0 ≡ Some (codes "format") }
+    ensures ok { IfOk result (λ invocation. Asks (texts words.entry.now) (command_of invocation)) }
+    ensures err { IsErrOf result Refusal.Usage → (image : List ℕ) (capacity : ℕ)
+        → AsksToFormat (texts words.entry.now) image capacity → ⊥ }
 {
-    if option == "--map" && is_image_name(image) {
-        Some(Invocation::Show {
-            image,
-            with_map: true,
-        })
-    } else {
-        None
-    }
+    let matches = match_words(format_command(alloc)?, words)?;
+    let Some(image) = text_of(&matches, "IMAGE") else {
+        return Err(Refusal::Usage);
+    };
+    let Some(capacity) = number_of(&matches, "S", 1, LARGEST_CAPACITY) else {
+        return Err(Refusal::Usage);
+    };
+    let layout = Geometry::new(capacity);
+    Ok(Invocation::Format { image, layout })
 }
 
-#[tactic(auto, using(super_block::proofs::ConstantLemmas::largest_capacity_is))]
-fn parse_format<'a>(command: &str, image: &'a str, number: &str) -> Option<Invocation<'a>>
-    ensures some { IfSome result
-        (λ invocation. Asks (command.now ∷ image.now ∷ number.now ∷ []) (command_of invocation)) }
-    ensures none { command.now ≢ codes "show" → command.now ≢ codes "drain"
-        → IfNone result (IsUsage (command.now ∷ image.now ∷ number.now ∷ [])) }
+fn parse_show<'a>(alloc: Global, words: &'a [String]) -> Result<Invocation<'a>, Refusal>
+    requires { slice_get (texts words.now) 0 ≡ Some (codes "show") }
+    ensures ok { IfOk result (λ invocation. Asks (texts words.entry.now) (command_of invocation)) }
+    ensures err { IsErrOf result Refusal.Usage → (image : List ℕ) (with_map : Bool)
+        → AsksToShow (texts words.entry.now) image with_map → ⊥ }
 {
-    let capacity = parse_number(number, LARGEST_CAPACITY)?;
-    if command == "format" && is_image_name(image) {
-        let layout = Geometry::new(capacity);
-        Some(Invocation::Format { image, layout })
-    } else {
-        None
-    }
+    let matches = match_words(show_command(alloc)?, words)?;
+    let Some(image) = text_of(&matches, "IMAGE") else {
+        return Err(Refusal::Usage);
+    };
+    let with_map = has_flag(&matches, "map");
+    Ok(Invocation::Show { image, with_map })
 }
 
-fn parse_drain<'a>(image: &'a str, number: &str) -> Option<Invocation<'a>>
-    ensures some { IfSome result
-        (λ invocation. Asks (codes "drain" ∷ image.now ∷ number.now ∷ []) (command_of invocation)) }
-    ensures none { IfNone result (IsUsage (codes "drain" ∷ image.now ∷ number.now ∷ [])) }
+fn parse_drain<'a>(alloc: Global, words: &'a [String]) -> Result<Invocation<'a>, Refusal>
+    requires { slice_get (texts words.now) 0 ≡ Some (codes "drain") }
+    ensures ok { IfOk result (λ invocation. Asks (texts words.entry.now) (command_of invocation)) }
+    ensures err { IsErrOf result Refusal.Usage → (image : List ℕ) (class : ℕ)
+        → AsksToDrain (texts words.entry.now) image class → ⊥ }
 {
-    let class = parse_number(number, LAST_CLASS)?;
-    if is_image_name(image) {
-        let class = SizeClass::new(class as u8);
-        Some(Invocation::Drain { image, class })
-    } else {
-        None
-    }
-}
-
-fn parse_show<'a>(command: &str, image: &'a str) -> Option<Invocation<'a>>
-    ensures some { IfSome result
-        (λ invocation. Asks (command.now ∷ image.now ∷ []) (command_of invocation)) }
-    ensures none { IfNone result (IsUsage (command.now ∷ image.now ∷ [])) }
-{
-    if command == "show" && is_image_name(image) {
-        Some(Invocation::Show {
-            image,
-            with_map: false,
-        })
-    } else {
-        None
-    }
-}
-
-fn is_image_name(word: &str) -> bool
-    ensures { IsTrue result ↔ IsImageName word.now }
-{
-    match word.as_bytes() {
-        [] => false,
-        [first, ..] => *first != b'-',
-    }
-}
-
-// A number of 1 to `most`. The parser of std takes a plus sign too, which is no digit.
-fn parse_number(word: &str, most: u64) -> Option<u64>
-    ensures some { IfSome result (λ n. IsNumber word.now n × (1 ≤ n) × (n ≤ most)) }
-    ensures none { IfNone result ((n : ℕ) → IsNumber word.now n → 1 ≤ n → n ≤ most → ⊥) }
-{
-    if word.as_bytes().first() == Some(&b'+') {
-        return None;
-    }
-    match word.parse::<u64>() {
-        Ok(number) if 1 <= number && number <= most => Some(number),
-        _ => None,
-    }
+    let matches = match_words(drain_command(alloc)?, words)?;
+    let Some(image) = text_of(&matches, "IMAGE") else {
+        return Err(Refusal::Usage);
+    };
+    let Some(class) = number_of(&matches, "CLASS", 1, LAST_CLASS) else {
+        return Err(Refusal::Usage);
+    };
+    let class = SizeClass::new(class as u8);
+    Ok(Invocation::Drain { image, class })
 }

@@ -1,5 +1,5 @@
 //! The top call.
-ghost use Rattle.std.specs.Prelude.{◌≡◌, ◌≢◌, ◌↔◌, ◌⊎◌, ◌≤◌, Option, List, ℕ, OnOk, IfErr, IfSome, Contains};
+ghost use Rattle.std.specs.Prelude.{◌≡◌, ◌≢◌, ◌⊎◌, ◌≤◌, Option, List, ℕ, OnOk, IfErr, IfSome, Contains};
 ghost use Rattle.tool_ports.specs.Calls.{with_get, with_put};
 ghost use Rattle.tool_ports.specs.Causes.{Rose};
 ghost use Rattle.tool_ports.specs.Contents.{told_of};
@@ -11,6 +11,7 @@ ghost use Rattle.tool_run.specs.Outcome.{IsDone, IsWriteFault, AsksToGet, AsksTo
 ghost use Rattle.tool_run.specs.Status.{done, usage, out_of_memory, read_fault, write_fault, no_image, bad_header, outside, bad_shard, statuses, LeavesStore, own_line};
 
 use crate::command::{Invocation, parse};
+use crate::command_line::Refusal;
 use crate::delivery::deliver;
 use crate::fault::Fault;
 use crate::making::make;
@@ -39,7 +40,7 @@ pub fn run_tool<R, I: ImageStore, T: Source, O: Sink, G: Gate + Sync, C: Chances
     // What each status says.
     ensures ok { result ≡ done → IsDone (texts words.now)
         (I.contents images.old) (I.contents images.new) (O.taken out.old) (O.taken out.new) }
-    ensures usage { (result ≡ usage) ↔ IsUsage (texts words.now) }
+    ensures usage { result ≡ usage → IsUsage (texts words.now) }
     ensures read_fault { result ≡ read_fault → ((name : List ℕ) × AsksToGet (texts words.now) name)
         × Rose (I.faults images.old) (I.faults images.new) }
     ensures write_fault { result ≡ write_fault → IsWriteFault (texts words.now)
@@ -66,13 +67,18 @@ pub fn run_tool<R, I: ImageStore, T: Source, O: Sink, G: Gate + Sync, C: Chances
     // How often the store is called: not at all, or for one get, or for one put.
     ensures no_call { IsUsage (texts words.now) → I.calls images.new ≡ I.calls images.old }
     ensures one_get { (name : List ℕ) → AsksToGet (texts words.now) name
-        → I.calls images.new ≡ with_get get_limit (I.calls images.old) }
+        → result ≢ out_of_memory → I.calls images.new ≡ with_get get_limit (I.calls images.old) }
+    ensures get_or_none { (name : List ℕ) → AsksToGet (texts words.now) name
+        → result ≡ out_of_memory → (I.calls images.new ≡ I.calls images.old)
+        ⊎ (I.calls images.new ≡ with_get get_limit (I.calls images.old)) }
     ensures one_put { (image : List ℕ) (capacity : ℕ) → AsksToFormat (texts words.now) image capacity
         → result ≢ out_of_memory → I.calls images.new ≡ with_put (I.calls images.old) }
     ensures no_put { (image : List ℕ) (capacity : ℕ) → AsksToFormat (texts words.now) image capacity
         → result ≡ out_of_memory → I.calls images.new ≡ I.calls images.old }
 
     // When a status comes: nothing else does, but want of memory or a failure before it.
+    ensures always_usage { IsUsage (texts words.now)
+        → (result ≡ usage) ⊎ (result ≡ out_of_memory) }
     ensures always_absent { (name : List ℕ) → AsksToGet (texts words.now) name
         → told_of (I.contents images.old) name ≡ Some None
         → (result ≡ no_image) ⊎ (result ≡ out_of_memory) ⊎ (result ≡ read_fault) }
@@ -91,8 +97,10 @@ pub fn run_tool<R, I: ImageStore, T: Source, O: Sink, G: Gate + Sync, C: Chances
         → ¬ (Rose (O.faults out.old) (O.faults out.new))
         → (result ≡ done) ⊎ (result ≡ out_of_memory) }
 {
-    let Some(command) = parse(words) else {
-        return Fault::Usage.tell("", out);
+    let command = match parse(alloc, words) {
+        Ok(command) => command,
+        Err(Refusal::Usage) => return Fault::Usage.tell("", out),
+        Err(Refusal::Memory) => return Fault::Memory.tell("", out),
     };
     match carry_out(alloc, command, images, out, chances) {
         Ok(()) => Status::new(0),

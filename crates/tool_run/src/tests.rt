@@ -62,18 +62,49 @@ fn words_of_another_form_are_usage(rt: HostRuntime) -> Result<(), Fail> {
             "format h 0",
             "format h 257",
             "format h 18446744073709551617",
-            "format h +1",
             "format h 1x",
             "format h 1 1",
-            "format  1",
             "format -h 1",
+            "format h -- 1 1",
             "Format h 1",
             "show",
             "show -h",
             "show h h",
             "show h --mapp",
-            "show --map h",
             "show h --map 1",
+            "show h --map=1",
+            "show h --map --map",
+            "show h --ma",
+            "show --help",
+            "show h --version",
+            "--help",
+            "-h",
+            "help",
+            "help show",
+            "--version",
+            "--map show h",
+            "-- show h",
+        ],
+    )
+}
+
+#[test]
+fn options_stand_anywhere_behind_the_command(rt: HostRuntime) -> Result<(), Fail> {
+    let mut images = empty_store(rt.alloc());
+    let formatted = "formatted 1 bytes 74112\n";
+    let shown = "heap 1 clean\n";
+    let mapped = "heap 1 clean\nused 0 free 0 fresh 1\n";
+    run_each(
+        &rt,
+        &mut images,
+        &[
+            ("format h +1", &[], 0, formatted),
+            ("format -- h 01", &[], 0, formatted),
+            ("format  1", &[], 0, formatted),
+            ("show ", &[], 0, shown),
+            ("show -- h", &[], 0, shown),
+            ("show --map h", &[], 0, mapped),
+            ("show --map -- h", &[], 0, mapped),
         ],
     )
 }
@@ -88,12 +119,10 @@ fn words_that_name_no_class_are_usage(rt: HostRuntime) -> Result<(), Fail> {
             "drain h 0",
             "drain h 21",
             "drain h 18446744073709551617",
-            "drain h +4",
             "drain h 4x",
             "drain h 4 4",
             "drain h --map",
             "drain -h 4",
-            "drain  4",
             "drain 4 h",
         ],
     )

@@ -1,0 +1,147 @@
+-- What clap's matches say of the command that is asked for.
+use Rattle.std.proofs.Common.{◌≡◌, ◌≤◌, ◌<◌, ◌^◌, ◌∙◌, ℕ, Bool, List, [], Option, Some, None, Result, Ok, Err, IfNone, codes, length, refl, sym, ap, arith}
+use Rattle.std.specs.Prelude.{slice_get, unwrap_or}
+use Rattle.std.specs.Str.Parse.{ParsesUnsigned}
+use Rattle.clap.specs.Words.{App, ReadsOne, first_of, one_text, first_value, rows_of, found_of, fault_of, matches_of}
+use Rattle.clap.specs.declared.parser.matches.ArgMatches.{ArgMatches}
+use Rattle.clap.specs.declared.parser.matches.Found.{Found}
+use Rattle.clap.proofs.WalkLemmas.{one_text-rows, first_value-rows}
+use Rattle.heap_model.specs.Geometry.{largest_capacity}
+use Rattle.heap_model.specs.Sizes.{IsClass}
+use Rattle.tool_run.specs.Command.{format_image, show_image, drain_image, AsksToFormat, AsksToShow, AsksToDrain, IsUsage}
+use Rattle.tool_run.specs.CommandLine.{format_app, show_app, drain_app, image_id, capacity_id, class_id, map_id, IsTaken, IsMatchedBy, HasNumber, HasFlag}
+
+-- what holds where there is none
+pub if_none : {T P : Type 0} (result : Option T) → result ≡ None → IfNone result P → P
+if_none None is holds = holds
+if_none (Some x) is holds = cc
+
+-- the text of an argument stands in its row
+pub text_in_rows : (f : Found) (id : List ℕ) → first_value f id ≡ first_of id (rows_of f)
+text_in_rows f id = first_value-rows f id
+
+module _ (E : Type 0) (G : List ℕ → Result ℕ E → Type 0) (only : (u : List ℕ) (x : Result ℕ E) → G u x → ParsesUnsigned 64 10 u x)
+    (found : Found) (id : List ℕ) (result : Option ℕ)
+    (none : one_text found id ≡ None → result ≡ None) (value : (t : List ℕ) → one_text found id ≡ Some t → ReadsOne G t result) where
+  -- a number that is read is the argument's
+  pub has_number : (n : ℕ) → result ≡ Some n → HasNumber (rows_of found) id n
+  has_number n is = go (one_text found id) refl
+    where
+      go : (o : Option (List ℕ)) → one_text found id ≡ o → HasNumber (rows_of found) id n
+      go None e =
+          let bad : None ≡ Some n = sym (none e) ∙ is in
+          cc
+      go (Some text) e =
+          let read : ReadsOne G text (Some n) = rw is at (value text e) in
+          let parsed = only text (Ok n) read in
+          record {
+            text = text;
+            given = sym (one_text-rows found id) ∙ e;
+            counted = record { digits = parsed.0.0; value = sym parsed.1 };
+          }
+
+  -- an argument's number that fits is read
+  pub number_read : (n : ℕ) → HasNumber (rows_of found) id n → n < 2 ^ 64 → result ≡ Some n
+  number_read n has fits = go result refl
+    where
+      text_is : one_text found id ≡ Some has.text
+      text_is = one_text-rows found id ∙ has.given
+
+      go : (r : Option ℕ) → result ≡ r → result ≡ Some n
+      go None e =
+          let read : ReadsOne G has.text None = rw e at (value has.text text_is) in
+          absurd (only has.text (Err read.0) read.1 (has.counted.digits, rw has.counted.value fits))
+      go (Some m) e =
+          let read : ReadsOne G has.text (Some m) = rw e at (value has.text text_is) in
+          e ∙ ap (λ (k : ℕ). Some k) ((only has.text (Ok m) read).1 ∙ has.counted.value)
+
+module _ (app : App) (words : List (List ℕ)) (m : ArgMatches) (taken : IsMatchedBy app words m) where
+  rows_taken : (wanted : App) → app ≡ wanted → rows_of (found_of m) ≡ matches_of wanted words
+  rows_taken wanted is = taken.rows_are ∙ ap (λ (a : App). matches_of a words) is
+
+  is_taken : (wanted : App) → app ≡ wanted → slice_get words 0 ≡ Some wanted.top.name → IsTaken wanted words
+  is_taken wanted is first = record { named = first; faultless = sym (ap (λ (a : App). fault_of a words) is) ∙ taken.faultless }
+
+  pub asks_format : app ≡ format_app → slice_get words 0 ≡ Some (codes "format") → (image : List ℕ) (n : ℕ)
+      → Some image ≡ first_of image_id (rows_of (found_of m)) → HasNumber (rows_of (found_of m)) capacity_id n → 1 ≤ n → n ≤ largest_capacity
+      → AsksToFormat words image n
+  asks_format is first image n named counted least most = record {
+    taken = is_taken format_app is first;
+    named = rw (← rows_taken format_app is) (sym named);
+    counted = rw (← rows_taken format_app is) counted;
+    least = least;
+    most = most;
+  }
+
+  pub asks_drain : app ≡ drain_app → slice_get words 0 ≡ Some (codes "drain") → (image : List ℕ) (n : ℕ)
+      → Some image ≡ first_of image_id (rows_of (found_of m)) → HasNumber (rows_of (found_of m)) class_id n → IsClass n
+      → AsksToDrain words image n
+  asks_drain is first image n named counted class = record {
+    taken = is_taken drain_app is first;
+    named = rw (← rows_taken drain_app is) (sym named);
+    counted = rw (← rows_taken drain_app is) counted;
+    is_class = class;
+  }
+
+  pub asks_show : app ≡ show_app → slice_get words 0 ≡ Some (codes "show") → (image : List ℕ) (flag : Bool)
+      → Some image ≡ first_of image_id (rows_of (found_of m)) → HasFlag (rows_of (found_of m)) map_id flag
+      → AsksToShow words image flag
+  asks_show is first image flag named flagged = record {
+    taken = is_taken show_app is first;
+    named = rw (← rows_taken show_app is) (sym named);
+    flagged = rw (← rows_taken show_app is) flagged;
+  }
+
+  -- without the image's name nothing is asked for
+  pub no_image_given : (wanted : App) → app ≡ wanted → (image : List ℕ) → None ≡ first_of image_id (rows_of (found_of m))
+      → first_of image_id (matches_of wanted words) ≡ Some image → ⊥
+  no_image_given wanted is image none named =
+      let bad : None ≡ Some image = none ∙ ap (λ rows. first_of image_id rows) (rows_taken wanted is) ∙ named in
+      cc
+
+  -- nor without a number in its bounds
+  pub no_number_given : (wanted : App) → app ≡ wanted → (id : List ℕ) (least most n : ℕ)
+      → ((k : ℕ) → HasNumber (rows_of (found_of m)) id k → least ≤ k → k ≤ most → ⊥)
+      → HasNumber (matches_of wanted words) id n → least ≤ n → n ≤ most → ⊥
+  no_number_given wanted is id least most n none has low high = none n (rw (rows_taken wanted is) has) low high
+
+-- one first word
+other_name : (words : List (List ℕ)) (a b : List ℕ) → slice_get words 0 ≡ Some a → slice_get words 0 ≡ Some b → (a ≡ b → ⊥) → ⊥
+other_name words a b first second differ = differ (ap (λ o. unwrap_or o a) (sym first ∙ second))
+
+-- the first word names one command alone
+pub usage_format : (words : List (List ℕ)) → slice_get words 0 ≡ Some (codes "format")
+    → ((image : List ℕ) (n : ℕ) → AsksToFormat words image n → ⊥) → IsUsage words
+usage_format words first none (format_image image n) asks = none image n asks
+usage_format words first none (show_image image flag) asks = other_name words _ _ first asks.taken.named (λ e. omega (arith, ap length e))
+usage_format words first none (drain_image image n) asks = other_name words _ _ first asks.taken.named (λ e. omega (arith, ap length e))
+
+pub usage_show : (words : List (List ℕ)) → slice_get words 0 ≡ Some (codes "show")
+    → ((image : List ℕ) (flag : Bool) → AsksToShow words image flag → ⊥) → IsUsage words
+usage_show words first none (show_image image flag) asks = none image flag asks
+usage_show words first none (format_image image n) asks = other_name words _ _ first asks.taken.named (λ e. omega (arith, ap length e))
+usage_show words first none (drain_image image n) asks = other_name words _ _ first asks.taken.named (λ e. omega (arith, ap length e))
+
+pub usage_drain : (words : List (List ℕ)) → slice_get words 0 ≡ Some (codes "drain")
+    → ((image : List ℕ) (n : ℕ) → AsksToDrain words image n → ⊥) → IsUsage words
+usage_drain words first none (drain_image image n) asks = none image n asks
+usage_drain words first none (format_image image n) asks = other_name words _ _ first asks.taken.named (λ e. omega (arith, ap length e))
+usage_drain words first none (show_image image flag) asks = other_name words _ _ first asks.taken.named (λ e. omega (arith, ap length e))
+
+-- a word that names no command asks for none
+pub usage_other : (words : List (List ℕ)) (word : List ℕ) → slice_get words 0 ≡ Some word
+    → (word ≡ codes "format" → ⊥) → (word ≡ codes "show" → ⊥) → (word ≡ codes "drain" → ⊥) → IsUsage words
+usage_other words word first format show drain (format_image image n) asks = other_name words _ _ first asks.taken.named format
+usage_other words word first format show drain (show_image image flag) asks = other_name words _ _ first asks.taken.named show
+usage_other words word first format show drain (drain_image image n) asks = other_name words _ _ first asks.taken.named drain
+
+no_name : (words : List (List ℕ)) (name : List ℕ) → words ≡ [] → slice_get words 0 ≡ Some name → ⊥
+no_name words name none first =
+    let bad : None ≡ Some name = sym (ap (λ ws. slice_get ws 0) none) ∙ first in
+    cc
+
+-- nor do no words
+pub usage_none : (words : List (List ℕ)) → words ≡ [] → IsUsage words
+usage_none words none (format_image image n) asks = no_name words _ none asks.taken.named
+usage_none words none (show_image image flag) asks = no_name words _ none asks.taken.named
+usage_none words none (drain_image image n) asks = no_name words _ none asks.taken.named

@@ -1,0 +1,13 @@
+use Rattle.std.proofs.Common.{◌≡◌, ◌∙◌, ap, rules, codes, List, ℕ, Some}
+use Rattle.tool_run.proofs.CommandLemmas.{usage_format, usage_show}
+use Rattle.tool_run.proofs.command.parse_command.Goals as goal
+
+pub returns-then-eq-clause-err : goal.returns-then-eq-clause-err
+returns-then-eq-clause-err c is =
+    let word : c.args.command.now ≡ codes "format" = search rules in
+    usage_format _ (c.requires ∙ ap (λ (w : List ℕ). Some w) word) (c.parse_format.ensures.err is)
+
+pub returns-then-eq-2-clause-err : goal.returns-then-eq-2-clause-err
+returns-then-eq-2-clause-err c is =
+    let word : c.args.command.now ≡ codes "show" = search rules in
+    usage_show _ (c.requires ∙ ap (λ (w : List ℕ). Some w) word) (c.parse_show.ensures.err is)

@@ -1,0 +1,73 @@
+-- What the crate clap is told of each command, and what it makes of the words.
+use Rattle.std.specs.Prelude.{◌≡◌, ◌↔◌, ℕ, Bool, true, List, [], codes, slice_get, Some}
+use Rattle.std.specs.Str.Parse.{IsNumeral, digits_value, without_leading_plus}
+use Rattle.clap.specs.Words.{App, Rule, Row, new_app, new_rule, with_rule, matches_of, first_of, one_of, rows_of, found_of, fault_of}
+use Rattle.clap.specs.declared.builder.value_parser.ValueParser.TheVariants as parser
+use Rattle.clap.specs.declared.builder.action.ArgAction.TheVariants.{SetTrue}
+use Rattle.clap.specs.declared.parser.matches.ArgMatches.{ArgMatches}
+
+-- the words that are arguments, by their names
+abbrev pub image_id : List ℕ
+image_id = codes "IMAGE"
+
+abbrev pub capacity_id : List ℕ
+capacity_id = codes "S"
+
+abbrev pub class_id : List ℕ
+class_id = codes "CLASS"
+
+abbrev pub map_id : List ℕ
+map_id = codes "map"
+
+-- a word that has to be there
+abbrev pub word_rule : List ℕ → Rule
+word_rule id = record (new_rule id) { required = true }
+
+-- a number of these bounds that has to be there
+abbrev pub number_rule : List ℕ → ℕ → ℕ → Rule
+number_rule id least most = record (new_rule id) { required = true; parser = Some (parser.Unsigned least most) }
+
+-- an option without a value
+abbrev pub flag_rule : List ℕ → Rule
+flag_rule id = record (new_rule id) { long = Some id; action = Some SetTrue }
+
+-- 'format IMAGE S'
+abbrev pub format_app : App
+format_app = with_rule (with_rule (new_app (codes "format")) (word_rule image_id)) (number_rule capacity_id 1 256)
+
+-- 'show IMAGE [--map]'
+abbrev pub show_app : App
+show_app = with_rule (with_rule (new_app (codes "show")) (word_rule image_id)) (flag_rule map_id)
+
+-- 'drain IMAGE CLASS'
+abbrev pub drain_app : App
+drain_app = with_rule (with_rule (new_app (codes "drain")) (word_rule image_id)) (number_rule class_id 1 20)
+
+-- the first word names the command, and clap finds no fault in the words behind it
+pub record IsTaken (app : App) (words : List (List ℕ)) : Type 0 where
+  pub named : slice_get words 0 ≡ Some app.top.name
+  pub faultless : fault_of app words ≡ []
+
+-- clap took the words as those of this command, and these are its matches
+pub record IsMatchedBy (app : App) (words : List (List ℕ)) (matches : ArgMatches) : Type 0 where
+  pub faultless : fault_of app words ≡ []
+  pub rows_are : rows_of (found_of matches) ≡ matches_of app words
+
+-- decimal digits, with a plus sign before them or none, which write the number
+pub record IsNumber (word : List ℕ) (number : ℕ) : Type 0 where
+  pub digits : IsNumeral 10 (without_leading_plus word)
+  pub value : digits_value 10 (without_leading_plus word) ≡ number
+
+-- this text was given for the argument
+abbrev pub HasText : List Row → List ℕ → List ℕ → Type 0
+HasText rows id text = first_of id rows ≡ Some text
+
+-- this number was given for the argument
+pub record HasNumber (rows : List Row) (id : List ℕ) (number : ℕ) : Type 0 where
+  pub text : List ℕ
+  pub given : one_of id rows ≡ Some text
+  pub counted : IsNumber text number
+
+-- whether the option was given
+abbrev pub HasFlag : List Row → List ℕ → Bool → Type 0
+HasFlag rows id flag = (flag ≡ true) ↔ (first_of id rows ≡ Some (codes "true"))

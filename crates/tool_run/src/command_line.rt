@@ -1,0 +1,116 @@
+//! What the crate clap is told of each command, and what is read of its matches.
+ghost use Rattle.std.specs.Prelude.{◌≡◌, ◌≢◌, ◌≤◌, ℕ, true, [], Some, IfOk, IfSome, IfNone, IsErrOf, option_map};
+ghost use Rattle.clap.specs.Words.{app_of, kind_of, is_simple, is_simple_and_free, fault_of, first_of, rows_of, found_of};
+ghost use Rattle.clap.specs.declared.error.kind.ErrorKind.TheVariants.{OutOfMemory};
+ghost use Rattle.tool_run.specs.Command.{texts};
+ghost use Rattle.tool_run.specs.CommandLine.{format_app, show_app, drain_app, IsMatchedBy, HasNumber, HasFlag};
+ghost use Rattle.tool_run.specs.declared.command_line.Refusal.TheVariants.{Usage, Memory};
+
+use clap::error::ErrorKind;
+use clap::{Arg, ArgAction, ArgMatches, Command, Error, value_parser};
+use std::alloc::{AllocError, Global};
+
+/// Why words were not taken.
+#[derive(Clone, Copy, Debug, PartialEq, Eq)]
+pub enum Refusal {
+    /// They ask for nothing that there is.
+    Usage,
+    /// Memory ran out.
+    Memory,
+}
+
+impl From<AllocError> for Refusal {
+    ghost from_gives = { λ _ refusal. refusal ≡ Memory };
+
+    fn from(_: AllocError) -> Self {
+        Refusal::Memory
+    }
+}
+
+impl From<Error> for Refusal {
+    ghost from_gives = { λ error refusal. refusal ≡ Usage → kind_of error ≢ OutOfMemory };
+
+    fn from(error: Error) -> Self {
+        if error.kind() == ErrorKind::OutOfMemory {
+            Refusal::Memory
+        } else {
+            Refusal::Usage
+        }
+    }
+}
+
+/// `format IMAGE S`.
+pub fn format_command<'a>(alloc: Global) -> Result<Command<'a>, AllocError>
+    ensures { IfOk result (λ command. app_of command ≡ format_app) }
+{
+    let image = Arg::new(alloc, "IMAGE").required(true);
+    let capacity = Arg::new(alloc, "S")
+        .required(true)
+        .value_parser(value_parser!(u64).range(1..=256));
+    Command::new(alloc, "format").arg(image)?.arg(capacity)
+}
+
+/// `show IMAGE [--map]`.
+pub fn show_command<'a>(alloc: Global) -> Result<Command<'a>, AllocError>
+    ensures { IfOk result (λ command. app_of command ≡ show_app) }
+{
+    let image = Arg::new(alloc, "IMAGE").required(true);
+    let map = Arg::new(alloc, "map")
+        .long("map")
+        .action(ArgAction::SetTrue);
+    Command::new(alloc, "show").arg(image)?.arg(map)
+}
+
+/// `drain IMAGE CLASS`.
+pub fn drain_command<'a>(alloc: Global) -> Result<Command<'a>, AllocError>
+    ensures { IfOk result (λ command. app_of command ≡ drain_app) }
+{
+    let image = Arg::new(alloc, "IMAGE").required(true);
+    let class = Arg::new(alloc, "CLASS")
+        .required(true)
+        .value_parser(value_parser!(u64).range(1..=20));
+    Command::new(alloc, "drain").arg(image)?.arg(class)
+}
+
+/// What clap makes of the words, of which the first is the command's name.
+pub fn match_words<'a>(command: Command<'a>, words: &'a [String]) -> Result<ArgMatches<'a>, Refusal>
+    requires simple { is_simple (app_of command) ≡ true }
+    requires free { is_simple_and_free (app_of command) ≡ true }
+    ensures ok { IfOk result (IsMatchedBy (app_of command.entry) (texts words.entry.now)) }
+    ensures err { IsErrOf result Refusal.Usage
+        → fault_of (app_of command.entry) (texts words.entry.now) ≢ [] }
+{
+    Ok(command.try_get_matches_from(words)?)
+}
+
+/// The text given for an argument.
+#[tactic(auto, using(crate::proofs::CommandLemmas::text_in_rows))]
+pub fn text_of<'a>(matches: &ArgMatches<'a>, id: &str) -> Option<&'a str>
+    ensures { option_map (λ text. text.now) result
+        ≡ first_of id.now (rows_of (found_of matches.now)) }
+{
+    matches.get_str(id)
+}
+
+/// The number given for an argument, which lies in these bounds.
+pub fn number_of(matches: &ArgMatches<'_>, id: &str, least: u64, most: u64) -> Option<u64>
+    ensures some { IfSome result (λ n. HasNumber (rows_of (found_of matches.now)) id.now n
+        × (least ≤ n) × (n ≤ most)) }
+    ensures none { IfNone result ((n : ℕ) → HasNumber (rows_of (found_of matches.now)) id.now n
+        → least ≤ n → n ≤ most → ⊥) }
+{
+    match matches.get_one::<u64>(id) {
+        Some(number) if least <= number && number <= most => Some(number),
+        _ => None,
+    }
+}
+
+/// Whether an option was given.
+pub fn has_flag(matches: &ArgMatches<'_>, id: &str) -> bool
+    ensures { HasFlag (rows_of (found_of matches.now)) id.now result }
+{
+    match text_of(matches, id) {
+        Some(text) => text == "true",
+        None => false,
+    }
+}
