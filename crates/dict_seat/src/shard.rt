@@ -23,6 +23,7 @@ use heap_seat::{AllocFault, HeapSeat};
 use line_memory::Stopped;
 
 /// A shard of the dictionary, by its number: root number `number` leads to its table.
+#[derive(Drop)]
 pub struct Shard {
     /// Which of the eight shards it is.
     pub number: u64,

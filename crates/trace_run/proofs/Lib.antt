@@ -4,5 +4,6 @@ pub mod LinkLemmas
 pub mod OpenLemmas
 pub mod OthersLemmas
 pub mod ProgressLemmas
+pub mod ScrambleLemmas
 pub mod ShardReachLemmas
 pub mod StandsLemmas

@@ -10,14 +10,14 @@ use Rattle.heap_model.proofs.DecisionLemmas.{both, at_most}
 use Rattle.heap_model.proofs.MemberLemmas.{in_none, in_head, in_rest, head_or_rest}
 use Rattle.heap_model.proofs.ReachLemmas.{closure_least, more_roots, reached_block}
 use Rattle.heap_seat.specs.View.{View}
-use Rattle.heap_seat.specs.Words.{in_root, in_block, MayBe, MayRead, MixesOwn}
+use Rattle.heap_seat.specs.Words.{IsOwn, in_root, in_block, MayBe, MayRead, MixesOwn}
 use Rattle.heap_seat.specs.Sound.{IsSeat}
 use Rattle.dict_model.specs.Links.{shards, root_kind, dict_links}
 use Rattle.dict_model.specs.Shards.{Map, LeadsTo, LeadsAlone, MapOf, IsMap}
 use Rattle.dict_model.proofs.MapLemmas.{map_wider, map_stays}
 use Rattle.dict_seat.specs.Maps.{IsMapIn, Gives}
 use Rattle.dict_seat.specs.Reached.{MayReach, IsNullOrHeld, ReachesOnlyHeld}
-use Rattle.dict_seat.proofs.GrownLemmas.{are_placed}
+use Rattle.dict_seat.proofs.GrownLemmas.{are_placed, reached_held, link_own}
 use Rattle.dict_seat.proofs.TrailLemmas.{settled_in}
 use Rattle.trace_run.specs.Opened.{IsOpenedOver}
 use Rattle.trace_run.specs.Stands.{IsOtherRoot, HasOthers}
@@ -45,17 +45,17 @@ module _ (image : Image) (v : View) (seat : IsSeat v) (opened : IsOpenedOver ima
   value_is : (known : Option ℕ) (x value : ℕ) → known ≡ Some x → MayBe known value → value ≡ x
   value_is known x value seen may = subst (λ (k : Option ℕ). MayBe k value) seen may
 
-  read_is : (word value : ℕ) → MayRead v word value → value ≡ image word
-  read_is word value may = elim may as (λ _. value ≡ image word) [
-    | inl seen ↦ value_is (v.volatile word) (image word) value (opened.words word).seen seen
-    | inr left ↦ value_is (v.durable word) (image word) value (opened.words word).left left
+  read_is : (word value : ℕ) → IsOwn v.held v.roots word → MayRead v word value → value ≡ image word
+  read_is word value own may = elim may as (λ _. value ≡ image word) [
+    | inl seen ↦ value_is (v.volatile word) (image word) value (opened.words word own).seen seen
+    | inr left ↦ value_is (v.durable word) (image word) value (opened.words word own).left left
   ]
 
   -- what leads to a held block leads to it in the image
-  leads_in : (at value : ℕ) (b : Block) → MayRead v at value → LeadsTo (Contains v.held) value b → Leads image (image at) b
-  leads_in at value b may leads =
+  leads_in : (at value : ℕ) (b : Block) → IsOwn v.held v.roots at → MayRead v at value → LeadsTo (Contains v.held) value b → Leads image (image at) b
+  leads_in at value b own may leads =
       let reached = (opened.dictionary.exact b).0 leads.0 in
-      subst (λ w. Leads image w b) (read_is at value may)
+      subst (λ w. Leads image w b) (read_is at value own may)
       (record { pointer = leads.1; names = record { begins_at = refl; block = reached_block image root_kind dict_links b reached.kind reached.reach } })
 
   reach_back : (root : ℕ) (b : Block) (kind : ℕ) → MayReach v root b kind → ReachFrom image (λ r. r ≡ root) root_kind dict_links b kind
@@ -65,12 +65,12 @@ module _ (image : Image) (v : View) (seat : IsSeat v) (opened : IsOpenedOver ima
         below = seat.roots_are root start.owned;
         is_chosen = refl;
         kind_is = start.kind_is;
-        leads = leads_in (root_word root) start.value b start.read start.leads;
+        leads = leads_in (root_word root) start.value b (in_root root (root_word root) start.owned refl) start.read start.leads;
       }))
       (λ a b from kind reached has link. by_link a b from kind has (record {
         position = link.position;
         listed = block_lists image a from link.position kind link.is_link;
-        leads = leads_in (a.first_word + link.position) link.value b link.read link.leads;
+        leads = leads_in (a.first_word + link.position) link.value b (link_own v a from link.position kind (reached_held v root a from reached) link.is_link) link.read link.leads;
       }))
 
   -- what the image has where a trace looks is null or leads to a held block
@@ -93,7 +93,7 @@ module _ (image : Image) (v : View) (seat : IsSeat v) (opened : IsOpenedOver ima
   only_opened = record {
     roots = λ root value owned may.
         let below = seat.roots_are root owned in
-        subst (IsNullOrHeld v) (sym (read_is (root_word root) value may))
+        subst (IsNullOrHeld v) (sym (read_is (root_word root) value (in_root root (root_word root) owned refl) may))
         (good (root_word root) (is_root root (root_word root) below tt refl) (λ b leads. record {
           kind = root_kind root;
           reach = by_start b (root_kind root) (record { root = root; below = below; is_chosen = tt; kind_is = refl; leads = leads });
@@ -101,13 +101,13 @@ module _ (image : Image) (v : View) (seat : IsSeat v) (opened : IsOpenedOver ima
     links = λ root a from position kind value reached is may.
         let there = any_reach root a from reached in
         let listed = block_lists image a from position kind is in
-        subst (IsNullOrHeld v) (sym (read_is (a.first_word + position) value may))
+        subst (IsNullOrHeld v) (sym (read_is (a.first_word + position) value (link_own v a from position kind (reached_held v root a from reached) is) may))
         (good (a.first_word + position) (is_linked a from position kind (a.first_word + position) there listed refl) (λ b leads. record {
           kind = kind;
           reach = by_link a b from kind there (record { position = position; listed = listed; leads = leads });
         }));
     alone = λ shard root b kind other small differs p q.
-        let map = opened.dictionary.maps shard small in
+        let map = opened.dictionary.maps.each shard small in
         reached_alone image shard small map.0 map.1 b kind other (reach_back shard b kind p)
         (more_roots {chosen = λ r. r ≡ root} {chosen' = λ r. r ≢ shard} image root_kind dict_links (λ r e same. differs (sym same ∙ e)) b other (reach_back root b other q));
   }
@@ -119,15 +119,17 @@ module _ (image : Image) (v : View) (seat : IsSeat v) (opened : IsOpenedOver ima
         let first : IsMap (LeadsTo (Contains v.held)) image shard map = map_wider (LeadsAlone image shard) (LeadsTo (Contains v.held)) image shard map
         (λ word b used leads. let reached = used_in_image image shard small b used in ((opened.dictionary.exact b).1 (record { kind = reached.0; reach = reached.1 }), leads.0.pointer)) is in
         map_stays (Contains v.held) (are_placed v seat) (LeadsTo (Contains v.held)) (λ word b leads. leads.0) image mixed shard
-        (settled_in v mixed mixes (root_word shard) (image (root_word shard)) (in_root shard (root_word shard) (opened.all_roots shard (omega arith)) refl) (opened.words (root_word shard)))
-        (λ b h word inside. settled_in v mixed mixes word (image word) (in_block b word h inside) (opened.words word)) map first
+        (settled_in v mixed mixes (root_word shard) (image (root_word shard)) (in_root shard (root_word shard) (opened.all_roots shard (omega arith)) refl) (opened.words (root_word shard) (in_root shard (root_word shard) (opened.all_roots shard (omega arith)) refl)))
+        (λ b h word inside. settled_in v mixed mixes word (image word) (in_block b word h inside) (opened.words word (in_block b word h inside))) map first
 
   pub others_opened : HasOthers image v
   others_opened = record {
-    root_words = λ root other below. opened.words (root_word root);
-    blocks = λ b kind reach. (opened.dictionary.exact b).1 (record {
+    root_words = λ root other below. opened.words (root_word root) (in_root root (root_word root) (opened.all_roots root below) refl);
+    blocks = held_other;
+    words = λ b kind word reach inside. opened.words word (in_block b word (held_other b kind reach) inside);
+  } where
+    held_other : (b : Block) (kind : ℕ) → ReachFrom image IsOtherRoot root_kind dict_links b kind → Contains v.held b
+    held_other b kind reach = (opened.dictionary.exact b).1 (record {
       kind = kind;
       reach = more_roots {chosen = IsOtherRoot} {chosen' = AnyRoot} image root_kind dict_links (λ r e. tt) b kind reach;
-    });
-    words = λ b kind word reach inside. opened.words word;
-  }
+    })

@@ -1,4 +1,5 @@
 pub mod Examples
+pub mod Left
 pub mod Needs
 pub mod Opened
 pub mod Progress

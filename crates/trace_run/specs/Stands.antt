@@ -18,7 +18,8 @@ IsOtherRoot root = shards ≤ root
 pub record HasOthers (image : Image) (v : View) : Type 0 where
   pub root_words : (root : ℕ) → IsOtherRoot root → root < roots → IsSettled v (root_word root) (image (root_word root))
   pub blocks : (b : Block) (kind : ℕ) → ReachFrom image IsOtherRoot root_kind dict_links b kind → Contains v.held b
-  pub words : (b : Block) (kind word : ℕ) → ReachFrom image IsOtherRoot root_kind dict_links b kind → IsIn b word → IsSettled v word (image word)
+  pub words : (b : Block) (kind word : ℕ) → ReachFrom image IsOtherRoot root_kind dict_links b kind → IsIn b word
+      → IsSettled v word (image word)
 
 -- only held blocks are reached, what belongs to no shard is as in the image, and the seat has all roots
 pub record StandsOver (image : Image) (v : View) : Type 0 where

@@ -16,6 +16,8 @@ ghost use Rattle.trace_run.specs.Opened.{IsOpenedOver};
 ghost use Rattle.trace_run.specs.Progress.{Answers, MayAnswer, HasAnswered};
 ghost use Rattle.trace_run.specs.Stands.{StandsOver};
 
+use block_heap::HeapSeat;
+
 /// Each request of a run has a reply or stands as unanswered; and where as many superblocks are left
 /// as the trace needs, no put is told that there is no room.
 pub fn replies_fit_the_trace()
@@ -59,4 +61,21 @@ pub fn what_a_run_leaves_is_a_dictionary()
     ensures others { (image : Image) (v : View) (left : Image) → IsSeat v
         → StandsOver image v → MixesOwn v left → NamesAll left v.held
         → LeavesOthers image left }
+{}
+
+/// Each image that a heap may leave is a dictionary, of whatever kind the heap is: its shards are the
+/// maps after the answered requests, or, where a request was stopped, it may be the map after that
+/// too; nothing in it is outside, and what belongs to no shard is as it was.
+pub fn any_heap_leaves_a_dictionary<H: HeapSeat>()
+    ensures maps { (s : H) (image left : Image) (rs : List (Request × Reply))
+        → HasAnswered image rs (H.view s) → H.images s left
+        → (shard : ℕ) (map : Map) → shard < shards → MapOf image shard map
+        → MapOf left shard (after map (of_shard shard rs)) }
+    ensures stopped { (s t : H) (image left : Image) (rs : List (Request × Reply))
+        (request : Request) (others : List Request) → HasAnswered image rs (H.view s)
+        → MayAnswer request (H.view s) (H.view t) → H.images t left
+        → (shard : ℕ) (map : Map) → shard < shards → MapOf image shard map
+        → IsMapLeft left shard (after map (of_shard shard rs)) true (request ∷ others) }
+    ensures others { (s : H) (image left : Image) → StandsOver image (H.view s)
+        → H.images s left → LeavesOthers image left }
 {}

@@ -2,7 +2,10 @@
 #![tactic(auto)]
 
 mod laws;
+mod left;
 
 pub use laws::{
-    a_run_goes_on_request_by_request, replies_fit_the_trace, what_a_run_leaves_is_a_dictionary,
+    a_run_goes_on_request_by_request, any_heap_leaves_a_dictionary, replies_fit_the_trace,
+    what_a_run_leaves_is_a_dictionary,
 };
+pub use left::{closed_image, crash_image};
