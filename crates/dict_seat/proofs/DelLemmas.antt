@@ -11,13 +11,14 @@ use Rattle.heap_seat.specs.Tickets.{Runs}
 use Rattle.heap_seat.specs.Rows.{IsRow}
 use Rattle.heap_seat.specs.Sound.{IsSeat}
 use Rattle.heap_seat.proofs.RowLemmas.{row_then, row_more, runs_then}
-use Rattle.dict_model.specs.Nodes.{shard_of, bucket_of, key_in, value_in, find}
+use Rattle.heap_model.specs.Image.{Image}
+use Rattle.dict_model.specs.Nodes.{shard_of, bucket_of, key_in, value_in, IsNode, find}
 use Rattle.dict_model.specs.Requests.{without_key}
 use Rattle.dict_model.specs.Shards.{Map, LeadsTo, IsPath, but}
-use Rattle.dict_model.proofs.ChainLemmas.{found_in}
+use Rattle.dict_model.proofs.ChainLemmas.{found_in, in_path}
 use Rattle.dict_seat.specs.declared.walk.Place.{Place}
 use Rattle.dict_seat.specs.Maps.{Gives}
-use Rattle.dict_seat.specs.Trails.{IsSettling}
+use Rattle.dict_seat.specs.Trails.{IsSettling, Completes}
 use Rattle.dict_seat.specs.Walks.{IsFound, IsQuietWalk}
 use Rattle.dict_seat.specs.Changes.{Changes}
 use Rattle.dict_seat.specs.Removal.{IsShard}
@@ -39,11 +40,10 @@ without_missing map key none q = elim (cases_eq key q) as (λ _. map q ≡ witho
   | inr other ↦ sym (cond-false (nat_eq key q) None (map q) (ne_eqb key q other))
 ]
 
--- the map has a key whose node was found
-pub found_has : (w : View) (key : ℕ) (place : Place) → IsSeat w → IsFound w key place → (map : Map) → Gives w (shard_of key) map → map key ≢ None
-found_has w key place seat found map gives none =
-    let image = now_image w in
-    let completes = now_completes w in
+-- a key's node that was found is a node, and the map has its value
+pub found_is : (w : View) (key : ℕ) (place : Place) → IsSeat w → IsFound w key place → (map : Map) → Gives w (shard_of key) map
+    → (image : Image) → Completes w image → (map key ≡ Some (value_in image place.node)) × IsNode image (shard_of key) (bucket_of key) place.node
+found_is w key place seat found map gives image completes =
     let node = place.node in
     let k = bucket_of key in
     let along = is_along IsSettling w image seat (shard_of key) key map found.table (found.before ++ (node ∷ [])) (settling_in w image completes) found.come (gives.each image completes.mixes) in
@@ -52,12 +52,19 @@ found_has w key place seat found map gives none =
     let room = found.room in
     let key_is : key_in image node ≡ key = completes.seen (node.first_word + 1) key
     (in_block node (node.first_word + 1) (found_held w key place found) (record { from = omega arith; until = omega arith })) found.key_seen in
-    let there = found_in (but found.table (LeadsTo (Contains w.held))) image (shard_of key) k (found.table.first_word + k) ((found.before ++ (node ∷ [])) ++ along.rest) node path
-    (Contains-append_left (found.before ++ (node ∷ [])) along.rest node (Contains-append_right found.before (node ∷ []) node (in_head node []))) in
-    let has : map key ≡ Some (value_in image node) =
-    found_at map image (shard_of key) key along.nodes along.means refl ∙ ap (λ (bs : List Block). find image key bs) along.is
-    ∙ ap (λ q. find image q ((found.before ++ (node ∷ [])) ++ along.rest)) (sym key_is) ∙ there in
-    let clash : Some (value_in image node) ≡ None = sym has ∙ none in
+    let h = Contains-append_left (found.before ++ (node ∷ [])) along.rest node (Contains-append_right found.before (node ∷ []) node (in_head node [])) in
+    let there = found_in (but found.table (LeadsTo (Contains w.held))) image (shard_of key) k (found.table.first_word + k) ((found.before ++ (node ∷ [])) ++ along.rest) node path h in
+    let is = (in_path (but found.table (LeadsTo (Contains w.held))) image (shard_of key) k (found.table.first_word + k) ((found.before ++ (node ∷ [])) ++ along.rest) node path h).1 in (
+      found_at map image (shard_of key) key along.nodes along.means refl ∙ ap (λ (bs : List Block). find image key bs) along.is
+          ∙ ap (λ q. find image q ((found.before ++ (node ∷ [])) ++ along.rest)) (sym key_is) ∙ there,
+      is,
+    )
+
+-- the map has a key whose node was found
+pub found_has : (w : View) (key : ℕ) (place : Place) → IsSeat w → IsFound w key place → (map : Map) → Gives w (shard_of key) map → map key ≢ None
+found_has w key place seat found map gives none =
+    let has = (found_is w key place seat found map gives (now_image w) (now_completes w)).0 in
+    let clash : Some (value_in (now_image w) place.node) ≡ None = sym has ∙ none in
     absurd (cc)
 
 -- nothing was found, so nothing was to be done

@@ -8,6 +8,7 @@ pub mod ExactCallLemmas
 pub mod ExactLemmas
 pub mod FirstLemmas
 pub mod FreedLemmas
+pub mod GetLemmas
 pub mod GrownLemmas
 pub mod ImageLemmas
 pub mod MakeLemmas
@@ -17,6 +18,7 @@ pub mod OverLemmas
 pub mod PublishLemmas
 pub mod PutLemmas
 pub mod QuietLemmas
+pub mod ReadLemmas
 pub mod RequestLemmas
 pub mod SearchLemmas
 pub mod TableLemmas

@@ -10,7 +10,7 @@ use Rattle.region_header.proofs.WordBytes.{bytes_of_words-image_of_bytes, byte_a
 use Rattle.dict_model.specs.Nodes.{value_words}
 
 -- word i of the words from a place on
-word_from : (image : Image) (from count i : ℕ) → i < count → slice_index (words_from image from count) i ≡ image (from + i)
+pub word_from : (image : Image) (from count i : ℕ) → i < count → slice_index (words_from image from count) i ≡ image (from + i)
 word_from image from zero i below = absurd (omega arith)
 word_from image from (suc count) zero below = let e : from ≡ from + 0 = omega arith in ap image e
 word_from image from (suc count) (suc i) below =

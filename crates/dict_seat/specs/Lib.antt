@@ -1,4 +1,5 @@
 pub mod Answers
+pub mod Gets
 pub mod Removal
 pub mod Changes
 pub mod Maps

@@ -4,6 +4,7 @@
 mod laws;
 mod node;
 mod publish;
+mod reading;
 mod removal;
 mod search;
 mod shard;

@@ -45,7 +45,7 @@ pub(crate) fn write_word<H: HeapSeat>(
 }
 
 /// The words of a node in front of its value: the link, the key and the length.
-const HEAD: u64 = 3;
+pub(crate) const HEAD: u64 = 3;
 
 /// Stores a value into its node.
 fn write_value<H: HeapSeat>(seat: &mut H, node: Block, value: &[u8]) -> Result<(), Stopped>
@@ -89,7 +89,7 @@ fn write_node<H: HeapSeat>(
 }
 
 /// The word of a node that holds the length of its value.
-const LENGTH: u64 = 2;
+pub(crate) const LENGTH: u64 = 2;
 
 /// Makes a node, all of which is durable, and so are the words whose write-backs were pending.
 pub(crate) fn make_node<H: HeapSeat>(

@@ -1,5 +1,7 @@
 //! The requests to a shard.
 ghost use Rattle.std.specs.Prelude.{◌≡◌, ℕ, ◌+◌, ◌<◌, ◌≤◌, length, OnOk, IfOk, IfErr};
+ghost use Rattle.heap_seat.specs.Words.{KeepsOwn};
+ghost use Rattle.dict_seat.specs.Gets.{Gets, ReadsFew};
 ghost use Rattle.heap_model.specs.Sizes.{span_of};
 ghost use Rattle.heap_seat.specs.declared.fault.AllocFault.TheVariants.{Full};
 ghost use Rattle.heap_seat.specs.declared.fault.Looks.{Looks};
@@ -16,6 +18,7 @@ ghost use Rattle.dict_seat.specs.Puts.{PutAnswers, PutTakes};
 ghost use Rattle.dict_seat.specs.Answers.{Deletes, MakesFew};
 
 use crate::publish::{put_first, put_over};
+use crate::reading::find_value;
 use crate::removal::remove;
 use crate::search::{SearchEnd, search};
 use crate::table::make_table;
@@ -36,6 +39,36 @@ impl Shard {
         ensures { result.number ≡ number }
     {
         Shard { number }
+    }
+
+    /// The length of the key's value, or `None` where the key is missing. The output begins with the
+    /// value, as far as that fits; what lies behind it in the output stays.
+    ///
+    /// After `Stopped` some of the value may stand in the output.
+    pub fn get<H: HeapSeat>(
+        &self,
+        seat: &mut H,
+        key: u64,
+        out: &mut [u8],
+    ) -> Result<Option<usize>, Stopped>
+        requires key { shard_of key ≡ self.now.number }
+        requires shard { IsShard (H.view seat.old) (shard_of key) }
+        ensures ok { IfOk result (λ answer. Gets key answer out.old out.new
+            (H.view seat.old) (H.view seat.new)) }
+        ensures cause { IfErr result (λ e. Stops e.step (H.view seat.old) (H.view seat.new)) }
+
+        // At every exit.
+        ensures length { length out.new ≡ length out.old }
+        ensures unchanged { KeepsOwn (H.view seat.old) (H.view seat.new) }
+        ensures maps { Changes (shard_of key) (λ map. map) (H.view seat.old) (H.view seat.new) }
+        ensures crash { MayChange (shard_of key) (λ map. map)
+            (H.view seat.old) (H.view seat.new) }
+        ensures exact { ReachesAllHeld (H.view seat.old) → ReachesAllHeld (H.view seat.new) }
+        ensures calls { ReadsFew key (H.view seat.old) (H.view seat.new) }
+        ensures refusals { SameRefusals (H.view seat.old) (H.view seat.new) }
+        ensures kept { H.keeps seat.old seat.new }
+    {
+        find_value(seat, key, out)
     }
 
     /// Takes a key out; the answer is whether it was there.
