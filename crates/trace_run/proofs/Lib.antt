@@ -1,4 +1,5 @@
 pub mod AnswerLemmas
+pub mod AnsweringLemmas
 pub mod LeftLemmas
 pub mod LinkLemmas
 pub mod OpenLemmas
@@ -7,3 +8,4 @@ pub mod ProgressLemmas
 pub mod ScrambleLemmas
 pub mod ShardReachLemmas
 pub mod StandsLemmas
+pub mod WorkLemmas

@@ -4,4 +4,6 @@ pub mod Needs
 pub mod Opened
 pub mod Progress
 pub mod Runs
+pub mod Said
 pub mod Stands
+pub mod Working

@@ -1,11 +1,14 @@
 //! A trace of requests, worked off on an open heap: replies, and the image that is left.
 #![tactic(auto)]
 
+mod answer;
 mod laws;
 mod left;
+mod work;
 
 pub use laws::{
     a_run_goes_on_request_by_request, any_heap_leaves_a_dictionary, replies_fit_the_trace,
     what_a_run_leaves_is_a_dictionary,
 };
 pub use left::{closed_image, crash_image};
+pub use work::work_off;

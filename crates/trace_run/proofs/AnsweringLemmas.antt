@@ -1,0 +1,121 @@
+-- The reply to one request, from what the dictionary's call answers.
+use Rattle.std.proofs.Common.{◌≡◌, ℕ, ◌+◌, ◌*◌, ◌≤◌, ◌⊎◌, inl, inr, List, length, Option, None, Some, true, false, refl, subst, sym, ap, ◌++◌, take, drop, ◌∙◌, arith}
+use Rattle.std.proofs.Math.Seq.{take-append_seam}
+use Rattle.std.proofs.lemmas.List.{take_all}
+use Rattle.heap_seat.specs.View.{View}
+use Rattle.heap_seat.proofs.RowLemmas.{row_more}
+use Rattle.dict_model.specs.Nodes.{shard_of, value_words}
+use Rattle.dict_model.specs.Requests.{Request, put, get, del, done, full, none, found, get_found, get_none, put_done, put_full, del_done, del_none, with_key, without_key, IsReply}
+use Rattle.dict_model.specs.Shards.{Map}
+use Rattle.dict_seat.specs.Answers.{Deletes, MakesFew}
+use Rattle.dict_seat.specs.Changes.{Changes}
+use Rattle.dict_seat.specs.Maps.{Gives}
+use Rattle.dict_seat.proofs.DelLemmas.{gives_same, without_missing}
+use Rattle.trace_run.specs.Progress.{shard_asked}
+use Rattle.trace_run.specs.Working.{Fits, Replied, MakesCalls}
+use Rattle.dict_seat.specs.Gets.{IsAnswer, Gets, ReadsFew, words_of}
+
+pub calls_few : (q : Request) (words most : ℕ) (v w : View) → words ≤ 16384 → MakesFew words most (shard_asked q) v w → MakesCalls q v w
+calls_few q words most v w short few = record {
+  most = most;
+  row = λ keys lists. row_more (512 + 2 * words + 4 * length keys) 3 most (33280 + 4 * length keys) 3 most v w (omega arith) (omega arith) (omega arith) (few keys lists);
+}
+
+pub replied_put : (key : ℕ) (value : List ℕ) (v w : View) → Changes (shard_of key) (λ m. with_key m key value) v w → Replied (put key value) (Some done) v w
+replied_put key value v w changes = record {
+  reply = done;
+  told_is = refl;
+  answers = record { right = λ m gives. put_done key value; gives = λ m gives. changes.gives m gives };
+}
+
+pub replied_full : (key : ℕ) (value : List ℕ) (v w : View) → ((m : Map) → Gives v (shard_of key) m → Gives w (shard_of key) m) → Replied (put key value) (Some full) v w
+replied_full key value v w same = record {
+  reply = full;
+  told_is = refl;
+  answers = record { right = λ m gives. put_full key value; gives = same };
+}
+
+-- a value is there or not
+there_or_not : (o : Option (List ℕ)) → (o ≡ None) ⊎ ((value : List ℕ) × (o ≡ Some value))
+there_or_not None = inl refl
+there_or_not (Some value) = inr (value, refl)
+
+pub replied_gone : (key : ℕ) (v w : View) → Deletes key true v w → Replied (del key) (Some done) v w
+replied_gone key v w deletes = record {
+  reply = done;
+  told_is = refl;
+  answers = record {
+    right = λ m gives. elim (there_or_not (m key)) as (λ _. IsReply m (del key) done) [
+      | inl nothing ↦ absurd ((deletes.tells m gives).0 refl nothing)
+      | inr value ↦ del_done key value.0 value.1
+    ];
+    gives = deletes.gives;
+  };
+}
+
+pub replied_none : (key : ℕ) (v w : View) → Deletes key false v w → Replied (del key) (Some none) v w
+replied_none key v w deletes = record {
+  reply = none;
+  told_is = refl;
+  answers = record {
+    right = λ m gives. del_none key (missing m gives);
+    gives = λ m gives. gives_same w (shard_of key) (without_key m key) m (λ q. sym (without_missing m key (missing m gives) q)) (deletes.gives m gives);
+  };
+} where
+  missing : (m : Map) → Gives v (shard_of key) m → m key ≡ None
+  missing m gives = elim (there_or_not (m key)) as (λ _. m key ≡ None) [
+    | inl nothing ↦ nothing
+    | inr value ↦ absurd (let yes : false ≡ true = (deletes.tells m gives).1 (λ nothing. let e : None ≡ Some value.0 = sym nothing ∙ value.1 in absurd (cc)) in cc)
+  ]
+
+pub calls_get : (key room : ℕ) (v w : View) (m : Map) → Gives v (shard_of key) m → Fits v (get key) room → ReadsFew key v w → MakesCalls (get key) v w
+calls_get key room v w m gives fits few = calls_few (get key) (words_of (m key)) 0 v w (elim (there_or_not (m key)) as (λ _. words_of (m key) ≤ 16384) [
+  | inl nothing ↦ subst (λ o. words_of o ≤ 16384) (sym nothing) (let none : 0 ≤ 16384 = omega arith in none)
+  | inr value ↦ subst (λ o. words_of o ≤ 16384) (sym value.1)
+      (let short = fits.0 in let long = fits.1 m value.0 gives value.1 in let few : value_words (length value.0) ≤ 16384 = omega arith in few)
+]) (few m gives)
+
+pub replied_missing : (key : ℕ) (old new : List ℕ) (v w : View) → Changes (shard_of key) (λ m. m) v w → Gets key None old new v w → Replied (get key) (Some none) v w
+replied_missing key old new v w same got = record {
+  reply = none;
+  told_is = refl;
+  answers = record {
+    right = λ m gives. get_none key (elim (there_or_not (m key)) as (λ _. m key ≡ None) [
+      | inl nothing ↦ nothing
+      | inr value ↦
+          let is : IsAnswer (Some value.0) None old new = subst (λ o. IsAnswer o None old new) value.1 (got.tells m gives) in
+          let e : None ≡ Some (length value.0) = is.0 in
+          absurd (cc)
+    ]);
+    gives = same.gives;
+  };
+}
+
+-- what was read is the value, where it fits
+read_is : (value old new rest : List ℕ) (len n : ℕ) → n ≡ length value → len ≡ length new → length new ≡ length old → length value ≤ length old
+    → new ≡ take (length old) value ++ drop (length value) old → take n (take len (new ++ rest)) ≡ value
+read_is value old new rest len n count long same fits is =
+    let all : take len (new ++ rest) ≡ new = subst (λ k. take k (new ++ rest) ≡ new) (sym long) (take-append_seam new rest) in
+    let whole : new ≡ value ++ drop (length value) old = is ∙ ap (λ xs. xs ++ drop (length value) old) (take_all (length old) value fits) in
+    ap (take n) (all ∙ whole) ∙ subst (λ k. take k (value ++ drop (length value) old) ≡ value) (sym count) (take-append_seam value (drop (length value) old))
+
+pub replied_found : (key room n len : ℕ) (old new rest told : List ℕ) (v w : View) → Fits v (get key) room → room ≡ length old → len ≡ length new → length new ≡ length old
+    → told ≡ take n (take len (new ++ rest)) → Changes (shard_of key) (λ m. m) v w → Gets key (Some n) old new v w → Replied (get key) (Some (found told)) v w
+replied_found key room n len old new rest told v w fits is_room long same_long told_is same got = record {
+  reply = found told;
+  told_is = refl;
+  answers = record {
+    right = λ m gives. get_found key told (elim (there_or_not (m key)) as (λ _. m key ≡ Some told) [
+      | inl nothing ↦
+          let is : IsAnswer None (Some n) old new = subst (λ o. IsAnswer o (Some n) old new) nothing (got.tells m gives) in
+          let e : Some n ≡ None = is.0 in
+          absurd (cc)
+      | inr value ↦
+          let is : IsAnswer (Some value.0) (Some n) old new = subst (λ o. IsAnswer o (Some n) old new) value.1 (got.tells m gives) in
+          let e : Some n ≡ Some (length value.0) = is.0 in
+          let count : n ≡ length value.0 = cc in
+          value.1 ∙ ap Some (sym (told_is ∙ read_is value.0 old new rest len n count long same_long (subst (λ k. length value.0 ≤ k) is_room (fits.1 m value.0 gives value.1)) is.1))
+    ]);
+    gives = same.gives;
+  };
+}

@@ -1,0 +1,64 @@
+-- How far a run has come in its trace, where it was stopped, and the room that there is for the values that it reads.
+use Rattle.std.specs.Prelude.{◌≡◌, ℕ, ◌+◌, ◌*◌, ◌<◌, ◌≤◌, List, [], ◌∷◌, ◌++◌, length, map, Option, Some, Contains}
+use Rattle.heap_model.specs.Image.{Image}
+use Rattle.heap_seat.specs.View.{View}
+use Rattle.heap_seat.specs.Rows.{IsRow}
+use Rattle.heap_seat.specs.Sound.{IsSeat}
+use Rattle.dict_model.specs.Links.{shards}
+use Rattle.dict_model.specs.Nodes.{largest_value, shard_of}
+use Rattle.dict_model.specs.Requests.{Request, put, get, del, Reply}
+use Rattle.dict_model.specs.Shards.{Map, MapOf}
+use Rattle.dict_seat.specs.Maps.{Gives}
+use Rattle.dict_seat.specs.Walks.{ListsKeys}
+use Rattle.trace_run.specs.Runs.{Replies}
+use Rattle.trace_run.specs.Progress.{shard_asked, Answers, MayAnswer, HasAnswered}
+
+-- these requests are left, and the others have these replies
+pub record HasWorked (image : Image) (requests left : List Request) (replies : Replies) (v : View) : Type 0 where
+  pub rs : List (Request × Reply)
+  pub requests_are : requests ≡ map (λ r. r.0) rs ++ left
+  pub replies_are : replies ≡ map (λ r. Some r.1) rs
+  pub answered : HasAnswered image rs v
+
+-- it was stopped in this request
+pub record HasStopped (image : Image) (requests : List Request) (replies : Replies) (w : View) : Type 0 where
+  pub request : Request
+  pub others : List Request
+  pub before : View
+  pub seat : IsSeat before
+  pub worked : HasWorked image requests (request ∷ others) replies before
+  pub may : MayAnswer request before w
+
+-- no value that the key has in the image, or that the trace puts, is longer than this, and this is no more than the longest that there may be
+pub record IsRoomFor (image : Image) (requests : List Request) (key room : ℕ) : Type 0 where
+  pub short : room ≤ largest_value
+  pub of_image : (shard : ℕ) (map : Map) (value : List ℕ) → shard < shards → MapOf image shard map → map key ≡ Some value → length value ≤ room
+  pub of_trace : (value : List ℕ) → Contains requests (put key value) → length value ≤ room
+
+-- there is room for each get's value
+abbrev pub HasRoom : Image → List Request → Request → ℕ → Type 0
+HasRoom image requests (get key) room = IsRoomFor image requests key room
+HasRoom image requests (put key value) room = Unit {0}
+HasRoom image requests (del key) room = Unit {0}
+
+abbrev pub HaveRoom : Image → List Request → List Request → List (List ℕ) → Type 0
+HaveRoom image requests [] rooms = Unit {0}
+HaveRoom image requests (q ∷ qs) [] = ⊥
+HaveRoom image requests (q ∷ qs) (room ∷ rooms) = HasRoom image requests q (length room) × HaveRoom image requests qs rooms
+
+-- a get's value fits, as the seat has it
+abbrev pub Fits : View → Request → ℕ → Type 0
+Fits v (get key) room = (room ≤ largest_value) × ((map : Map) (value : List ℕ) → Gives v (shard_of key) map → map key ≡ Some value → length value ≤ room)
+Fits v (put key value) room = Unit {0}
+Fits v (del key) room = Unit {0}
+
+-- the request has this reply, which is right
+pub record Replied (request : Request) (told : Option Reply) (v w : View) : Type 0 where
+  pub reply : Reply
+  pub told_is : told ≡ Some reply
+  pub answers : Answers request reply v w
+
+-- a request makes few calls: three large ones at most, and so many small ones, four for each key of its shard
+pub record MakesCalls (request : Request) (v w : View) : Type 0 where
+  pub most : ℕ
+  pub row : (keys : List ℕ) → ListsKeys v (shard_asked request) keys → IsRow (33280 + 4 * length keys) 3 most v w
