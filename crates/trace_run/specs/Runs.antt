@@ -57,7 +57,8 @@ pub record IsFullRightly (image : Image) (requests : List Request) (replies : Re
 
 -- in each shard the replies are right, one after the other from its map in the image on
 pub record RepliesRightly (image : Image) (requests : List Request) (replies : Replies) : Type 0 where
-  pub right : (shard : ℕ) (map : Map) → shard < shards → MapOf image shard map → AreReplies map (of_shard shard (answered requests replies))
+  pub right : (shard : ℕ) (map : Map) → shard < shards → MapOf image shard map
+      → AreReplies map (of_shard shard (answered requests replies))
 
 -- the shard is the map after the first of the unanswered requests too, which is one to this shard
 pub record IsAfterFirst (left : Image) (shard : ℕ) (map : Map) (rest : List Request) : Type 0 where
@@ -84,7 +85,8 @@ pub record LeavesHeader (image : Image) (words_left : ℕ) (left : Image) : Type
 pub record LeavesOthers (image left : Image) : Type 0 where
   pub nothing_outside : (at : ℕ) → IsOutside left root_kind dict_links at → ⊥
   pub roots_are : (root : ℕ) → IsOtherRoot root → root < roots → left (root_word root) ≡ image (root_word root)
-  pub blocks_are : (b : Block) (kind word : ℕ) → ReachFrom image IsOtherRoot root_kind dict_links b kind → IsIn b word → left word ≡ image word
+  pub blocks_are : (b : Block) (kind word : ℕ) → ReachFrom image IsOtherRoot root_kind dict_links b kind → IsIn b word
+      → left word ≡ image word
 
 -- it was closed where the run wasn't stopped
 abbrev pub LeavesState : Bool → Image → Type 0

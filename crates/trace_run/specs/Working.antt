@@ -32,7 +32,8 @@ pub record HasStopped (image : Image) (requests : List Request) (replies : Repli
 -- no value that the key has in the image, or that the trace puts, is longer than this, and this is no more than the longest that there may be
 pub record IsRoomFor (image : Image) (requests : List Request) (key room : ℕ) : Type 0 where
   pub short : room ≤ largest_value
-  pub of_image : (shard : ℕ) (map : Map) (value : List ℕ) → shard < shards → MapOf image shard map → map key ≡ Some value → length value ≤ room
+  pub of_image : (shard : ℕ) (map : Map) (value : List ℕ) → shard < shards → MapOf image shard map → map key ≡ Some value
+      → length value ≤ room
   pub of_trace : (value : List ℕ) → Contains requests (put key value) → length value ≤ room
 
 -- there is room for each get's value
@@ -48,7 +49,8 @@ HaveRoom image requests (q ∷ qs) (room ∷ rooms) = HasRoom image requests q (
 
 -- a get's value fits, as the seat has it
 abbrev pub Fits : View → Request → ℕ → Type 0
-Fits v (get key) room = (room ≤ largest_value) × ((map : Map) (value : List ℕ) → Gives v (shard_of key) map → map key ≡ Some value → length value ≤ room)
+Fits v (get key) room =
+    (room ≤ largest_value) × ((map : Map) (value : List ℕ) → Gives v (shard_of key) map → map key ≡ Some value → length value ≤ room)
 Fits v (put key value) room = Unit {0}
 Fits v (del key) room = Unit {0}
 

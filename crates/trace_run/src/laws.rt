@@ -18,8 +18,8 @@ ghost use Rattle.trace_run.specs.Stands.{StandsOver};
 
 use block_heap::HeapSeat;
 
-/// Each request of a run has a reply or stands as unanswered; and where as many superblocks are left
-/// as the trace needs, no put is told that there is no room.
+/// Each request of a run has a reply or stands as unanswered; and where as many superblocks are
+/// left as the trace needs, no put is told that there is no room.
 pub fn replies_fit_the_trace()
     ensures each { (requests : List Request) (replies : Replies) → AnswersInOrder requests replies
         → length replies ≡ length requests }
@@ -63,8 +63,8 @@ pub fn what_a_run_leaves_is_a_dictionary()
         → LeavesOthers image left }
 {}
 
-/// Each image that a heap may leave is a dictionary, of whatever kind the heap is: its shards are the
-/// maps after the answered requests, or, where a request was stopped, it may be the map after that
+/// Each image that a heap may leave is a dictionary, of whatever kind the heap is: its shards are
+/// the maps after the answered requests, or, where a request was stopped, it may be the map after that
 /// too; nothing in it is outside, and what belongs to no shard is as it was.
 pub fn any_heap_leaves_a_dictionary<H: HeapSeat>()
     ensures maps { (s : H) (image left : Image) (rs : List (Request × Reply))
