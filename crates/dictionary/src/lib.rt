@@ -7,6 +7,7 @@ mod laws;
 mod read;
 mod walk;
 
+pub use dict_seat::{PutFault, Shard};
 pub use fault::MapFault;
 pub use filter::{DictFilter, NODE, OTHER, SHARDS, TABLE, root_kinds};
 pub use laws::recovery_keeps_each_shard;
