@@ -262,14 +262,14 @@ module _ (old new : Image) (to : RecoversTo old new) where
       let inside = are_inside.position from (words_in old a) position kind listed in
       subst (λ w. new w ≡ old w) (sym is) (reached_words a from (a.first_word + position) reached (record { from = omega arith; until = omega arith }))
 
-  traced_alike : TracesAlike old new AnyRoot root_kind dict_links
+  pub traced_alike : TracesAlike old new AnyRoot root_kind dict_links
   traced_alike = record {
     same_words = traced_words;
     are_blocks = λ b kind reached. to.blocks b (record { kind = kind; reach = reached });
     same_links = λ b kind reached. ap (λ ws. dict_links kind ws) (all_words b.first_word b.words (λ w low high. reached_words b kind w reached (record { from = low; until = high })));
   }
 
-  none_outside : (at : ℕ) → IsTraced old root_kind dict_links at → LeadsOutside old (old at) → ⊥
+  pub none_outside : (at : ℕ) → IsTraced old root_kind dict_links at → LeadsOutside old (old at) → ⊥
   none_outside at traced outside = to.inside at (record { traced = traced; outside = outside })
 
   pub map_kept : (shard : ℕ) (map : Map) → shard < shards → MapOf new shard map → MapOf old shard map
