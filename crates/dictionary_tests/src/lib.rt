@@ -1,0 +1,10 @@
+//! Tests of the dictionary on a heap for one thread: what it answers, and what a stop leaves of it.
+//! The crate is nothing but these, so that a change of the program leaves them alone.
+#![tactic(auto, unfolding(heap_model::specs::Geometry::largest_capacity))]
+
+mod standing;
+
+pub use standing::Standing;
+
+#[cfg(test)]
+mod tests;

@@ -1,0 +1,99 @@
+//! A dictionary on a heap for one thread.
+ghost use Rattle.std.specs.Prelude.{◌≡◌, ◌<◌, ◌^◌, IfOk, Contains, slice_index};
+ghost use Rattle.heap_model.specs.Image.{Image};
+ghost use Rattle.trace_run.specs.Opened.{IsDictionary};
+
+use block_heap::{AllocFault, Chance, Closed, SeqHeap, Stopped};
+use dict_seat::Shard;
+use dictionary::{DictFilter, read_maps, root_kinds};
+use heap_recover::{Recovered, recover};
+use std::alloc::Global;
+use std::marker::Model;
+use std::test::Fail;
+
+/// A source that gives this number always: 0 writes nothing back early, and 1 the latest store.
+#[derive(Drop)]
+pub struct Always(pub u64);
+
+impl Chance for Always {
+    fn draw(&mut self) -> u64 {
+        self.0
+    }
+}
+
+/// A dictionary on a heap for one thread. Once it has stopped it is asked nothing more.
+#[derive(Drop)]
+pub struct Standing {
+    heap: SeqHeap<Always>,
+    stopped: Option<Stopped>,
+}
+
+impl Model for Standing {
+    ghost use Rattle.std.specs.Prelude.{◌≡◌, None};
+    ghost use Rattle.block_heap.specs.SeqState.{seat_of};
+    ghost use Rattle.dictionary_tests.specs.Standing.{HasDictionary};
+
+    ghost Value = { Unit {0} };
+
+    ghost view = { λ _. tt };
+
+    ghost invariant = { λ s. s.stopped ≡ None → HasDictionary (seat_of s.heap) };
+}
+
+/// Recovers an image in which each shard is a map.
+pub fn recovered(alloc: Global, image: &[u64]) -> Result<Recovered, Fail>
+    ensures { IfOk result (λ r. IsDictionary (slice_index r.heap.words) (Contains r.heap.held)) }
+{
+    let recovered = recover(alloc, image, &root_kinds(), &DictFilter)?;
+    read_maps(alloc, &recovered)?;
+    Ok(recovered)
+}
+
+impl Standing {
+    /// Opens what recovery makes of the image.
+    pub fn open(alloc: Global, image: &[u64], budget: u64, number: u64) -> Result<Standing, Fail>
+        requires { budget < 2 ^ 40 }
+    {
+        let heap = recovered(alloc, image)?.heap;
+        let heap = SeqHeap::new(alloc, heap, budget, Always(number))?;
+        Ok(Standing {
+            heap,
+            stopped: None,
+        })
+    }
+
+    /// Sets a key. The inner answer is the request's.
+    pub fn put(&mut self, key: u64, value: &[u8]) -> Result<Result<(), AllocFault>, Fail> {
+        if let Some(stopped) = self.stopped {
+            return Ok(Err(AllocFault::Stopped(stopped)));
+        }
+        if value.len() > 131_072 {
+            return Err("the value is too long".into());
+        }
+        match Shard::at(key % 8).put(&mut self.heap, key, value) {
+            Ok(()) => Ok(Ok(())),
+            Err(AllocFault::Full(looks)) => Ok(Err(AllocFault::Full(looks))),
+            Err(AllocFault::Stopped(stopped)) => {
+                self.stopped = Some(stopped);
+                Ok(Err(AllocFault::Stopped(stopped)))
+            }
+        }
+    }
+
+    /// Takes a key out; the answer is whether it was there.
+    pub fn del(&mut self, key: u64) -> Result<bool, Stopped> {
+        if let Some(stopped) = self.stopped {
+            return Err(stopped);
+        }
+        let answer = Shard::at(key % 8).del(&mut self.heap, key);
+        if let Err(stopped) = answer {
+            self.stopped = Some(stopped);
+        }
+        answer
+    }
+
+    /// Closes the heap, and gives what loads saw and what a crash would have left.
+    pub fn finish(self) -> Closed {
+        self.heap.finish()
+    }
+}
