@@ -268,7 +268,7 @@ fn a_long_script_answers_as_an_ordered_map(rt: HostRuntime) -> Result<(), Fail> 
 #[test]
 fn wherever_a_script_stops_a_map_before_or_after_is_left(rt: HostRuntime) -> Result<(), Fail> {
     let alloc = rt.alloc();
-    let image = format(alloc, 8)?;
+    let image = format(alloc, 4)?;
     let asks = [
         Ask::Put(0, 9, 1),
         Ask::Put(1_024, 1, 2),
@@ -278,7 +278,7 @@ fn wherever_a_script_stops_a_map_before_or_after_is_left(rt: HostRuntime) -> Res
         Ask::Del(0),
     ];
     let mut ended = false;
-    for budget in 0..5_000u64 {
+    for budget in 0..60_000u64 {
         if ended {
             break;
         }
