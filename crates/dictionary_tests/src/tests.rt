@@ -268,13 +268,14 @@ fn a_long_script_answers_as_an_ordered_map(rt: HostRuntime) -> Result<(), Fail> 
 #[test]
 fn wherever_a_script_stops_a_map_before_or_after_is_left(rt: HostRuntime) -> Result<(), Fail> {
     let alloc = rt.alloc();
-    let image = format(alloc, 4)?;
+    // all blocks are of one class, so that one superblock serves
+    let image = format(alloc, 1)?;
     let asks = [
-        Ask::Put(0, 9, 1),
-        Ask::Put(1_024, 1, 2),
-        Ask::Put(0, 20, 3),
+        Ask::Put(0, 900, 1),
+        Ask::Put(1_024, 800, 2),
+        Ask::Put(0, 1_000, 3),
         Ask::Del(1_024),
-        Ask::Put(1, 0, 4),
+        Ask::Put(1, 760, 4),
         Ask::Del(0),
     ];
     let mut ended = false;
