@@ -4,6 +4,7 @@
 mod answer;
 mod laws;
 mod left;
+mod run;
 mod work;
 
 pub use laws::{
@@ -11,4 +12,5 @@ pub use laws::{
     what_a_run_leaves_is_a_dictionary,
 };
 pub use left::{closed_image, crash_image};
+pub use run::{Outcome, run_trace};
 pub use work::work_off;
