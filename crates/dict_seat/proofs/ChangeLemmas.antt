@@ -1,17 +1,42 @@
 -- How what calls leave of a shard goes together.
-use Rattle.std.proofs.Common.{ℕ, ◌<◌, inl, inr, Contains}
+use Rattle.std.proofs.Common.{◌≡◌, ℕ, ◌+◌, ◌*◌, ◌<◌, List, inl, inr, Contains, refl, subst, sym, arith}
 use Rattle.heap_model.specs.declared.block.Block.{Block}
+use Rattle.heap_model.specs.Geometry.{root_word}
+use Rattle.heap_model.specs.Blocks.{IsIn}
 use Rattle.heap_seat.specs.View.{View}
+use Rattle.heap_seat.specs.Words.{IsOwn, in_root, MayStore}
 use Rattle.heap_seat.specs.Free.{MayFree}
 use Rattle.heap_seat.specs.Sound.{IsSeat}
 use Rattle.dict_model.specs.Links.{shards}
 use Rattle.dict_model.specs.Shards.{Map}
-use Rattle.dict_seat.specs.Maps.{Gives, KeepsOthers}
+use Rattle.dict_seat.specs.Maps.{Gives, KeepsTable, KeepsOthers}
 use Rattle.dict_seat.specs.Reached.{MayReach, ReachesOnlyHeld}
 use Rattle.dict_seat.specs.Changes.{MayChange, Changes}
 use Rattle.dict_seat.proofs.GrownLemmas.{Grown, gives_grown, only_grown, others_grown, reached_before}
 use Rattle.dict_seat.proofs.PublishLemmas.{others_then}
 use Rattle.dict_seat.proofs.FreedLemmas.{gives_freed, only_freed, others_freed}
+
+-- a shard keeps its table where nothing that was own is stored to
+pub table_grown : (shard : ℕ) (v w : View) → Grown v w → KeepsTable shard v w
+table_grown shard v w grown = record { root = λ x owned seen some. (grown.words (root_word shard) (in_root shard (root_word shard) owned refl)).volatile x seen }
+
+-- over one call and another
+pub table_then : (shard : ℕ) (v u w : View) → (Contains v.roots shard → Contains u.roots shard) → KeepsTable shard v u → KeepsTable shard u w → KeepsTable shard v w
+table_then shard v u w still a b = record { root = λ x owned seen some. b.root x (still owned) (a.root x owned seen some) some }
+
+-- where another word is stored to
+pub table_stored : (shard p x : ℕ) (u w : View) → (Contains u.roots shard → root_word shard ≡ p → ⊥) → MayStore p x u w → KeepsTable shard u w
+table_stored shard p x u w other may = record {
+  root = λ y owned seen some. (may.others (root_word shard) (in_root shard (root_word shard) owned refl) (other owned)).volatile y seen;
+}
+
+-- where a block is freed
+pub table_freed : (shard : ℕ) (w x : View) (b : Block) → shard < shards → IsSeat w → Contains w.held b → MayFree b w x → KeepsTable shard w x
+table_freed shard w x b small seat h may = record {
+  root = λ y owned seen some. (may.words (root_word shard) (in_root shard (root_word shard) owned refl) outside).volatile y seen;
+} where
+  outside : IsIn b (root_word shard) → ⊥
+  outside inside = let behind = (seat.placed b h).behind in let from = inside.from in omega arith
 
 module _ (shard : ℕ) (after : Map → Map) where
   -- nothing was changed
@@ -19,6 +44,7 @@ module _ (shard : ℕ) (after : Map → Map) where
   change_none v w grown seat only = record {
     either = λ map gives. record { each = λ image mixes. inl ((gives_grown v w grown shard map gives).each image mixes) };
     only = only_grown v w grown seat only;
+    table = table_grown shard v w grown;
     others = others_grown v w grown shard;
   }
 
@@ -27,6 +53,7 @@ module _ (shard : ℕ) (after : Map → Map) where
   change_after v u w grown seat only change = record {
     either = λ map gives. change.either map (gives_grown v u grown shard map gives);
     only = change.only;
+    table = table_then shard v u w (subst (λ (rs : List ℕ). Contains rs shard) (sym grown.roots)) (table_grown shard v u grown) change.table;
     others = others_then shard v u w (λ b kind h reached. reached_before v u grown seat only shard b kind reached) (others_grown v u grown shard) change.others;
   }
 
@@ -34,15 +61,16 @@ module _ (shard : ℕ) (after : Map → Map) where
   changes_after v u w grown changes = record { gives = λ map gives. changes.gives map (gives_grown v u grown shard map gives) }
 
   -- a block that is freed after the change, when nothing reaches it any more
-  pub freed : (u w x : View) (b : Block) (kind : ℕ) → shard < shards → IsSeat w → Contains w.roots shard → Contains w.held b → Changes shard after u w → ReachesOnlyHeld w → KeepsOthers shard u w
+  pub freed : (u w x : View) (b : Block) (kind : ℕ) → shard < shards → IsSeat w → Contains w.roots shard → Contains w.held b → Changes shard after u w → ReachesOnlyHeld w → KeepsTable shard u w → KeepsOthers shard u w
       → MayReach u shard b kind → ((root other : ℕ) → MayReach w root b other → ⊥) → MayFree b w x → Changes shard after u x × MayChange shard after u x
-  freed u w x b kind small seat owned h changes only others reached unreached may =
+  freed u w x b kind small seat owned h changes only table others reached unreached may =
       let done : (map : Map) → Gives u shard map → Gives x shard (after map) =
       λ map gives. gives_freed w x b seat may only h unreached shard (after map) small owned (changes.gives map gives) in (
         record { gives = done },
         record {
           either = λ map gives. record { each = λ image mixes. inr ((done map gives).each image mixes) };
           only = only_freed w x b seat may only h unreached;
+          table = table_then shard u w x (λ _. owned) table (table_freed shard w x b small seat h may);
           others = others_freed shard kind u w x b seat h reached others may;
         },
       )

@@ -23,6 +23,7 @@ use Rattle.dict_seat.specs.Reached.{MayReach, ReachesOnlyHeld}
 use Rattle.dict_seat.specs.Trails.{pointer_to, IsSettled, Trail, HasCome}
 use Rattle.dict_seat.specs.Changes.{MayChange, IsTaken}
 use Rattle.dict_seat.proofs.GrownLemmas.{link_reach}
+use Rattle.dict_seat.proofs.ChangeLemmas.{table_stored}
 use Rattle.dict_seat.proofs.PublishLemmas.{IsLinkOf, MayPublish, no_block, old, only_after, others_after, reached_after}
 use Rattle.dict_seat.proofs.TrailLemmas.{settled_stays}
 use Rattle.dict_seat.proofs.MapPublishLemmas.{seen_read, come_left, behind_own, either, exactly, take_out}
@@ -101,6 +102,8 @@ module _ (u : View) (seat : IsSeat u) (key : ℕ) (place : Place) (next : ℕ) (
           either u w seat (shard_of key) key (shard_below key) map gives taken.table taken.before (place.node ∷ []) taken.come (word_of place.link) next (pointer_to place.node)
           taken.at_is link_holds may (without_key map key) (out map gives);
       only = only_after u w (shard_of key) (word_of place.link) next node_kind seat (shard_below key) may only link_kind (may_link only);
+      table = table_stored (shard_of key) (word_of place.link) next u w
+          (λ owned e. link_behind_roots u key taken.table taken.before (shard_of key) seat owned come_to (e ∙ taken.at_is)) may;
       others = others_after u w (shard_of key) (word_of place.link) next node_kind seat (shard_below key) may only link_kind (may_link only);
     }
 

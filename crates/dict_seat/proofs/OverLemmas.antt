@@ -181,7 +181,7 @@ module _ (v t u w : View) (seat_t : IsSeat t) (seat : IsSeat u) (key next x : �
 
     pub over_freed : (y : View) → MayFree place.node w y → Changes (shard_of key) (λ map. with_key map key value) v y × MayChange (shard_of key) (λ map. with_key map key value) v y
     over_freed y freeing =
-        let both = freed (shard_of key) (λ map. with_key map key value) u w y place.node node_kind (shard_below key) seat_w come_w.owned old_still done_here left_here.only left_here.others
+        let both = freed (shard_of key) (λ map. with_key map key value) u w y place.node node_kind (shard_below key) seat_w come_w.owned old_still done_here left_here.only left_here.table left_here.others
         old_reached unreached freeing in
         (changes_after (shard_of key) (λ map. with_key map key value) v u y grown_all both.0, change_after (shard_of key) (λ map. with_key map key value) v u y grown_all seat shard.only both.1)
 

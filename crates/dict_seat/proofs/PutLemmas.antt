@@ -18,10 +18,11 @@ use Rattle.dict_seat.specs.Quiet.{Grown}
 use Rattle.dict_seat.specs.Nodes.{IsWritten}
 use Rattle.dict_seat.specs.Changes.{MayChange, Changes}
 use Rattle.dict_seat.proofs.GrownLemmas.{are_placed, reached_before, reached_held}
+use Rattle.dict_seat.proofs.ChangeLemmas.{table_stored}
 use Rattle.dict_seat.proofs.PublishLemmas.{IsLinkOf, MayPublish, new, IsFresh, only_after, others_after}
 use Rattle.dict_seat.proofs.TrailLemmas.{settled_in, leads_held}
 use Rattle.dict_seat.proofs.MapPublishLemmas.{IsNodeOf, either, exactly, put_new, put_over}
-use Rattle.dict_seat.proofs.ComeLemmas.{link_followed}
+use Rattle.dict_seat.proofs.ComeLemmas.{link_followed, link_behind_roots}
 use Rattle.dict_seat.proofs.ValueLemmas.{value_of_words}
 use Rattle.dict_seat.proofs.DeleteLemmas.{shard_below}
 
@@ -108,6 +109,7 @@ module _ (v u : View) (seat : IsSeat u) (grown : Grown v u) (only_v : ReachesOnl
     put_left new_map = record {
       either = λ map gives. either u w seat (shard_of key) key (shard_below key) map gives table before drop come p x y at was may (with_key map key value) (new_map map gives);
       only = only_after u w (shard_of key) p x node_kind seat (shard_below key) may only link publish;
+      table = table_stored (shard_of key) p x u w (λ owned e. link_behind_roots u key table before (shard_of key) seat owned come_to (e ∙ at)) may;
       others = others_after u w (shard_of key) p x node_kind seat (shard_below key) may only link publish;
     }
 

@@ -117,7 +117,7 @@ module _ (v u : View) (key : ℕ) (place : Place) (next : ℕ) (seat : IsSeat u)
     left_freed x seat_w settled freeing =
         let both = freed (shard_of key) (λ map. without_key map key) u w x place.node node_kind (shard_below key) seat_w
         (subst (λ (rs : List ℕ). Contains rs (shard_of key)) (sym (may.roots ∙ grown.roots)) shard.owned) node_still
-        (record { gives = unlinked u seat key place next taken shard.map gives w may settled }) left_here.only left_here.others
+        (record { gives = unlinked u seat key place next taken shard.map gives w may settled }) left_here.only left_here.table left_here.others
         (node_reached u seat key place next taken shard.map gives) (unreached u seat key place next taken shard.map gives w may seat_w only settled) freeing in (
           changes_after (shard_of key) (λ map. without_key map key) v u x grown both.0,
           change_after (shard_of key) (λ map. without_key map key) v u x grown seat shard.only both.1,

@@ -21,6 +21,7 @@ use Rattle.dict_seat.specs.Tables.{MakesTable}
 use Rattle.dict_seat.specs.Removal.{IsShard}
 use Rattle.dict_seat.specs.Puts.{PutFails, PutAnswers, of_node, of_node_behind_table, of_table, WasNull, RootIsSet}
 use Rattle.dict_seat.proofs.GrownLemmas.{gives_grown, grown_keeps}
+use Rattle.dict_seat.proofs.ChangeLemmas.{table_then}
 use Rattle.dict_seat.proofs.PublishLemmas.{others_then}
 use Rattle.dict_seat.proofs.FirstLemmas.{refused_before}
 
@@ -75,11 +76,12 @@ answers_behind reads bytes key (Stopped stopped) table v u y w runs grown same t
     (stops_then stopped.step v y w (runs_then v u y runs makes.runs) fails.0, same_refusals_then v y w (same_refusals_then v u y same makes.refusals) fails.1)
 
 -- a change behind a table that was made
-pub change_behind : (key : ℕ) (after : Map → Map) (table : Block) (u y w : View) → MakesTable key table u y → KeepsOthers (shard_of key) u y → MayChange (shard_of key) after y w → MayChange (shard_of key) after u w
-change_behind key after table u y w makes others change = record {
+pub change_behind : (key : ℕ) (after : Map → Map) (table : Block) (u y w : View) → MakesTable key table u y → MayChange (shard_of key) after u y → MayChange (shard_of key) after y w → MayChange (shard_of key) after u w
+change_behind key after table u y w makes made change = record {
   either = λ map gives. change.either map (makes.gives map gives);
   only = change.only;
-  others = others_then (shard_of key) u y w (λ b kind h reached. makes.reached b kind h reached) others change.others;
+  table = table_then (shard_of key) u y w (λ _. makes.missing.come.owned) made.table change.table;
+  others = others_then (shard_of key) u y w (λ b kind h reached. makes.reached b kind h reached) made.others change.others;
 }
 
 pub changes_behind : (key : ℕ) (after : Map → Map) (table : Block) (u y w : View) → MakesTable key table u y → Changes (shard_of key) after y w → Changes (shard_of key) after u w

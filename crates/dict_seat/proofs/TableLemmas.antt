@@ -88,17 +88,21 @@ module _ (v u w : View) (seat : IsSeat u) (seat_w : IsSeat w) (grown : Grown v u
             absurd (fresh (subst (Contains v.held) same h))
       ]
 
-  pub table_left : (after : Map → Map) → MayChange shard after v w
-  table_left after = record {
+  pub table_left : v.volatile (root_word shard) ≡ Some 0 → (after : Map → Map) → MayChange shard after v w
+  table_left null after = record {
     either = λ map gives. record { each = λ image mixes. inl ((table_gives map gives).each image mixes) };
     only = only_after u w shard (root_word shard) x (root_kind shard) seat small may only_u link publish;
+    table = record { root = λ y owned seen some. absurd (some (seen_value v (root_word shard) y 0 seen null)) };
     others = others_then shard v u w (λ b kind h reached. reached_before v u grown seat only_v shard b kind reached) (others_grown v u grown shard)
         (others_after u w shard (root_word shard) x (root_kind shard) seat small may only_u link publish);
   }
 
   -- what loads see reached is so still, and the table too
   pub table_all : u.volatile (root_word shard) ≡ Some 0 → w.volatile (root_word shard) ≡ Some x → ((a : Block) → Contains u.held a → (a ≡ table) ⊎ Contains v.held a) → ReachesAllHeld v → ReachesAllHeld w
-  table_all null seen either all = record { only = (table_left (λ map. map)).only; all = reached } where
+  table_all null seen either all = record {
+    only = only_after u w shard (root_word shard) x (root_kind shard) seat small may only_u link publish;
+    all = reached;
+  } where
     on_held : (c : Block) → Contains u.held c → Contains w.held c
     on_held c h = subst (λ (bs : List Block). Contains bs c) (sym may.held) h
 

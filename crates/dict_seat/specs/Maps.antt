@@ -1,5 +1,5 @@
 -- The map that a seat's shard stands for in every mixture of what its words may have.
-use Rattle.std.specs.Prelude.{◌≡◌, ◌≢◌, ℕ, ◌⊎◌, Contains}
+use Rattle.std.specs.Prelude.{◌≡◌, ◌≢◌, ℕ, ◌⊎◌, Some, Contains}
 use Rattle.heap_model.specs.declared.block.Block.{Block}
 use Rattle.heap_model.specs.Geometry.{root_word}
 use Rattle.heap_model.specs.Image.{Image}
@@ -20,6 +20,10 @@ pub record Gives (v : View) (shard : ℕ) (map : Map) : Type 0 where
 -- every mixture gives it the one map or the other
 pub record GivesEither (v : View) (shard : ℕ) (one other : Map) : Type 0 where
   pub each : (image : Image) → MixesOwn v image → IsMapIn v image shard one ⊎ IsMapIn v image shard other
+
+-- the shard keeps its table: where loads see that its root isn't null, they see the same of it after
+pub record KeepsTable (shard : ℕ) (v w : View) : Type 0 where
+  pub root : (x : ℕ) → Contains v.roots shard → v.volatile (root_word shard) ≡ Some x → x ≢ 0 → w.volatile (root_word shard) ≡ Some x
 
 -- all that other roots reach is held with its words: they are not stored to
 pub record KeepsOthers (shard : ℕ) (v w : View) : Type 0 where

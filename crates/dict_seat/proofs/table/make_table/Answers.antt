@@ -102,7 +102,7 @@ returns-in_err-persist-clause-crash g c =
     settles t s (table.first_word + i) 0 own (c.fence.ensures.unchanged.words (table.first_word + i) own) (record { each = c.in_ok-fence.ensures.ok.durable }) (c.in_ok-clear.ensures.ok.nulls i below) in
     let may = subst (λ (i : ℕ). MayStore (root_word i) c.encode.result s w) c.shard_of.ensures c.persist.ensures.crash in
     λ after. table_left v s w (g.met.H.HeapSeat.seat c.fence.new.self) (g.met.H.HeapSeat.seat c.persist.new.heap) grown_s c.requires.shard.only shard c.encode.result table (shard_below c.args.key) c.requires.shard.owned
-    held_s c.in_ok-table.ensures.ok.blocks.new size nulls c.encode.ensures.tagged may c.requires.none.empty after
+    held_s c.in_ok-table.ensures.ok.blocks.new size nulls c.encode.ensures.tagged may c.requires.none.empty c.requires.none.root.seen after
 
 pub returns-clause-crash : goal.returns-clause-crash
 returns-clause-crash g c =
@@ -124,7 +124,7 @@ returns-clause-crash g c =
     settles t s (table.first_word + i) 0 own (c.fence.ensures.unchanged.words (table.first_word + i) own) (record { each = c.in_ok-fence.ensures.ok.durable }) (c.in_ok-clear.ensures.ok.nulls i below) in
     let may = subst (λ (i : ℕ). MayStore (root_word i) c.encode.result s w) c.shard_of.ensures c.persist.ensures.crash in
     λ after. table_left v s w (g.met.H.HeapSeat.seat c.fence.new.self) (g.met.H.HeapSeat.seat c.persist.new.heap) grown_s c.requires.shard.only shard c.encode.result table (shard_below c.args.key) c.requires.shard.owned
-    held_s c.in_ok-table.ensures.ok.blocks.new size nulls c.encode.ensures.tagged may c.requires.none.empty after
+    held_s c.in_ok-table.ensures.ok.blocks.new size nulls c.encode.ensures.tagged may c.requires.none.empty c.requires.none.root.seen after
 
 pub returns-in_err-persist-clause-calls : goal.returns-in_err-persist-clause-calls
 returns-in_err-persist-clause-calls g c =

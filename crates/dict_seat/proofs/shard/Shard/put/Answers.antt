@@ -371,7 +371,7 @@ returns-in_ok-table-in-NoTable-clause-crash g c =
     let w = view c.put_first-in-NoTable.new.seat in
     let makes = c.in_ok-table-in-NoTable.ensures.ok in
     let table = c.in_ok-table-in-NoTable.table in
-    change_after (shard_of c.args.key) (λ map. with_key map c.args.key c.args.value.now) v u w grown seat c.requires.shard.only (change_behind c.args.key (λ map. with_key map c.args.key c.args.value.now) table u y w makes (c.make_table.ensures.crash (λ map. with_key map c.args.key c.args.value.now)).others c.put_first-in-NoTable.ensures.crash)
+    change_after (shard_of c.args.key) (λ map. with_key map c.args.key c.args.value.now) v u w grown seat c.requires.shard.only (change_behind c.args.key (λ map. with_key map c.args.key c.args.value.now) table u y w makes (c.make_table.ensures.crash (λ map. with_key map c.args.key c.args.value.now)) c.put_first-in-NoTable.ensures.crash)
 
 pub returns-in_ok-table-in-NoTable-clause-calls : goal.returns-in_ok-table-in-NoTable-clause-calls
 returns-in_ok-table-in-NoTable-clause-calls g c =
