@@ -1,10 +1,10 @@
 -- The words that every call of a heap for one thread leaves as they are.
-use Rattle.std.proofs.Common.{◌≡◌, ℕ, ◌+◌, ◌*◌, ◌≤◌, inl, inr, List, refl, ap, sym, subst, ◌∙◌, get_or, arith}
+use Rattle.std.proofs.Common.{◌≡◌, ℕ, ◌+◌, ◌*◌, ◌≤◌, inl, inr, List, length, refl, ap, sym, subst, ◌∙◌, get_or, arith}
 use Rattle.std.specs.Prelude.{slice_index}
 use Rattle.heap_model.specs.declared.block.Block.{Block}
 use Rattle.heap_model.specs.Header.{capacity_of, used_of}
 use Rattle.heap_shape.specs.Moves.{TakesFrom}
-use Rattle.line_memory.specs.View.{View, volatile_at, durable_at}
+use Rattle.line_memory.specs.View.{View, word_count, volatile_at, durable_at}
 use Rattle.block_heap.specs.Closing.{IsOpened, KeepsFixed}
 use Rattle.block_heap.specs.Medium.{StoresOnly}
 use Rattle.block_heap.specs.Parts.{held_in, image_of}
@@ -19,11 +19,12 @@ use Rattle.block_heap.proofs.StableLemmas.{not_fixed, own_not_fixed, stable_fewe
 
 -- no call at all, and two rows of calls
 pub fixed_same : (s : SeqState) → KeepsFixed s s
-fixed_same s = record { capacity = refl; volatile = λ word is. refl; durable = λ word is same. same; looks = refl; draws = omega arith }
+fixed_same s = record { capacity = refl; long = refl; volatile = λ word is. refl; durable = λ word is same. same; looks = refl; draws = omega arith }
 
 pub fixed_then : (s t u : SeqState) → KeepsFixed s t → KeepsFixed t u → KeepsFixed s u
 fixed_then s t u a b = record {
   capacity = b.capacity ∙ a.capacity;
+  long = b.long ∙ a.long;
   volatile = λ word is. b.volatile word (then word is) ∙ a.volatile word is;
   durable = λ word is same. b.durable word (then word is) (a.durable word is same);
   looks = let p = a.looks in let q = b.looks in omega arith;
@@ -49,6 +50,10 @@ fixed_opened words held budget s t opened keeps word is = (seen, keeps.durable w
   seen : volatile_at t.parts.words word ≡ slice_index words word
   seen = keeps.volatile word fixed ∙ was
 
+-- and there are as many words as in the image
+pub long_opened : (words : List ℕ) (held : List Block) (budget : ℕ) (s t : SeqState) → IsOpened words held budget s → KeepsFixed s t → word_count t.parts.words ≡ length words
+long_opened words held budget s t opened keeps = keeps.long ∙ ap word_count opened.opens.words_are
+
 -- a call keeps them that stores to none of them
 pub fixed_by : (to : ℕ → Type 0) (s seen t : SeqState) → s ≡ seen → t.parts.capacity ≡ s.parts.capacity
     → StoresOnly to s.parts.words t.parts.words → ((word : ℕ) → to word → IsFixed s.parts.capacity word → ⊥)
@@ -56,6 +61,7 @@ pub fixed_by : (to : ℕ → Type 0) (s seen t : SeqState) → s ≡ seen → t.
     → t.parts.words.drawn + (s.small_calls + 131072 * s.large_calls) ≤ s.parts.words.drawn + (t.small_calls + 131072 * t.large_calls) → KeepsFixed seen t
 fixed_by to s seen t same capacity stores none looks draws = subst (λ m. KeepsFixed m t) same (record {
   capacity = capacity;
+  long = stores.words;
   volatile = λ word is. stores.volatile word (λ may. none word may is);
   durable = λ word is settled.
       let now = stores.volatile word (λ may. none word may is) in

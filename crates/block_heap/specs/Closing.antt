@@ -1,6 +1,6 @@
 -- What a heap for one thread is as it is opened, and what it leaves.
 use Rattle.std.specs.Prelude.{◌≡◌, ℕ, ◌+◌, ◌*◌, ◌≤◌, List, None}
-use Rattle.line_memory.specs.View.{volatile_at, durable_at}
+use Rattle.line_memory.specs.View.{word_count, volatile_at, durable_at}
 use Rattle.heap_model.specs.declared.block.Block.{Block}
 use Rattle.block_heap.specs.Opening.{Opens}
 use Rattle.block_heap.specs.SeqState.{SeqState}
@@ -14,9 +14,10 @@ pub record IsOpened (words : List ℕ) (held : List Block) (budget : ℕ) (s : S
   pub large : s.large_calls ≡ 0
   pub refusals : s.refusals ≡ 0
 
--- the first four words of the header, and those that have no meaning, stay as loads see them; where such a word was durable as loads see it, it still is
+-- capacity and length stay, and so do the first four words of the header and those that have no meaning, as loads see them; where such a word was durable as loads see it, it still is
 pub record KeepsFixed (s t : SeqState) : Type 0 where
   pub capacity : t.parts.capacity ≡ s.parts.capacity
+  pub long : word_count t.parts.words ≡ word_count s.parts.words
   pub volatile : (word : ℕ) → IsFixed s.parts.capacity word → volatile_at t.parts.words word ≡ volatile_at s.parts.words word
   pub durable : (word : ℕ) → IsFixed s.parts.capacity word → durable_at s.parts.words word ≡ volatile_at s.parts.words word
       → durable_at t.parts.words word ≡ volatile_at t.parts.words word

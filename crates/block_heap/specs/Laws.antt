@@ -74,11 +74,12 @@ named_law s image left = λ b holds. record {
 
 -- what is kept goes on
 pub keeps_none_law : (s : SeqState) → KeepsFixed s s
-keeps_none_law s = record { capacity = refl; volatile = λ word is. refl; durable = λ word is same. same; looks = refl; draws = omega arith }
+keeps_none_law s = record { capacity = refl; long = refl; volatile = λ word is. refl; durable = λ word is same. same; looks = refl; draws = omega arith }
 
 pub keeps_row_law : (s t u : SeqState) → KeepsFixed s t → KeepsFixed t u → KeepsFixed s u
 keeps_row_law s t u a b = record {
   capacity = b.capacity ∙ a.capacity;
+  long = b.long ∙ a.long;
   volatile = λ word is. b.volatile word (then word is) ∙ a.volatile word is;
   durable = λ word is same. b.durable word (then word is) (a.durable word is same);
   looks = let p = a.looks in let q = b.looks in omega arith;

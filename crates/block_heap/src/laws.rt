@@ -1,7 +1,7 @@
 //! What follows from the definitions, as functions with nothing to run: a caller cites their
 //! clauses.
 
-ghost use Rattle.std.specs.Prelude.{◌≡◌, ◌≢◌, ◌↔◌, ℕ, ◌+◌, ◌*◌, ◌≤◌, List, slice_index, Contains, true, false};
+ghost use Rattle.std.specs.Prelude.{◌≡◌, ◌≢◌, ◌↔◌, ℕ, ◌+◌, ◌*◌, ◌≤◌, List, length, slice_index, Contains, true, false};
 ghost use Rattle.heap_model.specs.declared.block.Block.{Block};
 ghost use Rattle.heap_model.specs.Image.{Image};
 ghost use Rattle.heap_model.specs.Durability.{Mixes, IsCrashImage, IsClosedImage, NamesAreDurable};
@@ -9,7 +9,7 @@ ghost use Rattle.heap_model.specs.Header.{capacity_of, used_of};
 ghost use Rattle.heap_model.specs.Blocks.{layout_of};
 ghost use Rattle.heap_model.specs.Reach.{Links, IsReached};
 ghost use Rattle.heap_model.specs.Recovered.{IsDrained};
-ghost use Rattle.line_memory.specs.View.{volatile_at, durable_at};
+ghost use Rattle.line_memory.specs.View.{word_count, volatile_at, durable_at};
 ghost use Rattle.heap_seat.specs.Rows.{IsRow};
 ghost use Rattle.heap_seat.specs.Words.{HasPicked};
 ghost use Rattle.block_heap.specs.Closing.{IsOpened, KeepsFixed};
@@ -24,7 +24,7 @@ ghost use Rattle.heap_model.specs.Geometry.{IsFixed};
 
 /// Calls of a heap for one thread go together: over any row of them, the first four words of the
 /// header and those that have no meaning are what they were as the heap was opened, as loads see
-/// them and as they are durable.
+/// them and as they are durable; and there are as many words.
 pub fn fixed_words_stay()
     ensures none { (s : SeqState) → KeepsFixed s s }
     ensures row { (s t u : SeqState) → KeepsFixed s t → KeepsFixed t u → KeepsFixed s u }
@@ -33,6 +33,9 @@ pub fn fixed_words_stay()
         → (word : ℕ) → IsFixed (capacity_of (slice_index words)) word
         → (volatile_at t.parts.words word ≡ slice_index words word)
         × (durable_at t.parts.words word ≡ slice_index words word) }
+    ensures long { (words : List ℕ) (held : List Block) (budget : ℕ) (s t : SeqState)
+        → IsOpened words held budget s → KeepsFixed s t
+        → word_count t.parts.words ≡ length words }
 {}
 
 /// The last look at the mark of taken superblocks tells how many there were as the heap was opened,
