@@ -19,7 +19,7 @@ use region_header::Bytes;
 use root_reach::{Origins, trace_origins};
 use std::alloc::Global;
 use std::collections::BTreeMap;
-use super_block::{Directory, ROOT_WORD};
+use super_block::{Directory, ROOT_WORD, Ready};
 
 /// The map of shard `i` of a recovered heap, as the keys with their values. It has none where the
 /// root or a link leads to what it may not: then the first such word is told.
@@ -53,7 +53,17 @@ pub fn read_maps(
     ensures err { IfErr result (TellsLowest (slice_index recovered.now.heap.words)) }
     ensures ready { IsReady recovered.now.heap.words recovered.now.heap.held }
 {
-    let words = recovered.heap.words();
+    maps_of(alloc, &recovered.heap)
+}
+
+/// The maps of all eight shards of a heap at rest, in order, from one trace. Where shards have none
+/// the lowest of them is told.
+pub fn maps_of(alloc: Global, heap: &Ready) -> Result<Vec<BTreeMap<u64, Bytes>>, MapFault>
+    ensures ok { IfOk result (λ maps. AreMaps (slice_index heap.now.words) shards maps.items) }
+    ensures err { IfErr result (TellsLowest (slice_index heap.now.words)) }
+    ensures ready { IsReady heap.now.words heap.now.held }
+{
+    let words = heap.words();
     let directory = Directory::of(alloc, words)?;
     let scan = Scan {
         words,

@@ -5,7 +5,7 @@ use Rattle.dict_model.specs.Links.{shards, dict_links, root_kind}
 use Rattle.root_reach.proofs.TraceLemmas.{origins_same}
 use Rattle.dictionary.specs.Reading.{AreMaps}
 use Rattle.dictionary.proofs.WalkLemmas.{maps_begin, maps_push, tells_lowest}
-use Rattle.dictionary.proofs.read.read_maps.Goals as goal
+use Rattle.dictionary.proofs.read.maps_of.Goals as goal
 
 pub loop-shard-init : goal.loop-shard-init
 loop-shard-init c = rw (c.in_ok-maps.ensures.items) (maps_begin (slice_index c.words-words.result.now))
