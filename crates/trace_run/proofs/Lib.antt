@@ -1,5 +1,6 @@
 pub mod AnswerLemmas
 pub mod AnsweringLemmas
+pub mod KeyLemmas
 pub mod LeftLemmas
 pub mod LinkLemmas
 pub mod OpenLemmas
@@ -7,5 +8,7 @@ pub mod OthersLemmas
 pub mod ProgressLemmas
 pub mod ScrambleLemmas
 pub mod ShardReachLemmas
+pub mod SpendLemmas
 pub mod StandsLemmas
+pub mod TakenLemmas
 pub mod WorkLemmas

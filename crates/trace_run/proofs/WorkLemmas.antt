@@ -46,7 +46,7 @@ one_where m (get k) none key value is = inl is
 one_where m (get k) (found w) key value is = inl is
 
 -- a key has its value from the first map, or one of the requests put it
-all_where : (shard : ℕ) (m : Map) (rs : List (Request × Reply)) (key : ℕ) (value : List ℕ) → after m (of_shard shard rs) key ≡ Some value
+pub all_where : (shard : ℕ) (m : Map) (rs : List (Request × Reply)) (key : ℕ) (value : List ℕ) → after m (of_shard shard rs) key ≡ Some value
     → (m key ≡ Some value) ⊎ Contains (map (λ r. r.0) rs) (put key value)
 all_where shard m [] key value is = inl is
 all_where shard m (r ∷ rs) key value is = by_case (is_to shard r.0) (all_where shard (after_one m r.0 r.1) rs key value) (all_where shard m rs key value) is where
@@ -90,7 +90,7 @@ push_between : {X : Type 0} (xs ys : List X) (y : X) → xs ++ (y ∷ ys) ≡ (x
 push_between [] ys y = refl
 push_between (x ∷ xs) ys y = ap (λ zs. x ∷ zs) (push_between xs ys y)
 
-map_push : {X Y : Type 0} (f : X → Y) (xs : List X) (x : X) → map f (xs ++ (x ∷ [])) ≡ map f xs ++ (f x ∷ [])
+pub map_push : {X Y : Type 0} (f : X → Y) (xs : List X) (x : X) → map f (xs ++ (x ∷ [])) ≡ map f xs ++ (f x ∷ [])
 map_push f [] x = refl
 map_push f (y ∷ ys) x = ap (λ zs. f y ∷ zs) (map_push f ys x)
 

@@ -5,5 +5,6 @@ pub mod Opened
 pub mod Progress
 pub mod Runs
 pub mod Said
+pub mod Spending
 pub mod Stands
 pub mod Working

@@ -6,12 +6,13 @@ use Rattle.heap_seat.specs.Rows.{IsRow}
 use Rattle.heap_seat.specs.Sound.{IsSeat}
 use Rattle.dict_model.specs.Links.{shards}
 use Rattle.dict_model.specs.Nodes.{largest_value, shard_of}
-use Rattle.dict_model.specs.Requests.{Request, put, get, del, Reply}
+use Rattle.dict_model.specs.Requests.{Request, put, get, del, Reply, full}
 use Rattle.dict_model.specs.Shards.{Map, MapOf}
 use Rattle.dict_seat.specs.Maps.{Gives}
 use Rattle.dict_seat.specs.Walks.{ListsKeys}
 use Rattle.trace_run.specs.Runs.{Replies}
 use Rattle.trace_run.specs.Progress.{shard_asked, Answers, MayAnswer, HasAnswered}
+use Rattle.trace_run.specs.Spending.{TakesFew, HadNoRoom}
 
 -- these requests are left, and the others have these replies
 pub record HasWorked (image : Image) (requests left : List Request) (replies : Replies) (v : View) : Type 0 where
@@ -54,11 +55,13 @@ Fits v (get key) room =
 Fits v (put key value) room = Unit {0}
 Fits v (del key) room = Unit {0}
 
--- the request has this reply, which is right
+-- the request has this reply, which is right; it took few superblocks, and was told full only where there were too few
 pub record Replied (request : Request) (told : Option Reply) (v w : View) : Type 0 where
   pub reply : Reply
   pub told_is : told ≡ Some reply
   pub answers : Answers request reply v w
+  pub takes : TakesFew request reply v w
+  pub room : reply ≡ full → HadNoRoom request w
 
 -- a request makes few calls: three large ones at most, and so many small ones, four for each key of its shard
 pub record MakesCalls (request : Request) (v w : View) : Type 0 where

@@ -1,11 +1,14 @@
 //! The requests of a trace, worked off one after the other.
-ghost use Rattle.std.specs.Prelude.{◌≡◌, ℕ, ◌≤◌, ◌<◌, List, [], length, Some, IsTrue, IsFalse};
+ghost use Rattle.std.specs.Prelude.{◌≡◌, ℕ, ◌+◌, ◌*◌, ◌≤◌, ◌<◌, List, [], length, Some, IsTrue, IsFalse};
 ghost use Rattle.std.specs.Vec.{vec_capacity};
 ghost use Rattle.heap_model.specs.Image.{Image};
 ghost use Rattle.heap_seat.specs.View.{View};
+ghost use Rattle.trace_run.specs.Needs.{ListsKeysOf};
 ghost use Rattle.trace_run.specs.Opened.{HasMaps};
 ghost use Rattle.trace_run.specs.Progress.{HasAnswered};
+ghost use Rattle.trace_run.specs.Runs.{answered};
 ghost use Rattle.trace_run.specs.Said.{requests_of, replies_of, AreShort};
+ghost use Rattle.trace_run.specs.Spending.{AreFullRightly, MakeFew};
 ghost use Rattle.trace_run.specs.Working.{HasWorked, HasStopped, HaveRoom};
 
 use crate::answer::answer;
@@ -37,6 +40,13 @@ pub fn work_off<H: HeapSeat, G: Gate>(
     ensures stopped { IsTrue result → HasStopped image (requests_of requests.now)
         (replies_of replies.new.items) (H.view seat.new) }
     ensures cause { IsTrue result → (ticket : ℕ) × ((H.view seat.new).stopped ≡ Some ticket) }
+
+    // At every exit.
+    ensures full { AreFullRightly H.view H.keeps (requests_of requests.now)
+        (answered (requests_of requests.now) (replies_of replies.new.items)) seat.old }
+    ensures calls { (keys : List ℕ) → ListsKeysOf image keys → MakeFew (length requests.now)
+        (33280 + 4 * (length keys + length requests.now)) (H.view seat.old) (H.view seat.new) }
+    ensures room { vec_capacity replies.new ≡ vec_capacity replies.old }
     ensures kept { H.keeps seat.old seat.new }
 {
     let mut left = requests;

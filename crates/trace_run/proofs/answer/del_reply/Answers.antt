@@ -19,7 +19,7 @@ returns-clause-ok g c =
     let w = g.H.HeapSeat.view c.del.new.seat in
     elim c.if-found.branch [
       | then-found t ↦ subst (λ (told : Told). Replied (del c.args.key) (reply_of told) v w) (sym t.result-is)
-          (replied_gone c.args.key v w (subst (λ (b : Bool). Deletes c.args.key b v w) t.if-found.true c.in_ok-found.ensures.ok))
+          (replied_gone c.args.key v w c.requires.shard c.del.ensures.calls (subst (λ (b : Bool). Deletes c.args.key b v w) t.if-found.true c.in_ok-found.ensures.ok))
       | else-found t ↦ subst (λ (told : Told). Replied (del c.args.key) (reply_of told) v w) (sym t.result-is)
-          (replied_none c.args.key v w (subst (λ (b : Bool). Deletes c.args.key b v w) t.if-found.false c.in_ok-found.ensures.ok))
+          (replied_none c.args.key v w c.requires.shard c.del.ensures.calls (subst (λ (b : Bool). Deletes c.args.key b v w) t.if-found.false c.in_ok-found.ensures.ok))
     ]

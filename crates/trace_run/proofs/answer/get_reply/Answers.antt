@@ -19,7 +19,7 @@ pub returns-in_default-clause-ok : goal.returns-in_default-clause-ok
 returns-in_default-clause-ok g c =
     let v = g.H.HeapSeat.view c.args.seat.now in
     let w = g.H.HeapSeat.view c.get.new.seat in
-    replied_missing c.args.key c.deref_mut.result.now c.get.new.out v w c.get.ensures.maps
+    replied_missing c.args.key c.deref_mut.result.now c.get.new.out v w c.requires.shard c.get.ensures.calls c.get.ensures.maps
     (subst (λ answer. Gets c.args.key answer c.deref_mut.result.now c.get.new.out v w) c.in_default.is c.in_ok-length.ensures.ok)
 
 pub returns-clause-ok : goal.returns-clause-ok
@@ -27,5 +27,5 @@ returns-clause-ok g c =
     let v = g.H.HeapSeat.view c.args.seat.now in
     let w = g.H.HeapSeat.view c.get.new.seat in
     replied_found c.args.key (length c.args.room.items) c.in-Some.length c.args.room.len c.deref_mut.result.now c.get.new.out _ c.from_vec.result v w c.requires.fits
-    (ap length (sym c.deref_mut.ensures.value)) (let same = ap length c.deref_mut.ensures.value in let ok = c.args.room.ok in let kept = c.get.ensures.length in omega arith) c.get.ensures.length (c.from_vec.ensures ∙ c.truncate.ensures.items) c.get.ensures.maps
+    (ap length (sym c.deref_mut.ensures.value)) (let same = ap length c.deref_mut.ensures.value in let ok = c.args.room.ok in let kept = c.get.ensures.length in omega arith) c.get.ensures.length (c.from_vec.ensures ∙ c.truncate.ensures.items) c.requires.shard c.get.ensures.calls c.get.ensures.maps
     (subst (λ answer. Gets c.args.key answer c.deref_mut.result.now c.get.new.out v w) c.in-Some.is c.in_ok-length.ensures.ok)

@@ -8,7 +8,7 @@ use Rattle.trace_run.proofs.AnsweringLemmas.{calls_few, replied_put, replied_ful
 use Rattle.trace_run.proofs.answer.put_reply.Goals as goal
 
 pub returns-in-Ok-clause-ok : goal.returns-in-Ok-clause-ok
-returns-in-Ok-clause-ok g c = replied_put c.args.key c.args.value.now (g.H.HeapSeat.view c.args.seat.now) (g.H.HeapSeat.view c.put.new.seat) c.in-Ok.ensures.ok
+returns-in-Ok-clause-ok g c = replied_put c.args.key c.args.value.now (g.H.HeapSeat.view c.args.seat.now) (g.H.HeapSeat.view c.put.new.seat) c.requires.shard c.in-Ok.ensures.ok c.in-Ok.ensures.taken
 
 pub returns-in-Ok-clause-calls : goal.returns-in-Ok-clause-calls
 returns-in-Ok-clause-calls g c =
@@ -21,7 +21,7 @@ returns-in-Err-Full-clause-ok g c =
     let v = g.H.HeapSeat.view c.args.seat.now in
     let w = g.H.HeapSeat.view c.put.new.seat in
     let why = subst (λ (fault : AllocFault). PutAnswers g.H.HeapSeat.reads (node_bytes (length c.args.value.now)) (shard_of c.args.key) fault v w) c.in-Err-Full.field-0-is c.in-Err-Full.ensures.cause in
-    replied_full c.args.key c.args.value.now v w why.1
+    replied_full g.H.HeapSeat.reads c.args.key c.args.value.now _ v w why.0 why.1
 
 pub returns-in-Err-Full-clause-calls : goal.returns-in-Err-Full-clause-calls
 returns-in-Err-Full-clause-calls g c =
