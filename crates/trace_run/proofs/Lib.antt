@@ -6,6 +6,7 @@ pub mod LinkLemmas
 pub mod OpenLemmas
 pub mod OthersLemmas
 pub mod ProgressLemmas
+pub mod RoomLemmas
 pub mod ScrambleLemmas
 pub mod ShardReachLemmas
 pub mod SpendLemmas

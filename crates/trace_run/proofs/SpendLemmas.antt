@@ -5,7 +5,7 @@ use Rattle.std.proofs.lemmas.List.{length-map, length-append}
 use Rattle.std.proofs.lemmas.List.Elements.{Contains-append_left, Contains-append_right}
 use Rattle.std.proofs.lemmas.List.Sums.{sum_by-cons, sum_by-append}
 use Rattle.heap_model.specs.Image.{Image}
-use Rattle.heap_model.proofs.MemberLemmas.{in_none, in_head, in_rest, head_or_rest}
+use Rattle.heap_model.proofs.MemberLemmas.{in_head, map_in}
 use Rattle.heap_seat.specs.View.{View}
 use Rattle.heap_seat.specs.Rows.{IsRow}
 use Rattle.heap_seat.proofs.RowLemmas.{row_none, row_then, row_more}
@@ -69,14 +69,6 @@ pub next_among : (image : Image) (qs left : List Request) (q : Request) (replies
 next_among image qs left q replies v worked =
     subst (λ (xs : List Request). Contains xs q) (sym worked.requests_are) (Contains-append_right (map (λ r. r.0) worked.rs) (q ∷ left) q (in_head q left))
 
--- what is in a list is in what is made of it
-among_map : {X Y : Type 0} (f : X → Y) (xs : List X) (x : X) → Contains xs x → Contains (map f xs) (f x)
-among_map f [] x h = absurd (in_none x h)
-among_map f (y ∷ ys) x h = elim (head_or_rest y x ys h) as (λ _. Contains (map f (y ∷ ys)) (f x)) [
-  | inl same ↦ subst (λ z. Contains (map f (y ∷ ys)) (f z)) same (in_head (f y) (map f ys))
-  | inr later ↦ in_rest (f y) (f x) (map f ys) (among_map f ys x later)
-]
-
 -- the keys that a shard may have are those of the image and those of the trace
 pub keys_listed : (image : Image) (qs left : List Request) (q : Request) (replies : Replies) (v : View) (keys : List ℕ) → HasMaps image → HasWorked image qs (q ∷ left) replies v → ListsKeysOf image keys
     → ListsKeys v (shard_asked q) (keys ++ map key_of qs)
@@ -98,7 +90,7 @@ keys_listed image qs left q replies v keys maps worked lists = record { map = no
     | inl nothing ↦ absurd (some nothing)
     | inr value ↦ elim (all_where (shard_asked q) first.0 worked.rs key value.0 value.1) as (λ _. Contains (keys ++ map key_of qs) key) [
       | inl old ↦ Contains-append_left keys (map key_of qs) key (lists.all (shard_asked q) first.0 (small_shard q) first.1 key (λ none. let e : None ≡ Some value.0 = sym none ∙ old in absurd (cc)))
-      | inr by_put ↦ Contains-append_right keys (map key_of qs) key (among_map key_of qs (put key value.0)
+      | inr by_put ↦ Contains-append_right keys (map key_of qs) key (map_in key_of qs (put key value.0)
           (subst (λ (xs : List Request). Contains xs (put key value.0)) (sym worked.requests_are) (Contains-append_left (map (λ r. r.0) worked.rs) (q ∷ left) (put key value.0) by_put)))
     ]
   ]

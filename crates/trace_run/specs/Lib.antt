@@ -3,6 +3,7 @@ pub mod Left
 pub mod Needs
 pub mod Opened
 pub mod Progress
+pub mod Rooms
 pub mod Runs
 pub mod Said
 pub mod Spending

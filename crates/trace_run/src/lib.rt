@@ -4,6 +4,7 @@
 mod answer;
 mod laws;
 mod left;
+mod room;
 mod run;
 mod work;
 
