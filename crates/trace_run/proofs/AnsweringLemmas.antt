@@ -21,7 +21,7 @@ use Rattle.heap_seat.specs.declared.fault.Looks.{Looks}
 use Rattle.trace_run.specs.Spending.{TakesFew, for_node as only_node, with_table, HadNoRoom}
 use Rattle.trace_run.proofs.KeyLemmas.{takes_none}
 use Rattle.trace_run.proofs.TakenLemmas.{key_has_table}
-use Rattle.std.specs.Prelude.{nat_eq, max, ◌/◌}
+use Rattle.std.specs.Prelude.{nat_eq}
 use Rattle.std.proofs.lemmas.Bool.{cond-true, eq-eqb}
 
 pub calls_few : (q : Request) (words most : ℕ) (v w : View) → words ≤ 16384 → MakesFew words most (shard_asked q) v w → MakesCalls q v w

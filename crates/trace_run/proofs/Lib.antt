@@ -1,11 +1,15 @@
 pub mod AnswerLemmas
 pub mod AnsweringLemmas
+pub mod EndLemmas
+pub mod HeaderLemmas
 pub mod KeyLemmas
 pub mod LeftLemmas
 pub mod LinkLemmas
 pub mod OpenLemmas
+pub mod OpenedLemmas
 pub mod OthersLemmas
 pub mod ProgressLemmas
+pub mod RecoveredLemmas
 pub mod RoomLemmas
 pub mod ScrambleLemmas
 pub mod ShardReachLemmas

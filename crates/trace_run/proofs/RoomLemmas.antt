@@ -1,6 +1,6 @@
 -- The rooms that are made for a trace's gets fit what they may find.
-use Rattle.std.proofs.Common.{◌≡◌, ◌≢◌, ℕ, zero, suc, ◌+◌, ◌*◌, ◌<◌, ◌≤◌, ◌⊎◌, inl, inr, List, [], ◌∷◌, ◌++◌, length, get_or, take, map, Option, None, Some, Contains, refl, subst, sym, ap, ◌∙◌, arith}
-use Rattle.std.specs.Prelude.{nat_eq, cond, max}
+use Rattle.std.proofs.Common.{◌≡◌, ◌≢◌, ℕ, zero, suc, ◌+◌, ◌<◌, ◌≤◌, ◌⊎◌, inl, inr, List, [], ◌∷◌, ◌++◌, length, get_or, take, Option, None, Some, Contains, refl, subst, sym, ap, ◌∙◌, arith}
+use Rattle.std.specs.Prelude.{nat_eq, max}
 use Rattle.std.specs.Option.{unwrap_or}
 use Rattle.std.specs.BTreeMap.{BTreeMap, get}
 use Rattle.std.specs.Ordering.{nat_cmp}
@@ -10,16 +10,16 @@ use Rattle.std.proofs.lemmas.List.{map-append, length-take}
 use Rattle.std.proofs.lemmas.List.Elements.{Contains-append_cases}
 use Rattle.std.proofs.lemmas.Option.{get_or_from_slice_get}
 use Rattle.std.proofs.Math.Nat.{mod-lt}
-use Rattle.std.specs.Prelude.{◌/◌, ◌%◌, slice_get}
+use Rattle.std.specs.Prelude.{◌/◌}
 use Rattle.heap_model.specs.declared.block.Block.{Block}
 use Rattle.heap_model.specs.Image.{Image, words_from, bytes_of_words}
 use Rattle.heap_model.proofs.MemberLemmas.{in_none, in_head, in_rest, head_or_rest}
 use Rattle.dict_model.specs.Links.{shards}
-use Rattle.dict_model.specs.Nodes.{largest_value, buckets, shard_of, bucket_of, key_in, length_in, value_in, value_words, find}
+use Rattle.dict_model.specs.Nodes.{largest_value, shard_of, bucket_of, key_in, length_in, value_in, value_words, find}
 use Rattle.dict_model.specs.Shards.{Map, Leading, LeadsAlone, IsPath, but, IsMap, is_empty, has_table, MapOf}
 use Rattle.dict_model.proofs.ShardLemmas.{find_first, find_behind, one_map, alone_once}
 use Rattle.dictionary.specs.Reading.{AreMaps}
-use Rattle.dict_model.specs.Requests.{Request, put, get as get_of, del}
+use Rattle.dict_model.specs.Requests.{Request, put}
 use Rattle.trace_text.specs.declared.request.Request.TheVariants.{Put, Get, Del}
 use Rattle.trace_run.specs.Rooms.{length_at, length_of, length_in as length_in_map, Raises, AreLongest}
 use Rattle.trace_run.specs.Said.{Line, request_of, requests_of}
@@ -147,9 +147,9 @@ module _ (image : Image) (requests : List Request) (maps : List (BTreeMap ℕ (L
             omega arith;
         of_trace = λ value among. let puts = are.holds key value among in omega arith;
       } where
-    opened_short : (o : Option (List ℕ)) → get nat_cmp m key ≡ o → MapOf image (shard_of key) (get nat_cmp m) → length_of (get nat_cmp m key) ≤ largest_value
-    opened_short None is is_map = let none : length_of (get nat_cmp m key) ≡ 0 = ap length_of is in omega arith
-    opened_short (Some value) is is_map =
-        let short = (map_value (LeadsAlone image (shard_of key)) image (shard_of key) (get nat_cmp m) key value is_map is).short in
-        let known : length_of (get nat_cmp m key) ≡ length value = ap length_of is in
-        omega arith
+        opened_short : (o : Option (List ℕ)) → get nat_cmp m key ≡ o → MapOf image (shard_of key) (get nat_cmp m) → length_of (get nat_cmp m key) ≤ largest_value
+        opened_short None is is_map = let none : length_of (get nat_cmp m key) ≡ 0 = ap length_of is in omega arith
+        opened_short (Some value) is is_map =
+            let short = (map_value (LeadsAlone image (shard_of key)) image (shard_of key) (get nat_cmp m) key value is_map is).short in
+            let known : length_of (get nat_cmp m key) ≡ length value = ap length_of is in
+            omega arith

@@ -1,5 +1,5 @@
 -- A run's requests add up: the calls that they make, the superblocks that they take, and why one was told that there is no room.
-use Rattle.std.proofs.Common.{◌≡◌, ◌≢◌, ℕ, suc, ◌+◌, ◌*◌, ◌<◌, ◌≤◌, ◌⊎◌, inl, inr, List, [], ◌∷◌, ◌++◌, length, map, sum_by, Option, None, Some, Contains, refl, subst, sym, ap, ◌∙◌, arith}
+use Rattle.std.proofs.Common.{◌≡◌, ◌≢◌, ℕ, ◌+◌, ◌*◌, ◌<◌, ◌≤◌, ◌⊎◌, inl, inr, List, [], ◌∷◌, ◌++◌, length, map, None, Some, Contains, refl, subst, sym, ap, ◌∙◌, arith}
 use Rattle.std.proofs.Math.Nat.{add-mul, mul-le-mul_right}
 use Rattle.std.proofs.lemmas.List.{length-map, length-append}
 use Rattle.std.proofs.lemmas.List.Elements.{Contains-append_left, Contains-append_right}
@@ -7,13 +7,12 @@ use Rattle.std.proofs.lemmas.List.Sums.{sum_by-cons, sum_by-append}
 use Rattle.heap_model.specs.Image.{Image}
 use Rattle.heap_model.proofs.MemberLemmas.{in_head, map_in}
 use Rattle.heap_seat.specs.View.{View}
-use Rattle.heap_seat.specs.Rows.{IsRow}
 use Rattle.heap_seat.proofs.RowLemmas.{row_none, row_then, row_more}
 use Rattle.dict_model.specs.Requests.{Request, put, Reply, full, after}
 use Rattle.dict_model.specs.Links.{shards}
 use Rattle.dict_model.specs.Shards.{Map, MapOf}
 use Rattle.dict_seat.specs.Walks.{ListsKeys}
-use Rattle.trace_run.specs.Needs.{key_of, shards_put_into, ListsKeysOf}
+use Rattle.trace_run.specs.Needs.{key_of, ListsKeysOf}
 use Rattle.trace_run.specs.Opened.{HasMaps}
 use Rattle.trace_run.specs.Progress.{shard_asked}
 use Rattle.trace_run.specs.Runs.{Replies, answered, of_shard, span_taken}

@@ -1,20 +1,19 @@
 -- How many superblocks requests take, and how many tables they make: each shard that is put into gets one at most.
-use Rattle.std.proofs.Common.{◌≡◌, ◌≢◌, ℕ, zero, suc, ◌+◌, ◌*◌, ◌<◌, ◌≤◌, ◌⊎◌, inl, inr, List, [], ◌∷◌, ◌++◌, sum_by, Option, None, Some, Bool, true, false, not, nat_eq, cond, Contains, refl, subst, sym, ap, ◌∙◌, arith}
+use Rattle.std.proofs.Common.{◌≡◌, ◌≢◌, ℕ, zero, suc, ◌+◌, ◌*◌, ◌<◌, ◌≤◌, inl, inr, List, [], ◌∷◌, ◌++◌, sum_by, Option, None, Some, Bool, true, false, not, nat_eq, cond, Contains, refl, subst, sym, ap, ◌∙◌, arith}
 use Rattle.std.specs.Prelude.{count_by, ◌&&◌}
-use Rattle.std.proofs.lemmas.Bool.{cases_eq, cases_lt, and_parts, and_from, and_left, and_right, eq-eqb, ne_eqb, eqb-true, or_left, or_right}
+use Rattle.std.proofs.lemmas.Bool.{cases_eq, cases_lt, and_parts, and_from, and_right, eq-eqb, ne_eqb, or_left, or_right}
 use Rattle.std.proofs.lemmas.List.Sums.{sum_by-cons, sum_by-append}
 use Rattle.heap_model.specs.Geometry.{roots, root_word}
-use Rattle.heap_model.specs.Image.{Image, words_from}
+use Rattle.heap_model.specs.Image.{words_from}
 use Rattle.heap_model.proofs.MemberLemmas.{in_none, in_head, in_rest, head_or_rest}
 use Rattle.heap_model.proofs.ReachLemmas.{not_null}
 use Rattle.heap_seat.specs.View.{View}
-use Rattle.heap_seat.specs.Words.{IsOwn, MayBe, MixesOwn}
+use Rattle.heap_seat.specs.Words.{MayBe}
 use Rattle.dict_model.specs.Links.{shards}
-use Rattle.dict_model.specs.Nodes.{shard_of}
 use Rattle.dict_model.specs.Requests.{Request, put, get, del, Reply}
 use Rattle.dict_model.specs.Shards.{Map, is_empty, has_table}
 use Rattle.dict_seat.specs.Maps.{IsMapIn, Gives}
-use Rattle.dict_seat.specs.Puts.{WasNull, RootIsSet}
+use Rattle.dict_seat.specs.Puts.{RootIsSet}
 use Rattle.trace_run.specs.Needs.{is_to, put_into, shards_put_into}
 use Rattle.trace_run.specs.Runs.{span_taken}
 use Rattle.trace_run.specs.Progress.{shard_asked, MayAnswer}

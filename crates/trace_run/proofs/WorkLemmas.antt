@@ -109,7 +109,7 @@ pub work_begins : (image : Image) (requests : List Request) (v : View) → HasAn
 work_begins image requests v has = record { rs = []; requests_are = refl; replies_are = refl; answered = has }
 
 -- once the rest stands as unanswered, the answered requests are the first ones
-abbrev filled : List (Request × Reply) → List Request → Replies
+abbrev pub filled : List (Request × Reply) → List Request → Replies
 filled rs left = map (λ r. Some r.1) rs ++ replicate (length left) None
 
 none_answered : (left : List Request) → (answered left (replicate (length left) None) ≡ []) × (unanswered left (replicate (length left) None) ≡ left)

@@ -1,6 +1,7 @@
 //! The room that a trace's gets need for the values that they may find.
 ghost use Rattle.std.specs.Prelude.{◌≡◌, ℕ, List, length, max, slice_index, slice_get, IfOk, OnOk};
 ghost use Rattle.heap_model.specs.Image.{Image};
+ghost use Rattle.heap_model.specs.Rest.{IsReady};
 ghost use Rattle.dict_model.specs.Links.{shards};
 ghost use Rattle.dictionary.specs.Reading.{AreMaps};
 ghost use Rattle.dict_model.specs.Requests.{Request as Asked};
@@ -86,7 +87,8 @@ pub(crate) fn make_rooms(
     requests: &[Request],
 ) -> Result<VecDeque<Bytes>, AllocError>
     requires { AreShort (requests_of requests.now) }
-    ensures { IfOk result (λ rooms. HaveRoom (slice_index heap.now.words)
+    ensures ready { IsReady heap.now.words heap.now.held }
+    ensures rooms { IfOk result (λ rooms. HaveRoom (slice_index heap.now.words)
         (requests_of requests.now) (requests_of requests.now) rooms.items) }
 {
     let Ok(maps) = maps_of(alloc, heap) else {

@@ -1,4 +1,4 @@
-use Rattle.std.proofs.Common.{◌≡◌, ◌+◌, ◌++◌, ◌∷◌, [], length, take, slice_index, subst, sym, ap, arith}
+use Rattle.std.proofs.Common.{◌≡◌, ◌++◌, ◌∷◌, [], length, take, slice_index, subst, sym, ap, arith}
 use Rattle.std.proofs.lemmas.List.{length-append, length-map, length-take}
 use Rattle.dict_model.specs.Links.{shards}
 use Rattle.dictionary.specs.Reading.{AreMaps}

@@ -1,4 +1,4 @@
-use Rattle.std.proofs.Common.{◌≡◌, ◌+◌, ◌≤◌, slice_index, take, length}
+use Rattle.std.proofs.Common.{◌≡◌, ◌≤◌, slice_index, take, length}
 use Rattle.std.specs.VecDeque.{deque_capacity}
 use Rattle.trace_run.specs.Working.{HaveRoom}
 use Rattle.trace_run.specs.Said.{requests_of}
