@@ -1,8 +1,9 @@
--- A seat of all roots that has just been opened over an image of the dictionary.
-use Rattle.std.specs.Prelude.{ℕ, ◌<◌, ◌↔◌, Contains}
+-- Images of the dictionary, and a seat of all roots that has just been opened over one.
+use Rattle.std.specs.Prelude.{◌≡◌, ℕ, ◌*◌, ◌<◌, ◌↔◌, None, Contains}
 use Rattle.heap_model.specs.declared.block.Block.{Block}
 use Rattle.heap_model.specs.Image.{Image}
 use Rattle.heap_model.specs.Geometry.{roots}
+use Rattle.heap_model.specs.Header.{header_fault}
 use Rattle.heap_model.specs.Reach.{IsReached, IsOutside}
 use Rattle.heap_seat.specs.View.{View}
 use Rattle.heap_seat.specs.Words.{IsOwn}
@@ -25,3 +26,9 @@ pub record IsOpenedOver (image : Image) (v : View) : Type 0 where
   pub dictionary : IsDictionary image (Contains v.held)
   pub all_roots : (root : ℕ) → root < roots → Contains v.roots root
   pub words : (word : ℕ) → IsOwn v.held v.roots word → IsSettled v word (image word)
+
+-- an image of so many words that recovery does not refuse, and each of whose shards is a map
+pub record CanBeRun (words : ℕ) (image : Image) : Type 0 where
+  pub well_formed : header_fault (8 * words) image ≡ None
+  pub nothing_outside : (at : ℕ) → IsOutside image root_kind dict_links at → ⊥
+  pub maps : HasMaps image

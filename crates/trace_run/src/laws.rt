@@ -1,18 +1,27 @@
 //! What follows from the definitions, as functions with nothing to run: a caller cites their
 //! clauses.
 
-ghost use Rattle.std.specs.Prelude.{◌≡◌, ℕ, ◌+◌, ◌<◌, ◌≤◌, true, List, [], ◌∷◌, ◌++◌, length};
+ghost use Rattle.std.specs.Prelude.{◌≡◌, ℕ, ◌+◌, ◌<◌, ◌≤◌, Bool, true, List, [], ◌∷◌, ◌++◌, length, slice_index, Contains};
+ghost use Rattle.std.specs.BTreeMap.{BTreeMap};
+ghost use Rattle.heap_model.specs.declared.block.Block.{Block};
+ghost use Rattle.heap_model.specs.Durability.{IsCrashImage, IsClosedImage};
 ghost use Rattle.heap_model.specs.Image.{Image};
+ghost use Rattle.heap_model.specs.Reach.{IsReached};
+ghost use Rattle.heap_model.specs.Recovered.{AreAscending};
+ghost use Rattle.heap_model.specs.Rest.{IsReady};
+ghost use Rattle.block_heap.specs.Closing.{IsOpened, KeepsFixed};
+ghost use Rattle.block_heap.specs.SeqState.{SeqState, seat_of};
+ghost use Rattle.dictionary.specs.Reading.{AreMaps, RecoversTo};
 ghost use Rattle.heap_model.specs.Header.{capacity_of, used_of};
 ghost use Rattle.heap_seat.specs.View.{View};
 ghost use Rattle.heap_seat.specs.Words.{MixesOwn, NamesAll};
 ghost use Rattle.heap_seat.specs.Sound.{IsSeat};
-ghost use Rattle.dict_model.specs.Links.{shards};
+ghost use Rattle.dict_model.specs.Links.{shards, root_kind, dict_links};
 ghost use Rattle.dict_model.specs.Requests.{Request, Reply, put, full, after};
 ghost use Rattle.dict_model.specs.Shards.{Map, MapOf};
-ghost use Rattle.trace_run.specs.Needs.{superblocks_needed};
-ghost use Rattle.trace_run.specs.Runs.{Replies, answered, of_shard, AnswersInOrder, IsFullRightly, IsMapLeft, LeavesOthers};
-ghost use Rattle.trace_run.specs.Opened.{IsOpenedOver};
+ghost use Rattle.trace_run.specs.Needs.{superblocks_needed, ListsKeysOf};
+ghost use Rattle.trace_run.specs.Runs.{Replies, answered, of_shard, AnswersInOrder, IsFullRightly, IsMapLeft, LeavesMaps, LeavesHeader, LeavesOthers};
+ghost use Rattle.trace_run.specs.Opened.{HasMaps, IsDictionary, IsOpenedOver, CanBeRun};
 ghost use Rattle.trace_run.specs.Progress.{Answers, MayAnswer, HasAnswered};
 ghost use Rattle.trace_run.specs.Stands.{StandsOver};
 
@@ -28,6 +37,58 @@ pub fn replies_fit_the_trace()
         → used_of image + superblocks_needed requests ≤ capacity_of image
         → (before later : List (Request × Reply)) (key : ℕ) (value : List ℕ)
         → answered requests replies ≡ before ++ (put key value, full) ∷ later → ⊥ }
+{}
+
+/// The keys of a dictionary are finitely many, so that there is a bound of steps for each trace.
+pub fn a_dictionary_lists_its_keys()
+    ensures { (image : Image) → HasMaps image → (keys : List ℕ) × ListsKeysOf image keys }
+{}
+
+/// What recovery leaves is a dictionary where each shard is a map; and over a heap that is opened
+/// with a dictionary a run begins.
+pub fn a_recovered_dictionary_begins_a_run()
+    ensures dictionary { (old new : Image) (held : List Block) (maps : List (BTreeMap ℕ (List ℕ)))
+        → RecoversTo old new → AreAscending (λ (b : Block). b.first_word)
+        (IsReached old root_kind dict_links) held
+        → AreMaps new shards maps → IsDictionary new (Contains held) }
+    ensures begins { (words : List ℕ) (held : List Block) (budget : ℕ) (s : SeqState)
+        → IsOpened words held budget s → IsDictionary (slice_index words) (Contains held)
+        → HasAnswered (slice_index words) [] (seat_of s) }
+{}
+
+/// What a run leaves can be run again, closed or stopped: recovery does not refuse it, and each of
+/// its shards is a map.
+pub fn what_a_run_leaves_can_be_run_again()
+    ensures { (image left : Image) (requests : List Request) (replies : Replies) (stopped : Bool)
+        (words : ℕ) → HasMaps image → LeavesMaps image requests replies stopped left
+        → LeavesHeader image words left → LeavesOthers image left → CanBeRun words left }
+{}
+
+/// So can what a heap for one thread leaves at any moment of a run: what a close leaves, and what a
+/// crash leaves between requests or in one.
+pub fn what_a_heap_leaves_can_be_run_again()
+    ensures closed { (words : List ℕ) (held : List Block) (budget : ℕ) (s t : SeqState)
+        → IsReady words held → IsOpened words held budget s → KeepsFixed s t
+        → HasMaps (slice_index words) → (left : List ℕ) (rs : List (Request × Reply))
+        → HasAnswered (slice_index words) rs (seat_of t)
+        → IsClosedImage (slice_index t.parts.words.volatile) (slice_index left)
+        → length left ≡ length words → CanBeRun (length left) (slice_index left) }
+    ensures crashed { (words : List ℕ) (held : List Block) (budget : ℕ) (s t : SeqState)
+        → IsReady words held → IsOpened words held budget s → KeepsFixed s t
+        → HasMaps (slice_index words) → (left : List ℕ) (rs : List (Request × Reply))
+        → HasAnswered (slice_index words) rs (seat_of t)
+        → length t.parts.words.durable ≡ length words
+        → IsCrashImage (slice_index t.parts.words.durable) (slice_index left)
+        → length left ≡ length words → CanBeRun (length left) (slice_index left) }
+    ensures stopped { (words : List ℕ) (held : List Block) (budget : ℕ) (s t : SeqState)
+        → IsReady words held → IsOpened words held budget s → KeepsFixed s t
+        → HasMaps (slice_index words) → (left : List ℕ) (u : SeqState)
+        (rs : List (Request × Reply)) (request : Request)
+        → HasAnswered (slice_index words) rs (seat_of u)
+        → MayAnswer request (seat_of u) (seat_of t)
+        → length t.parts.words.durable ≡ length words
+        → IsCrashImage (slice_index t.parts.words.durable) (slice_index left)
+        → length left ≡ length words → CanBeRun (length left) (slice_index left) }
 {}
 
 /// A run goes on request by request. It begins over a heap that was opened with an image of the

@@ -9,7 +9,9 @@ mod run;
 mod work;
 
 pub use laws::{
+    a_dictionary_lists_its_keys, a_recovered_dictionary_begins_a_run,
     a_run_goes_on_request_by_request, any_heap_leaves_a_dictionary, replies_fit_the_trace,
+    what_a_heap_leaves_can_be_run_again, what_a_run_leaves_can_be_run_again,
     what_a_run_leaves_is_a_dictionary,
 };
 pub use left::{closed_image, crash_image};
