@@ -12,6 +12,7 @@ pub mod OthersLemmas
 pub mod ProgressLemmas
 pub mod RecoveredLemmas
 pub mod RoomLemmas
+pub mod SaidLemmas
 pub mod ScrambleLemmas
 pub mod ShardReachLemmas
 pub mod SpendLemmas

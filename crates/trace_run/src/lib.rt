@@ -9,7 +9,7 @@ mod run;
 mod work;
 
 pub use laws::{
-    a_dictionary_lists_its_keys, a_recovered_dictionary_begins_a_run,
+    a_dictionary_lists_its_keys, a_read_trace_is_short, a_recovered_dictionary_begins_a_run,
     a_run_goes_on_request_by_request, any_heap_leaves_a_dictionary, replies_fit_the_trace,
     what_a_heap_leaves_can_be_run_again, what_a_run_leaves_can_be_run_again,
     what_a_run_leaves_is_a_dictionary,
