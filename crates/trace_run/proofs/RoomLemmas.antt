@@ -16,11 +16,12 @@ use Rattle.heap_model.specs.Image.{Image, words_from, bytes_of_words}
 use Rattle.heap_model.proofs.MemberLemmas.{in_none, in_head, in_rest, head_or_rest}
 use Rattle.dict_model.specs.Links.{shards}
 use Rattle.dict_model.specs.Nodes.{largest_value, shard_of, bucket_of, key_in, length_in, value_in, value_words, find}
-use Rattle.dict_model.specs.Shards.{Map, Leading, LeadsAlone, IsPath, but, IsMap, is_empty, has_table, MapOf}
-use Rattle.dict_model.proofs.ShardLemmas.{find_first, find_behind, one_map, alone_once}
+use Rattle.dict_model.specs.Shards.{Map, Leading, LeadsAlone, IsPath, but, IsMap, is_empty, has_table, MapOf, BadShard}
+use Rattle.dict_model.proofs.ShardLemmas.{find_first, find_behind, one_map, no_bad_place, alone_once}
 use Rattle.dictionary.specs.Reading.{AreMaps}
 use Rattle.dict_model.specs.Requests.{Request, put}
 use Rattle.trace_text.specs.declared.request.Request.TheVariants.{Put, Get, Del}
+use Rattle.trace_run.specs.Opened.{HasMaps}
 use Rattle.trace_run.specs.Rooms.{length_at, length_of, length_in as length_in_map, Raises, AreLongest}
 use Rattle.trace_run.specs.Said.{Line, request_of, requests_of}
 use Rattle.trace_run.specs.Spending.{IsPut}
@@ -153,3 +154,9 @@ module _ (image : Image) (requests : List Request) (maps : List (BTreeMap ℕ (L
             let short = (map_value (LeadsAlone image (shard_of key)) image (shard_of key) (get nat_cmp m) key value is_map is).short in
             let known : length_of (get nat_cmp m key) ≡ length value = ap length_of is in
             omega arith
+
+-- where each shard has a map none is told to be bad
+pub none_bad : (image : Image) (shard at : ℕ) → HasMaps image → shard < shards → BadShard image shard at → ⊥
+none_bad image shard at have small bad =
+    let first = have.each shard small in
+    no_bad_place (LeadsAlone image shard) (alone_once image shard) image shard first.0 at first.1 bad

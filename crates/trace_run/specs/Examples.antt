@@ -1,9 +1,10 @@
--- Worked examples by computation: what traces need, bounds of steps, and runs that answer a first part.
+-- Worked examples by computation: what traces need, bounds of steps, runs that answer a first part, and lengths of values.
 use Rattle.std.specs.Prelude.{◌≡◌, List, [], ◌∷◌, sum_by, None, Some, refl}
 use Rattle.heap_model.specs.Sizes.{span_of}
 use Rattle.dict_model.specs.Nodes.{node_bytes}
 use Rattle.dict_model.specs.Requests.{Request, put, get, del, done, full, none, found}
 use Rattle.trace_run.specs.Needs.{superblocks_needed, shards_put_into, step_bound}
+use Rattle.trace_run.specs.Rooms.{length_of}
 use Rattle.trace_run.specs.Runs.{Replies, answered, unanswered, of_shard, AnswersInOrder, span_taken}
 
 -- a put, a get, a del and a get of one key
@@ -59,3 +60,7 @@ one_shard = refl
 -- what the puts before took: those that were done, and no others
 taken : sum_by span_taken ((put 5 [], done) ∷ (put 6 [], full) ∷ (get 5, found []) ∷ (put 13 [], done) ∷ []) ≡ 2
 taken = refl
+
+-- a value that is not there has no bytes
+no_value : length_of None ∷ length_of (Some (97 ∷ 98 ∷ [])) ∷ [] ≡ 0 ∷ 2 ∷ []
+no_value = refl

@@ -5,11 +5,12 @@ ghost use Rattle.heap_model.specs.Rest.{IsReady};
 ghost use Rattle.dict_model.specs.Links.{shards};
 ghost use Rattle.dictionary.specs.Reading.{AreMaps};
 ghost use Rattle.dict_model.specs.Requests.{Request as Asked};
+ghost use Rattle.trace_run.specs.Opened.{HasMaps};
 ghost use Rattle.trace_run.specs.Rooms.{length_at, length_in, Raises, AreLongest};
 ghost use Rattle.trace_run.specs.Said.{request_of, requests_of, AreShort};
 ghost use Rattle.trace_run.specs.Working.{HasRoom, HaveRoom};
 
-use dictionary::{SHARDS, maps_of};
+use dictionary::{MapFault, SHARDS, maps_of};
 use region_header::Bytes;
 use std::alloc::{AllocError, Global};
 use std::collections::{BTreeMap, VecDeque};
@@ -80,19 +81,22 @@ fn make_room(
 }
 
 /// A room for each request of the trace, in which a get's value fits: the key's in the heap's map,
-/// and each that the trace puts. Where a shard has no map there is none.
+/// and each that the trace puts.
 pub(crate) fn make_rooms(
     alloc: Global,
     heap: &Ready,
     requests: &[Request],
 ) -> Result<VecDeque<Bytes>, AllocError>
-    requires { AreShort (requests_of requests.now) }
+    requires maps { HasMaps (slice_index heap.now.words) }
+    requires short { AreShort (requests_of requests.now) }
     ensures ready { IsReady heap.now.words heap.now.held }
     ensures rooms { IfOk result (λ rooms. HaveRoom (slice_index heap.now.words)
         (requests_of requests.now) (requests_of requests.now) rooms.items) }
 {
-    let Ok(maps) = maps_of(alloc, heap) else {
-        return Err(AllocError);
+    let maps = match maps_of(alloc, heap) {
+        Ok(maps) => maps,
+        Err(MapFault::BadShard { .. }) => unreachable!(),
+        Err(MapFault::Memory) => return Err(AllocError),
     };
     let longest = longest_puts(alloc, requests)?;
     let mut rooms = VecDeque::with_capacity(alloc, requests.len())?;

@@ -1,10 +1,10 @@
 use Rattle.std.proofs.Common.{◌≡◌, ◌++◌, ◌∷◌, [], length, take, slice_index, subst, sym, ap, arith}
 use Rattle.std.proofs.lemmas.List.{length-append, length-map, length-take}
 use Rattle.dict_model.specs.Links.{shards}
-use Rattle.dictionary.specs.Reading.{AreMaps}
+use Rattle.dictionary.specs.Reading.{AreMaps, TellsLowest}
 use Rattle.trace_run.specs.Said.{request_of, requests_of}
 use Rattle.trace_run.specs.Working.{HaveRoom}
-use Rattle.trace_run.proofs.RoomLemmas.{requests_next, rooms_next}
+use Rattle.trace_run.proofs.RoomLemmas.{requests_next, rooms_next, none_bad}
 use Rattle.trace_run.proofs.room.make_rooms.Goals as goal
 
 pub loop-request-preserved : goal.loop-request-preserved
@@ -32,3 +32,9 @@ loop-request-preserved c =
           omega arith;
       reserved = let same = c.push_back_reserved.ensures.capacity in let room = c.loop-request.invariant.reserved in omega arith;
     }
+
+pub unreachable-requires : goal.unreachable-requires
+unreachable-requires c =
+    let image = slice_index c.args.heap.now.words in
+    let tells = subst (TellsLowest image) c.in-Err-BadShard.field-0-is c.in-Err-BadShard.ensures.err in
+    none_bad image c.in-Err-BadShard.field-0-0 c.in-Err-BadShard.field-0-1 c.requires.maps tells.0 tells.1
