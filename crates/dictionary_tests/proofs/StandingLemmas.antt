@@ -1,95 +1,25 @@
--- What recovery leaves is a dictionary where each shard is a map, and requests go on over it.
-use Rattle.std.proofs.Common.{◌≡◌, ◌≢◌, ℕ, ◌+◌, ◌<◌, ◌≤◌, zero, suc, ◌↔◌, List, [], ◌∷◌, ◌++◌, Option, None, Some, Contains, cond, refl, subst, sym, ap, ◌∙◌, inl, inr, arith, slice_index}
+-- Requests go on over a dictionary on an open heap.
+use Rattle.std.proofs.Common.{◌≡◌, ◌≢◌, ℕ, List, [], ◌∷◌, ◌++◌, Option, None, Some, Contains, cond, refl, subst, sym, ap, ◌∙◌, inl, inr, arith, slice_index}
 use Rattle.std.specs.Prelude.{Bool, true, false, nat_eq}
-use Rattle.std.specs.BTreeMap.{BTreeMap, get}
-use Rattle.std.specs.Ordering.{nat_cmp}
-use Rattle.std.proofs.lemmas.Bool.{cases_eq, cases_lt, cond-true, cond-false, ne_eqb, eq-eqb}
+use Rattle.std.proofs.lemmas.Bool.{cases_eq, cond-true, cond-false, ne_eqb, eq-eqb}
 use Rattle.heap_model.specs.declared.block.Block.{Block}
-use Rattle.heap_model.specs.Geometry.{roots}
-use Rattle.heap_model.specs.Image.{Image, words_from}
-use Rattle.heap_model.proofs.MemberLemmas.{in_head, in_rest}
-use Rattle.line_memory.specs.View.{View as MemoryView, volatile_at, durable_at}
 use Rattle.block_heap.specs.SeqState.{SeqState, seat_of}
-use Rattle.block_heap.specs.Laws.{seat_law}
 use Rattle.block_heap.specs.Closing.{IsOpened}
-use Rattle.heap_model.specs.Pointers.{Leads, LeadsOutside}
-use Rattle.heap_model.specs.Reach.{AnyRoot, by_start, by_link, IsTraced, is_root, is_linked, IsReached, TracesAlike, words_in}
-use Rattle.heap_model.specs.Recovered.{AreAscending}
-use Rattle.heap_model.proofs.ReachLemmas.{reach_kept, nothing_more}
 use Rattle.heap_seat.specs.View.{View}
 use Rattle.heap_seat.specs.Sound.{IsSeat}
-use Rattle.dict_model.specs.Links.{shards, dict_links, root_kind}
 use Rattle.dict_model.specs.Nodes.{shard_of}
 use Rattle.dict_model.specs.Requests.{Request, put, del, Reply, done, full, none, without_key, IsReply, put_done, put_full, del_done, del_none}
 use Rattle.dict_model.specs.Shards.{Map}
-use Rattle.dictionary.specs.Reading.{AreMaps, RecoversTo}
-use Rattle.dictionary.proofs.SameLemmas.{traced_alike, none_outside}
 use Rattle.dict_seat.specs.Maps.{Gives}
 use Rattle.dict_seat.specs.Removal.{IsShard}
 use Rattle.dict_seat.specs.Answers.{Deletes}
 use Rattle.trace_run.specs.Runs.{of_shard}
 use Rattle.trace_run.specs.Opened.{IsDictionary}
 use Rattle.trace_run.specs.Progress.{shard_asked, Answers, MayAnswer}
-use Rattle.trace_run.proofs.ProgressLemmas.{begins, goes_on, small_shard}
+use Rattle.trace_run.proofs.OpenedLemmas.{run_begins}
+use Rattle.trace_run.proofs.ProgressLemmas.{goes_on, small_shard}
 use Rattle.dict_model.specs.Requests.{after}
 use Rattle.dictionary_tests.specs.Standing.{HasDictionary}
-
-module _ (old new : Image) (to : RecoversTo old new) where
-  alike : TracesAlike old new AnyRoot root_kind dict_links
-  alike = traced_alike old new to
-
-  inside : (at : ℕ) → IsTraced old root_kind dict_links at → LeadsOutside old (old at) → ⊥
-  inside = none_outside old new to
-
-  pub same_reach : (b : Block) → IsReached old root_kind dict_links b ↔ IsReached new root_kind dict_links b
-  same_reach b = (
-    λ r. record { kind = r.kind; reach = reach_kept old new AnyRoot root_kind dict_links alike b r.kind r.reach },
-    λ r. record { kind = r.kind; reach = nothing_more old new AnyRoot root_kind dict_links alike inside b r.kind r.reach },
-  )
-
-  -- a word that a trace of the old image looks at leads outside in the new one no more than there
-  not_there : (at : ℕ) → IsTraced old root_kind dict_links at → ((b : Block) → Leads old (old at) b → IsReached old root_kind dict_links b) → LeadsOutside new (new at) → ⊥
-  not_there at traced reaches out =
-      let same = alike.same_words at traced in
-      inside at traced (record {
-        not_null = λ e. out.not_null (same ∙ e);
-        nowhere = λ b leads. out.nowhere b (record {
-          pointer = record { tagged = same ∙ leads.pointer.tagged; short = leads.pointer.short };
-          names = record { begins_at = refl; block = to.blocks b (reaches b leads) };
-        });
-      })
-
-  outside_at : (at : ℕ) → IsTraced new root_kind dict_links at → LeadsOutside new (new at) → ⊥
-  outside_at _ (is_root root at below chosen same) out =
-      not_there at (is_root root at below chosen same) (λ b leads. record {
-        kind = root_kind root;
-        reach = by_start b (root_kind root) (record { root = root; below = below; is_chosen = chosen; kind_is = refl; leads = subst (λ x. Leads old (old x) b) same leads });
-      }) out
-  outside_at _ (is_linked a from position kind at reached listed same) out =
-      let before = nothing_more old new AnyRoot root_kind dict_links alike inside a from reached in
-      let there : Contains (dict_links from (words_in old a)) (position, kind) =
-      subst (λ (ls : List (ℕ × ℕ)). Contains ls (position, kind)) (alike.same_links a from before) listed in
-      not_there at (is_linked a from position kind at before there same) (λ b leads. record {
-        kind = kind;
-        reach = by_link a b from kind before (record { position = position; listed = there; leads = subst (λ x. Leads old (old x) b) same leads });
-      }) out
-
-  pub recovered_dictionary : (held : List Block) → AreAscending (λ (b : Block). b.first_word) (IsReached old root_kind dict_links) held
-      → (maps : List (BTreeMap ℕ (List ℕ))) → AreMaps new shards maps → IsDictionary new (Contains held)
-  recovered_dictionary held are maps have = record {
-    nothing_outside = λ at out. outside_at at out.traced out.outside;
-    maps = record { each = λ shard below. let each = have.each shard below in (get nat_cmp each.0, each.2) };
-    exact = λ b. (λ h. (same_reach b).0 (are.sound b h), λ r. are.complete b ((same_reach b).1 r));
-  }
-
-has_from : (from count k : ℕ) → from ≤ k → k < from + count → Contains (words_from (λ i. i) from count) k
-has_from from zero k low high = absurd (omega arith)
-has_from from (suc count) k low high = elim (cases_lt from k) as (λ _. Contains (words_from (λ i. i) from (suc count)) k) [
-  | inl above ↦ in_rest from k (words_from (λ i. i) (from + 1) count) (has_from (from + 1) count k (omega arith) (omega arith))
-  | inr here ↦
-      let same : from ≡ k = omega arith in
-      subst (λ x. Contains (words_from (λ i. i) from (suc count)) x) same (in_head from (words_from (λ i. i) (from + 1) count))
-]
 
 -- a heap that was opened over it
 pub opened_stands : (words : List ℕ) (held : List Block) (budget : ℕ) (s : SeqState) → IsOpened words held budget s → IsDictionary (slice_index words) (Contains held) → HasDictionary (seat_of s)
@@ -97,18 +27,7 @@ opened_stands words held budget s is has = record {
   image = slice_index words;
   maps = has.maps;
   rs = [];
-  answered = begins (slice_index words) (seat_of s) (seat_law s) (record {
-    dictionary = record {
-      nothing_outside = has.nothing_outside;
-      maps = has.maps;
-      exact = λ b. (λ h. (has.exact b).0 ((is.opens.same b).0 h), λ r. (is.opens.same b).1 ((has.exact b).1 r));
-    };
-    all_roots = λ root below. has_from 0 roots root (omega arith) (omega arith);
-    words = λ word own. record {
-      seen = ap (λ (m : MemoryView). Some (volatile_at m word)) is.opens.words_are;
-      left = ap (λ (m : MemoryView). Some (durable_at m word)) is.opens.words_are;
-    };
-  });
+  answered = run_begins words held budget s is has;
 }
 
 -- what is asked of a request's shard

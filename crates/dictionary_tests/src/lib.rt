@@ -2,9 +2,13 @@
 //! The crate is nothing but these, so that a change of the program leaves them alone.
 #![tactic(auto, unfolding(heap_model::specs::Geometry::largest_capacity))]
 
+mod runs;
 mod standing;
 
+pub use runs::run_text;
 pub use standing::Standing;
 
+#[cfg(test)]
+mod run_tests;
 #[cfg(test)]
 mod tests;

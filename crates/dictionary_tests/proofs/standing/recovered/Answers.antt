@@ -5,7 +5,7 @@ use Rattle.heap_model.specs.Recovered.{AreAscending}
 use Rattle.heap_model.specs.Recovery.{IsRecovered}
 use Rattle.dict_model.specs.Links.{dict_links, root_kind}
 use Rattle.dictionary.specs.Reading.{RecoversTo}
-use Rattle.dictionary_tests.proofs.StandingLemmas.{recovered_dictionary}
+use Rattle.trace_run.proofs.RecoveredLemmas.{recovered_dictionary}
 use Rattle.dictionary_tests.proofs.standing.recovered.Goals as goal
 
 pub returns : goal.returns
