@@ -7,6 +7,7 @@ usage: heap_tool COMMAND
   show IMAGE [--map]   recover the heap and print a report; with --map its superblocks too
   drain IMAGE CLASS    recover the heap, allocate in the class (1 to 20) until it is full,
                        and print the offsets; the image stays as it is
+  gen N SEED           print a trace of N requests (0 to 100000) from SEED (0 to 1000000)
 IMAGE is the path of a file. Fault lines go to standard output.
 example: heap_tool format heap.img 4 && heap_tool show heap.img --map
 ";

@@ -4,7 +4,7 @@ use Rattle.tool_ports.specs.Contents.{Contents}
 use Rattle.heap_model.specs.Image.{image_of_bytes}
 use Rattle.dict_model.specs.Shards.{LeadsAlone, BadShard as IsBadShard}
 use Rattle.dict_model.proofs.ShardLemmas.{no_bad_place, alone_once}
-use Rattle.tool_run.specs.Command.{Command, format_image, show_image, drain_image, image_name, Asks}
+use Rattle.tool_run.specs.Command.{Command, format_image, show_image, drain_image, gen_trace, image_name, Asks}
 use Rattle.tool_run.specs.declared.fault.Fault.{Fault}
 use Rattle.tool_run.specs.declared.fault.Fault.TheVariants.{Usage, Memory, ReadFault, WriteFault, Absent, Malformed, Outside, BadShard}
 use Rattle.tool_run.specs.Examples.{one_command}
@@ -24,6 +24,7 @@ not_made (show_image n with_map) contents name shard at image text reads named h
     no_bad_place (LeadsAlone (image_of_bytes made.1.bytes) shard) (alone_once (image_of_bytes made.1.bytes) shard) (image_of_bytes made.1.bytes) shard map.0 at map.1
     (subst (λ (l : List ℕ). IsBadShard (image_of_bytes l) shard at) (sym same) has.bad)
 not_made (drain_image n class) contents name shard at image text reads named has made = reads
+not_made (gen_trace requests seed) contents name shard at image text reads named has made = reads
 
 -- want of memory, a failed get, or that
 refused : (command : Command) (contents : Contents) (name : List ℕ) (shard at : ℕ) (get_failed : Type 0) (status : ℕ) (fault : Fault)

@@ -1,6 +1,6 @@
 -- What clap's matches say of the command that is asked for.
 use Rattle.std.proofs.Common.{◌≡◌, ◌≤◌, ◌<◌, ◌^◌, ◌∙◌, ℕ, Bool, List, [], Option, Some, None, Result, Ok, Err, IfNone, codes, length, refl, sym, ap, arith}
-use Rattle.std.specs.Prelude.{slice_get, unwrap_or}
+use Rattle.std.specs.Prelude.{slice_get, slice_index, unwrap_or}
 use Rattle.std.specs.Str.Parse.{ParsesUnsigned}
 use Rattle.clap.specs.Words.{App, ReadsOne, first_of, one_text, first_value, rows_of, found_of, fault_of, matches_of}
 use Rattle.clap.specs.declared.parser.matches.ArgMatches.{ArgMatches}
@@ -8,8 +8,10 @@ use Rattle.clap.specs.declared.parser.matches.Found.{Found}
 use Rattle.clap.proofs.WalkLemmas.{one_text-rows, first_value-rows}
 use Rattle.heap_model.specs.Geometry.{largest_capacity}
 use Rattle.heap_model.specs.Sizes.{IsClass}
-use Rattle.tool_run.specs.Command.{format_image, show_image, drain_image, AsksToFormat, AsksToShow, AsksToDrain, IsUsage}
-use Rattle.tool_run.specs.CommandLine.{format_app, show_app, drain_app, image_id, capacity_id, class_id, map_id, IsTaken, IsMatchedBy, HasNumber, HasFlag}
+use Rattle.tool_run.specs.Command.{Command, format_image, show_image, drain_image, gen_trace, AsksToFormat, AsksToShow, AsksToDrain, AsksToGen, IsUsage}
+use Rattle.tool_run.specs.declared.trace_plan.TheConstants.{MOST_REQUESTS, GREATEST_SEED}
+use Rattle.tool_run.specs.Examples.{first_word}
+use Rattle.tool_run.specs.CommandLine.{format_app, show_app, drain_app, gen_app, image_id, capacity_id, class_id, map_id, requests_id, trace_seed_id, IsTaken, IsMatchedBy, HasNumber, HasFlag}
 
 -- what holds where there is none
 pub if_none : {T P : Type 0} (result : Option T) → result ≡ None → IfNone result P → P
@@ -92,6 +94,18 @@ module _ (app : App) (words : List (List ℕ)) (m : ArgMatches) (taken : IsMatch
     flagged = rw (← rows_taken show_app is) flagged;
   }
 
+  pub asks_gen : app ≡ gen_app → slice_get words 0 ≡ Some (codes "gen") → (requests seed : ℕ)
+      → HasNumber (rows_of (found_of m)) requests_id requests → requests ≤ MOST_REQUESTS
+      → HasNumber (rows_of (found_of m)) trace_seed_id seed → seed ≤ GREATEST_SEED
+      → AsksToGen words requests seed
+  asks_gen is first requests seed counted few seeded small = record {
+    taken = is_taken gen_app is first;
+    counted = rw (← rows_taken gen_app is) counted;
+    few = few;
+    seeded = rw (← rows_taken gen_app is) seeded;
+    small = small;
+  }
+
   -- without the image's name nothing is asked for
   pub no_image_given : (wanted : App) → app ≡ wanted → (image : List ℕ) → None ≡ first_of image_id (rows_of (found_of m))
       → first_of image_id (matches_of wanted words) ≡ Some image → ⊥
@@ -109,31 +123,37 @@ module _ (app : App) (words : List (List ℕ)) (m : ArgMatches) (taken : IsMatch
 other_name : (words : List (List ℕ)) (a b : List ℕ) → slice_get words 0 ≡ Some a → slice_get words 0 ≡ Some b → (a ≡ b → ⊥) → ⊥
 other_name words a b first second differ = differ (ap (λ o. unwrap_or o a) (sym first ∙ second))
 
+first_letter : (a b : List ℕ) → a ≡ b → slice_index a 0 ≡ slice_index b 0
+first_letter a b same = ap (λ l. slice_index l 0) same
+
 -- the first word names one command alone
 pub usage_format : (words : List (List ℕ)) → slice_get words 0 ≡ Some (codes "format")
     → ((image : List ℕ) (n : ℕ) → AsksToFormat words image n → ⊥) → IsUsage words
 usage_format words first none (format_image image n) asks = none image n asks
-usage_format words first none (show_image image flag) asks = other_name words _ _ first asks.taken.named (λ e. omega (arith, ap length e))
-usage_format words first none (drain_image image n) asks = other_name words _ _ first asks.taken.named (λ e. omega (arith, ap length e))
+usage_format words first none other asks = other_name words _ _ first (first_word words other asks) (λ e. omega (arith, first_letter _ _ e))
 
 pub usage_show : (words : List (List ℕ)) → slice_get words 0 ≡ Some (codes "show")
     → ((image : List ℕ) (flag : Bool) → AsksToShow words image flag → ⊥) → IsUsage words
 usage_show words first none (show_image image flag) asks = none image flag asks
-usage_show words first none (format_image image n) asks = other_name words _ _ first asks.taken.named (λ e. omega (arith, ap length e))
-usage_show words first none (drain_image image n) asks = other_name words _ _ first asks.taken.named (λ e. omega (arith, ap length e))
+usage_show words first none other asks = other_name words _ _ first (first_word words other asks) (λ e. omega (arith, first_letter _ _ e))
 
 pub usage_drain : (words : List (List ℕ)) → slice_get words 0 ≡ Some (codes "drain")
     → ((image : List ℕ) (n : ℕ) → AsksToDrain words image n → ⊥) → IsUsage words
 usage_drain words first none (drain_image image n) asks = none image n asks
-usage_drain words first none (format_image image n) asks = other_name words _ _ first asks.taken.named (λ e. omega (arith, ap length e))
-usage_drain words first none (show_image image flag) asks = other_name words _ _ first asks.taken.named (λ e. omega (arith, ap length e))
+usage_drain words first none other asks = other_name words _ _ first (first_word words other asks) (λ e. omega (arith, first_letter _ _ e))
+
+pub usage_gen : (words : List (List ℕ)) → slice_get words 0 ≡ Some (codes "gen")
+    → ((requests seed : ℕ) → AsksToGen words requests seed → ⊥) → IsUsage words
+usage_gen words first none (gen_trace requests seed) asks = none requests seed asks
+usage_gen words first none other asks = other_name words _ _ first (first_word words other asks) (λ e. omega (arith, first_letter _ _ e))
 
 -- a word that names no command asks for none
 pub usage_other : (words : List (List ℕ)) (word : List ℕ) → slice_get words 0 ≡ Some word
-    → (word ≡ codes "format" → ⊥) → (word ≡ codes "show" → ⊥) → (word ≡ codes "drain" → ⊥) → IsUsage words
-usage_other words word first format show drain (format_image image n) asks = other_name words _ _ first asks.taken.named format
-usage_other words word first format show drain (show_image image flag) asks = other_name words _ _ first asks.taken.named show
-usage_other words word first format show drain (drain_image image n) asks = other_name words _ _ first asks.taken.named drain
+    → (word ≡ codes "format" → ⊥) → (word ≡ codes "show" → ⊥) → (word ≡ codes "drain" → ⊥) → (word ≡ codes "gen" → ⊥) → IsUsage words
+usage_other words word first format show drain gen (format_image image n) asks = other_name words _ _ first asks.taken.named format
+usage_other words word first format show drain gen (show_image image flag) asks = other_name words _ _ first asks.taken.named show
+usage_other words word first format show drain gen (drain_image image n) asks = other_name words _ _ first asks.taken.named drain
+usage_other words word first format show drain gen (gen_trace requests seed) asks = other_name words _ _ first asks.taken.named gen
 
 no_name : (words : List (List ℕ)) (name : List ℕ) → words ≡ [] → slice_get words 0 ≡ Some name → ⊥
 no_name words name none first =
@@ -142,6 +162,4 @@ no_name words name none first =
 
 -- nor do no words
 pub usage_none : (words : List (List ℕ)) → words ≡ [] → IsUsage words
-usage_none words none (format_image image n) asks = no_name words _ none asks.taken.named
-usage_none words none (show_image image flag) asks = no_name words _ none asks.taken.named
-usage_none words none (drain_image image n) asks = no_name words _ none asks.taken.named
+usage_none words none command asks = no_name words _ none (first_word words command asks)

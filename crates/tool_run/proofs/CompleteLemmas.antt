@@ -4,7 +4,7 @@ use Rattle.tool_ports.specs.Contents.{Contents}
 use Rattle.heap_model.specs.Image.{image_of_bytes}
 use Rattle.dict_model.specs.Shards.{LeadsAlone, BadShard as IsBadShard}
 use Rattle.dict_model.proofs.ShardLemmas.{no_bad_place, alone_once}
-use Rattle.tool_run.specs.Command.{Command, format_image, show_image, drain_image, image_name, Asks}
+use Rattle.tool_run.specs.Command.{Command, format_image, show_image, drain_image, gen_trace, image_name, Asks}
 use Rattle.tool_run.specs.declared.fault.Fault.{Fault}
 use Rattle.tool_run.specs.declared.fault.Fault.TheVariants.{Usage, Memory, ReadFault, WriteFault, Absent, Malformed, Outside, BadShard}
 use Rattle.tool_run.specs.Examples.{one_command}
@@ -19,11 +19,13 @@ good_of : (command : Command) (contents : Contents) → Gets command → CanBeDo
 good_of (format_image image capacity) contents gets can = absurd gets
 good_of (show_image image with_map) contents gets can = record { bytes = can.bytes; held = can.held; good = can.good; inside = can.inside }
 good_of (drain_image image class) contents gets can = can
+good_of (gen_trace requests seed) contents gets can = absurd gets
 
 maps_of : (command : Command) (contents : Contents) → Reads command → CanBeDone command contents → HoldsMaps contents (image_name command)
 maps_of (format_image image capacity) contents reads can = absurd reads
 maps_of (show_image image with_map) contents reads can = can
 maps_of (drain_image image class) contents reads can = absurd reads
+maps_of (gen_trace requests seed) contents reads can = absurd reads
 
 module _ (command : Command) (contents : Contents) (get_failed : Type 0) (status : ℕ) (can : CanBeDone command contents) (works : get_failed → ⊥) where
   refused : (fault : Fault) → status ≡ status_of fault → Refuses command contents get_failed fault → (status ≡ done) ⊎ (status ≡ out_of_memory)

@@ -2,7 +2,7 @@
 use Rattle.std.proofs.Common.{◌≡◌, ◌⊎◌, ℕ, List, Option, Some, None, inl, inr, subst}
 use Rattle.tool_ports.specs.Contents.{Contents}
 use Rattle.heap_model.specs.declared.header.BadHeader.{BadHeader}
-use Rattle.tool_run.specs.Command.{Command, format_image, show_image, drain_image, image_name, Asks}
+use Rattle.tool_run.specs.Command.{Command, format_image, show_image, drain_image, gen_trace, image_name, Asks}
 use Rattle.tool_run.specs.declared.fault.Fault.{Fault}
 use Rattle.tool_run.specs.declared.fault.Fault.TheVariants.{Usage, Memory, ReadFault, WriteFault, Absent, Malformed, Outside, BadShard}
 use Rattle.tool_run.specs.Examples.{one_command}
@@ -22,6 +22,7 @@ both_headers bytes other cause same good bad =
 not_made : (command : Command) (contents : Contents) (name : List ℕ) (image : Option (List ℕ)) (text : List ℕ)
     → Gets command → image_name command ≡ name → HoldsMalformed contents name → Makes command contents image text → ⊥
 not_made (format_image n capacity) contents name image text gets named has made = gets
+not_made (gen_trace requests seed) contents name image text gets named has made = gets
 not_made (show_image n with_map) contents name image text gets named has made =
     both_headers made.1.bytes has.bytes has.cause (same_bytes contents n name made.1.bytes has.bytes named made.1.is_there has.held) made.1.good has.fault
 not_made (drain_image n class) contents name image text gets named has made =

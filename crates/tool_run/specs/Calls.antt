@@ -3,7 +3,7 @@ use Rattle.std.specs.Prelude.{ℕ, ◌+◌, ◌*◌, List, Option, Some, None, n
 use Rattle.heap_model.specs.Geometry.{image_words, largest_capacity}
 use Rattle.tool_ports.specs.Calls.{with_get, with_put}
 use Rattle.tool_ports.specs.declared.store_calls.StoreCalls.{StoreCalls}
-use Rattle.tool_run.specs.Command.{Command, format_image, show_image, drain_image}
+use Rattle.tool_run.specs.Command.{Command, format_image, show_image, drain_image, gen_trace}
 use Rattle.tool_run.specs.Status.{out_of_memory}
 
 -- the bytes of the longest image
@@ -19,6 +19,7 @@ abbrev pub with_making : Command → StoreCalls → StoreCalls
 with_making (format_image image capacity) before = before
 with_making (show_image image with_map) before = with_get get_limit before
 with_making (drain_image image class) before = with_get get_limit before
+with_making (gen_trace requests seed) before = before
 
 -- once an image is put, if there is one
 abbrev pub with_putting : Option (List ℕ) → StoreCalls → StoreCalls
@@ -30,6 +31,7 @@ abbrev pub with_command : Command → StoreCalls → StoreCalls
 with_command (format_image image capacity) before = with_put before
 with_command (show_image image with_map) before = with_get get_limit before
 with_command (drain_image image class) before = with_get get_limit before
+with_command (gen_trace requests seed) before = before
 
 -- once the command ended with this status: where memory ran out, an image that was to be put was not
 abbrev pub with_status : Command → ℕ → StoreCalls → StoreCalls

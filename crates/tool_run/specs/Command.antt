@@ -1,22 +1,25 @@
 -- The words of the command line, and the command that they ask for.
-use Rattle.std.specs.Prelude.{ℕ, ◌≤◌, Bool, List, map, String, string_bytes}
+use Rattle.std.specs.Prelude.{ℕ, ◌≤◌, Bool, List, [], map, String, string_bytes}
 use Rattle.std.specs.declared.alloc.Global.{Global}
 use Rattle.clap.specs.Words.{matches_of}
 use Rattle.heap_model.specs.Geometry.{largest_capacity}
 use Rattle.heap_model.specs.Sizes.{IsClass}
-use Rattle.tool_run.specs.CommandLine.{format_app, show_app, drain_app, image_id, capacity_id, class_id, map_id, IsTaken, HasText, HasNumber, HasFlag}
+use Rattle.tool_run.specs.declared.trace_plan.TheConstants.{MOST_REQUESTS, GREATEST_SEED}
+use Rattle.tool_run.specs.CommandLine.{format_app, show_app, drain_app, gen_app, image_id, capacity_id, class_id, map_id, requests_id, trace_seed_id, IsTaken, HasText, HasNumber, HasFlag}
 
--- what the tool can be asked for, each with the name of an image
+-- what the tool can be asked for
 pub data Command : Type 0 where
   format_image : (image : List ℕ) → (capacity : ℕ) → Command
   show_image : (image : List ℕ) → (with_map : Bool) → Command
   drain_image : (image : List ℕ) → (class : ℕ) → Command
+  gen_trace : (requests seed : ℕ) → Command
 
--- the image that a command is about
+-- the image that a command is about; the empty name where it is about none
 abbrev pub image_name : Command → List ℕ
 image_name (format_image image capacity) = image
 image_name (show_image image with_map) = image
 image_name (drain_image image class) = image
+image_name (gen_trace requests seed) = []
 
 -- the bytes of each word
 abbrev pub texts : List (String Global) → List (List ℕ)
@@ -43,11 +46,20 @@ pub record AsksToDrain (words : List (List ℕ)) (image : List ℕ) (class : ℕ
   pub counted : HasNumber (matches_of drain_app words) class_id class
   pub is_class : IsClass class
 
+-- the words 'gen N SEED'
+pub record AsksToGen (words : List (List ℕ)) (requests seed : ℕ) : Type 0 where
+  pub taken : IsTaken gen_app words
+  pub counted : HasNumber (matches_of gen_app words) requests_id requests
+  pub few : requests ≤ MOST_REQUESTS
+  pub seeded : HasNumber (matches_of gen_app words) trace_seed_id seed
+  pub small : seed ≤ GREATEST_SEED
+
 -- the words ask for this command
 abbrev pub Asks : List (List ℕ) → Command → Type 0
 Asks words (format_image image capacity) = AsksToFormat words image capacity
 Asks words (show_image image with_map) = AsksToShow words image with_map
 Asks words (drain_image image class) = AsksToDrain words image class
+Asks words (gen_trace requests seed) = AsksToGen words requests seed
 
 -- the words ask for no command
 abbrev pub IsUsage : List (List ℕ) → Type 0

@@ -5,6 +5,8 @@ use Rattle.clap.specs.Words.{App, Rule, Row, new_app, new_rule, with_rule, match
 use Rattle.clap.specs.declared.builder.value_parser.ValueParser.TheVariants as parser
 use Rattle.clap.specs.declared.builder.action.ArgAction.TheVariants.{SetTrue}
 use Rattle.clap.specs.declared.parser.matches.ArgMatches.{ArgMatches}
+use Rattle.super_block.specs.declared.layout.TheConstants.{LARGEST_CAPACITY, LAST_CLASS}
+use Rattle.tool_run.specs.declared.trace_plan.TheConstants.{MOST_REQUESTS, GREATEST_SEED}
 
 -- the words that are arguments, by their names
 abbrev pub image_id : List ℕ
@@ -18,6 +20,12 @@ class_id = codes "CLASS"
 
 abbrev pub map_id : List ℕ
 map_id = codes "map"
+
+abbrev pub requests_id : List ℕ
+requests_id = codes "N"
+
+abbrev pub trace_seed_id : List ℕ
+trace_seed_id = codes "SEED"
 
 -- a word that has to be there
 abbrev pub word_rule : List ℕ → Rule
@@ -33,7 +41,7 @@ flag_rule id = record (new_rule id) { long = Some id; action = Some SetTrue }
 
 -- 'format IMAGE S'
 abbrev pub format_app : App
-format_app = with_rule (with_rule (new_app (codes "format")) (word_rule image_id)) (number_rule capacity_id 1 256)
+format_app = with_rule (with_rule (new_app (codes "format")) (word_rule image_id)) (number_rule capacity_id 1 LARGEST_CAPACITY)
 
 -- 'show IMAGE [--map]'
 abbrev pub show_app : App
@@ -41,7 +49,11 @@ show_app = with_rule (with_rule (new_app (codes "show")) (word_rule image_id)) (
 
 -- 'drain IMAGE CLASS'
 abbrev pub drain_app : App
-drain_app = with_rule (with_rule (new_app (codes "drain")) (word_rule image_id)) (number_rule class_id 1 20)
+drain_app = with_rule (with_rule (new_app (codes "drain")) (word_rule image_id)) (number_rule class_id 1 LAST_CLASS)
+
+-- 'gen N SEED'
+abbrev pub gen_app : App
+gen_app = with_rule (with_rule (new_app (codes "gen")) (number_rule requests_id 0 MOST_REQUESTS)) (number_rule trace_seed_id 0 GREATEST_SEED)
 
 -- the first word names the command, and clap finds no fault in the words behind it
 pub record IsTaken (app : App) (words : List (List ℕ)) : Type 0 where

@@ -1,5 +1,5 @@
 -- Worked examples: words and what they ask for, and the lines that are printed.
-use Rattle.std.specs.Prelude.{◌≡◌, List, [], ◌∷◌, ◌++◌, codes, Bool, Some, None, true, false, refl, slice_get, unwrap_or}
+use Rattle.std.specs.Prelude.{◌≡◌, List, [], ◌∷◌, ◌++◌, codes, Bool, Some, None, true, false, refl, slice_get, slice_index, unwrap_or}
 use Rattle.std.specs.Fmt.{digits}
 use Rattle.std.specs.Str.Parse.{digits_value, without_leading_plus}
 use Rattle.clap.specs.Words.{Row, fault_of, matches_of}
@@ -10,8 +10,8 @@ use Rattle.heap_model.specs.Geometry.{largest_capacity}
 use Rattle.heap_model.specs.Sizes.{size_of, class_sizes}
 use Rattle.heap_model.specs.declared.header.BadHeader.TheVariants.{Length}
 use Rattle.trace_text.specs.Report.{line_feed}
-use Rattle.tool_run.specs.Command.{Command, Asks, format_image, show_image, drain_image}
-use Rattle.tool_run.specs.CommandLine.{format_app, drain_app, show_app, image_id, capacity_id, class_id, map_id, HasText, HasNumber, HasFlag, IsNumber}
+use Rattle.tool_run.specs.Command.{Command, Asks, format_image, show_image, drain_image, gen_trace}
+use Rattle.tool_run.specs.CommandLine.{format_app, drain_app, show_app, gen_app, image_id, capacity_id, class_id, map_id, requests_id, trace_seed_id, HasText, HasNumber, HasFlag, IsNumber}
 use Rattle.tool_run.specs.Lines.{no_image_line, bad_header_line}
 use Rattle.tool_run.specs.Making.{formatted_line, drained_text}
 use Rattle.tool_run.specs.Status.{own_line, usage, done, bad_header}
@@ -76,7 +76,25 @@ drain_one = record {
   is_class = record { some = lit≤ tt; last = lit≤ tt };
 }
 
--- a class that there isn't, an option given twice, and a wish for help
+number_hundred_thousand : IsNumber (codes "100000") 100000
+number_hundred_thousand = record { digits = (lit< tt, (lit< tt, (lit< tt, (lit< tt, (lit< tt, (lit< tt, (lit< tt, tt))))))); value = refl }
+
+-- the greatest number of requests
+gen_most : Asks (codes "gen" ∷ codes "100000" ∷ codes "01" ∷ []) (gen_trace 100000 1)
+unfolding clap_on_literals
+gen_most = record {
+  taken = record { named = refl; faultless = refl };
+  counted = record { text = codes "100000"; given = refl; counted = number_hundred_thousand };
+  few = lit≤ tt;
+  seeded = record { text = codes "01"; given = refl; counted = number_one };
+  small = lit≤ tt;
+}
+
+-- a request too many, a class that there isn't, an option given twice, and a wish for help
+too_many_requests : fault_of gen_app (codes "gen" ∷ codes "100001" ∷ codes "0" ∷ []) ≡ ValueValidation ∷ []
+unfolding clap_on_literals
+too_many_requests = refl
+
 class_past_the_last : fault_of drain_app (codes "drain" ∷ codes "h" ∷ codes "21" ∷ []) ≡ ValueValidation ∷ []
 unfolding clap_on_literals
 class_past_the_last = refl
@@ -105,9 +123,23 @@ one_flag rows id true b has also = sym (also.1 (has.0 refl))
 one_flag rows id false true has also = has.1 (also.0 refl)
 one_flag rows id false false has also = refl
 
--- the words have one first word
-one_name : (words : List (List ℕ)) (a b : List ℕ) → slice_get words 0 ≡ Some a → slice_get words 0 ≡ Some b → length a ≡ length b
-one_name words a b first second = ap (λ o. length (unwrap_or o a)) (sym first ∙ second)
+-- the word that names a command
+abbrev pub name_of : Command → List ℕ
+name_of (format_image image capacity) = codes "format"
+name_of (show_image image with_map) = codes "show"
+name_of (drain_image image class) = codes "drain"
+name_of (gen_trace requests seed) = codes "gen"
+
+-- it is the first word
+pub first_word : (words : List (List ℕ)) (command : Command) → Asks words command → slice_get words 0 ≡ Some (name_of command)
+first_word words (format_image image capacity) asks = asks.taken.named
+first_word words (show_image image with_map) asks = asks.taken.named
+first_word words (drain_image image class) asks = asks.taken.named
+first_word words (gen_trace requests seed) asks = asks.taken.named
+
+-- so two commands that words ask for have one name
+one_letter : (words : List (List ℕ)) (a b : Command) → Asks words a → Asks words b → slice_index (name_of a) 0 ≡ slice_index (name_of b) 0
+one_letter words a b asks also = ap (λ o. slice_index (unwrap_or o []) 0) (sym (first_word words a asks) ∙ first_word words b also)
 
 -- words ask for one command at most
 pub one_command : (words : List (List ℕ)) (a b : Command) → Asks words a → Asks words b → a ≡ b
@@ -123,15 +155,8 @@ one_command words (show_image image flag) (show_image other set) asks also =
     let named = one_text_given (matches_of show_app words) image_id image other asks.named also.named in
     let flagged = one_flag (matches_of show_app words) map_id flag set asks.flagged also.flagged in
     cc
-one_command words (format_image image capacity) (show_image other flag) asks also =
-    absurd (omega (arith, one_name words _ _ asks.taken.named also.taken.named))
-one_command words (show_image image flag) (format_image other count) asks also =
-    absurd (omega (arith, one_name words _ _ asks.taken.named also.taken.named))
-one_command words (format_image image capacity) (drain_image other class) asks also =
-    absurd (omega (arith, one_name words _ _ asks.taken.named also.taken.named))
-one_command words (drain_image image class) (format_image other capacity) asks also =
-    absurd (omega (arith, one_name words _ _ asks.taken.named also.taken.named))
-one_command words (show_image image flag) (drain_image other class) asks also =
-    absurd (omega (arith, one_name words _ _ asks.taken.named also.taken.named))
-one_command words (drain_image image class) (show_image other flag) asks also =
-    absurd (omega (arith, one_name words _ _ asks.taken.named also.taken.named))
+one_command words (gen_trace requests seed) (gen_trace count other) asks also =
+    let counted = one_number (matches_of gen_app words) requests_id requests count asks.counted also.counted in
+    let seeded = one_number (matches_of gen_app words) trace_seed_id seed other asks.seeded also.seeded in
+    cc
+one_command words a b asks also = absurd (omega (arith, one_letter words a b asks also))

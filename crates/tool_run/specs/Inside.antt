@@ -9,12 +9,12 @@ use Rattle.heap_recover.specs.declared.fault.RecoverFault.{RecoverFault}
 use Rattle.heap_recover.specs.declared.fault.RecoverFault.TheVariants.{Header, Outside as OutsideFound, Memory as RecoverMemory}
 use Rattle.tool_ports.specs.Taken.{taken_with}
 use Rattle.tool_run.specs.declared.command.Invocation.{Invocation}
-use Rattle.tool_run.specs.declared.command.Invocation.TheVariants.{Format, Show, Drain}
+use Rattle.tool_run.specs.declared.command.Invocation.TheVariants.{Format, Show, Drain, Gen}
 use Rattle.tool_run.specs.declared.fault.Fault.{Fault}
 use Rattle.tool_run.specs.declared.fault.Fault.TheVariants.{Usage, Memory, ReadFault, WriteFault, Absent, Malformed, Outside, BadShard}
 use Rattle.dictionary.specs.declared.fault.MapFault.{MapFault}
 use Rattle.dictionary.specs.declared.fault.MapFault.TheVariants.{BadShard as NoMap, Memory as MapMemory}
-use Rattle.tool_run.specs.Command.{Command, format_image, show_image, drain_image, image_name}
+use Rattle.tool_run.specs.Command.{Command, format_image, show_image, drain_image, gen_trace, image_name}
 use Rattle.tool_run.specs.Lines.{usage_line, memory_line, read_line, write_line, no_image_line, bad_header_line, outside_line, bad_shard_line}
 use Rattle.tool_run.specs.Making.{Makes, Gets, Reads, IsMalformed, HasOutside, HasBadShard}
 use Rattle.tool_run.specs.Outcome.{Puts, IsCutOff}
@@ -25,6 +25,7 @@ abbrev pub command_of : Invocation → Command
 command_of (Format image layout) = format_image image.now layout.capacity
 command_of (Show image with_map) = show_image image.now with_map
 command_of (Drain image class) = drain_image image.now class.number
+command_of (Gen plan) = gen_trace plan.requests plan.seed
 
 -- the status of a fault
 abbrev pub status_of : Fault → ℕ

@@ -14,10 +14,11 @@ use Rattle.heap_model.specs.Image.{Image, image_of_bytes, bytes_of_words}
 use Rattle.heap_model.specs.Sizes.{size_of}
 use Rattle.heap_model.specs.Header.{capacity_of, state_of, header_fault, empty_words}
 use Rattle.tool_ports.specs.Contents.{Contents, Holds}
+use Rattle.trace_text.specs.Generated.{made_trace}
 use Rattle.trace_text.specs.Report.{line_feed, report_of}
 use Rattle.trace_text.specs.Keys.{Entries, keys_text}
 use Rattle.trace_text.specs.HeapMap.{map_of}
-use Rattle.tool_run.specs.Command.{Command, format_image, show_image, drain_image}
+use Rattle.tool_run.specs.Command.{Command, format_image, show_image, drain_image, gen_trace}
 
 -- what `format` prints: the capacity, and the length of the image in bytes
 abbrev pub formatted_line : ℕ → List ℕ
@@ -137,15 +138,18 @@ abbrev pub Makes : Command → Contents → Option (List ℕ) → List ℕ → T
 Makes (format_image image capacity) contents put text = IsFormatted capacity put text
 Makes (show_image image with_map) contents put text = (put ≡ None) × Shows contents image with_map text
 Makes (drain_image image class) contents put text = (put ≡ None) × Drains contents image class text
+Makes (gen_trace requests seed) contents put text = (put ≡ None) × (text ≡ made_trace requests seed)
 
 -- the command gets the image that it names
 abbrev pub Gets : Command → Type 0
 Gets (format_image image capacity) = ⊥
 Gets (show_image image with_map) = Unit {0}
 Gets (drain_image image class) = Unit {0}
+Gets (gen_trace requests seed) = ⊥
 
 -- the command reads the maps of the image that it names
 abbrev pub Reads : Command → Type 0
 Reads (format_image image capacity) = ⊥
 Reads (show_image image with_map) = Unit {0}
 Reads (drain_image image class) = ⊥
+Reads (gen_trace requests seed) = ⊥

@@ -5,7 +5,7 @@ use Rattle.heap_model.specs.declared.header.BadHeader.{BadHeader}
 use Rattle.tool_ports.specs.Causes.{Rose}
 use Rattle.tool_ports.specs.Contents.{Contents, Holds, HoldsOldOrNew, KeepsOthers, Lacks, told_of}
 use Rattle.tool_ports.specs.Taken.{taken_with, TakesPart}
-use Rattle.tool_run.specs.Command.{Command, format_image, show_image, drain_image, image_name, Asks}
+use Rattle.tool_run.specs.Command.{Command, format_image, show_image, drain_image, gen_trace, image_name, Asks}
 use Rattle.tool_run.specs.Lines.{Tells, write_line, no_image_line, bad_header_line, outside_line, bad_shard_line}
 use Rattle.tool_run.specs.Making.{Makes, Gets, Reads, IsMalformed, HasOutside, HasBadShard, PointsOutside, fault_of}
 use Rattle.dict_model.specs.Links.{shards}
@@ -147,3 +147,4 @@ abbrev pub CanBeDone : Command → Contents → Type 0
 CanBeDone (format_image image capacity) contents = Unit {0}
 CanBeDone (show_image image with_map) contents = HoldsMaps contents image
 CanBeDone (drain_image image class) contents = HoldsGood contents image
+CanBeDone (gen_trace requests seed) contents = Unit {0}

@@ -1,12 +1,14 @@
 //! The command that the words of the command line ask for, as the crate clap takes them.
 ghost use Rattle.std.specs.Prelude.{◌≡◌, ℕ, Bool, List, Some, codes, slice_get, IfOk, IsErrOf};
-ghost use Rattle.tool_run.specs.Command.{Asks, AsksToFormat, AsksToShow, AsksToDrain, IsUsage, texts, image_name};
+ghost use Rattle.tool_run.specs.Command.{Asks, AsksToFormat, AsksToShow, AsksToDrain, AsksToGen, IsUsage, texts, image_name};
 ghost use Rattle.tool_run.specs.Inside.{command_of};
 
 use crate::command_line::{
-    Refusal, drain_command, format_command, has_flag, match_words, number_of, show_command, text_of,
+    Refusal, drain_command, format_command, gen_command, has_flag, match_words, number_of,
+    show_command, text_of,
 };
 use crate::size_class::SizeClass;
+use crate::trace_plan::{GREATEST_SEED, MOST_REQUESTS, TracePlan};
 use std::alloc::Global;
 use super_block::{Geometry, LARGEST_CAPACITY, LAST_CLASS};
 
@@ -16,10 +18,11 @@ pub enum Invocation<'a> {
     Format { image: &'a str, layout: Geometry },
     Show { image: &'a str, with_map: bool },
     Drain { image: &'a str, class: SizeClass },
+    Gen { plan: TracePlan },
 }
 
 impl<'a> Invocation<'a> {
-    /// The name of the image that it is about.
+    /// The name of the image that it is about; the empty one where it is about none.
     pub fn image(self) -> &'a str
         ensures { result.now ≡ image_name (command_of self.entry) }
     {
@@ -27,6 +30,7 @@ impl<'a> Invocation<'a> {
             Invocation::Format { image, layout: _ } => image,
             Invocation::Show { image, with_map: _ } => image,
             Invocation::Drain { image, class: _ } => image,
+            Invocation::Gen { plan: _ } => "",
         }
     }
 }
@@ -59,6 +63,9 @@ fn parse_command<'a>(
     }
     if command == "drain" {
         return parse_drain(alloc, words);
+    }
+    if command == "gen" {
+        return parse_gen(alloc, words);
     }
     Err(Refusal::Usage)
 }
@@ -109,4 +116,21 @@ fn parse_drain<'a>(alloc: Global, words: &'a [String]) -> Result<Invocation<'a>,
     };
     let class = SizeClass::new(class as u8);
     Ok(Invocation::Drain { image, class })
+}
+
+fn parse_gen<'a>(alloc: Global, words: &'a [String]) -> Result<Invocation<'a>, Refusal>
+    requires { slice_get (texts words.now) 0 ≡ Some (codes "gen") }
+    ensures ok { IfOk result (λ invocation. Asks (texts words.entry.now) (command_of invocation)) }
+    ensures err { IsErrOf result Refusal.Usage → (requests seed : ℕ)
+        → AsksToGen (texts words.entry.now) requests seed → ⊥ }
+{
+    let matches = match_words(gen_command(alloc)?, words)?;
+    let Some(requests) = number_of(&matches, "N", 0, MOST_REQUESTS) else {
+        return Err(Refusal::Usage);
+    };
+    let Some(seed) = number_of(&matches, "SEED", 0, GREATEST_SEED) else {
+        return Err(Refusal::Usage);
+    };
+    let plan = TracePlan::new(requests, seed);
+    Ok(Invocation::Gen { plan })
 }

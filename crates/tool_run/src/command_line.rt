@@ -3,12 +3,15 @@ ghost use Rattle.std.specs.Prelude.{◌≡◌, ◌≢◌, ◌≤◌, ℕ, true, 
 ghost use Rattle.clap.specs.Words.{app_of, kind_of, is_simple, is_simple_and_free, fault_of, first_of, rows_of, found_of};
 ghost use Rattle.clap.specs.declared.error.kind.ErrorKind.TheVariants.{OutOfMemory};
 ghost use Rattle.tool_run.specs.Command.{texts};
-ghost use Rattle.tool_run.specs.CommandLine.{format_app, show_app, drain_app, IsMatchedBy, HasNumber, HasFlag};
+ghost use Rattle.tool_run.specs.CommandLine.{format_app, show_app, drain_app, gen_app, IsMatchedBy, HasNumber, HasFlag};
 ghost use Rattle.tool_run.specs.declared.command_line.Refusal.TheVariants.{Usage, Memory};
 
+use crate::trace_plan::{GREATEST_SEED, MOST_REQUESTS};
+use clap::builder::ValueParser;
 use clap::error::ErrorKind;
-use clap::{Arg, ArgAction, ArgMatches, Command, Error, value_parser};
+use clap::{Arg, ArgAction, ArgMatches, Command, Error};
 use std::alloc::{AllocError, Global};
+use super_block::{LARGEST_CAPACITY, LAST_CLASS};
 
 /// Why words were not taken.
 #[derive(Clone, Copy, Debug, PartialEq, Eq)]
@@ -46,7 +49,7 @@ pub fn format_command<'a>(alloc: Global) -> Result<Command<'a>, AllocError>
     let image = Arg::new(alloc, "IMAGE").required(true);
     let capacity = Arg::new(alloc, "S")
         .required(true)
-        .value_parser(value_parser!(u64).range(1..=256));
+        .value_parser(ValueParser::unsigned(1, LARGEST_CAPACITY));
     Command::new(alloc, "format").arg(image)?.arg(capacity)
 }
 
@@ -68,8 +71,21 @@ pub fn drain_command<'a>(alloc: Global) -> Result<Command<'a>, AllocError>
     let image = Arg::new(alloc, "IMAGE").required(true);
     let class = Arg::new(alloc, "CLASS")
         .required(true)
-        .value_parser(value_parser!(u64).range(1..=20));
+        .value_parser(ValueParser::unsigned(1, LAST_CLASS));
     Command::new(alloc, "drain").arg(image)?.arg(class)
+}
+
+/// `gen N SEED`.
+pub fn gen_command<'a>(alloc: Global) -> Result<Command<'a>, AllocError>
+    ensures { IfOk result (λ command. app_of command ≡ gen_app) }
+{
+    let requests = Arg::new(alloc, "N")
+        .required(true)
+        .value_parser(ValueParser::unsigned(0, MOST_REQUESTS));
+    let seed = Arg::new(alloc, "SEED")
+        .required(true)
+        .value_parser(ValueParser::unsigned(0, GREATEST_SEED));
+    Command::new(alloc, "gen").arg(requests)?.arg(seed)
 }
 
 /// What clap makes of the words, of which the first is the command's name.

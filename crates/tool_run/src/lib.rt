@@ -7,11 +7,13 @@ mod delivery;
 mod drained;
 mod draining;
 mod fault;
+mod generating;
 mod making;
 mod recovering;
 mod run;
 mod size_class;
 mod status;
+mod trace_plan;
 
 pub use run::{run_tool, tell_out_of_memory};
 pub use status::Status;

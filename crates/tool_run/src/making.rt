@@ -11,6 +11,7 @@ ghost use Rattle.tool_run.specs.Recovering.{IsTextOf};
 use crate::command::Invocation;
 use crate::draining::drain_image;
 use crate::fault::Fault;
+use crate::generating::generate;
 use crate::recovering::recover_image;
 use dictionary::read_maps;
 use heap_recover::Recovered;
@@ -48,6 +49,7 @@ pub fn make<I: ImageStore, C: Chances>(
         Invocation::Format { image: _, layout } => Ok(empty_image(alloc, layout)?),
         Invocation::Show { image, with_map } => report(alloc, image, with_map, images),
         Invocation::Drain { image, class } => { drain_image(alloc, image, class, images, chances) }
+        Invocation::Gen { plan } => Ok(generate(alloc, plan)?),
     }
 }
 

@@ -4,7 +4,7 @@ ghost use Rattle.tool_ports.specs.Calls.{with_get, with_put};
 ghost use Rattle.tool_ports.specs.Causes.{Rose};
 ghost use Rattle.tool_ports.specs.Contents.{told_of};
 ghost use Rattle.tool_run.specs.Calls.{get_limit, with_command, with_status};
-ghost use Rattle.tool_run.specs.Command.{Command, Asks, AsksToFormat, IsUsage, texts};
+ghost use Rattle.tool_run.specs.Command.{Command, Asks, AsksToFormat, AsksToGen, IsUsage, texts};
 ghost use Rattle.tool_run.specs.Inside.{command_of, status_of, IsCarriedOut, IsStopped};
 ghost use Rattle.tool_run.specs.Lines.{Tells, memory_line};
 ghost use Rattle.tool_run.specs.Outcome.{IsDone, IsWriteFault, AsksToGet, AsksToRead, IsAbsent, IsBadHeader, IsOutsideAt, IsBadShardAt, HoldsMalformed, HoldsOutside, HoldsBadShard, CanBeDone};
@@ -22,7 +22,8 @@ use tool_ports::{Chances, Gate, ImageStore, Sink, Source};
 /// Does what the words ask for. They are those after the program's name: `format IMAGE S` puts an
 /// empty image of S superblocks, `show IMAGE` recovers an image and prints a report on it,
 /// `show IMAGE --map` prints a map too, and `drain IMAGE CLASS` recovers an image and prints the
-/// offsets of the blocks that the class then gives. Where there is no result, a line tells why; one
+/// offsets of the blocks that the class then gives. `gen N SEED` prints a trace of N requests.
+/// Where there is no result, a line tells why; one
 /// that the sink refuses is lost. What a drained heap settles early comes from `chances` with the
 /// seed 0. No command reads the trace or passes the gate yet: they are for runs.
 pub fn run_tool<R, I: ImageStore, T: Source, O: Sink, G: Gate + Sync, C: Chances>(
@@ -66,6 +67,8 @@ pub fn run_tool<R, I: ImageStore, T: Source, O: Sink, G: Gate + Sync, C: Chances
 
     // How often the store is called: not at all, or for one get, or for one put.
     ensures no_call { IsUsage (texts words.now) → I.calls images.new ≡ I.calls images.old }
+    ensures no_call_for_a_trace { (requests seed : ℕ) → AsksToGen (texts words.now) requests seed
+        → I.calls images.new ≡ I.calls images.old }
     ensures one_get { (name : List ℕ) → AsksToGet (texts words.now) name
         → result ≢ out_of_memory → I.calls images.new ≡ with_get get_limit (I.calls images.old) }
     ensures get_or_none { (name : List ℕ) → AsksToGet (texts words.now) name

@@ -129,6 +129,29 @@ fn words_that_name_no_class_are_usage(rt: HostRuntime) -> Result<(), Fail> {
 }
 
 #[test]
+fn a_trace_is_made(rt: HostRuntime) -> Result<(), Fail> {
+    let mut images = empty_store(rt.alloc());
+    run_each(
+        &rt,
+        &mut images,
+        &[
+            (
+                "gen 4 0",
+                &[],
+                0,
+                "put 0 -\nput 2531 3738393a3b3c3d3e3f404142434445464748494a4b4c4d4e\n\
+                get 966\ndel 3498\n",
+            ),
+            ("gen 0 1000000", &[], 0, ""),
+            ("gen 1 0", &[0], 5, "write fault\n"),
+            ("gen 100001 0", &[], 2, "usage\n"),
+            ("gen 1 1000001", &[], 2, "usage\n"),
+            ("gen 1", &[], 2, "usage\n"),
+        ],
+    )
+}
+
+#[test]
 fn an_image_that_is_not_there_is_named(rt: HostRuntime) -> Result<(), Fail> {
     let mut images = empty_store(rt.alloc());
     run_each(
