@@ -1,0 +1,98 @@
+-- What a run over the words that recovery leaves does, it does over the image.
+use Rattle.std.proofs.Common.{◌≡◌, ℕ, ◌<◌, Bool, List, refl, sym, subst, ◌∙◌, inl, inr, arith}
+use Rattle.std.specs.BTreeMap.{BTreeMap, get}
+use Rattle.std.specs.Ordering.{nat_cmp}
+use Rattle.heap_model.specs.Image.{Image}
+use Rattle.heap_model.specs.Geometry.{capacity_word, used_word, IsReserved}
+use Rattle.heap_model.specs.Header.{capacity_of, used_of}
+use Rattle.heap_model.specs.Reach.{AnyRoot, IsTracedFrom, is_root, is_linked, TracesAlike}
+use Rattle.heap_model.specs.Recovery.{in_header, is_reserved}
+use Rattle.heap_model.proofs.ReachLemmas.{reach_kept, more_roots}
+use Rattle.heap_recover.proofs.UnchangedLemmas.{words_unchanged, roots_unchanged}
+use Rattle.dict_model.specs.Links.{shards, dict_links, root_kind}
+use Rattle.dict_model.specs.Requests.{Request}
+use Rattle.dict_model.specs.Shards.{Map, MapOf, LeadsAlone}
+use Rattle.dict_model.proofs.ShardLemmas.{one_map, alone_once}
+use Rattle.dictionary.specs.Reading.{AreMaps, RecoversTo}
+use Rattle.dictionary.proofs.SameLemmas.{traced_alike, map_kept}
+use Rattle.trace_run.specs.Stands.{IsOtherRoot}
+use Rattle.trace_run.specs.Needs.{ListsKeysOf}
+use Rattle.image_run.specs.Running.{Options, Leaves, Runs}
+use Rattle.trace_run.specs.Said.{Told}
+
+module _ (old new : Image) (to : RecoversTo old new) (maps : List (BTreeMap ℕ (List ℕ))) (are : AreMaps new shards maps) where
+  -- a map of the image is one of the words
+  map_of_words : (shard : ℕ) (map : Map) → shard < shards → MapOf old shard map → MapOf new shard map
+  map_of_words shard map below is =
+      let read = are.each shard below in
+      let known : Map = get nat_cmp read.0 in
+      let there : MapOf old shard known = map_kept old new to shard known below read.2 in
+      let same : (key : ℕ) → known key ≡ map key =
+      one_map (LeadsAlone old shard) (alone_once old shard) old shard known map there is in
+      subst (λ (m : Map). MapOf new shard m) (λ i key. same key i) read.2
+
+  keys_listed : (keys : List ℕ) → ListsKeysOf old keys → ListsKeysOf new keys
+  keys_listed keys lists = record { all = λ shard map below is. lists.all shard map below (map_kept old new to shard map below is) }
+
+  capacity_stays : capacity_of new ≡ capacity_of old
+  capacity_stays = to.recovered.same capacity_word (in_header capacity_word (inr (inr (inl refl))))
+
+  used_stays : used_of new ≡ used_of old
+  used_stays = to.recovered.same used_word (in_header used_word (inr (inr (inr refl))))
+
+  -- other roots reach of the words what they reach of the image
+  others_alike : TracesAlike old new IsOtherRoot root_kind dict_links
+  others_alike =
+      let alike = traced_alike old new to in
+      record {
+        same_words = λ at traced. alike.same_words at (any_root at traced);
+        are_blocks = λ b kind reached. alike.are_blocks b kind (more_roots old root_kind dict_links (λ root c. tt) b kind reached);
+        same_links = λ b kind reached. alike.same_links b kind (more_roots old root_kind dict_links (λ root c. tt) b kind reached);
+      }
+    where
+      any_root : (at : ℕ) → IsTracedFrom old IsOtherRoot root_kind dict_links at → IsTracedFrom old AnyRoot root_kind dict_links at
+      any_root _ (is_root root at below is_chosen is) = is_root root at below tt is
+      any_root _ (is_linked a from position kind at reached listed is) =
+          is_linked a from position kind at (more_roots old root_kind dict_links (λ root c. tt) a from reached) listed is
+
+  carried : (requests : List Request) (budget : ℕ) (told : List Told) (stopped : Bool) (left : List ℕ)
+      → Leaves new requests budget told stopped left → Leaves old requests budget told stopped left
+  carried requests budget told stopped left leaves = record {
+    answers = leaves.answers;
+    stops = record { all = leaves.stops.all; cause = λ is keys lists. leaves.stops.cause is keys (keys_listed keys lists) };
+    replies = record { right = λ shard map below is. leaves.replies.right shard map below (map_of_words shard map below is) };
+    full = record {
+      cause = λ before later key value is.
+          let more = leaves.full.cause before later key value is in
+          omega (arith, more, capacity_stays, used_stays);
+    };
+    maps = record { each = λ shard map below is. leaves.maps.each shard map below (map_of_words shard map below is) };
+    header = record {
+      well_formed = leaves.header.well_formed;
+      capacity = leaves.header.capacity ∙ capacity_stays;
+      without_meaning = λ word reserved.
+          leaves.header.without_meaning word (subst (λ n. IsReserved n word) (sym capacity_stays) reserved)
+          ∙ to.recovered.same word (is_reserved word reserved);
+    };
+    others = record {
+      nothing_outside = leaves.others.nothing_outside;
+      roots_are = λ root other below. leaves.others.roots_are root other below ∙ roots_unchanged old new root_kind dict_links to.recovered root below;
+      blocks_are = λ b kind word reached within.
+          leaves.others.blocks_are b kind word (reach_kept old new IsOtherRoot root_kind dict_links others_alike b kind reached) within
+          ∙ words_unchanged old new root_kind dict_links to.recovered b word
+          (record { kind = kind; reach = more_roots old root_kind dict_links (λ root c. tt) b kind reached }) within;
+    };
+    state = leaves.state;
+  }
+
+  pub runs_carried : (requests : List Request) (options : Options) (put text : List ℕ) → Runs new requests options put text → Runs old requests options put text
+  runs_carried requests options put text runs = record {
+    told = runs.told;
+    stopped = runs.stopped;
+    left = runs.left;
+    leaves = carried requests options.budget runs.told runs.stopped runs.left runs.leaves;
+    put_is = runs.put_is;
+    report = runs.report;
+    reports = runs.reports;
+    text_is = runs.text_is;
+  }

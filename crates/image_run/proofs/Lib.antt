@@ -1,0 +1,5 @@
+pub mod EntryLemmas
+pub mod TextLemmas
+pub mod RecoveredLemmas
+pub mod CarryLemmas
+pub mod LeftLemmas

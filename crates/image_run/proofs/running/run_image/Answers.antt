@@ -1,0 +1,45 @@
+use Rattle.std.proofs.Common.{◌≡◌, List, ℕ, ◌++◌, Contains, slice_index, subst, sym, ap, ◌∙◌, rules}
+use Rattle.trace_run.specs.Said.{Told}
+use Rattle.heap_model.specs.Image.{bytes_of_words}
+use Rattle.trace_text.specs.Replies.{replies_text}
+use Rattle.image_run.specs.Reporting.{Reports}
+use Rattle.image_run.specs.Left.{IsAccepted}
+use Rattle.image_run.proofs.LeftLemmas.{left_accepted}
+use Rattle.image_run.proofs.running.run_image.Goals as goal
+
+pub left_text-requires : goal.left_text-requires
+left_text-requires g c =
+    subst (λ (l : List ℕ). IsAccepted l) (sym c.deref.ensures.value)
+    (left_accepted (slice_index c.args.heap.words) (Contains c.args.heap.held) _ _ _ c.in_ok-outcome.outcome.image.items c.requires.dictionary
+    c.in_ok-outcome.ensures.maps c.in_ok-outcome.ensures.header c.in_ok-outcome.ensures.others)
+
+pub returns : goal.returns
+returns g c =
+    let outcome = c.in_ok-outcome.outcome in
+    let replies_are : c.in_ok-replies.replies ≡ replies_text outcome.replies.items outcome.stopped c.args.options.with_sum =
+    c.in_ok-replies.ensures.ok ∙ ap (λ (rs : List Told). replies_text rs outcome.stopped c.args.options.with_sum) c.deref-2.ensures.value in
+    let joined : c.from_vec.result ≡ c.in_ok-replies.replies ++ c.in_ok-report.report = search rules in
+    let text_is : c.from_vec.result ≡ replies_text outcome.replies.items outcome.stopped c.args.options.with_sum ++ c.in_ok-report.report =
+    joined ∙ ap (λ (l : List ℕ). l ++ c.in_ok-report.report) replies_are in
+    let image_is : c.in_ok-image.image ≡ bytes_of_words outcome.image.items = search rules in
+    record {
+      ok = record {
+        told = outcome.replies.items;
+        stopped = outcome.stopped;
+        left = outcome.image.items;
+        leaves = record {
+          answers = c.in_ok-outcome.ensures.answers;
+          stops = c.in_ok-outcome.ensures.stops;
+          replies = c.in_ok-outcome.ensures.replies;
+          full = c.in_ok-outcome.ensures.full;
+          maps = c.in_ok-outcome.ensures.maps;
+          header = c.in_ok-outcome.ensures.header;
+          others = c.in_ok-outcome.ensures.others;
+          state = c.in_ok-outcome.ensures.state;
+        };
+        put_is = image_is;
+        report = c.in_ok-report.report;
+        reports = subst (λ (l : List ℕ). Reports (slice_index l) c.args.options.with_sum c.args.options.with_map c.in_ok-report.report) c.deref.ensures.value c.in_ok-report.ensures;
+        text_is = text_is;
+      };
+    }

@@ -1,0 +1,79 @@
+-- What recovery makes of an image, and the report on it.
+use Rattle.std.specs.Prelude.{◌≡◌, ◌↔◌, ℕ, ◌<◌, Bool, List, [], ◌++◌, length, nat_eq, if◌then◌else◌, Option, Some, slice_index}
+use Rattle.std.specs.BTreeMap.{BTreeMap}
+use Rattle.heap_model.specs.declared.header.BadHeader.{BadHeader}
+use Rattle.heap_model.specs.declared.block.Block.{Block}
+use Rattle.heap_model.specs.Blocks.{layout_of}
+use Rattle.heap_model.specs.Reach.{IsReached, IsOutside}
+use Rattle.heap_model.specs.Recovered.{IsFreeSuperblock, AreAscending}
+use Rattle.heap_model.specs.Recovery.{IsRecovered}
+use Rattle.heap_model.specs.Geometry.{clean}
+use Rattle.heap_model.specs.Image.{Image, image_of_bytes}
+use Rattle.heap_model.specs.Header.{capacity_of, state_of, header_fault}
+use Rattle.heap_recover.specs.declared.answer.Recovered.{Recovered}
+use Rattle.heap_recover.specs.declared.answer.Was.TheVariants.{Clean}
+use Rattle.dict_model.specs.Links.{dict_links, root_kind, shards}
+use Rattle.dict_model.specs.Shards.{Map, MapOf}
+use Rattle.trace_text.specs.Report.{report_of}
+use Rattle.trace_text.specs.Keys.{Entries, keys_text, TellsKeys}
+use Rattle.trace_text.specs.HeapMap.{map_of}
+use Rattle.trace_text.specs.Recovered.{is_clean}
+
+-- the first cause for which an image of these bytes is malformed
+abbrev pub fault_of : List ℕ → Option BadHeader
+fault_of bytes = header_fault (length bytes) (image_of_bytes bytes)
+
+-- what the tool's filter reaches in an image: the dictionary's tables and nodes, and what the other roots lead to
+abbrev pub IsKept : Image → Block → Type 0
+IsKept image = IsReached image root_kind dict_links
+
+-- a root or linked word that points to no block
+abbrev pub PointsOutside : Image → ℕ → Type 0
+PointsOutside image at = IsOutside image root_kind dict_links at
+
+-- recovery of the image keeps exactly these blocks, frees these superblocks, and leaves these words
+pub record Recovers (image : Image) (held : List Block) (free : List ℕ) (words : Image) : Type 0 where
+  pub held_are : AreAscending (λ (b : Block). b.first_word) (IsKept image) held
+  pub free_are : AreAscending (λ d. d) (IsFreeSuperblock (layout_of image) (IsKept image)) free
+  pub words_are : IsRecovered image words (IsKept image)
+
+-- the heap is what recovery of the image gives
+pub record IsRecoveryOf (image : Image) (recovered : Recovered) : Type 0 where
+  pub recovers : Recovers image recovered.heap.held recovered.free.items (slice_index recovered.heap.words)
+  pub was : (recovered.was ≡ Clean) ↔ (state_of image ≡ clean)
+
+-- a key of one of the shards, with its value
+pub record IsEntryOf (image : Image) (entry : ℕ × List ℕ) : Type 0 where
+  pub shard : ℕ
+  pub below : shard < shards
+  pub keys : Map
+  pub keys_are : MapOf image shard keys
+  pub has : keys entry.0 ≡ Some entry.1
+
+-- the report on a recovered image, with what is told of its keys, and its map where that is asked for
+abbrev pub shown_text : Image → Bool → List ℕ → List Block → List ℕ → Image → List ℕ
+shown_text image with_map keys held free words =
+    report_of (capacity_of image) (nat_eq (state_of image) clean) keys held ++ (if with_map then map_of words held free else [])
+
+-- the text on an image once it is recovered, each shard of which has a map: with a line for each key, or their sum
+pub record Reports (image : Image) (with_sum with_map : Bool) (text : List ℕ) : Type 0 where
+  pub held : List Block
+  pub free : List ℕ
+  pub words : Image
+  pub recovered : Recovers image held free words
+  pub maps : (i : ℕ) → i < shards → (map : Map) × MapOf image i map
+  pub entries : Entries
+  pub entries_are : AreAscending (λ entry. entry.0) (IsEntryOf image) entries
+  pub text_is : text ≡ shown_text image with_map (keys_text with_sum entries) held free words
+
+-- the text on a recovered heap, with what is told of its keys
+abbrev pub text_of : Recovered → List ℕ → Bool → List ℕ
+text_of recovered keys with_map =
+    report_of (capacity_of (slice_index recovered.heap.words)) (is_clean recovered.was) keys recovered.heap.held
+    ++ (if with_map then map_of (slice_index recovered.heap.words) recovered.heap.held recovered.free.items else [])
+
+-- the text is that on the heap and on these maps
+pub record IsTextOf (recovered : Recovered) (maps : List (BTreeMap ℕ (List ℕ))) (with_sum with_map : Bool) (text : List ℕ) : Type 0 where
+  pub keys : List ℕ
+  pub keys_are : TellsKeys (Some maps) with_sum keys
+  pub is : text ≡ text_of recovered keys with_map

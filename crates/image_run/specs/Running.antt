@@ -1,0 +1,48 @@
+-- What a run of a trace puts and prints.
+use Rattle.std.specs.Prelude.{◌≡◌, ℕ, Bool, List, ◌++◌, length, slice_index}
+use Rattle.heap_model.specs.Image.{Image, bytes_of_words}
+use Rattle.dict_model.specs.Requests.{Request}
+use Rattle.trace_run.specs.Runs.{AnswersInOrder, StopsRightly, IsFullRightly, RepliesRightly, LeavesMaps, LeavesHeader, LeavesOthers, LeavesState}
+use Rattle.trace_run.specs.Said.{Told, replies_of}
+use Rattle.trace_text.specs.Replies.{replies_text}
+use Rattle.image_run.specs.declared.options.RunOptions.{RunOptions}
+use Rattle.image_run.specs.Reporting.{Reports}
+
+-- how a trace is run, and what is told of it
+pub record Options : Type 0 where
+  pub workers : ℕ
+  pub budget : ℕ
+  pub seed : ℕ
+  pub with_sum : Bool
+  pub with_map : Bool
+
+abbrev pub options_of : RunOptions → Options
+options_of options = record {
+  workers = options.workers;
+  budget = options.budget;
+  seed = options.seed;
+  with_sum = options.with_sum;
+  with_map = options.with_map;
+}
+
+-- the requests are answered in order with right replies, as far as the budget goes, and this image is left
+pub record Leaves (image : Image) (requests : List Request) (budget : ℕ) (told : List Told) (stopped : Bool) (left : List ℕ) : Type 0 where
+  pub answers : AnswersInOrder requests (replies_of told)
+  pub stops : StopsRightly image requests budget (replies_of told) stopped
+  pub replies : RepliesRightly image requests (replies_of told)
+  pub full : IsFullRightly image requests (replies_of told)
+  pub maps : LeavesMaps image requests (replies_of told) stopped (slice_index left)
+  pub header : LeavesHeader image (length left) (slice_index left)
+  pub others : LeavesOthers image (slice_index left)
+  pub state : LeavesState stopped (slice_index left)
+
+-- a run of the requests over the image puts these bytes, those of the image that is left, and prints this text: the replies, and then the report on the image that is left
+pub record Runs (image : Image) (requests : List Request) (options : Options) (put text : List ℕ) : Type 0 where
+  pub told : List Told
+  pub stopped : Bool
+  pub left : List ℕ
+  pub leaves : Leaves image requests options.budget told stopped left
+  pub put_is : put ≡ bytes_of_words left
+  pub report : List ℕ
+  pub reports : Reports (slice_index left) options.with_sum options.with_map report
+  pub text_is : text ≡ replies_text told stopped options.with_sum ++ report

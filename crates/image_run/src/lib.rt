@@ -1,0 +1,12 @@
+//! A run of a trace over a recovered image: the image that is put, and the text that is printed.
+#![tactic(auto)]
+
+mod laws;
+mod options;
+mod reporting;
+mod running;
+
+pub use laws::a_run_over_what_recovery_leaves_is_one_over_the_image;
+pub use options::RunOptions;
+pub use reporting::recovered_text;
+pub use running::{RunProduct, run_image};

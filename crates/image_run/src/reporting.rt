@@ -1,0 +1,29 @@
+//! The text on a recovered heap.
+ghost use Rattle.std.specs.Prelude.{IfOk};
+ghost use Rattle.image_run.specs.Reporting.{IsTextOf};
+
+use heap_recover::Recovered;
+use region_header::Bytes;
+use std::alloc::{AllocError, Global};
+use std::collections::BTreeMap;
+use trace_text::{map_text, report_text};
+
+/// The report on a recovered heap and its keys, one by one or with `sum` summed up, and its map
+/// where that is asked for.
+pub fn recovered_text(
+    alloc: Global,
+    recovered: &Recovered,
+    maps: &[BTreeMap<u64, Bytes>],
+    with_sum: bool,
+    with_map: bool,
+) -> Result<Bytes, AllocError>
+    ensures ok { IfOk result (IsTextOf recovered.now maps.now with_sum with_map) }
+{
+    let report = report_text(alloc, recovered, Some(maps), with_sum)?;
+    if !with_map {
+        return Ok(report);
+    }
+    let mut text = report.into_vec();
+    text.extend_from_slice(map_text(alloc, recovered)?.as_slice())?;
+    Ok(Bytes::from_vec(text))
+}

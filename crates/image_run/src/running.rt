@@ -1,0 +1,85 @@
+//! Runs a trace over a recovered heap, and makes what is put and printed.
+ghost use Rattle.std.specs.Prelude.{◌≡◌, IfOk, Contains, slice_index};
+ghost use Rattle.trace_run.specs.Opened.{IsDictionary};
+ghost use Rattle.trace_run.specs.Said.{requests_of, AreShort};
+ghost use Rattle.image_run.specs.Left.{IsAccepted};
+ghost use Rattle.image_run.specs.Reporting.{Reports, IsRecoveryOf};
+ghost use Rattle.image_run.specs.Running.{Runs, options_of};
+
+use crate::options::RunOptions;
+use crate::reporting::recovered_text;
+use dictionary::{DictFilter, MapFault, read_maps, root_kinds};
+use heap_recover::{RecoverFault, Recovered, recover};
+use region_header::{Bytes, words_to_bytes};
+use std::alloc::{AllocError, Global};
+use super_block::Ready;
+use tool_ports::{Chances, Gate};
+use trace_run::run_trace;
+use trace_text::{Request, reply_text};
+
+/// What a run puts and prints.
+#[derive(Drop)]
+pub struct RunProduct {
+    /// The bytes of the image that is left.
+    pub image: Bytes,
+    /// The replies, and then the report on that image once it is recovered.
+    pub text: Bytes,
+}
+
+/// Runs the requests over a recovered heap in which nothing is outside and each shard has a map,
+/// and makes all that is to be put and printed. The chances begin anew by the options' seed.
+pub fn run_image<R, G: Gate + Sync, C: Chances>(
+    rt: &R,
+    alloc: Global,
+    heap: Ready,
+    requests: &[Request],
+    options: RunOptions,
+    gate: &G,
+    chances: &mut C,
+) -> Result<RunProduct, AllocError>
+    requires dictionary { IsDictionary (slice_index heap.words) (Contains heap.held) }
+    requires short { AreShort (requests_of requests.now) }
+    ensures ok { IfOk result (λ product. Runs (slice_index heap.words)
+        (requests_of requests.now) (options_of options) product.image product.text) }
+{
+    chances.seed(options.seed);
+    let workers = options.workers as usize;
+    let budget = options.budget;
+    let outcome = run_trace(rt, alloc, heap, requests, workers, budget, gate, chances)?;
+    let report = left_text(alloc, &outcome.image, options)?;
+    let replies = reply_text(alloc, &outcome.replies, outcome.stopped, options.with_sum)?;
+    let mut text = replies.into_vec();
+    text.extend_from_slice(report.as_slice())?;
+    let image = words_to_bytes(alloc, &outcome.image)?;
+    Ok(RunProduct {
+        image,
+        text: Bytes::from_vec(text),
+    })
+}
+
+// The text on an image that a run left, once it is recovered.
+fn left_text(alloc: Global, words: &[u64], options: RunOptions) -> Result<Bytes, AllocError>
+    requires { IsAccepted words.now }
+    ensures { IfOk result (Reports (slice_index words.now) options.with_sum options.with_map) }
+{
+    let recovered = recover_left(alloc, words)?;
+    let maps = match read_maps(alloc, &recovered) {
+        Ok(maps) => maps,
+        Err(MapFault::Memory) => return Err(AllocError),
+        Err(MapFault::BadShard { shard: _, at: _ }) => unreachable!(),
+    };
+    recovered_text(alloc, &recovered, &maps, options.with_sum, options.with_map)
+}
+
+// Recovers such an image, which is never refused.
+fn recover_left(alloc: Global, words: &[u64]) -> Result<Recovered, AllocError>
+    requires { IsAccepted words.now }
+    ensures { IfOk result (IsRecoveryOf (slice_index words.now)) }
+{
+    match recover(alloc, words, &root_kinds(), &DictFilter) {
+        Ok(recovered) => Ok(recovered),
+        Err(RecoverFault::Memory) => Err(AllocError),
+        Err(RecoverFault::Header(_)) => unreachable!(),
+        Err(RecoverFault::Outside { at: _, value: _ }) => unreachable!(),
+    }
+}
