@@ -7,6 +7,6 @@ mod reporting;
 mod running;
 
 pub use laws::a_run_over_what_recovery_leaves_is_one_over_the_image;
-pub use options::RunOptions;
+pub use options::{MOST_BUDGET, MOST_WORKERS, RunOptions};
 pub use reporting::recovered_text;
 pub use running::{RunProduct, run_image};

@@ -4,27 +4,36 @@ use Rattle.tool_ports.specs.Contents.{Contents}
 use Rattle.heap_model.specs.Image.{image_of_bytes}
 use Rattle.dict_model.specs.Shards.{LeadsAlone, BadShard as IsBadShard}
 use Rattle.dict_model.proofs.ShardLemmas.{no_bad_place, alone_once}
-use Rattle.tool_run.specs.Command.{Command, format_image, show_image, drain_image, gen_trace, image_name, Asks}
+use Rattle.tool_run.specs.Command.{Command, format_image, show_image, drain_image, gen_trace, run_image, image_name, Asks}
 use Rattle.tool_run.specs.declared.fault.Fault.{Fault}
-use Rattle.tool_run.specs.declared.fault.Fault.TheVariants.{Usage, Memory, ReadFault, WriteFault, Absent, Malformed, Outside, BadShard}
+use Rattle.tool_run.specs.declared.fault.Fault.TheVariants.{Usage, Memory, ReadFault, WriteFault, Absent, Malformed, Outside, BadShard, BadLine, TooLong}
 use Rattle.tool_run.specs.Examples.{one_command}
 use Rattle.tool_run.specs.Inside.{Refuses, IsCarriedOut, IsStopped, status_of}
-use Rattle.tool_run.specs.Making.{Makes, Reads, PointsOutside, fault_of}
+use Rattle.tool_run.specs.Making.{Makes, Reads, HasMapped, PointsOutside, fault_of}
 use Rattle.tool_run.specs.Outcome.{AsksToRead, HoldsBadShard}
 use Rattle.tool_run.specs.Status.{out_of_memory, read_fault, bad_shard}
 use Rattle.tool_run.proofs.OutsideLemmas.{of_told, same_bytes}
 
+-- an image that can be run has no such shard
+mapped_shard : (contents : Contents) (n name : List ℕ) (shard at : ℕ) → n ≡ name → HasMapped contents n → HoldsBadShard contents name shard at → ⊥
+mapped_shard contents n name shard at named mapped has =
+    let same : mapped.bytes ≡ has.bytes = same_bytes contents n name mapped.bytes has.bytes named mapped.is_there has.held in
+    let map = mapped.maps shard has.below in
+    no_bad_place (LeadsAlone (image_of_bytes mapped.bytes) shard) (alone_once (image_of_bytes mapped.bytes) shard) (image_of_bytes mapped.bytes) shard map.0 at map.1
+    (subst (λ (l : List ℕ). IsBadShard (image_of_bytes l) shard at) (sym same) has.bad)
+
 -- nothing is made then
-not_made : (command : Command) (contents : Contents) (name : List ℕ) (shard at : ℕ) (image : Option (List ℕ)) (text : List ℕ)
-    → Reads command → image_name command ≡ name → HoldsBadShard contents name shard at → Makes command contents image text → ⊥
-not_made (format_image n capacity) contents name shard at image text reads named has made = reads
-not_made (show_image n with_map) contents name shard at image text reads named has made =
+not_made : (command : Command) (contents : Contents) (name : List ℕ) (shard at : ℕ) (left image : Option (List ℕ)) (text : List ℕ)
+    → Reads command → image_name command ≡ name → HoldsBadShard contents name shard at → Makes command contents left image text → ⊥
+not_made (format_image n capacity) contents name shard at left image text reads named has made = reads
+not_made (show_image n with_map) contents name shard at left image text reads named has made =
     let same : made.1.bytes ≡ has.bytes = same_bytes contents n name made.1.bytes has.bytes named made.1.is_there has.held in
-    let map = made.1.maps shard has.below in
+    let map = made.1.report.maps shard has.below in
     no_bad_place (LeadsAlone (image_of_bytes made.1.bytes) shard) (alone_once (image_of_bytes made.1.bytes) shard) (image_of_bytes made.1.bytes) shard map.0 at map.1
     (subst (λ (l : List ℕ). IsBadShard (image_of_bytes l) shard at) (sym same) has.bad)
-not_made (drain_image n class) contents name shard at image text reads named has made = reads
-not_made (gen_trace requests seed) contents name shard at image text reads named has made = reads
+not_made (drain_image n class) contents name shard at left image text reads named has made = reads
+not_made (gen_trace requests seed) contents name shard at left image text reads named has made = reads
+not_made (run_image n options) contents name shard at left image text reads named has made = mapped_shard contents n name shard at named made.mapped has
 
 -- want of memory, a failed get, or that
 refused : (command : Command) (contents : Contents) (name : List ℕ) (shard at : ℕ) (get_failed : Type 0) (status : ℕ) (fault : Fault)
@@ -46,28 +55,33 @@ refused command contents name shard at get_failed status (Outside place value) n
     let same : why.1.bytes ≡ has.bytes = same_bytes contents (image_name command) name why.1.bytes has.bytes named why.1.is_there has.held in
     absurd (has.inside place (subst (λ (l : List ℕ). PointsOutside (image_of_bytes l) place) same why.1.points))
 refused command contents name shard at get_failed status (BadShard other place) named has is why = inl is
+refused command contents name shard at get_failed status (BadLine line) named has is why = absurd why
+refused command contents name shard at get_failed status TooLong named has is why = absurd why
 
 -- a command that reads such an image makes nothing
-none_made : (words : List (List ℕ)) (command : Command) (contents : Contents) (image : Option (List ℕ)) (text : List ℕ) → Asks words command → Makes command contents image text
+none_made : (words : List (List ℕ)) (command : Command) (contents : Contents) (left image : Option (List ℕ)) (text : List ℕ) → Asks words command → Makes command contents left image text
     → (name : List ℕ) (shard at : ℕ) → AsksToRead words name → HoldsBadShard contents name shard at → ⊥
-none_made words command contents image text asked made name shard at asks has =
+none_made words command contents left image text asked made name shard at asks has =
     let same : asks.command ≡ command = one_command words asks.command command asks.asked asked in
-    not_made command contents name shard at image text (subst Reads same asks.reads) (subst (λ (c : Command). image_name c ≡ name) same asks.is_named) has made
+    not_made command contents name shard at left image text (subst Reads same asks.reads) (subst (λ (c : Command). image_name c ≡ name) same asks.is_named) has made
 
 -- so it is not done
-pub not_done_bad : (words : List (List ℕ)) (command : Command) (old new : Contents) (taken taken' : Option (List ℕ)) (status : ℕ) → Asks words command → IsCarriedOut command old new taken taken'
+pub not_done_bad : (words : List (List ℕ)) (command : Command) (old new : Contents) (left taken taken' : Option (List ℕ)) (status : ℕ) → Asks words command → IsCarriedOut command old new left taken taken'
     → (name : List ℕ) (shard at : ℕ) → AsksToRead words name → HoldsBadShard old name shard at → (status ≡ bad_shard) ⊎ (status ≡ out_of_memory) ⊎ (status ≡ read_fault)
-not_done_bad words command old new taken taken' status asked done name shard at asks has = absurd (none_made words command old done.image done.text asked done.made name shard at asks has)
+not_done_bad words command old new left taken taken' status asked done name shard at asks has = absurd (none_made words command old left done.image done.text asked done.made name shard at asks has)
 
 -- why a command stopped
-pub stops_bad : (words : List (List ℕ)) (command : Command) (old new : Contents) (store_failed sink_failed : Type 0) (taken taken' : Option (List ℕ)) (status : ℕ) (fault : Fault)
-    → Asks words command → IsStopped command old new store_failed sink_failed taken taken' fault → status ≡ status_of fault
+pub stops_bad : (words : List (List ℕ)) (command : Command) (old new : Contents) (left : Option (List ℕ)) (store_failed source_failed sink_failed : Type 0) (taken taken' : Option (List ℕ)) (status : ℕ) (fault : Fault)
+    → Asks words command → IsStopped command old new left store_failed source_failed sink_failed taken taken' fault → status ≡ status_of fault
     → (name : List ℕ) (shard at : ℕ) → AsksToRead words name → HoldsBadShard old name shard at
     → (status ≡ bad_shard) ⊎ (status ≡ out_of_memory) ⊎ (status ≡ read_fault)
-stops_bad words command old new store_failed sink_failed taken taken' status fault asked stopped is name shard at asks has =
+stops_bad words command old new left store_failed source_failed sink_failed taken taken' status fault asked stopped is name shard at asks has =
     elim stopped.cause as (λ _. (status ≡ bad_shard) ⊎ (status ≡ out_of_memory) ⊎ (status ≡ read_fault)) [
-      | inl (why, untouched) ↦
+      | inl (inl why, untouched) ↦
           let same : asks.command ≡ command = one_command words asks.command command asks.asked asked in
           refused command old name shard at store_failed status fault (subst (λ (c : Command). image_name c ≡ name) same asks.is_named) has is why
-      | inr (image, text, made, why) ↦ absurd (none_made words command old image text asked made name shard at asks has)
+      | inl (inr trace, untouched) ↦
+          let same : asks.command ≡ command = one_command words asks.command command asks.asked asked in
+          absurd (mapped_shard old (image_name command) name shard at (subst (λ (c : Command). image_name c ≡ name) same asks.is_named) trace.mapped has)
+      | inr (image, text, made, why) ↦ absurd (none_made words command old left image text asked made name shard at asks has)
     ]

@@ -1,11 +1,14 @@
 -- From the contracts of the two steps of a command to the command, and to the status of the call.
-use Rattle.std.proofs.Common.{◌≡◌, ℕ, ◌≤◌, List, Option, Result, Ok, Err, IfErr, inr, sym, subst, arith}
+use Rattle.std.proofs.Common.{◌≡◌, ℕ, ◌≤◌, List, Option, Result, Ok, Err, OnOk, IfErr, IsErrOf, inl, inr, refl, sym, ap, ◌∙◌, subst, arith}
 use Rattle.tool_ports.specs.Causes.{Rose}
 use Rattle.tool_ports.specs.Contents.{Contents}
-use Rattle.tool_run.specs.Command.{Command, image_name}
+use Rattle.tool_ports.specs.Calls.{with_get}
+use Rattle.tool_ports.specs.declared.store_calls.StoreCalls.{StoreCalls}
+use Rattle.tool_run.specs.Calls.{get_limit, with_making, with_putting, with_command, with_status}
+use Rattle.tool_run.specs.Command.{Command, format_image, show_image, drain_image, gen_trace, run_image, image_name}
 use Rattle.tool_run.specs.declared.fault.Fault.{Fault}
-use Rattle.tool_run.specs.declared.fault.Fault.TheVariants.{Usage, Memory, ReadFault, WriteFault, Absent, Malformed, Outside, BadShard}
-use Rattle.tool_run.specs.Inside.{DeliveryFails, IsStopped, Refuses}
+use Rattle.tool_run.specs.declared.fault.Fault.TheVariants.{Usage, Memory, ReadFault, WriteFault, Absent, Malformed, Outside, BadShard, BadLine, TooLong}
+use Rattle.tool_run.specs.Inside.{DeliveryFails, IsStopped, Refuses, RefusesEither, status_of}
 use Rattle.tool_run.specs.Making.{Makes, Gets}
 use Rattle.tool_run.specs.Outcome.{IsCutOff, while_putting, while_printing}
 
@@ -30,12 +33,14 @@ wider_failure name text old new A A' B taken taken' image to Absent h = h
 wider_failure name text old new A A' B taken taken' image to (Malformed cause) h = h
 wider_failure name text old new A A' B taken taken' image to (Outside at value) h = h
 wider_failure name text old new A A' B taken taken' image to (BadShard shard at) h = h
+wider_failure name text old new A A' B taken taken' image to (BadLine line) h = h
+wider_failure name text old new A A' B taken taken' image to TooLong h = h
 
-pub stops_at_delivery : (command : Command) (name text : List ℕ) (image : Option (List ℕ)) (old mid new : Contents) (first second third : ℕ) (print_failed : Type 0) (taken taken' : Option (List ℕ)) (fault : Fault)
-    → Makes command old image text → name ≡ image_name command → mid ≡ old → first ≤ second
+pub stops_at_delivery : (command : Command) (name text : List ℕ) (image : Option (List ℕ)) (old mid new : Contents) (left : Option (List ℕ)) (first second third : ℕ) (read_failed print_failed : Type 0) (taken taken' : Option (List ℕ)) (fault : Fault)
+    → Makes command old left image text → name ≡ image_name command → mid ≡ old → first ≤ second
     → DeliveryFails name image text mid new (Rose second third) print_failed taken taken' fault
-    → IsStopped command old new (Rose first third) print_failed taken taken' fault
-stops_at_delivery command name text image old mid new first second third print_failed taken taken' fault made named same low why =
+    → IsStopped command old new left (Rose first third) read_failed print_failed taken taken' fault
+stops_at_delivery command name text image old mid new left first second third read_failed print_failed taken taken' fault made named same low why =
     let here : DeliveryFails (image_name command) image text mid new (Rose second third) print_failed taken taken' fault =
     subst (λ (n : List ℕ). DeliveryFails n image text mid new (Rose second third) print_failed taken taken' fault) named why in
     let there : DeliveryFails (image_name command) image text old new (Rose second third) print_failed taken taken' fault =
@@ -60,3 +65,54 @@ pub refuses : (command : Command) (name : List ℕ) (contents : Contents) (get_f
     → ((other : Command) → Gets other → image_name other ≡ name → Refuses other contents get_failed cause) → Refuses command contents get_failed fault
 refuses command name contents get_failed fault cause is gets named why =
     subst (λ (f : Fault). Refuses command contents get_failed f) (sym is) (why command gets named)
+
+-- a command that was refused has made no more calls than to get its image
+pub calls_refused : (command : Command) (contents : Contents) (left : Option (List ℕ)) (A B : Type 0) (before : StoreCalls) (fault : Fault) → RefusesEither command contents left A B fault
+    → with_making command before ≡ with_status command (status_of fault) before
+calls_refused command contents left A B before WriteFault (inl why) = absurd why
+calls_refused command contents left A B before WriteFault (inr trace) = absurd trace.why
+calls_refused command contents left A B before fault why = refl
+
+-- another error is another result
+other_fault : {U : Type 0} (result : Result U Fault) (fault other : Fault) → result ≡ Err fault → result ≡ Err other → (fault ≡ other → ⊥) → ⊥
+other_fault result fault other is also differ = differ (cc)
+
+-- what was made is put, if it is to be put
+putting_made : (command : Command) (contents : Contents) (left put : Option (List ℕ)) (text : List ℕ) (before : StoreCalls) → Makes command contents left put text
+    → with_putting put (with_making command before) ≡ with_command command before
+putting_made (format_image image capacity) contents left put text before made = ap (λ p. with_putting p before) made.image_is
+putting_made (show_image image with_map) contents left put text before made = ap (λ p. with_putting p (with_get get_limit before)) made.0
+putting_made (drain_image image class) contents left put text before made = ap (λ p. with_putting p (with_get get_limit before)) made.0
+putting_made (gen_trace requests seed) contents left put text before made = ap (λ p. with_putting p before) made.0
+putting_made (run_image image options) contents left put text before made = ap (λ p. with_putting p (with_get get_limit before)) made.put_is
+
+module _ (command : Command) (contents : Contents) (left image : Option (List ℕ)) (text : List ℕ) (before mid after : StoreCalls) (made : Makes command contents left image text)
+    (first : mid ≡ with_making command before) where
+  all_put : after ≡ with_putting image mid → after ≡ with_command command before
+  all_put put = put ∙ ap (with_putting image) first ∙ putting_made command contents left image text before made
+
+  -- the calls of a command that was carried out
+  pub calls_done : {U : Type 0} (result : Result U Fault) → ((IsErrOf result Memory → ⊥) → after ≡ with_putting image mid) → OnOk result (after ≡ with_command command before)
+  calls_done (Ok u) put = all_put (put (λ e. let never : Ok u ≡ Err Memory = e in cc))
+  calls_done (Err e) put = tt
+
+  -- and of one that was not delivered
+  pub calls_undelivered : {U : Type 0} (name : List ℕ) (old new : Contents) (A B : Type 0) (taken taken' : Option (List ℕ)) (result : Result U Fault) → IfErr result (DeliveryFails name image text old new A B taken taken')
+      → ((IsErrOf result Memory → ⊥) → after ≡ with_putting image mid) → (IsErrOf result Memory → after ≡ mid)
+      → IfErr result (λ fault. after ≡ with_status command (status_of fault) before)
+  calls_undelivered name old new A B taken taken' (Ok u) why put not_put = tt
+  calls_undelivered name old new A B taken taken' (Err Memory) why put not_put = not_put refl ∙ first
+  calls_undelivered name old new A B taken taken' (Err WriteFault) why put not_put = all_put (put (λ e. other_fault _ WriteFault Memory refl e (λ same. let never : WriteFault ≡ Memory = same in cc)))
+  calls_undelivered name old new A B taken taken' (Err Usage) why put not_put = absurd why
+  calls_undelivered name old new A B taken taken' (Err ReadFault) why put not_put = absurd why
+  calls_undelivered name old new A B taken taken' (Err Absent) why put not_put = absurd why
+  calls_undelivered name old new A B taken taken' (Err (Malformed cause)) why put not_put = absurd why
+  calls_undelivered name old new A B taken taken' (Err (Outside at value)) why put not_put = absurd why
+  calls_undelivered name old new A B taken taken' (Err (BadShard shard at)) why put not_put = absurd why
+  calls_undelivered name old new A B taken taken' (Err (BadLine line)) why put not_put = absurd why
+  calls_undelivered name old new A B taken taken' (Err TooLong) why put not_put = absurd why
+
+-- what was refused by its image was refused
+pub refused_by_image : (command : Command) (contents : Contents) (left : Option (List ℕ)) (A B : Type 0) (fault cause : Fault) → fault ≡ cause → Refuses command contents A cause
+    → RefusesEither command contents left A B fault
+refused_by_image command contents left A B fault cause is why = inl (subst (λ (f : Fault). Refuses command contents A f) (sym is) why)

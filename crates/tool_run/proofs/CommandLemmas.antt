@@ -1,22 +1,33 @@
 -- What clap's matches say of the command that is asked for.
-use Rattle.std.proofs.Common.{◌≡◌, ◌≤◌, ◌<◌, ◌^◌, ◌∙◌, ℕ, Bool, List, [], Option, Some, None, Result, Ok, Err, IfNone, codes, length, refl, sym, ap, arith}
+use Rattle.std.proofs.Common.{◌≡◌, ◌≤◌, ◌<◌, ◌^◌, ◌∙◌, ℕ, Bool, List, [], Option, Some, None, Result, Ok, Err, IfNone, codes, length, refl, sym, ap, inl, inr, arith}
 use Rattle.std.specs.Prelude.{slice_get, slice_index, unwrap_or}
 use Rattle.std.specs.Str.Parse.{ParsesUnsigned}
-use Rattle.clap.specs.Words.{App, ReadsOne, first_of, one_text, first_value, rows_of, found_of, fault_of, matches_of}
+use Rattle.clap.specs.Words.{App, Row, ReadsOne, first_of, one_text, first_value, rows_of, found_of, fault_of, matches_of}
 use Rattle.clap.specs.declared.parser.matches.ArgMatches.{ArgMatches}
 use Rattle.clap.specs.declared.parser.matches.Found.{Found}
 use Rattle.clap.proofs.WalkLemmas.{one_text-rows, first_value-rows}
 use Rattle.heap_model.specs.Geometry.{largest_capacity}
 use Rattle.heap_model.specs.Sizes.{IsClass}
-use Rattle.tool_run.specs.Command.{Command, format_image, show_image, drain_image, gen_trace, AsksToFormat, AsksToShow, AsksToDrain, AsksToGen, IsUsage}
+use Rattle.tool_run.specs.Command.{Command, format_image, show_image, drain_image, gen_trace, run_image, AsksToFormat, AsksToShow, AsksToDrain, AsksToGen, AsksToRun, IsUsage}
 use Rattle.tool_run.specs.declared.trace_plan.TheConstants.{MOST_REQUESTS, GREATEST_SEED}
+use Rattle.image_run.specs.Running.{Options}
+use Rattle.image_run.specs.declared.options.TheConstants.{MOST_WORKERS, MOST_BUDGET}
 use Rattle.tool_run.specs.Examples.{first_word}
-use Rattle.tool_run.specs.CommandLine.{format_app, show_app, drain_app, gen_app, image_id, capacity_id, class_id, map_id, requests_id, trace_seed_id, IsTaken, IsMatchedBy, HasNumber, HasFlag}
+use Rattle.tool_run.specs.CommandLine.{format_app, show_app, drain_app, gen_app, run_app, image_id, capacity_id, class_id, map_id, requests_id, trace_seed_id, workers_id, stop_id, seed_id, sum_id, HasNumberOr, IsTaken, IsMatchedBy, HasNumber, HasFlag}
 
 -- what holds where there is none
 pub if_none : {T P : Type 0} (result : Option T) → result ≡ None → IfNone result P → P
 if_none None is holds = holds
 if_none (Some x) is holds = cc
+
+-- where a text was given, no number stands for none
+pub none_given : {T : Type 0} (result : Option T) (rows : List Row) (id text : List ℕ) (other least most : ℕ) → Some text ≡ first_of id rows
+    → IfNone result ((n : ℕ) → HasNumber rows id n → least ≤ n → n ≤ most → ⊥) → IfNone result ((n : ℕ) → HasNumberOr rows id other n → least ≤ n → n ≤ most → ⊥)
+none_given (Some x) rows id text other least most given none = tt
+none_given None rows id text other least most given none = λ n has low high. elim has as (λ _. ⊥) [
+  | inl number ↦ none n number low high
+  | inr (absent, same) ↦ let never : Some text ≡ None = given ∙ absent in absurd (cc)
+]
 
 -- the text of an argument stands in its row
 pub text_in_rows : (f : Found) (id : List ℕ) → first_value f id ≡ first_of id (rows_of f)
@@ -106,6 +117,26 @@ module _ (app : App) (words : List (List ℕ)) (m : ArgMatches) (taken : IsMatch
     small = small;
   }
 
+  pub asks_run : app ≡ run_app → slice_get words 0 ≡ Some (codes "run") → (image : List ℕ) (options : Options)
+      → Some image ≡ first_of image_id (rows_of (found_of m)) → HasNumber (rows_of (found_of m)) workers_id options.workers → 1 ≤ options.workers → options.workers ≤ MOST_WORKERS
+      → HasNumberOr (rows_of (found_of m)) stop_id MOST_BUDGET options.budget → options.budget ≤ MOST_BUDGET
+      → HasNumberOr (rows_of (found_of m)) seed_id 0 options.seed → options.seed < 2 ^ 64
+      → HasFlag (rows_of (found_of m)) sum_id options.with_sum → HasFlag (rows_of (found_of m)) map_id options.with_map
+      → AsksToRun words image options
+  asks_run is first image options named by some few within below seeded fits summed mapped = record {
+    taken = is_taken run_app is first;
+    named = rw (← rows_taken run_app is) (sym named);
+    by = rw (← rows_taken run_app is) by;
+    some = some;
+    few = few;
+    within = rw (← rows_taken run_app is) within;
+    below = below;
+    seeded = rw (← rows_taken run_app is) seeded;
+    fits = fits;
+    summed = rw (← rows_taken run_app is) summed;
+    mapped = rw (← rows_taken run_app is) mapped;
+  }
+
   -- without the image's name nothing is asked for
   pub no_image_given : (wanted : App) → app ≡ wanted → (image : List ℕ) → None ≡ first_of image_id (rows_of (found_of m))
       → first_of image_id (matches_of wanted words) ≡ Some image → ⊥
@@ -118,6 +149,12 @@ module _ (app : App) (words : List (List ℕ)) (m : ArgMatches) (taken : IsMatch
       → ((k : ℕ) → HasNumber (rows_of (found_of m)) id k → least ≤ k → k ≤ most → ⊥)
       → HasNumber (matches_of wanted words) id n → least ≤ n → n ≤ most → ⊥
   no_number_given wanted is id least most n none has low high = none n (rw (rows_taken wanted is) has) low high
+
+  -- nor without one in its bounds, where another may stand for none
+  pub no_number_or : (wanted : App) → app ≡ wanted → (id : List ℕ) (other least most n : ℕ)
+      → ((k : ℕ) → HasNumberOr (rows_of (found_of m)) id other k → least ≤ k → k ≤ most → ⊥)
+      → HasNumberOr (matches_of wanted words) id other n → least ≤ n → n ≤ most → ⊥
+  no_number_or wanted is id other least most n none has low high = none n (rw (rows_taken wanted is) has) low high
 
 -- one first word
 other_name : (words : List (List ℕ)) (a b : List ℕ) → slice_get words 0 ≡ Some a → slice_get words 0 ≡ Some b → (a ≡ b → ⊥) → ⊥
@@ -147,13 +184,19 @@ pub usage_gen : (words : List (List ℕ)) → slice_get words 0 ≡ Some (codes 
 usage_gen words first none (gen_trace requests seed) asks = none requests seed asks
 usage_gen words first none other asks = other_name words _ _ first (first_word words other asks) (λ e. omega (arith, first_letter _ _ e))
 
+pub usage_run : (words : List (List ℕ)) → slice_get words 0 ≡ Some (codes "run")
+    → ((image : List ℕ) (options : Options) → AsksToRun words image options → ⊥) → IsUsage words
+usage_run words first none (run_image image options) asks = none image options asks
+usage_run words first none other asks = other_name words _ _ first (first_word words other asks) (λ e. omega (arith, first_letter _ _ e))
+
 -- a word that names no command asks for none
 pub usage_other : (words : List (List ℕ)) (word : List ℕ) → slice_get words 0 ≡ Some word
-    → (word ≡ codes "format" → ⊥) → (word ≡ codes "show" → ⊥) → (word ≡ codes "drain" → ⊥) → (word ≡ codes "gen" → ⊥) → IsUsage words
-usage_other words word first format show drain gen (format_image image n) asks = other_name words _ _ first asks.taken.named format
-usage_other words word first format show drain gen (show_image image flag) asks = other_name words _ _ first asks.taken.named show
-usage_other words word first format show drain gen (drain_image image n) asks = other_name words _ _ first asks.taken.named drain
-usage_other words word first format show drain gen (gen_trace requests seed) asks = other_name words _ _ first asks.taken.named gen
+    → (word ≡ codes "format" → ⊥) → (word ≡ codes "show" → ⊥) → (word ≡ codes "drain" → ⊥) → (word ≡ codes "gen" → ⊥) → (word ≡ codes "run" → ⊥) → IsUsage words
+usage_other words word first format show drain gen run (format_image image n) asks = other_name words _ _ first asks.taken.named format
+usage_other words word first format show drain gen run (show_image image flag) asks = other_name words _ _ first asks.taken.named show
+usage_other words word first format show drain gen run (drain_image image n) asks = other_name words _ _ first asks.taken.named drain
+usage_other words word first format show drain gen run (gen_trace requests seed) asks = other_name words _ _ first asks.taken.named gen
+usage_other words word first format show drain gen run (run_image image options) asks = other_name words _ _ first asks.taken.named run
 
 no_name : (words : List (List ℕ)) (name : List ℕ) → words ≡ [] → slice_get words 0 ≡ Some name → ⊥
 no_name words name none first =

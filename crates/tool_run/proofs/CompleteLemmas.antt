@@ -1,58 +1,91 @@
 -- A command against which nothing stands stops for want of memory alone, where neither the store nor the sink fails.
-use Rattle.std.proofs.Common.{◌≡◌, ◌⊎◌, ℕ, List, Option, Some, None, inl, inr, subst}
+use Rattle.std.proofs.Common.{◌≡◌, ◌⊎◌, ℕ, ◌<◌, List, length, Option, Some, None, inl, inr, sym, subst, arith}
 use Rattle.tool_ports.specs.Contents.{Contents}
 use Rattle.heap_model.specs.Image.{image_of_bytes}
 use Rattle.dict_model.specs.Shards.{LeadsAlone, BadShard as IsBadShard}
 use Rattle.dict_model.proofs.ShardLemmas.{no_bad_place, alone_once}
-use Rattle.tool_run.specs.Command.{Command, format_image, show_image, drain_image, gen_trace, image_name, Asks}
+use Rattle.tool_run.specs.Command.{Command, format_image, show_image, drain_image, gen_trace, run_image, image_name, Asks}
 use Rattle.tool_run.specs.declared.fault.Fault.{Fault}
-use Rattle.tool_run.specs.declared.fault.Fault.TheVariants.{Usage, Memory, ReadFault, WriteFault, Absent, Malformed, Outside, BadShard}
+use Rattle.tool_run.specs.declared.fault.Fault.TheVariants.{Usage, Memory, ReadFault, WriteFault, Absent, Malformed, Outside, BadShard, BadLine, TooLong}
 use Rattle.tool_run.specs.Examples.{one_command}
-use Rattle.tool_run.specs.Inside.{Refuses, DeliveryFails, IsStopped, status_of}
-use Rattle.tool_run.specs.Making.{Gets, Reads, PointsOutside, fault_of}
-use Rattle.tool_run.specs.Outcome.{HoldsGood, HoldsMaps, CanBeDone, IsCutOff, while_putting, while_printing}
+use Rattle.tool_run.specs.Inside.{Refuses, IsTraceFault, DeliveryFails, IsStopped, status_of}
+use Rattle.tool_run.specs.Making.{Gets, Reads, RunsATrace, PointsOutside, fault_of, longest_trace}
+use Rattle.tool_run.specs.Outcome.{HoldsGood, HoldsMaps, HoldsTrace, CanBeDone, IsCutOff, while_putting, while_printing}
 use Rattle.tool_run.specs.Status.{done, out_of_memory}
+use Rattle.trace_text.specs.Trace.{lines_of, AreLines}
+use Rattle.trace_text.proofs.ReadingLemmas.{read_or_outside}
 use Rattle.tool_run.proofs.OutsideLemmas.{of_told, same_bytes}
+use Rattle.tool_run.proofs.TraceLemmas.{of_left}
 
 -- what the store has for such a command
-good_of : (command : Command) (contents : Contents) → Gets command → CanBeDone command contents → HoldsGood contents (image_name command)
-good_of (format_image image capacity) contents gets can = absurd gets
-good_of (show_image image with_map) contents gets can = record { bytes = can.bytes; held = can.held; good = can.good; inside = can.inside }
-good_of (drain_image image class) contents gets can = can
-good_of (gen_trace requests seed) contents gets can = absurd gets
+good_of : (command : Command) (contents : Contents) (left : Option (List ℕ)) → Gets command → CanBeDone command contents left → HoldsGood contents (image_name command)
+good_of (format_image image capacity) contents left gets can = absurd gets
+good_of (show_image image with_map) contents left gets can = record { bytes = can.bytes; held = can.held; good = can.good; inside = can.inside }
+good_of (drain_image image class) contents left gets can = can
+good_of (gen_trace requests seed) contents left gets can = absurd gets
+good_of (run_image image options) contents left gets can = record { bytes = can.0.bytes; held = can.0.held; good = can.0.good; inside = can.0.inside }
 
-maps_of : (command : Command) (contents : Contents) → Reads command → CanBeDone command contents → HoldsMaps contents (image_name command)
-maps_of (format_image image capacity) contents reads can = absurd reads
-maps_of (show_image image with_map) contents reads can = can
-maps_of (drain_image image class) contents reads can = absurd reads
-maps_of (gen_trace requests seed) contents reads can = absurd reads
+maps_of : (command : Command) (contents : Contents) (left : Option (List ℕ)) → Reads command → CanBeDone command contents left → HoldsMaps contents (image_name command)
+maps_of (format_image image capacity) contents left reads can = absurd reads
+maps_of (show_image image with_map) contents left reads can = can
+maps_of (drain_image image class) contents left reads can = absurd reads
+maps_of (gen_trace requests seed) contents left reads can = absurd reads
+maps_of (run_image image options) contents left reads can = can.0
 
-module _ (command : Command) (contents : Contents) (get_failed : Type 0) (status : ℕ) (can : CanBeDone command contents) (works : get_failed → ⊥) where
-  refused : (fault : Fault) → status ≡ status_of fault → Refuses command contents get_failed fault → (status ≡ done) ⊎ (status ≡ out_of_memory)
+trace_of : (command : Command) (contents : Contents) (left : Option (List ℕ)) → RunsATrace command → CanBeDone command contents left → HoldsTrace left
+trace_of (format_image image capacity) contents left runs can = absurd runs
+trace_of (show_image image with_map) contents left runs can = absurd runs
+trace_of (drain_image image class) contents left runs can = absurd runs
+trace_of (gen_trace requests seed) contents left runs can = absurd runs
+trace_of (run_image image options) contents left runs can = can.1
+
+-- the trace is not refused
+trace_good : (left : Option (List ℕ)) (read_failed : Type 0) (status : ℕ) (fault : Fault) → HoldsTrace left → (read_failed → ⊥) → status ≡ status_of fault → IsTraceFault left read_failed fault
+    → (status ≡ done) ⊎ (status ≡ out_of_memory)
+trace_good left read_failed status Memory has reads is why = inr is
+trace_good left read_failed status ReadFault has reads is why = absurd (reads why)
+trace_good left read_failed status (BadLine line) has reads is why =
+    let same : has.trace ≡ why.trace = of_left (λ all. all ≡ why.trace) left has.trace has.all why.has_trace.all in
+    absurd (read_or_outside (lines_of why.trace) has.lines line (subst (λ (l : List ℕ). AreLines (lines_of l) has.lines) same has.lines_are) why.first)
+trace_good left read_failed status TooLong has reads is why =
+    let more = of_left (λ all. longest_trace < length all) left has.trace has.all why in
+    let short = has.short in
+    absurd (omega arith)
+trace_good left read_failed status Usage has reads is why = absurd why
+trace_good left read_failed status WriteFault has reads is why = absurd why
+trace_good left read_failed status Absent has reads is why = absurd why
+trace_good left read_failed status (Malformed cause) has reads is why = absurd why
+trace_good left read_failed status (Outside at value) has reads is why = absurd why
+trace_good left read_failed status (BadShard shard at) has reads is why = absurd why
+
+module _ (command : Command) (contents : Contents) (left : Option (List ℕ)) (get_failed : Type 0) (status : ℕ) (can : CanBeDone command contents left) (works : get_failed → ⊥) where
+  pub refused : (fault : Fault) → status ≡ status_of fault → Refuses command contents get_failed fault → (status ≡ done) ⊎ (status ≡ out_of_memory)
   refused Usage is why = absurd why
   refused Memory is why = inr is
   refused ReadFault is why = absurd (works why.1)
   refused WriteFault is why = absurd why
   refused Absent is why =
-      let has = good_of command contents why.0 can in
+      let has = good_of command contents left why.0 can in
       let none : Some has.bytes ≡ None = of_told (λ image. image ≡ None) contents (image_name command) (image_name command) (Some has.bytes) (λ i. image_name command) why.1 has.held in
       absurd (cc)
   refused (Malformed cause) is why =
-      let has = good_of command contents why.0 can in
+      let has = good_of command contents left why.0 can in
       let same : why.1.bytes ≡ has.bytes = same_bytes contents (image_name command) (image_name command) why.1.bytes has.bytes (λ i. image_name command) why.1.held has.held in
       let bad : fault_of has.bytes ≡ Some cause = subst (λ (l : List ℕ). fault_of l ≡ Some cause) same why.1.fault in
       let good : fault_of has.bytes ≡ None = has.good in
       absurd (cc)
   refused (Outside at value) is why =
-      let has = good_of command contents why.0 can in
+      let has = good_of command contents left why.0 can in
       let same : why.1.bytes ≡ has.bytes = same_bytes contents (image_name command) (image_name command) why.1.bytes has.bytes (λ i. image_name command) why.1.is_there has.held in
       absurd (has.inside at (subst (λ (l : List ℕ). PointsOutside (image_of_bytes l) at) same why.1.points))
   refused (BadShard shard at) is why =
-      let has = maps_of command contents why.0 can in
+      let has = maps_of command contents left why.0 can in
       let same : why.1.bytes ≡ has.bytes = same_bytes contents (image_name command) (image_name command) why.1.bytes has.bytes (λ i. image_name command) why.1.is_there has.held in
       let map = has.maps shard why.1.lowest.below in
       absurd (no_bad_place (LeadsAlone (image_of_bytes has.bytes) shard) (alone_once (image_of_bytes has.bytes) shard) (image_of_bytes has.bytes) shard map.0 at map.1
       (subst (λ (l : List ℕ). IsBadShard (image_of_bytes l) shard at) same why.1.lowest.bad))
+  refused (BadLine line) is why = absurd why
+  refused TooLong is why = absurd why
 
 cut_off : (P : Type 0) (name : List ℕ) (image : Option (List ℕ)) (text : List ℕ) (old new : Contents) (store_failed sink_failed : Type 0) (taken taken' : Option (List ℕ))
     → (store_failed → ⊥) → (sink_failed → ⊥) → IsCutOff name image text old new store_failed sink_failed taken taken' → P
@@ -71,13 +104,18 @@ undelivered name image text old new store_failed sink_failed taken taken' status
 undelivered name image text old new store_failed sink_failed taken taken' status (Malformed cause) store sink is why = absurd why
 undelivered name image text old new store_failed sink_failed taken taken' status (Outside at value) store sink is why = absurd why
 undelivered name image text old new store_failed sink_failed taken taken' status (BadShard shard at) store sink is why = absurd why
+undelivered name image text old new store_failed sink_failed taken taken' status (BadLine line) store sink is why = absurd why
+undelivered name image text old new store_failed sink_failed taken taken' status TooLong store sink is why = absurd why
 
-pub stops_complete : (words : List (List ℕ)) (command : Command) (old new : Contents) (store_failed sink_failed : Type 0) (taken taken' : Option (List ℕ)) (status : ℕ) (fault : Fault)
-    → Asks words command → IsStopped command old new store_failed sink_failed taken taken' fault → status ≡ status_of fault
-    → (other : Command) → Asks words other → CanBeDone other old → (store_failed → ⊥) → (sink_failed → ⊥) → (status ≡ done) ⊎ (status ≡ out_of_memory)
-stops_complete words command old new store_failed sink_failed taken taken' status fault asked stopped is other asks can store sink =
+pub stops_complete : (words : List (List ℕ)) (command : Command) (old new : Contents) (left : Option (List ℕ)) (store_failed source_failed sink_failed : Type 0) (taken taken' : Option (List ℕ)) (status : ℕ) (fault : Fault)
+    → Asks words command → IsStopped command old new left store_failed source_failed sink_failed taken taken' fault → status ≡ status_of fault
+    → (other : Command) → Asks words other → CanBeDone other old left → (store_failed → ⊥) → (RunsATrace other → source_failed → ⊥) → (sink_failed → ⊥) → (status ≡ done) ⊎ (status ≡ out_of_memory)
+stops_complete words command old new left store_failed source_failed sink_failed taken taken' status fault asked stopped is other asks can store source sink =
     let same : other ≡ command = one_command words other command asks asked in
+    let here : CanBeDone command old left = subst (λ (c : Command). CanBeDone c old left) same can in
     elim stopped.cause as (λ _. (status ≡ done) ⊎ (status ≡ out_of_memory)) [
-      | inl (why, untouched) ↦ refused command old store_failed status (subst (λ (c : Command). CanBeDone c old) same can) store fault is why
+      | inl (inl why, untouched) ↦ refused command old left store_failed status here store fault is why
+      | inl (inr trace, untouched) ↦
+          trace_good left source_failed status fault (trace_of command old left trace.runs here) (source (subst RunsATrace (sym same) trace.runs)) is trace.why
       | inr (image, text, made, why) ↦ undelivered (image_name command) image text old new store_failed sink_failed taken taken' status fault store sink is why
     ]

@@ -1,6 +1,5 @@
 -- What the first bytes of an image tell of it, where they are more than the longest image has.
 use Rattle.std.proofs.Common.{◌≡◌, ◌↔◌, ℕ, ◌+◌, ◌-◌, ◌*◌, ◌<◌, ◌≤◌, Bool, true, false, ◌||◌, nat_eq, nat_lt, List, [], ◌++◌, length, take, drop, slice_index, Option, Some, None, IsSomeAnd, refl, sym, ap, ◌∙◌, subst, inl, inr, arith}
-use Rattle.std.specs.Prelude.{if◌then◌else◌}
 use Rattle.std.proofs.lemmas.Bool.{cases_lt, le-ltb, ltb-false, ne_eqb, eq-eqb, or_parts}
 use Rattle.std.proofs.lemmas.List.{drop-take, take_all, length-take-le}
 use Rattle.byteorder.specs.Endian.{little_number}
@@ -9,35 +8,27 @@ use Rattle.heap_model.specs.declared.header.BadHeader.{BadHeader}
 use Rattle.heap_model.specs.Image.{Image, image_of_bytes}
 use Rattle.heap_model.specs.Header.{header_fault, has_fault, IsWellFormed, capacity_of, state_of}
 use Rattle.heap_model.specs.Geometry.{image_words, largest_capacity, clean, capacity_word}
-use Rattle.heap_model.specs.Recovery.{in_header}
 use Rattle.heap_model.proofs.HeaderLemmas.{no_fault}
 use Rattle.heap_recover.specs.declared.answer.Recovered.{Recovered}
-use Rattle.heap_recover.specs.declared.answer.Was.{Was}
-use Rattle.heap_recover.specs.declared.answer.Was.TheVariants.{Clean, Dirty}
 use Rattle.heap_recover.specs.declared.fault.RecoverFault.{RecoverFault}
 use Rattle.heap_recover.specs.declared.fault.RecoverFault.TheVariants.{Header, Outside as OutsideFound, Memory as RecoverMemory}
 use Rattle.region_header.proofs.SameHeader.{SameHeader, same_fault}
 use Rattle.tool_ports.specs.Contents.{Contents, Holds, HoldsFirst, Lacks}
 use Rattle.tool_ports.specs.declared.image_store.GetFault.{GetFault}
 use Rattle.tool_ports.specs.declared.image_store.GetFault.TheVariants.{Absent as NoSuchImage, Failed as GetFailed, Memory as GetMemory}
-use Rattle.trace_text.specs.Report.{report_of}
-use Rattle.trace_text.specs.HeapMap.{map_of}
-use Rattle.trace_text.specs.Keys.{TellsKeys}
-use Rattle.trace_text.specs.Recovered.{is_clean}
 use Rattle.tool_run.specs.declared.fault.Fault.{Fault}
 use Rattle.tool_run.specs.declared.fault.Fault.TheVariants.{Malformed}
 use Rattle.tool_run.specs.Calls.{get_limit}
 use Rattle.tool_run.specs.Command.{Command, image_name}
 use Rattle.tool_run.specs.Inside.{Refuses, fault_of_recovery, fault_of_get}
-use Rattle.tool_run.specs.Making.{Gets, fault_of, Shows, IsMalformed, HasOutside, PointsOutside, shown_text}
-use Rattle.tool_run.specs.Recovering.{IsRecovered, IsRecoveryOf, IsRecoveryFault, IsTextOf, text_of}
-use Rattle.std.specs.BTreeMap.{BTreeMap, get}
-use Rattle.std.specs.Ordering.{nat_cmp}
+use Rattle.tool_run.specs.Making.{Gets, fault_of, Shows, IsMalformed, HasOutside, PointsOutside}
+use Rattle.tool_run.specs.Recovering.{IsRecovered, IsRecoveryOf, IsRecoveryFault, IsTextOf}
+use Rattle.std.specs.BTreeMap.{BTreeMap}
 use Rattle.heap_model.specs.Rest.{IsReady}
 use Rattle.dict_model.specs.Links.{shards}
 use Rattle.dictionary.specs.Reading.{AreMaps}
-use Rattle.tool_run.proofs.MapLemmas.{maps_of_image}
-use Rattle.tool_run.proofs.EntryLemmas.{entries_ascend}
+use Rattle.image_run.proofs.RecoveredLemmas.{recovers_to, maps_of_image}
+use Rattle.image_run.proofs.TextLemmas.{reports}
 
 -- as many first bytes under another name
 pub first_limited : (contents : Contents) (name got : List ℕ) (most : ℕ) → most ≡ get_limit → HoldsFirst contents name most got → HoldsFirst contents name get_limit got
@@ -147,20 +138,6 @@ is_not_got contents name get_failed GetFailed fault is lacks failed command gets
 is_not_got contents name get_failed GetMemory fault is lacks failed command gets named =
     subst (λ (f : Fault). Refuses command contents get_failed f) (sym is) tt
 
--- a test that holds exactly where two numbers are equal
-same_test : (was : Was) (m n : ℕ) → (was ≡ Clean) ↔ (m ≡ n) → is_clean was ≡ nat_eq m n
-same_test Clean m n is = sym (eq-eqb m n (is.0 refl))
-same_test Dirty m n is = sym (ne_eqb m n (λ e. let yes : Dirty ≡ Clean = is.1 e in absurd (cc)))
-
--- the text on a recovered heap is that on the image
-same_text : (image : Image) (recovered : Recovered) (keys : List ℕ) (with_map : Bool) → IsRecoveryOf image recovered
-    → text_of recovered keys with_map ≡ shown_text image with_map keys recovered.heap.held recovered.free.items (slice_index recovered.heap.words)
-same_text image recovered keys with_map is =
-    let capacity : slice_index recovered.heap.words capacity_word ≡ image capacity_word = is.recovers.words_are.same capacity_word (in_header capacity_word (inr (inr (inl refl)))) in
-    let state : is_clean recovered.was ≡ nat_eq (state_of image) clean = same_test recovered.was (state_of image) clean is.was in
-    ap (λ n. report_of n (is_clean recovered.was) keys recovered.heap.held ++ (if with_map then map_of (slice_index recovered.heap.words) recovered.heap.held recovered.free.items else [])) capacity
-    ∙ ap (λ b. report_of (capacity_of image) b keys recovered.heap.held ++ (if with_map then map_of (slice_index recovered.heap.words) recovered.heap.held recovered.free.items else [])) state
-
 -- an image that was recovered
 pub is_recovered : (contents : Contents) (name got shown : List ℕ) (recovered : Recovered) → IsWhole contents name got → shown ≡ got
     → IsRecoveryOf (image_of_bytes shown) recovered → ((at : ℕ) → PointsOutside (image_of_bytes shown) at → ⊥) → IsRecovered contents name recovered
@@ -175,24 +152,16 @@ is_recovered contents name got shown recovered whole are is inside = record {
 -- the report on it
 pub shows : (contents : Contents) (name text : List ℕ) (maps : List (BTreeMap ℕ (List ℕ))) (with_map : Bool) (recovered : Recovered) → IsRecovered contents name recovered
     → IsReady recovered.heap.words recovered.heap.held → AreMaps (slice_index recovered.heap.words) shards maps
-    → IsTextOf recovered maps with_map text → Shows contents name with_map text
+    → IsTextOf recovered maps false with_map text → Shows contents name with_map text
 shows contents name text maps with_map recovered is ready are text_is =
-    let told : TellsKeys (Some maps) false text_is.keys = text_is.keys_are in
-    let of_image = maps_of_image contents name recovered is ready maps are in
+    let to = recovers_to (image_of_bytes is.bytes) recovered is.is is.inside ready in
+    let of_image = maps_of_image (image_of_bytes is.bytes) (slice_index recovered.heap.words) to maps are in
     record {
       bytes = is.bytes;
       is_there = is.is_there;
       good = is.good;
       inside = is.inside;
-      held = recovered.heap.held;
-      free = recovered.free.items;
-      words = slice_index recovered.heap.words;
-      recovered = is.is.recovers;
-      maps = λ i below. let each = of_image.each i below in (get nat_cmp each.0, each.2);
-      entries = told.0;
-      entries_are = entries_ascend (image_of_bytes is.bytes) maps of_image told.0 told.1;
-      text_is = text_is.is ∙ same_text (image_of_bytes is.bytes) recovered text_is.keys with_map is.is
-          ∙ ap (λ (keys : List ℕ). shown_text (image_of_bytes is.bytes) with_map keys recovered.heap.held recovered.free.items (slice_index recovered.heap.words)) told.2;
+      report = reports (image_of_bytes is.bytes) recovered maps false with_map text is.is of_image text_is;
     }
 
 -- the cause of a bad header, where a command gets the image

@@ -13,4 +13,6 @@ pub mod MalformedLemmas
 pub mod BadShardLemmas
 pub mod CompleteLemmas
 pub mod MapLemmas
-pub mod EntryLemmas
+pub mod TraceLemmas
+pub mod BadTraceLemmas
+pub mod AbsentLemmas

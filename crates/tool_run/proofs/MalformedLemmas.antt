@@ -2,12 +2,12 @@
 use Rattle.std.proofs.Common.{◌≡◌, ◌⊎◌, ℕ, List, Option, Some, None, inl, inr, subst}
 use Rattle.tool_ports.specs.Contents.{Contents}
 use Rattle.heap_model.specs.declared.header.BadHeader.{BadHeader}
-use Rattle.tool_run.specs.Command.{Command, format_image, show_image, drain_image, gen_trace, image_name, Asks}
+use Rattle.tool_run.specs.Command.{Command, format_image, show_image, drain_image, gen_trace, run_image, image_name, Asks}
 use Rattle.tool_run.specs.declared.fault.Fault.{Fault}
-use Rattle.tool_run.specs.declared.fault.Fault.TheVariants.{Usage, Memory, ReadFault, WriteFault, Absent, Malformed, Outside, BadShard}
+use Rattle.tool_run.specs.declared.fault.Fault.TheVariants.{Usage, Memory, ReadFault, WriteFault, Absent, Malformed, Outside, BadShard, BadLine, TooLong}
 use Rattle.tool_run.specs.Examples.{one_command}
 use Rattle.tool_run.specs.Inside.{Refuses, IsStopped, status_of}
-use Rattle.tool_run.specs.Making.{Makes, Gets, fault_of}
+use Rattle.tool_run.specs.Making.{Makes, Gets, HasMapped, fault_of}
 use Rattle.tool_run.specs.Outcome.{AsksToGet, HoldsMalformed}
 use Rattle.tool_run.specs.Status.{out_of_memory, read_fault, bad_header}
 use Rattle.tool_run.proofs.OutsideLemmas.{of_told, same_bytes}
@@ -18,14 +18,20 @@ both_headers bytes other cause same good bad =
     let none : fault_of other ≡ None = subst (λ (l : List ℕ). fault_of l ≡ None) same good in
     absurd (cc)
 
+-- an image that can be run has a good header
+mapped_good : (contents : Contents) (n name : List ℕ) → n ≡ name → HasMapped contents n → HoldsMalformed contents name → ⊥
+mapped_good contents n name named mapped has =
+    both_headers mapped.bytes has.bytes has.cause (same_bytes contents n name mapped.bytes has.bytes named mapped.is_there has.held) mapped.good has.fault
+
 -- nothing is made then
-not_made : (command : Command) (contents : Contents) (name : List ℕ) (image : Option (List ℕ)) (text : List ℕ)
-    → Gets command → image_name command ≡ name → HoldsMalformed contents name → Makes command contents image text → ⊥
-not_made (format_image n capacity) contents name image text gets named has made = gets
-not_made (gen_trace requests seed) contents name image text gets named has made = gets
-not_made (show_image n with_map) contents name image text gets named has made =
+not_made : (command : Command) (contents : Contents) (name : List ℕ) (left image : Option (List ℕ)) (text : List ℕ)
+    → Gets command → image_name command ≡ name → HoldsMalformed contents name → Makes command contents left image text → ⊥
+not_made (format_image n capacity) contents name left image text gets named has made = gets
+not_made (gen_trace requests seed) contents name left image text gets named has made = gets
+not_made (run_image n options) contents name left image text gets named has made = mapped_good contents n name named made.mapped has
+not_made (show_image n with_map) contents name left image text gets named has made =
     both_headers made.1.bytes has.bytes has.cause (same_bytes contents n name made.1.bytes has.bytes named made.1.is_there has.held) made.1.good has.fault
-not_made (drain_image n class) contents name image text gets named has made =
+not_made (drain_image n class) contents name left image text gets named has made =
     both_headers made.1.bytes has.bytes has.cause (same_bytes contents n name made.1.bytes has.bytes named made.1.is_there has.held) made.1.good has.fault
 
 -- want of memory, a failed get, or that
@@ -40,20 +46,23 @@ refused command contents name get_failed status Absent named has is why =
     let none : Some has.bytes ≡ None = of_told (λ image. image ≡ None) contents (image_name command) name (Some has.bytes) named why.1 has.held in
     absurd (cc)
 refused command contents name get_failed status (Malformed cause) named has is why = inl is
+refused command contents name get_failed status (BadLine line) named has is why = absurd why
+refused command contents name get_failed status TooLong named has is why = absurd why
 refused command contents name get_failed status (BadShard shard place) named has is why =
     both_headers why.1.bytes has.bytes has.cause (same_bytes contents (image_name command) name why.1.bytes has.bytes named why.1.is_there has.held) why.1.good has.fault
 refused command contents name get_failed status (Outside place value) named has is why =
     both_headers why.1.bytes has.bytes has.cause (same_bytes contents (image_name command) name why.1.bytes has.bytes named why.1.is_there has.held) why.1.good has.fault
 
 -- why a command stopped
-pub stops_malformed : (words : List (List ℕ)) (command : Command) (old new : Contents) (store_failed sink_failed : Type 0) (taken taken' : Option (List ℕ)) (status : ℕ) (fault : Fault)
-    → Asks words command → IsStopped command old new store_failed sink_failed taken taken' fault → status ≡ status_of fault
+pub stops_malformed : (words : List (List ℕ)) (command : Command) (old new : Contents) (left : Option (List ℕ)) (store_failed source_failed sink_failed : Type 0) (taken taken' : Option (List ℕ)) (status : ℕ) (fault : Fault)
+    → Asks words command → IsStopped command old new left store_failed source_failed sink_failed taken taken' fault → status ≡ status_of fault
     → (name : List ℕ) → AsksToGet words name → HoldsMalformed old name
     → (status ≡ bad_header) ⊎ (status ≡ out_of_memory) ⊎ (status ≡ read_fault)
-stops_malformed words command old new store_failed sink_failed taken taken' status fault asked stopped is name asks has =
+stops_malformed words command old new left store_failed source_failed sink_failed taken taken' status fault asked stopped is name asks has =
     let same : asks.command ≡ command = one_command words asks.command command asks.asked asked in
     let named : image_name command ≡ name = subst (λ (c : Command). image_name c ≡ name) same asks.is_named in
     elim stopped.cause as (λ _. (status ≡ bad_header) ⊎ (status ≡ out_of_memory) ⊎ (status ≡ read_fault)) [
-      | inl (why, untouched) ↦ refused command old name store_failed status fault named has is why
-      | inr (image, text, made, why) ↦ absurd (not_made command old name image text (subst Gets same asks.gets) named has made)
+      | inl (inl why, untouched) ↦ refused command old name store_failed status fault named has is why
+      | inl (inr trace, untouched) ↦ absurd (mapped_good old (image_name command) name named trace.mapped has)
+      | inr (image, text, made, why) ↦ absurd (not_made command old name left image text (subst Gets same asks.gets) named has made)
     ]

@@ -1,40 +1,48 @@
--- The maps of a recovered heap are those of the image, and so is its lowest bad shard.
-use Rattle.std.proofs.Common.{◌≡◌, ℕ, Bool, List, slice_index, sym, subst, arith}
+-- The lowest bad shard of a recovered heap is that of the image, and where there is none the heap is a dictionary.
+use Rattle.std.proofs.Common.{◌≡◌, ℕ, List, slice_index, sym, subst, arith}
+use Rattle.std.specs.BTreeMap.{BTreeMap, get}
+use Rattle.std.specs.Ordering.{nat_cmp}
 use Rattle.heap_model.specs.Rest.{IsReady}
 use Rattle.heap_model.specs.Image.{image_of_bytes}
-use Rattle.std.specs.BTreeMap.{BTreeMap}
 use Rattle.dict_model.specs.Links.{shards}
 use Rattle.dictionary.specs.declared.fault.MapFault.{MapFault}
 use Rattle.dictionary.specs.declared.fault.MapFault.TheVariants.{BadShard as NoMap, Memory as MapMemory}
 use Rattle.dictionary.specs.Reading.{AreMaps, TellsLowest, RecoversTo}
 use Rattle.dictionary.proofs.SameLemmas.{map_kept, bad_kept}
 use Rattle.heap_recover.specs.declared.answer.Recovered.{Recovered}
+use Rattle.image_run.proofs.RecoveredLemmas.{recovers_to, maps_of_image, recovered_dictionary}
 use Rattle.tool_ports.specs.Contents.{Contents}
 use Rattle.tool_run.specs.declared.fault.Fault.{Fault}
-use Rattle.tool_run.specs.Command.{show_image}
+use Rattle.tool_run.specs.Command.{Command, image_name}
 use Rattle.tool_run.specs.Inside.{Refuses, fault_of_maps}
-use Rattle.tool_run.specs.Making.{HasBadShard}
-use Rattle.tool_run.specs.Recovering.{IsRecovered}
+use Rattle.tool_run.specs.Making.{Reads, HasBadShard}
+use Rattle.tool_run.specs.Recovering.{IsRecovered, IsMapped}
 
 module _ (contents : Contents) (name : List ℕ) (recovered : Recovered) (is : IsRecovered contents name recovered) (ready : IsReady recovered.heap.words recovered.heap.held) where
-  recovers_to : RecoversTo (image_of_bytes is.bytes) (slice_index recovered.heap.words)
-  recovers_to = record {
-    recovered = is.is.recovers.words_are;
-    inside = is.inside;
-    blocks = λ b kept. ready.blocks b (is.is.recovers.held_are.complete b kept);
-  }
+  pub to_words : RecoversTo (image_of_bytes is.bytes) (slice_index recovered.heap.words)
+  to_words = recovers_to (image_of_bytes is.bytes) recovered is.is is.inside ready
 
-  pub maps_of_image : (maps : List (BTreeMap ℕ (List ℕ))) → AreMaps (slice_index recovered.heap.words) shards maps → AreMaps (image_of_bytes is.bytes) shards maps
-  maps_of_image maps are = record {
-    long = are.long;
-    each = λ i below. let each = are.each i below in
-        (each.0, each.1, map_kept (image_of_bytes is.bytes) (slice_index recovered.heap.words) recovers_to i _ below each.2, each.3);
-  }
+  pub is_mapped : (maps : List (BTreeMap ℕ (List ℕ))) → AreMaps (slice_index recovered.heap.words) shards maps → IsMapped contents name recovered.heap.words recovered.heap.held
+  is_mapped maps are =
+      let of_image = maps_of_image (image_of_bytes is.bytes) (slice_index recovered.heap.words) to_words maps are in
+      record {
+        image = record {
+          bytes = is.bytes;
+          is_there = is.is_there;
+          good = is.good;
+          inside = is.inside;
+          maps = λ i below. let each = of_image.each i below in (get nat_cmp each.0, each.2);
+        };
+        to = to_words;
+        maps = maps;
+        are = are;
+        dictionary = recovered_dictionary (image_of_bytes is.bytes) (slice_index recovered.heap.words) to_words recovered.heap.held is.is.recovers.held_are maps are;
+      }
 
-  pub refuses_maps : (with_map : Bool) (get_failed : Type 0) (cause : MapFault) (fault : Fault) → fault ≡ fault_of_maps cause → TellsLowest (slice_index recovered.heap.words) cause
-      → Refuses (show_image name with_map) contents get_failed fault
-  refuses_maps with_map get_failed MapMemory fault same tells = subst (λ (f : Fault). Refuses (show_image name with_map) contents get_failed f) (sym same) tt
-  refuses_maps with_map get_failed (NoMap shard at) fault same tells =
+  pub refuses_maps : (command : Command) (get_failed : Type 0) (cause : MapFault) (fault : Fault) → fault ≡ fault_of_maps cause → TellsLowest (slice_index recovered.heap.words) cause
+      → Reads command → image_name command ≡ name → Refuses command contents get_failed fault
+  refuses_maps command get_failed MapMemory fault same tells reads named = subst (λ (f : Fault). Refuses command contents get_failed f) (sym same) tt
+  refuses_maps command get_failed (NoMap shard at) fault same tells reads named =
       let has : HasBadShard contents name shard at = record {
         bytes = is.bytes;
         is_there = is.is_there;
@@ -42,9 +50,9 @@ module _ (contents : Contents) (name : List ℕ) (recovered : Recovered) (is : I
         inside = is.inside;
         lowest = record {
           below = tells.0;
-          bad = bad_kept (image_of_bytes is.bytes) (slice_index recovered.heap.words) recovers_to shard at tells.0 tells.1;
+          bad = bad_kept (image_of_bytes is.bytes) (slice_index recovered.heap.words) to_words shard at tells.0 tells.1;
           lower = λ i low. let map = tells.2 i low in
-              (map.0, map_kept (image_of_bytes is.bytes) (slice_index recovered.heap.words) recovers_to i map.0 (omega arith) map.1);
+              (map.0, map_kept (image_of_bytes is.bytes) (slice_index recovered.heap.words) to_words i map.0 (omega arith) map.1);
         };
       } in
-      subst (λ (f : Fault). Refuses (show_image name with_map) contents get_failed f) (sym same) (tt, has)
+      subst (λ (f : Fault). Refuses command contents get_failed f) (sym same) (reads, subst (λ (n : List ℕ). HasBadShard contents n shard at) (sym named) has)

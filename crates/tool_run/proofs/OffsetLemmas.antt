@@ -14,20 +14,9 @@ use Rattle.std.proofs.lemmas.Map.Made.{AllPairs-from_IsDistinct, IsDistinct-from
 use Rattle.heap_model.specs.declared.block.Block.{Block}
 use Rattle.heap_model.specs.Recovered.{AreAscending}
 use Rattle.region_header.specs.declared.byte_list.Bytes.{Bytes}
+use Rattle.image_run.proofs.EntryLemmas.{still_once}
 use Rattle.tool_run.specs.Making.{drained_text}
 use Rattle.tool_run.specs.Recovering.{IsOffsetGiven, AreGiven, IsGivenText}
-
--- a test of equality answers alike for the two the other way round
-flips : (x y : ℕ) → nat_eq x y ≡ nat_eq y x
-flips x y = elim (cases_eq x y) as (λ _. nat_eq x y ≡ nat_eq y x) [
-  | inl same ↦ eq-eqb x y same ∙ sym (eq-eqb y x (sym same))
-  | inr other ↦ ne_eqb x y other ∙ sym (ne_eqb y x (λ e. other (sym e)))
-]
-
--- numbers that differ do so in any order
-pub still_once : (xs ys : List ℕ) → IsPermutation xs ys → AllPairs (λ x y. x ≢ y) xs → AllPairs (λ x y. x ≢ y) ys
-still_once xs ys moved once =
-    AllPairs-from_IsDistinct Decides-eqb ys (IsDistinct-IsPermutation nat_eq flips xs ys moved (IsDistinct-from_AllPairs Decides-eqb xs once))
 
 -- exactly the numbers of which a property holds, each once, once they are sorted
 pub ascending : (of : ℕ → Type 0) (xs ys : List ℕ) → IsPermutation xs ys → IsNonDecreasing ys

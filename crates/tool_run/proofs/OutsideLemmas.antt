@@ -2,12 +2,12 @@
 use Rattle.std.proofs.Common.{◌≡◌, ◌⊎◌, ℕ, List, Option, Some, None, IfSome, inl, inr, sym, subst}
 use Rattle.tool_ports.specs.Contents.{Contents, Holds, told_of}
 use Rattle.heap_model.specs.Image.{image_of_bytes}
-use Rattle.tool_run.specs.Command.{Command, format_image, show_image, drain_image, gen_trace, image_name, Asks}
+use Rattle.tool_run.specs.Command.{Command, format_image, show_image, drain_image, gen_trace, run_image, image_name, Asks}
 use Rattle.tool_run.specs.declared.fault.Fault.{Fault}
-use Rattle.tool_run.specs.declared.fault.Fault.TheVariants.{Usage, Memory, ReadFault, WriteFault, Absent, Malformed, Outside, BadShard}
+use Rattle.tool_run.specs.declared.fault.Fault.TheVariants.{Usage, Memory, ReadFault, WriteFault, Absent, Malformed, Outside, BadShard, BadLine, TooLong}
 use Rattle.tool_run.specs.Examples.{one_command}
 use Rattle.tool_run.specs.Inside.{Refuses, IsCarriedOut, IsStopped, status_of}
-use Rattle.tool_run.specs.Making.{Makes, Gets, PointsOutside, fault_of}
+use Rattle.tool_run.specs.Making.{Makes, Gets, HasMapped, PointsOutside, fault_of}
 use Rattle.tool_run.specs.Outcome.{AsksToGet, HoldsOutside}
 use Rattle.tool_run.specs.Status.{out_of_memory, read_fault, outside}
 
@@ -21,15 +21,22 @@ pub same_bytes : (contents : Contents) (n name a b : List ℕ) → n ≡ name �
 same_bytes contents n name a b named holds told =
     let same : Some b ≡ Some a = of_told (λ image. image ≡ Some a) contents n name (Some b) named holds told in cc
 
+-- an image that can be run has no such word
+mapped_inside : (contents : Contents) (n name : List ℕ) (at : ℕ) → n ≡ name → HasMapped contents n → HoldsOutside contents name at → ⊥
+mapped_inside contents n name at named mapped has =
+    let same : mapped.bytes ≡ has.bytes = same_bytes contents n name mapped.bytes has.bytes named mapped.is_there has.held in
+    mapped.inside at (subst (λ (l : List ℕ). PointsOutside (image_of_bytes l) at) (sym same) has.points)
+
 -- nothing is made then
-not_made : (command : Command) (contents : Contents) (name : List ℕ) (at : ℕ) (image : Option (List ℕ)) (text : List ℕ)
-    → Gets command → image_name command ≡ name → HoldsOutside contents name at → Makes command contents image text → ⊥
-not_made (format_image n capacity) contents name at image text gets named has made = gets
-not_made (gen_trace requests seed) contents name at image text gets named has made = gets
-not_made (show_image n with_map) contents name at image text gets named has made =
+not_made : (command : Command) (contents : Contents) (name : List ℕ) (at : ℕ) (left image : Option (List ℕ)) (text : List ℕ)
+    → Gets command → image_name command ≡ name → HoldsOutside contents name at → Makes command contents left image text → ⊥
+not_made (format_image n capacity) contents name at left image text gets named has made = gets
+not_made (gen_trace requests seed) contents name at left image text gets named has made = gets
+not_made (run_image n options) contents name at left image text gets named has made = mapped_inside contents n name at named made.mapped has
+not_made (show_image n with_map) contents name at left image text gets named has made =
     let same : made.1.bytes ≡ has.bytes = same_bytes contents n name made.1.bytes has.bytes named made.1.is_there has.held in
     made.1.inside at (subst (λ (l : List ℕ). PointsOutside (image_of_bytes l) at) (sym same) has.points)
-not_made (drain_image n class) contents name at image text gets named has made =
+not_made (drain_image n class) contents name at left image text gets named has made =
     let same : made.1.bytes ≡ has.bytes = same_bytes contents n name made.1.bytes has.bytes named made.1.is_there has.held in
     made.1.inside at (subst (λ (l : List ℕ). PointsOutside (image_of_bytes l) at) (sym same) has.points)
 
@@ -53,28 +60,33 @@ refused command contents name at get_failed status (BadShard shard place) named 
     let same : why.1.bytes ≡ has.bytes = same_bytes contents (image_name command) name why.1.bytes has.bytes named why.1.is_there has.held in
     absurd (why.1.inside at (subst (λ (l : List ℕ). PointsOutside (image_of_bytes l) at) (sym same) has.points))
 refused command contents name at get_failed status (Outside place value) named has is why = inl is
+refused command contents name at get_failed status (BadLine line) named has is why = absurd why
+refused command contents name at get_failed status TooLong named has is why = absurd why
 
 -- a command that gets such an image makes nothing
-none_made : (words : List (List ℕ)) (command : Command) (contents : Contents) (image : Option (List ℕ)) (text : List ℕ) → Asks words command → Makes command contents image text
+none_made : (words : List (List ℕ)) (command : Command) (contents : Contents) (left image : Option (List ℕ)) (text : List ℕ) → Asks words command → Makes command contents left image text
     → (name : List ℕ) (at : ℕ) → AsksToGet words name → HoldsOutside contents name at → ⊥
-none_made words command contents image text asked made name at asks has =
+none_made words command contents left image text asked made name at asks has =
     let same : asks.command ≡ command = one_command words asks.command command asks.asked asked in
-    not_made command contents name at image text (subst Gets same asks.gets) (subst (λ (c : Command). image_name c ≡ name) same asks.is_named) has made
+    not_made command contents name at left image text (subst Gets same asks.gets) (subst (λ (c : Command). image_name c ≡ name) same asks.is_named) has made
 
 -- so it is not done
-pub not_done : (words : List (List ℕ)) (command : Command) (old new : Contents) (taken taken' : Option (List ℕ)) (status : ℕ) → Asks words command → IsCarriedOut command old new taken taken'
+pub not_done : (words : List (List ℕ)) (command : Command) (old new : Contents) (left taken taken' : Option (List ℕ)) (status : ℕ) → Asks words command → IsCarriedOut command old new left taken taken'
     → (name : List ℕ) (at : ℕ) → AsksToGet words name → HoldsOutside old name at → (status ≡ outside) ⊎ (status ≡ out_of_memory) ⊎ (status ≡ read_fault)
-not_done words command old new taken taken' status asked done name at asks has = absurd (none_made words command old done.image done.text asked done.made name at asks has)
+not_done words command old new left taken taken' status asked done name at asks has = absurd (none_made words command old left done.image done.text asked done.made name at asks has)
 
 -- why a command stopped
-pub stops_outside : (words : List (List ℕ)) (command : Command) (old new : Contents) (store_failed sink_failed : Type 0) (taken taken' : Option (List ℕ)) (status : ℕ) (fault : Fault)
-    → Asks words command → IsStopped command old new store_failed sink_failed taken taken' fault → status ≡ status_of fault
+pub stops_outside : (words : List (List ℕ)) (command : Command) (old new : Contents) (left : Option (List ℕ)) (store_failed source_failed sink_failed : Type 0) (taken taken' : Option (List ℕ)) (status : ℕ) (fault : Fault)
+    → Asks words command → IsStopped command old new left store_failed source_failed sink_failed taken taken' fault → status ≡ status_of fault
     → (name : List ℕ) (at : ℕ) → AsksToGet words name → HoldsOutside old name at
     → (status ≡ outside) ⊎ (status ≡ out_of_memory) ⊎ (status ≡ read_fault)
-stops_outside words command old new store_failed sink_failed taken taken' status fault asked stopped is name at asks has =
+stops_outside words command old new left store_failed source_failed sink_failed taken taken' status fault asked stopped is name at asks has =
     elim stopped.cause as (λ _. (status ≡ outside) ⊎ (status ≡ out_of_memory) ⊎ (status ≡ read_fault)) [
-      | inl (why, untouched) ↦
+      | inl (inl why, untouched) ↦
           let same : asks.command ≡ command = one_command words asks.command command asks.asked asked in
           refused command old name at store_failed status fault (subst (λ (c : Command). image_name c ≡ name) same asks.is_named) has is why
-      | inr (image, text, made, why) ↦ absurd (none_made words command old image text asked made name at asks has)
+      | inl (inr trace, untouched) ↦
+          let same : asks.command ≡ command = one_command words asks.command command asks.asked asked in
+          absurd (mapped_inside old (image_name command) name at (subst (λ (c : Command). image_name c ≡ name) same asks.is_named) trace.mapped has)
+      | inr (image, text, made, why) ↦ absurd (none_made words command old left image text asked made name at asks has)
     ]

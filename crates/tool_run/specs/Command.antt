@@ -1,11 +1,13 @@
 -- The words of the command line, and the command that they ask for.
-use Rattle.std.specs.Prelude.{ℕ, ◌≤◌, Bool, List, [], map, String, string_bytes}
+use Rattle.std.specs.Prelude.{ℕ, ◌<◌, ◌≤◌, ◌^◌, Bool, List, [], map, String, string_bytes}
 use Rattle.std.specs.declared.alloc.Global.{Global}
 use Rattle.clap.specs.Words.{matches_of}
 use Rattle.heap_model.specs.Geometry.{largest_capacity}
 use Rattle.heap_model.specs.Sizes.{IsClass}
 use Rattle.tool_run.specs.declared.trace_plan.TheConstants.{MOST_REQUESTS, GREATEST_SEED}
-use Rattle.tool_run.specs.CommandLine.{format_app, show_app, drain_app, gen_app, image_id, capacity_id, class_id, map_id, requests_id, trace_seed_id, IsTaken, HasText, HasNumber, HasFlag}
+use Rattle.image_run.specs.Running.{Options}
+use Rattle.image_run.specs.declared.options.TheConstants.{MOST_WORKERS, MOST_BUDGET}
+use Rattle.tool_run.specs.CommandLine.{format_app, show_app, drain_app, gen_app, run_app, image_id, capacity_id, class_id, map_id, requests_id, trace_seed_id, workers_id, stop_id, seed_id, sum_id, HasNumberOr, IsTaken, HasText, HasNumber, HasFlag}
 
 -- what the tool can be asked for
 pub data Command : Type 0 where
@@ -13,6 +15,7 @@ pub data Command : Type 0 where
   show_image : (image : List ℕ) → (with_map : Bool) → Command
   drain_image : (image : List ℕ) → (class : ℕ) → Command
   gen_trace : (requests seed : ℕ) → Command
+  run_image : (image : List ℕ) → (options : Options) → Command
 
 -- the image that a command is about; the empty name where it is about none
 abbrev pub image_name : Command → List ℕ
@@ -20,6 +23,7 @@ image_name (format_image image capacity) = image
 image_name (show_image image with_map) = image
 image_name (drain_image image class) = image
 image_name (gen_trace requests seed) = []
+image_name (run_image image options) = image
 
 -- the bytes of each word
 abbrev pub texts : List (String Global) → List (List ℕ)
@@ -54,12 +58,27 @@ pub record AsksToGen (words : List (List ℕ)) (requests seed : ℕ) : Type 0 wh
   pub seeded : HasNumber (matches_of gen_app words) trace_seed_id seed
   pub small : seed ≤ GREATEST_SEED
 
+-- the words 'run IMAGE --workers N', with other options or without: the budget is the greatest where none is given, and the seed 0
+pub record AsksToRun (words : List (List ℕ)) (image : List ℕ) (options : Options) : Type 0 where
+  pub taken : IsTaken run_app words
+  pub named : HasText (matches_of run_app words) image_id image
+  pub by : HasNumber (matches_of run_app words) workers_id options.workers
+  pub some : 1 ≤ options.workers
+  pub few : options.workers ≤ MOST_WORKERS
+  pub within : HasNumberOr (matches_of run_app words) stop_id MOST_BUDGET options.budget
+  pub below : options.budget ≤ MOST_BUDGET
+  pub seeded : HasNumberOr (matches_of run_app words) seed_id 0 options.seed
+  pub fits : options.seed < 2 ^ 64
+  pub summed : HasFlag (matches_of run_app words) sum_id options.with_sum
+  pub mapped : HasFlag (matches_of run_app words) map_id options.with_map
+
 -- the words ask for this command
 abbrev pub Asks : List (List ℕ) → Command → Type 0
 Asks words (format_image image capacity) = AsksToFormat words image capacity
 Asks words (show_image image with_map) = AsksToShow words image with_map
 Asks words (drain_image image class) = AsksToDrain words image class
 Asks words (gen_trace requests seed) = AsksToGen words requests seed
+Asks words (run_image image options) = AsksToRun words image options
 
 -- the words ask for no command
 abbrev pub IsUsage : List (List ℕ) → Type 0

@@ -1,17 +1,20 @@
 -- Worked examples: words and what they ask for, and the lines that are printed.
-use Rattle.std.specs.Prelude.{◌≡◌, List, [], ◌∷◌, ◌++◌, codes, Bool, Some, None, true, false, refl, slice_get, slice_index, unwrap_or}
+use Rattle.std.specs.Prelude.{◌≡◌, List, [], ◌∷◌, ◌++◌, codes, Bool, Some, None, true, false, refl, slice_get, slice_index, unwrap_or, find, Option}
 use Rattle.std.specs.Fmt.{digits}
 use Rattle.std.specs.Str.Parse.{digits_value, without_leading_plus}
-use Rattle.clap.specs.Words.{Row, fault_of, matches_of}
-use Rattle.clap.specs.declared.error.kind.ErrorKind.TheVariants.{ValueValidation, ArgumentConflict, DisplayHelp}
+use Rattle.std.specs.Option.{option_and_then, option_map}
+use Rattle.clap.specs.Walk.{row_text}
+use Rattle.clap.specs.Words.{Row, fault_of, matches_of, first_of, one_of, read_as}
+use Rattle.image_run.specs.declared.options.TheConstants.{MOST_BUDGET}
+use Rattle.clap.specs.declared.error.kind.ErrorKind.TheVariants.{ValueValidation, ArgumentConflict, DisplayHelp, MissingRequiredArgument}
 use Rattle.clap.proofs.OnLiterals.{clap_on_literals}
-use Rattle.std.proofs.Common.{ℕ, length, sym, ap, ◌∙◌, arith, lit<, lit≤}
+use Rattle.std.proofs.Common.{ℕ, length, sym, ap, ◌∙◌, inl, inr, bytes_eq, arith, lit<, lit≤}
 use Rattle.heap_model.specs.Geometry.{largest_capacity}
 use Rattle.heap_model.specs.Sizes.{size_of, class_sizes}
 use Rattle.heap_model.specs.declared.header.BadHeader.TheVariants.{Length}
 use Rattle.trace_text.specs.Report.{line_feed}
-use Rattle.tool_run.specs.Command.{Command, Asks, format_image, show_image, drain_image, gen_trace}
-use Rattle.tool_run.specs.CommandLine.{format_app, drain_app, show_app, gen_app, image_id, capacity_id, class_id, map_id, requests_id, trace_seed_id, HasText, HasNumber, HasFlag, IsNumber}
+use Rattle.tool_run.specs.Command.{Command, Asks, format_image, show_image, drain_image, gen_trace, run_image}
+use Rattle.tool_run.specs.CommandLine.{format_app, drain_app, show_app, gen_app, run_app, image_id, capacity_id, class_id, map_id, requests_id, trace_seed_id, workers_id, stop_id, seed_id, sum_id, HasText, HasNumber, HasNumberOr, HasFlag, IsNumber}
 use Rattle.tool_run.specs.Lines.{no_image_line, bad_header_line}
 use Rattle.tool_run.specs.Making.{formatted_line, drained_text}
 use Rattle.tool_run.specs.Status.{own_line, usage, done, bad_header}
@@ -90,6 +93,33 @@ gen_most = record {
   small = lit≤ tt;
 }
 
+-- options in any order, a number behind an equals sign or a space
+run_all : Asks (codes "run" ∷ codes "--map" ∷ codes "--stop" ∷ codes "7" ∷ codes "h" ∷ codes "--workers=1" ∷ [])
+    (run_image (codes "h") (record { workers = 1; budget = 7; seed = 0; with_sum = false; with_map = true }))
+unfolding clap_on_literals
+run_all = record {
+  taken = record { named = refl; faultless = refl };
+  named = refl;
+  by = record { text = codes "1"; given = refl; counted = record { digits = (lit< tt, (lit< tt, tt)); value = refl } };
+  some = lit≤ tt;
+  few = lit≤ tt;
+  within = inl (record { text = codes "7"; given = refl; counted = record { digits = (lit< tt, (lit< tt, tt)); value = refl } });
+  below = lit≤ tt;
+  seeded = inr (refl, refl);
+  fits = lit< tt;
+  summed = (λ e. cc, λ e. cc);
+  mapped = (λ e. refl, λ e. refl);
+}
+
+-- more workers than there may be, and none told
+nine_workers : fault_of run_app (codes "run" ∷ codes "h" ∷ codes "--workers" ∷ codes "9" ∷ []) ≡ ValueValidation ∷ []
+unfolding clap_on_literals
+nine_workers = refl
+
+workers_missing : fault_of run_app (codes "run" ∷ codes "h" ∷ []) ≡ MissingRequiredArgument ∷ []
+unfolding clap_on_literals
+workers_missing = refl
+
 -- a request too many, a class that there isn't, an option given twice, and a wish for help
 too_many_requests : fault_of gen_app (codes "gen" ∷ codes "100001" ∷ codes "0" ∷ []) ≡ ValueValidation ∷ []
 unfolding clap_on_literals
@@ -113,6 +143,23 @@ one_number rows id n m has also =
     let same : has.text ≡ also.text = ap (λ o. unwrap_or o []) (sym has.given ∙ also.given) in
     sym has.counted.value ∙ ap (λ text. digits_value 10 (without_leading_plus text)) same ∙ also.counted.value
 
+-- a number that was given has a text
+no_text_given : (rows : List Row) (id text : List ℕ) → one_of id rows ≡ Some text → first_of id rows ≡ None → ⊥
+no_text_given rows id text given none = go (find (λ r. bytes_eq r.id id) rows) given none
+  where
+    go : (row : Option Row) → option_and_then row_text row ≡ Some text → option_and_then (λ r. slice_get r.values 0) row ≡ None → ⊥
+    go None some e = let never : None ≡ Some text = some in cc
+    go (Some r) some e =
+        let never : None ≡ Some text = sym (ap (option_map (read_as r.reading)) e) ∙ some in
+        cc
+
+-- one number is written, or one stands for none
+one_number_or : (rows : List Row) (id : List ℕ) (other n m : ℕ) → HasNumberOr rows id other n → HasNumberOr rows id other m → n ≡ m
+one_number_or rows id other n m (inl has) (inl also) = one_number rows id n m has also
+one_number_or rows id other n m (inl has) (inr also) = absurd (no_text_given rows id has.text has.given also.0)
+one_number_or rows id other n m (inr has) (inl also) = absurd (no_text_given rows id also.text also.given has.0)
+one_number_or rows id other n m (inr has) (inr also) = has.1 ∙ sym also.1
+
 -- one text is given
 one_text_given : (rows : List Row) (id text other : List ℕ) → HasText rows id text → HasText rows id other → text ≡ other
 one_text_given rows id text other has also = ap (λ o. unwrap_or o []) (sym has ∙ also)
@@ -129,6 +176,7 @@ name_of (format_image image capacity) = codes "format"
 name_of (show_image image with_map) = codes "show"
 name_of (drain_image image class) = codes "drain"
 name_of (gen_trace requests seed) = codes "gen"
+name_of (run_image image options) = codes "run"
 
 -- it is the first word
 pub first_word : (words : List (List ℕ)) (command : Command) → Asks words command → slice_get words 0 ≡ Some (name_of command)
@@ -136,6 +184,7 @@ first_word words (format_image image capacity) asks = asks.taken.named
 first_word words (show_image image with_map) asks = asks.taken.named
 first_word words (drain_image image class) asks = asks.taken.named
 first_word words (gen_trace requests seed) asks = asks.taken.named
+first_word words (run_image image options) asks = asks.taken.named
 
 -- so two commands that words ask for have one name
 one_letter : (words : List (List ℕ)) (a b : Command) → Asks words a → Asks words b → slice_index (name_of a) 0 ≡ slice_index (name_of b) 0
@@ -159,4 +208,13 @@ one_command words (gen_trace requests seed) (gen_trace count other) asks also =
     let counted = one_number (matches_of gen_app words) requests_id requests count asks.counted also.counted in
     let seeded = one_number (matches_of gen_app words) trace_seed_id seed other asks.seeded also.seeded in
     cc
+one_command words (run_image image options) (run_image other set) asks also =
+    let named = one_text_given (matches_of run_app words) image_id image other asks.named also.named in
+    let workers = one_number (matches_of run_app words) workers_id options.workers set.workers asks.by also.by in
+    let budget = one_number_or (matches_of run_app words) stop_id MOST_BUDGET options.budget set.budget asks.within also.within in
+    let seed = one_number_or (matches_of run_app words) seed_id 0 options.seed set.seed asks.seeded also.seeded in
+    let summed = one_flag (matches_of run_app words) sum_id options.with_sum set.with_sum asks.summed also.summed in
+    let mapped = one_flag (matches_of run_app words) map_id options.with_map set.with_map asks.mapped also.mapped in
+    let same : options ≡ set = λ i. record { workers = workers i; budget = budget i; seed = seed i; with_sum = summed i; with_map = mapped i } in
+    λ i. run_image (named i) (same i)
 one_command words a b asks also = absurd (omega (arith, one_letter words a b asks also))

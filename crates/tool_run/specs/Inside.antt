@@ -9,16 +9,23 @@ use Rattle.heap_recover.specs.declared.fault.RecoverFault.{RecoverFault}
 use Rattle.heap_recover.specs.declared.fault.RecoverFault.TheVariants.{Header, Outside as OutsideFound, Memory as RecoverMemory}
 use Rattle.tool_ports.specs.Taken.{taken_with}
 use Rattle.tool_run.specs.declared.command.Invocation.{Invocation}
-use Rattle.tool_run.specs.declared.command.Invocation.TheVariants.{Format, Show, Drain, Gen}
+use Rattle.tool_run.specs.declared.command.Invocation.TheVariants.{Format, Show, Drain, Gen, Run}
 use Rattle.tool_run.specs.declared.fault.Fault.{Fault}
-use Rattle.tool_run.specs.declared.fault.Fault.TheVariants.{Usage, Memory, ReadFault, WriteFault, Absent, Malformed, Outside, BadShard}
+use Rattle.tool_run.specs.declared.fault.Fault.TheVariants.{Usage, Memory, ReadFault, WriteFault, Absent, Malformed, Outside, BadShard, BadLine, TooLong}
+use Rattle.tool_ports.specs.declared.reading.ReadAllFault.{ReadAllFault}
+use Rattle.tool_ports.specs.declared.reading.ReadAllFault.TheVariants.{TooLong as MoreGiven, Failed as ReadFailed, Memory as ReadMemory}
+use Rattle.trace_run.specs.Said.{Line}
+use Rattle.trace_text.specs.declared.request.TraceError.{TraceError}
+use Rattle.trace_text.specs.declared.request.TraceError.TheVariants.{BadLine as BadTraceLine, Memory as TraceMemory}
+use Rattle.trace_text.specs.Trace.{lines_of, AreLines}
+use Rattle.image_run.specs.Running.{options_of}
 use Rattle.dictionary.specs.declared.fault.MapFault.{MapFault}
 use Rattle.dictionary.specs.declared.fault.MapFault.TheVariants.{BadShard as NoMap, Memory as MapMemory}
-use Rattle.tool_run.specs.Command.{Command, format_image, show_image, drain_image, gen_trace, image_name}
-use Rattle.tool_run.specs.Lines.{usage_line, memory_line, read_line, write_line, no_image_line, bad_header_line, outside_line, bad_shard_line}
-use Rattle.tool_run.specs.Making.{Makes, Gets, Reads, IsMalformed, HasOutside, HasBadShard}
+use Rattle.tool_run.specs.Command.{Command, format_image, show_image, drain_image, gen_trace, run_image, image_name}
+use Rattle.tool_run.specs.Lines.{usage_line, memory_line, read_line, write_line, no_image_line, bad_header_line, outside_line, bad_shard_line, bad_line_line, too_long_line}
+use Rattle.tool_run.specs.Making.{Makes, Gets, Reads, RunsATrace, IsMalformed, HasOutside, HasBadShard, HasMapped, HasTrace, HasBadLine, HasTooMuch}
 use Rattle.tool_run.specs.Outcome.{Puts, IsCutOff}
-use Rattle.tool_run.specs.Status.{usage, out_of_memory, read_fault, write_fault, no_image, bad_header, outside, bad_shard}
+use Rattle.tool_run.specs.Status.{usage, out_of_memory, read_fault, write_fault, no_image, bad_header, outside, bad_shard, bad_trace}
 
 -- the command that an invocation is
 abbrev pub command_of : Invocation → Command
@@ -26,6 +33,7 @@ command_of (Format image layout) = format_image image.now layout.capacity
 command_of (Show image with_map) = show_image image.now with_map
 command_of (Drain image class) = drain_image image.now class.number
 command_of (Gen plan) = gen_trace plan.requests plan.seed
+command_of (Run image options) = run_image image.now (options_of options)
 
 -- the status of a fault
 abbrev pub status_of : Fault → ℕ
@@ -37,6 +45,8 @@ status_of Absent = no_image
 status_of (Malformed cause) = bad_header
 status_of (Outside at value) = outside
 status_of (BadShard shard at) = bad_shard
+status_of (BadLine line) = bad_trace
+status_of TooLong = bad_trace
 
 -- the line of a fault, where the command is about the image of this name
 abbrev pub line_of : Fault → List ℕ → List ℕ
@@ -48,11 +58,15 @@ line_of Absent name = no_image_line name
 line_of (Malformed cause) name = bad_header_line cause
 line_of (Outside at value) name = outside_line at value
 line_of (BadShard shard at) name = bad_shard_line shard at
+line_of (BadLine line) name = bad_line_line line
+line_of TooLong name = too_long_line
 
 -- the line of the fault has no numbers
 abbrev pub IsPlain : Fault → Type 0
 IsPlain (Outside at value) = ⊥
 IsPlain (BadShard shard at) = ⊥
+IsPlain (BadLine line) = ⊥
+IsPlain TooLong = Unit {0}
 IsPlain Usage = Unit {0}
 IsPlain Memory = Unit {0}
 IsPlain ReadFault = Unit {0}
@@ -60,7 +74,7 @@ IsPlain WriteFault = Unit {0}
 IsPlain Absent = Unit {0}
 IsPlain (Malformed cause) = Unit {0}
 
--- why nothing was made for a command; `get_failed` is that the store's count of failures rose
+-- why a command was refused by its image; `get_failed` is that the store's count of failures rose
 abbrev pub Refuses : Command → Contents → Type 0 → Fault → Type 0
 Refuses command contents get_failed Usage = ⊥
 Refuses command contents get_failed Memory = Unit {0}
@@ -70,6 +84,51 @@ Refuses command contents get_failed Absent = Gets command × Lacks contents (ima
 Refuses command contents get_failed (Malformed cause) = Gets command × IsMalformed contents (image_name command) cause
 Refuses command contents get_failed (Outside at value) = Gets command × HasOutside contents (image_name command) at value
 Refuses command contents get_failed (BadShard shard at) = Reads command × HasBadShard contents (image_name command) shard at
+Refuses command contents get_failed (BadLine line) = ⊥
+Refuses command contents get_failed TooLong = ⊥
+
+-- what stands against the trace that a source has left; `read_failed` is that the source's count of failures rose
+abbrev pub IsTraceFault : Option (List ℕ) → Type 0 → Fault → Type 0
+IsTraceFault left read_failed Usage = ⊥
+IsTraceFault left read_failed Memory = Unit {0}
+IsTraceFault left read_failed ReadFault = read_failed
+IsTraceFault left read_failed WriteFault = ⊥
+IsTraceFault left read_failed Absent = ⊥
+IsTraceFault left read_failed (Malformed cause) = ⊥
+IsTraceFault left read_failed (Outside at value) = ⊥
+IsTraceFault left read_failed (BadShard shard at) = ⊥
+IsTraceFault left read_failed (BadLine line) = HasBadLine left line
+IsTraceFault left read_failed TooLong = HasTooMuch left
+
+-- why a run was refused by its trace, once its image was good
+pub record RefusesTrace (command : Command) (contents : Contents) (left : Option (List ℕ)) (read_failed : Type 0) (fault : Fault) : Type 0 where
+  pub runs : RunsATrace command
+  pub mapped : HasMapped contents (image_name command)
+  pub why : IsTraceFault left read_failed fault
+
+-- why nothing was made for a command
+abbrev pub RefusesEither : Command → Contents → Option (List ℕ) → Type 0 → Type 0 → Fault → Type 0
+RefusesEither command contents left get_failed read_failed fault =
+    Refuses command contents get_failed fault ⊎ RefusesTrace command contents left read_failed fault
+
+-- the words or the image were refused, so that no trace was read
+abbrev pub IsBeforeReading : Fault → Type 0
+IsBeforeReading Usage = Unit {0}
+IsBeforeReading Memory = ⊥
+IsBeforeReading ReadFault = ⊥
+IsBeforeReading WriteFault = ⊥
+IsBeforeReading Absent = Unit {0}
+IsBeforeReading (Malformed cause) = Unit {0}
+IsBeforeReading (Outside at value) = Unit {0}
+IsBeforeReading (BadShard shard at) = Unit {0}
+IsBeforeReading (BadLine line) = ⊥
+IsBeforeReading TooLong = ⊥
+
+-- the requests of the trace that the source has left
+pub record IsTraceLeft (left : Option (List ℕ)) (lines : List Line) : Type 0 where
+  pub trace : List ℕ
+  pub has_trace : HasTrace left trace
+  pub lines_are : AreLines (lines_of trace) lines
 
 -- the result was put and printed in full
 pub record IsDelivered (name : List ℕ) (image : Option (List ℕ)) (text : List ℕ) (old new : Contents)
@@ -95,20 +154,22 @@ DeliveryFails name image text old new put_failed print_failed taken taken' Absen
 DeliveryFails name image text old new put_failed print_failed taken taken' (Malformed cause) = ⊥
 DeliveryFails name image text old new put_failed print_failed taken taken' (Outside at value) = ⊥
 DeliveryFails name image text old new put_failed print_failed taken taken' (BadShard shard at) = ⊥
+DeliveryFails name image text old new put_failed print_failed taken taken' (BadLine line) = ⊥
+DeliveryFails name image text old new put_failed print_failed taken taken' TooLong = ⊥
 
 -- a command's result was made, put and printed in full
-pub record IsCarriedOut (command : Command) (old new : Contents) (taken taken' : Option (List ℕ))
+pub record IsCarriedOut (command : Command) (old new : Contents) (left taken taken' : Option (List ℕ))
     : Type 0 where
   pub image : Option (List ℕ)
   pub text : List ℕ
-  pub made : Makes command old image text
+  pub made : Makes command old left image text
   pub delivered : IsDelivered (image_name command) image text old new taken taken'
 
 -- nothing was made for a command, or not all of it was put and printed
-pub record IsStopped (command : Command) (old new : Contents) (store_failed sink_failed : Type 0)
+pub record IsStopped (command : Command) (old new : Contents) (left : Option (List ℕ)) (store_failed source_failed sink_failed : Type 0)
     (taken taken' : Option (List ℕ)) (fault : Fault) : Type 0 where
-  pub cause : Refuses command old store_failed fault × IsUntouched old new taken taken'
-      ⊎ ((image : Option (List ℕ)) × (text : List ℕ) × Makes command old image text
+  pub cause : RefusesEither command old left store_failed source_failed fault × IsUntouched old new taken taken'
+      ⊎ ((image : Option (List ℕ)) × (text : List ℕ) × Makes command old left image text
       × DeliveryFails (image_name command) image text old new store_failed sink_failed taken taken' fault)
 
 -- a failed `get`, as a fault of the tool
@@ -141,6 +202,8 @@ PutFails name image old new put_failed Absent = ⊥
 PutFails name image old new put_failed (Malformed cause) = ⊥
 PutFails name image old new put_failed (Outside at value) = ⊥
 PutFails name image old new put_failed (BadShard shard at) = ⊥
+PutFails name image old new put_failed (BadLine line) = ⊥
+PutFails name image old new put_failed TooLong = ⊥
 
 -- a failed recovery
 abbrev pub fault_of_recovery : RecoverFault → Fault
@@ -152,3 +215,14 @@ fault_of_recovery RecoverMemory = Memory
 abbrev pub fault_of_maps : MapFault → Fault
 fault_of_maps (NoMap shard at) = BadShard shard at
 fault_of_maps MapMemory = Memory
+
+-- why a source was not read to its end
+abbrev pub fault_of_reading : ReadAllFault → Fault
+fault_of_reading MoreGiven = TooLong
+fault_of_reading ReadFailed = ReadFault
+fault_of_reading ReadMemory = Memory
+
+-- a trace that can't be read
+abbrev pub fault_of_trace : TraceError → Fault
+fault_of_trace (BadTraceLine line) = BadLine line
+fault_of_trace TraceMemory = Memory

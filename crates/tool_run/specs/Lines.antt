@@ -47,6 +47,14 @@ outside_line at value = codes "pointer outside at " ++ decimal at ++ codes " val
 abbrev pub bad_shard_line : ℕ → ℕ → List ℕ
 bad_shard_line shard at = codes "bad shard " ++ decimal shard ++ codes " at " ++ decimal at ++ line_feed
 
+-- the line on the first line of a trace that asks for nothing
+abbrev pub bad_line_line : ℕ → List ℕ
+bad_line_line line = codes "bad trace line " ++ decimal line ++ line_feed
+
+-- the line on a trace of too many bytes
+abbrev pub too_long_line : List ℕ
+too_long_line = codes "bad trace too long" ++ line_feed
+
 -- A sink took the line or, only where the count of its failures rose, a first part of it.
 abbrev pub Tells : List ℕ → ℕ → ℕ → Option (List ℕ) → Option (List ℕ) → Type 0
 Tells line faults faults' taken taken' =

@@ -1,60 +1,29 @@
 -- What a command is to put and to print.
-use Rattle.std.specs.Prelude.{◌≡◌, ℕ, ◌*◌, ◌<◌, Bool, false, List, [], ◌++◌, length, nat_eq, if◌then◌else◌, Option, Some, None, codes, decimal}
+use Rattle.std.specs.Prelude.{◌≡◌, ℕ, ◌*◌, ◌<◌, ◌≤◌, Bool, false, List, ◌++◌, length, Option, Some, None, IfSome, codes, decimal}
 use Rattle.std.specs.List.{flat_map}
 use Rattle.heap_model.specs.declared.header.BadHeader.{BadHeader}
 use Rattle.heap_model.specs.declared.block.Block.{Block}
 use Rattle.heap_model.specs.Blocks.{layout_of}
-use Rattle.heap_model.specs.Reach.{IsReached, IsOutside}
-use Rattle.heap_model.specs.Recovered.{IsFreeSuperblock, IsDrained, AreAscending}
-use Rattle.heap_model.specs.Recovery.{IsRecovered}
-use Rattle.dict_model.specs.Links.{dict_links, root_kind, shards}
+use Rattle.heap_model.specs.Recovered.{IsDrained, AreAscending}
+use Rattle.dict_model.specs.Links.{shards}
 use Rattle.dict_model.specs.Shards.{Map, MapOf, BadShard}
-use Rattle.heap_model.specs.Geometry.{clean, image_words}
+use Rattle.heap_model.specs.Geometry.{image_words}
 use Rattle.heap_model.specs.Image.{Image, image_of_bytes, bytes_of_words}
 use Rattle.heap_model.specs.Sizes.{size_of}
-use Rattle.heap_model.specs.Header.{capacity_of, state_of, header_fault, empty_words}
+use Rattle.heap_model.specs.Header.{empty_words}
+pub use Rattle.image_run.specs.Reporting.{fault_of, IsKept, PointsOutside, Recovers, IsEntryOf, shown_text, Reports}
+pub use Rattle.image_run.specs.Running.{Options, Runs}
 use Rattle.tool_ports.specs.Contents.{Contents, Holds}
+use Rattle.trace_run.specs.Said.{Line, requests_of}
 use Rattle.trace_text.specs.Generated.{made_trace}
-use Rattle.trace_text.specs.Report.{line_feed, report_of}
-use Rattle.trace_text.specs.Keys.{Entries, keys_text}
-use Rattle.trace_text.specs.HeapMap.{map_of}
-use Rattle.tool_run.specs.Command.{Command, format_image, show_image, drain_image, gen_trace}
+use Rattle.trace_text.specs.Report.{line_feed}
+use Rattle.trace_text.specs.Trace.{lines_of, AreLines, IsFirstOutside}
+use Rattle.tool_run.specs.Command.{Command, format_image, show_image, drain_image, gen_trace, run_image}
 
 -- what `format` prints: the capacity, and the length of the image in bytes
 abbrev pub formatted_line : ℕ → List ℕ
 formatted_line capacity = codes "formatted " ++ decimal capacity
     ++ codes " bytes " ++ decimal (8 * image_words capacity) ++ line_feed
-
--- the first cause for which an image of these bytes is malformed
-abbrev pub fault_of : List ℕ → Option BadHeader
-fault_of bytes = header_fault (length bytes) (image_of_bytes bytes)
-
--- what the tool's filter reaches in an image: the dictionary's tables and nodes, and what the other roots lead to
-abbrev pub IsKept : Image → Block → Type 0
-IsKept image = IsReached image root_kind dict_links
-
--- a root or linked word that points to no block
-abbrev pub PointsOutside : Image → ℕ → Type 0
-PointsOutside image at = IsOutside image root_kind dict_links at
-
--- recovery of the image keeps exactly these blocks, frees these superblocks, and leaves these words
-pub record Recovers (image : Image) (held : List Block) (free : List ℕ) (words : Image) : Type 0 where
-  pub held_are : AreAscending (λ (b : Block). b.first_word) (IsKept image) held
-  pub free_are : AreAscending (λ d. d) (IsFreeSuperblock (layout_of image) (IsKept image)) free
-  pub words_are : IsRecovered image words (IsKept image)
-
--- a key of one of the shards, with its value
-pub record IsEntryOf (image : Image) (entry : ℕ × List ℕ) : Type 0 where
-  pub shard : ℕ
-  pub below : shard < shards
-  pub keys : Map
-  pub keys_are : MapOf image shard keys
-  pub has : keys entry.0 ≡ Some entry.1
-
--- the report on a recovered image, with what is told of its keys, and its map where that is asked for
-abbrev pub shown_text : Image → Bool → List ℕ → List Block → List ℕ → Image → List ℕ
-shown_text image with_map keys held free words =
-    report_of (capacity_of image) (nat_eq (state_of image) clean) keys held ++ (if with_map then map_of words held free else [])
 
 -- the line on a class that gives blocks at these byte offsets
 abbrev pub class_line : ℕ → List ℕ → List ℕ
@@ -86,14 +55,7 @@ pub record Shows (contents : Contents) (name : List ℕ) (with_map : Bool) (text
   pub is_there : Holds contents name bytes
   pub good : fault_of bytes ≡ None
   pub inside : (at : ℕ) → PointsOutside (image_of_bytes bytes) at → ⊥
-  pub held : List Block
-  pub free : List ℕ
-  pub words : Image
-  pub recovered : Recovers (image_of_bytes bytes) held free words
-  pub maps : (i : ℕ) → i < shards → (map : Map) × MapOf (image_of_bytes bytes) i map
-  pub entries : Entries
-  pub entries_are : AreAscending (λ entry. entry.0) (IsEntryOf (image_of_bytes bytes)) entries
-  pub text_is : text ≡ shown_text (image_of_bytes bytes) with_map (keys_text false entries) held free words
+  pub report : Reports (image_of_bytes bytes) false with_map text
 
 -- the text on what the class gives of a named image that can be recovered
 pub record Drains (contents : Contents) (name : List ℕ) (class : ℕ) (text : List ℕ) : Type 0 where
@@ -133,12 +95,55 @@ pub record HasBadShard (contents : Contents) (name : List ℕ) (shard at : ℕ) 
   pub inside : (at : ℕ) → PointsOutside (image_of_bytes bytes) at → ⊥
   pub lowest : IsLowestBad (image_of_bytes bytes) shard at
 
--- where the store holds this, the command is to put these bytes, if any, and to print this text
-abbrev pub Makes : Command → Contents → Option (List ℕ) → List ℕ → Type 0
-Makes (format_image image capacity) contents put text = IsFormatted capacity put text
-Makes (show_image image with_map) contents put text = (put ≡ None) × Shows contents image with_map text
-Makes (drain_image image class) contents put text = (put ≡ None) × Drains contents image class text
-Makes (gen_trace requests seed) contents put text = (put ≡ None) × (text ≡ made_trace requests seed)
+-- the store has an image of this name that can be recovered, and each shard of it has a map
+pub record HasMapped (contents : Contents) (name : List ℕ) : Type 0 where
+  pub bytes : List ℕ
+  pub is_there : Holds contents name bytes
+  pub good : fault_of bytes ≡ None
+  pub inside : (at : ℕ) → PointsOutside (image_of_bytes bytes) at → ⊥
+  pub maps : (i : ℕ) → i < shards → (map : Map) × MapOf (image_of_bytes bytes) i map
+
+-- where the source tells, these are all the bytes that it has left
+abbrev pub HasLeft : Option (List ℕ) → List ℕ → Type 0
+HasLeft left bytes = IfSome left (λ all. all ≡ bytes)
+
+-- the most bytes of a trace
+abbrev pub longest_trace : ℕ
+longest_trace = 16777216
+
+-- all that the source has left is this trace, of at most the longest length
+pub record HasTrace (left : Option (List ℕ)) (trace : List ℕ) : Type 0 where
+  pub all : HasLeft left trace
+  pub short : length trace ≤ longest_trace
+
+-- the first line of the trace that the source has left that asks for nothing
+pub record HasBadLine (left : Option (List ℕ)) (line : ℕ) : Type 0 where
+  pub trace : List ℕ
+  pub has_trace : HasTrace left trace
+  pub first : IsFirstOutside (lines_of trace) line
+
+-- where the source tells, it has more left than the longest trace
+abbrev pub HasTooMuch : Option (List ℕ) → Type 0
+HasTooMuch left = IfSome left (λ all. longest_trace < length all)
+
+-- a run over a named image of the trace that the source has left
+pub record RunsTrace (contents : Contents) (left : Option (List ℕ)) (name : List ℕ) (options : Options) (put : Option (List ℕ)) (text : List ℕ) : Type 0 where
+  pub mapped : HasMapped contents name
+  pub trace : List ℕ
+  pub has_trace : HasTrace left trace
+  pub lines : List Line
+  pub lines_are : AreLines (lines_of trace) lines
+  pub image : List ℕ
+  pub put_is : put ≡ Some image
+  pub runs : Runs (image_of_bytes mapped.bytes) (requests_of lines) options image text
+
+-- where the store holds this and the source has this left, the command is to put these bytes, if any, and to print this text
+abbrev pub Makes : Command → Contents → Option (List ℕ) → Option (List ℕ) → List ℕ → Type 0
+Makes (format_image image capacity) contents left put text = IsFormatted capacity put text
+Makes (show_image image with_map) contents left put text = (put ≡ None) × Shows contents image with_map text
+Makes (drain_image image class) contents left put text = (put ≡ None) × Drains contents image class text
+Makes (gen_trace requests seed) contents left put text = (put ≡ None) × (text ≡ made_trace requests seed)
+Makes (run_image image options) contents left put text = RunsTrace contents left image options put text
 
 -- the command gets the image that it names
 abbrev pub Gets : Command → Type 0
@@ -146,6 +151,7 @@ Gets (format_image image capacity) = ⊥
 Gets (show_image image with_map) = Unit {0}
 Gets (drain_image image class) = Unit {0}
 Gets (gen_trace requests seed) = ⊥
+Gets (run_image image options) = Unit {0}
 
 -- the command reads the maps of the image that it names
 abbrev pub Reads : Command → Type 0
@@ -153,3 +159,12 @@ Reads (format_image image capacity) = ⊥
 Reads (show_image image with_map) = Unit {0}
 Reads (drain_image image class) = ⊥
 Reads (gen_trace requests seed) = ⊥
+Reads (run_image image options) = Unit {0}
+
+-- the command runs a trace
+abbrev pub RunsATrace : Command → Type 0
+RunsATrace (format_image image capacity) = ⊥
+RunsATrace (show_image image with_map) = ⊥
+RunsATrace (drain_image image class) = ⊥
+RunsATrace (gen_trace requests seed) = ⊥
+RunsATrace (run_image image options) = Unit {0}

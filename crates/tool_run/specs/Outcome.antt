@@ -1,13 +1,15 @@
 -- What a call of the tool has done, by its status. `old` is what the store held before it, `new` what
--- it holds after it; `taken` and `taken'` are what the sink had taken.
-use Rattle.std.specs.Prelude.{◌≡◌, ℕ, ◌<◌, ◌≤◌, List, Option, Some, None}
+-- it holds after it; `left` is what the source had left before it; `taken` and `taken'` are what the sink had taken.
+use Rattle.std.specs.Prelude.{◌≡◌, ℕ, ◌<◌, ◌≤◌, List, length, Option, Some, None}
 use Rattle.heap_model.specs.declared.header.BadHeader.{BadHeader}
 use Rattle.tool_ports.specs.Causes.{Rose}
 use Rattle.tool_ports.specs.Contents.{Contents, Holds, HoldsOldOrNew, KeepsOthers, Lacks, told_of}
 use Rattle.tool_ports.specs.Taken.{taken_with, TakesPart}
-use Rattle.tool_run.specs.Command.{Command, format_image, show_image, drain_image, gen_trace, image_name, Asks}
-use Rattle.tool_run.specs.Lines.{Tells, write_line, no_image_line, bad_header_line, outside_line, bad_shard_line}
-use Rattle.tool_run.specs.Making.{Makes, Gets, Reads, IsMalformed, HasOutside, HasBadShard, PointsOutside, fault_of}
+use Rattle.trace_run.specs.Said.{Line}
+use Rattle.trace_text.specs.Trace.{lines_of, AreLines, IsFirstOutside}
+use Rattle.tool_run.specs.Command.{Command, format_image, show_image, drain_image, gen_trace, run_image, image_name, Asks, AsksToRun}
+use Rattle.tool_run.specs.Lines.{Tells, write_line, no_image_line, bad_header_line, outside_line, bad_shard_line, bad_line_line, too_long_line}
+use Rattle.tool_run.specs.Making.{Makes, Gets, Reads, RunsATrace, Options, IsMalformed, HasOutside, HasBadShard, HasMapped, HasBadLine, HasTooMuch, PointsOutside, fault_of, longest_trace}
 use Rattle.dict_model.specs.Links.{shards}
 use Rattle.dict_model.specs.Shards.{Map, MapOf, BadShard}
 use Rattle.heap_model.specs.Image.{image_of_bytes}
@@ -18,13 +20,13 @@ Puts name None old new = new ≡ old
 Puts name (Some image) old new = Holds new name image × KeepsOthers name old new
 
 -- the words ask for a command, and it was carried out in full
-pub record IsDone (words : List (List ℕ)) (old new : Contents) (taken taken' : Option (List ℕ))
+pub record IsDone (words : List (List ℕ)) (old new : Contents) (left taken taken' : Option (List ℕ))
     : Type 0 where
   pub command : Command
   pub asked : Asks words command
   pub image : Option (List ℕ)
   pub text : List ℕ
-  pub made : Makes command old image text
+  pub made : Makes command old left image text
   pub stored : Puts (image_name command) image old new
   pub printed : taken' ≡ taken_with taken text
 
@@ -42,17 +44,17 @@ pub data IsCutOff (name : List ℕ) (image : Option (List ℕ)) (text : List ℕ
 -- The words ask for a command, and its result was cut off. `faults` and `faults'` are the sink's count of
 -- failures before and after the call. The line was tried after that: `before` and `between` are what the
 -- sink had taken and counted by then.
-pub record IsWriteFault (words : List (List ℕ)) (old new : Contents) (store_failed : Type 0)
+pub record IsWriteFault (words : List (List ℕ)) (old new : Contents) (left : Option (List ℕ)) (store_failed : Type 0)
     (faults faults' : ℕ) (taken taken' : Option (List ℕ)) : Type 0 where
   pub command : Command
   pub asked : Asks words command
   pub image : Option (List ℕ)
   pub text : List ℕ
-  pub made : Makes command old image text
+  pub made : Makes command old left image text
   pub before : Option (List ℕ)
   pub between : ℕ
   pub later : faults ≤ between
-  pub left : IsCutOff (image_name command) image text old new store_failed (Rose faults between) taken before
+  pub cut_off : IsCutOff (image_name command) image text old new store_failed (Rose faults between) taken before
   pub told : Tells write_line between faults' before taken'
 
 -- the words ask for a command that gets the image of this name
@@ -61,6 +63,25 @@ pub record AsksToGet (words : List (List ℕ)) (name : List ℕ) : Type 0 where
   pub asked : Asks words command
   pub gets : Gets command
   pub is_named : image_name command ≡ name
+
+-- the words ask for a command that gets the image of this name, and puts none
+pub record AsksToLook (words : List (List ℕ)) (name : List ℕ) : Type 0 where
+  pub command : Command
+  pub asked : Asks words command
+  pub gets : Gets command
+  pub puts_none : ¬ (RunsATrace command)
+  pub is_named : image_name command ≡ name
+
+-- the words ask for a run of a trace over the image of this name
+pub record AsksForRun (words : List (List ℕ)) (name : List ℕ) : Type 0 where
+  pub options : Options
+  pub asked : AsksToRun words name options
+
+-- the outside failed while something was read: an image, or the trace of a run whose image is good
+pub data IsReadFault (words : List (List ℕ)) (contents : Contents) (store_failed source_failed : Type 0) : Type 0 where
+  at_image : (name : List ℕ) → AsksToGet words name → store_failed → IsReadFault words contents store_failed source_failed
+  at_trace : (name : List ℕ) → AsksForRun words name → HasMapped contents name → source_failed
+      → IsReadFault words contents store_failed source_failed
 
 -- the words name an image that isn't there, where the store tells; `Told` says which line was told
 pub record IsAbsent (words : List (List ℕ)) (contents : Contents) (Told : List ℕ → Type 0)
@@ -142,9 +163,38 @@ pub record HoldsMaps (contents : Contents) (name : List ℕ) : Type 0 where
   pub inside : (at : ℕ) → PointsOutside (image_of_bytes bytes) at → ⊥
   pub maps : (shard : ℕ) → shard < shards → (map : Map) × MapOf (image_of_bytes bytes) shard map
 
--- nothing in the store stands against the command
-abbrev pub CanBeDone : Command → Contents → Type 0
-CanBeDone (format_image image capacity) contents = Unit {0}
-CanBeDone (show_image image with_map) contents = HoldsMaps contents image
-CanBeDone (drain_image image class) contents = HoldsGood contents image
-CanBeDone (gen_trace requests seed) contents = Unit {0}
+-- the words ask for a run over an image that is good, and the trace is refused: a line of it asks for nothing, of which the first is told, or it is too long
+pub data IsBadTrace (words : List (List ℕ)) (contents : Contents) (left : Option (List ℕ)) (Told : List ℕ → Type 0) : Type 0 where
+  at_line : (name : List ℕ) (line : ℕ) → AsksForRun words name → HasMapped contents name → HasBadLine left line
+      → Told (bad_line_line line) → IsBadTrace words contents left Told
+  too_long : (name : List ℕ) → AsksForRun words name → HasMapped contents name → HasTooMuch left
+      → Told too_long_line → IsBadTrace words contents left Told
+
+-- the source tells that a line of the trace that it has left asks for nothing
+pub record HoldsBadLine (left : Option (List ℕ)) (line : ℕ) : Type 0 where
+  pub trace : List ℕ
+  pub all : left ≡ Some trace
+  pub short : length trace ≤ longest_trace
+  pub first : IsFirstOutside (lines_of trace) line
+
+-- the source tells that it has more left than the longest trace
+pub record HoldsTooMuch (left : Option (List ℕ)) : Type 0 where
+  pub bytes : List ℕ
+  pub all : left ≡ Some bytes
+  pub more : longest_trace < length bytes
+
+-- the source tells that it has a trace left that can be run
+pub record HoldsTrace (left : Option (List ℕ)) : Type 0 where
+  pub trace : List ℕ
+  pub all : left ≡ Some trace
+  pub short : length trace ≤ longest_trace
+  pub lines : List Line
+  pub lines_are : AreLines (lines_of trace) lines
+
+-- nothing in the store or the source stands against the command
+abbrev pub CanBeDone : Command → Contents → Option (List ℕ) → Type 0
+CanBeDone (format_image image capacity) contents left = Unit {0}
+CanBeDone (show_image image with_map) contents left = HoldsMaps contents image
+CanBeDone (drain_image image class) contents left = HoldsGood contents image
+CanBeDone (gen_trace requests seed) contents left = Unit {0}
+CanBeDone (run_image image options) contents left = HoldsMaps contents image × HoldsTrace left

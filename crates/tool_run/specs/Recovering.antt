@@ -1,27 +1,20 @@
--- What recovery of an image gives the tool, the text on it, and what draining a class of it gives.
-use Rattle.std.specs.Prelude.{◌≡◌, ◌≢◌, ◌↔◌, ℕ, ◌*◌, Bool, List, [], ◌++◌, None, Some, false, Contains, AllPairs, slice_index, if◌then◌else◌}
+-- What recovery of an image gives the tool, and what draining a class of it gives.
+use Rattle.std.specs.Prelude.{◌≡◌, ◌≢◌, ℕ, ◌*◌, List, None, Contains, AllPairs, slice_index}
 use Rattle.heap_model.specs.declared.block.Block.{Block}
-use Rattle.heap_model.specs.Geometry.{clean}
 use Rattle.heap_model.specs.Image.{Image, image_of_bytes}
-use Rattle.heap_model.specs.Header.{capacity_of, state_of}
+use Rattle.heap_model.specs.Header.{capacity_of}
 use Rattle.heap_model.specs.Recovered.{AreAscending}
 use Rattle.heap_recover.specs.declared.answer.Recovered.{Recovered}
-use Rattle.heap_recover.specs.declared.answer.Was.TheVariants.{Clean}
 use Rattle.heap_recover.specs.declared.fault.RecoverFault.{RecoverFault}
 use Rattle.heap_recover.specs.declared.fault.RecoverFault.TheVariants.{Header, Outside, Memory}
 use Rattle.heap_shape.specs.Draining.{IsDrainable, IsToDrain}
 use Rattle.tool_ports.specs.Contents.{Contents, Holds}
-use Rattle.trace_text.specs.Report.{report_of}
+pub use Rattle.image_run.specs.Reporting.{IsRecoveryOf, IsTextOf}
 use Rattle.std.specs.BTreeMap.{BTreeMap}
-use Rattle.trace_text.specs.Keys.{TellsKeys}
-use Rattle.trace_text.specs.HeapMap.{map_of}
-use Rattle.trace_text.specs.Recovered.{is_clean}
-use Rattle.tool_run.specs.Making.{Recovers, PointsOutside, fault_of, drained_text}
-
--- the heap is what recovery of the image gives
-pub record IsRecoveryOf (image : Image) (recovered : Recovered) : Type 0 where
-  pub recovers : Recovers image recovered.heap.held recovered.free.items (slice_index recovered.heap.words)
-  pub was : (recovered.was ≡ Clean) ↔ (state_of image ≡ clean)
+use Rattle.dict_model.specs.Links.{shards}
+use Rattle.dictionary.specs.Reading.{RecoversTo, AreMaps}
+use Rattle.trace_run.specs.Opened.{IsDictionary}
+use Rattle.tool_run.specs.Making.{PointsOutside, HasMapped, fault_of, drained_text}
 
 -- the heap is what recovery of the image of this name gives
 pub record IsRecovered (contents : Contents) (name : List ℕ) (recovered : Recovered) : Type 0 where
@@ -31,23 +24,19 @@ pub record IsRecovered (contents : Contents) (name : List ℕ) (recovered : Reco
   pub inside : (at : ℕ) → PointsOutside (image_of_bytes bytes) at → ⊥
   pub is : IsRecoveryOf (image_of_bytes bytes) recovered
 
+-- the heap is what recovery makes of the image of this name, and each shard of it has a map
+pub record IsMapped (contents : Contents) (name words : List ℕ) (held : List Block) : Type 0 where
+  pub image : HasMapped contents name
+  pub to : RecoversTo (image_of_bytes image.bytes) (slice_index words)
+  pub maps : List (BTreeMap ℕ (List ℕ))
+  pub are : AreMaps (slice_index words) shards maps
+  pub dictionary : IsDictionary (slice_index words) (Contains held)
+
 -- why an image with a good header is not recovered
 abbrev pub IsRecoveryFault : Image → RecoverFault → Type 0
 IsRecoveryFault image (Header cause) = ⊥
 IsRecoveryFault image (Outside at value) = PointsOutside image at × (value ≡ image at)
 IsRecoveryFault image Memory = Unit {0}
-
--- the text on a recovered heap, with what is told of its keys
-abbrev pub text_of : Recovered → List ℕ → Bool → List ℕ
-text_of recovered keys with_map =
-    report_of (capacity_of (slice_index recovered.heap.words)) (is_clean recovered.was) keys recovered.heap.held
-    ++ (if with_map then map_of (slice_index recovered.heap.words) recovered.heap.held recovered.free.items else [])
-
--- the text is that on the heap and on these maps
-pub record IsTextOf (recovered : Recovered) (maps : List (BTreeMap ℕ (List ℕ))) (with_map : Bool) (text : List ℕ) : Type 0 where
-  pub keys : List ℕ
-  pub keys_are : TellsKeys (Some maps) false keys
-  pub is : text ≡ text_of recovered keys with_map
 
 -- each superblock of a heap at rest that holds no part of a held block is in its free list, or is cut for the class
 abbrev pub IsDrainableAtRest : List ℕ → List Block → ℕ → Type 0

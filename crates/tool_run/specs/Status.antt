@@ -1,5 +1,5 @@
 -- What each status says.
-use Rattle.std.specs.Prelude.{◌≢◌, ℕ, List, [], ◌∷◌, Option, Some, None, slice_index_or}
+use Rattle.std.specs.Prelude.{◌≢◌, ℕ, List, [], ◌∷◌, Option, Some, None, Contains, slice_index_or}
 use Rattle.tool_run.specs.Lines.{usage_line, memory_line, read_line}
 
 -- the result was put and printed in full
@@ -38,13 +38,21 @@ outside = 8
 abbrev pub bad_shard : ℕ
 bad_shard = 9
 
+-- a line of the trace asks for nothing, or the trace is too long
+abbrev pub bad_trace : ℕ
+bad_trace = 10
+
 abbrev pub statuses : List ℕ
-statuses = done ∷ usage ∷ out_of_memory ∷ read_fault ∷ write_fault ∷ no_image ∷ bad_header ∷ outside ∷ bad_shard ∷ []
+statuses = done ∷ usage ∷ out_of_memory ∷ read_fault ∷ write_fault ∷ no_image ∷ bad_header ∷ outside ∷ bad_shard ∷ bad_trace ∷ []
 
 -- a status after which the store is as it was, whatever the command
 pub record LeavesStore (status : ℕ) : Type 0 where
   pub refused : status ≢ done
   pub not_put : status ≢ write_fault
+
+-- a status by which the words or the image are refused, so that no trace is read
+pub record IsBeforeTrace (status : ℕ) : Type 0 where
+  pub among : Contains (usage ∷ no_image ∷ bad_header ∷ outside ∷ bad_shard ∷ []) status
 
 -- for the statuses from 0 on, the line of each that has one line alone
 abbrev pub own_lines : List (Option (List ℕ))

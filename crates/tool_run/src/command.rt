@@ -1,14 +1,16 @@
 //! The command that the words of the command line ask for, as the crate clap takes them.
 ghost use Rattle.std.specs.Prelude.{◌≡◌, ℕ, Bool, List, Some, codes, slice_get, IfOk, IsErrOf};
-ghost use Rattle.tool_run.specs.Command.{Asks, AsksToFormat, AsksToShow, AsksToDrain, AsksToGen, IsUsage, texts, image_name};
+ghost use Rattle.tool_run.specs.Command.{Asks, AsksToFormat, AsksToShow, AsksToDrain, AsksToGen, AsksToRun, IsUsage, texts, image_name};
+ghost use Rattle.image_run.specs.Running.{Options};
 ghost use Rattle.tool_run.specs.Inside.{command_of};
 
 use crate::command_line::{
     Refusal, drain_command, format_command, gen_command, has_flag, match_words, number_of,
-    show_command, text_of,
+    number_or, run_command, show_command, text_of,
 };
 use crate::size_class::SizeClass;
 use crate::trace_plan::{GREATEST_SEED, MOST_REQUESTS, TracePlan};
+use image_run::{MOST_BUDGET, MOST_WORKERS, RunOptions};
 use std::alloc::Global;
 use super_block::{Geometry, LARGEST_CAPACITY, LAST_CLASS};
 
@@ -19,6 +21,7 @@ pub enum Invocation<'a> {
     Show { image: &'a str, with_map: bool },
     Drain { image: &'a str, class: SizeClass },
     Gen { plan: TracePlan },
+    Run { image: &'a str, options: RunOptions },
 }
 
 impl<'a> Invocation<'a> {
@@ -31,6 +34,7 @@ impl<'a> Invocation<'a> {
             Invocation::Show { image, with_map: _ } => image,
             Invocation::Drain { image, class: _ } => image,
             Invocation::Gen { plan: _ } => "",
+            Invocation::Run { image, options: _ } => image,
         }
     }
 }
@@ -66,6 +70,9 @@ fn parse_command<'a>(
     }
     if command == "gen" {
         return parse_gen(alloc, words);
+    }
+    if command == "run" {
+        return parse_run(alloc, words);
     }
     Err(Refusal::Usage)
 }
@@ -133,4 +140,29 @@ fn parse_gen<'a>(alloc: Global, words: &'a [String]) -> Result<Invocation<'a>, R
     };
     let plan = TracePlan::new(requests, seed);
     Ok(Invocation::Gen { plan })
+}
+
+fn parse_run<'a>(alloc: Global, words: &'a [String]) -> Result<Invocation<'a>, Refusal>
+    requires { slice_get (texts words.now) 0 ≡ Some (codes "run") }
+    ensures ok { IfOk result (λ invocation. Asks (texts words.entry.now) (command_of invocation)) }
+    ensures err { IsErrOf result Refusal.Usage → (image : List ℕ) (options : Options)
+        → AsksToRun (texts words.entry.now) image options → ⊥ }
+{
+    let matches = match_words(run_command(alloc)?, words)?;
+    let Some(image) = text_of(&matches, "IMAGE") else {
+        return Err(Refusal::Usage);
+    };
+    let Some(workers) = number_of(&matches, "workers", 1, MOST_WORKERS) else {
+        return Err(Refusal::Usage);
+    };
+    let Some(budget) = number_or(&matches, "stop", MOST_BUDGET, 0, MOST_BUDGET) else {
+        return Err(Refusal::Usage);
+    };
+    let Some(seed) = number_or(&matches, "seed", 0, 0, u64::MAX) else {
+        return Err(Refusal::Usage);
+    };
+    let sum = has_flag(&matches, "sum");
+    let map = has_flag(&matches, "map");
+    let options = RunOptions::new(workers, budget, seed).telling(sum, map);
+    Ok(Invocation::Run { image, options })
 }

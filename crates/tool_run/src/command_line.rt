@@ -3,13 +3,14 @@ ghost use Rattle.std.specs.Prelude.{◌≡◌, ◌≢◌, ◌≤◌, ℕ, true, 
 ghost use Rattle.clap.specs.Words.{app_of, kind_of, is_simple, is_simple_and_free, fault_of, first_of, rows_of, found_of};
 ghost use Rattle.clap.specs.declared.error.kind.ErrorKind.TheVariants.{OutOfMemory};
 ghost use Rattle.tool_run.specs.Command.{texts};
-ghost use Rattle.tool_run.specs.CommandLine.{format_app, show_app, drain_app, gen_app, IsMatchedBy, HasNumber, HasFlag};
+ghost use Rattle.tool_run.specs.CommandLine.{format_app, show_app, drain_app, gen_app, plain_run_app, counted_run_app, run_app, IsMatchedBy, HasNumber, HasNumberOr, HasFlag};
 ghost use Rattle.tool_run.specs.declared.command_line.Refusal.TheVariants.{Usage, Memory};
 
 use crate::trace_plan::{GREATEST_SEED, MOST_REQUESTS};
 use clap::builder::ValueParser;
 use clap::error::ErrorKind;
 use clap::{Arg, ArgAction, ArgMatches, Command, Error};
+use image_run::{MOST_BUDGET, MOST_WORKERS};
 use std::alloc::{AllocError, Global};
 use super_block::{LARGEST_CAPACITY, LAST_CLASS};
 
@@ -88,6 +89,44 @@ pub fn gen_command<'a>(alloc: Global) -> Result<Command<'a>, AllocError>
     Command::new(alloc, "gen").arg(requests)?.arg(seed)
 }
 
+/// `run IMAGE --workers N [--stop K] [--seed X] [--sum] [--map]`.
+pub fn run_command<'a>(alloc: Global) -> Result<Command<'a>, AllocError>
+    ensures { IfOk result (λ command. app_of command ≡ run_app) }
+{
+    let sum = Arg::new(alloc, "sum")
+        .long("sum")
+        .action(ArgAction::SetTrue);
+    let map = Arg::new(alloc, "map")
+        .long("map")
+        .action(ArgAction::SetTrue);
+    counted_run_command(alloc)?.arg(sum)?.arg(map)
+}
+
+// `run IMAGE --workers N [--stop K] [--seed X]`.
+fn counted_run_command<'a>(alloc: Global) -> Result<Command<'a>, AllocError>
+    ensures { IfOk result (λ command. app_of command ≡ counted_run_app) }
+{
+    let stop = Arg::new(alloc, "stop")
+        .long("stop")
+        .value_parser(ValueParser::unsigned(0, MOST_BUDGET));
+    let seed = Arg::new(alloc, "seed")
+        .long("seed")
+        .value_parser(ValueParser::unsigned(0, u64::MAX));
+    plain_run_command(alloc)?.arg(stop)?.arg(seed)
+}
+
+// `run IMAGE --workers N`.
+fn plain_run_command<'a>(alloc: Global) -> Result<Command<'a>, AllocError>
+    ensures { IfOk result (λ command. app_of command ≡ plain_run_app) }
+{
+    let image = Arg::new(alloc, "IMAGE").required(true);
+    let workers = Arg::new(alloc, "workers")
+        .long("workers")
+        .required(true)
+        .value_parser(ValueParser::unsigned(1, MOST_WORKERS));
+    Command::new(alloc, "run").arg(image)?.arg(workers)
+}
+
 /// What clap makes of the words, of which the first is the command's name.
 pub fn match_words<'a>(command: Command<'a>, words: &'a [String]) -> Result<ArgMatches<'a>, Refusal>
     requires simple { is_simple (app_of command) ≡ true }
@@ -118,6 +157,27 @@ pub fn number_of(matches: &ArgMatches<'_>, id: &str, least: u64, most: u64) -> O
     match matches.get_one::<u64>(id) {
         Some(number) if least <= number && number <= most => Some(number),
         _ => None,
+    }
+}
+
+/// The number given for an argument, which lies in these bounds; where none was given, the other.
+pub fn number_or(
+    matches: &ArgMatches<'_>,
+    id: &str,
+    other: u64,
+    least: u64,
+    most: u64,
+) -> Option<u64>
+    requires { (least ≤ other) × (other ≤ most) }
+    ensures some { IfSome result (λ n. HasNumberOr (rows_of (found_of matches.now)) id.now other n
+        × (least ≤ n) × (n ≤ most)) }
+    ensures none { IfNone result ((n : ℕ)
+        → HasNumberOr (rows_of (found_of matches.now)) id.now other n
+        → least ≤ n → n ≤ most → ⊥) }
+{
+    match text_of(matches, id) {
+        Some(_) => number_of(matches, id, least, most),
+        None => Some(other),
     }
 }
 

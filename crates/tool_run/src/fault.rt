@@ -2,8 +2,8 @@
 ghost use Rattle.std.specs.Prelude.{◌≡◌, ◌++◌, ◌≤◌, List, ℕ, OnOk, OnErr, IsErr};
 ghost use Rattle.tool_ports.specs.Causes.{HasCause};
 ghost use Rattle.tool_ports.specs.Taken.{taken_with, TakesPart};
-ghost use Rattle.tool_run.specs.Inside.{status_of, line_of, IsPlain, fault_of_get, fault_of_put, fault_of_recovery, fault_of_maps};
-ghost use Rattle.tool_run.specs.Lines.{Tells, cause_name, outside_line, bad_shard_line};
+ghost use Rattle.tool_run.specs.Inside.{status_of, line_of, IsPlain, fault_of_get, fault_of_put, fault_of_recovery, fault_of_maps, fault_of_reading, fault_of_trace};
+ghost use Rattle.tool_run.specs.Lines.{Tells, cause_name, outside_line, bad_shard_line, bad_line_line};
 ghost use Rattle.tool_run.specs.declared.fault.Fault.TheVariants.{Memory, WriteFault, Malformed};
 ghost use Rattle.trace_text.specs.Report.{line_feed};
 ghost use Rattle.std.specs.Int.{w64, to_be_bytes};
@@ -15,7 +15,8 @@ use heap_model::BadHeader;
 use heap_recover::RecoverFault;
 use itoa::Buffer;
 use std::alloc::AllocError;
-use tool_ports::{Failed, GetFault, PutImageFault, Sink, write_all};
+use tool_ports::{Failed, GetFault, PutImageFault, ReadAllFault, Sink, write_all};
+use trace_text::TraceError;
 
 /// Why a call has no result.
 #[derive(Clone, Copy, PartialEq, Eq, Debug)]
@@ -28,6 +29,8 @@ pub enum Fault {
     Malformed(BadHeader),
     Outside { at: u64, value: u64 },
     BadShard { shard: usize, at: u64 },
+    BadLine { line: u64 },
+    TooLong,
 }
 
 impl Fault {
@@ -43,6 +46,8 @@ impl Fault {
             Fault::Malformed(_) => 7,
             Fault::Outside { at: _, value: _ } => 8,
             Fault::BadShard { shard: _, at: _ } => 9,
+            Fault::BadLine { line: _ } => 10,
+            Fault::TooLong => 10,
         })
     }
 
@@ -60,6 +65,8 @@ impl Fault {
             Fault::Malformed(cause) => ("bad header ", name_of_cause(cause)),
             Fault::Outside { at: _, value: _ } => ("", ""),
             Fault::BadShard { shard: _, at: _ } => ("", ""),
+            Fault::BadLine { line: _ } => ("", ""),
+            Fault::TooLong => ("bad trace too long", ""),
         }
     }
 
@@ -74,6 +81,7 @@ impl Fault {
         match self {
             Fault::Outside { at, value } => write_outside(out, at, value),
             Fault::BadShard { shard, at } => write_bad_shard(out, shard, at),
+            Fault::BadLine { line } => write_bad_line(out, line),
             _ => {
                 let (text, detail) = self.line(image);
                 write_line(out, text, detail)
@@ -143,6 +151,17 @@ fn write_bad_shard<O: Sink>(out: &mut O, shard: usize, at: u64) -> Result<(), Fa
     let mut place = Buffer::new();
     write_two(out, b" at ", place.format(at).as_bytes())?;
     write_all(out, b"\n")
+}
+
+fn write_bad_line<O: Sink>(out: &mut O, line: u64) -> Result<(), Failed>
+    ensures ok { OnOk result
+        (O.taken out.new ≡ taken_with (O.taken out.old) (bad_line_line line)) }
+    ensures err { OnErr result
+        (TakesPart (bad_line_line line) (O.taken out.old) (O.taken out.new)) }
+    ensures cause { HasCause (O.faults out.old) (O.faults out.new) (IsErr result) }
+{
+    let mut number = Buffer::new();
+    write_line(out, "bad trace line ", number.format(line))
 }
 
 // A word in sixteen hexadecimal digits.
@@ -232,6 +251,29 @@ impl From<MapFault> for Fault {
         match cause {
             MapFault::BadShard { shard, at } => Fault::BadShard { shard, at },
             MapFault::Memory => Fault::Memory,
+        }
+    }
+}
+
+impl From<ReadAllFault> for Fault {
+    ghost from_gives = { λ cause fault. fault ≡ fault_of_reading cause };
+
+    fn from(cause: ReadAllFault) -> Self {
+        match cause {
+            ReadAllFault::TooLong => Fault::TooLong,
+            ReadAllFault::Failed => Fault::ReadFault,
+            ReadAllFault::Memory => Fault::Memory,
+        }
+    }
+}
+
+impl From<TraceError> for Fault {
+    ghost from_gives = { λ cause fault. fault ≡ fault_of_trace cause };
+
+    fn from(cause: TraceError) -> Self {
+        match cause {
+            TraceError::BadLine { line } => Fault::BadLine { line },
+            TraceError::Memory => Fault::Memory,
         }
     }
 }

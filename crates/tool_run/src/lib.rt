@@ -14,6 +14,7 @@ mod run;
 mod size_class;
 mod status;
 mod trace_plan;
+mod working;
 
 pub use run::{run_tool, tell_out_of_memory};
 pub use status::Status;

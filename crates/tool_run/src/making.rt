@@ -1,26 +1,25 @@
 //! What each command makes, all of it before anything is put or printed.
-ghost use Rattle.std.specs.Prelude.{◌≡◌, ◌≤◌, IfOk, IfErr};
+ghost use Rattle.std.specs.Prelude.{◌≡◌, ◌≤◌, IfOk, IfErr, OnOk};
 ghost use Rattle.tool_ports.specs.Calls.{with_get};
 ghost use Rattle.tool_ports.specs.Causes.{Rose};
 ghost use Rattle.tool_run.specs.Calls.{get_limit, with_making};
-ghost use Rattle.tool_run.specs.Inside.{command_of, Refuses};
+ghost use Rattle.tool_run.specs.Inside.{command_of, Refuses, RefusesEither, IsBeforeReading};
 ghost use Rattle.tool_run.specs.Command.{show_image};
-ghost use Rattle.tool_run.specs.Making.{Makes, IsFormatted, Shows};
-ghost use Rattle.tool_run.specs.Recovering.{IsTextOf};
+ghost use Rattle.tool_ports.specs.Left.{IsAtEnd};
+ghost use Rattle.tool_run.specs.Making.{Makes, RunsATrace, IsFormatted, Shows};
 
 use crate::command::Invocation;
 use crate::draining::drain_image;
 use crate::fault::Fault;
 use crate::generating::generate;
 use crate::recovering::recover_image;
+use crate::working::work_named;
 use dictionary::read_maps;
-use heap_recover::Recovered;
+use image_run::recovered_text;
 use region_header::{Bytes, format, words_to_bytes};
 use std::alloc::{AllocError, Global};
-use std::collections::BTreeMap;
 use super_block::{Geometry, WORD_BYTES};
-use tool_ports::{Chances, ImageStore};
-use trace_text::{map_text, report_text};
+use tool_ports::{Chances, Gate, ImageStore, Source};
 
 /// What a command has made: the image that is to be put, if any, and the text to be printed.
 #[derive(Drop)]
@@ -30,16 +29,23 @@ pub struct Product {
 }
 
 /// Makes what the command is to put and to print.
-pub fn make<I: ImageStore, C: Chances>(
+pub fn make<R, I: ImageStore, T: Source, G: Gate + Sync, C: Chances>(
+    rt: &R,
     alloc: Global,
     command: Invocation<'_>,
     images: &mut I,
+    trace: &mut T,
+    gate: &G,
     chances: &mut C,
 ) -> Result<Product, Fault>
-    ensures ok { IfOk result (λ product.
-        Makes (command_of command.entry) (I.contents images.old) product.image product.text) }
-    ensures err { IfErr result (λ fault. Refuses (command_of command.entry) (I.contents images.old)
-        (Rose (I.faults images.old) (I.faults images.new)) fault) }
+    ensures ok { IfOk result (λ product. Makes (command_of command.entry) (I.contents images.old)
+        (T.left trace.old) product.image product.text) }
+    ensures err { IfErr result (RefusesEither (command_of command.entry)
+        (I.contents images.old) (T.left trace.old) (Rose (I.faults images.old) (I.faults images.new))
+        (Rose (T.faults trace.old) (T.faults trace.new))) }
+    ensures unread { IfErr result (λ fault. IsBeforeReading fault → trace.new ≡ trace.old) }
+    ensures no_run { ¬ (RunsATrace (command_of command.entry)) → trace.new ≡ trace.old }
+    ensures end { OnOk result (RunsATrace (command_of command.entry) → IsAtEnd (T.left trace.new)) }
     ensures unchanged { I.contents images.new ≡ I.contents images.old }
     ensures later { I.faults images.old ≤ I.faults images.new }
     ensures calls { I.calls images.new
@@ -50,6 +56,9 @@ pub fn make<I: ImageStore, C: Chances>(
         Invocation::Show { image, with_map } => report(alloc, image, with_map, images),
         Invocation::Drain { image, class } => { drain_image(alloc, image, class, images, chances) }
         Invocation::Gen { plan } => Ok(generate(alloc, plan)?),
+        Invocation::Run { image, options } => {
+            work_named(rt, alloc, image, options, images, trace, gate, chances)
+        }
     }
 }
 
@@ -87,24 +96,6 @@ fn report<I: ImageStore>(
 {
     let recovered = recover_image(alloc, name, images)?;
     let maps = read_maps(alloc, &recovered)?;
-    let text = recovered_text(alloc, &recovered, &maps, with_map)?;
+    let text = recovered_text(alloc, &recovered, &maps, false, with_map)?;
     Ok(Product { image: None, text })
-}
-
-// The report on a recovered heap and its keys, and its map where that is asked for.
-fn recovered_text(
-    alloc: Global,
-    recovered: &Recovered,
-    maps: &[BTreeMap<u64, Bytes>],
-    with_map: bool,
-) -> Result<Bytes, AllocError>
-    ensures ok { IfOk result (IsTextOf recovered.now maps.now with_map) }
-{
-    let report = report_text(alloc, recovered, Some(maps), false)?;
-    if !with_map {
-        return Ok(report);
-    }
-    let mut text = report.into_vec();
-    text.extend_from_slice(map_text(alloc, recovered)?.as_slice())?;
-    Ok(Bytes::from_vec(text))
 }

@@ -3,12 +3,14 @@ ghost use Rattle.std.specs.Prelude.{◌≡◌, ◌≢◌, ◌⊎◌, ◌≤◌, 
 ghost use Rattle.tool_ports.specs.Calls.{with_get, with_put};
 ghost use Rattle.tool_ports.specs.Causes.{Rose};
 ghost use Rattle.tool_ports.specs.Contents.{told_of};
+ghost use Rattle.tool_ports.specs.Left.{IsAtEnd};
 ghost use Rattle.tool_run.specs.Calls.{get_limit, with_command, with_status};
 ghost use Rattle.tool_run.specs.Command.{Command, Asks, AsksToFormat, AsksToGen, IsUsage, texts};
-ghost use Rattle.tool_run.specs.Inside.{command_of, status_of, IsCarriedOut, IsStopped};
+ghost use Rattle.tool_run.specs.Inside.{command_of, status_of, IsCarriedOut, IsStopped, IsBeforeReading};
+ghost use Rattle.tool_run.specs.Making.{RunsATrace};
 ghost use Rattle.tool_run.specs.Lines.{Tells, memory_line};
-ghost use Rattle.tool_run.specs.Outcome.{IsDone, IsWriteFault, AsksToGet, AsksToRead, IsAbsent, IsBadHeader, IsOutsideAt, IsBadShardAt, HoldsMalformed, HoldsOutside, HoldsBadShard, CanBeDone};
-ghost use Rattle.tool_run.specs.Status.{done, usage, out_of_memory, read_fault, write_fault, no_image, bad_header, outside, bad_shard, statuses, LeavesStore, own_line};
+ghost use Rattle.tool_run.specs.Outcome.{IsDone, IsReadFault, IsWriteFault, AsksToGet, AsksToLook, AsksToRead, AsksForRun, IsAbsent, IsBadHeader, IsOutsideAt, IsBadShardAt, IsBadTrace, HoldsMalformed, HoldsOutside, HoldsBadShard, HoldsMaps, HoldsBadLine, HoldsTooMuch, CanBeDone};
+ghost use Rattle.tool_run.specs.Status.{done, usage, out_of_memory, read_fault, write_fault, no_image, bad_header, outside, bad_shard, bad_trace, statuses, LeavesStore, IsBeforeTrace, own_line};
 
 use crate::command::{Invocation, parse};
 use crate::command_line::Refusal;
@@ -21,31 +23,33 @@ use tool_ports::{Chances, Gate, ImageStore, Sink, Source};
 
 /// Does what the words ask for. They are those after the program's name: `format IMAGE S` puts an
 /// empty image of S superblocks, `show IMAGE` recovers an image and prints a report on it,
-/// `show IMAGE --map` prints a map too, and `drain IMAGE CLASS` recovers an image and prints the
-/// offsets of the blocks that the class then gives. `gen N SEED` prints a trace of N requests.
-/// Where there is no result, a line tells why; one
-/// that the sink refuses is lost. What a drained heap settles early comes from `chances` with the
-/// seed 0. No command reads the trace or passes the gate yet: they are for runs.
+/// `show IMAGE --map` prints a map too, `run IMAGE --workers 1` runs the trace that the source has
+/// left over an image, puts the image that is left and prints the replies and a report,
+/// `drain IMAGE CLASS` recovers an image and prints the offsets of the blocks that the class then
+/// gives, and `gen N SEED` prints a trace. Where there is no result, a line tells why; one that the
+/// sink refuses is lost. What a heap settles early comes from `chances`, with the seed 0 for `drain`.
 pub fn run_tool<R, I: ImageStore, T: Source, O: Sink, G: Gate + Sync, C: Chances>(
-    _rt: &R,
+    rt: &R,
     alloc: Global,
     words: &[String],
     images: &mut I,
     trace: &mut T,
     out: &mut O,
-    _gate: &G,
+    gate: &G,
     chances: &mut C,
 ) -> Status
     ensures known { Contains statuses result }
 
     // What each status says.
     ensures ok { result ≡ done → IsDone (texts words.now)
-        (I.contents images.old) (I.contents images.new) (O.taken out.old) (O.taken out.new) }
+        (I.contents images.old) (I.contents images.new) (T.left trace.old)
+        (O.taken out.old) (O.taken out.new) }
     ensures usage { result ≡ usage → IsUsage (texts words.now) }
-    ensures read_fault { result ≡ read_fault → ((name : List ℕ) × AsksToGet (texts words.now) name)
-        × Rose (I.faults images.old) (I.faults images.new) }
+    ensures read_fault { result ≡ read_fault → IsReadFault (texts words.now) (I.contents images.old)
+        (Rose (I.faults images.old) (I.faults images.new))
+        (Rose (T.faults trace.old) (T.faults trace.new)) }
     ensures write_fault { result ≡ write_fault → IsWriteFault (texts words.now)
-        (I.contents images.old) (I.contents images.new)
+        (I.contents images.old) (I.contents images.new) (T.left trace.old)
         (Rose (I.faults images.old) (I.faults images.new))
         (O.faults out.old) (O.faults out.new) (O.taken out.old) (O.taken out.new) }
     ensures absent { result ≡ no_image → IsAbsent (texts words.now) (I.contents images.old)
@@ -57,20 +61,33 @@ pub fn run_tool<R, I: ImageStore, T: Source, O: Sink, G: Gate + Sync, C: Chances
         (λ line. Tells line (O.faults out.old) (O.faults out.new) (O.taken out.old) (O.taken out.new)) }
     ensures bad_shard { result ≡ bad_shard → IsBadShardAt (texts words.now) (I.contents images.old)
         (λ line. Tells line (O.faults out.old) (O.faults out.new) (O.taken out.old) (O.taken out.new)) }
+    ensures bad_trace { result ≡ bad_trace → IsBadTrace (texts words.now) (I.contents images.old)
+        (T.left trace.old)
+        (λ line. Tells line (O.faults out.old) (O.faults out.new) (O.taken out.old) (O.taken out.new)) }
     ensures line { IfSome (own_line result)
         (λ line. Tells line (O.faults out.old) (O.faults out.new)
         (O.taken out.old) (O.taken out.new)) }
     ensures unchanged { LeavesStore result → I.contents images.new ≡ I.contents images.old }
 
-    // No command reads the trace.
-    ensures unread { trace.new ≡ trace.old }
+    // The trace is read for a run alone, once its image is good, and then to its end.
+    ensures unread { ((name : List ℕ) → ¬ (AsksForRun (texts words.now) name))
+        → trace.new ≡ trace.old }
+    ensures not_yet_read { IsBeforeTrace result → trace.new ≡ trace.old }
+    ensures read_to_the_end { (name : List ℕ) → AsksForRun (texts words.now) name
+        → result ≡ done → IsAtEnd (T.left trace.new) }
 
-    // How often the store is called: not at all, or for one get, or for one put.
+    // How often the store is called: not at all, or for one get, for one put, or for both.
     ensures no_call { IsUsage (texts words.now) → I.calls images.new ≡ I.calls images.old }
     ensures no_call_for_a_trace { (requests seed : ℕ) → AsksToGen (texts words.now) requests seed
         → I.calls images.new ≡ I.calls images.old }
-    ensures one_get { (name : List ℕ) → AsksToGet (texts words.now) name
+    ensures one_get { (name : List ℕ) → AsksToLook (texts words.now) name
         → result ≢ out_of_memory → I.calls images.new ≡ with_get get_limit (I.calls images.old) }
+    ensures get_and_put { (name : List ℕ) → AsksForRun (texts words.now) name
+        → (result ≡ done) ⊎ (result ≡ write_fault)
+        → I.calls images.new ≡ with_put (with_get get_limit (I.calls images.old)) }
+    ensures get_alone { (name : List ℕ) → AsksForRun (texts words.now) name
+        → result ≢ done → result ≢ write_fault → result ≢ out_of_memory
+        → I.calls images.new ≡ with_get get_limit (I.calls images.old) }
     ensures get_or_none { (name : List ℕ) → AsksToGet (texts words.now) name
         → result ≡ out_of_memory → (I.calls images.new ≡ I.calls images.old)
         ⊎ (I.calls images.new ≡ with_get get_limit (I.calls images.old)) }
@@ -94,9 +111,16 @@ pub fn run_tool<R, I: ImageStore, T: Source, O: Sink, G: Gate + Sync, C: Chances
     ensures always_bad_shard { (name : List ℕ) (shard at : ℕ) → AsksToRead (texts words.now) name
         → HoldsBadShard (I.contents images.old) name shard at
         → (result ≡ bad_shard) ⊎ (result ≡ out_of_memory) ⊎ (result ≡ read_fault) }
+    ensures always_bad_line { (name : List ℕ) (line : ℕ) → AsksForRun (texts words.now) name
+        → HoldsMaps (I.contents images.old) name → HoldsBadLine (T.left trace.old) line
+        → (result ≡ bad_trace) ⊎ (result ≡ out_of_memory) ⊎ (result ≡ read_fault) }
+    ensures always_too_long { (name : List ℕ) → AsksForRun (texts words.now) name
+        → HoldsMaps (I.contents images.old) name → HoldsTooMuch (T.left trace.old)
+        → (result ≡ bad_trace) ⊎ (result ≡ out_of_memory) ⊎ (result ≡ read_fault) }
     ensures complete { (command : Command) → Asks (texts words.now) command
-        → CanBeDone command (I.contents images.old)
+        → CanBeDone command (I.contents images.old) (T.left trace.old)
         → ¬ (Rose (I.faults images.old) (I.faults images.new))
+        → (RunsATrace command → ¬ (Rose (T.faults trace.old) (T.faults trace.new)))
         → ¬ (Rose (O.faults out.old) (O.faults out.new))
         → (result ≡ done) ⊎ (result ≡ out_of_memory) }
 {
@@ -105,7 +129,7 @@ pub fn run_tool<R, I: ImageStore, T: Source, O: Sink, G: Gate + Sync, C: Chances
         Err(Refusal::Usage) => return Fault::Usage.tell("", out),
         Err(Refusal::Memory) => return Fault::Memory.tell("", out),
     };
-    match carry_out(alloc, command, images, out, chances) {
+    match carry_out(rt, alloc, command, images, trace, out, gate, chances) {
         Ok(()) => Status::new(0),
         Err(fault) => fault.tell(command.image(), out),
     }
@@ -121,19 +145,26 @@ pub fn tell_out_of_memory<O: Sink>(out: &mut O) -> Status
 }
 
 // Makes the whole result first, then puts and prints it.
-fn carry_out<I: ImageStore, O: Sink, C: Chances>(
+fn carry_out<R, I: ImageStore, T: Source, O: Sink, G: Gate + Sync, C: Chances>(
+    rt: &R,
     alloc: Global,
     command: Invocation<'_>,
     images: &mut I,
+    trace: &mut T,
     out: &mut O,
+    gate: &G,
     chances: &mut C,
 ) -> Result<(), Fault>
-    ensures ok { OnOk result (IsCarriedOut (command_of command.entry)
-        (I.contents images.old) (I.contents images.new) (O.taken out.old) (O.taken out.new)) }
+    ensures ok { OnOk result (IsCarriedOut (command_of command.entry) (I.contents images.old)
+        (I.contents images.new) (T.left trace.old) (O.taken out.old) (O.taken out.new)) }
     ensures err { IfErr result (IsStopped (command_of command.entry)
-        (I.contents images.old) (I.contents images.new)
+        (I.contents images.old) (I.contents images.new) (T.left trace.old)
         (Rose (I.faults images.old) (I.faults images.new))
+        (Rose (T.faults trace.old) (T.faults trace.new))
         (Rose (O.faults out.old) (O.faults out.new)) (O.taken out.old) (O.taken out.new)) }
+    ensures unread { IfErr result (λ fault. IsBeforeReading fault → trace.new ≡ trace.old) }
+    ensures no_run { ¬ (RunsATrace (command_of command.entry)) → trace.new ≡ trace.old }
+    ensures end { OnOk result (RunsATrace (command_of command.entry) → IsAtEnd (T.left trace.new)) }
     ensures later_store { I.faults images.old ≤ I.faults images.new }
     ensures later_sink { O.faults out.old ≤ O.faults out.new }
     ensures calls { OnOk result
@@ -141,6 +172,6 @@ fn carry_out<I: ImageStore, O: Sink, C: Chances>(
     ensures calls_err { IfErr result (λ fault. I.calls images.new
         ≡ with_status (command_of command.entry) (status_of fault) (I.calls images.old)) }
 {
-    let product = make(alloc, command, images, chances)?;
+    let product = make(rt, alloc, command, images, trace, gate, chances)?;
     deliver(alloc, command.image(), &product, images, out)
 }

@@ -1,5 +1,5 @@
 use Rattle.std.proofs.Common.{◌≡◌, ◌∙◌, ap, rules, codes, List, ℕ, Some}
-use Rattle.tool_run.proofs.CommandLemmas.{usage_format, usage_show, usage_drain, usage_gen}
+use Rattle.tool_run.proofs.CommandLemmas.{usage_format, usage_show, usage_drain, usage_gen, usage_run}
 use Rattle.tool_run.proofs.command.parse_command.Goals as goal
 
 pub returns-then-eq-clause-err : goal.returns-then-eq-clause-err
@@ -21,3 +21,8 @@ pub returns-then-eq-4-clause-err : goal.returns-then-eq-4-clause-err
 returns-then-eq-4-clause-err c is =
     let word : c.args.command.now ≡ codes "gen" = search rules in
     usage_gen _ (c.requires ∙ ap (λ (w : List ℕ). Some w) word) (c.parse_gen.ensures.err is)
+
+pub returns-then-eq-5-clause-err : goal.returns-then-eq-5-clause-err
+returns-then-eq-5-clause-err c is =
+    let word : c.args.command.now ≡ codes "run" = search rules in
+    usage_run _ (c.requires ∙ ap (λ (w : List ℕ). Some w) word) (c.parse_run.ensures.err is)

@@ -1,4 +1,4 @@
-use Rattle.std.proofs.Common.{ℕ, List, refl, subst}
+use Rattle.std.proofs.Common.{ℕ, List, false, refl, subst}
 use Rattle.std.specs.BTreeMap.{BTreeMap}
 use Rattle.tool_run.specs.Recovering.{IsTextOf}
 use Rattle.tool_run.specs.Command.{show_image}
@@ -16,11 +16,11 @@ returns-in_err-recovered-clause-err g c =
 pub returns-in_err-maps-clause-err : goal.returns-in_err-maps-clause-err
 returns-in_err-maps-clause-err g c =
     at_cause _ c.from_residual-in_err-maps.result c.from_residual-in_err-maps.ensures
-    (λ fault is. refuses_maps _ _ _ c.in_ok-recovered.ensures.ok c.read_maps.ensures.ready c.args.with_map _ _ fault is c.in_err-maps.ensures.err)
+    (λ fault is. refuses_maps _ _ _ c.in_ok-recovered.ensures.ok c.read_maps.ensures.ready (show_image c.args.name.now c.args.with_map) _ _ fault is c.in_err-maps.ensures.err tt refl)
 
 pub returns-clause-ok : goal.returns-clause-ok
 returns-clause-ok g c = (
   refl,
   shows _ _ _ _ _ _ c.in_ok-recovered.ensures.ok c.read_maps.ensures.ready c.in_ok-maps.ensures.ok
-      (subst (λ (ms : List (BTreeMap ℕ (List ℕ))). IsTextOf c.in_ok-recovered.recovered ms c.args.with_map c.in_ok-text.text) c.deref.ensures.value c.in_ok-text.ensures.ok),
+      (subst (λ (ms : List (BTreeMap ℕ (List ℕ))). IsTextOf c.in_ok-recovered.recovered ms false c.args.with_map c.in_ok-text.text) c.deref.ensures.value c.in_ok-text.ensures.ok),
 )

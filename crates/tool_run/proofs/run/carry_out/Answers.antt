@@ -1,7 +1,15 @@
-use Rattle.tool_run.proofs.CallLemmas.{stops_at_delivery, if_error}
+use Rattle.tool_run.proofs.CallLemmas.{stops_at_delivery, if_error, calls_done, calls_undelivered}
 use Rattle.tool_run.proofs.run.carry_out.Goals as goal
 
 pub returns-clause-err : goal.returns-clause-err
 returns-clause-err g c =
     if_error _ _ c.deliver.result c.deliver.ensures.err
-    (λ fault why. stops_at_delivery _ _ _ _ _ _ _ _ _ _ _ _ _ fault c.in_ok-product.ensures.ok c.image.ensures c.make.ensures.unchanged c.make.ensures.later why)
+    (λ fault why. stops_at_delivery _ _ _ _ _ _ _ _ _ _ _ _ _ _ _ fault c.in_ok-product.ensures.ok c.image.ensures c.make.ensures.unchanged c.make.ensures.later why)
+
+pub returns-clause-calls : goal.returns-clause-calls
+returns-clause-calls g c =
+    calls_done _ _ _ _ _ _ _ _ c.in_ok-product.ensures.ok c.make.ensures.calls c.deliver.result c.deliver.ensures.put
+
+pub returns-clause-calls_err : goal.returns-clause-calls_err
+returns-clause-calls_err g c =
+    calls_undelivered _ _ _ _ _ _ _ _ c.in_ok-product.ensures.ok c.make.ensures.calls _ _ _ _ _ _ _ c.deliver.result c.deliver.ensures.err c.deliver.ensures.put c.deliver.ensures.not_put

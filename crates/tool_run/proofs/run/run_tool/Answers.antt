@@ -1,12 +1,14 @@
-use Rattle.tool_run.proofs.StatusLemmas.{has_status, is_read_fault, is_write_fault, is_bad_header, is_outside, is_bad_shard}
+use Rattle.tool_run.proofs.StatusLemmas.{has_status, is_read_fault, is_write_fault, is_bad_header, is_outside, is_bad_shard, is_absent, is_bad_trace, is_own_line, for_run}
 use Rattle.std.proofs.Common.{arith, rules}
 use Rattle.tool_run.proofs.CallLemmas.{rose_since}
+use Rattle.tool_run.proofs.AbsentLemmas.{stops_absent}
+use Rattle.tool_run.proofs.BadTraceLemmas.{stops_bad_line, stops_too_long, done_bad_line, done_too_long}
 use Rattle.tool_run.proofs.CompleteLemmas.{stops_complete}
 use Rattle.tool_run.proofs.BadShardLemmas.{stops_bad, not_done_bad}
 use Rattle.tool_run.proofs.OutsideLemmas.{stops_outside, not_done}
 use Rattle.tool_run.proofs.MalformedLemmas.{stops_malformed}
 use Rattle.tool_run.specs.declared.fault.Fault.TheVariants.{Memory}
-use Rattle.tool_run.specs.Command.{format_image}
+use Rattle.tool_run.specs.Command.{format_image, run_image}
 use Rattle.tool_run.proofs.run.run_tool.Goals as goal
 
 pub returns-in-Err-clause-known : goal.returns-in-Err-clause-known
@@ -14,30 +16,30 @@ returns-in-Err-clause-known g c = has_status c.in-Err.fault _ c.tell-in-Err.ensu
 
 pub returns-in-Err-clause-read_fault : goal.returns-in-Err-clause-read_fault
 returns-in-Err-clause-read_fault g c =
-    is_read_fault _ _ _ _ _ _ _ _ _ _ (g.O.Sink.taken c.tell-in-Err.new.out) _ c.in-Ok.ensures.ok c.carry_out.ensures.later_sink c.tell-in-Err.ensures.later
+    is_read_fault _ _ _ _ _ _ _ _ _ _ _ _ (g.O.Sink.taken c.tell-in-Err.new.out) _ c.in-Ok.ensures.ok c.carry_out.ensures.later_sink c.tell-in-Err.ensures.later
     c.in-Err.fault c.in-Err.ensures.err c.tell-in-Err.ensures.status
 
 pub returns-in-Err-clause-write_fault : goal.returns-in-Err-clause-write_fault
 returns-in-Err-clause-write_fault g c =
-    is_write_fault _ _ _ _ _ _ _ _ _ _ _ _ c.in-Ok.ensures.ok c.carry_out.ensures.later_sink c.tell-in-Err.ensures.later
+    is_write_fault _ _ _ _ _ _ _ _ _ _ _ _ _ _ c.in-Ok.ensures.ok c.carry_out.ensures.later_sink c.tell-in-Err.ensures.later
     c.in-Err.fault _ c.in-Err.ensures.err c.tell-in-Err.ensures.status c.tell-in-Err.ensures.told
 
 pub returns-in-Err-clause-cause : goal.returns-in-Err-clause-cause
 returns-in-Err-clause-cause g c =
-    is_bad_header _ _ _ _ _ _ _ _ _ _ _ _ c.in-Ok.ensures.ok c.carry_out.ensures.later_sink c.tell-in-Err.ensures.later
+    is_bad_header _ _ _ _ _ _ _ _ _ _ _ _ _ _ c.in-Ok.ensures.ok c.carry_out.ensures.later_sink c.tell-in-Err.ensures.later
     c.in-Err.fault _ c.in-Err.ensures.err c.tell-in-Err.ensures.status c.tell-in-Err.ensures.told
 
 pub returns-in-Err-clause-outside : goal.returns-in-Err-clause-outside
 returns-in-Err-clause-outside g c =
-    is_outside _ _ _ _ _ _ _ _ _ _ _ _ c.in-Ok.ensures.ok c.carry_out.ensures.later_sink c.tell-in-Err.ensures.later
+    is_outside _ _ _ _ _ _ _ _ _ _ _ _ _ _ c.in-Ok.ensures.ok c.carry_out.ensures.later_sink c.tell-in-Err.ensures.later
     c.in-Err.fault _ c.in-Err.ensures.err c.tell-in-Err.ensures.status c.tell-in-Err.ensures.told
 
 pub returns-in-Err-clause-always_outside : goal.returns-in-Err-clause-always_outside
 returns-in-Err-clause-always_outside g c =
-    stops_outside _ _ _ _ _ _ _ _ _ c.in-Err.fault c.in-Ok.ensures.ok c.in-Err.ensures.err c.tell-in-Err.ensures.status
+    stops_outside _ _ _ _ _ _ _ _ _ _ _ c.in-Err.fault c.in-Ok.ensures.ok c.in-Err.ensures.err c.tell-in-Err.ensures.status
 
 pub returns-in-Ok-carry_out-clause-always_outside : goal.returns-in-Ok-carry_out-clause-always_outside
-returns-in-Ok-carry_out-clause-always_outside g c = not_done _ _ _ _ _ _ _ c.in-Ok.ensures.ok c.in-Ok-carry_out.ensures.ok
+returns-in-Ok-carry_out-clause-always_outside g c = not_done _ _ _ _ _ _ _ _ c.in-Ok.ensures.ok c.in-Ok-carry_out.ensures.ok
 
 pub returns-in-Err-Usage-clause-one_put : goal.returns-in-Err-Usage-clause-one_put
 returns-in-Err-Usage-clause-one_put g c image capacity asks = absurd (c.parse.ensures.err (search rules) (format_image image capacity) asks)
@@ -47,21 +49,69 @@ returns-in-Err-Memory-clause-known g c = has_status Memory _ c.tell-in-Err-Memor
 
 pub returns-in-Err-clause-always_cause : goal.returns-in-Err-clause-always_cause
 returns-in-Err-clause-always_cause g c =
-    stops_malformed _ _ _ _ _ _ _ _ _ c.in-Err.fault c.in-Ok.ensures.ok c.in-Err.ensures.err c.tell-in-Err.ensures.status
+    stops_malformed _ _ _ _ _ _ _ _ _ _ _ c.in-Err.fault c.in-Ok.ensures.ok c.in-Err.ensures.err c.tell-in-Err.ensures.status
 
 pub returns-in-Err-clause-bad_shard : goal.returns-in-Err-clause-bad_shard
 returns-in-Err-clause-bad_shard g c =
-    is_bad_shard _ _ _ _ _ _ _ _ _ _ _ _ c.in-Ok.ensures.ok c.carry_out.ensures.later_sink c.tell-in-Err.ensures.later
+    is_bad_shard _ _ _ _ _ _ _ _ _ _ _ _ _ _ c.in-Ok.ensures.ok c.carry_out.ensures.later_sink c.tell-in-Err.ensures.later
     c.in-Err.fault _ c.in-Err.ensures.err c.tell-in-Err.ensures.status c.tell-in-Err.ensures.told
 
 pub returns-in-Err-clause-always_bad_shard : goal.returns-in-Err-clause-always_bad_shard
 returns-in-Err-clause-always_bad_shard g c =
-    stops_bad _ _ _ _ _ _ _ _ _ c.in-Err.fault c.in-Ok.ensures.ok c.in-Err.ensures.err c.tell-in-Err.ensures.status
+    stops_bad _ _ _ _ _ _ _ _ _ _ _ c.in-Err.fault c.in-Ok.ensures.ok c.in-Err.ensures.err c.tell-in-Err.ensures.status
 
 pub returns-in-Ok-carry_out-clause-always_bad_shard : goal.returns-in-Ok-carry_out-clause-always_bad_shard
-returns-in-Ok-carry_out-clause-always_bad_shard g c = not_done_bad _ _ _ _ _ _ _ c.in-Ok.ensures.ok c.in-Ok-carry_out.ensures.ok
+returns-in-Ok-carry_out-clause-always_bad_shard g c = not_done_bad _ _ _ _ _ _ _ _ c.in-Ok.ensures.ok c.in-Ok-carry_out.ensures.ok
 
 pub returns-in-Err-clause-complete : goal.returns-in-Err-clause-complete
-returns-in-Err-clause-complete g c other asks can store sink =
-    stops_complete _ _ _ _ _ _ _ _ _ c.in-Err.fault c.in-Ok.ensures.ok c.in-Err.ensures.err c.tell-in-Err.ensures.status other asks can store
+returns-in-Err-clause-complete g c other asks can store source sink =
+    stops_complete _ _ _ _ _ _ _ _ _ _ _ c.in-Err.fault c.in-Ok.ensures.ok c.in-Err.ensures.err c.tell-in-Err.ensures.status other asks can store source
     (λ rose. sink (rose_since (g.O.Sink.faults c.args.out.now) (g.O.Sink.faults c.args.out.now) (g.O.Sink.faults c.carry_out.new.out) (g.O.Sink.faults c.tell-in-Err.new.out) (omega arith) c.tell-in-Err.ensures.later rose))
+
+pub returns-in-Err-clause-absent : goal.returns-in-Err-clause-absent
+returns-in-Err-clause-absent g c =
+    is_absent _ _ _ _ _ _ _ _ _ _ _ _ _ _ c.in-Ok.ensures.ok c.carry_out.ensures.later_sink c.tell-in-Err.ensures.later
+    c.in-Err.fault _ c.image.ensures c.in-Err.ensures.err c.tell-in-Err.ensures.status c.tell-in-Err.ensures.told
+
+pub returns-in-Err-clause-bad_trace : goal.returns-in-Err-clause-bad_trace
+returns-in-Err-clause-bad_trace g c =
+    is_bad_trace _ _ _ _ _ _ _ _ _ _ _ _ _ _ c.in-Ok.ensures.ok c.carry_out.ensures.later_sink c.tell-in-Err.ensures.later
+    c.in-Err.fault _ c.in-Err.ensures.err c.tell-in-Err.ensures.status c.tell-in-Err.ensures.told
+
+pub returns-in-Err-clause-always_bad_line : goal.returns-in-Err-clause-always_bad_line
+returns-in-Err-clause-always_bad_line g c =
+    stops_bad_line _ _ _ _ _ _ _ _ c.in-Ok.ensures.ok _ _ _ c.in-Err.fault c.in-Err.ensures.err c.tell-in-Err.ensures.status
+
+pub returns-in-Err-clause-always_too_long : goal.returns-in-Err-clause-always_too_long
+returns-in-Err-clause-always_too_long g c =
+    stops_too_long _ _ _ _ _ _ _ _ c.in-Ok.ensures.ok _ _ _ c.in-Err.fault c.in-Err.ensures.err c.tell-in-Err.ensures.status
+
+pub returns-in-Ok-carry_out-clause-always_bad_line : goal.returns-in-Ok-carry_out-clause-always_bad_line
+returns-in-Ok-carry_out-clause-always_bad_line g c = done_bad_line _ _ _ _ _ _ _ _ c.in-Ok.ensures.ok c.in-Ok-carry_out.ensures.ok
+
+pub returns-in-Ok-carry_out-clause-always_too_long : goal.returns-in-Ok-carry_out-clause-always_too_long
+returns-in-Ok-carry_out-clause-always_too_long g c = done_too_long _ _ _ _ _ _ _ _ c.in-Ok.ensures.ok c.in-Ok-carry_out.ensures.ok
+
+pub returns-in-Err-clause-always_absent : goal.returns-in-Err-clause-always_absent
+returns-in-Err-clause-always_absent g c =
+    stops_absent _ _ _ _ _ _ _ _ _ _ _ c.in-Err.fault c.in-Ok.ensures.ok c.in-Err.ensures.err c.tell-in-Err.ensures.status
+
+pub returns-in-Err-clause-line : goal.returns-in-Err-clause-line
+returns-in-Err-clause-line g c =
+    is_own_line _ _ _ _ _ _ _ _ _ _ _ _ _ _ c.in-Ok.ensures.ok c.carry_out.ensures.later_sink c.tell-in-Err.ensures.later
+    c.in-Err.fault _ c.in-Err.ensures.err c.tell-in-Err.ensures.status c.tell-in-Err.ensures.told
+
+pub returns-in-Err-clause-unread : goal.returns-in-Err-clause-unread
+returns-in-Err-clause-unread g c none = c.carry_out.ensures.no_run (λ runs. none _ (for_run _ _ runs c.in-Ok.ensures.ok))
+
+pub returns-in-Ok-carry_out-clause-unread : goal.returns-in-Ok-carry_out-clause-unread
+returns-in-Ok-carry_out-clause-unread g c none = c.carry_out.ensures.no_run (λ runs. none _ (for_run _ _ runs c.in-Ok.ensures.ok))
+
+pub returns-in-Err-Usage-clause-get_alone : goal.returns-in-Err-Usage-clause-get_alone
+returns-in-Err-Usage-clause-get_alone g c name asks = absurd (c.parse.ensures.err (search rules) (run_image name asks.options) asks.asked)
+
+pub returns-in-Err-Usage-clause-always_bad_line : goal.returns-in-Err-Usage-clause-always_bad_line
+returns-in-Err-Usage-clause-always_bad_line g c name line asks = absurd (c.parse.ensures.err (search rules) (run_image name asks.options) asks.asked)
+
+pub returns-in-Err-Usage-clause-always_too_long : goal.returns-in-Err-Usage-clause-always_too_long
+returns-in-Err-Usage-clause-always_too_long g c name asks = absurd (c.parse.ensures.err (search rules) (run_image name asks.options) asks.asked)

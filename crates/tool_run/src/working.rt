@@ -1,0 +1,90 @@
+//! Runs the trace that the source has left over a named image.
+ghost use Rattle.std.specs.Prelude.{◌≡◌, ◌≤◌, ℕ, IfOk, IfErr, OnOk};
+ghost use Rattle.image_run.specs.Running.{options_of};
+ghost use Rattle.tool_ports.specs.Calls.{with_get};
+ghost use Rattle.tool_ports.specs.Causes.{Rose};
+ghost use Rattle.tool_ports.specs.Left.{IsAtEnd};
+ghost use Rattle.tool_run.specs.Calls.{get_limit};
+ghost use Rattle.tool_run.specs.Command.{Command, run_image, image_name};
+ghost use Rattle.tool_run.specs.Inside.{Refuses, RefusesEither, IsTraceFault, IsTraceLeft, IsBeforeReading};
+ghost use Rattle.tool_run.specs.Making.{RunsTrace, Reads, longest_trace};
+ghost use Rattle.tool_run.specs.Recovering.{IsMapped};
+
+use crate::fault::Fault;
+use crate::making::Product;
+use crate::recovering::recover_image;
+use dictionary::read_maps;
+use heap_recover::Recovered;
+use image_run::{RunOptions, run_image};
+use std::alloc::Global;
+use super_block::Ready;
+use tool_ports::{Chances, Gate, ImageStore, Source, read_all};
+use trace_text::{Request, parse_trace};
+
+/// The most bytes of a trace.
+const LONGEST_TRACE: usize = 1 << 24;
+
+/// Runs the trace that the source has left over the image of this name, and makes the image that is
+/// left and the text on the run.
+pub fn work_named<R, I: ImageStore, T: Source, G: Gate + Sync, C: Chances>(
+    rt: &R,
+    alloc: Global,
+    name: &str,
+    options: RunOptions,
+    images: &mut I,
+    trace: &mut T,
+    gate: &G,
+    chances: &mut C,
+) -> Result<Product, Fault>
+    ensures ok { IfOk result (λ product. RunsTrace (I.contents images.old) (T.left trace.old)
+        name.now (options_of options) product.image product.text) }
+    ensures end { OnOk result (IsAtEnd (T.left trace.new)) }
+    ensures err { IfErr result (RefusesEither (run_image name.now (options_of options))
+        (I.contents images.old) (T.left trace.old) (Rose (I.faults images.old) (I.faults images.new))
+        (Rose (T.faults trace.old) (T.faults trace.new))) }
+    ensures unread { IfErr result (λ fault. IsBeforeReading fault → trace.new ≡ trace.old) }
+    ensures unchanged { I.contents images.new ≡ I.contents images.old }
+    ensures later { I.faults images.old ≤ I.faults images.new }
+    ensures calls { I.calls images.new ≡ with_get get_limit (I.calls images.old) }
+{
+    let heap = mapped_heap(alloc, name, images)?;
+    let requests = read_trace(alloc, trace)?;
+    let product = run_image(rt, alloc, heap, &requests, options, gate, chances)?;
+    Ok(Product {
+        image: Some(product.image),
+        text: product.text,
+    })
+}
+
+// The image of this name, recovered: each shard of it has a map.
+fn mapped_heap<I: ImageStore>(alloc: Global, name: &str, images: &mut I) -> Result<Ready, Fault>
+    ensures ok { IfOk result (λ heap.
+        IsMapped (I.contents images.old) name.now heap.words heap.held) }
+    ensures err { IfErr result (λ fault. (command : Command) → Reads command
+        → image_name command ≡ name.now → Refuses command (I.contents images.old)
+        (Rose (I.faults images.old) (I.faults images.new)) fault) }
+    ensures unchanged { I.contents images.new ≡ I.contents images.old }
+    ensures later { I.faults images.old ≤ I.faults images.new }
+    ensures calls { I.calls images.new ≡ with_get get_limit (I.calls images.old) }
+{
+    let recovered = recover_image(alloc, name, images)?;
+    let _maps = read_maps(alloc, &recovered)?;
+    let Recovered {
+        heap,
+        was: _,
+        free: _,
+    } = recovered;
+    Ok(heap)
+}
+
+// The requests of the trace that the source has left.
+fn read_trace<T: Source>(alloc: Global, trace: &mut T) -> Result<Vec<Request>, Fault>
+    ensures ok { IfOk result (λ requests. IsTraceLeft (T.left trace.old) requests.items) }
+    ensures end { OnOk result (IsAtEnd (T.left trace.new)) }
+    ensures err { IfErr result
+        (IsTraceFault (T.left trace.old) (Rose (T.faults trace.old) (T.faults trace.new))) }
+{
+    let text = read_all(alloc, trace, LONGEST_TRACE)?;
+    let requests = parse_trace(alloc, &text)?;
+    Ok(requests)
+}
