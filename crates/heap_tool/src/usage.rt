@@ -5,9 +5,17 @@ pub const USAGE: &str = "\
 usage: heap_tool COMMAND
   format IMAGE S       put an empty heap of S superblocks of 64 KiB (1 to 256)
   show IMAGE [--map]   recover the heap and print a report; with --map its superblocks too
+  run IMAGE --workers N [--stop K] [--seed X] [--sum] [--map]
+                       work off the requests on standard input, put the heap that is left,
+                       and print the replies and a report; N is 1
+    --stop K           stop at step K, as by a crash (0 to 1099511627775; the default)
+    --seed X           the seed of what is written back early (any of 64 bits; 0)
+    --sum              count replies and keys, in place of a line for each
+    --map              print the superblocks of the heap that is left too
   drain IMAGE CLASS    recover the heap, allocate in the class (1 to 20) until it is full,
                        and print the offsets; the image stays as it is
   gen N SEED           print a trace of N requests (0 to 100000) from SEED (0 to 1000000)
 IMAGE is the path of a file. Fault lines go to standard output.
-example: heap_tool format heap.img 4 && heap_tool show heap.img --map
+A request is a line: put KEY HEX, get KEY or del KEY; the value - has no bytes.
+example: heap_tool format heap.img 4 && heap_tool gen 9 1 | heap_tool run heap.img --workers 1
 ";

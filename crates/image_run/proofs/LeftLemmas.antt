@@ -1,5 +1,5 @@
 -- An image that a run leaves is recovered and read, and never refused.
-use Rattle.std.proofs.Common.{◌≡◌, ◌↔◌, ℕ, ◌*◌, Bool, List, length, slice_index, Some, None, sym, subst, ◌∙◌, inl, inr}
+use Rattle.std.proofs.Common.{◌≡◌, ◌↔◌, ℕ, ◌*◌, List, length, slice_index, Some, None, sym, subst, ◌∙◌}
 use Rattle.heap_model.specs.declared.block.Block.{Block}
 use Rattle.heap_model.specs.declared.header.BadHeader.{BadHeader}
 use Rattle.heap_model.specs.Geometry.{clean}
@@ -10,17 +10,14 @@ use Rattle.heap_model.specs.Reach.{IsReached, IsOutside}
 use Rattle.heap_model.specs.Recovered.{IsFreeSuperblock, AreAscending}
 use Rattle.heap_model.specs.Recovery.{IsRecovered}
 use Rattle.dict_model.specs.Links.{dict_links, root_kind}
-use Rattle.dict_model.specs.Requests.{Request, after}
-use Rattle.dict_model.specs.Shards.{Map, MapOf, LeadsAlone}
+use Rattle.dict_model.specs.Shards.{LeadsAlone}
 use Rattle.dict_model.proofs.ShardLemmas.{no_bad_place, alone_once}
 use Rattle.dictionary.specs.Reading.{RecoversTo, TellsLowest}
 use Rattle.dictionary.specs.declared.fault.MapFault.TheVariants.{BadShard}
 use Rattle.dictionary.proofs.SameLemmas.{bad_kept}
 use Rattle.heap_recover.specs.declared.answer.Recovered.{Recovered}
 use Rattle.heap_recover.specs.declared.answer.Was.TheVariants.{Clean}
-use Rattle.trace_run.specs.Opened.{IsDictionary}
-use Rattle.trace_run.specs.Runs.{Replies, IsMapLeft, LeavesMaps, LeavesHeader, LeavesOthers, of_shard, answered, unanswered}
-use Rattle.image_run.specs.Left.{IsAccepted}
+use Rattle.trace_run.specs.Opened.{CanBeRun}
 use Rattle.image_run.specs.Reporting.{IsRecoveryOf}
 
 -- what recovery with the kinds of roots makes of words
@@ -45,37 +42,20 @@ module _ (words kinds : List ℕ) (kinds_are : (i : ℕ) → slice_index kinds i
       record { recovers = record { held_are = there.0; free_are = there.1; words_are = there.2 }; was = there.3 }
 
   -- the header is not refused
-  pub header_good : (cause : BadHeader) → IsAccepted words → header_fault (8 * length words) (slice_index words) ≡ Some cause → ⊥
+  pub header_good : (cause : BadHeader) → CanBeRun (length words) (slice_index words) → header_fault (8 * length words) (slice_index words) ≡ Some cause → ⊥
   header_good cause accepted bad =
-      let good : header_fault (8 * length words) (slice_index words) ≡ None = accepted.good in
+      let good : header_fault (8 * length words) (slice_index words) ≡ None = accepted.well_formed in
       let never : None ≡ Some cause = sym good ∙ bad in
       cc
 
   -- nor is a word
-  pub none_there : (at : ℕ) → IsAccepted words → IsOutside (slice_index words) (slice_index kinds) dict_links at → ⊥
+  pub none_there : (at : ℕ) → CanBeRun (length words) (slice_index words) → IsOutside (slice_index words) (slice_index kinds) dict_links at → ⊥
   none_there at accepted points =
-      accepted.inside at (subst (λ (ks : ℕ → ℕ). IsOutside (slice_index words) ks dict_links at) (λ i w. kinds_are w i) points)
+      accepted.nothing_outside at (subst (λ (ks : ℕ → ℕ). IsOutside (slice_index words) ks dict_links at) (λ i w. kinds_are w i) points)
 
 -- nor a shard
-pub shard_good : (words : List ℕ) (new : Image) (shard at : ℕ) → IsAccepted words → RecoversTo (slice_index words) new → TellsLowest new (BadShard shard at) → ⊥
+pub shard_good : (words : List ℕ) (new : Image) (shard at : ℕ) → CanBeRun (length words) (slice_index words) → RecoversTo (slice_index words) new → TellsLowest new (BadShard shard at) → ⊥
 shard_good words new shard at accepted to tells =
-    let map = accepted.maps shard tells.0 in
+    let map = accepted.maps.each shard tells.0 in
     no_bad_place (LeadsAlone (slice_index words) shard) (alone_once (slice_index words) shard) (slice_index words) shard map.0 at map.1
     (bad_kept (slice_index words) new to shard at tells.0 tells.1)
-
--- some map is left of a shard
-some_map : (left : Image) (shard : ℕ) (map : Map) (stopped : Bool) (rest : List Request) → IsMapLeft left shard map stopped rest → (m : Map) × MapOf left shard m
-some_map left shard map stopped rest (inl is) = (map, is)
-some_map left shard map stopped rest (inr (e, later)) = (_, later.map_is)
-
--- what a run leaves is accepted
-pub left_accepted : (image : Image) (held : Block → Type 0) (requests : List Request) (replies : Replies) (stopped : Bool) (left : List ℕ) → IsDictionary image held
-    → LeavesMaps image requests replies stopped (slice_index left) → LeavesHeader image (length left) (slice_index left) → LeavesOthers image (slice_index left)
-    → IsAccepted left
-left_accepted image held requests replies stopped left is maps header others = record {
-  good = header.well_formed;
-  inside = others.nothing_outside;
-  maps = λ i below.
-      let map = is.maps.each i below in
-      some_map (slice_index left) i (after map.0 (of_shard i (answered requests replies))) stopped (unanswered requests replies) (maps.each i map.0 below map.1);
-}

@@ -1,3 +1,3 @@
 pub mod Reporting
 pub mod Running
-pub mod Left
+pub mod Examples

@@ -1,8 +1,7 @@
 //! Runs a trace over a recovered heap, and makes what is put and printed.
-ghost use Rattle.std.specs.Prelude.{◌≡◌, IfOk, Contains, slice_index};
-ghost use Rattle.trace_run.specs.Opened.{IsDictionary};
+ghost use Rattle.std.specs.Prelude.{◌≡◌, length, IfOk, Contains, slice_index};
+ghost use Rattle.trace_run.specs.Opened.{IsDictionary, CanBeRun};
 ghost use Rattle.trace_run.specs.Said.{requests_of, AreShort};
-ghost use Rattle.image_run.specs.Left.{IsAccepted};
 ghost use Rattle.image_run.specs.Reporting.{Reports, IsRecoveryOf};
 ghost use Rattle.image_run.specs.Running.{Runs, options_of};
 
@@ -59,7 +58,7 @@ pub fn run_image<R, G: Gate + Sync, C: Chances>(
 
 // The text on an image that a run left, once it is recovered.
 fn left_text(alloc: Global, words: &[u64], options: RunOptions) -> Result<Bytes, AllocError>
-    requires { IsAccepted words.now }
+    requires { CanBeRun (length words.now) (slice_index words.now) }
     ensures { IfOk result (Reports (slice_index words.now) options.with_sum options.with_map) }
 {
     let recovered = recover_left(alloc, words)?;
@@ -73,7 +72,7 @@ fn left_text(alloc: Global, words: &[u64], options: RunOptions) -> Result<Bytes,
 
 // Recovers such an image, which is never refused.
 fn recover_left(alloc: Global, words: &[u64]) -> Result<Recovered, AllocError>
-    requires { IsAccepted words.now }
+    requires { CanBeRun (length words.now) (slice_index words.now) }
     ensures { IfOk result (IsRecoveryOf (slice_index words.now)) }
 {
     match recover(alloc, words, &root_kinds(), &DictFilter) {

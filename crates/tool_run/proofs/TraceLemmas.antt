@@ -1,12 +1,7 @@
--- What the source had left, and the requests of a trace.
+-- What the source had left.
 use Rattle.std.proofs.Common.{◌≡◌, ℕ, ◌≤◌, ◌<◌, List, [], ◌∷◌, ◌++◌, ◌+◌, length, Option, Some, None, IfSome, Contains, map, inl, inr, refl, sym, subst, arith, length-append}
 use Rattle.std.proofs.lemmas.List.{append-nil}
-use Rattle.heap_model.proofs.MemberLemmas.{in_none, head_or_rest}
-use Rattle.dict_model.specs.Requests.{Request}
 use Rattle.tool_ports.specs.Left.{left_before, IsAtEnd, Gives}
-use Rattle.trace_run.specs.Said.{Line, request_of, requests_of, IsShort, AreShort}
-use Rattle.trace_text.specs.declared.request.Request.TheVariants.{Put, Get, Del}
-use Rattle.trace_text.specs.Trace.{IsLine, AreLines}
 use Rattle.tool_run.specs.Making.{HasLeft, HasTrace, HasTooMuch, longest_trace}
 
 -- what holds of what a source has left, where it tells
@@ -30,24 +25,3 @@ pub gave_too_much : (old now : Option (List ℕ)) → Gives (longest_trace + 1) 
 gave_too_much old now gives =
     let counted = gives.counted in
     subst HasTooMuch (sym gives.given) (gave_more gives.bytes now (omega arith))
-
--- each request of a trace has a short value
-short_line : (line : List ℕ) (request : Line) → IsLine line request → IsShort (request_of request)
-short_line line (Put key value) is = elim is.value_is as (λ _. length value ≤ 131072) [
-  | inl empty ↦ subst (λ (l : List ℕ). length l ≤ 131072) (sym empty.1) (omega arith)
-  | inr some ↦ some.2
-]
-short_line line (Get key) is = tt
-short_line line (Del key) is = tt
-
-each_short : (lines : List (List ℕ)) (requests : List Line) → AreLines lines requests → (request : Request) → Contains (requests_of requests) request → IsShort request
-each_short [] [] are request has = absurd (in_none request has)
-each_short [] (r ∷ requests) are request has = absurd are
-each_short (line ∷ lines) [] are request has = absurd are
-each_short (line ∷ lines) (r ∷ requests) are request has = elim (head_or_rest (request_of r) request (requests_of requests) has) as (λ _. IsShort request) [
-  | inl same ↦ subst IsShort same (short_line line r are.0)
-  | inr later ↦ each_short lines requests are.1 request later
-]
-
-pub are_short : (lines : List (List ℕ)) (requests : List Line) → AreLines lines requests → AreShort (requests_of requests)
-are_short lines requests are = record { each = each_short lines requests are }

@@ -15,9 +15,11 @@ use Rattle.heap_model.specs.declared.header.BadHeader.TheVariants.{Length}
 use Rattle.trace_text.specs.Report.{line_feed}
 use Rattle.tool_run.specs.Command.{Command, Asks, format_image, show_image, drain_image, gen_trace, run_image}
 use Rattle.tool_run.specs.CommandLine.{format_app, drain_app, show_app, gen_app, run_app, image_id, capacity_id, class_id, map_id, requests_id, trace_seed_id, workers_id, stop_id, seed_id, sum_id, HasText, HasNumber, HasNumberOr, HasFlag, IsNumber}
-use Rattle.tool_run.specs.Lines.{no_image_line, bad_header_line}
-use Rattle.tool_run.specs.Making.{formatted_line, drained_text}
-use Rattle.tool_run.specs.Status.{own_line, usage, done, bad_header}
+use Rattle.tool_ports.specs.Calls.{no_calls, with_get, with_put}
+use Rattle.tool_run.specs.Calls.{get_limit, with_status}
+use Rattle.tool_run.specs.Lines.{no_image_line, bad_header_line, bad_line_line}
+use Rattle.tool_run.specs.Making.{formatted_line, drained_text, HasLeft, HasTooMuch}
+use Rattle.tool_run.specs.Status.{own_line, usage, done, bad_header, write_fault, bad_trace}
 
 formatted_one : formatted_line 1 ≡ codes "formatted 1 bytes 74112" ++ line_feed
 unfolding digits
@@ -40,6 +42,27 @@ absent_line = refl
 
 length_line : bad_header_line Length ≡ codes "bad header length" ++ line_feed
 length_line = refl
+
+third_line : bad_line_line 3 ≡ codes "bad trace line 3" ++ line_feed
+unfolding digits
+third_line = refl
+
+-- a run gets its image, and puts one where it is done or cut off: nothing is put for a bad trace
+abbrev a_run : Command
+a_run = run_image (codes "h") (record { workers = 1; budget = 0; seed = 0; with_sum = false; with_map = false })
+
+run_is_done : with_status a_run write_fault no_calls ≡ with_put (with_get get_limit no_calls)
+run_is_done = refl
+
+run_is_refused : with_status a_run bad_trace no_calls ≡ with_get get_limit no_calls
+run_is_refused = refl
+
+-- what a source has left, where it tells
+all_left : HasLeft (Some (codes "get 1")) (codes "get 1")
+all_left = refl
+
+not_too_much : HasTooMuch (Some (codes "get 1")) → ⊥
+not_too_much more = omega (arith, more)
 
 line_of_usage : own_line usage ≡ Some (codes "usage" ++ line_feed)
 line_of_usage = refl

@@ -18,6 +18,7 @@ pub type Changes<'a> = &'a [(usize, u64)];
 fn call(
     alloc: Global,
     line: &str,
+    trace: &str,
     images: &mut MapStore,
     failing: &[u64],
 ) -> Result<(u8, VecSink), AllocError> {
@@ -26,7 +27,8 @@ fn call(
         words.push(String::from_str(alloc, word)?)?;
     }
     let mut out = VecSink::new(alloc, Vec::from_slice(alloc, failing)?, 8, ROOM)?;
-    let mut trace = BytesSource::new(Vec::new(alloc), 1, Vec::new(alloc));
+    let bytes = Vec::from_slice(alloc, trace.as_bytes())?;
+    let mut trace = BytesSource::new(Vec::new(alloc), 7, bytes);
     let mut chances = SeededChances::new();
     let status = run_tool(
         &(),
@@ -50,9 +52,23 @@ pub fn runs(
     status: u8,
     text: &str,
 ) -> Result<(), Fail> {
-    let (code, out) = call(rt.alloc(), line, images, failing)?;
+    let (code, out) = call(rt.alloc(), line, "", images, failing)?;
     assert_eq!(rt; code, status, "{line}, {failing:?} fail");
     assert_eq!(rt; out.bytes(), text.as_bytes(), "{line}, {failing:?} fail");
+    Ok(())
+}
+
+// Calls over one store, each with a trace: the line, the trace, the status and the text.
+pub fn work_each(
+    rt: &(impl Abort + AllocGlobal),
+    images: &mut MapStore,
+    cases: &[(&str, &str, u8, &str)],
+) -> Result<(), Fail> {
+    for (line, trace, status, text) in cases {
+        let (code, out) = call(rt.alloc(), line, trace, images, &[])?;
+        assert_eq!(rt; code, *status, "{line}, {trace}");
+        assert_eq!(rt; out.bytes(), text.as_bytes(), "{line}, {trace}");
+    }
     Ok(())
 }
 

@@ -1,7 +1,7 @@
 //! The top call over a store and a sink in memory: the cases, as tables.
 use crate::harness::{
     are_usage, drain_each, drained_text, empty_store, has_length, run_each, run_failing, runs,
-    show_cut, show_each,
+    show_cut, show_each, work_each,
 };
 use std::test::Fail;
 use tool_ports::FailedPut;
@@ -147,6 +147,61 @@ fn a_trace_is_made(rt: HostRuntime) -> Result<(), Fail> {
             ("gen 100001 0", &[], 2, "usage\n"),
             ("gen 1 1000001", &[], 2, "usage\n"),
             ("gen 1", &[], 2, "usage\n"),
+        ],
+    )
+}
+
+#[test]
+fn a_trace_is_worked_off(rt: HostRuntime) -> Result<(), Fail> {
+    let mut images = empty_store(rt.alloc());
+    runs(
+        &rt,
+        &mut images,
+        "format h 4",
+        &[],
+        0,
+        "formatted 4 bytes 270912\n",
+    )?;
+    work_each(
+        &rt,
+        &mut images,
+        &[
+            (
+                "run h --workers 1 --map",
+                "put 5 6162\nget 5\ndel 5\nget 5",
+                0,
+                "ok\n6162\nok\nnone\nrun closed\nheap 4 clean\nheld 1024 1\n\
+                used 2 free 1 fresh 2\nsb 0 class 12 held 0\nsb 1 free\n",
+            ),
+            (
+                "run --sum h --workers=1 --seed 18446744073709551615",
+                "put 5 6162\n",
+                0,
+                "requests 1 ok 1 none 0 value 0 full 0 unanswered 0\nrun closed\n\
+                heap 4 clean\nkeys 1 bytes 2\nheld 32 1\nheld 1024 1\n",
+            ),
+            (
+                "run h --workers 1 --stop 0",
+                "del 5\n",
+                0,
+                "unanswered\nrun stopped\nheap 4 dirty\nkey 5 6162\nheld 32 1\nheld 1024 1\n",
+            ),
+            (
+                "run h --workers 1",
+                "put 1 aa\nget 1\nput 5 abc",
+                10,
+                "bad trace line 3\n",
+            ),
+            ("run none --workers 1", "put", 6, "no image none\n"),
+            ("run h --workers 2", "", 2, "usage\n"),
+            ("run h --workers 1 --workers 1", "", 2, "usage\n"),
+            ("run h --workers 1 --stop 1099511627776", "", 2, "usage\n"),
+            (
+                "show h",
+                "",
+                0,
+                "heap 4 dirty\nkey 5 6162\nheld 32 1\nheld 1024 1\n",
+            ),
         ],
     )
 }

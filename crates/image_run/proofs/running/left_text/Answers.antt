@@ -12,7 +12,7 @@ pub unreachable-requires : goal.unreachable-requires
 unreachable-requires c =
     let words = c.args.words.now in
     let answer = c.in_ok-recovered.recovered in
-    let to = recovers_to (slice_index words) answer c.in_ok-recovered.ensures c.requires.inside c.read_maps.ensures.ready in
+    let to = recovers_to (slice_index words) answer c.in_ok-recovered.ensures c.requires.nothing_outside c.read_maps.ensures.ready in
     let tells = subst (λ (f : MapFault). TellsLowest (slice_index answer.heap.words) f) c.in-Err-BadShard.field-0-is c.in-Err-BadShard.ensures.err in
     shard_good words (slice_index answer.heap.words) c.in-Err-BadShard.field-0-0 c.in-Err-BadShard.field-0-1 c.requires to tells
 
@@ -20,7 +20,7 @@ pub returns : goal.returns
 returns c =
     let words = c.args.words.now in
     let answer = c.in_ok-recovered.recovered in
-    let to = recovers_to (slice_index words) answer c.in_ok-recovered.ensures c.requires.inside c.read_maps.ensures.ready in
+    let to = recovers_to (slice_index words) answer c.in_ok-recovered.ensures c.requires.nothing_outside c.read_maps.ensures.ready in
     let are = maps_of_image (slice_index words) (slice_index answer.heap.words) to c.in-Ok.maps.items c.in-Ok.ensures.ok in
     if_answer _ _ c.recovered_text.result c.recovered_text.ensures.ok (λ text is.
     reports (slice_index words) answer c.in-Ok.maps.items c.args.options.with_sum c.args.options.with_map text c.in_ok-recovered.ensures are

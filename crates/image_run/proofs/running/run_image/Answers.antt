@@ -1,17 +1,17 @@
-use Rattle.std.proofs.Common.{◌≡◌, List, ℕ, ◌++◌, Contains, slice_index, subst, sym, ap, ◌∙◌, rules}
+use Rattle.std.proofs.Common.{◌≡◌, List, ℕ, ◌++◌, length, slice_index, subst, sym, ap, ◌∙◌, rules}
 use Rattle.trace_run.specs.Said.{Told}
 use Rattle.heap_model.specs.Image.{bytes_of_words}
 use Rattle.trace_text.specs.Replies.{replies_text}
 use Rattle.image_run.specs.Reporting.{Reports}
-use Rattle.image_run.specs.Left.{IsAccepted}
-use Rattle.image_run.proofs.LeftLemmas.{left_accepted}
+use Rattle.trace_run.specs.Opened.{CanBeRun}
+use Rattle.trace_run.proofs.AgainLemmas.{can_be_run}
 use Rattle.image_run.proofs.running.run_image.Goals as goal
 
 pub left_text-requires : goal.left_text-requires
 left_text-requires g c =
-    subst (λ (l : List ℕ). IsAccepted l) (sym c.deref.ensures.value)
-    (left_accepted (slice_index c.args.heap.words) (Contains c.args.heap.held) _ _ _ c.in_ok-outcome.outcome.image.items c.requires.dictionary
-    c.in_ok-outcome.ensures.maps c.in_ok-outcome.ensures.header c.in_ok-outcome.ensures.others)
+    subst (λ (l : List ℕ). CanBeRun (length l) (slice_index l)) (sym c.deref.ensures.value)
+    (can_be_run (slice_index c.args.heap.words) (slice_index c.in_ok-outcome.outcome.image.items) _ _ _ _ c.requires.dictionary.maps c.in_ok-outcome.ensures.maps
+    c.in_ok-outcome.ensures.header c.in_ok-outcome.ensures.others)
 
 pub returns : goal.returns
 returns g c =

@@ -6,7 +6,7 @@ use Rattle.tool_run.specs.Command.{run_image}
 use Rattle.trace_run.specs.Said.{Line, requests_of, AreShort}
 use Rattle.tool_run.proofs.CallLemmas.{refused_by_image}
 use Rattle.tool_run.proofs.DeliveryLemmas.{at_cause}
-use Rattle.tool_run.proofs.TraceLemmas.{are_short}
+use Rattle.trace_run.proofs.SaidLemmas.{lines_short}
 use Rattle.tool_run.proofs.working.work_named.Goals as goal
 
 pub returns-in_err-heap-clause-err : goal.returns-in_err-heap-clause-err
@@ -18,7 +18,7 @@ returns-in_err-heap-clause-err g c =
 pub run_image-requires-clause-short : goal.run_image-requires-clause-short
 run_image-requires-clause-short g c lifetimes within =
     let lines = c.in_ok-requests.ensures.ok in
-    subst (λ (l : List Line). AreShort (requests_of l)) (sym c.deref.ensures.value) (are_short _ _ lines.lines_are)
+    subst (λ (l : List Line). AreShort (requests_of l)) (sym c.deref.ensures.value) (lines_short _ _ lines.lines_are)
 
 pub returns-clause-ok : goal.returns-clause-ok
 returns-clause-ok g c =
