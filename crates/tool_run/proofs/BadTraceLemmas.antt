@@ -6,9 +6,9 @@ use Rattle.trace_text.specs.Trace.{lines_of, AreLines}
 use Rattle.trace_text.proofs.ReadingLemmas.{read_or_outside}
 use Rattle.tool_run.specs.Command.{Command, show_image, run_image, Asks}
 use Rattle.tool_run.specs.declared.fault.Fault.{Fault}
-use Rattle.tool_run.specs.declared.fault.Fault.TheVariants.{Memory, ReadFault, WriteFault, BadLine, TooLong}
+use Rattle.tool_run.specs.declared.fault.Fault.TheVariants.{Memory, ReadFault, BadLine, TooLong}
 use Rattle.tool_run.specs.Examples.{one_command}
-use Rattle.tool_run.specs.Inside.{Refuses, IsTraceFault, DeliveryFails, IsCarriedOut, IsStopped, status_of}
+use Rattle.tool_run.specs.Inside.{Refuses, IsTraceFault, IsCarriedOut, IsStopped, status_of}
 use Rattle.tool_run.specs.Making.{Options, Makes, HasTrace, longest_trace}
 use Rattle.tool_run.specs.Outcome.{AsksForRun, HoldsMaps, HoldsBadLine, HoldsTooMuch}
 use Rattle.tool_run.specs.Status.{out_of_memory, read_fault, bad_trace}

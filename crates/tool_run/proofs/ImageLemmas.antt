@@ -1,13 +1,13 @@
 -- What the first bytes of an image tell of it, where they are more than the longest image has.
-use Rattle.std.proofs.Common.{◌≡◌, ◌↔◌, ℕ, ◌+◌, ◌-◌, ◌*◌, ◌<◌, ◌≤◌, Bool, true, false, ◌||◌, nat_eq, nat_lt, List, [], ◌++◌, length, take, drop, slice_index, Option, Some, None, IsSomeAnd, refl, sym, ap, ◌∙◌, subst, inl, inr, arith}
-use Rattle.std.proofs.lemmas.Bool.{cases_lt, le-ltb, ltb-false, ne_eqb, eq-eqb, or_parts}
+use Rattle.std.proofs.Common.{◌≡◌, ℕ, ◌+◌, ◌-◌, ◌*◌, ◌<◌, ◌≤◌, Bool, true, false, ◌||◌, nat_eq, nat_lt, List, length, take, drop, slice_index, Option, Some, None, IsSomeAnd, refl, sym, ap, ◌∙◌, subst, inl, inr, arith}
+use Rattle.std.proofs.lemmas.Bool.{cases_lt, le-ltb, ltb-false, ne_eqb, or_parts}
 use Rattle.std.proofs.lemmas.List.{drop-take, take_all, length-take-le}
 use Rattle.byteorder.specs.Endian.{little_number}
 use Rattle.byteorder.specs.Numbers.{little_from-take}
 use Rattle.heap_model.specs.declared.header.BadHeader.{BadHeader}
 use Rattle.heap_model.specs.Image.{Image, image_of_bytes}
-use Rattle.heap_model.specs.Header.{header_fault, has_fault, IsWellFormed, capacity_of, state_of}
-use Rattle.heap_model.specs.Geometry.{image_words, largest_capacity, clean, capacity_word}
+use Rattle.heap_model.specs.Header.{header_fault, has_fault, IsWellFormed}
+use Rattle.heap_model.specs.Geometry.{image_words, largest_capacity}
 use Rattle.heap_model.proofs.HeaderLemmas.{no_fault}
 use Rattle.heap_recover.specs.declared.answer.Recovered.{Recovered}
 use Rattle.heap_recover.specs.declared.fault.RecoverFault.{RecoverFault}

@@ -9,7 +9,7 @@ use Rattle.tool_run.specs.declared.fault.Fault.TheVariants.{Usage, Memory, ReadF
 use Rattle.tool_run.specs.Inside.{IsStopped, status_of, line_of}
 use Rattle.tool_run.specs.Lines.{Tells}
 use Rattle.tool_run.specs.Making.{RunsATrace}
-use Rattle.tool_run.specs.Outcome.{AsksToGet, AsksForRun, IsReadFault, at_image, at_trace, IsWriteFault, IsAbsent, IsBadHeader, IsOutsideAt, IsBadShardAt, IsBadTrace, at_line, too_long}
+use Rattle.tool_run.specs.Outcome.{AsksForRun, IsReadFault, at_image, at_trace, IsWriteFault, IsAbsent, IsBadHeader, IsOutsideAt, IsBadShardAt, IsBadTrace, at_line, too_long}
 use Rattle.tool_run.specs.Status.{statuses, own_line, read_fault, write_fault, no_image, bad_header, outside, bad_shard, bad_trace}
 use Rattle.tool_run.proofs.CallLemmas.{rose_since}
 

@@ -1,5 +1,5 @@
 -- What the source had left.
-use Rattle.std.proofs.Common.{◌≡◌, ℕ, ◌≤◌, ◌<◌, List, [], ◌∷◌, ◌++◌, ◌+◌, length, Option, Some, None, IfSome, Contains, map, inl, inr, refl, sym, subst, arith, length-append}
+use Rattle.std.proofs.Common.{◌≡◌, ℕ, ◌≤◌, ◌<◌, List, ◌++◌, ◌+◌, length, Option, Some, None, IfSome, sym, subst, arith, length-append}
 use Rattle.std.proofs.lemmas.List.{append-nil}
 use Rattle.tool_ports.specs.Left.{left_before, IsAtEnd, Gives}
 use Rattle.tool_run.specs.Making.{HasLeft, HasTrace, HasTooMuch, longest_trace}

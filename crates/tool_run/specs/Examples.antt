@@ -8,7 +8,7 @@ use Rattle.clap.specs.Words.{Row, fault_of, matches_of, first_of, one_of, read_a
 use Rattle.image_run.specs.declared.options.TheConstants.{MOST_BUDGET}
 use Rattle.clap.specs.declared.error.kind.ErrorKind.TheVariants.{ValueValidation, ArgumentConflict, DisplayHelp, MissingRequiredArgument}
 use Rattle.clap.proofs.OnLiterals.{clap_on_literals}
-use Rattle.std.proofs.Common.{ℕ, length, sym, ap, ◌∙◌, inl, inr, bytes_eq, arith, lit<, lit≤}
+use Rattle.std.proofs.Common.{ℕ, sym, ap, ◌∙◌, inl, inr, bytes_eq, arith, lit<, lit≤}
 use Rattle.heap_model.specs.Geometry.{largest_capacity}
 use Rattle.heap_model.specs.Sizes.{size_of, class_sizes}
 use Rattle.heap_model.specs.declared.header.BadHeader.TheVariants.{Length}

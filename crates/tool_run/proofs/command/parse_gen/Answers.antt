@@ -1,4 +1,4 @@
-use Rattle.std.proofs.Common.{◌≡◌, ap, arith, rules}
+use Rattle.std.proofs.Common.{◌≡◌, arith, rules}
 use Rattle.tool_run.specs.CommandLine.{gen_app, requests_id, trace_seed_id}
 use Rattle.tool_run.specs.declared.trace_plan.TheConstants.{MOST_REQUESTS, GREATEST_SEED}
 use Rattle.tool_run.proofs.CommandLemmas.{asks_gen, no_number_given, if_none}

@@ -1,4 +1,3 @@
-use Rattle.std.proofs.Common.{refl}
 use Rattle.tool_run.proofs.DeliveryLemmas.{at_cause}
 use Rattle.tool_run.proofs.MapLemmas.{is_mapped, refuses_maps}
 use Rattle.tool_run.proofs.working.mapped_heap.Goals as goal

@@ -1,4 +1,4 @@
-use Rattle.std.proofs.Common.{List, ℕ, refl, sym, subst, slice_index, inl, inr}
+use Rattle.std.proofs.Common.{List, refl, sym, subst, slice_index}
 use Rattle.heap_model.specs.Image.{image_of_bytes}
 use Rattle.image_run.proofs.CarryLemmas.{runs_carried}
 use Rattle.image_run.specs.Running.{Runs, options_of}
