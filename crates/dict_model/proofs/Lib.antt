@@ -1,4 +1,5 @@
 pub mod ChainLemmas
+pub mod LinkLemmas
 pub mod MapLemmas
 pub mod ShardLemmas
 pub mod SpliceLemmas

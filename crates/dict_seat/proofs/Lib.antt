@@ -14,6 +14,7 @@ pub mod ImageLemmas
 pub mod MakeLemmas
 pub mod MapPublishLemmas
 pub mod NodeLemmas
+pub mod OthersLemmas
 pub mod OverLemmas
 pub mod PublishLemmas
 pub mod PutLemmas
@@ -21,6 +22,7 @@ pub mod QuietLemmas
 pub mod ReadLemmas
 pub mod RequestLemmas
 pub mod SearchLemmas
+pub mod SeatsLemmas
 pub mod TableLemmas
 pub mod TrailLemmas
 pub mod UnreachedLemmas

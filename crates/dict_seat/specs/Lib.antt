@@ -8,6 +8,8 @@ pub mod Puts
 pub mod Quiet
 pub mod Reached
 pub mod Searches
+pub mod Seats
+pub mod Shards
 pub mod Tables
 pub mod Trails
 pub mod Walks

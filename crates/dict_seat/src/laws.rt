@@ -1,11 +1,18 @@
-//! What follows for the images of a whole heap, as functions with nothing to run: a caller cites
-//! their clauses.
-ghost use Rattle.std.specs.Prelude.{ℕ, ◌⊎◌};
+//! What follows for the images of a whole heap and for the requests after one, as functions with
+//! nothing to run: a caller cites their clauses.
+ghost use Rattle.std.specs.Prelude.{◌≢◌, ℕ, ◌<◌, ◌⊎◌, ◌↔◌};
 ghost use Rattle.heap_model.specs.Image.{Image};
+ghost use Rattle.heap_model.specs.Reach.{IsOutside};
 ghost use Rattle.heap_seat.specs.View.{View};
+ghost use Rattle.heap_seat.specs.Sound.{IsSeat};
 ghost use Rattle.heap_seat.specs.Words.{NamesAll};
-ghost use Rattle.dict_model.specs.Shards.{Map, WalkOf};
+ghost use Rattle.dict_model.specs.Links.{shards, root_kind, dict_links};
+ghost use Rattle.dict_model.specs.Shards.{Map, MapOf, WalkOf};
+ghost use Rattle.dict_seat.specs.Changes.{MayChange, Changes};
 ghost use Rattle.dict_seat.specs.Maps.{Gives, GivesEither};
+ghost use Rattle.dict_seat.specs.Removal.{IsShard};
+ghost use Rattle.dict_seat.specs.Seats.{ShareHeap, MixesSeats};
+ghost use Rattle.dict_seat.specs.Shards.{HasShards};
 
 use heap_seat::HeapSeat;
 
@@ -19,4 +26,33 @@ pub fn images_have_the_map<H: HeapSeat>(_seat: &H)
     ensures either { (shard : ℕ) (one other : Map) → GivesEither (H.view _seat.now) shard one other
         → (image : Image) → H.images _seat.now image
         → WalkOf image shard one ⊎ WalkOf image shard other }
+{}
+
+/// Where several seats share a heap, no root of another seat reaches what one of them has in its
+/// shard. So the map that a seat has is the shard's map in each image that mixes the words of all
+/// seats and names their blocks; and nothing in the image is outside.
+pub fn a_shard_of_a_seat_is_a_shard_of_the_heap()
+    ensures walk { (count : ℕ) (seats : ℕ → View) (image : Image) → ShareHeap count seats
+        → MixesSeats count seats image → (shard : ℕ) (map : Map) → shard < shards
+        → WalkOf image shard map ↔ MapOf image shard map }
+    ensures gives { (count : ℕ) (seats : ℕ → View) (image : Image) → ShareHeap count seats
+        → MixesSeats count seats image → (i shard : ℕ) (map : Map) → i < count → shard < shards
+        → Gives (seats i) shard map → MapOf image shard map }
+    ensures either { (count : ℕ) (seats : ℕ → View) (image : Image) → ShareHeap count seats
+        → MixesSeats count seats image → (i shard : ℕ) (one other : Map) → i < count
+        → shard < shards → GivesEither (seats i) shard one other
+        → MapOf image shard one ⊎ MapOf image shard other }
+    ensures inside { (count : ℕ) (seats : ℕ → View) (image : Image) → ShareHeap count seats
+        → MixesSeats count seats image → (at : ℕ) → IsOutside image root_kind dict_links at → ⊥ }
+{}
+
+/// Requests go on from shard to shard. One to a shard leaves each other shard its map, wherever it
+/// ends; and where it was answered, requests to all of them may be made again.
+pub fn requests_go_on_from_shard_to_shard()
+    ensures others { (v w : View) (shard other : ℕ) (may : Map → Map) (map : Map) → IsSeat v
+        → MayChange shard may v w → shard < shards → other < shards → other ≢ shard
+        → IsShard v other → Gives v other map → Gives w other map }
+    ensures goes_on { (v w : View) (shard : ℕ) (may after : Map → Map) → IsSeat v
+        → MayChange shard may v w → shard < shards → HasShards v → Changes shard after v w
+        → HasShards w }
 {}

@@ -13,5 +13,8 @@ mod value;
 mod walk;
 
 pub use heap_seat::AllocFault as PutFault;
-pub use laws::images_have_the_map;
+pub use laws::{
+    a_shard_of_a_seat_is_a_shard_of_the_heap, images_have_the_map,
+    requests_go_on_from_shard_to_shard,
+};
 pub use shard::Shard;

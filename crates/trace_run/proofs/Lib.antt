@@ -5,10 +5,8 @@ pub mod EndLemmas
 pub mod HeaderLemmas
 pub mod KeyLemmas
 pub mod LeftLemmas
-pub mod LinkLemmas
 pub mod OpenLemmas
 pub mod OpenedLemmas
-pub mod OthersLemmas
 pub mod ProgressLemmas
 pub mod RecoveredLemmas
 pub mod RoomLemmas

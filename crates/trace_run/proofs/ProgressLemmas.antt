@@ -19,7 +19,7 @@ use Rattle.trace_run.specs.Stands.{StandsOver}
 use Rattle.trace_run.specs.Progress.{shard_asked, Answers, MayAnswer, HasAnswered}
 use Rattle.trace_run.proofs.LeftLemmas.{nothing_outside, map_left}
 use Rattle.trace_run.proofs.OpenLemmas.{only_opened, gives_opened, others_opened}
-use Rattle.trace_run.proofs.OthersLemmas.{gives_others}
+use Rattle.dict_seat.proofs.OthersLemmas.{gives_others}
 use Rattle.trace_run.proofs.StandsLemmas.{others_stay, root_in_left, block_in_left}
 
 -- the map after one request more

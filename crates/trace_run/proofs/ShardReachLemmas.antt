@@ -15,8 +15,7 @@ use Rattle.dict_model.specs.Shards.{Map, LeadsAlone, MapOf, is_empty, has_table,
 use Rattle.dict_model.proofs.ChainLemmas.{in_path}
 use Rattle.dict_model.proofs.MapLemmas.{IsUsed, as_table, as_node}
 use Rattle.dict_seat.proofs.GrownLemmas.{link_inside, link_to}
-use Rattle.trace_run.proofs.LinkLemmas.{link_listed, at_first}
-use Rattle.trace_run.proofs.LeftLemmas.{link_in_block}
+use Rattle.dict_model.proofs.LinkLemmas.{link_in_block, link_listed, at_first}
 
 pub shard_kind : (shard : ℕ) → shard < shards → root_kind shard ≡ table_kind
 shard_kind shard small = cond-true (nat_lt shard shards) table_kind 0 (search rules)

@@ -9,13 +9,19 @@ use Rattle.heap_model.proofs.ReachLemmas.{closure_least}
 use Rattle.heap_seat.specs.View.{View}
 use Rattle.heap_seat.specs.Words.{in_root, in_block, MayBe, MayRead, MixesOwn}
 use Rattle.dict_model.specs.Links.{shards, root_kind, dict_links}
+use Rattle.dict_model.proofs.LinkLemmas.{link_in_block}
 use Rattle.dict_seat.specs.Maps.{KeepsOthers}
 use Rattle.dict_seat.specs.Reached.{MayReach, ReachesOnlyHeld}
 use Rattle.dict_seat.specs.Trails.{IsSettled}
 use Rattle.dict_seat.proofs.GrownLemmas.{root_reach, link_reach, link_in}
 use Rattle.dict_seat.proofs.TrailLemmas.{settled_in, settled_stays}
 use Rattle.trace_run.specs.Stands.{IsOtherRoot, HasOthers}
-use Rattle.trace_run.proofs.LeftLemmas.{link_in_block, IsReachedBy}
+
+-- the block is reached from one of the chosen roots
+record IsReachedBy (v : View) (chosen : ℕ → Type 0) (b : Block) (kind : ℕ) : Type 0 where
+  pub root : ℕ
+  pub is_chosen : chosen root
+  pub reached : MayReach v root b kind
 
 read_settled : (v : View) (word value : ℕ) → IsSettled v word value → MayRead v word value
 read_settled v word value settled = inl (subst (λ (known : Option ℕ). MayBe known value) (sym settled.seen) refl)

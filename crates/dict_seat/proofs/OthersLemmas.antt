@@ -14,7 +14,10 @@ use Rattle.dict_model.specs.Shards.{Map, LeadsTo, IsMap}
 use Rattle.dict_model.proofs.MapLemmas.{map_wider, map_stays}
 use Rattle.dict_model.proofs.SpliceLemmas.{ArePlaced}
 use Rattle.dict_seat.specs.Maps.{IsMapIn, Gives, KeepsOthers}
+use Rattle.dict_seat.specs.Changes.{MayChange, Changes}
 use Rattle.dict_seat.specs.Reached.{MayReach, ReachesOnlyHeld}
+use Rattle.dict_seat.specs.Removal.{IsShard}
+use Rattle.dict_seat.specs.Shards.{HasShards}
 use Rattle.dict_seat.proofs.FreedLemmas.{used_reached}
 use Rattle.dict_seat.proofs.TrailLemmas.{now_image, now_completes}
 
@@ -92,3 +95,27 @@ module _ (v w : View) (shard other : ℕ) (seat : IsSeat v) (only : ReachesOnlyH
         let second : IsMap limit image other map = map_stays kept kept_placed limit (λ word c leads. (leads.0.0, leads.1)) (before image) image other
         (same_root image mixes) (same_inside image mixes) map first in
         map_wider limit (LeadsTo (Contains w.held)) image other map (λ word c used leads. (stays c (leads.0.0, leads.1), leads.0.1)) second
+
+module _ (v w : View) (shard : ℕ) (may : Map → Map) (seat : IsSeat v) (small : shard < shards) (change : MayChange shard may v w) where
+  owned_on : (other : ℕ) → Contains v.roots other → Contains w.roots other
+  owned_on other owned = subst (λ (rs : List ℕ). Contains rs other) (sym change.others.roots) owned
+
+  -- a request to one shard leaves the other its map, wherever it ends
+  pub others_give : (other : ℕ) (map : Map) → other < shards → other ≢ shard → IsShard v other → Gives v other map → Gives w other map
+  others_give other map below differs is = gives_others v w shard other seat is.only change.others small below differs is.owned map
+
+  -- one that was answered leaves a map to each
+  pub shards_on : (after : Map → Map) → HasShards v → Changes shard after v w → HasShards w
+  shards_on after has changes = record {
+    each = λ other below.
+        let is = has.each other below in
+        elim (cases_eq other shard) as (λ _. IsShard w other) [
+          | inl same ↦ record {
+            owned = owned_on other is.owned;
+            only = change.only;
+            map = after is.map;
+            gives = subst (λ n. Gives w n (after is.map)) (sym same) (changes.gives is.map (subst (λ n. Gives v n is.map) same is.gives));
+          }
+          | inr differs ↦ record { owned = owned_on other is.owned; only = change.only; map = is.map; gives = others_give other is.map below differs is is.gives }
+        ];
+  }

@@ -2,6 +2,10 @@
 use Rattle.std.proofs.Common.{◌≡◌, ℕ, suc, ◌+◌, ◌<◌, ◌≤◌, inl, inr, List, [], ◌∷◌, length, Contains, cond, refl, subst, sym, ap, arith}
 use Rattle.std.specs.Prelude.{nat_eq}
 use Rattle.std.proofs.lemmas.Bool.{cases_eq, cond-true, cond-false, ne_eqb, eq-eqb}
+use Rattle.heap_model.specs.declared.block.Block.{Block}
+use Rattle.heap_model.specs.Image.{Image}
+use Rattle.heap_model.specs.Reach.{words_in}
+use Rattle.heap_model.proofs.ImageLemmas.{length-words_from}
 use Rattle.heap_model.proofs.MemberLemmas.{in_none, in_head, in_rest, head_or_rest}
 use Rattle.dict_model.specs.Links.{table_kind, node_kind, dict_links, all_to_nodes, first_to_node, IsLink, in_table, in_node}
 
@@ -62,6 +66,11 @@ listed_link kind words at to h = elim (cases_eq kind table_kind) as (λ _. IsLin
             absurd (in_none (at, to) (subst (λ (xs : List (ℕ × ℕ)). Contains xs (at, to)) e2 h2))
       ]
 ]
+
+-- and so is what it lists in a block of an image
+pub link_in_block : (image : Image) (a : Block) (from position kind : ℕ) → Contains (dict_links from (words_in image a)) (position, kind) → IsLink from a.words position kind
+link_in_block image a from position kind listed =
+    subst (λ n. IsLink from n position kind) (length-words_from image a.first_word a.words) (listed_link from (words_in image a) position kind listed)
 
 all_listed : (from : ℕ) (words : List ℕ) (at : ℕ) → from ≤ at → at < from + length words → Contains (all_to_nodes from words) (at, node_kind)
 all_listed from [] at low high = let none : length {A = ℕ} [] ≡ 0 = refl in absurd (omega arith)
