@@ -1,0 +1,59 @@
+//! The first user of the dictionary: it sets, reads and takes out keys on a heap in memory, is
+//! stopped in the middle of a put, and reads what a crash leaves.
+#![tactic(auto, unfolding(heap_model::specs::Geometry::largest_capacity))]
+
+ghost use Rattle.std.specs.Prelude.{IfOk};
+ghost use Rattle.block_heap.specs.SeqState.{seat_of};
+ghost use Rattle.dict_seat.specs.Shards.{HasShards};
+
+use block_heap::{Chance, SeqHeap};
+use dictionary::{DictFilter, PutFault, Shard, read_maps, root_kinds};
+use heap_recover::recover;
+use region_header::format;
+use std::alloc::Global;
+use std::str;
+use std::test::Fail;
+
+/// How many steps the heap takes before it stops.
+const BUDGET: u64 = 2_720;
+
+/// Chance that writes nothing back early: a crash leaves what was made durable, and no more.
+#[derive(Drop)]
+struct Never;
+
+impl Chance for Never {
+    fn draw(&mut self) -> u64 {
+        0
+    }
+}
+
+/// Opens what recovery makes of an image whose shards are maps.
+fn open(alloc: Global, image: &[u64]) -> Result<SeqHeap<Never>, Fail>
+    ensures { IfOk result (λ heap. HasShards (seat_of heap)) }
+{
+    let recovered = recover(alloc, image, &root_kinds(), &DictFilter)?;
+    read_maps(alloc, &recovered)?;
+    Ok(SeqHeap::new(alloc, recovered.heap, BUDGET, Never)?)
+}
+
+fn main(rt: HostRuntime) -> Result<(), Fail> {
+    let alloc = rt.alloc();
+    let mut heap = open(alloc, &format(alloc, 2)?)?;
+    Shard::at(1).put(&mut heap, 1, b"one")?;
+    Shard::at(2).put(&mut heap, 2, b"two")?;
+    let mut room = [0; 8];
+    let length = Shard::at(1).get(&mut heap, 1, &mut room)?;
+    println!(rt; "get 1: {length:?}")?;
+    let found = Shard::at(2).del(&mut heap, 2)?;
+    println!(rt; "del 2: {found}")?;
+    if let Err(PutFault::Stopped(stopped)) = Shard::at(1).put(&mut heap, 1, b"uno") {
+        println!(rt; "put 1: stopped at step {}", stopped.step)?;
+    }
+    let left = recover(alloc, &heap.finish().kept, &root_kinds(), &DictFilter)?;
+    for map in &read_maps(alloc, &left)? {
+        for (key, value) in map {
+            println!(rt; "{key} is {}", str::from_utf8(value.as_slice())?)?;
+        }
+    }
+    Ok(())
+}
