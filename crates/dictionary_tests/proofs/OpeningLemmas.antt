@@ -1,4 +1,4 @@
--- What recovery leaves of an image is a dictionary where each shard was read as a map, and a heap that is opened over it has its shards.
+-- What recovery leaves of an image is a dictionary where each shard was read as a map; a heap that is opened over it has its shards, and requests go on.
 use Rattle.std.proofs.Common.{◌≡◌, ℕ, ◌<◌, List, Contains, subst, sym, arith, slice_index}
 use Rattle.std.specs.BTreeMap.{BTreeMap}
 use Rattle.heap_model.specs.declared.block.Block.{Block}
@@ -7,14 +7,17 @@ use Rattle.heap_model.specs.Image.{Image}
 use Rattle.heap_model.specs.Reach.{IsReached, IsOutside}
 use Rattle.heap_model.specs.Recovered.{AreAscending}
 use Rattle.heap_model.specs.Recovery.{IsRecovered}
-use Rattle.heap_seat.specs.View.{View}
+use Rattle.block_heap.specs.Closing.{IsOpened}
+use Rattle.block_heap.specs.Laws.{seat_law}
+use Rattle.block_heap.specs.SeqState.{SeqState, seat_of}
 use Rattle.dict_model.specs.Links.{shards, dict_links, root_kind}
-use Rattle.dict_model.specs.Requests.{after}
+use Rattle.dict_model.specs.Shards.{Map}
+use Rattle.dict_seat.specs.Changes.{MayChange, Changes}
 use Rattle.dict_seat.specs.Shards.{HasShards}
+use Rattle.dict_seat.proofs.OthersLemmas.{shards_on}
 use Rattle.dictionary.specs.Reading.{AreMaps, RecoversTo}
 use Rattle.trace_run.specs.Opened.{IsDictionary}
-use Rattle.trace_run.specs.Runs.{of_shard}
-use Rattle.dictionary_tests.specs.Standing.{HasDictionary}
+use Rattle.trace_run.proofs.OpenedLemmas.{run_begins}
 use Rattle.trace_run.proofs.RecoveredLemmas.{recovered_dictionary}
 
 -- what recovery promises of the image, with its filter and its kinds of roots, and what the reading of the maps does
@@ -34,15 +37,18 @@ dictionary_of old new kinds held maps same ascending words none blocks are =
     } in
     recovered_dictionary old new to held reached maps are
 
--- a dictionary that stands on a heap has its shards
-pub shards_of : (v : View) → HasDictionary v → HasShards v
-shards_of v has = record {
-  each = λ shard small.
-      let first = has.maps.each shard small in
-      record {
-        owned = has.answered.stands.all_roots shard (omega arith);
-        only = has.answered.stands.only;
-        map = after first.0 (of_shard shard has.rs);
-        gives = has.answered.gives shard first.0 small first.1;
-      };
-}
+-- a heap that was opened over a dictionary has its shards
+pub opened_shards : (words : List ℕ) (held : List Block) (budget : ℕ) (s : SeqState) → IsOpened words held budget s → IsDictionary (slice_index words) (Contains held)
+    → HasShards (seat_of s)
+opened_shards words held budget s is has =
+    let begun = run_begins words held budget s is has in
+    record {
+      each = λ shard small.
+          let first = has.maps.each shard small in
+          record { owned = begun.stands.all_roots shard (omega arith); only = begun.stands.only; map = first.0; gives = begun.gives shard first.0 small first.1 };
+    }
+
+-- requests to it go on
+pub go_on : (s t : SeqState) (shard : ℕ) (may after : Map → Map) → shard < shards → HasShards (seat_of s) → MayChange shard may (seat_of s) (seat_of t)
+    → Changes shard after (seat_of s) (seat_of t) → HasShards (seat_of t)
+go_on s t shard may after small has change changes = shards_on (seat_of s) (seat_of t) shard may (seat_law s) small change after has changes

@@ -6,8 +6,10 @@ mod runs;
 mod standing;
 
 pub use runs::run_text;
-pub use standing::Standing;
+pub use standing::{Always, Standing};
 
+#[cfg(test)]
+mod bad_shards;
 #[cfg(test)]
 mod run_tests;
 #[cfg(test)]

@@ -23,21 +23,21 @@ impl Chance for Always {
 
 /// A dictionary on a heap for one thread. Once it has stopped it is asked nothing more.
 #[derive(Drop)]
-pub struct Standing {
-    heap: SeqHeap<Always>,
+pub struct Standing<C: Chance> {
+    heap: SeqHeap<C>,
     stopped: Option<Stopped>,
 }
 
-impl Model for Standing {
+impl<C: Chance> Model for Standing<C> {
     ghost use Rattle.std.specs.Prelude.{◌≡◌, None};
     ghost use Rattle.block_heap.specs.SeqState.{seat_of};
-    ghost use Rattle.dictionary_tests.specs.Standing.{HasDictionary};
+    ghost use Rattle.dict_seat.specs.Shards.{HasShards};
 
     ghost Value = { Unit {0} };
 
     ghost view = { λ _. tt };
 
-    ghost invariant = { λ s. s.stopped ≡ None → HasDictionary (seat_of s.heap) };
+    ghost invariant = { λ s. s.stopped ≡ None → HasShards (seat_of s.heap) };
 }
 
 /// Recovers an image in which each shard is a map.
@@ -49,13 +49,13 @@ pub fn recovered(alloc: Global, image: &[u64]) -> Result<Recovered, Fail>
     Ok(recovered)
 }
 
-impl Standing {
+impl<C: Chance> Standing<C> {
     /// Opens what recovery makes of the image.
-    pub fn open(alloc: Global, image: &[u64], budget: u64, number: u64) -> Result<Standing, Fail>
+    pub fn open(alloc: Global, image: &[u64], budget: u64, chance: C) -> Result<Standing<C>, Fail>
         requires { budget < 2 ^ 40 }
     {
         let heap = recovered(alloc, image)?.heap;
-        let heap = SeqHeap::new(alloc, heap, budget, Always(number))?;
+        let heap = SeqHeap::new(alloc, heap, budget, chance)?;
         Ok(Standing {
             heap,
             stopped: None,
@@ -78,6 +78,19 @@ impl Standing {
                 Ok(Err(AllocFault::Stopped(stopped)))
             }
         }
+    }
+
+    /// The length of the key's value, if it is there. The output begins with the value, as far as
+    /// that fits.
+    pub fn get(&mut self, key: u64, out: &mut [u8]) -> Result<Option<usize>, Stopped> {
+        if let Some(stopped) = self.stopped {
+            return Err(stopped);
+        }
+        let answer = Shard::at(key % 8).get(&mut self.heap, key, out);
+        if let Err(stopped) = answer {
+            self.stopped = Some(stopped);
+        }
+        answer
     }
 
     /// Takes a key out; the answer is whether it was there.

@@ -1,6 +1,6 @@
 //! What the requests answer, and what is read back from the images that are left.
 
-use crate::standing::{Standing, recovered};
+use crate::standing::{Always, Standing, recovered};
 use block_heap::{AllocFault, Closed, Looks};
 use dictionary::{read_map, read_maps};
 use region_header::format;
@@ -38,7 +38,7 @@ fn value_of(alloc: Global, len: usize, byte: u8) -> Result<Vec<u8>, AllocError> 
 /// Sets the key, and tells whether it was done: if not, the heap stopped.
 fn set(
     alloc: Global,
-    heap: &mut Standing,
+    heap: &mut Standing<Always>,
     (key, len, byte): (u64, usize, u8),
 ) -> Result<bool, Fail> {
     let value = value_of(alloc, len, byte)?;
@@ -51,7 +51,7 @@ fn set(
 
 /// Takes the key out of the heap and of the model, and tells whether it was done.
 fn unset(
-    heap: &mut Standing,
+    heap: &mut Standing<Always>,
     model: &mut BTreeMap<u64, (usize, u8)>,
     key: u64,
 ) -> Result<bool, Fail> {
@@ -74,7 +74,7 @@ fn run(
     if budget > MANY {
         return Err("the budget is too large".into());
     }
-    let mut heap = Standing::open(alloc, image, budget, number)?;
+    let mut heap = Standing::open(alloc, image, budget, Always(number))?;
     let mut model = BTreeMap::new(alloc);
     let mut answered: usize = 0;
     for ask in asks {
@@ -130,7 +130,7 @@ fn held_in(alloc: Global, image: &[u64]) -> Result<usize, Fail> {
 fn a_put_without_room_for_its_node_leaves_a_table(rt: HostRuntime) -> Result<(), Fail> {
     let alloc = rt.alloc();
     let image = format(alloc, 1)?;
-    let mut heap = Standing::open(alloc, &image, MANY, 0)?;
+    let mut heap = Standing::open(alloc, &image, MANY, Always(0))?;
     let full = AllocFault::Full(Looks {
         class_head: 0,
         free_head: 0,
@@ -195,6 +195,32 @@ fn values_of_each_length_replace_one_another(rt: HostRuntime) -> Result<(), Fail
                 assert_eq!(rt; held_in(alloc, &left.closed.now)?, 2);
             }
         }
+    }
+    Ok(())
+}
+
+#[test]
+fn get_puts_as_much_of_a_value_as_fits(rt: HostRuntime) -> Result<(), Fail> {
+    let alloc = rt.alloc();
+    let image = format(alloc, 16)?;
+    for key in [0, u64::MAX] {
+        let mut heap = Standing::open(alloc, &image, MANY, Always(0))?;
+        for len in LENGTHS {
+            set(alloc, &mut heap, (key, len, 1))?;
+            for room in [0, len / 2, len, len.wrapping_add(9)] {
+                let mut out = value_of(alloc, room, 2)?;
+                assert_eq!(rt; heap.get(key, &mut out), Ok(Some(len)));
+                let filled = out.iter().take_while(|byte| **byte == 1).count();
+                assert_eq!(rt; (filled, out.len()), (len.min(room), room));
+                assert!(rt;
+                    out.iter().skip(filled).all(|byte| *byte == 2),
+                    "{len} in {room}"
+                );
+            }
+        }
+        let mut out = [3; 4];
+        assert_eq!(rt; heap.get(key ^ 8, &mut out), Ok(None));
+        assert_eq!(rt; out, [3; 4]);
     }
     Ok(())
 }

@@ -1,5 +1,5 @@
 use Rattle.std.proofs.Common.{arith}
-use Rattle.first_dictionary.proofs.HeapLemmas.{go_on}
+use Rattle.dictionary_tests.proofs.OpeningLemmas.{go_on}
 use Rattle.first_dictionary.proofs.main.Goals as goal
 
 pub put-requires-2-clause-shard : goal.put-requires-2-clause-shard

@@ -1,7 +1,5 @@
 use Rattle.std.proofs.Common.{slice_index}
-use Rattle.block_heap.specs.SeqState.{seat_of}
-use Rattle.dictionary_tests.proofs.OpeningLemmas.{dictionary_of, shards_of}
-use Rattle.dictionary_tests.proofs.StandingLemmas.{opened_stands}
+use Rattle.dictionary_tests.proofs.OpeningLemmas.{dictionary_of, opened_shards}
 use Rattle.first_dictionary.proofs.open.Goals as goal
 
 pub returns : goal.returns
@@ -10,4 +8,4 @@ returns c =
     let told = c.in_ok-recovered.ensures in
     let dictionary = dictionary_of (slice_index c.args.image.now) (slice_index heap.words) c.root_kinds.result heap.held c.in_ok-read_maps.field-0.items
     c.root_kinds.ensures.kinds told.held told.words told.none c.in_ok-read_maps.ensures.ready.blocks c.in_ok-read_maps.ensures.ok in
-    shards_of (seat_of c.in_ok-new.field-0) (opened_stands heap.words heap.held 2720 c.in_ok-new.field-0 c.in_ok-new.ensures dictionary)
+    opened_shards heap.words heap.held 2720 c.in_ok-new.field-0 c.in_ok-new.ensures dictionary
