@@ -1,7 +1,7 @@
 # make         builds the proved heap_tool and says where it lies
 # make test    runs all tests and the stored runs, and proves nothing
 # make check   every check: the gate
-# make bench   times the program beside the system's tools, and the heap for one thread
+# make bench   times the program beside the system's tools, the heap for one thread, and requests to the dictionary
 # make clean   removes what these made
 .PHONY: all test check bench clean
 
@@ -22,7 +22,7 @@ check:
 
 bench: bin/heap_tool
 	bench/run
-	if command -v python3 >/dev/null; then bench/pairs.py; fi
+	if command -v python3 >/dev/null; then bench/pairs.py && bench/requests.py; fi
 
 clean:
 	rm -rf bin crates/*/out
