@@ -9,3 +9,5 @@ pub mod RoleLemmas
 pub mod RebuildLemmas
 pub mod KeptLemmas
 pub mod UnchangedLemmas
+mod InPlaceLemmas
+pub mod AlikeLemmas

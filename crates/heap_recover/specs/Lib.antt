@@ -4,3 +4,4 @@ pub mod Rebuilt
 pub mod Fault
 pub mod Answer
 pub mod PairLinks
+pub mod InPlace

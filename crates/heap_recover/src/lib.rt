@@ -4,6 +4,7 @@
 mod answer;
 mod chains;
 mod fault;
+mod in_place;
 mod laws;
 mod lists;
 mod parts;
@@ -15,9 +16,12 @@ mod surveys;
 
 pub use answer::{Recovered, Was};
 pub use fault::RecoverFault;
-pub use laws::reached_words_are_unchanged;
+pub use in_place::rebuild;
+pub use laws::{reached_words_are_unchanged, recovery_begun_again_gives_the_same};
 pub use recovery::recover;
 
+#[cfg(test)]
+mod in_place_tests;
 #[cfg(test)]
 mod rest_check;
 #[cfg(test)]

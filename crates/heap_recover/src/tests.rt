@@ -17,7 +17,7 @@ use super_block::{Block, CLEAN, MAGIC, VERSION};
 
 /// Pairs, whose first link is in word 0 and leads to such a pair again (kind 2), or whose second is
 /// in word 2 and leads to a block without links (kind 1).
-struct Pairs;
+pub struct Pairs;
 
 impl Filter for Pairs {
     const KINDS: u32 = 3;
@@ -53,7 +53,7 @@ fn link_in(word: usize, kind: u32, block: &[u64], at: usize) -> Option<(usize, u
 }
 
 /// The kinds of the roots: a pair for its first link, and for its second; 0 for the others.
-fn kinds(alloc: Global) -> Result<Vec<u32>, AllocError>
+pub fn kinds(alloc: Global) -> Result<Vec<u32>, AllocError>
     ensures long { IfOk result (λ kinds. length kinds.items ≡ roots) }
     ensures below { IfOk result (λ kinds. All (λ kind. kind < 3) kinds.items) }
 {
@@ -104,7 +104,7 @@ fn at_rest(
 }
 
 /// Writes words into an image.
-fn write(image: &mut [u64], words: &[(usize, u64)]) {
+pub fn write(image: &mut [u64], words: &[(usize, u64)]) {
     for (at, value) in words {
         if *at < image.len() {
             image[*at] = *value;

@@ -1,0 +1,243 @@
+-- Words stored one after the other over an image: how far they have come, and what stands where a call is refused.
+use Rattle.std.proofs.Common.{◌≡◌, ◌≢◌, ℕ, zero, suc, ◌+◌, ◌-◌, ◌*◌, ◌<◌, ◌≤◌, ◌⊎◌, inl, inr, List, [], ◌∷◌, length, slice_index, refl, sym, ap, subst, ◌∙◌, arith, cond, nat_eq, get_or-set_same, get_or-set_other, length-set, eq-eqb, ne_eqb}
+use Rattle.std.proofs.lemmas.Bool.{cases_eq, cases_lt}
+use Rattle.std.proofs.lemmas.List.{get_or_past}
+use Rattle.std.specs.Prelude.{⊤}
+use Rattle.heap_model.specs.Image.{Image}
+use Rattle.line_memory.specs.View.{View, volatile_at, durable_at, IsPending, IsSound}
+use Rattle.line_memory.specs.Crash.{AddsNothing}
+use Rattle.line_memory.specs.Steps.{Takes, Refuses, after_draw, IsStore, IsWriteBack, IsFence}
+use Rattle.line_memory.proofs.CallerLemmas.{store_leaves, write_back_adds, fence_adds, refused_adds, refused_stopped, contains_or_not, draw_adds}
+use Rattle.heap_recover.specs.InPlace.{differences, Has, IsBetween, IsStoredTo, IsCutOff, Differ}
+
+plus_none : (n : ℕ) → n + 0 ≡ n
+plus_none n = omega arith
+
+-- a word more is a difference more where it differs, and else not
+differ_next : (old new : Image) (n : ℕ) → differences old new (n + 1) ≡ differences old new n + cond (nat_eq (old n) (new n)) 0 1
+differ_next old new n = ap (differences old new) {x = n + 1} {y = suc n} (omega arith)
+
+pub differ_more : (old new : Image) (n : ℕ) → old n ≢ new n → differences old new (n + 1) ≡ differences old new n + 1
+differ_more old new n other = differ_next old new n ∙ ap (λ t. differences old new n + cond t 0 1) (ne_eqb (old n) (new n) other)
+
+pub differ_same : (old new : Image) (n : ℕ) → old n ≡ new n → differences old new (n + 1) ≡ differences old new n
+differ_same old new n same = differ_next old new n ∙ ap (λ t. differences old new n + cond t 0 1) (eq-eqb (old n) (new n) same)
+    ∙ plus_none (differences old new n)
+
+differ_rises : (old new : Image) (n : ℕ) → differences old new n ≤ differences old new (n + 1)
+differ_rises old new n = elim (cases_eq (old n) (new n)) as (λ _. differences old new n ≤ differences old new (n + 1)) [
+  | inl same ↦ let e = differ_same old new n same in omega arith
+  | inr other ↦ let e = differ_more old new n other in omega arith
+]
+
+-- and so over a range
+differ_along : (old new : Image) (from count : ℕ) → differences old new from ≤ differences old new (from + count)
+differ_along old new from zero = subst (λ k. differences old new from ≤ differences old new k) {x = from} {y = from + zero} (omega arith) (omega arith)
+differ_along old new from (suc count) =
+    let so_far = differ_along old new from count in
+    let rises = differ_rises old new (from + count) in
+    subst (λ k. differences old new from ≤ differences old new k) {x = from + count + 1} {y = from + suc count} (omega arith) (omega arith)
+
+pub differ_from : (old new : Image) (from to : ℕ) → from ≤ to → differences old new from ≤ differences old new to
+differ_from old new from to low =
+    subst (λ k. differences old new from ≤ differences old new k) {x = from + (to - from)} {y = to} (omega arith) (differ_along old new from (to - from))
+
+-- where the count stays over a range, no word of it differs
+pub same_there : (old new : Image) (from to word : ℕ) → differences old new to ≤ differences old new from → from ≤ word → word < to
+    → old word ≡ new word
+same_there old new from to word few low high = elim (cases_eq (old word) (new word)) as (λ _. old word ≡ new word) [
+  | inl same ↦ same
+  | inr other ↦ absurd (let more = differ_more old new word other in let before = differ_from old new from word low in
+      let after = differ_from old new (word + 1) to (omega arith) in omega arith)
+]
+
+-- lists with the same numbers at each index are one
+same_lists : (xs ys : List ℕ) → length xs ≡ length ys → ((i : ℕ) → slice_index xs i ≡ slice_index ys i) → xs ≡ ys
+same_lists [] [] long same = refl
+same_lists [] (y ∷ ys) long same = absurd (omega arith)
+same_lists (x ∷ xs) [] long same = absurd (omega arith)
+same_lists (x ∷ xs) (y ∷ ys) long same = ap (λ h. h ∷ xs) (same 0) ∙ ap (λ t. y ∷ t) (same_lists xs ys (omega arith) (λ i. same (suc i)))
+
+-- an image before its first word is stored
+pub none_stored : (old new : List ℕ) (v : View) → Has old v → IsStoredTo old new 0 0 v
+none_stored old new v has = record {
+  count = ap (λ (xs : List ℕ). length xs) has.volatile;
+  stored = λ word below. absurd (omega arith);
+  rest = λ word past. ap (λ (xs : List ℕ). slice_index xs word) has.volatile;
+  durable = λ word. inl (ap (λ (xs : List ℕ). slice_index xs word) has.durable);
+  settling = λ word below. absurd (omega arith);
+}
+
+module _ (old new : List ℕ) (settled done : ℕ) (v : View) (so_far : IsStoredTo old new settled done v) where
+  -- the word is the same in both
+  pub stored_same : slice_index old done ≡ slice_index new done → IsStoredTo old new settled (done + 1) v
+  stored_same same = record {
+    count = so_far.count;
+    stored = λ word below. elim (cases_eq word done) as (λ _. volatile_at v word ≡ slice_index new word) [
+      | inl at ↦ so_far.rest word (omega arith) ∙ subst (λ k. slice_index old k ≡ slice_index new k) (sym at) same
+      | inr before ↦ so_far.stored word (omega arith)
+    ];
+    rest = λ word past. so_far.rest word (omega arith);
+    durable = so_far.durable;
+    settling = so_far.settling;
+  }
+
+  -- what loads see of a word is one of the two
+  pub seen_between : (word : ℕ) → (volatile_at v word ≡ slice_index old word) ⊎ (volatile_at v word ≡ slice_index new word)
+  seen_between word = elim (cases_lt word done) as (λ _. (volatile_at v word ≡ slice_index old word) ⊎ (volatile_at v word ≡ slice_index new word)) [
+    | inl below ↦ inr (so_far.stored word below)
+    | inr past ↦ inl (so_far.rest word past)
+  ]
+
+  -- and so is each value that a step leaves of them
+  left_between : (word x : ℕ) → (x ≡ durable_at v word) ⊎ (x ≡ volatile_at v word) → (x ≡ slice_index old word) ⊎ (x ≡ slice_index new word)
+  left_between word x value = elim value as (λ _. (x ≡ slice_index old word) ⊎ (x ≡ slice_index new word)) [
+    | inl e ↦ elim (so_far.durable word) as (λ _. (x ≡ slice_index old word) ⊎ (x ≡ slice_index new word)) [ inl o ↦ inl (e ∙ o) | inr n ↦ inr (e ∙ n) ]
+    | inr e ↦ elim (seen_between word) as (λ _. (x ≡ slice_index old word) ⊎ (x ≡ slice_index new word)) [ inl o ↦ inl (e ∙ o) | inr n ↦ inr (e ∙ n) ]
+  ]
+
+  -- a settled word that was durable as loads see it stays so
+  stays_new : (word x : ℕ) → settled ≤ done → word < settled → durable_at v word ≡ slice_index new word
+      → (x ≡ durable_at v word) ⊎ (x ≡ volatile_at v word) → x ≡ slice_index new word
+  stays_new word x low below is value = elim value as (λ _. x ≡ slice_index new word) [
+    | inl e ↦ e ∙ is
+    | inr e ↦ e ∙ so_far.stored word (omega arith)
+  ]
+
+  -- the next word is stored
+  pub stored_more : (w : View) → settled ≤ done → done < length old → Takes (IsStore done (slice_index new done)) v w → IsStoredTo old new settled (done + 1) w
+  stored_more w low within takes = record {
+    count = ap (λ (xs : List ℕ). length xs) takes.done.volatile ∙ length-set v.volatile done (slice_index new done) ∙ so_far.count;
+    stored = λ word below. elim (cases_eq word done) as (λ _. volatile_at w word ≡ slice_index new word) [
+      | inl at ↦ subst (λ k. volatile_at w k ≡ slice_index new k) (sym at)
+          (ap (λ (xs : List ℕ). slice_index xs done) takes.done.volatile
+          ∙ get_or-set_same v.volatile done (slice_index new done) 0 (let c = so_far.count in omega arith))
+      | inr before ↦ other word before ∙ so_far.stored word (omega arith)
+    ];
+    rest = λ word past. other word (omega arith) ∙ so_far.rest word (omega arith);
+    durable = λ word. left_between word (durable_at w word) (leaves word);
+    settling = λ word below. elim (so_far.settling word below) as (λ _. (durable_at w word ≡ slice_index new word) ⊎ IsPending w word) [
+      | inl is ↦ inl (stays_new word (durable_at w word) low below is (leaves word))
+      | inr waits ↦ inr ((takes.done.pending word (omega arith)).1 waits)
+    ];
+  } where
+    other : (word : ℕ) → word ≢ done → volatile_at w word ≡ volatile_at v word
+    other word ne = ap (λ (xs : List ℕ). slice_index xs word) takes.done.volatile ∙ get_or-set_other v.volatile done word (slice_index new done) 0 ne
+
+    leaves : (word : ℕ) → (durable_at w word ≡ durable_at v word) ⊎ (durable_at w word ≡ volatile_at v word)
+    leaves = store_leaves (λ _. ⊤) done (slice_index new done) v w takes
+
+  -- the line whose words are stored is written back
+  pub line_written : (w : View) (line : ℕ) → settled ≡ 8 * line → done ≡ 8 * line + 8 → done ≤ length old → Takes (IsWriteBack line) v w
+      → IsStoredTo old new done done w
+  line_written w line from to within takes = record {
+    count = ap (λ (xs : List ℕ). length xs) adds.volatile ∙ so_far.count;
+    stored = λ word below. seen word ∙ so_far.stored word below;
+    rest = λ word past. seen word ∙ so_far.rest word past;
+    durable = λ word. left_between word (durable_at w word) (adds.durable word);
+    settling = λ word below. elim (cases_lt word settled) as (λ _. (durable_at w word ≡ slice_index new word) ⊎ IsPending w word) [
+      | inl before ↦ elim (so_far.settling word before) as (λ _. (durable_at w word ≡ slice_index new word) ⊎ IsPending w word) [
+        | inl is ↦ inl (stays_new word (durable_at w word) (omega arith) before is (adds.durable word))
+        | inr waits ↦ inr ((takes.done.pending word (omega arith)).1 waits)
+      ]
+      | inr there ↦ inr (takes.done.in_line word (let c = so_far.count in omega arith) (omega arith))
+    ];
+  } where
+    adds : AddsNothing v w
+    adds = write_back_adds (λ _. ⊤) line v w takes
+
+    seen : (word : ℕ) → volatile_at w word ≡ volatile_at v word
+    seen word = ap (λ (xs : List ℕ). slice_index xs word) adds.volatile
+
+  -- no word of the line differs
+  pub line_same : (Differ old new settled done → ⊥) → IsStoredTo old new done done v
+  line_same none = record {
+    count = so_far.count;
+    stored = so_far.stored;
+    rest = so_far.rest;
+    durable = so_far.durable;
+    settling = λ word below. elim (cases_lt word settled) as (λ _. (durable_at v word ≡ slice_index new word) ⊎ IsPending v word) [
+      | inl before ↦ so_far.settling word before
+      | inr there ↦
+          let same = same_there (slice_index old) (slice_index new) settled done word no_more there below in
+          elim (so_far.durable word) as (λ _. (durable_at v word ≡ slice_index new word) ⊎ IsPending v word) [ inl o ↦ inl (o ∙ same) | inr n ↦ inl n ]
+    ];
+  } where
+    no_more : differences (slice_index old) (slice_index new) done ≤ differences (slice_index old) (slice_index new) settled
+    no_more = elim (cases_lt (differences (slice_index old) (slice_index new) settled) (differences (slice_index old) (slice_index new) done)) as
+        (λ _. differences (slice_index old) (slice_index new) done ≤ differences (slice_index old) (slice_index new) settled) [
+          | inl more ↦ absurd (none more)
+          | inr same ↦ same
+        ]
+
+  -- a step that stores nothing
+  pub adds_between : (w : View) → AddsNothing v w → IsBetween old new w
+  adds_between w adds = record {
+    count = ap (λ (xs : List ℕ). length xs) adds.volatile ∙ so_far.count;
+    volatile = λ word. subst (λ (xs : List ℕ). (slice_index xs word ≡ slice_index old word) ⊎ (slice_index xs word ≡ slice_index new word)) (sym adds.volatile) (seen_between word);
+    durable = λ word. left_between word (durable_at w word) (adds.durable word);
+  }
+
+  -- a fence, behind the last word: each is the new one
+  pub fence_stores : (w : View) → settled ≡ length old → done ≡ length old → length new ≡ length old → IsSound w → Takes IsFence v w → Has new w
+  fence_stores w all end same sound takes = record {
+    volatile = seen_new;
+    durable = same_lists w.durable new (sound.lengths ∙ ap (λ (xs : List ℕ). length xs) seen_new) durable_new;
+  } where
+    adds : AddsNothing v w
+    adds = fence_adds (λ _. ⊤) v w takes
+
+    seen : (word : ℕ) → volatile_at v word ≡ slice_index new word
+    seen word = elim (cases_lt word done) as (λ _. volatile_at v word ≡ slice_index new word) [
+      | inl below ↦ so_far.stored word below
+      | inr past ↦ get_or_past v.volatile word 0 (let c = so_far.count in omega arith) ∙ sym (get_or_past new word 0 (omega arith))
+    ]
+
+    seen_new : w.volatile ≡ new
+    seen_new = adds.volatile ∙ same_lists v.volatile new (so_far.count ∙ sym same) seen
+
+    durable_new : (word : ℕ) → durable_at w word ≡ slice_index new word
+    durable_new word = elim (cases_lt word settled) as (λ _. durable_at w word ≡ slice_index new word) [
+      | inl below ↦ elim (contains_or_not v.pending word) as (λ _. durable_at w word ≡ slice_index new word) [
+        | inl waits ↦ takes.done.durable word waits ∙ seen word
+        | inr none ↦ takes.done.others word none ∙ draw_stays word below none
+      ]
+      | inr past ↦ get_or_past w.durable word 0 (let l = sound.lengths in let c = so_far.count in let a = ap (λ (xs : List ℕ). length xs) adds.volatile in omega arith)
+          ∙ sym (get_or_past new word 0 (omega arith))
+    ] where
+      draw_stays : (word : ℕ) → word < settled → (IsPending v word → ⊥) → durable_at (after_draw takes.number v) word ≡ slice_index new word
+      draw_stays word below none = elim (so_far.settling word below) as (λ _. durable_at (after_draw takes.number v) word ≡ slice_index new word) [
+        | inl is ↦ stays_new word (durable_at (after_draw takes.number v) word) (omega arith) below is ((draw_adds takes.number v).durable word)
+        | inr waits ↦ absurd (none waits)
+      ]
+
+  -- wherever that is so, each word is one of the two
+  pub stored_between : IsBetween old new v
+  stored_between = record { count = so_far.count; volatile = seen_between; durable = so_far.durable }
+
+-- a refused call draws one ticket at most
+pub refused_draws : (v w : View) (ticket : ℕ) → Refuses ticket v w → w.drawn ≤ v.drawn + 1
+refused_draws v w ticket refuses = elim refuses as (λ _. w.drawn ≤ v.drawn + 1) [
+  | inl had ↦ let same = ap (λ (u : View). u.drawn) had.unchanged in omega arith
+  | inr stops ↦ let same = ap (λ (u : View). u.drawn) stops.done in omega arith
+]
+
+-- a call is refused after few tickets
+pub refused_cut : (old new : List ℕ) (settled done most : ℕ) (v u w : View) (ticket : ℕ) → IsStoredTo old new settled done u → Refuses ticket u w
+    → u.drawn + 1 ≤ v.drawn + most → IsCutOff old new most ticket v w
+refused_cut old new settled done most v u w ticket so_far refuses few = record {
+  stopped = refused_stopped (λ _. ⊤) ticket u w refuses;
+  between = adds_between old new settled done u so_far w (refused_adds (λ _. ⊤) ticket u w refuses);
+  drawn = let one = refused_draws u w ticket refuses in omega arith;
+}
+
+-- a store and a write-back draw one ticket each
+pub store_draws : (word value : ℕ) (v w : View) → Takes (IsStore word value) v w → w.drawn ≡ v.drawn + 1
+store_draws word value v w takes = takes.done.tickets.drawn
+
+pub write_back_draws : (line : ℕ) (v w : View) → Takes (IsWriteBack line) v w → w.drawn ≡ v.drawn + 1
+write_back_draws line v w takes = takes.done.tickets.drawn
+
+-- where a step behind another cuts off, so many tickets were drawn in all
+pub cut_later : (old new : List ℕ) (few most ticket : ℕ) (v u w : View) → IsCutOff old new few ticket u w → u.drawn + few ≤ v.drawn + most → IsCutOff old new most ticket v w
+cut_later old new few most ticket v u w cut less = record { stopped = cut.stopped; between = cut.between; drawn = let d = cut.drawn in omega arith }

@@ -1,0 +1,70 @@
+use Rattle.std.proofs.Common.{◌≡◌, ◌+◌, ◌-◌, ◌*◌, ◌≤◌, length, slice_index, subst, sym, ap, arith}
+use Rattle.std.proofs.lemmas.Result.{err_from_is_err_and}
+use Rattle.heap_recover.specs.InPlace.{differences, IsStoredTo}
+use Rattle.heap_recover.proofs.InPlaceLemmas.{line_written, line_same, write_back_draws, refused_cut, cut_later, differ_from}
+use Rattle.heap_recover.proofs.in_place.store_differences.Goals as goal
+use Rattle.heap_recover.proofs.in_place.store_differences.Goals.{then-branch+in_ok-write_back, else-branch}
+
+pub returns-in_err-store_line-clause-cut_off : goal.returns-in_err-store_line-clause-cut_off
+returns-in_err-store_line-clause-cut_off g c =
+    let view = g.M.LineMemory.view in
+    let old = slice_index c.args.old.now in
+    let new = slice_index c.args.new.now in
+    let drawn = c.loop-line.invariant.drawn in
+    let first = differ_from old new (8 * c.loop-line.line) (8 * c.loop-line.line + 8) (omega arith) in
+    let rest = differ_from old new (8 * c.loop-line.line + 8) (length c.args.old.now) (omega (arith, c.loop-line-test.true)) in
+    let cut = cut_later c.args.old.now c.args.new.now (1 + (differences old new (8 * c.loop-line.line + 8) - differences old new (8 * c.loop-line.line))) (1 + 2 * differences old new (length c.args.old.now))
+    c.in_err-store_line.field-0.0.step (view c.args.memory.now) (view c.loop-line.memory) (view c.store_line.new.memory) c.in_err-store_line.ensures.cut_off (omega arith) in
+    let p = err_from_is_err_and c.from_residual.result c.from_residual.ensures.1 in
+    rw (p.1, p.2) cut
+
+pub returns-in_err-write_back-clause-cut_off : goal.returns-in_err-write_back-clause-cut_off
+returns-in_err-write_back-clause-cut_off g c =
+    let view = g.M.LineMemory.view in
+    let old = slice_index c.args.old.now in
+    let new = slice_index c.args.new.now in
+    let before = c.loop-line.invariant.drawn in
+    let drawn = c.in_ok-store_line.ensures.drawn in
+    let some = c.in_ok-store_line.ensures.some.0 c.if-branch.true in
+    let rest = differ_from old new (8 * c.loop-line.line + 8) (length c.args.old.now) (omega (arith, c.loop-line-test.true)) in
+    let cut = refused_cut c.args.old.now c.args.new.now (8 * c.loop-line.line) (8 * c.loop-line.line + 8) (1 + 2 * differences old new (length c.args.old.now))
+    (view c.args.memory.now) (view c.store_line.new.memory) (view c.write_back.new.self) c.in_err-write_back.field-0.0.step c.in_ok-store_line.ensures.ok
+    c.in_err-write_back.ensures.stopped (omega arith) in
+    let p = err_from_is_err_and c.from_residual-in_err-write_back.result c.from_residual-in_err-write_back.ensures.1 in
+    rw (p.1, p.2) cut
+
+pub loop-line-preserved : goal.loop-line-preserved
+loop-line-preserved g c =
+    let view = g.M.LineMemory.view in
+    let old = slice_index c.args.old.now in
+    let new = slice_index c.args.new.now in
+    let before = c.loop-line.invariant.drawn in
+    let below = c.loop-line-test.true in
+    let drawn = c.in_ok-store_line.ensures.drawn in
+    let next : 8 * c.loop-line.line + 8 ≡ 8 * (c.loop-line.line + 1) = omega arith in
+    let same = ap (differences old new) next in
+    elim c.if-branch.branch [
+      | then-branch+in_ok-write_back w ↦
+          let some = c.in_ok-store_line.ensures.some.0 w.if-branch.true in
+          let draws = write_back_draws c.loop-line.line (view c.store_line.new.memory) (view w.write_back.new.self) w.in_ok-write_back.ensures.ok in
+          let written = line_written c.args.old.now c.args.new.now (8 * c.loop-line.line) (8 * c.loop-line.line + 8) (view c.store_line.new.memory) c.in_ok-store_line.ensures.ok
+          (view w.write_back.new.self) c.loop-line.line (omega arith) (omega arith) (omega arith) w.in_ok-write_back.ensures.ok in
+          let few : (view w.write_back.new.self).drawn ≤ (view c.args.memory.now).drawn + 2 * differences old new (8 * (c.loop-line.line + 1)) = omega arith in
+          record {
+            high = omega arith;
+            stored = subst (λ m. IsStoredTo c.args.old.now c.args.new.now (8 * (c.loop-line.line + 1)) (8 * (c.loop-line.line + 1)) (view m)) (sym w.memory-is)
+                (subst (λ n. IsStoredTo c.args.old.now c.args.new.now n n (view w.write_back.new.self)) next written);
+            drawn = subst (λ m. (view m).drawn ≤ (view c.args.memory.now).drawn + 2 * differences old new (8 * (c.loop-line.line + 1))) (sym w.memory-is) few;
+          }
+      | else-branch w ↦
+          let kept = line_same c.args.old.now c.args.new.now (8 * c.loop-line.line) (8 * c.loop-line.line + 8) (view c.store_line.new.memory) c.in_ok-store_line.ensures.ok
+          (λ differ. absurd (let some = c.in_ok-store_line.ensures.some.1 differ in let none = w.if-branch.false in absurd (cc))) in
+          let first = differ_from old new (8 * c.loop-line.line) (8 * c.loop-line.line + 8) (omega arith) in
+          let few : (view c.store_line.new.memory).drawn ≤ (view c.args.memory.now).drawn + 2 * differences old new (8 * (c.loop-line.line + 1)) = omega arith in
+          record {
+            high = omega arith;
+            stored = subst (λ m. IsStoredTo c.args.old.now c.args.new.now (8 * (c.loop-line.line + 1)) (8 * (c.loop-line.line + 1)) (view m)) (sym w.memory-is)
+                (subst (λ n. IsStoredTo c.args.old.now c.args.new.now n n (view c.store_line.new.memory)) next kept);
+            drawn = subst (λ m. (view m).drawn ≤ (view c.args.memory.now).drawn + 2 * differences old new (8 * (c.loop-line.line + 1))) (sym w.memory-is) few;
+          }
+    ]

@@ -1,0 +1,11 @@
+use Rattle.std.specs.Prelude.{◌+◌, ◌*◌, ◌/◌, ◌≤◌, length, slice_index}
+use Rattle.heap_recover.specs.InPlace.{differences, IsStoredTo}
+use Rattle.heap_recover.proofs.in_place.store_differences.Given as goal
+
+abbrev pub invariant-loop-line : goal.invariant-loop-line
+invariant-loop-line g l = record {
+  high : l.line ≤ length l.old / 8;
+  stored : IsStoredTo l.old l.new (8 * l.line) (8 * l.line) (g.M.LineMemory.view l.memory);
+  drawn : (g.M.LineMemory.view l.memory).drawn ≤ (g.M.LineMemory.view l.initial.memory).drawn
+      + 2 * differences (slice_index l.old) (slice_index l.new) (8 * l.line);
+}

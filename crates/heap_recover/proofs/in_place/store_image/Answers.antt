@@ -1,0 +1,26 @@
+use Rattle.std.proofs.Common.{length, refl}
+use Rattle.std.proofs.lemmas.Result.{on_ok_weaker, IfErr-weaker}
+use Rattle.std.specs.Prelude.{⊤}
+use Rattle.line_memory.specs.declared.memory.Stopped.{Stopped}
+use Rattle.line_memory.specs.Crash.{AddsNothing}
+use Rattle.line_memory.specs.Steps.{Refuses}
+use Rattle.line_memory.proofs.CallerLemmas.{at_both, fence_adds, refused_adds}
+use Rattle.heap_recover.proofs.InPlaceLemmas.{adds_between, fence_stores}
+use Rattle.heap_recover.proofs.in_place.store_image.Goals as goal
+
+pub returns-clause-ok : goal.returns-clause-ok
+returns-clause-ok g c =
+    let view = g.M.LineMemory.view in
+    let u = view c.store_differences.new.memory in
+    let w = view c.fence.new.self in
+    on_ok_weaker c.fence.result (fence_stores c.args.old.now c.args.new.now (length c.args.old.now) (length c.args.old.now) u c.in_ok-store_differences.ensures.ok w
+    refl refl c.requires.lengths (g.met.M.LineMemory.sound c.fence.new.self)) c.fence.ensures.ok
+
+pub returns-clause-between : goal.returns-clause-between
+returns-clause-between g c =
+    let view = g.M.LineMemory.view in
+    let u = view c.store_differences.new.memory in
+    let w = view c.fence.new.self in
+    let adds : AddsNothing u w = at_both c.fence.result (AddsNothing u w) (on_ok_weaker c.fence.result (fence_adds (λ _. ⊤) u w) c.fence.ensures.ok)
+    (IfErr-weaker c.fence.result (λ (e : Stopped). Refuses e.step u w) (λ _. AddsNothing u w) (λ e refuses. refused_adds (λ _. ⊤) e.step u w refuses) c.fence.ensures.stopped) in
+    adds_between c.args.old.now c.args.new.now (length c.args.old.now) (length c.args.old.now) u c.in_ok-store_differences.ensures.ok w adds

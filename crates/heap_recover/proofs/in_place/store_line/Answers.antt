@@ -1,0 +1,64 @@
+use Rattle.std.proofs.Common.{◌≡◌, ◌+◌, ◌-◌, ◌*◌, slice_index, subst, sym, ap, ◌∙◌, arith}
+use Rattle.std.proofs.lemmas.Result.{err_from_is_err_and}
+use Rattle.heap_recover.specs.InPlace.{differences, IsStoredTo}
+use Rattle.heap_recover.proofs.InPlaceLemmas.{stored_same, stored_more, store_draws, refused_cut, differ_more, differ_same, differ_from}
+use Rattle.heap_recover.proofs.in_place.store_line.Goals as goal
+use Rattle.heap_recover.proofs.in_place.store_line.Goals.{then-old-word+in_ok-store, else-old-word}
+
+pub returns-in_err-store-clause-cut_off : goal.returns-in_err-store-clause-cut_off
+returns-in_err-store-clause-cut_off g c =
+    let view = g.M.LineMemory.view in
+    let i = c.loop-word.invariant in
+    let old = slice_index c.args.old.now in
+    let new = slice_index c.args.new.now in
+    let low = i.low in
+    let drawn = i.drawn in
+    let below = c.loop-word-test.true in
+    let other = c.if-old-word.true in
+    let more = differ_more old new c.loop-word.word other in
+    let first = differ_from old new (8 * c.args.line) c.loop-word.word low in
+    let rest = differ_from old new (c.loop-word.word + 1) (8 * c.args.line + 8) (omega arith) in
+    let cut = refused_cut c.args.old.now c.args.new.now (8 * c.args.line) c.loop-word.word (1 + (differences old new (8 * c.args.line + 8) - differences old new (8 * c.args.line)))
+    (view c.args.memory.now) (view c.loop-word.memory) (view c.store.new.self) c.in_err-store.field-0.0.step i.stored c.in_err-store.ensures.stopped (omega arith) in
+    let p = err_from_is_err_and c.from_residual.result c.from_residual.ensures.1 in
+    rw (p.1, p.2) cut
+
+pub loop-word-preserved : goal.loop-word-preserved
+loop-word-preserved g c =
+    let view = g.M.LineMemory.view in
+    let i = c.loop-word.invariant in
+    let old = slice_index c.args.old.now in
+    let new = slice_index c.args.new.now in
+    let low = i.low in
+    let high = i.high in
+    let drawn = i.drawn in
+    let below = c.loop-word-test.true in
+    elim c.if-old-word.branch [
+      | then-old-word+in_ok-store w ↦
+          let next = stored_more c.args.old.now c.args.new.now (8 * c.args.line) c.loop-word.word (view c.loop-word.memory) i.stored (view w.store.new.self)
+          low (omega arith) w.in_ok-store.ensures.ok in
+          let more = differ_more old new c.loop-word.word w.if-old-word.true in
+          let first = differ_from old new (8 * c.args.line) c.loop-word.word low in
+          let draws = store_draws c.loop-word.word (slice_index c.args.new.now c.loop-word.word) (view c.loop-word.memory) (view w.store.new.self) w.in_ok-store.ensures.ok in
+          let drawn_then : (view w.store.new.self).drawn + differences old new (8 * c.args.line)
+          ≡ (view c.args.memory.now).drawn + differences old new (c.loop-word.word + 1) = omega arith in
+          record {
+            low = omega arith;
+            high = omega arith;
+            stored = subst (λ m. IsStoredTo c.args.old.now c.args.new.now (8 * c.args.line) (c.loop-word.word + 1) (view m)) (sym w.memory-is) next;
+            tells = (λ _. omega arith, λ _. w.some-is);
+            drawn = ap (λ m. (view m).drawn + differences old new (8 * c.args.line)) w.memory-is ∙ drawn_then;
+          }
+      | else-old-word w ↦
+          let next = stored_same c.args.old.now c.args.new.now (8 * c.args.line) c.loop-word.word (view c.loop-word.memory) i.stored w.if-old-word.false in
+          let same = differ_same old new c.loop-word.word w.if-old-word.false in
+          let drawn_then : (view c.loop-word.memory).drawn + differences old new (8 * c.args.line)
+          ≡ (view c.args.memory.now).drawn + differences old new (c.loop-word.word + 1) = omega arith in
+          record {
+            low = omega arith;
+            high = omega arith;
+            stored = subst (λ m. IsStoredTo c.args.old.now c.args.new.now (8 * c.args.line) (c.loop-word.word + 1) (view m)) (sym w.memory-is) next;
+            tells = (λ is. let before = i.tells.0 (sym w.some-is ∙ is) in omega arith, λ differ. w.some-is ∙ i.tells.1 (omega arith));
+            drawn = ap (λ m. (view m).drawn + differences old new (8 * c.args.line)) w.memory-is ∙ drawn_then;
+          }
+    ]

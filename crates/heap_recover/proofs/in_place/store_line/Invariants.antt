@@ -1,0 +1,13 @@
+use Rattle.std.specs.Prelude.{◌≡◌, ◌↔◌, ◌+◌, ◌*◌, ◌≤◌, slice_index, IsTrue}
+use Rattle.heap_recover.specs.InPlace.{differences, IsStoredTo, Differ}
+use Rattle.heap_recover.proofs.in_place.store_line.Given as goal
+
+abbrev pub invariant-loop-word : goal.invariant-loop-word
+invariant-loop-word g l = record {
+  low : 8 * l.fn.line ≤ l.word;
+  high : l.word ≤ 8 * l.fn.line + 8;
+  stored : IsStoredTo l.old l.new (8 * l.fn.line) l.word (g.M.LineMemory.view l.memory);
+  tells : IsTrue l.some ↔ Differ l.old l.new (8 * l.fn.line) l.word;
+  drawn : (g.M.LineMemory.view l.memory).drawn + differences (slice_index l.old) (slice_index l.new) (8 * l.fn.line)
+      ≡ (g.M.LineMemory.view l.initial.memory).drawn + differences (slice_index l.old) (slice_index l.new) l.word;
+}

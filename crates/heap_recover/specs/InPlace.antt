@@ -1,0 +1,64 @@
+-- Recovery made in place, word by word: what it asks for, and what stands of the image wherever it ends.
+use Rattle.std.specs.Prelude.{◌≡◌, ◌↔◌, ◌⊎◌, ℕ, zero, suc, ◌+◌, ◌*◌, ◌<◌, ◌≤◌, cond, nat_eq, List, length, slice_index, Some}
+use Rattle.heap_model.specs.declared.block.Block.{Block}
+use Rattle.heap_model.specs.Geometry.{roots, root_word}
+use Rattle.heap_model.specs.Header.{IsWellFormed}
+use Rattle.heap_model.specs.Image.{Image}
+use Rattle.heap_model.specs.Blocks.{IsIn, layout_of}
+use Rattle.heap_model.specs.Reach.{Links, Reach, IsReached, IsOutside}
+use Rattle.heap_model.specs.Recovered.{IsFreeSuperblock, AreAscending}
+use Rattle.heap_model.specs.Recovery.{IsRecovered}
+use Rattle.line_memory.specs.View.{View, word_count, volatile_at, durable_at, IsPending}
+
+-- of the first words of two images, how many differ
+abbrev pub differences : Image → Image → ℕ → ℕ
+differences old new zero = 0
+differences old new (suc n) = differences old new n + cond (nat_eq (old n) (new n)) 0 1
+
+-- the heap of these words and held blocks is what recovery makes of the image
+pub record IsRecoveryOf (old : List ℕ) (kinds : ℕ → ℕ) (links : Links) (new : List ℕ) (held : List Block) : Type 0 where
+  pub formed : IsWellFormed (8 * length old) (slice_index old)
+  pub none_outside : (at : ℕ) → IsOutside (slice_index old) kinds links at → ⊥
+  pub held_are : AreAscending (λ (b : Block). b.first_word) (IsReached (slice_index old) kinds links) held
+  pub long : length new ≡ length old
+  pub words_are : IsRecovered (slice_index old) (slice_index new) (IsReached (slice_index old) kinds links)
+
+-- a memory that has the image, each word of it durable
+pub record Has (words : List ℕ) (v : View) : Type 0 where
+  pub volatile : v.volatile ≡ words
+  pub durable : v.durable ≡ words
+
+-- Recovery of the other image keeps the same as that of the one: its header is good, nothing in it is outside, the same blocks are
+-- reached as the same kinds, with the same words, from the same roots, and the same superblocks are free.
+pub record RecoversAlike (bytes : ℕ) (image other : Image) (kinds : ℕ → ℕ) (links : Links) : Type 0 where
+  pub formed : IsWellFormed bytes other
+  pub none_outside : (at : ℕ) → IsOutside other kinds links at → ⊥
+  pub reach : (b : Block) (kind : ℕ) → Reach image kinds links b kind ↔ Reach other kinds links b kind
+  pub words : (b : Block) (word : ℕ) → IsReached image kinds links b → IsIn b word → other word ≡ image word
+  pub roots_are : (root : ℕ) → root < roots → other (root_word root) ≡ image (root_word root)
+  pub free : (d : ℕ) → IsFreeSuperblock (layout_of image) (IsReached image kinds links) d
+      ↔ IsFreeSuperblock (layout_of other) (IsReached other kinds links) d
+
+-- each word that loads see, and each that is durable, is that of the one image or of the other
+pub record IsBetween (old new : List ℕ) (v : View) : Type 0 where
+  pub count : word_count v ≡ length old
+  pub volatile : (word : ℕ) → (volatile_at v word ≡ slice_index old word) ⊎ (volatile_at v word ≡ slice_index new word)
+  pub durable : (word : ℕ) → (durable_at v word ≡ slice_index old word) ⊎ (durable_at v word ≡ slice_index new word)
+
+-- as loads see them, the words below `done` are the new ones and the others the old ones; those below `settled` are durable so, or pending
+pub record IsStoredTo (old new : List ℕ) (settled done : ℕ) (v : View) : Type 0 where
+  pub count : word_count v ≡ length old
+  pub stored : (word : ℕ) → word < done → volatile_at v word ≡ slice_index new word
+  pub rest : (word : ℕ) → done ≤ word → volatile_at v word ≡ slice_index old word
+  pub durable : (word : ℕ) → (durable_at v word ≡ slice_index old word) ⊎ (durable_at v word ≡ slice_index new word)
+  pub settling : (word : ℕ) → word < settled → (durable_at v word ≡ slice_index new word) ⊎ IsPending v word
+
+-- it stopped at this ticket, and drew so many tickets at most
+pub record IsCutOff (old new : List ℕ) (most ticket : ℕ) (v w : View) : Type 0 where
+  pub stopped : w.stopped ≡ Some ticket
+  pub between : IsBetween old new w
+  pub drawn : w.drawn ≤ v.drawn + most
+
+-- the words of two images differ in the range
+abbrev pub Differ : List ℕ → List ℕ → ℕ → ℕ → Type 0
+Differ old new from to = differences (slice_index old) (slice_index new) from < differences (slice_index old) (slice_index new) to

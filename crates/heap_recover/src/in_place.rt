@@ -1,0 +1,123 @@
+//! Recovery made in place: the words that it changes are stored one after the other, so that it
+//! may itself be cut off anywhere and begun again.
+ghost use Rattle.std.specs.Prelude.{◌≡◌, ◌↔◌, ◌+◌, ◌-◌, ◌*◌, ◌/◌, ◌<◌, ◌≤◌, ℕ, All, length, slice_index, IsTrue, IfOk, OnOk, IfErr, Some};
+ghost use Rattle.heap_model.specs.Geometry.{roots};
+ghost use Rattle.heap_model.specs.Image.{Image};
+ghost use Rattle.heap_model.specs.Durability.{Mixes, IsCrashImage};
+ghost use Rattle.line_memory.specs.View.{View, word_count};
+ghost use Rattle.heap_recover.specs.InPlace.{differences, Has, IsRecoveryOf, RecoversAlike, IsBetween, IsStoredTo, IsCutOff, Differ};
+
+use filter_trace::Filter;
+use line_memory::{LineMemory, Stopped};
+use super_block::Ready;
+
+/// The words of a line.
+const LINE: usize = 8;
+
+/// Stores the words of the line in which the images differ, and tells whether there are some.
+fn store_line<M: LineMemory>(
+    memory: &mut M,
+    old: &[u64],
+    new: &[u64],
+    line: usize,
+) -> Result<bool, Stopped>
+    requires lengths { length new.now ≡ length old.now }
+    requires line { 8 * line + 8 ≤ length old.now }
+    requires before { IsStoredTo old.now new.now (8 * line) (8 * line) (M.view memory.old) }
+    ensures ok { OnOk result
+        (IsStoredTo old.now new.now (8 * line) (8 * line + 8) (M.view memory.new)) }
+    ensures some { IfOk result (λ some. IsTrue some
+        ↔ Differ old.now new.now (8 * line) (8 * line + 8)) }
+    ensures drawn { OnOk result ((M.view memory.new).drawn
+        + differences (slice_index old.now) (slice_index new.now) (8 * line)
+        ≡ (M.view memory.old).drawn
+        + differences (slice_index old.now) (slice_index new.now) (8 * line + 8)) }
+    ensures cut_off { IfErr result (λ e. IsCutOff old.now new.now
+        (1 + (differences (slice_index old.now) (slice_index new.now) (8 * line + 8)
+        - differences (slice_index old.now) (slice_index new.now) (8 * line))) e.step
+        (M.view memory.old) (M.view memory.new)) }
+{
+    let mut some = false;
+    for word in LINE * line..LINE * line + LINE {
+        if old[word] != new[word] {
+            memory.store(word as u64, new[word])?;
+            some = true;
+        }
+    }
+    Ok(some)
+}
+
+/// Stores each word in which the images differ, and asks for each line to be written back in which
+/// one was stored.
+fn store_differences<M: LineMemory>(memory: &mut M, old: &[u64], new: &[u64]) -> Result<(), Stopped>
+    requires lengths { length new.now ≡ length old.now }
+    requires whole { 8 * (length old.now / 8) ≡ length old.now }
+    requires before { IsStoredTo old.now new.now 0 0 (M.view memory.old) }
+    ensures ok { OnOk result
+        (IsStoredTo old.now new.now (length old.now) (length old.now) (M.view memory.new)) }
+    ensures drawn { OnOk result ((M.view memory.new).drawn ≤ (M.view memory.old).drawn
+        + 2 * differences (slice_index old.now) (slice_index new.now) (length old.now)) }
+    ensures cut_off { IfErr result (λ e. IsCutOff old.now new.now
+        (1 + 2 * differences (slice_index old.now) (slice_index new.now) (length old.now)) e.step
+        (M.view memory.old) (M.view memory.new)) }
+{
+    for line in 0..old.len() / LINE {
+        if store_line(memory, old, new, line)? {
+            memory.write_back(line as u64)?;
+        }
+    }
+    Ok(())
+}
+
+/// Makes the words of the old image those of the new one, all of them durable.
+fn store_image<M: LineMemory>(memory: &mut M, old: &[u64], new: &[u64]) -> Result<(), Stopped>
+    requires lengths { length new.now ≡ length old.now }
+    requires whole { 8 * (length old.now / 8) ≡ length old.now }
+    requires before { Has old.now (M.view memory.old) }
+    ensures ok { OnOk result (Has new.now (M.view memory.new)) }
+    ensures stopped { IfErr result (λ e. (M.view memory.new).stopped ≡ Some e.step) }
+    ensures between { IsBetween old.now new.now (M.view memory.new) }
+    ensures drawn { (M.view memory.new).drawn ≤ (M.view memory.old).drawn
+        + (1 + 2 * differences (slice_index old.now) (slice_index new.now) (length old.now)) }
+{
+    store_differences(memory, old, new)?;
+    memory.fence()
+}
+
+/// Makes the words of a memory those of a recovered heap: what recovery changes of the image is
+/// stored in the order of word index, each line is written back once, and at the end a fence makes
+/// all of it durable. Nothing is loaded.
+///
+/// The memory has the image `x`, of which recovery with these kinds and this filter makes the heap
+/// `to`. The answer is `Stopped` where the memory allows no further step; what is left then is
+/// recovered to the same heap.
+pub fn rebuild<M: LineMemory, F: Filter>(
+    memory: &mut M,
+    x: &[u64],
+    kinds: &[u32],
+    filter: &F,
+    to: &Ready,
+) -> Result<(), Stopped>
+    requires memory { Has x.now (M.view memory.old) }
+    requires recovered { IsRecoveryOf x.now (slice_index kinds.now) (F.links_of filter.now)
+        to.now.words to.now.held }
+    ensures ok { OnOk result (Has to.now.words (M.view memory.new)) }
+    ensures stopped { IfErr result (λ e. (M.view memory.new).stopped ≡ Some e.step) }
+    ensures cause { IfErr result (λ e. (M.view memory.new).budget ≤ e.step) }
+    ensures drawn { (M.view memory.new).drawn ≤ (M.view memory.old).drawn
+        + (1 + 2 * differences (slice_index x.now) (slice_index to.now.words) (length x.now)) }
+
+    // At every exit each word is that of the image or of the heap, and recovery begun again keeps
+    // the same, whatever a crash leaves.
+    ensures between { IsBetween x.now to.now.words (M.view memory.new) }
+    ensures crash { (image : Image)
+        → IsCrashImage (slice_index (M.view memory.new).durable) image
+        → RecoversAlike (8 * length x.now) (slice_index x.now) image (slice_index kinds.now)
+        (F.links_of filter.now) }
+    ensures mixed { (image : Image) → Mixes (slice_index (M.view memory.new).volatile)
+        (slice_index (M.view memory.new).durable) image
+        → RecoversAlike (8 * length x.now) (slice_index x.now) image (slice_index kinds.now)
+        (F.links_of filter.now) }
+{
+    store_image(memory, x, to.words())
+}
