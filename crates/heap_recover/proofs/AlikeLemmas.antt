@@ -18,12 +18,7 @@ use Rattle.heap_model.proofs.PlaceLemmas.{same_there}
 use Rattle.heap_model.proofs.RecoveredLemmas.{info_left}
 use Rattle.heap_recover.proofs.UnchangedLemmas.{words_unchanged, roots_unchanged}
 use Rattle.line_memory.specs.View.{View}
-use Rattle.heap_recover.specs.InPlace.{IsRecoveryOf, RecoversAlike, IsBetween}
-
--- each word is that of the one image or of the other, but the state and the words that a crash leaves with any value
-pub record IsPartlyRecovered (old new image : Image) : Type 0 where
-  pub state : (image state_word ≡ clean) ⊎ (image state_word ≡ dirty)
-  pub others : (word : ℕ) → word ≢ state_word → (IsTransient (capacity_of old) word → ⊥) → (image word ≡ old word) ⊎ (image word ≡ new word)
+use Rattle.heap_recover.specs.InPlace.{IsRecoveryOf, RecoversAlike, IsBetween, IsPartlyRecovered}
 
 -- no word of the header, no root, no info and no word of a superblock is transient
 stays : (capacity word : ℕ) → (word < 16) ⊎ (((root_word 0 ≤ word) × (word < info_word 0)) ⊎ (((d : ℕ) × (word ≡ info_word d)) ⊎ (start_word capacity 0 ≤ word)))

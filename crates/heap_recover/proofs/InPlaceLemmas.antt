@@ -1,5 +1,5 @@
 -- Words stored one after the other over an image: how far they have come, and what stands where a call is refused.
-use Rattle.std.proofs.Common.{◌≡◌, ◌≢◌, ℕ, zero, suc, ◌+◌, ◌-◌, ◌*◌, ◌<◌, ◌≤◌, ◌⊎◌, inl, inr, List, [], ◌∷◌, length, slice_index, refl, sym, ap, subst, ◌∙◌, arith, cond, nat_eq, get_or-set_same, get_or-set_other, length-set, eq-eqb, ne_eqb}
+use Rattle.std.proofs.Common.{◌≡◌, ◌≢◌, ℕ, zero, suc, ◌+◌, ◌-◌, ◌*◌, ◌<◌, ◌≤◌, ◌⊎◌, inl, inr, List, [], ◌∷◌, length, slice_index, refl, sym, ap, subst, ◌∙◌, arith, cond, nat_eq, Some, get_or-set_same, get_or-set_other, length-set, eq-eqb, ne_eqb}
 use Rattle.std.proofs.lemmas.Bool.{cases_eq, cases_lt}
 use Rattle.std.proofs.lemmas.List.{get_or_past}
 use Rattle.std.specs.Prelude.{⊤}
@@ -8,7 +8,7 @@ use Rattle.line_memory.specs.View.{View, volatile_at, durable_at, IsPending, IsS
 use Rattle.line_memory.specs.Crash.{AddsNothing}
 use Rattle.line_memory.specs.Steps.{Takes, Refuses, after_draw, IsStore, IsWriteBack, IsFence}
 use Rattle.line_memory.proofs.CallerLemmas.{store_leaves, write_back_adds, fence_adds, refused_adds, refused_stopped, contains_or_not, draw_adds}
-use Rattle.heap_recover.specs.InPlace.{differences, Has, IsBetween, IsStoredTo, IsCutOff, Differ}
+use Rattle.heap_recover.specs.InPlace.{differences, Has, IsBetween, IsStoredTo, IsCutOff, IsStoppedAt, Differ}
 
 plus_none : (n : ℕ) → n + 0 ≡ n
 plus_none n = omega arith
@@ -222,12 +222,27 @@ refused_draws v w ticket refuses = elim refuses as (λ _. w.drawn ≤ v.drawn + 
   | inr stops ↦ let same = ap (λ (u : View). u.drawn) stops.done in omega arith
 ]
 
+pub refused_budget : (v w : View) (ticket : ℕ) → Refuses ticket v w → w.budget ≡ v.budget
+refused_budget v w ticket refuses = elim refuses as (λ _. w.budget ≡ v.budget) [
+  | inl had ↦ ap (λ (u : View). u.budget) had.unchanged
+  | inr stops ↦ ap (λ (u : View). u.budget) stops.done
+]
+
+-- where it stopped is told by what it drew
+pub stopped_at : (most ticket : ℕ) (v w : View) → IsSound w → w.stopped ≡ Some ticket → w.budget ≡ v.budget → w.drawn ≤ v.drawn + most → IsStoppedAt most ticket v w
+stopped_at most ticket v w sound stopped same few = record {
+  stopped = stopped;
+  above = let above = sound.stopping ticket stopped in omega arith;
+  few = let last = sound.last_ticket ticket stopped in omega arith;
+}
+
 -- a call is refused after few tickets
 pub refused_cut : (old new : List ℕ) (settled done most : ℕ) (v u w : View) (ticket : ℕ) → IsStoredTo old new settled done u → Refuses ticket u w
-    → u.drawn + 1 ≤ v.drawn + most → IsCutOff old new most ticket v w
-refused_cut old new settled done most v u w ticket so_far refuses few = record {
+    → u.budget ≡ v.budget → u.drawn + 1 ≤ v.drawn + most → IsCutOff old new most ticket v w
+refused_cut old new settled done most v u w ticket so_far refuses same few = record {
   stopped = refused_stopped (λ _. ⊤) ticket u w refuses;
   between = adds_between old new settled done u so_far w (refused_adds (λ _. ⊤) ticket u w refuses);
+  budget = refused_budget u w ticket refuses ∙ same;
   drawn = let one = refused_draws u w ticket refuses in omega arith;
 }
 
@@ -235,9 +250,15 @@ refused_cut old new settled done most v u w ticket so_far refuses few = record {
 pub store_draws : (word value : ℕ) (v w : View) → Takes (IsStore word value) v w → w.drawn ≡ v.drawn + 1
 store_draws word value v w takes = takes.done.tickets.drawn
 
+pub store_budget : (word value : ℕ) (v w : View) → Takes (IsStore word value) v w → w.budget ≡ v.budget
+store_budget word value v w takes = takes.done.tickets.budget
+
+pub write_back_budget : (line : ℕ) (v w : View) → Takes (IsWriteBack line) v w → w.budget ≡ v.budget
+write_back_budget line v w takes = takes.done.tickets.budget
+
 pub write_back_draws : (line : ℕ) (v w : View) → Takes (IsWriteBack line) v w → w.drawn ≡ v.drawn + 1
 write_back_draws line v w takes = takes.done.tickets.drawn
 
 -- where a step behind another cuts off, so many tickets were drawn in all
-pub cut_later : (old new : List ℕ) (few most ticket : ℕ) (v u w : View) → IsCutOff old new few ticket u w → u.drawn + few ≤ v.drawn + most → IsCutOff old new most ticket v w
-cut_later old new few most ticket v u w cut less = record { stopped = cut.stopped; between = cut.between; drawn = let d = cut.drawn in omega arith }
+pub cut_later : (old new : List ℕ) (few most ticket : ℕ) (v u w : View) → IsCutOff old new few ticket u w → u.budget ≡ v.budget → u.drawn + few ≤ v.drawn + most → IsCutOff old new most ticket v w
+cut_later old new few most ticket v u w cut same less = record { stopped = cut.stopped; between = cut.between; budget = cut.budget ∙ same; drawn = let d = cut.drawn in omega arith }

@@ -1,8 +1,9 @@
 -- Recovery made in place, word by word: what it asks for, and what stands of the image wherever it ends.
-use Rattle.std.specs.Prelude.{◌≡◌, ◌↔◌, ◌⊎◌, ℕ, zero, suc, ◌+◌, ◌*◌, ◌<◌, ◌≤◌, cond, nat_eq, List, length, slice_index, Some}
+use Rattle.std.specs.Prelude.{◌≡◌, ◌≢◌, ◌↔◌, ◌⊎◌, ℕ, zero, suc, ◌+◌, ◌*◌, ◌<◌, ◌≤◌, cond, nat_eq, List, length, slice_index, Some}
 use Rattle.heap_model.specs.declared.block.Block.{Block}
-use Rattle.heap_model.specs.Geometry.{roots, root_word}
-use Rattle.heap_model.specs.Header.{IsWellFormed}
+use Rattle.heap_model.specs.Geometry.{roots, root_word, state_word, clean, dirty}
+use Rattle.heap_model.specs.Header.{IsWellFormed, capacity_of}
+use Rattle.heap_model.specs.Durability.{IsTransient}
 use Rattle.heap_model.specs.Image.{Image}
 use Rattle.heap_model.specs.Blocks.{IsIn, layout_of}
 use Rattle.heap_model.specs.Reach.{Links, Reach, IsReached, IsOutside}
@@ -57,7 +58,19 @@ pub record IsStoredTo (old new : List ℕ) (settled done : ℕ) (v : View) : Typ
 pub record IsCutOff (old new : List ℕ) (most ticket : ℕ) (v w : View) : Type 0 where
   pub stopped : w.stopped ≡ Some ticket
   pub between : IsBetween old new w
+  pub budget : w.budget ≡ v.budget
   pub drawn : w.drawn ≤ v.drawn + most
+
+-- it stopped at this ticket, which is at or above the budget and one of the next `most` tickets or an earlier one
+pub record IsStoppedAt (most ticket : ℕ) (v w : View) : Type 0 where
+  pub stopped : w.stopped ≡ Some ticket
+  pub above : v.budget ≤ ticket
+  pub few : ticket < v.drawn + most
+
+-- each word is that of the one image or of the other, but the state and those that a crash leaves with any value
+pub record IsPartlyRecovered (old new image : Image) : Type 0 where
+  pub state : (image state_word ≡ clean) ⊎ (image state_word ≡ dirty)
+  pub others : (word : ℕ) → word ≢ state_word → (IsTransient (capacity_of old) word → ⊥) → (image word ≡ old word) ⊎ (image word ≡ new word)
 
 -- the words of two images differ in the range
 abbrev pub Differ : List ℕ → List ℕ → ℕ → ℕ → Type 0

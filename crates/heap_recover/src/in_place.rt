@@ -5,7 +5,7 @@ ghost use Rattle.heap_model.specs.Geometry.{roots};
 ghost use Rattle.heap_model.specs.Image.{Image};
 ghost use Rattle.heap_model.specs.Durability.{Mixes, IsCrashImage};
 ghost use Rattle.line_memory.specs.View.{View, word_count};
-ghost use Rattle.heap_recover.specs.InPlace.{differences, Has, IsRecoveryOf, RecoversAlike, IsBetween, IsStoredTo, IsCutOff, Differ};
+ghost use Rattle.heap_recover.specs.InPlace.{differences, Has, IsRecoveryOf, RecoversAlike, IsBetween, IsStoredTo, IsCutOff, IsStoppedAt, Differ};
 
 use filter_trace::Filter;
 use line_memory::{LineMemory, Stopped};
@@ -28,6 +28,7 @@ fn store_line<M: LineMemory>(
         (IsStoredTo old.now new.now (8 * line) (8 * line + 8) (M.view memory.new)) }
     ensures some { IfOk result (λ some. IsTrue some
         ↔ Differ old.now new.now (8 * line) (8 * line + 8)) }
+    ensures budget { (M.view memory.new).budget ≡ (M.view memory.old).budget }
     ensures drawn { OnOk result ((M.view memory.new).drawn
         + differences (slice_index old.now) (slice_index new.now) (8 * line)
         ≡ (M.view memory.old).drawn
@@ -55,6 +56,7 @@ fn store_differences<M: LineMemory>(memory: &mut M, old: &[u64], new: &[u64]) ->
     requires before { IsStoredTo old.now new.now 0 0 (M.view memory.old) }
     ensures ok { OnOk result
         (IsStoredTo old.now new.now (length old.now) (length old.now) (M.view memory.new)) }
+    ensures budget { (M.view memory.new).budget ≡ (M.view memory.old).budget }
     ensures drawn { OnOk result ((M.view memory.new).drawn ≤ (M.view memory.old).drawn
         + 2 * differences (slice_index old.now) (slice_index new.now) (length old.now)) }
     ensures cut_off { IfErr result (λ e. IsCutOff old.now new.now
@@ -75,7 +77,8 @@ fn store_image<M: LineMemory>(memory: &mut M, old: &[u64], new: &[u64]) -> Resul
     requires whole { 8 * (length old.now / 8) ≡ length old.now }
     requires before { Has old.now (M.view memory.old) }
     ensures ok { OnOk result (Has new.now (M.view memory.new)) }
-    ensures stopped { IfErr result (λ e. (M.view memory.new).stopped ≡ Some e.step) }
+    ensures stopped { IfErr result (λ e. IsStoppedAt (1 + 2 * differences (slice_index old.now)
+        (slice_index new.now) (length old.now)) e.step (M.view memory.old) (M.view memory.new)) }
     ensures between { IsBetween old.now new.now (M.view memory.new) }
     ensures drawn { (M.view memory.new).drawn ≤ (M.view memory.old).drawn
         + (1 + 2 * differences (slice_index old.now) (slice_index new.now) (length old.now)) }
@@ -102,8 +105,8 @@ pub fn rebuild<M: LineMemory, F: Filter>(
     requires recovered { IsRecoveryOf x.now (slice_index kinds.now) (F.links_of filter.now)
         to.now.words to.now.held }
     ensures ok { OnOk result (Has to.now.words (M.view memory.new)) }
-    ensures stopped { IfErr result (λ e. (M.view memory.new).stopped ≡ Some e.step) }
-    ensures cause { IfErr result (λ e. (M.view memory.new).budget ≤ e.step) }
+    ensures stopped { IfErr result (λ e. IsStoppedAt (1 + 2 * differences (slice_index x.now)
+        (slice_index to.now.words) (length x.now)) e.step (M.view memory.old) (M.view memory.new)) }
     ensures drawn { (M.view memory.new).drawn ≤ (M.view memory.old).drawn
         + (1 + 2 * differences (slice_index x.now) (slice_index to.now.words) (length x.now)) }
 

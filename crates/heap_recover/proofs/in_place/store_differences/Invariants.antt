@@ -1,4 +1,4 @@
-use Rattle.std.specs.Prelude.{◌+◌, ◌*◌, ◌/◌, ◌≤◌, length, slice_index}
+use Rattle.std.specs.Prelude.{◌≡◌, ◌+◌, ◌*◌, ◌/◌, ◌≤◌, length, slice_index}
 use Rattle.heap_recover.specs.InPlace.{differences, IsStoredTo}
 use Rattle.heap_recover.proofs.in_place.store_differences.Given as goal
 
@@ -6,6 +6,7 @@ abbrev pub invariant-loop-line : goal.invariant-loop-line
 invariant-loop-line g l = record {
   high : l.line ≤ length l.old / 8;
   stored : IsStoredTo l.old l.new (8 * l.line) (8 * l.line) (g.M.LineMemory.view l.memory);
+  budget : (g.M.LineMemory.view l.memory).budget ≡ (g.M.LineMemory.view l.initial.memory).budget;
   drawn : (g.M.LineMemory.view l.memory).drawn ≤ (g.M.LineMemory.view l.initial.memory).drawn
       + 2 * differences (slice_index l.old) (slice_index l.new) (8 * l.line);
 }

@@ -8,6 +8,7 @@ invariant-loop-word g l = record {
   high : l.word ≤ 8 * l.fn.line + 8;
   stored : IsStoredTo l.old l.new (8 * l.fn.line) l.word (g.M.LineMemory.view l.memory);
   tells : IsTrue l.some ↔ Differ l.old l.new (8 * l.fn.line) l.word;
+  budget : (g.M.LineMemory.view l.memory).budget ≡ (g.M.LineMemory.view l.initial.memory).budget;
   drawn : (g.M.LineMemory.view l.memory).drawn + differences (slice_index l.old) (slice_index l.new) (8 * l.fn.line)
       ≡ (g.M.LineMemory.view l.initial.memory).drawn + differences (slice_index l.old) (slice_index l.new) l.word;
 }
