@@ -21,7 +21,7 @@ use Rattle.image_run.specs.Reporting.{IsRecoveryOf, IsTextOf, Reports, text_of, 
 use Rattle.image_run.proofs.EntryLemmas.{entries_ascend}
 
 -- a test that holds exactly where two numbers are equal
-same_test : (was : Was) (m n : ℕ) → (was ≡ Clean) ↔ (m ≡ n) → is_clean was ≡ nat_eq m n
+pub same_test : (was : Was) (m n : ℕ) → (was ≡ Clean) ↔ (m ≡ n) → is_clean was ≡ nat_eq m n
 same_test Clean m n is = sym (eq-eqb m n (is.0 refl))
 same_test Dirty m n is = sym (ne_eqb m n (λ e. let yes : Dirty ≡ Clean = is.1 e in absurd (cc)))
 

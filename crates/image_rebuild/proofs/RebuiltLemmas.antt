@@ -1,0 +1,116 @@
+-- What recovery made in place leaves, done or stopped, and the report on it.
+use Rattle.std.proofs.Common.{◌≡◌, ◌⊎◌, ℕ, ◌+◌, ◌*◌, inl, inr, Bool, true, false, List, [], length, slice_index, None, refl, sym, ap, subst, ◌∙◌, arith}
+use Rattle.heap_model.specs.declared.block.Block.{Block}
+use Rattle.heap_model.specs.Geometry.{state_word, capacity_word, clean}
+use Rattle.heap_model.specs.Header.{capacity_of, state_of, header_fault}
+use Rattle.heap_model.specs.Image.{Image}
+use Rattle.heap_model.specs.Durability.{Mixes, IsCrashImage, IsTransient}
+use Rattle.heap_model.specs.Recovery.{in_header}
+use Rattle.heap_model.proofs.HeaderLemmas.{no_fault}
+use Rattle.heap_recover.specs.declared.answer.Recovered.{Recovered}
+use Rattle.heap_recover.specs.InPlace.{differences, IsRecoveryOf, RecoversAlike, IsBetween, Has, IsStoppedAt}
+use Rattle.line_memory.specs.View.{View}
+use Rattle.dict_model.specs.Links.{dict_links, root_kind}
+use Rattle.trace_run.specs.Left.{IsWhole}
+use Rattle.trace_text.specs.Recovered.{is_clean}
+use Rattle.trace_text.specs.Report.{report_of}
+use Rattle.trace_text.specs.Keys.{IsReport}
+use Rattle.image_run.specs.Reporting.{IsRecoveryOf as RecoversTo}
+use Rattle.image_run.proofs.TextLemmas.{same_test}
+use Rattle.image_rebuild.specs.Rebuilding.{IsRebuilt, TellsHeap}
+
+-- a list of the roots' kinds reads as their kinds
+pub kinds_same : (kinds : List ℕ) → ((i : ℕ) → slice_index kinds i ≡ root_kind i) → slice_index kinds ≡ root_kind
+kinds_same kinds are = λ at i. are i at
+
+-- so a recovery by them is one by the list
+pub by_list : (kinds old new : List ℕ) (held : List Block) → ((i : ℕ) → slice_index kinds i ≡ root_kind i) → IsRecoveryOf old root_kind dict_links new held
+    → IsRecoveryOf old (slice_index kinds) dict_links new held
+by_list kinds old new held are is = subst (λ (ks : ℕ → ℕ). IsRecoveryOf old ks dict_links new held) (sym (kinds_same kinds are)) is
+
+module _ (old new : List ℕ) (held : List Block) (is : IsRecoveryOf old root_kind dict_links new held) where
+  capacity_new : capacity_of (slice_index new) ≡ capacity_of (slice_index old)
+  capacity_new = is.words_are.same capacity_word (in_header capacity_word (inr (inr (inl refl))))
+
+  -- what is durable of such words is a whole image
+  pub durable_capacity : (v : View) → IsBetween old new v → capacity_of (slice_index v.durable) ≡ capacity_of (slice_index old)
+  durable_capacity v between = elim (between.durable capacity_word) as (λ _. capacity_of (slice_index v.durable) ≡ capacity_of (slice_index old)) [
+    | inl e ↦ e
+    | inr e ↦ e ∙ capacity_new
+  ]
+
+  pub durable_whole : (v : View) → length v.durable ≡ length v.volatile → IsBetween old new v → IsWhole v.durable
+  durable_whole v lengths between =
+      let same = durable_capacity v between in
+      let count = between.count in
+      record {
+        some = let some = is.formed.some in omega arith;
+        small = let small = is.formed.small in omega arith;
+        long = let long = is.formed.length_is in omega arith;
+      }
+
+  pub new_capacity : capacity_of (slice_index new) ≡ capacity_of (slice_index old)
+  new_capacity = capacity_new
+
+  -- it was done
+  pub rebuilt_done : (budget : ℕ) (now : List ℕ) (v : View) → v.volatile ≡ now → Has new v
+      → ((image : Image) → Mixes (slice_index v.volatile) (slice_index v.durable) image → RecoversAlike (8 * length old) (slice_index old) image root_kind dict_links)
+      → IsRebuilt (slice_index old) (length old) budget false now
+  rebuilt_done budget now v now_is has mixed =
+      let same : now ≡ new = sym now_is ∙ has.volatile in
+      record {
+        new = new;
+        recovered = is.words_are;
+        long = ap (λ (ws : List ℕ). length ws) same ∙ is.long;
+        alike = mixed (slice_index now) (record { each = λ word. inl (ap (λ (ws : List ℕ). slice_index ws word) (sym now_is)) });
+        state = ap (λ (ws : List ℕ). slice_index ws state_word) same ∙ is.words_are.state;
+        done = λ _. same;
+        cause = λ e. absurd (cc);
+        others = λ word _ _. inr (ap (λ (ws : List ℕ). slice_index ws word) same);
+      }
+
+  -- it was stopped, and the image is one that a crash leaves
+  pub rebuilt_cut : (budget ticket : ℕ) (kept left : List ℕ) (v w : View) → w.durable ≡ kept → IsBetween old new w → v.budget ≡ budget → v.drawn ≡ 0
+      → IsStoppedAt (1 + 2 * differences (slice_index old) (slice_index new) (length old)) ticket v w
+      → ((image : Image) → IsCrashImage (slice_index w.durable) image → RecoversAlike (8 * length old) (slice_index old) image root_kind dict_links)
+      → IsCrashImage (slice_index kept) (slice_index left) → length left ≡ length kept → length w.durable ≡ length w.volatile
+      → IsRebuilt (slice_index old) (length old) budget true left
+  rebuilt_cut budget ticket kept left v w kept_is between limit none stopped crash is_crash long lengths =
+      let crashed : IsCrashImage (slice_index w.durable) (slice_index left) = subst (λ (ws : List ℕ). IsCrashImage (slice_index ws) (slice_index left)) (sym kept_is) is_crash in
+      record {
+        new = new;
+        recovered = is.words_are;
+        long = let same = ap (λ (ws : List ℕ). length ws) kept_is in let count = between.count in omega arith;
+        alike = crash (slice_index left) crashed;
+        state = is_crash.state;
+        done = λ e. absurd (cc);
+        cause = λ _. let above = stopped.above in let few = stopped.few in omega arith;
+        others = λ word other lasts.
+            let same = crashed.others word other (λ lost. lasts (subst (λ c. IsTransient c word) (durable_capacity w between) lost)) in
+            elim (between.durable word) as (λ _. (slice_index left word ≡ slice_index old word) ⊎ (slice_index left word ≡ slice_index new word)) [
+              | inl e ↦ inl (same ∙ e)
+              | inr e ↦ inr (same ∙ e)
+            ];
+      }
+
+-- an image with a good header has no fault
+pub good_header : (image : Image) (count budget : ℕ) (stopped : Bool) (left : List ℕ) → IsRebuilt image count budget stopped left
+    → header_fault (8 * length left) (slice_index left) ≡ None
+good_header image count budget stopped left is =
+    subst (λ n. header_fault (8 * n) (slice_index left) ≡ None) (sym is.long) (no_fault (8 * count) (slice_index left) is.alike.formed)
+
+-- the report on a recovered heap without keys is that on the image
+pub tells_heap : (image : Image) (recovered : Recovered) (text : List ℕ) → RecoversTo image recovered
+    → IsReport (capacity_of (slice_index recovered.heap.words)) (is_clean recovered.was) None false recovered.heap.held text → TellsHeap image text
+tells_heap image recovered text is report = record {
+  held = recovered.heap.held;
+  free = recovered.free.items;
+  words = slice_index recovered.heap.words;
+  recovered = is.recovers;
+  text_is = report.is
+      ∙ ap (λ (keys : List ℕ). report_of (capacity_of (slice_index recovered.heap.words)) (is_clean recovered.was) keys recovered.heap.held) report.tells
+      ∙ ap (λ n. report_of n (is_clean recovered.was) [] recovered.heap.held) capacity
+      ∙ ap (λ b. report_of (capacity_of image) b [] recovered.heap.held) (same_test recovered.was (state_of image) clean is.was);
+} where
+  capacity : capacity_of (slice_index recovered.heap.words) ≡ capacity_of image
+  capacity = is.recovers.words_are.same capacity_word (in_header capacity_word (inr (inr (inl refl))))

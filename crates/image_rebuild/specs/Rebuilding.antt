@@ -1,0 +1,48 @@
+-- What recovery of an image made in place puts and prints.
+use Rattle.std.specs.Prelude.{◌≡◌, ◌≢◌, ◌⊎◌, ℕ, ◌*◌, ◌≤◌, Bool, true, false, List, [], ◌++◌, length, nat_eq, codes, slice_index}
+use Rattle.heap_model.specs.declared.block.Block.{Block}
+use Rattle.heap_model.specs.Geometry.{state_word, clean, dirty}
+use Rattle.heap_model.specs.Header.{capacity_of, state_of}
+use Rattle.heap_model.specs.Image.{Image, bytes_of_words}
+use Rattle.heap_model.specs.Durability.{IsTransient}
+use Rattle.heap_model.specs.Recovery.{IsRecovered}
+use Rattle.heap_recover.specs.InPlace.{differences, RecoversAlike}
+use Rattle.dict_model.specs.Links.{dict_links, root_kind}
+use Rattle.trace_text.specs.Report.{line_feed, report_of}
+use Rattle.image_run.specs.Reporting.{IsKept, Recovers}
+
+-- The words that are left of an image of so many words, made the words of its recovery within a budget: all of them where that was
+-- not stopped, and else each the old or the new one, but those that a crash leaves with any value. Recovery of them keeps the same.
+pub record IsRebuilt (image : Image) (count budget : ℕ) (stopped : Bool) (left : List ℕ) : Type 0 where
+  pub new : List ℕ
+  pub recovered : IsRecovered image (slice_index new) (IsKept image)
+  pub long : length left ≡ count
+  pub alike : RecoversAlike (8 * count) image (slice_index left) root_kind dict_links
+  pub state : slice_index left state_word ≡ dirty
+  pub done : stopped ≡ false → left ≡ new
+  pub cause : stopped ≡ true → budget ≤ 2 * differences image (slice_index new) count
+  pub others : (word : ℕ) → word ≢ state_word → (IsTransient (capacity_of image) word → ⊥)
+      → (slice_index left word ≡ image word) ⊎ (slice_index left word ≡ slice_index new word)
+
+-- the line that tells whether it was stopped
+abbrev pub rebuilt_line : Bool → List ℕ
+rebuilt_line true = codes "rebuild stopped" ++ line_feed
+rebuilt_line false = codes "rebuild done" ++ line_feed
+
+-- the report on an image once it is recovered, without its keys
+pub record TellsHeap (image : Image) (text : List ℕ) : Type 0 where
+  pub held : List Block
+  pub free : List ℕ
+  pub words : Image
+  pub recovered : Recovers image held free words
+  pub text_is : text ≡ report_of (capacity_of image) (nat_eq (state_of image) clean) [] held
+
+-- the bytes of the image that is left are put, and the line and the report on that image are printed
+pub record Rebuilds (image : Image) (count budget : ℕ) (put text : List ℕ) : Type 0 where
+  pub stopped : Bool
+  pub left : List ℕ
+  pub rebuilt : IsRebuilt image count budget stopped left
+  pub put_is : put ≡ bytes_of_words left
+  pub report : List ℕ
+  pub tells : TellsHeap (slice_index left) report
+  pub text_is : text ≡ rebuilt_line stopped ++ report
