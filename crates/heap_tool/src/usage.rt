@@ -12,6 +12,9 @@ usage: heap_tool COMMAND
     --seed X           the seed of what is written back early (any of 64 bits; 0)
     --sum              count replies and keys, in place of a line for each
     --map              print the superblocks of the heap that is left too
+  rebuild IMAGE [--stop K] [--seed X]
+                       recover the heap in place, put the heap that is left, and print
+                       whether it was stopped and a report; --stop and --seed as of run
   drain IMAGE CLASS    recover the heap, allocate in the class (1 to 20) until it is full,
                        and print the offsets; the image stays as it is
   gen N SEED           print a trace of N requests (0 to 100000) from SEED (0 to 1000000)

@@ -1,7 +1,7 @@
 -- What a command that gets an image comes to, where the store tells that there is no such image.
 use Rattle.std.proofs.Common.{◌≡◌, ◌⊎◌, ℕ, List, Option, Some, None, inl, inr, subst}
 use Rattle.tool_ports.specs.Contents.{Contents, Holds, told_of}
-use Rattle.tool_run.specs.Command.{Command, format_image, show_image, drain_image, gen_trace, run_image, image_name, Asks}
+use Rattle.tool_run.specs.Command.{Command, format_image, show_image, drain_image, gen_trace, run_image, rebuild_image, image_name, Asks}
 use Rattle.tool_run.specs.declared.fault.Fault.{Fault}
 use Rattle.tool_run.specs.declared.fault.Fault.TheVariants.{Memory, ReadFault, Absent, Malformed, Outside, BadShard}
 use Rattle.tool_run.specs.Examples.{one_command}
@@ -24,6 +24,7 @@ not_made (format_image n capacity) contents name left image text gets named none
 not_made (gen_trace requests seed) contents name left image text gets named none made = gets
 not_made (show_image n with_map) contents name left image text gets named none made = not_there contents n name made.1.bytes named none made.1.is_there
 not_made (drain_image n class) contents name left image text gets named none made = not_there contents n name made.1.bytes named none made.1.is_there
+not_made (rebuild_image n budget seed) contents name left image text gets named none made = not_there contents n name made.bytes named none made.is_there
 not_made (run_image n options) contents name left image text gets named none made = not_there contents n name made.mapped.bytes named none made.mapped.is_there
 
 -- want of memory, a failed get, or that

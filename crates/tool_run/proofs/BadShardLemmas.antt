@@ -4,7 +4,7 @@ use Rattle.tool_ports.specs.Contents.{Contents}
 use Rattle.heap_model.specs.Image.{image_of_bytes}
 use Rattle.dict_model.specs.Shards.{LeadsAlone, BadShard as IsBadShard}
 use Rattle.dict_model.proofs.ShardLemmas.{no_bad_place, alone_once}
-use Rattle.tool_run.specs.Command.{Command, format_image, show_image, drain_image, gen_trace, run_image, image_name, Asks}
+use Rattle.tool_run.specs.Command.{Command, format_image, show_image, drain_image, gen_trace, run_image, rebuild_image, image_name, Asks}
 use Rattle.tool_run.specs.declared.fault.Fault.{Fault}
 use Rattle.tool_run.specs.declared.fault.Fault.TheVariants.{Usage, Memory, ReadFault, WriteFault, Absent, Malformed, Outside, BadShard, BadLine, TooLong}
 use Rattle.tool_run.specs.Examples.{one_command}
@@ -33,6 +33,7 @@ not_made (show_image n with_map) contents name shard at left image text reads na
     (subst (λ (l : List ℕ). IsBadShard (image_of_bytes l) shard at) (sym same) has.bad)
 not_made (drain_image n class) contents name shard at left image text reads named has made = reads
 not_made (gen_trace requests seed) contents name shard at left image text reads named has made = reads
+not_made (rebuild_image n budget seed) contents name shard at left image text reads named has made = reads
 not_made (run_image n options) contents name shard at left image text reads named has made = mapped_shard contents n name shard at named made.mapped has
 
 -- want of memory, a failed get, or that

@@ -2,14 +2,14 @@
 use Rattle.std.proofs.Common.{◌≡◌, ℕ, ◌≤◌, List, Option, Result, Ok, Err, OnOk, IfErr, IsErrOf, inl, inr, refl, sym, ap, ◌∙◌, subst, arith}
 use Rattle.tool_ports.specs.Causes.{Rose}
 use Rattle.tool_ports.specs.Contents.{Contents}
-use Rattle.tool_ports.specs.Calls.{with_get}
+use Rattle.tool_ports.specs.Calls.{with_get, with_put}
 use Rattle.tool_ports.specs.declared.store_calls.StoreCalls.{StoreCalls}
 use Rattle.tool_run.specs.Calls.{get_limit, with_making, with_putting, with_command, with_status}
-use Rattle.tool_run.specs.Command.{Command, format_image, show_image, drain_image, gen_trace, run_image, image_name}
+use Rattle.tool_run.specs.Command.{Command, format_image, show_image, drain_image, gen_trace, run_image, rebuild_image, image_name}
 use Rattle.tool_run.specs.declared.fault.Fault.{Fault}
 use Rattle.tool_run.specs.declared.fault.Fault.TheVariants.{Usage, Memory, ReadFault, WriteFault, Absent, Malformed, Outside, BadShard, BadLine, TooLong}
 use Rattle.tool_run.specs.Inside.{DeliveryFails, IsStopped, Refuses, RefusesEither, status_of}
-use Rattle.tool_run.specs.Making.{Makes, Gets}
+use Rattle.tool_run.specs.Making.{Makes, Gets, PutsBack}
 use Rattle.tool_run.specs.Outcome.{IsCutOff, while_putting, while_printing}
 
 -- a count that rose after an earlier moment rose since then, and before a later one too
@@ -85,6 +85,17 @@ putting_made (show_image image with_map) contents left put text before made = ap
 putting_made (drain_image image class) contents left put text before made = ap (λ p. with_putting p (with_get get_limit before)) made.0
 putting_made (gen_trace requests seed) contents left put text before made = ap (λ p. with_putting p before) made.0
 putting_made (run_image image options) contents left put text before made = ap (λ p. with_putting p (with_get get_limit before)) made.put_is
+putting_made (rebuild_image image budget seed) contents left put text before made = ap (λ p. with_putting p (with_get get_limit before)) made.put_is
+
+-- a command that puts an image back gets once, and puts once where it is carried out
+pub put_back : (command : Command) (before : StoreCalls) → PutsBack command
+    → (with_making command before ≡ with_get get_limit before) × (with_command command before ≡ with_put (with_get get_limit before))
+put_back (format_image image capacity) before puts = absurd puts
+put_back (show_image image with_map) before puts = absurd puts
+put_back (drain_image image class) before puts = absurd puts
+put_back (gen_trace requests seed) before puts = absurd puts
+put_back (run_image image options) before puts = (refl, refl)
+put_back (rebuild_image image budget seed) before puts = (refl, refl)
 
 module _ (command : Command) (contents : Contents) (left image : Option (List ℕ)) (text : List ℕ) (before mid after : StoreCalls) (made : Makes command contents left image text)
     (first : mid ≡ with_making command before) where

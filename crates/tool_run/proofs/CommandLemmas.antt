@@ -1,6 +1,6 @@
 -- What clap's matches say of the command that is asked for.
 use Rattle.std.proofs.Common.{◌≡◌, ◌≤◌, ◌<◌, ◌^◌, ◌∙◌, ℕ, Bool, List, [], Option, Some, None, Result, Ok, Err, IfNone, codes, refl, sym, ap, inl, inr, arith}
-use Rattle.std.specs.Prelude.{slice_get, slice_index, unwrap_or}
+use Rattle.std.specs.Prelude.{slice_get, unwrap_or}
 use Rattle.std.specs.Str.Parse.{ParsesUnsigned}
 use Rattle.clap.specs.Words.{App, Row, ReadsOne, first_of, one_text, first_value, rows_of, found_of, fault_of, matches_of}
 use Rattle.clap.specs.declared.parser.matches.ArgMatches.{ArgMatches}
@@ -8,12 +8,12 @@ use Rattle.clap.specs.declared.parser.matches.Found.{Found}
 use Rattle.clap.proofs.WalkLemmas.{one_text-rows, first_value-rows}
 use Rattle.heap_model.specs.Geometry.{largest_capacity}
 use Rattle.heap_model.specs.Sizes.{IsClass}
-use Rattle.tool_run.specs.Command.{format_image, show_image, drain_image, gen_trace, run_image, AsksToFormat, AsksToShow, AsksToDrain, AsksToGen, AsksToRun, IsUsage}
+use Rattle.tool_run.specs.Command.{format_image, show_image, drain_image, gen_trace, run_image, rebuild_image, AsksToFormat, AsksToShow, AsksToDrain, AsksToGen, AsksToRun, AsksToRebuild, IsUsage}
 use Rattle.tool_run.specs.declared.trace_plan.TheConstants.{MOST_REQUESTS, GREATEST_SEED}
 use Rattle.image_run.specs.Running.{Options}
 use Rattle.image_run.specs.declared.options.TheConstants.{MOST_WORKERS, MOST_BUDGET}
-use Rattle.tool_run.specs.Examples.{first_word}
-use Rattle.tool_run.specs.CommandLine.{format_app, show_app, drain_app, gen_app, run_app, image_id, capacity_id, class_id, map_id, requests_id, trace_seed_id, workers_id, stop_id, seed_id, sum_id, HasNumberOr, IsTaken, IsMatchedBy, HasNumber, HasFlag}
+use Rattle.tool_run.specs.Examples.{first_word, letters}
+use Rattle.tool_run.specs.CommandLine.{format_app, show_app, drain_app, gen_app, run_app, rebuild_app, image_id, capacity_id, class_id, map_id, requests_id, trace_seed_id, workers_id, stop_id, seed_id, sum_id, HasNumberOr, IsTaken, IsMatchedBy, HasNumber, HasFlag}
 
 -- what holds where there is none
 pub if_none : {T P : Type 0} (result : Option T) → result ≡ None → IfNone result P → P
@@ -137,6 +137,18 @@ module _ (app : App) (words : List (List ℕ)) (m : ArgMatches) (taken : IsMatch
     mapped = rw (← rows_taken run_app is) mapped;
   }
 
+  pub asks_rebuild : app ≡ rebuild_app → slice_get words 0 ≡ Some (codes "rebuild") → (image : List ℕ) (budget seed : ℕ)
+      → Some image ≡ first_of image_id (rows_of (found_of m)) → HasNumberOr (rows_of (found_of m)) stop_id MOST_BUDGET budget → budget ≤ MOST_BUDGET
+      → HasNumberOr (rows_of (found_of m)) seed_id 0 seed → seed < 2 ^ 64 → AsksToRebuild words image budget seed
+  asks_rebuild is first image budget seed named within below seeded fits = record {
+    taken = is_taken rebuild_app is first;
+    named = rw (← rows_taken rebuild_app is) (sym named);
+    within = rw (← rows_taken rebuild_app is) within;
+    below = below;
+    seeded = rw (← rows_taken rebuild_app is) seeded;
+    fits = fits;
+  }
+
   -- without the image's name nothing is asked for
   pub no_image_given : (wanted : App) → app ≡ wanted → (image : List ℕ) → None ≡ first_of image_id (rows_of (found_of m))
       → first_of image_id (matches_of wanted words) ≡ Some image → ⊥
@@ -160,43 +172,49 @@ module _ (app : App) (words : List (List ℕ)) (m : ArgMatches) (taken : IsMatch
 other_name : (words : List (List ℕ)) (a b : List ℕ) → slice_get words 0 ≡ Some a → slice_get words 0 ≡ Some b → (a ≡ b → ⊥) → ⊥
 other_name words a b first second differ = differ (ap (λ o. unwrap_or o a) (sym first ∙ second))
 
-first_letter : (a b : List ℕ) → a ≡ b → slice_index a 0 ≡ slice_index b 0
-first_letter a b same = ap (λ l. slice_index l 0) same
+first_letters : (a b : List ℕ) → a ≡ b → letters a ≡ letters b
+first_letters a b same = ap letters same
 
 -- the first word names one command alone
 pub usage_format : (words : List (List ℕ)) → slice_get words 0 ≡ Some (codes "format")
     → ((image : List ℕ) (n : ℕ) → AsksToFormat words image n → ⊥) → IsUsage words
 usage_format words first none (format_image image n) asks = none image n asks
-usage_format words first none other asks = other_name words _ _ first (first_word words other asks) (λ e. omega (arith, first_letter _ _ e))
+usage_format words first none other asks = other_name words _ _ first (first_word words other asks) (λ e. omega (arith, first_letters _ _ e))
 
 pub usage_show : (words : List (List ℕ)) → slice_get words 0 ≡ Some (codes "show")
     → ((image : List ℕ) (flag : Bool) → AsksToShow words image flag → ⊥) → IsUsage words
 usage_show words first none (show_image image flag) asks = none image flag asks
-usage_show words first none other asks = other_name words _ _ first (first_word words other asks) (λ e. omega (arith, first_letter _ _ e))
+usage_show words first none other asks = other_name words _ _ first (first_word words other asks) (λ e. omega (arith, first_letters _ _ e))
 
 pub usage_drain : (words : List (List ℕ)) → slice_get words 0 ≡ Some (codes "drain")
     → ((image : List ℕ) (n : ℕ) → AsksToDrain words image n → ⊥) → IsUsage words
 usage_drain words first none (drain_image image n) asks = none image n asks
-usage_drain words first none other asks = other_name words _ _ first (first_word words other asks) (λ e. omega (arith, first_letter _ _ e))
+usage_drain words first none other asks = other_name words _ _ first (first_word words other asks) (λ e. omega (arith, first_letters _ _ e))
 
 pub usage_gen : (words : List (List ℕ)) → slice_get words 0 ≡ Some (codes "gen")
     → ((requests seed : ℕ) → AsksToGen words requests seed → ⊥) → IsUsage words
 usage_gen words first none (gen_trace requests seed) asks = none requests seed asks
-usage_gen words first none other asks = other_name words _ _ first (first_word words other asks) (λ e. omega (arith, first_letter _ _ e))
+usage_gen words first none other asks = other_name words _ _ first (first_word words other asks) (λ e. omega (arith, first_letters _ _ e))
 
 pub usage_run : (words : List (List ℕ)) → slice_get words 0 ≡ Some (codes "run")
     → ((image : List ℕ) (options : Options) → AsksToRun words image options → ⊥) → IsUsage words
 usage_run words first none (run_image image options) asks = none image options asks
-usage_run words first none other asks = other_name words _ _ first (first_word words other asks) (λ e. omega (arith, first_letter _ _ e))
+usage_run words first none other asks = other_name words _ _ first (first_word words other asks) (λ e. omega (arith, first_letters _ _ e))
+
+pub usage_rebuild : (words : List (List ℕ)) → slice_get words 0 ≡ Some (codes "rebuild")
+    → ((image : List ℕ) (budget seed : ℕ) → AsksToRebuild words image budget seed → ⊥) → IsUsage words
+usage_rebuild words first none (rebuild_image image budget seed) asks = none image budget seed asks
+usage_rebuild words first none other asks = other_name words _ _ first (first_word words other asks) (λ e. omega (arith, first_letters _ _ e))
 
 -- a word that names no command asks for none
 pub usage_other : (words : List (List ℕ)) (word : List ℕ) → slice_get words 0 ≡ Some word
-    → (word ≡ codes "format" → ⊥) → (word ≡ codes "show" → ⊥) → (word ≡ codes "drain" → ⊥) → (word ≡ codes "gen" → ⊥) → (word ≡ codes "run" → ⊥) → IsUsage words
-usage_other words word first format show drain gen run (format_image image n) asks = other_name words _ _ first asks.taken.named format
-usage_other words word first format show drain gen run (show_image image flag) asks = other_name words _ _ first asks.taken.named show
-usage_other words word first format show drain gen run (drain_image image n) asks = other_name words _ _ first asks.taken.named drain
-usage_other words word first format show drain gen run (gen_trace requests seed) asks = other_name words _ _ first asks.taken.named gen
-usage_other words word first format show drain gen run (run_image image options) asks = other_name words _ _ first asks.taken.named run
+    → (word ≡ codes "format" → ⊥) → (word ≡ codes "show" → ⊥) → (word ≡ codes "drain" → ⊥) → (word ≡ codes "gen" → ⊥) → (word ≡ codes "run" → ⊥) → (word ≡ codes "rebuild" → ⊥) → IsUsage words
+usage_other words word first format show drain gen run rebuild (format_image image n) asks = other_name words _ _ first asks.taken.named format
+usage_other words word first format show drain gen run rebuild (show_image image flag) asks = other_name words _ _ first asks.taken.named show
+usage_other words word first format show drain gen run rebuild (drain_image image n) asks = other_name words _ _ first asks.taken.named drain
+usage_other words word first format show drain gen run rebuild (gen_trace requests seed) asks = other_name words _ _ first asks.taken.named gen
+usage_other words word first format show drain gen run rebuild (run_image image options) asks = other_name words _ _ first asks.taken.named run
+usage_other words word first format show drain gen run rebuild (rebuild_image image budget seed) asks = other_name words _ _ first asks.taken.named rebuild
 
 no_name : (words : List (List ℕ)) (name : List ℕ) → words ≡ [] → slice_get words 0 ≡ Some name → ⊥
 no_name words name none first =

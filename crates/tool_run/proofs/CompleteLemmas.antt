@@ -4,7 +4,7 @@ use Rattle.tool_ports.specs.Contents.{Contents}
 use Rattle.heap_model.specs.Image.{image_of_bytes}
 use Rattle.dict_model.specs.Shards.{LeadsAlone, BadShard as IsBadShard}
 use Rattle.dict_model.proofs.ShardLemmas.{no_bad_place, alone_once}
-use Rattle.tool_run.specs.Command.{Command, format_image, show_image, drain_image, gen_trace, run_image, image_name, Asks}
+use Rattle.tool_run.specs.Command.{Command, format_image, show_image, drain_image, gen_trace, run_image, rebuild_image, image_name, Asks}
 use Rattle.tool_run.specs.declared.fault.Fault.{Fault}
 use Rattle.tool_run.specs.declared.fault.Fault.TheVariants.{Usage, Memory, ReadFault, WriteFault, Absent, Malformed, Outside, BadShard, BadLine, TooLong}
 use Rattle.tool_run.specs.Examples.{one_command}
@@ -23,6 +23,7 @@ good_of (format_image image capacity) contents left gets can = absurd gets
 good_of (show_image image with_map) contents left gets can = record { bytes = can.bytes; held = can.held; good = can.good; inside = can.inside }
 good_of (drain_image image class) contents left gets can = can
 good_of (gen_trace requests seed) contents left gets can = absurd gets
+good_of (rebuild_image image budget seed) contents left gets can = can
 good_of (run_image image options) contents left gets can = record { bytes = can.0.bytes; held = can.0.held; good = can.0.good; inside = can.0.inside }
 
 maps_of : (command : Command) (contents : Contents) (left : Option (List ℕ)) → Reads command → CanBeDone command contents left → HoldsMaps contents (image_name command)
@@ -31,6 +32,7 @@ maps_of (show_image image with_map) contents left reads can = can
 maps_of (drain_image image class) contents left reads can = absurd reads
 maps_of (gen_trace requests seed) contents left reads can = absurd reads
 maps_of (run_image image options) contents left reads can = can.0
+maps_of (rebuild_image image budget seed) contents left reads can = absurd reads
 
 trace_of : (command : Command) (contents : Contents) (left : Option (List ℕ)) → RunsATrace command → CanBeDone command contents left → HoldsTrace left
 trace_of (format_image image capacity) contents left runs can = absurd runs
@@ -38,6 +40,7 @@ trace_of (show_image image with_map) contents left runs can = absurd runs
 trace_of (drain_image image class) contents left runs can = absurd runs
 trace_of (gen_trace requests seed) contents left runs can = absurd runs
 trace_of (run_image image options) contents left runs can = can.1
+trace_of (rebuild_image image budget seed) contents left runs can = absurd runs
 
 -- the trace is not refused
 trace_good : (left : Option (List ℕ)) (read_failed : Type 0) (status : ℕ) (fault : Fault) → HoldsTrace left → (read_failed → ⊥) → status ≡ status_of fault → IsTraceFault left read_failed fault

@@ -12,6 +12,7 @@ use Rattle.heap_model.proofs.HeaderLemmas.{no_fault}
 use Rattle.heap_recover.specs.declared.answer.Recovered.{Recovered}
 use Rattle.heap_recover.specs.declared.fault.RecoverFault.{RecoverFault}
 use Rattle.heap_recover.specs.declared.fault.RecoverFault.TheVariants.{Header, Outside as OutsideFound, Memory as RecoverMemory}
+use Rattle.region_header.specs.Words.{AreWordsOf}
 use Rattle.region_header.proofs.SameHeader.{SameHeader, same_fault}
 use Rattle.tool_ports.specs.Contents.{Contents, Holds, HoldsFirst, Lacks}
 use Rattle.tool_ports.specs.declared.image_store.GetFault.{GetFault}
@@ -22,7 +23,7 @@ use Rattle.tool_run.specs.Calls.{get_limit}
 use Rattle.tool_run.specs.Command.{Command, image_name}
 use Rattle.tool_run.specs.Inside.{Refuses, fault_of_recovery, fault_of_get}
 use Rattle.tool_run.specs.Making.{Gets, fault_of, Shows, IsMalformed, HasOutside, PointsOutside}
-use Rattle.tool_run.specs.Recovering.{IsRecovered, IsRecoveryOf, IsRecoveryFault, IsTextOf}
+use Rattle.tool_run.specs.Recovering.{IsRecovered, IsRecoveredFrom, IsRecoveryOf, IsRecoveryFault, IsTextOf}
 use Rattle.std.specs.BTreeMap.{BTreeMap}
 use Rattle.heap_model.specs.Rest.{IsReady}
 use Rattle.dict_model.specs.Links.{shards}
@@ -147,6 +148,17 @@ is_recovered contents name got shown recovered whole are is inside = record {
   good = whole.good;
   inside = subst (λ (l : List ℕ). (at : ℕ) → PointsOutside (image_of_bytes l) at → ⊥) are inside;
   is = subst (λ (l : List ℕ). IsRecoveryOf (image_of_bytes l) recovered) are is;
+}
+
+-- and its words beside it
+pub is_recovered_from : (contents : Contents) (name got shown words : List ℕ) (recovered : Recovered) → IsWhole contents name got → shown ≡ got
+    → IsRecoveryOf (image_of_bytes shown) recovered → ((at : ℕ) → PointsOutside (image_of_bytes shown) at → ⊥)
+    → AreWordsOf words shown → length recovered.heap.words ≡ length words → IsRecoveredFrom contents name words recovered
+unfolding is_recovered
+is_recovered_from contents name got shown words recovered whole are is inside words_are long = record {
+  image = is_recovered contents name got shown recovered whole are is inside;
+  words_are = subst (λ (l : List ℕ). AreWordsOf words l) are words_are;
+  long = long;
 }
 
 -- the report on it

@@ -7,6 +7,7 @@ pub mod DrainLemmas
 pub mod OpenedLemmas
 pub mod CommandLemmas
 pub mod CallLemmas
+pub mod PutBackLemmas
 pub mod StatusLemmas
 pub mod OutsideLemmas
 pub mod MalformedLemmas
@@ -16,3 +17,4 @@ pub mod MapLemmas
 pub mod TraceLemmas
 pub mod BadTraceLemmas
 pub mod AbsentLemmas
+pub mod RebuildLemmas

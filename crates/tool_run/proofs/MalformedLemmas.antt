@@ -2,7 +2,7 @@
 use Rattle.std.proofs.Common.{◌≡◌, ◌⊎◌, ℕ, List, Option, Some, None, inl, inr, subst}
 use Rattle.tool_ports.specs.Contents.{Contents}
 use Rattle.heap_model.specs.declared.header.BadHeader.{BadHeader}
-use Rattle.tool_run.specs.Command.{Command, format_image, show_image, drain_image, gen_trace, run_image, image_name, Asks}
+use Rattle.tool_run.specs.Command.{Command, format_image, show_image, drain_image, gen_trace, run_image, rebuild_image, image_name, Asks}
 use Rattle.tool_run.specs.declared.fault.Fault.{Fault}
 use Rattle.tool_run.specs.declared.fault.Fault.TheVariants.{Usage, Memory, ReadFault, WriteFault, Absent, Malformed, Outside, BadShard, BadLine, TooLong}
 use Rattle.tool_run.specs.Examples.{one_command}
@@ -28,6 +28,8 @@ not_made : (command : Command) (contents : Contents) (name : List ℕ) (left ima
     → Gets command → image_name command ≡ name → HoldsMalformed contents name → Makes command contents left image text → ⊥
 not_made (format_image n capacity) contents name left image text gets named has made = gets
 not_made (gen_trace requests seed) contents name left image text gets named has made = gets
+not_made (rebuild_image n budget seed) contents name left image text gets named has made =
+    both_headers made.bytes has.bytes has.cause (same_bytes contents n name made.bytes has.bytes named made.is_there has.held) made.good has.fault
 not_made (run_image n options) contents name left image text gets named has made = mapped_good contents n name named made.mapped has
 not_made (show_image n with_map) contents name left image text gets named has made =
     both_headers made.1.bytes has.bytes has.cause (same_bytes contents n name made.1.bytes has.bytes named made.1.is_there has.held) made.1.good has.fault

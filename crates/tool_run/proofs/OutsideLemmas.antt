@@ -2,7 +2,7 @@
 use Rattle.std.proofs.Common.{◌≡◌, ◌⊎◌, ℕ, List, Option, Some, None, IfSome, inl, inr, sym, subst}
 use Rattle.tool_ports.specs.Contents.{Contents, Holds, told_of}
 use Rattle.heap_model.specs.Image.{image_of_bytes}
-use Rattle.tool_run.specs.Command.{Command, format_image, show_image, drain_image, gen_trace, run_image, image_name, Asks}
+use Rattle.tool_run.specs.Command.{Command, format_image, show_image, drain_image, gen_trace, run_image, rebuild_image, image_name, Asks}
 use Rattle.tool_run.specs.declared.fault.Fault.{Fault}
 use Rattle.tool_run.specs.declared.fault.Fault.TheVariants.{Usage, Memory, ReadFault, WriteFault, Absent, Malformed, Outside, BadShard, BadLine, TooLong}
 use Rattle.tool_run.specs.Examples.{one_command}
@@ -33,6 +33,9 @@ not_made : (command : Command) (contents : Contents) (name : List ℕ) (at : ℕ
 not_made (format_image n capacity) contents name at left image text gets named has made = gets
 not_made (gen_trace requests seed) contents name at left image text gets named has made = gets
 not_made (run_image n options) contents name at left image text gets named has made = mapped_inside contents n name at named made.mapped has
+not_made (rebuild_image n budget seed) contents name at left image text gets named has made =
+    let same : made.bytes ≡ has.bytes = same_bytes contents n name made.bytes has.bytes named made.is_there has.held in
+    made.inside at (subst (λ (l : List ℕ). PointsOutside (image_of_bytes l) at) (sym same) has.points)
 not_made (show_image n with_map) contents name at left image text gets named has made =
     let same : made.1.bytes ≡ has.bytes = same_bytes contents n name made.1.bytes has.bytes named made.1.is_there has.held in
     made.1.inside at (subst (λ (l : List ℕ). PointsOutside (image_of_bytes l) at) (sym same) has.points)

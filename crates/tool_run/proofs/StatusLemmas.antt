@@ -3,7 +3,7 @@ use Rattle.std.proofs.Common.{◌≡◌, ℕ, ◌≤◌, List, Option, IfSome, C
 use Rattle.tool_ports.specs.Causes.{Rose}
 use Rattle.tool_ports.specs.Contents.{Contents}
 use Rattle.tool_ports.specs.Taken.{TakesPart}
-use Rattle.tool_run.specs.Command.{Command, format_image, show_image, drain_image, gen_trace, run_image, image_name, Asks}
+use Rattle.tool_run.specs.Command.{Command, format_image, show_image, drain_image, gen_trace, run_image, rebuild_image, image_name, Asks}
 use Rattle.tool_run.specs.declared.fault.Fault.{Fault}
 use Rattle.tool_run.specs.declared.fault.Fault.TheVariants.{Usage, Memory, ReadFault, WriteFault, Absent, Malformed, Outside, BadShard, BadLine, TooLong}
 use Rattle.tool_run.specs.Inside.{IsStopped, status_of, line_of}
@@ -38,6 +38,7 @@ for_run words (format_image image capacity) runs asked = absurd runs
 for_run words (show_image image with_map) runs asked = absurd runs
 for_run words (drain_image image class) runs asked = absurd runs
 for_run words (gen_trace requests seed) runs asked = absurd runs
+for_run words (rebuild_image image budget seed) runs asked = absurd runs
 for_run words (run_image image options) runs asked = record { options = options; asked = asked }
 
 module _ (words : List (List ℕ)) (command : Command) (old new : Contents) (left : Option (List ℕ)) (store_failed source_failed : Type 0) (first second third : ℕ) (taken mid final : Option (List ℕ))

@@ -7,7 +7,7 @@ use Rattle.heap_model.specs.Sizes.{IsClass}
 use Rattle.tool_run.specs.declared.trace_plan.TheConstants.{MOST_REQUESTS, GREATEST_SEED}
 use Rattle.image_run.specs.Running.{Options}
 use Rattle.image_run.specs.declared.options.TheConstants.{MOST_WORKERS, MOST_BUDGET}
-use Rattle.tool_run.specs.CommandLine.{format_app, show_app, drain_app, gen_app, run_app, image_id, capacity_id, class_id, map_id, requests_id, trace_seed_id, workers_id, stop_id, seed_id, sum_id, HasNumberOr, IsTaken, HasText, HasNumber, HasFlag}
+use Rattle.tool_run.specs.CommandLine.{format_app, show_app, drain_app, gen_app, run_app, rebuild_app, image_id, capacity_id, class_id, map_id, requests_id, trace_seed_id, workers_id, stop_id, seed_id, sum_id, HasNumberOr, IsTaken, HasText, HasNumber, HasFlag}
 
 -- what the tool can be asked for
 pub data Command : Type 0 where
@@ -16,6 +16,7 @@ pub data Command : Type 0 where
   drain_image : (image : List ℕ) → (class : ℕ) → Command
   gen_trace : (requests seed : ℕ) → Command
   run_image : (image : List ℕ) → (options : Options) → Command
+  rebuild_image : (image : List ℕ) → (budget seed : ℕ) → Command
 
 -- the image that a command is about; the empty name where it is about none
 abbrev pub image_name : Command → List ℕ
@@ -24,6 +25,7 @@ image_name (show_image image with_map) = image
 image_name (drain_image image class) = image
 image_name (gen_trace requests seed) = []
 image_name (run_image image options) = image
+image_name (rebuild_image image budget seed) = image
 
 -- the bytes of each word
 abbrev pub texts : List (String Global) → List (List ℕ)
@@ -72,6 +74,15 @@ pub record AsksToRun (words : List (List ℕ)) (image : List ℕ) (options : Opt
   pub summed : HasFlag (matches_of run_app words) sum_id options.with_sum
   pub mapped : HasFlag (matches_of run_app words) map_id options.with_map
 
+-- the words 'rebuild IMAGE', with options or without: the budget is the greatest where none is given, and the seed 0
+pub record AsksToRebuild (words : List (List ℕ)) (image : List ℕ) (budget seed : ℕ) : Type 0 where
+  pub taken : IsTaken rebuild_app words
+  pub named : HasText (matches_of rebuild_app words) image_id image
+  pub within : HasNumberOr (matches_of rebuild_app words) stop_id MOST_BUDGET budget
+  pub below : budget ≤ MOST_BUDGET
+  pub seeded : HasNumberOr (matches_of rebuild_app words) seed_id 0 seed
+  pub fits : seed < 2 ^ 64
+
 -- the words ask for this command
 abbrev pub Asks : List (List ℕ) → Command → Type 0
 Asks words (format_image image capacity) = AsksToFormat words image capacity
@@ -79,6 +90,7 @@ Asks words (show_image image with_map) = AsksToShow words image with_map
 Asks words (drain_image image class) = AsksToDrain words image class
 Asks words (gen_trace requests seed) = AsksToGen words requests seed
 Asks words (run_image image options) = AsksToRun words image options
+Asks words (rebuild_image image budget seed) = AsksToRebuild words image budget seed
 
 -- the words ask for no command
 abbrev pub IsUsage : List (List ℕ) → Type 0

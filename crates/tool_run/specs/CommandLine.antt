@@ -80,13 +80,17 @@ gen_app = with_rule (with_rule (new_app (codes "gen")) (number_rule requests_id 
 abbrev pub plain_run_app : App
 plain_run_app = with_rule (with_rule (new_app (codes "run")) (word_rule image_id)) (needed_option_rule workers_id 1 MOST_WORKERS)
 
--- 'run IMAGE --workers N [--stop K] [--seed X]'
-abbrev pub counted_run_app : App
-counted_run_app = with_rule (with_rule plain_run_app (option_rule stop_id 0 MOST_BUDGET)) (option_rule seed_id 0 (2 ^ 64 - 1))
+-- a command with the options '[--stop K] [--seed X]'
+abbrev pub with_limits : App → App
+with_limits app = with_rule (with_rule app (option_rule stop_id 0 MOST_BUDGET)) (option_rule seed_id 0 (2 ^ 64 - 1))
 
 -- 'run IMAGE --workers N [--stop K] [--seed X] [--sum] [--map]'
 abbrev pub run_app : App
-run_app = with_rule (with_rule counted_run_app (flag_rule sum_id)) (flag_rule map_id)
+run_app = with_rule (with_rule (with_limits plain_run_app) (flag_rule sum_id)) (flag_rule map_id)
+
+-- 'rebuild IMAGE [--stop K] [--seed X]'
+abbrev pub rebuild_app : App
+rebuild_app = with_limits (with_rule (new_app (codes "rebuild")) (word_rule image_id))
 
 -- the first word names the command, and clap finds no fault in the words behind it
 pub record IsTaken (app : App) (words : List (List ℕ)) : Type 0 where

@@ -8,13 +8,13 @@ use Rattle.clap.specs.Words.{Row, fault_of, matches_of, first_of, one_of, read_a
 use Rattle.image_run.specs.declared.options.TheConstants.{MOST_BUDGET}
 use Rattle.clap.specs.declared.error.kind.ErrorKind.TheVariants.{ValueValidation, ArgumentConflict, DisplayHelp, MissingRequiredArgument}
 use Rattle.clap.proofs.OnLiterals.{clap_on_literals}
-use Rattle.std.proofs.Common.{ℕ, sym, ap, ◌∙◌, inl, inr, bytes_eq, arith, lit<, lit≤}
+use Rattle.std.proofs.Common.{ℕ, ◌+◌, ◌*◌, sym, ap, ◌∙◌, inl, inr, bytes_eq, arith, lit<, lit≤}
 use Rattle.heap_model.specs.Geometry.{largest_capacity}
 use Rattle.heap_model.specs.Sizes.{size_of, class_sizes}
 use Rattle.heap_model.specs.declared.header.BadHeader.TheVariants.{Length}
 use Rattle.trace_text.specs.Report.{line_feed}
-use Rattle.tool_run.specs.Command.{Command, Asks, format_image, show_image, drain_image, gen_trace, run_image}
-use Rattle.tool_run.specs.CommandLine.{format_app, drain_app, show_app, gen_app, run_app, image_id, capacity_id, class_id, map_id, requests_id, trace_seed_id, workers_id, stop_id, seed_id, sum_id, HasText, HasNumber, HasNumberOr, HasFlag, IsNumber}
+use Rattle.tool_run.specs.Command.{Command, Asks, format_image, show_image, drain_image, gen_trace, run_image, rebuild_image}
+use Rattle.tool_run.specs.CommandLine.{format_app, drain_app, show_app, gen_app, run_app, rebuild_app, image_id, capacity_id, class_id, map_id, requests_id, trace_seed_id, workers_id, stop_id, seed_id, sum_id, HasText, HasNumber, HasNumberOr, HasFlag, IsNumber}
 use Rattle.tool_ports.specs.Calls.{no_calls, with_get, with_put}
 use Rattle.tool_run.specs.Calls.{get_limit, with_status}
 use Rattle.tool_run.specs.Lines.{no_image_line, bad_header_line, bad_line_line}
@@ -134,6 +134,29 @@ run_all = record {
   mapped = (λ e. refl, λ e. refl);
 }
 
+-- recovery in place, with options and without
+rebuild_within : Asks (codes "rebuild" ∷ codes "--seed=5" ∷ codes "h" ∷ codes "--stop" ∷ codes "9" ∷ []) (rebuild_image (codes "h") 9 5)
+unfolding clap_on_literals
+rebuild_within = record {
+  taken = record { named = refl; faultless = refl };
+  named = refl;
+  within = inl (record { text = codes "9"; given = refl; counted = record { digits = (lit< tt, (lit< tt, tt)); value = refl } });
+  below = lit≤ tt;
+  seeded = inl (record { text = codes "5"; given = refl; counted = record { digits = (lit< tt, (lit< tt, tt)); value = refl } });
+  fits = lit< tt;
+}
+
+rebuild_to_its_end : Asks (codes "rebuild" ∷ codes "h" ∷ []) (rebuild_image (codes "h") MOST_BUDGET 0)
+unfolding clap_on_literals
+rebuild_to_its_end = record {
+  taken = record { named = refl; faultless = refl };
+  named = refl;
+  within = inr (refl, refl);
+  below = lit≤ tt;
+  seeded = inr (refl, refl);
+  fits = lit< tt;
+}
+
 -- more workers than there may be, and none told
 nine_workers : fault_of run_app (codes "run" ∷ codes "h" ∷ codes "--workers" ∷ codes "9" ∷ []) ≡ ValueValidation ∷ []
 unfolding clap_on_literals
@@ -200,6 +223,7 @@ name_of (show_image image with_map) = codes "show"
 name_of (drain_image image class) = codes "drain"
 name_of (gen_trace requests seed) = codes "gen"
 name_of (run_image image options) = codes "run"
+name_of (rebuild_image image budget seed) = codes "rebuild"
 
 -- it is the first word
 pub first_word : (words : List (List ℕ)) (command : Command) → Asks words command → slice_get words 0 ≡ Some (name_of command)
@@ -208,10 +232,15 @@ first_word words (show_image image with_map) asks = asks.taken.named
 first_word words (drain_image image class) asks = asks.taken.named
 first_word words (gen_trace requests seed) asks = asks.taken.named
 first_word words (run_image image options) asks = asks.taken.named
+first_word words (rebuild_image image budget seed) asks = asks.taken.named
+
+-- the first two letters of a name tell it
+abbrev pub letters : List ℕ → ℕ
+letters name = 256 * slice_index name 0 + slice_index name 1
 
 -- so two commands that words ask for have one name
-one_letter : (words : List (List ℕ)) (a b : Command) → Asks words a → Asks words b → slice_index (name_of a) 0 ≡ slice_index (name_of b) 0
-one_letter words a b asks also = ap (λ o. slice_index (unwrap_or o []) 0) (sym (first_word words a asks) ∙ first_word words b also)
+one_letter : (words : List (List ℕ)) (a b : Command) → Asks words a → Asks words b → letters (name_of a) ≡ letters (name_of b)
+one_letter words a b asks also = ap (λ o. letters (unwrap_or o [])) (sym (first_word words a asks) ∙ first_word words b also)
 
 -- words ask for one command at most
 pub one_command : (words : List (List ℕ)) (a b : Command) → Asks words a → Asks words b → a ≡ b
@@ -240,4 +269,9 @@ one_command words (run_image image options) (run_image other set) asks also =
     let mapped = one_flag (matches_of run_app words) map_id options.with_map set.with_map asks.mapped also.mapped in
     let same : options ≡ set = λ i. record { workers = workers i; budget = budget i; seed = seed i; with_sum = summed i; with_map = mapped i } in
     λ i. run_image (named i) (same i)
+one_command words (rebuild_image image budget seed) (rebuild_image other limit begun) asks also =
+    let named = one_text_given (matches_of rebuild_app words) image_id image other asks.named also.named in
+    let within = one_number_or (matches_of rebuild_app words) stop_id MOST_BUDGET budget limit asks.within also.within in
+    let seeded = one_number_or (matches_of rebuild_app words) seed_id 0 seed begun asks.seeded also.seeded in
+    cc
 one_command words a b asks also = absurd (omega (arith, one_letter words a b asks also))

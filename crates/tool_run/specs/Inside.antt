@@ -9,7 +9,7 @@ use Rattle.heap_recover.specs.declared.fault.RecoverFault.{RecoverFault}
 use Rattle.heap_recover.specs.declared.fault.RecoverFault.TheVariants.{Header, Outside as OutsideFound, Memory as RecoverMemory}
 use Rattle.tool_ports.specs.Taken.{taken_with}
 use Rattle.tool_run.specs.declared.command.Invocation.{Invocation}
-use Rattle.tool_run.specs.declared.command.Invocation.TheVariants.{Format, Show, Drain, Gen, Run}
+use Rattle.tool_run.specs.declared.command.Invocation.TheVariants.{Format, Show, Drain, Gen, Run, Rebuild}
 use Rattle.tool_run.specs.declared.fault.Fault.{Fault}
 use Rattle.tool_run.specs.declared.fault.Fault.TheVariants.{Usage, Memory, ReadFault, WriteFault, Absent, Malformed, Outside, BadShard, BadLine, TooLong}
 use Rattle.tool_ports.specs.declared.reading.ReadAllFault.{ReadAllFault}
@@ -21,7 +21,7 @@ use Rattle.trace_text.specs.Trace.{lines_of, AreLines}
 use Rattle.image_run.specs.Running.{options_of}
 use Rattle.dictionary.specs.declared.fault.MapFault.{MapFault}
 use Rattle.dictionary.specs.declared.fault.MapFault.TheVariants.{BadShard as NoMap, Memory as MapMemory}
-use Rattle.tool_run.specs.Command.{Command, format_image, show_image, drain_image, gen_trace, run_image, image_name}
+use Rattle.tool_run.specs.Command.{Command, format_image, show_image, drain_image, gen_trace, run_image, rebuild_image, image_name}
 use Rattle.tool_run.specs.Lines.{usage_line, memory_line, read_line, write_line, no_image_line, bad_header_line, outside_line, bad_shard_line, bad_line_line, too_long_line}
 use Rattle.tool_run.specs.Making.{Makes, Gets, Reads, RunsATrace, IsMalformed, HasOutside, HasBadShard, HasMapped, HasTrace, HasBadLine, HasTooMuch}
 use Rattle.tool_run.specs.Outcome.{Puts, IsCutOff}
@@ -34,6 +34,7 @@ command_of (Show image with_map) = show_image image.now with_map
 command_of (Drain image class) = drain_image image.now class.number
 command_of (Gen plan) = gen_trace plan.requests plan.seed
 command_of (Run image options) = run_image image.now (options_of options)
+command_of (Rebuild image budget seed) = rebuild_image image.now budget seed
 
 -- the status of a fault
 abbrev pub status_of : Fault → ℕ

@@ -10,15 +10,16 @@ use Rattle.dict_model.specs.Shards.{Map, MapOf, BadShard}
 use Rattle.heap_model.specs.Geometry.{image_words}
 use Rattle.heap_model.specs.Image.{Image, image_of_bytes, bytes_of_words}
 use Rattle.heap_model.specs.Sizes.{size_of}
-use Rattle.heap_model.specs.Header.{empty_words}
+use Rattle.heap_model.specs.Header.{capacity_of, empty_words}
 pub use Rattle.image_run.specs.Reporting.{fault_of, IsKept, PointsOutside, Recovers, IsEntryOf, shown_text, Reports}
+pub use Rattle.image_rebuild.specs.Rebuilding.{Rebuilds}
 pub use Rattle.image_run.specs.Running.{Options, Runs}
 use Rattle.tool_ports.specs.Contents.{Contents, Holds}
 use Rattle.trace_run.specs.Said.{Line, requests_of}
 use Rattle.trace_text.specs.Generated.{made_trace}
 use Rattle.trace_text.specs.Report.{line_feed}
 use Rattle.trace_text.specs.Trace.{lines_of, AreLines, IsFirstOutside}
-use Rattle.tool_run.specs.Command.{Command, format_image, show_image, drain_image, gen_trace, run_image}
+use Rattle.tool_run.specs.Command.{Command, format_image, show_image, drain_image, gen_trace, run_image, rebuild_image}
 
 -- what `format` prints: the capacity, and the length of the image in bytes
 abbrev pub formatted_line : ℕ → List ℕ
@@ -137,6 +138,16 @@ pub record RunsTrace (contents : Contents) (left : Option (List ℕ)) (name : Li
   pub put_is : put ≡ Some image
   pub runs : Runs (image_of_bytes mapped.bytes) (requests_of lines) options image text
 
+-- recovery, made in place, of a named image that can be recovered
+pub record RebuildsNamed (contents : Contents) (name : List ℕ) (budget : ℕ) (put : Option (List ℕ)) (text : List ℕ) : Type 0 where
+  pub bytes : List ℕ
+  pub is_there : Holds contents name bytes
+  pub good : fault_of bytes ≡ None
+  pub inside : (at : ℕ) → PointsOutside (image_of_bytes bytes) at → ⊥
+  pub image : List ℕ
+  pub put_is : put ≡ Some image
+  pub rebuilds : Rebuilds (image_of_bytes bytes) (image_words (capacity_of (image_of_bytes bytes))) budget image text
+
 -- where the store holds this and the source has this left, the command is to put these bytes, if any, and to print this text
 abbrev pub Makes : Command → Contents → Option (List ℕ) → Option (List ℕ) → List ℕ → Type 0
 Makes (format_image image capacity) contents left put text = IsFormatted capacity put text
@@ -144,6 +155,7 @@ Makes (show_image image with_map) contents left put text = (put ≡ None) × Sho
 Makes (drain_image image class) contents left put text = (put ≡ None) × Drains contents image class text
 Makes (gen_trace requests seed) contents left put text = (put ≡ None) × (text ≡ made_trace requests seed)
 Makes (run_image image options) contents left put text = RunsTrace contents left image options put text
+Makes (rebuild_image image budget seed) contents left put text = RebuildsNamed contents image budget put text
 
 -- the command gets the image that it names
 abbrev pub Gets : Command → Type 0
@@ -152,6 +164,7 @@ Gets (show_image image with_map) = Unit {0}
 Gets (drain_image image class) = Unit {0}
 Gets (gen_trace requests seed) = ⊥
 Gets (run_image image options) = Unit {0}
+Gets (rebuild_image image budget seed) = Unit {0}
 
 -- the command reads the maps of the image that it names
 abbrev pub Reads : Command → Type 0
@@ -160,6 +173,16 @@ Reads (show_image image with_map) = Unit {0}
 Reads (drain_image image class) = ⊥
 Reads (gen_trace requests seed) = ⊥
 Reads (run_image image options) = Unit {0}
+Reads (rebuild_image image budget seed) = ⊥
+
+-- the command puts an image in the place of the one that it gets
+abbrev pub PutsBack : Command → Type 0
+PutsBack (format_image image capacity) = ⊥
+PutsBack (show_image image with_map) = ⊥
+PutsBack (drain_image image class) = ⊥
+PutsBack (gen_trace requests seed) = ⊥
+PutsBack (run_image image options) = Unit {0}
+PutsBack (rebuild_image image budget seed) = Unit {0}
 
 -- the command runs a trace
 abbrev pub RunsATrace : Command → Type 0
@@ -168,3 +191,4 @@ RunsATrace (show_image image with_map) = ⊥
 RunsATrace (drain_image image class) = ⊥
 RunsATrace (gen_trace requests seed) = ⊥
 RunsATrace (run_image image options) = Unit {0}
+RunsATrace (rebuild_image image budget seed) = ⊥

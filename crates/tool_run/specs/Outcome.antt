@@ -7,9 +7,9 @@ use Rattle.tool_ports.specs.Contents.{Contents, Holds, HoldsOldOrNew, KeepsOther
 use Rattle.tool_ports.specs.Taken.{taken_with, TakesPart}
 use Rattle.trace_run.specs.Said.{Line}
 use Rattle.trace_text.specs.Trace.{lines_of, AreLines, IsFirstOutside}
-use Rattle.tool_run.specs.Command.{Command, format_image, show_image, drain_image, gen_trace, run_image, image_name, Asks, AsksToRun}
+use Rattle.tool_run.specs.Command.{Command, format_image, show_image, drain_image, gen_trace, run_image, rebuild_image, image_name, Asks, AsksToRun}
 use Rattle.tool_run.specs.Lines.{Tells, write_line, no_image_line, bad_header_line, outside_line, bad_shard_line, bad_line_line, too_long_line}
-use Rattle.tool_run.specs.Making.{Makes, Gets, Reads, RunsATrace, Options, IsMalformed, HasOutside, HasBadShard, HasMapped, HasBadLine, HasTooMuch, PointsOutside, fault_of, longest_trace}
+use Rattle.tool_run.specs.Making.{Makes, Gets, Reads, PutsBack, Options, IsMalformed, HasOutside, HasBadShard, HasMapped, HasBadLine, HasTooMuch, PointsOutside, fault_of, longest_trace}
 use Rattle.dict_model.specs.Links.{shards}
 use Rattle.dict_model.specs.Shards.{Map, MapOf, BadShard}
 use Rattle.heap_model.specs.Image.{image_of_bytes}
@@ -69,7 +69,14 @@ pub record AsksToLook (words : List (List ℕ)) (name : List ℕ) : Type 0 where
   pub command : Command
   pub asked : Asks words command
   pub gets : Gets command
-  pub puts_none : ¬ (RunsATrace command)
+  pub puts_none : ¬ (PutsBack command)
+  pub is_named : image_name command ≡ name
+
+-- the words ask for a command that puts an image in the place of the one of this name
+pub record AsksToPutBack (words : List (List ℕ)) (name : List ℕ) : Type 0 where
+  pub command : Command
+  pub asked : Asks words command
+  pub puts : PutsBack command
   pub is_named : image_name command ≡ name
 
 -- the words ask for a run of a trace over the image of this name
@@ -198,3 +205,4 @@ CanBeDone (show_image image with_map) contents left = HoldsMaps contents image
 CanBeDone (drain_image image class) contents left = HoldsGood contents image
 CanBeDone (gen_trace requests seed) contents left = Unit {0}
 CanBeDone (run_image image options) contents left = HoldsMaps contents image × HoldsTrace left
+CanBeDone (rebuild_image image budget seed) contents left = HoldsGood contents image

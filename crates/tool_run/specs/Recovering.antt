@@ -1,5 +1,5 @@
 -- What recovery of an image gives the tool, and what draining a class of it gives.
-use Rattle.std.specs.Prelude.{◌≡◌, ◌≢◌, ℕ, ◌*◌, List, None, Contains, AllPairs, slice_index}
+use Rattle.std.specs.Prelude.{◌≡◌, ◌≢◌, ℕ, ◌*◌, List, length, None, Contains, AllPairs, slice_index}
 use Rattle.heap_model.specs.declared.block.Block.{Block}
 use Rattle.heap_model.specs.Image.{Image, image_of_bytes}
 use Rattle.heap_model.specs.Header.{capacity_of}
@@ -8,6 +8,7 @@ use Rattle.heap_recover.specs.declared.answer.Recovered.{Recovered}
 use Rattle.heap_recover.specs.declared.fault.RecoverFault.{RecoverFault}
 use Rattle.heap_recover.specs.declared.fault.RecoverFault.TheVariants.{Header, Outside, Memory}
 use Rattle.heap_shape.specs.Draining.{IsDrainable, IsToDrain}
+use Rattle.region_header.specs.Words.{AreWordsOf}
 use Rattle.tool_ports.specs.Contents.{Contents, Holds}
 pub use Rattle.image_run.specs.Reporting.{IsRecoveryOf, IsTextOf}
 use Rattle.std.specs.BTreeMap.{BTreeMap}
@@ -23,6 +24,12 @@ pub record IsRecovered (contents : Contents) (name : List ℕ) (recovered : Reco
   pub good : fault_of bytes ≡ None
   pub inside : (at : ℕ) → PointsOutside (image_of_bytes bytes) at → ⊥
   pub is : IsRecoveryOf (image_of_bytes bytes) recovered
+
+-- and these are the words of that image
+pub record IsRecoveredFrom (contents : Contents) (name words : List ℕ) (recovered : Recovered) : Type 0 where
+  pub image : IsRecovered contents name recovered
+  pub words_are : AreWordsOf words image.bytes
+  pub long : length recovered.heap.words ≡ length words
 
 -- the heap is what recovery makes of the image of this name, and each shard of it has a map
 pub record IsMapped (contents : Contents) (name words : List ℕ) (held : List Block) : Type 0 where

@@ -1,12 +1,12 @@
 //! The command that the words of the command line ask for, as the crate clap takes them.
 ghost use Rattle.std.specs.Prelude.{◌≡◌, ℕ, Bool, List, Some, codes, slice_get, IfOk, IsErrOf};
-ghost use Rattle.tool_run.specs.Command.{Asks, AsksToFormat, AsksToShow, AsksToDrain, AsksToGen, AsksToRun, IsUsage, texts, image_name};
+ghost use Rattle.tool_run.specs.Command.{Asks, AsksToFormat, AsksToShow, AsksToDrain, AsksToGen, AsksToRun, AsksToRebuild, IsUsage, texts, image_name};
 ghost use Rattle.image_run.specs.Running.{Options};
 ghost use Rattle.tool_run.specs.Inside.{command_of};
 
 use crate::command_line::{
     Refusal, drain_command, format_command, gen_command, has_flag, match_words, number_of,
-    number_or, run_command, show_command, text_of,
+    number_or, rebuild_command, run_command, show_command, text_of,
 };
 use crate::size_class::SizeClass;
 use crate::trace_plan::{GREATEST_SEED, MOST_REQUESTS, TracePlan};
@@ -17,11 +17,30 @@ use super_block::{Geometry, LARGEST_CAPACITY, LAST_CLASS};
 /// What the words ask for.
 #[derive(Clone, Copy)]
 pub enum Invocation<'a> {
-    Format { image: &'a str, layout: Geometry },
-    Show { image: &'a str, with_map: bool },
-    Drain { image: &'a str, class: SizeClass },
-    Gen { plan: TracePlan },
-    Run { image: &'a str, options: RunOptions },
+    Format {
+        image: &'a str,
+        layout: Geometry,
+    },
+    Show {
+        image: &'a str,
+        with_map: bool,
+    },
+    Drain {
+        image: &'a str,
+        class: SizeClass,
+    },
+    Gen {
+        plan: TracePlan,
+    },
+    Run {
+        image: &'a str,
+        options: RunOptions,
+    },
+    Rebuild {
+        image: &'a str,
+        budget: u64,
+        seed: u64,
+    },
 }
 
 impl<'a> Invocation<'a> {
@@ -35,6 +54,11 @@ impl<'a> Invocation<'a> {
             Invocation::Drain { image, class: _ } => image,
             Invocation::Gen { plan: _ } => "",
             Invocation::Run { image, options: _ } => image,
+            Invocation::Rebuild {
+                image,
+                budget: _,
+                seed: _,
+            } => image,
         }
     }
 }
@@ -73,6 +97,9 @@ fn parse_command<'a>(
     }
     if command == "run" {
         return parse_run(alloc, words);
+    }
+    if command == "rebuild" {
+        return parse_rebuild(alloc, words);
     }
     Err(Refusal::Usage)
 }
@@ -165,4 +192,27 @@ fn parse_run<'a>(alloc: Global, words: &'a [String]) -> Result<Invocation<'a>, R
     let map = has_flag(&matches, "map");
     let options = RunOptions::new(workers, budget, seed).telling(sum, map);
     Ok(Invocation::Run { image, options })
+}
+
+fn parse_rebuild<'a>(alloc: Global, words: &'a [String]) -> Result<Invocation<'a>, Refusal>
+    requires { slice_get (texts words.now) 0 ≡ Some (codes "rebuild") }
+    ensures ok { IfOk result (λ invocation. Asks (texts words.entry.now) (command_of invocation)) }
+    ensures err { IsErrOf result Refusal.Usage → (image : List ℕ) (budget seed : ℕ)
+        → AsksToRebuild (texts words.entry.now) image budget seed → ⊥ }
+{
+    let matches = match_words(rebuild_command(alloc)?, words)?;
+    let Some(image) = text_of(&matches, "IMAGE") else {
+        return Err(Refusal::Usage);
+    };
+    let Some(budget) = number_or(&matches, "stop", MOST_BUDGET, 0, MOST_BUDGET) else {
+        return Err(Refusal::Usage);
+    };
+    let Some(seed) = number_or(&matches, "seed", 0, 0, u64::MAX) else {
+        return Err(Refusal::Usage);
+    };
+    Ok(Invocation::Rebuild {
+        image,
+        budget,
+        seed,
+    })
 }

@@ -3,7 +3,7 @@ ghost use Rattle.std.specs.Prelude.{◌≡◌, ◌≢◌, ◌≤◌, ℕ, true, 
 ghost use Rattle.clap.specs.Words.{app_of, kind_of, is_simple, is_simple_and_free, fault_of, first_of, rows_of, found_of};
 ghost use Rattle.clap.specs.declared.error.kind.ErrorKind.TheVariants.{OutOfMemory};
 ghost use Rattle.tool_run.specs.Command.{texts};
-ghost use Rattle.tool_run.specs.CommandLine.{format_app, show_app, drain_app, gen_app, plain_run_app, counted_run_app, run_app, IsMatchedBy, HasNumber, HasNumberOr, HasFlag};
+ghost use Rattle.tool_run.specs.CommandLine.{format_app, show_app, drain_app, gen_app, plain_run_app, with_limits, run_app, rebuild_app, IsMatchedBy, HasNumber, HasNumberOr, HasFlag};
 ghost use Rattle.tool_run.specs.declared.command_line.Refusal.TheVariants.{Usage, Memory};
 
 use crate::trace_plan::{GREATEST_SEED, MOST_REQUESTS};
@@ -99,12 +99,14 @@ pub fn run_command<'a>(alloc: Global) -> Result<Command<'a>, AllocError>
     let map = Arg::new(alloc, "map")
         .long("map")
         .action(ArgAction::SetTrue);
-    counted_run_command(alloc)?.arg(sum)?.arg(map)
+    with_limits(alloc, plain_run_command(alloc)?)?
+        .arg(sum)?
+        .arg(map)
 }
 
-// `run IMAGE --workers N [--stop K] [--seed X]`.
-fn counted_run_command<'a>(alloc: Global) -> Result<Command<'a>, AllocError>
-    ensures { IfOk result (λ command. app_of command ≡ counted_run_app) }
+// The command with the options `[--stop K] [--seed X]`.
+fn with_limits<'a>(alloc: Global, command: Command<'a>) -> Result<Command<'a>, AllocError>
+    ensures { IfOk result (λ limited. app_of limited ≡ with_limits (app_of command.entry)) }
 {
     let stop = Arg::new(alloc, "stop")
         .long("stop")
@@ -112,7 +114,7 @@ fn counted_run_command<'a>(alloc: Global) -> Result<Command<'a>, AllocError>
     let seed = Arg::new(alloc, "seed")
         .long("seed")
         .value_parser(ValueParser::unsigned(0, u64::MAX));
-    plain_run_command(alloc)?.arg(stop)?.arg(seed)
+    command.arg(stop)?.arg(seed)
 }
 
 // `run IMAGE --workers N`.
@@ -125,6 +127,14 @@ fn plain_run_command<'a>(alloc: Global) -> Result<Command<'a>, AllocError>
         .required(true)
         .value_parser(ValueParser::unsigned(1, MOST_WORKERS));
     Command::new(alloc, "run").arg(image)?.arg(workers)
+}
+
+/// `rebuild IMAGE [--stop K] [--seed X]`.
+pub fn rebuild_command<'a>(alloc: Global) -> Result<Command<'a>, AllocError>
+    ensures { IfOk result (λ command. app_of command ≡ rebuild_app) }
+{
+    let image = Arg::new(alloc, "IMAGE").required(true);
+    with_limits(alloc, Command::new(alloc, "rebuild").arg(image)?)
 }
 
 /// What clap makes of the words, of which the first is the command's name.

@@ -9,6 +9,7 @@ mod draining;
 mod fault;
 mod generating;
 mod making;
+mod rebuilding;
 mod recovering;
 mod run;
 mod size_class;

@@ -12,6 +12,7 @@ use crate::command::Invocation;
 use crate::draining::drain_image;
 use crate::fault::Fault;
 use crate::generating::generate;
+use crate::rebuilding::rebuild_named;
 use crate::recovering::recover_image;
 use crate::working::work_named;
 use dictionary::read_maps;
@@ -59,6 +60,11 @@ pub fn make<R, I: ImageStore, T: Source, G: Gate + Sync, C: Chances>(
         Invocation::Run { image, options } => {
             work_named(rt, alloc, image, options, images, trace, gate, chances)
         }
+        Invocation::Rebuild {
+            image,
+            budget,
+            seed,
+        } => rebuild_named(alloc, image, budget, seed, images, chances),
     }
 }
 

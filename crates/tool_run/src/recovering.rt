@@ -2,13 +2,14 @@
 ghost use Rattle.std.specs.Prelude.{◌≡◌, ◌≤◌, ℕ, length, IfOk, IfErr, OnOk};
 ghost use Rattle.heap_model.specs.Image.{image_of_bytes};
 ghost use Rattle.heap_model.specs.Header.{IsWellFormed};
+ghost use Rattle.region_header.specs.Words.{AreWordsOf};
 ghost use Rattle.tool_ports.specs.Calls.{with_get};
 ghost use Rattle.tool_ports.specs.Causes.{Rose};
 ghost use Rattle.tool_run.specs.Calls.{get_limit};
 ghost use Rattle.tool_run.specs.Command.{Command, image_name};
 ghost use Rattle.tool_run.specs.Inside.{Refuses};
 ghost use Rattle.tool_run.specs.Making.{Gets, PointsOutside};
-ghost use Rattle.tool_run.specs.Recovering.{IsRecovered, IsRecoveryOf, IsRecoveryFault};
+ghost use Rattle.tool_run.specs.Recovering.{IsRecovered, IsRecoveredFrom, IsRecoveryOf, IsRecoveryFault};
 
 use crate::fault::Fault;
 use dictionary::{DictFilter, root_kinds};
@@ -32,10 +33,29 @@ pub fn recover_image<I: ImageStore>(
     ensures later { I.faults images.old ≤ I.faults images.new }
     ensures calls { I.calls images.new ≡ with_get get_limit (I.calls images.old) }
 {
+    let (_, recovered) = recover_words(alloc, name, images)?;
+    Ok(recovered)
+}
+
+/// Recovers the image of this name, and gives its words beside what recovery makes of them.
+pub fn recover_words<I: ImageStore>(
+    alloc: Global,
+    name: &str,
+    images: &mut I,
+) -> Result<(Vec<u64>, Recovered), Fault>
+    ensures ok { IfOk result (λ both.
+        IsRecoveredFrom (I.contents images.old) name.now both.0.items both.1) }
+    ensures err { IfErr result (λ fault. (command : Command) → Gets command
+        → image_name command ≡ name.now → Refuses command (I.contents images.old)
+        (Rose (I.faults images.old) (I.faults images.new)) fault) }
+    ensures unchanged { I.contents images.new ≡ I.contents images.old }
+    ensures later { I.faults images.old ≤ I.faults images.new }
+    ensures calls { I.calls images.new ≡ with_get get_limit (I.calls images.old) }
+{
     let image = images.get(alloc, name, most_bytes())?;
     check_bytes(&image)?;
-    let recovered = recover_bytes(alloc, &image)?;
-    Ok(recovered)
+    let both = recover_bytes(alloc, &image)?;
+    Ok(both)
 }
 
 // How many bytes of an image are asked for: one more than the longest has, so that a longer one shows.
@@ -47,12 +67,15 @@ fn most_bytes() -> usize
 }
 
 // Recovers an image of these bytes, whose header is good.
-fn recover_bytes(alloc: Global, bytes: &[u8]) -> Result<Recovered, RecoverFault>
+fn recover_bytes(alloc: Global, bytes: &[u8]) -> Result<(Vec<u64>, Recovered), RecoverFault>
     requires { IsWellFormed (length bytes.now) (image_of_bytes bytes.now) }
-    ensures ok { IfOk result (IsRecoveryOf (image_of_bytes bytes.now)) }
+    ensures ok { IfOk result (λ both. IsRecoveryOf (image_of_bytes bytes.now) both.1) }
+    ensures words { IfOk result (λ both. AreWordsOf both.0.items bytes.now) }
+    ensures long { IfOk result (λ both. length both.1.heap.words ≡ length both.0.items) }
     ensures none { OnOk result ((at : ℕ) → PointsOutside (image_of_bytes bytes.now) at → ⊥) }
     ensures err { IfErr result (IsRecoveryFault (image_of_bytes bytes.now)) }
 {
     let words = bytes_to_words(alloc, bytes)?;
-    recover(alloc, &words, &root_kinds(), &DictFilter)
+    let recovered = recover(alloc, &words, &root_kinds(), &DictFilter)?;
+    Ok((words, recovered))
 }

@@ -9,7 +9,7 @@ ghost use Rattle.tool_run.specs.Command.{Command, Asks, AsksToFormat, AsksToGen,
 ghost use Rattle.tool_run.specs.Inside.{command_of, status_of, IsCarriedOut, IsStopped, IsBeforeReading};
 ghost use Rattle.tool_run.specs.Making.{RunsATrace};
 ghost use Rattle.tool_run.specs.Lines.{Tells, memory_line};
-ghost use Rattle.tool_run.specs.Outcome.{IsDone, IsReadFault, IsWriteFault, AsksToGet, AsksToLook, AsksToRead, AsksForRun, IsAbsent, IsBadHeader, IsOutsideAt, IsBadShardAt, IsBadTrace, HoldsMalformed, HoldsOutside, HoldsBadShard, HoldsMaps, HoldsBadLine, HoldsTooMuch, CanBeDone};
+ghost use Rattle.tool_run.specs.Outcome.{IsDone, IsReadFault, IsWriteFault, AsksToGet, AsksToLook, AsksToPutBack, AsksToRead, AsksForRun, IsAbsent, IsBadHeader, IsOutsideAt, IsBadShardAt, IsBadTrace, HoldsMalformed, HoldsOutside, HoldsBadShard, HoldsMaps, HoldsBadLine, HoldsTooMuch, CanBeDone};
 ghost use Rattle.tool_run.specs.Status.{done, usage, out_of_memory, read_fault, write_fault, no_image, bad_header, outside, bad_shard, bad_trace, statuses, LeavesStore, IsBeforeTrace, own_line};
 
 use crate::command::{Invocation, parse};
@@ -24,10 +24,13 @@ use tool_ports::{Chances, Gate, ImageStore, Sink, Source};
 /// Does what the words ask for. They are those after the program's name: `format IMAGE S` puts an
 /// empty image of S superblocks, `show IMAGE` recovers an image and prints a report on it,
 /// `show IMAGE --map` prints a map too, `run IMAGE --workers 1` runs the trace that the source has
-/// left over an image, puts the image that is left and prints the replies and a report,
-/// `drain IMAGE CLASS` recovers an image and prints the offsets of the blocks that the class then
-/// gives, and `gen N SEED` prints a trace. Where there is no result, a line tells why; one that the
-/// sink refuses is lost. What a heap settles early comes from `chances`, with the seed 0 for `drain`.
+/// left over an image, puts the image that is left and prints the replies and a report, with
+/// `--stop K` and `--seed X` as far as step K, with early write-backs by that seed, and with `--sum`
+/// and `--map` other texts; `rebuild IMAGE [--stop K] [--seed X]` recovers an image in place, puts
+/// the image that is left and prints a report; `drain IMAGE CLASS` recovers an image and prints the
+/// offsets of the blocks that the class then gives, and `gen N SEED` prints a trace. Where there is
+/// no result, a line tells why; one that the sink refuses is lost. What a heap writes back early
+/// comes from `chances`, with the seed 0 where none is given.
 pub fn run_tool<R, I: ImageStore, T: Source, O: Sink, G: Gate + Sync, C: Chances>(
     rt: &R,
     alloc: Global,
@@ -82,10 +85,10 @@ pub fn run_tool<R, I: ImageStore, T: Source, O: Sink, G: Gate + Sync, C: Chances
         → I.calls images.new ≡ I.calls images.old }
     ensures one_get { (name : List ℕ) → AsksToLook (texts words.now) name
         → result ≢ out_of_memory → I.calls images.new ≡ with_get get_limit (I.calls images.old) }
-    ensures get_and_put { (name : List ℕ) → AsksForRun (texts words.now) name
+    ensures get_and_put { (name : List ℕ) → AsksToPutBack (texts words.now) name
         → (result ≡ done) ⊎ (result ≡ write_fault)
         → I.calls images.new ≡ with_put (with_get get_limit (I.calls images.old)) }
-    ensures get_alone { (name : List ℕ) → AsksForRun (texts words.now) name
+    ensures get_alone { (name : List ℕ) → AsksToPutBack (texts words.now) name
         → result ≢ done → result ≢ write_fault → result ≢ out_of_memory
         → I.calls images.new ≡ with_get get_limit (I.calls images.old) }
     ensures get_or_none { (name : List ℕ) → AsksToGet (texts words.now) name

@@ -1,6 +1,7 @@
 use Rattle.tool_run.proofs.StatusLemmas.{has_status, is_read_fault, is_write_fault, is_bad_header, is_outside, is_bad_shard, is_absent, is_bad_trace, is_own_line, for_run}
 use Rattle.std.proofs.Common.{arith, rules}
 use Rattle.tool_run.proofs.CallLemmas.{rose_since}
+use Rattle.tool_run.proofs.PutBackLemmas.{put_once}
 use Rattle.tool_run.proofs.AbsentLemmas.{stops_absent}
 use Rattle.tool_run.proofs.BadTraceLemmas.{stops_bad_line, stops_too_long, done_bad_line, done_too_long}
 use Rattle.tool_run.proofs.CompleteLemmas.{stops_complete}
@@ -108,10 +109,14 @@ pub returns-in-Ok-carry_out-clause-unread : goal.returns-in-Ok-carry_out-clause-
 returns-in-Ok-carry_out-clause-unread g c none = c.carry_out.ensures.no_run (λ runs. none _ (for_run _ _ runs c.in-Ok.ensures.ok))
 
 pub returns-in-Err-Usage-clause-get_alone : goal.returns-in-Err-Usage-clause-get_alone
-returns-in-Err-Usage-clause-get_alone g c name asks = absurd (c.parse.ensures.err (search rules) (run_image name asks.options) asks.asked)
+returns-in-Err-Usage-clause-get_alone g c name asks = absurd (c.parse.ensures.err (search rules) asks.command asks.asked)
 
 pub returns-in-Err-Usage-clause-always_bad_line : goal.returns-in-Err-Usage-clause-always_bad_line
 returns-in-Err-Usage-clause-always_bad_line g c name line asks = absurd (c.parse.ensures.err (search rules) (run_image name asks.options) asks.asked)
 
 pub returns-in-Err-Usage-clause-always_too_long : goal.returns-in-Err-Usage-clause-always_too_long
 returns-in-Err-Usage-clause-always_too_long g c name asks = absurd (c.parse.ensures.err (search rules) (run_image name asks.options) asks.asked)
+
+pub returns-in-Err-clause-get_and_put : goal.returns-in-Err-clause-get_and_put
+returns-in-Err-clause-get_and_put g c =
+    put_once _ _ _ _ _ c.in-Err.fault c.in-Ok.ensures.ok c.in-Err.ensures.calls_err c.tell-in-Err.ensures.status

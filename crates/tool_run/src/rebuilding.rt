@@ -1,0 +1,42 @@
+//! Recovers a named image in place, as far as a budget goes.
+ghost use Rattle.std.specs.Prelude.{◌≡◌, ◌≤◌, ℕ, IfOk, IfErr};
+ghost use Rattle.tool_ports.specs.Calls.{with_get};
+ghost use Rattle.tool_ports.specs.Causes.{Rose};
+ghost use Rattle.tool_run.specs.Calls.{get_limit};
+ghost use Rattle.tool_run.specs.Command.{Command, image_name};
+ghost use Rattle.tool_run.specs.Inside.{Refuses};
+ghost use Rattle.tool_run.specs.Making.{RebuildsNamed, Gets};
+
+use crate::fault::Fault;
+use crate::making::Product;
+use crate::recovering::recover_words;
+use image_rebuild::rebuild_image;
+use std::alloc::Global;
+use tool_ports::{Chances, ImageStore};
+
+/// Recovers the image of this name in place, with so many steps, and makes the image that is left
+/// and the text on it.
+pub fn rebuild_named<I: ImageStore, C: Chances>(
+    alloc: Global,
+    name: &str,
+    budget: u64,
+    seed: u64,
+    images: &mut I,
+    chances: &mut C,
+) -> Result<Product, Fault>
+    ensures ok { IfOk result (λ product. RebuildsNamed (I.contents images.old) name.now budget
+        product.image product.text) }
+    ensures err { IfErr result (λ fault. (command : Command) → Gets command
+        → image_name command ≡ name.now → Refuses command (I.contents images.old)
+        (Rose (I.faults images.old) (I.faults images.new)) fault) }
+    ensures unchanged { I.contents images.new ≡ I.contents images.old }
+    ensures later { I.faults images.old ≤ I.faults images.new }
+    ensures calls { I.calls images.new ≡ with_get get_limit (I.calls images.old) }
+{
+    let (words, recovered) = recover_words(alloc, name, images)?;
+    let product = rebuild_image(alloc, &words, &recovered.heap, budget, seed, chances)?;
+    Ok(Product {
+        image: Some(product.image),
+        text: product.text,
+    })
+}
