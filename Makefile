@@ -1,7 +1,8 @@
 # make         builds the proved heap_tool and says where it lies
 # make test    runs all tests and the stored runs, and proves nothing
 # make check   every check: the gate
-# make bench   times the program beside the system's tools, the heap for one thread, and requests to the dictionary
+# make bench   times the program beside the system's tools and other stores, runs of traces, the heap for one thread,
+#              and requests to the dictionary
 # make clean   removes what these made
 .PHONY: all test check bench clean
 
@@ -22,7 +23,8 @@ check:
 
 bench: bin/heap_tool
 	bench/run
-	if command -v python3 >/dev/null; then bench/pairs.py && bench/requests.py; fi
+	if command -v python3 >/dev/null; then bench/running.py && bench/pairs.py && bench/requests.py; fi
+	bench/peers
 
 clean:
 	rm -rf bin crates/*/out
