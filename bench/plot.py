@@ -25,7 +25,8 @@ def draw_requests(axes, path):
     for way in dict.fromkeys(row[0] for row in rows):
         points = [(int(count) / 1e3, float(ms)) for name, count, ms in rows if name == way]
         axes.plot(*zip(*points), marker="o", label=way)
-    axes.set(title="run of gen N 7 on format h 256", xlabel="N, in thousands", ylabel="ms, the least of the runs", xlim=(0, None), ylim=(0, None))
+    axes.set(title="run of gen N 7 on format h 256", xlabel="N, in thousands", ylabel="ms, the least of the runs")
+    axes.set(xlim=(0, None), ylim=(0, None))
     axes.legend()
 
 
@@ -33,20 +34,25 @@ def medians(path, metric):
     """The nanoseconds of each store."""
     with open(path, newline="") as lines:
         rows = list(csv.DictReader(lines, delimiter="\t"))
-    return {row["system"]: float(row["median"]) for row in rows if (row["workload"], row["metric"]) == (WORKLOAD, metric)}
+    wanted = (row for row in rows if (row["workload"], row["metric"]) == (WORKLOAD, metric))
+    return {row["system"]: float(row["median"]) for row in wanted}
 
 
 def draw_peers(axes, path, small):
     """The whole process, and the same less that on an empty trace; ours also on the small image."""
-    whole, net = ({**medians(path, metric), f"{OURS}, 16 sb": medians(small, metric)[OURS]} for metric in ("whole_ns", "net_ns"))
+    whole, net = medians(path, "whole_ns"), medians(path, "net_ns")
+    for times, metric in ((whole, "whole_ns"), (net, "net_ns")):
+        times[f"{OURS}, 16 sb"] = medians(small, metric)[OURS]
     names = sorted(whole, key=whole.get, reverse=True)
     for shift, times, label in ((0.2, whole, "whole process"), (-0.2, net, "less an empty trace")):
-        bars = axes.barh([at + shift for at in range(len(names))], [times[name] for name in names], 0.4, label=label)
-        axes.bar_label(bars, labels=[f"{times[name]:,.0f}" for name in names], padding=3, fontsize=8)
+        values = [times[name] for name in names]
+        bars = axes.barh([at + shift for at in range(len(names))], values, 0.4, label=label)
+        axes.bar_label(bars, labels=[f"{each:,.0f}" for each in values], padding=3, fontsize=8)
     axes.set_yticks(range(len(names)), names)
     for label in axes.get_yticklabels():
         label.set_fontweight("bold" if label.get_text().startswith(OURS) else "normal")
-    axes.set(title="gen 100000 7, one worker", xlabel="ns a request, median", xscale="log", xlim=(100, 4 * max(whole.values())))
+    axes.set(title="gen 100000 7, one worker", xlabel="ns a request, median", xscale="log")
+    axes.set_xlim(100, 4 * max(whole.values()))
     axes.legend()
 
 

@@ -2,8 +2,8 @@
 """Times heap_tool run on the traces of gen, beside runs that do a part of that: no request at all, gets that find no
 table, a trace that is refused at its last line (so it is read and parsed alone), and a stop before the first step.
 
-Each run is on an image made anew by format, in a folder of TMPDIR. Each figure is the least of RUNS runs that take turns: the time of the whole
-process, from its start to its end, and its peak memory.
+Each run is on an image made anew by format, in a folder of TMPDIR. Each figure is the least of RUNS runs that take turns:
+the time of the whole process, from its start to its end, and its peak memory.
 
 usage: running.py [RUNS [SUPERBLOCKS [FILE]]]      (make comes first; FILE gets what plot.py draws)
 """
@@ -24,7 +24,10 @@ MOST = REQUESTS[-1]
 
 def took(words, trace, wanted):
     """Milliseconds of a process, and its peak in bytes; words are heap_tool's, and the status is the wanted one."""
-    actions = [(os.POSIX_SPAWN_OPEN, 0, trace, os.O_RDONLY, 0), (os.POSIX_SPAWN_OPEN, 1, os.devnull, os.O_WRONLY, 0)]
+    actions = [
+        (os.POSIX_SPAWN_OPEN, 0, trace, os.O_RDONLY, 0),
+        (os.POSIX_SPAWN_OPEN, 1, os.devnull, os.O_WRONLY, 0),
+    ]
     before = time.monotonic()
     child = os.posix_spawn(TOOL, ["heap_tool", *words], os.environ, file_actions=actions)
     _, status, used = os.wait4(child, 0)
@@ -100,7 +103,10 @@ def main(runs="9", superblocks="256", path=None):
         ways = prepare(room)
         least = measure(room, ways, superblocks, int(runs))
         length = (room / "image").stat().st_size
-        held = {name: length * (words[0] == "run") + os.stat(trace).st_size for name, (words, trace, _, _) in ways.items()}
+        held = {
+            name: length * (words[0] == "run") + os.stat(trace).st_size
+            for name, (words, trace, _, _) in ways.items()
+        }
     # A process is told to have at least the peak of the one that started it.
     own = resource.getrusage(resource.RUSAGE_SELF).ru_maxrss * 1024
     print(f"least of {runs} runs; format h {superblocks}; load {os.getloadavg()[0]:.1f}")
