@@ -1,0 +1,13 @@
+//! Tests of the tool's runs: traces worked off over stores, inputs and outputs in memory, stopped at
+//! each step, and with each call of the outside failing. The crate is nothing but these, so that a
+//! change of the tool's texts or of its other commands leaves them alone.
+#![tactic(auto)]
+
+#[cfg(test)]
+mod faults;
+#[cfg(test)]
+mod harness;
+#[cfg(test)]
+mod rows;
+#[cfg(test)]
+mod stops;
