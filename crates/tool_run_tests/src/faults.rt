@@ -1,7 +1,8 @@
 //! Runs of which a call of the outside fails, that name a damaged image, or whose trace is outside
 //! the grammar.
 use crate::harness::{
-    Call, Constant, image_after, image_in, make, plain, run_script, runs, store_with,
+    Call, Changes, Constant, damaged, image_after, image_in, make, plain, run_script, runs,
+    store_with,
 };
 use std::alloc::Global;
 use std::process::Abort;
@@ -156,24 +157,10 @@ fn a_trace_that_is_too_long_is_told(rt: HostRuntime) -> Result<(), Fail> {
     Ok(())
 }
 
-/// An image of two superblocks with a table that has one node, in which some words have others.
-fn damaged(alloc: Global, changes: &[(usize, u64)]) -> Result<Vec<u8>, Fail> {
-    let mut image = image_after(alloc, "2", "put 0 -")?;
-    for (at, value) in changes {
-        let from = at.saturating_mul(8);
-        for (i, byte) in value.to_le_bytes().iter().enumerate() {
-            if let Some(old) = image.get_mut(from.saturating_add(i)) {
-                *old = *byte;
-            }
-        }
-    }
-    Ok(image)
-}
-
 #[test]
 fn an_image_is_refused_before_its_trace(rt: HostRuntime) -> Result<(), Fail> {
     let alloc = rt.alloc();
-    let cases: [(&[(usize, u64)], u8, &str); 4] = [
+    let cases: [(Changes<'_>, u8, &str); 4] = [
         (&[(3, 0)], 7, "bad header state\n"),
         (
             &[(40, 1)],

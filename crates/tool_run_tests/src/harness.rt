@@ -174,6 +174,39 @@ pub fn word(image: &[u8], at: usize) -> u64 {
     bytes.iter().rev().fold(0u64, |word, byte| word.wrapping_mul(256) | u64::from(*byte))
 }
 
+/// Gives the word of an image at the word index another value.
+pub fn set_word(image: &mut [u8], at: usize, value: u64) {
+    if let Some(rest) = image.get_mut(at.saturating_mul(8)..) {
+        for (old, byte) in rest.iter_mut().zip(value.to_le_bytes()) {
+            *old = byte;
+        }
+    }
+}
+
+/// Other values for words of an image: at which word index, and what.
+pub type Changes<'a> = &'a [(usize, u64)];
+
+/// A table in superblock 0 of two, to which root 0 points, and in its bucket 0 a node of four words
+/// in superblock 1, with key 0 and no byte. All else is as formatting leaves it.
+const BASE: Changes<'_> = &[
+    (8, 2),
+    (1_064, 12),
+    (1_072, 2),
+    (40, 0x5250_0000_0000_21c0),
+    (1_080, 0x5250_0000_0001_21c0),
+];
+
+/// That image, in which some words have other values.
+pub fn damaged(alloc: Global, changes: Changes<'_>) -> Result<Vec<u8>, Fail> {
+    let mut images = store(alloc);
+    make_plain(alloc, &mut images, "format h 2", b"")?;
+    let mut image = image_in(alloc, &images)?;
+    for (at, value) in BASE.iter().chain(changes) {
+        set_word(&mut image, *at, *value);
+    }
+    Ok(image)
+}
+
 /// A request that puts so many zero bytes, as a line of a trace.
 pub fn put_zeros(trace: &mut String, key: u64, length: u64) -> Result<(), AllocError> {
     write!(trace, "put {key} ")?;
