@@ -17,7 +17,8 @@ const LINE: &str = "run h --workers 1 --map";
 const TRACE: &[u8] = b"put 5 6162\nget 5\ndel 5\nget 5";
 
 const TOLD: &[u8] =
-    b"ok\n6162\nok\nnone\nrun closed\nheap 4 clean\nheld 1024 1\nused 2 free 1 fresh 2\nsb 0 class 12 held 0\nsb 1 free\n";
+    b"ok\n6162\nok\nnone\nrun closed\nheap 4 clean\nheld 1024 1\nused 2 free 1 fresh 2\n\
+     sb 0 class 12 held 0\nsb 1 free\n";
 
 /// Which call of the outside fails, and how: that of the store, the input or the output.
 #[derive(Clone, Copy, Debug)]

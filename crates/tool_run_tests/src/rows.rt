@@ -11,8 +11,8 @@ const FORMATTED_4: (&str, &str, u8, &str) = ("format h 4", "", 0, "formatted 4 b
 #[test]
 fn requests_are_answered_and_the_heap_is_told(rt: HostRuntime) -> Result<(), Fail> {
     let trace = "put 5 6162\nget 5\ndel 5\nget 5";
-    let told =
-        "ok\n6162\nok\nnone\nrun closed\nheap 4 clean\nheld 1024 1\nused 2 free 1 fresh 2\nsb 0 class 12 held 0\nsb 1 free\n";
+    let told = "ok\n6162\nok\nnone\nrun closed\nheap 4 clean\nheld 1024 1\nused 2 free 1 fresh 2\n\
+         sb 0 class 12 held 0\nsb 1 free\n";
     let mut images = store(rt.alloc());
     run_script(
         &rt,
@@ -86,7 +86,8 @@ fn keys_at_the_end_stand_in_the_last_bucket(rt: HostRuntime) -> Result<(), Fail>
                 "run h --workers 1",
                 "put 18446744073709551615 -\nget 18446744073709551615\n",
                 0,
-                "ok\n-\nrun closed\nheap 2 clean\nkey 18446744073709551615 -\nheld 32 1\nheld 1024 1\n",
+                "ok\n-\nrun closed\nheap 2 clean\nkey 18446744073709551615 -\nheld 32 1\n\
+                 held 1024 1\n",
             ),
         ],
     )?;
@@ -121,14 +122,18 @@ fn long_values_take_blocks_of_their_own(rt: HostRuntime) -> Result<(), Fail> {
                 "run h --workers 1 --sum --map",
                 &one,
                 0,
-                "requests 1 ok 1 none 0 value 0 full 0 unanswered 0\nrun closed\nheap 4 clean\nkeys 1 bytes 65513\nheld 1024 1\nheld large 2 1\nused 3 free 0 fresh 1\nsb 0 class 12 held 0\nsb 1 large 2\nsb 2 inside 1\n",
+                "requests 1 ok 1 none 0 value 0 full 0 unanswered 0\nrun closed\nheap 4 clean\n\
+                 keys 1 bytes 65513\nheld 1024 1\nheld large 2 1\nused 3 free 0 fresh 1\n\
+                 sb 0 class 12 held 0\nsb 1 large 2\nsb 2 inside 1\n",
             ),
             FORMATTED_4,
             (
                 "run h --workers 1 --sum --map",
                 &both,
                 0,
-                "requests 3 ok 2 none 0 value 0 full 1 unanswered 0\nrun closed\nheap 4 clean\nkeys 0 bytes 0\nheld 1024 1\nused 3 free 2 fresh 1\nsb 0 class 12 held 0\nsb 1 free\nsb 2 free\n",
+                "requests 3 ok 2 none 0 value 0 full 1 unanswered 0\nrun closed\nheap 4 clean\n\
+                 keys 0 bytes 0\nheld 1024 1\nused 3 free 2 fresh 1\nsb 0 class 12 held 0\n\
+                 sb 1 free\nsb 2 free\n",
             ),
         ],
     )
@@ -152,14 +157,17 @@ fn freed_superblocks_serve_other_classes(rt: HostRuntime) -> Result<(), Fail> {
                 "run h --workers 1 --map",
                 &other,
                 0,
-                "ok\nok\nok\nok\nok\nok\nok\nok\nok\nrun closed\nheap 2 clean\nkey 0 ab\nheld 32 1\nheld 1024 1\nused 2 free 0 fresh 0\nsb 0 class 12 held 0\nsb 1 class 2 held 0\n",
+                "ok\nok\nok\nok\nok\nok\nok\nok\nok\nrun closed\nheap 2 clean\nkey 0 ab\n\
+                 held 32 1\nheld 1024 1\nused 2 free 0 fresh 0\nsb 0 class 12 held 0\n\
+                 sb 1 class 2 held 0\n",
             ),
             formatted,
             (
                 "run h --workers 1 --sum",
                 &refused,
                 0,
-                "requests 7 ok 6 none 0 value 0 full 1 unanswered 0\nrun closed\nheap 2 clean\nkeys 4 bytes 57248\nheld 1024 1\nheld 14336 4\n",
+                "requests 7 ok 6 none 0 value 0 full 1 unanswered 0\nrun closed\nheap 2 clean\n\
+                 keys 4 bytes 57248\nheld 1024 1\nheld 14336 4\n",
             ),
         ],
     )
@@ -189,7 +197,8 @@ fn a_made_trace_is_run(rt: HostRuntime) -> Result<(), Fail> {
                 "run h --workers 1 --sum",
                 four,
                 0,
-                "requests 4 ok 2 none 2 value 0 full 0 unanswered 0\nrun closed\nheap 4 clean\nkeys 2 bytes 24\nheld 32 1\nheld 48 1\nheld 1024 2\n",
+                "requests 4 ok 2 none 2 value 0 full 0 unanswered 0\nrun closed\nheap 4 clean\n\
+                 keys 2 bytes 24\nheld 32 1\nheld 48 1\nheld 1024 2\n",
             ),
             ("format h 8", "", 0, "formatted 8 bytes 533312\n"),
         ],
@@ -200,7 +209,9 @@ fn a_made_trace_is_run(rt: HostRuntime) -> Result<(), Fail> {
         "run h --workers 1 --sum --map",
         &printed(alloc, "gen 8 1")?,
         0,
-        "requests 8 ok 4 none 4 value 0 full 0 unanswered 0\nrun closed\nheap 8 clean\nkeys 4 bytes 300\nheld 96 2\nheld 128 2\nheld 1024 4\nused 3 free 0 fresh 5\nsb 0 class 12 held 0-3\nsb 1 class 5 held 0-1\nsb 2 class 6 held 0-1\n",
+        "requests 8 ok 4 none 4 value 0 full 0 unanswered 0\nrun closed\nheap 8 clean\n\
+         keys 4 bytes 300\nheld 96 2\nheld 128 2\nheld 1024 4\nused 3 free 0 fresh 5\n\
+         sb 0 class 12 held 0-3\nsb 1 class 5 held 0-1\nsb 2 class 6 held 0-1\n",
     )
 }
 
