@@ -11,6 +11,8 @@ mod faults;
 #[cfg(test)]
 mod harness;
 #[cfg(test)]
+mod rebuilds;
+#[cfg(test)]
 mod rows;
 #[cfg(test)]
 mod stops;
