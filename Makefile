@@ -3,8 +3,9 @@
 # make check   every check: the gate
 # make bench   times the program beside the system's tools and other stores, runs of traces, the heap for one thread,
 #              and requests to the dictionary
+# make faults  refuses each request for memory of a small run in turn, and says how the runs ended
 # make clean   removes what these made
-.PHONY: all test check bench clean
+.PHONY: all test check bench faults clean
 
 all: bin/heap_tool
 
@@ -25,6 +26,9 @@ bench: bin/heap_tool
 	bench/run
 	if command -v python3 >/dev/null; then bench/running.py && bench/pairs.py && bench/requests.py; fi
 	bench/peers
+
+faults:
+	tools/faults
 
 clean:
 	rm -rf bin crates/*/out
