@@ -41,6 +41,13 @@ image_of_bytes-bytes_of_words (w ∷ words) (suc i) small =
     ap (λ n. drop n (bytes_of_words (w ∷ words))) step ∙ drop-append-add (little_bytes 8 w) (bytes_of_words words) (8 * i) in
     ap (little_number 8) moved ∙ image_of_bytes-bytes_of_words words i (λ k below. small (suc k) (omega arith))
 
+-- words of 64 bits are those of their bytes
+pub words_of_bytes : (words : List ℕ) → ((k : ℕ) → k < length words → slice_index words k < 2 ^ 64) → AreWordsOf words (bytes_of_words words)
+words_of_bytes words small = record {
+  count = sym (length-bytes_of_words words);
+  word = λ i. sym (image_of_bytes-bytes_of_words words i small);
+}
+
 -- a list of bytes reads as a byte at each index, past its end too
 pub byte_anywhere : (bytes : List ℕ) → ((k : ℕ) → k < length bytes → get_or bytes k 0 < 256) → (i : ℕ) → get_or bytes i 0 < 256
 byte_anywhere bytes small i = elim (cases_lt i (length bytes)) [

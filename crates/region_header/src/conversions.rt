@@ -8,9 +8,10 @@ use byteorder::{ByteOrder, LittleEndian};
 use std::alloc::{AllocError, Global};
 use super_block::WORD_BYTES;
 
-/// The bytes of the words, the lowest byte of each first.
+/// The bytes of the words, the lowest byte of each first: they stand for these words.
 pub fn words_to_bytes(alloc: Global, words: &[u64]) -> Result<Bytes, AllocError>
     ensures ok { IfOk result (λ bytes. bytes ≡ bytes_of_words words.now) }
+    ensures words { IfOk result (AreWordsOf words.now) }
 {
     let mut bytes = vec![in alloc; 0; WORD_BYTES as usize * words.len()]?;
     LittleEndian::write_u64_into(words, &mut bytes);

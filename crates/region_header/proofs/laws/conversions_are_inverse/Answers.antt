@@ -1,12 +1,9 @@
 use Rattle.std.proofs.Common.{sym}
-use Rattle.region_header.proofs.WordBytes.{length-bytes_of_words, image_of_bytes-bytes_of_words, byte_anywhere, bytes_of_words-image_of_bytes, AreWordsOf-unique}
+use Rattle.region_header.proofs.WordBytes.{words_of_bytes, byte_anywhere, bytes_of_words-image_of_bytes, AreWordsOf-unique}
 use Rattle.region_header.proofs.laws.conversions_are_inverse.Goals as goal
 
 pub returns-clause-written : goal.returns-clause-written
-returns-clause-written c words small = record {
-  count = sym (length-bytes_of_words words);
-  word = λ i. sym (image_of_bytes-bytes_of_words words i (λ k below. small k 0 below));
-}
+returns-clause-written c words small = words_of_bytes words (λ k below. small k 0 below)
 
 pub returns-clause-unique : goal.returns-clause-unique
 returns-clause-unique c = AreWordsOf-unique
