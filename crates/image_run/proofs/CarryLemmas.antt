@@ -92,6 +92,7 @@ module _ (old new : Image) (to : RecoversTo old new) (maps : List (BTreeMap ℕ 
     left = runs.left;
     leaves = carried requests options.budget runs.told runs.stopped runs.left runs.leaves;
     put_is = runs.put_is;
+    words_are = runs.words_are;
     report = runs.report;
     reports = runs.reports;
     text_is = runs.text_is;

@@ -3,3 +3,4 @@ pub mod TextLemmas
 pub mod RecoveredLemmas
 pub mod CarryLemmas
 pub mod LeftLemmas
+pub mod PutLemmas

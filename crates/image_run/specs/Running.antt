@@ -1,6 +1,7 @@
 -- What a run of a trace puts and prints.
 use Rattle.std.specs.Prelude.{◌≡◌, ℕ, Bool, List, ◌++◌, length, slice_index}
 use Rattle.heap_model.specs.Image.{Image, bytes_of_words}
+use Rattle.region_header.specs.Words.{AreWordsOf}
 use Rattle.dict_model.specs.Requests.{Request}
 use Rattle.trace_run.specs.Runs.{AnswersInOrder, StopsRightly, IsFullRightly, RepliesRightly, LeavesMaps, LeavesHeader, LeavesOthers, LeavesState}
 use Rattle.trace_run.specs.Said.{Told, replies_of}
@@ -36,13 +37,14 @@ pub record Leaves (image : Image) (requests : List Request) (budget : ℕ) (told
   pub others : LeavesOthers image (slice_index left)
   pub state : LeavesState stopped (slice_index left)
 
--- a run of the requests over the image puts these bytes, those of the image that is left, and prints this text: the replies, and then the report on the image that is left
+-- a run of the requests over the image puts these bytes, those of the image that is left, which are read again as its words, and prints this text: the replies, and then the report on the image that is left
 pub record Runs (image : Image) (requests : List Request) (options : Options) (put text : List ℕ) : Type 0 where
   pub told : List Told
   pub stopped : Bool
   pub left : List ℕ
   pub leaves : Leaves image requests options.budget told stopped left
   pub put_is : put ≡ bytes_of_words left
+  pub words_are : AreWordsOf left put
   pub report : List ℕ
   pub reports : Reports (slice_index left) options.with_sum options.with_map report
   pub text_is : text ≡ replies_text told stopped options.with_sum ++ report

@@ -1,10 +1,12 @@
-//! What follows of runs, as a function with nothing to run.
-ghost use Rattle.std.specs.Prelude.{ℕ, List};
+//! What follows of runs, as functions with nothing to run.
+ghost use Rattle.std.specs.Prelude.{◌≡◌, ℕ, List, None};
 ghost use Rattle.std.specs.BTreeMap.{BTreeMap};
-ghost use Rattle.heap_model.specs.Image.{Image};
+ghost use Rattle.heap_model.specs.Image.{Image, image_of_bytes};
 ghost use Rattle.dict_model.specs.Links.{shards};
 ghost use Rattle.dict_model.specs.Requests.{Request};
 ghost use Rattle.dictionary.specs.Reading.{RecoversTo, AreMaps};
+ghost use Rattle.trace_run.specs.Opened.{HasMaps};
+ghost use Rattle.image_run.specs.Reporting.{fault_of, PointsOutside};
 ghost use Rattle.image_run.specs.Running.{Options, Runs};
 
 /// A run over what recovery leaves of an image is one over the image itself.
@@ -13,4 +15,18 @@ pub fn a_run_over_what_recovery_leaves_is_one_over_the_image()
         → RecoversTo image words → AreMaps words shards maps
         → (requests : List Request) (options : Options) (put text : List ℕ)
         → Runs words requests options put text → Runs image requests options put text }
+{}
+
+/// What a run over an image whose shards are maps puts is accepted by the next run: its bytes are
+/// not malformed, nothing in it is outside, and each of its shards is a map.
+pub fn what_a_run_puts_can_be_run_again()
+    ensures well_formed { (image : Image) (requests : List Request) (options : Options)
+        (put text : List ℕ) → HasMaps image → Runs image requests options put text
+        → fault_of put ≡ None }
+    ensures nothing_outside { (image : Image) (requests : List Request) (options : Options)
+        (put text : List ℕ) → HasMaps image → Runs image requests options put text
+        → (at : ℕ) → PointsOutside (image_of_bytes put) at → ⊥ }
+    ensures maps { (image : Image) (requests : List Request) (options : Options)
+        (put text : List ℕ) → HasMaps image → Runs image requests options put text
+        → HasMaps (image_of_bytes put) }
 {}

@@ -6,7 +6,9 @@ mod options;
 mod reporting;
 mod running;
 
-pub use laws::a_run_over_what_recovery_leaves_is_one_over_the_image;
+pub use laws::{
+    a_run_over_what_recovery_leaves_is_one_over_the_image, what_a_run_puts_can_be_run_again,
+};
 pub use options::{MOST_BUDGET, MOST_WORKERS, RunOptions};
 pub use reporting::recovered_text;
 pub use running::{RunProduct, run_image};

@@ -2,6 +2,7 @@ use Rattle.std.proofs.Common.{◌≡◌, List, ℕ, ◌++◌, length, slice_inde
 use Rattle.trace_run.specs.Said.{Told}
 use Rattle.heap_model.specs.Image.{bytes_of_words}
 use Rattle.trace_text.specs.Replies.{replies_text}
+use Rattle.region_header.specs.Words.{AreWordsOf}
 use Rattle.image_run.specs.Reporting.{Reports}
 use Rattle.trace_run.specs.Opened.{CanBeRun}
 use Rattle.trace_run.proofs.AgainLemmas.{can_be_run}
@@ -38,6 +39,7 @@ returns g c =
           state = c.in_ok-outcome.ensures.state;
         };
         put_is = image_is;
+        words_are = subst (λ (l : List ℕ). AreWordsOf l c.in_ok-image.image) c.deref-3.ensures.value c.in_ok-image.ensures.words;
         report = c.in_ok-report.report;
         reports = subst (λ (l : List ℕ). Reports (slice_index l) c.args.options.with_sum c.args.options.with_map c.in_ok-report.report) c.deref.ensures.value c.in_ok-report.ensures;
         text_is = text_is;
