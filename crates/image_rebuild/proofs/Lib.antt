@@ -1,1 +1,2 @@
 mod RebuiltLemmas
+mod PutLemmas

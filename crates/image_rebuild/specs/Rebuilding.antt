@@ -6,6 +6,7 @@ use Rattle.heap_model.specs.Header.{capacity_of, state_of}
 use Rattle.heap_model.specs.Image.{Image, bytes_of_words}
 use Rattle.heap_model.specs.Durability.{IsTransient}
 use Rattle.heap_model.specs.Recovery.{IsRecovered}
+use Rattle.region_header.specs.Words.{AreWordsOf}
 use Rattle.heap_recover.specs.InPlace.{differences, RecoversAlike}
 use Rattle.dict_model.specs.Links.{dict_links, root_kind}
 use Rattle.trace_text.specs.Report.{line_feed, report_of}
@@ -37,12 +38,13 @@ pub record TellsHeap (image : Image) (text : List ℕ) : Type 0 where
   pub recovered : Recovers image held free words
   pub text_is : text ≡ report_of (capacity_of image) (nat_eq (state_of image) clean) [] held
 
--- the bytes of the image that is left are put, and the line and the report on that image are printed
+-- the bytes of the image that is left, which are read again as its words, are put, and the line and the report on that image are printed
 pub record Rebuilds (image : Image) (count budget : ℕ) (put text : List ℕ) : Type 0 where
   pub stopped : Bool
   pub left : List ℕ
   pub rebuilt : IsRebuilt image count budget stopped left
   pub put_is : put ≡ bytes_of_words left
+  pub words_are : AreWordsOf left put
   pub report : List ℕ
   pub tells : TellsHeap (slice_index left) report
   pub text_is : text ≡ rebuilt_line stopped ++ report

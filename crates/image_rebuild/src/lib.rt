@@ -2,6 +2,8 @@
 //! what is told of it.
 #![tactic(auto)]
 
+mod laws;
 mod rebuilding;
 
+pub use laws::what_a_rebuild_puts_can_be_recovered;
 pub use rebuilding::{RebuildProduct, rebuild_image};
