@@ -59,7 +59,7 @@ module _ (image : Image) (requests left : List Request) (replies final : Replies
 
 -- the cause of each put that was told full, over a heap for one thread
 module _ (words : List ℕ) (held : List Block) (budget : ℕ) (s t : SeqState) (opened : IsOpened words held budget s) where
-  pub ends_full : (requests : List Request) (rs : List (Request × Reply)) (final : Replies) → AreFullRightly seat_of KeepsFixed requests rs s → answered requests final ≡ rs
+  pub ends_full : (requests : List Request) (rs : List (Request × Reply)) (final : Replies) → AreFullRightly seat_of KeepsFixed requests rs s t → answered requests final ≡ rs
       → IsFullRightly (slice_index words) requests final
   ends_full requests rs final are same = record {
     cause = λ before later key value is.
@@ -67,9 +67,9 @@ module _ (words : List ℕ) (held : List Block) (budget : ℕ) (s t : SeqState) 
         let looks = looks_opened words held budget s at.0 opened at.1 in
         let capacity = at.1.capacity in
         let first = opened.opens.capacity in
-        let past = at.2.room.past in
-        let now = at.2.room.now in
-        let taken = at.2.taken in
+        let past = at.3.room.past in
+        let now = at.3.room.now in
+        let taken = at.3.taken in
         let none = opened.opens.taken in
         omega arith;
   }

@@ -148,19 +148,28 @@ full_behind requests rs q r v w taken is room = record {
 }
 
 -- and so it is over the whole run
-pub refused_none : {S : Type 0} (view : S → View) (keeps : S → S → Type 0) (requests : List Request) (s : S) → AreFullRightly view keeps requests [] s
-refused_none view keeps requests s = record { each = λ before later key value is. absurd (no_end before later (put key value, full) is) }
+pub refused_none : {S : Type 0} (view : S → View) (keeps : S → S → Type 0) (requests : List Request) (s t : S) → AreFullRightly view keeps requests [] s t
+refused_none view keeps requests s t = record { each = λ before later key value is. absurd (no_end before later (put key value, full) is) }
 
+-- it stays so where the heap goes on
+pub refused_on : {S : Type 0} (view : S → View) (keeps : S → S → Type 0) (requests : List Request) (rs : List (Request × Reply)) (s t u : S)
+    → AreFullRightly view keeps requests rs s t → ((x : S) → keeps x t → keeps x u) → AreFullRightly view keeps requests rs s u
+refused_on view keeps requests rs s t u was on = record {
+  each = λ before later key value is. let at = was.each before later key value is in (at.0, at.1, on at.0 at.2, at.3);
+}
+
+-- and at a request more
 pub refused_next : {S : Type 0} (view : S → View) (keeps : S → S → Type 0) (requests : List Request) (rs : List (Request × Reply)) (q : Request) (r : Reply) (s t : S)
-    → AreFullRightly view keeps requests rs s → keeps s t → (r ≡ full → IsFullBehind requests rs q (view s) (view t)) → AreFullRightly view keeps requests (rs ++ ((q, r) ∷ [])) s
-refused_next view keeps requests rs q r s t was kept now = record {
+    → AreFullRightly view keeps requests rs s t → keeps s t → keeps t t → (r ≡ full → IsFullBehind requests rs q (view s) (view t)) → AreFullRightly view keeps requests (rs ++ ((q, r) ∷ [])) s t
+refused_next view keeps requests rs q r s t was kept same now = record {
   each = λ before later key value is.
-      elim (last_or_before rs before later (q, r) (put key value, full) is) as (λ _. (x : _) × keeps s x × IsFullBehind requests before (put key value) (view s) (view x)) [
+      elim (last_or_before rs before later (q, r) (put key value, full) is) as (λ _. (x : _) × keeps s x × keeps x t × IsFullBehind requests before (put key value) (view s) (view x)) [
         | inl last ↦
             let asked : q ≡ put key value = ap (λ (x : Request × Reply). x.0) last.1 in
             let told : r ≡ full = ap (λ (x : Request × Reply). x.1) last.1 in (
               t,
               kept,
+              same,
               subst (λ (xs : List (Request × Reply)). IsFullBehind requests xs (put key value) (view s) (view t)) last.0
                   (subst (λ x. IsFullBehind requests rs x (view s) (view t)) asked (now told)),
             )

@@ -29,11 +29,11 @@ pub record IsFullBehind (requests : List Request) (before : List (Request × Rep
   pub room : HadNoRoom request w
   pub taken : w.taken ≤ v.taken + sum_by span_taken before + shards_put_into requests
 
--- each put that was told that there is no room was so at a moment of the heap since it was opened
+-- each put that was told that there is no room was so at a moment of the heap from the one state to the other
 pub record AreFullRightly {S : Type 0} (view : S → View) (keeps : S → S → Type 0) (requests : List Request) (rs : List (Request × Reply))
-    (s : S) : Type 0 where
+    (s s' : S) : Type 0 where
   pub each : (before later : List (Request × Reply)) (key : ℕ) (value : List ℕ) → rs ≡ before ++ (put key value, full) ∷ later
-      → (t : S) × keeps s t × IsFullBehind requests before (put key value) (view s) (view t)
+      → (t : S) × keeps s t × keeps t s' × IsFullBehind requests before (put key value) (view s) (view t)
 
 -- so many requests make three large calls each at most, and so many small ones
 pub record MakeFew (requests small : ℕ) (v w : View) : Type 0 where

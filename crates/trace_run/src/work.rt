@@ -43,7 +43,7 @@ pub fn work_off<H: HeapSeat, G: Gate>(
 
     // At every exit.
     ensures full { AreFullRightly H.view H.keeps (requests_of requests.now)
-        (answered (requests_of requests.now) (replies_of replies.new.items)) seat.old }
+        (answered (requests_of requests.now) (replies_of replies.new.items)) seat.old seat.new }
     ensures calls { (keys : List ℕ) → ListsKeysOf image keys → MakeFew (length requests.now)
         (33280 + 4 * (length keys + length requests.now)) (H.view seat.old) (H.view seat.new) }
     ensures room { vec_capacity replies.new ≡ vec_capacity replies.old }

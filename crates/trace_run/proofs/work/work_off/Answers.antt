@@ -4,7 +4,7 @@ use Rattle.trace_run.specs.Runs.{answered}
 use Rattle.trace_run.specs.Said.{Line, request_of, requests_of, replies_of}
 use Rattle.trace_run.specs.Spending.{AreFullRightly, MakeFew}
 use Rattle.trace_run.specs.Working.{HasWorked, Fits}
-use Rattle.trace_run.proofs.SpendLemmas.{answered_none, answered_next, worked_count, next_among, few_none, few_next, few_more, full_behind, refused_none, refused_next}
+use Rattle.trace_run.proofs.SpendLemmas.{answered_none, answered_next, worked_count, next_among, few_none, few_next, few_more, full_behind, refused_none, refused_on, refused_next}
 use Rattle.trace_run.proofs.TakenLemmas.{HasTaken, taken_next}
 use Rattle.trace_run.proofs.WorkLemmas.{work_begins, work_next, rooms_next, no_room_left, next_shard, next_short, room_fits, work_replied}
 use Rattle.trace_run.proofs.work.work_off.Goals as goal
@@ -21,8 +21,8 @@ loop-request-init g c =
       same_room = refl;
       taken = subst (λ rs. HasTaken qs (answered qs (replies_of rs)) v v) (sym c.requires.1.1.1.1.1.1.0)
           (subst (λ rs. HasTaken qs rs v v) (sym (answered_none qs)) (omega arith));
-      full = subst (λ rs. AreFullRightly g.H.HeapSeat.view g.H.HeapSeat.keeps qs (answered qs (replies_of rs)) c.args.seat.now) (sym c.requires.1.1.1.1.1.1.0)
-          (subst (λ rs. AreFullRightly g.H.HeapSeat.view g.H.HeapSeat.keeps qs rs c.args.seat.now) (sym (answered_none qs)) (refused_none g.H.HeapSeat.view g.H.HeapSeat.keeps qs c.args.seat.now));
+      full = subst (λ rs. AreFullRightly g.H.HeapSeat.view g.H.HeapSeat.keeps qs (answered qs (replies_of rs)) c.args.seat.now c.args.seat.now) (sym c.requires.1.1.1.1.1.1.0)
+          (subst (λ rs. AreFullRightly g.H.HeapSeat.view g.H.HeapSeat.keeps qs rs c.args.seat.now c.args.seat.now) (sym (answered_none qs)) (refused_none g.H.HeapSeat.view g.H.HeapSeat.keeps qs c.args.seat.now c.args.seat.now));
       calls = λ keys lists. subst (λ rs. MakeFew (length rs) (33280 + 4 * (length keys + length c.args.requests.now)) v v) (sym c.requires.1.1.1.1.1.1.0)
           (few_none (33280 + 4 * (length keys + length c.args.requests.now)) v);
       kept = g.met.H.HeapSeat.keeps_none c.args.seat.now;
@@ -73,7 +73,10 @@ pub returns-in_default-answered-clause-kept : goal.returns-in_default-answered-c
 returns-in_default-answered-clause-kept g c = g.met.H.HeapSeat.keeps_row c.args.seat.now c.loop-request.seat c.answer-answered.new.seat c.loop-request.invariant.kept c.answer-answered.ensures.kept
 
 pub returns-in_default-answered-clause-full : goal.returns-in_default-answered-clause-full
-returns-in_default-answered-clause-full g c = c.loop-request.invariant.full
+returns-in_default-answered-clause-full g c =
+    let qs = requests_of c.args.requests.now in
+    refused_on g.H.HeapSeat.view g.H.HeapSeat.keeps qs (answered qs (replies_of c.loop-request.replies.items)) c.args.seat.now c.loop-request.seat c.answer-answered.new.seat c.loop-request.invariant.full
+    (λ x keeps. g.met.H.HeapSeat.keeps_row x c.loop-request.seat c.answer-answered.new.seat keeps c.answer-answered.ensures.kept)
 
 pub returns-in_default-answered-clause-calls : goal.returns-in_default-answered-clause-calls
 returns-in_default-answered-clause-calls g c = λ keys lists.
@@ -137,8 +140,11 @@ loop-request-preserved g c =
           c.push_reserved.ensures.items worked c.answer-answered.ensures.crash c.in-Ok.ensures.ok;
       same_room = c.push_reserved.ensures.capacity ∙ c.loop-request.invariant.same_room;
       taken = subst (λ rs. HasTaken qs rs start w) (sym next) taken;
-      full = subst (λ rs. AreFullRightly g.H.HeapSeat.view g.H.HeapSeat.keeps qs rs c.args.seat.now) (sym next)
-          (refused_next g.H.HeapSeat.view g.H.HeapSeat.keeps qs (answered qs (replies_of told)) q replied.reply c.args.seat.now c.answer-answered.new.seat c.loop-request.invariant.full kept
+      full = subst (λ rs. AreFullRightly g.H.HeapSeat.view g.H.HeapSeat.keeps qs rs c.args.seat.now c.answer-answered.new.seat) (sym next)
+          (refused_next g.H.HeapSeat.view g.H.HeapSeat.keeps qs (answered qs (replies_of told)) q replied.reply c.args.seat.now c.answer-answered.new.seat
+          (refused_on g.H.HeapSeat.view g.H.HeapSeat.keeps qs (answered qs (replies_of told)) c.args.seat.now c.loop-request.seat c.answer-answered.new.seat c.loop-request.invariant.full
+          (λ x keeps. g.met.H.HeapSeat.keeps_row x c.loop-request.seat c.answer-answered.new.seat keeps c.answer-answered.ensures.kept))
+          kept (g.met.H.HeapSeat.keeps_none c.answer-answered.new.seat)
           (λ is. full_behind qs (answered qs (replies_of told)) q replied.reply start w taken is (replied.room is)));
       calls = λ keys lists. subst (λ n. MakeFew n (33280 + 4 * (length keys + length c.args.requests.now)) start w) one_more
           (few_next (length told) (33280 + 4 * (length keys + length c.args.requests.now)) g.image qs (requests_of c.in-Some.rest.now) q (replies_of told) start v w keys

@@ -15,7 +15,7 @@ invariant-loop-request g l = record {
   reserved : vec_len l.replies + length l.left ≤ vec_capacity l.replies;
   same_room : vec_capacity l.replies ≡ vec_capacity l.initial.replies;
   taken : HasTaken (requests_of l.fn.requests) (answered (requests_of l.fn.requests) (replies_of l.replies.items)) (g.H.HeapSeat.view l.initial.seat) (g.H.HeapSeat.view l.seat);
-  full : AreFullRightly g.H.HeapSeat.view g.H.HeapSeat.keeps (requests_of l.fn.requests) (answered (requests_of l.fn.requests) (replies_of l.replies.items)) l.initial.seat;
+  full : AreFullRightly g.H.HeapSeat.view g.H.HeapSeat.keeps (requests_of l.fn.requests) (answered (requests_of l.fn.requests) (replies_of l.replies.items)) l.initial.seat l.seat;
   calls : (keys : List ℕ) → ListsKeysOf g.image keys
       → MakeFew (length l.replies.items) (33280 + 4 * (length keys + length l.fn.requests)) (g.H.HeapSeat.view l.initial.seat) (g.H.HeapSeat.view l.seat);
   kept : g.H.HeapSeat.keeps l.initial.seat l.seat;
