@@ -34,3 +34,6 @@ pub mod OpenedHeldLemmas
 pub mod CrashLemmas
 pub mod SplittingLemmas
 mod ExampleLemmas
+pub mod StandingLemmas
+pub mod WordLemmas
+pub mod LookSteps

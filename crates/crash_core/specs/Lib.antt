@@ -11,3 +11,4 @@ pub mod Opening
 pub mod Crash
 pub mod OwnerLists
 pub mod Splitting
+pub mod Standing

@@ -7,7 +7,10 @@ mod crash;
 mod event;
 mod heads;
 mod laws;
+mod looks;
 mod opening;
+mod owners;
+mod state;
 
 pub use anchors::{anchor_after_give, anchor_after_take_all};
 pub use answer::StepAnswer;

@@ -1,0 +1,22 @@
+-- The words of a table as they are read: a value that is there is the word of its place, and put back it changes nothing.
+use Rattle.std.proofs.Common.{◌≡◌, ℕ, zero, suc, ◌+◌, ◌*◌, ◌<◌, ◌≤◌, true, cond, List, [], ◌∷◌, get_or, set, length, refl, ap, sym, subst, ◌∙◌, arith}
+use Rattle.std.proofs.lemmas.List.{set-get_or}
+use Rattle.heap_model.specs.Geometry.{image_words}
+use Rattle.crash_core.specs.Cells.{is_cell, index_of}
+use Rattle.crash_core.specs.Memory.{Memory, Place, volatile_at, durable_at, tickets, read, memory_of, table_index}
+use Rattle.crash_core.proofs.PlaceLemmas.{pick}
+use Rattle.crash_core.proofs.TableLemmas.{is_place}
+
+-- where an entry is there the default does not matter
+pub entry_is : {A : Type 0} (xs : List A) (i : ℕ) (a b : A) → i < length xs → get_or xs i a ≡ get_or xs i b
+entry_is [] i a b less = absurd (omega arith)
+entry_is (x ∷ xs) zero a b less = refl
+entry_is (x ∷ xs) (suc i) a b less = entry_is xs i a b (omega arith)
+
+pub read_is : (c : ℕ) (words : List ℕ) (p : Place) → is_place c p ≡ true → read (memory_of c words) p ≡ get_or words (table_index c p) 0
+read_is c words (volatile_at cell) is = pick (is_cell c cell) (get_or words (index_of cell) 0) 0 is
+read_is c words (durable_at cell) is = pick (is_cell c cell) (get_or words (image_words c + index_of cell) 0) 0 is
+read_is c words tickets is = refl
+
+pub put_back : (c : ℕ) (words : List ℕ) (p : Place) → is_place c p ≡ true → set words (table_index c p) (read (memory_of c words) p) ≡ words
+put_back c words p is = ap (set words (table_index c p)) (read_is c words p is) ∙ set-get_or words (table_index c p) 0

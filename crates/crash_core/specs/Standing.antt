@@ -1,0 +1,161 @@
+-- What the core keeps of a state: the words themselves; by seat its tickets and snapshots, and the ends of its caches and of its batch; and whose each block, superblock and root is.
+use Rattle.std.specs.Prelude.{◌≡◌, ◌≢◌, ℕ, ◌+◌, ◌*◌, ◌<◌, ◌≤◌, nat_eq, Bool, List, get_or, length, Option, None, Some}
+use Rattle.heap_model.specs.Counting.{times, total, one_if}
+use Rattle.heap_model.specs.Geometry.{lists, roots, image_words, largest_capacity}
+use Rattle.crash_core.specs.declared.answer.StepAnswer.{StepAnswer}
+use Rattle.crash_core.specs.declared.answer.StepAnswer.TheVariants.{Done, Stopped, NotNow}
+use Rattle.crash_core.specs.declared.event.Event.{Event}
+use Rattle.crash_core.specs.declared.owners.BlockOwner.{BlockOwner}
+use Rattle.crash_core.specs.declared.owners.BlockOwner.TheVariants.{NoOwner, HeldBy, CachedBy, BatchedBy}
+use Rattle.crash_core.specs.declared.owners.SuperblockOwner.{SuperblockOwner}
+use Rattle.crash_core.specs.declared.owners.SuperblockOwner.TheVariants.{NotOwned, RawOf, SplitOf, CuttingOf, ClassedOf, LargeOf}
+use Rattle.crash_core.specs.declared.owners.Seen.{Seen}
+use Rattle.crash_core.specs.declared.owners.Cached.{Cached}
+use Rattle.crash_core.specs.declared.owners.Group.{Group}
+use Rattle.crash_core.specs.declared.owners.Seat.{Seat}
+use Rattle.crash_core.specs.declared.state.CoreState.{CoreState}
+use Rattle.crash_core.specs.Memory.{Memory, memory_of}
+use Rattle.crash_core.specs.View.{Setup, View, Span, Claim, Batch, Snapshot, of_class, times_classed, times_large}
+use Rattle.crash_core.specs.Effects.{first_of, last_of, claim_class, span_count}
+use Rattle.crash_core.specs.Guards.{HasTicketFor, MayDo}
+use Rattle.crash_core.specs.Sound.{Sound}
+use Rattle.crash_core.specs.Steps.{State, StepsTo, state_after, seat_after}
+
+-- how often the seat holds the block, has it in a cache, or in its batch
+abbrev pub held_by : ℕ → BlockOwner → ℕ
+held_by i (HeldBy seat) = one_if (nat_eq seat i)
+held_by i owner = 0
+
+abbrev pub cached_by : ℕ → BlockOwner → ℕ
+cached_by i (CachedBy seat) = one_if (nat_eq seat i)
+cached_by i owner = 0
+
+abbrev pub batched_by : ℕ → BlockOwner → ℕ
+batched_by i (BatchedBy seat) = one_if (nat_eq seat i)
+batched_by i owner = 0
+
+-- how often the seat claims the superblock: without a class, since a split, being cut, and with a class; and with which class
+abbrev pub raw_of : ℕ → SuperblockOwner → ℕ
+raw_of i (RawOf seat) = one_if (nat_eq seat i)
+raw_of i owner = 0
+
+abbrev pub split_of : ℕ → SuperblockOwner → ℕ
+split_of i (SplitOf seat) = one_if (nat_eq seat i)
+split_of i owner = 0
+
+abbrev pub cutting_of : ℕ → SuperblockOwner → ℕ
+cutting_of i (CuttingOf seat) = one_if (nat_eq seat i)
+cutting_of i owner = 0
+
+abbrev pub classed_of : ℕ → SuperblockOwner → ℕ
+classed_of i (ClassedOf seat class) = one_if (nat_eq seat i)
+classed_of i owner = 0
+
+abbrev pub class_of : ℕ → SuperblockOwner → ℕ
+class_of i (ClassedOf seat class) = one_if (nat_eq seat i) * class
+class_of i owner = 0
+
+-- how often a large block of the seat takes the superblock, and how many superblocks the one that begins there takes
+abbrev pub large_of : ℕ → SuperblockOwner → ℕ
+large_of i (LargeOf seat count) = one_if (nat_eq seat i)
+large_of i owner = 0
+
+abbrev pub count_of : ℕ → SuperblockOwner → ℕ
+count_of i (LargeOf seat count) = one_if (nat_eq seat i) * count
+count_of i owner = 0
+
+abbrev pub snapshot : Option Seen → Option Snapshot
+snapshot None = None
+snapshot (Some s) = Some (record { of = s.of; word = s.word })
+
+-- the tickets and snapshots of a seat
+pub record HasNotes (t : Seat) (v : View) : Type 0 where
+  pub ticket : v.ticket ≡ t.ticket
+  pub stopped : v.stopped ≡ t.stopped
+  pub seen_used : v.seen_used ≡ t.seen_used
+  pub seen_head : v.seen_head ≡ snapshot t.seen_head
+  pub seen_link : v.seen_link ≡ t.seen_link
+  pub seen_anchor : v.seen_anchor ≡ snapshot t.seen_anchor
+
+-- where its caches and its batch begin and end, and how long they are
+pub record HasCaches (kept : List Cached) (caches : List (List ℕ)) : Type 0 where
+  pub first : (class : ℕ) (c : Cached) → get_or kept class c ≡ c → class < lists → first_of (of_class caches class) ≡ c.first
+  pub count : (class : ℕ) (c : Cached) → get_or kept class c ≡ c → class < lists → length (of_class caches class) ≡ c.count
+
+pub record HasBatch (kept : Group) (batch : Batch) : Type 0 where
+  pub descriptor : batch.descriptor ≡ kept.descriptor
+  pub class : batch.class ≡ kept.class
+  pub first : first_of batch.blocks ≡ kept.first
+  pub last : last_of batch.blocks ≡ kept.last
+  pub count : length batch.blocks ≡ kept.count
+  pub linked : batch.linked ≡ kept.linked
+
+-- its blocks, by first word
+pub record HasBlocksOf (owners : List BlockOwner) (i : ℕ) (small caches : List (List ℕ)) (batch : List ℕ) : Type 0 where
+  pub held : (b : ℕ) → total (times b) small ≡ held_by i (get_or owners b NoOwner)
+  pub cached : (b : ℕ) → total (times b) caches ≡ cached_by i (get_or owners b NoOwner)
+  pub batched : (b : ℕ) → times b batch ≡ batched_by i (get_or owners b NoOwner)
+
+-- its superblocks
+pub record HasSuperblocks (owners : List SuperblockOwner) (i : ℕ) (raw split cutting : List ℕ) (classed : List Claim) (large : List Span) : Type 0 where
+  pub is_raw : (d : ℕ) → times d raw ≡ raw_of i (get_or owners d NotOwned)
+  pub is_split : (d : ℕ) → times d split ≡ split_of i (get_or owners d NotOwned)
+  pub is_cutting : (d : ℕ) → times d cutting ≡ cutting_of i (get_or owners d NotOwned)
+  pub is_classed : (d : ℕ) → times_classed d classed ≡ classed_of i (get_or owners d NotOwned)
+  pub class : (d : ℕ) → claim_class d classed ≡ class_of i (get_or owners d NotOwned)
+  pub is_large : (d : ℕ) → times_large d large ≡ large_of i (get_or owners d NotOwned)
+  pub count : (d : ℕ) → span_count d large ≡ count_of i (get_or owners d NotOwned)
+
+-- its roots; a number that is no root's is no owner
+pub record HasRoots (owners : List ℕ) (i : ℕ) (owned : List ℕ) : Type 0 where
+  pub is_owned : (n : ℕ) → times n owned ≡ one_if (nat_eq (get_or owners n (i + 1)) i)
+
+-- what is kept of seat i is of the view
+pub record IsKept (c : CoreState) (i : ℕ) (t : Seat) (v : View) : Type 0 where
+  pub notes : HasNotes t v
+  pub caches : HasCaches t.caches v.caches
+  pub batch : HasBatch t.batch v.batch
+  pub blocks : HasBlocksOf c.blocks.items i v.small v.caches v.batch.blocks
+  pub superblocks : HasSuperblocks c.superblocks.items i v.raw v.split v.cutting v.classed v.large
+  pub roots : HasRoots c.roots.items i v.roots
+
+-- what is kept of the words and of each view of a sound state
+pub record Keeps (c : CoreState) (k : Setup) (views : List View) : Type 0 where
+  pub sound : Sound k c.words.items views
+  pub capacity : k.capacity ≡ c.geometry.capacity
+  pub budget : k.budget ≡ c.budget
+  pub low : k.budget < 1099511627776
+  pub few : length views ≤ 8
+  pub seats : length views ≡ length c.seats.items
+  pub blocks : length c.blocks.items ≡ image_words k.capacity
+  pub superblocks : length c.superblocks.items ≡ k.capacity
+  pub roots : length c.roots.items ≡ roots
+  pub each : (i : ℕ) (t : Seat) (v : View) → i < length views → get_or c.seats.items i t ≡ t → get_or views i v ≡ v → IsKept c i t v
+
+-- the core stands for the state
+pub record StandsFor (c : CoreState) (k : Setup) (s : State) : Type 0 where
+  pub words : c.words.items ≡ s.words
+  pub keeps : Keeps c k s.views
+
+-- some state is there that it stands for
+pub record IsCore (c : CoreState) : Type 0 where
+  pub setup : Setup
+  pub views : List View
+  pub keeps : Keeps c setup views
+
+-- the state that the words and views are
+abbrev pub state_of : CoreState → List View → State
+state_of c views = record { words = c.words.items; views = views }
+
+-- of each state that the core stands for, the answer is what its step has, and then it stands for the state after the step
+pub data Steps (old new : CoreState) (k : Setup) (views : List View) (i : ℕ) (v : View) (event : Event) : StepAnswer → Type 0 where
+  steps_done : MayDo (memory_of k.capacity old.words.items) v event → (seat_after (memory_of k.capacity old.words.items) v event).stopped ≡ None
+      → StandsFor new k (state_after k (state_of old views) i v event) → Steps old new k views i v event Done
+  steps_stopped : (step : ℕ) → MayDo (memory_of k.capacity old.words.items) v event → (seat_after (memory_of k.capacity old.words.items) v event).stopped ≡ Some step
+      → StandsFor new k (state_after k (state_of old views) i v event) → Steps old new k views i v event (Stopped step)
+  steps_not : (MayDo (memory_of k.capacity old.words.items) v event → ⊥) → new ≡ old → Steps old new k views i v event NotNow
+
+-- the same, of a seat that has not stopped, and has a ticket where the event needs one
+abbrev pub Takes : CoreState → ℕ → Event → StepAnswer → CoreState → Type 0
+Takes old i event answer new = (k : Setup) (views : List View) (v : View) → Keeps old k views → i < length views → get_or views i v ≡ v → v.stopped ≡ None
+    → HasTicketFor v event → Steps old new k views i v event answer
