@@ -36,4 +36,5 @@ pub mod SplittingLemmas
 mod ExampleLemmas
 pub mod StandingLemmas
 pub mod WordLemmas
+pub mod KeptFacts
 pub mod LookSteps

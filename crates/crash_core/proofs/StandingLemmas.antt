@@ -1,5 +1,7 @@
 -- What a step of the core owes, so that it stands for the state after the step.
 use Rattle.std.proofs.Common.{◌≡◌, ◌≢◌, ℕ, ◌+◌, ◌<◌, ◌≤◌, inl, inr, List, get_or, set, length, Option, None, Some, refl, ap, sym, subst, ◌∙◌, length-set, arith}
+use Rattle.std.specs.Prelude.{Vec}
+use Rattle.std.specs.declared.alloc.Global.{Global}
 use Rattle.std.specs.Vec.{with_item}
 use Rattle.std.proofs.lemmas.Bool.{cases_eq}
 use Rattle.std.proofs.lemmas.List.{get_or-set_same, get_or-set_other}
@@ -82,7 +84,7 @@ pub step_not : (c : CoreState) (k : Setup) (views : List View) (i : ℕ) (v : Vi
 step_not c k views i v event refused = steps_not (λ may. refused may.may.ready may.as_seen) refl
 
 -- a step that changes words, tickets and snapshots alone
-pub step_noted : (c : CoreState) (k : Setup) (views : List View) (i : ℕ) (v : View) (t t' : Seat) (words : Words c) (event : Event) → Keeps c k views → i < length views → get_or views i v ≡ v
+pub step_noted : (c : CoreState) (k : Setup) (views : List View) (i : ℕ) (v : View) (t t' : Seat) (words : Vec ℕ Global) (event : Event) → Keeps c k views → i < length views → get_or views i v ≡ v
     → get_or c.seats.items i t ≡ t → v.stopped ≡ None → HasTicketFor v event → IsReadyFor (memory_in c k) v event → IsAsSeen (memory_in c k) v event
     → (seat_after (memory_in c k) v event).stopped ≡ None
     → words.items ≡ words_after k c.words.items v event

@@ -20,3 +20,9 @@ read_is c words tickets is = refl
 
 pub put_back : (c : ℕ) (words : List ℕ) (p : Place) → is_place c p ≡ true → set words (table_index c p) (read (memory_of c words) p) ≡ words
 put_back c words p is = ap (set words (table_index c p)) (read_is c words p is) ∙ set-get_or words (table_index c p) 0
+
+-- an entry below the length is there
+pub entry_there : {A : Type 0} (xs : List A) (i : ℕ) → i < length xs → (a : A) × (get_or xs i a ≡ a)
+entry_there [] i less = absurd (omega arith)
+entry_there (x ∷ xs) zero less = (x, refl)
+entry_there (x ∷ xs) (suc i) less = entry_there xs i (omega arith)

@@ -1,16 +1,18 @@
 -- What the core keeps of a state: the words themselves; by seat its tickets and snapshots, and the ends of its caches and of its batch; and whose each block, superblock and root is.
-use Rattle.std.specs.Prelude.{◌≡◌, ◌≢◌, ℕ, ◌+◌, ◌*◌, ◌<◌, ◌≤◌, nat_eq, Bool, List, get_or, length, Option, None, Some}
+use Rattle.std.specs.Prelude.{◌≡◌, ◌≢◌, ℕ, ◌+◌, ◌*◌, ◌<◌, ◌≤◌, cond, nat_eq, List, get_or, length, Option, None, Some}
 use Rattle.heap_model.specs.Counting.{times, total, one_if}
 use Rattle.heap_model.specs.Geometry.{lists, roots, image_words, largest_capacity}
 use Rattle.crash_core.specs.declared.answer.StepAnswer.{StepAnswer}
 use Rattle.crash_core.specs.declared.answer.StepAnswer.TheVariants.{Done, Stopped, NotNow}
 use Rattle.crash_core.specs.declared.event.Event.{Event}
+use Rattle.crash_core.specs.declared.owners.BlockPlace.{BlockPlace}
+use Rattle.crash_core.specs.declared.owners.BlockPlace.TheVariants as place
 use Rattle.crash_core.specs.declared.owners.BlockOwner.{BlockOwner}
-use Rattle.crash_core.specs.declared.owners.BlockOwner.TheVariants.{NoOwner, HeldBy, CachedBy, BatchedBy}
+use Rattle.crash_core.specs.declared.owners.Share.{Share}
+use Rattle.crash_core.specs.declared.owners.Share.TheVariants as share
 use Rattle.crash_core.specs.declared.owners.SuperblockOwner.{SuperblockOwner}
-use Rattle.crash_core.specs.declared.owners.SuperblockOwner.TheVariants.{NotOwned, RawOf, SplitOf, CuttingOf, ClassedOf, LargeOf}
 use Rattle.crash_core.specs.declared.owners.Seen.{Seen}
-use Rattle.crash_core.specs.declared.owners.Cached.{Cached}
+use Rattle.crash_core.specs.declared.owners.Cache.{Cache}
 use Rattle.crash_core.specs.declared.owners.Group.{Group}
 use Rattle.crash_core.specs.declared.owners.Seat.{Seat}
 use Rattle.crash_core.specs.declared.state.CoreState.{CoreState}
@@ -21,48 +23,63 @@ use Rattle.crash_core.specs.Guards.{HasTicketFor, MayDo}
 use Rattle.crash_core.specs.Sound.{Sound}
 use Rattle.crash_core.specs.Steps.{State, StepsTo, state_after, seat_after}
 
--- how often the seat holds the block, has it in a cache, or in its batch
-abbrev pub held_by : ℕ → BlockOwner → ℕ
-held_by i (HeldBy seat) = one_if (nat_eq seat i)
-held_by i owner = 0
+-- where seat i has the block
+abbrev pub place_for : ℕ → BlockOwner → BlockPlace
+place_for i o = cond (nat_eq o.seat i) o.place place.Nowhere
 
-abbrev pub cached_by : ℕ → BlockOwner → ℕ
-cached_by i (CachedBy seat) = one_if (nat_eq seat i)
-cached_by i owner = 0
+-- how often a block that is there is held, in a cache, in the batch
+abbrev pub held_in : BlockPlace → ℕ
+held_in place.Held = 1
+held_in p = 0
 
-abbrev pub batched_by : ℕ → BlockOwner → ℕ
-batched_by i (BatchedBy seat) = one_if (nat_eq seat i)
-batched_by i owner = 0
+abbrev pub cached_in : BlockPlace → ℕ
+cached_in place.Cached = 1
+cached_in p = 0
 
--- how often the seat claims the superblock: without a class, since a split, being cut, and with a class; and with which class
-abbrev pub raw_of : ℕ → SuperblockOwner → ℕ
-raw_of i (RawOf seat) = one_if (nat_eq seat i)
-raw_of i owner = 0
+abbrev pub batched_in : BlockPlace → ℕ
+batched_in place.Batched = 1
+batched_in p = 0
 
-abbrev pub split_of : ℕ → SuperblockOwner → ℕ
-split_of i (SplitOf seat) = one_if (nat_eq seat i)
-split_of i owner = 0
+-- what seat i has of the superblock
+abbrev pub share_for : ℕ → SuperblockOwner → Share
+share_for i o = cond (nat_eq o.seat i) o.share share.Nothing
 
-abbrev pub cutting_of : ℕ → SuperblockOwner → ℕ
-cutting_of i (CuttingOf seat) = one_if (nat_eq seat i)
-cutting_of i owner = 0
+-- how often a superblock of which a seat has this is claimed: without a class, since a split, being cut, and with a class; and with which class
+abbrev pub raw_in : Share → ℕ
+raw_in share.Raw = 1
+raw_in x = 0
 
-abbrev pub classed_of : ℕ → SuperblockOwner → ℕ
-classed_of i (ClassedOf seat class) = one_if (nat_eq seat i)
-classed_of i owner = 0
+abbrev pub split_in : Share → ℕ
+split_in share.Split = 1
+split_in x = 0
 
-abbrev pub class_of : ℕ → SuperblockOwner → ℕ
-class_of i (ClassedOf seat class) = one_if (nat_eq seat i) * class
-class_of i owner = 0
+abbrev pub cutting_in : Share → ℕ
+cutting_in share.Cutting = 1
+cutting_in x = 0
 
--- how often a large block of the seat takes the superblock, and how many superblocks the one that begins there takes
-abbrev pub large_of : ℕ → SuperblockOwner → ℕ
-large_of i (LargeOf seat count) = one_if (nat_eq seat i)
-large_of i owner = 0
+abbrev pub classed_in : Share → ℕ
+classed_in (share.Classed class) = 1
+classed_in x = 0
 
-abbrev pub count_of : ℕ → SuperblockOwner → ℕ
-count_of i (LargeOf seat count) = one_if (nat_eq seat i) * count
-count_of i owner = 0
+abbrev pub class_in : Share → ℕ
+class_in (share.Classed class) = class
+class_in x = 0
+
+-- how often a large block takes it, and how many superblocks the one that begins there takes
+abbrev pub large_in : Share → ℕ
+large_in (share.Large count) = 1
+large_in x = 0
+
+abbrev pub count_in : Share → ℕ
+count_in (share.Large count) = count
+count_in x = 0
+
+-- past the end nothing is anyone's
+abbrev pub no_block : BlockOwner
+no_block = record { seat = 0; place = place.Nowhere }
+
+abbrev pub no_superblock : SuperblockOwner
+no_superblock = record { seat = 0; share = share.Nothing }
 
 abbrev pub snapshot : Option Seen → Option Snapshot
 snapshot None = None
@@ -78,9 +95,9 @@ pub record HasNotes (t : Seat) (v : View) : Type 0 where
   pub seen_anchor : v.seen_anchor ≡ snapshot t.seen_anchor
 
 -- where its caches and its batch begin and end, and how long they are
-pub record HasCaches (kept : List Cached) (caches : List (List ℕ)) : Type 0 where
-  pub first : (class : ℕ) (c : Cached) → get_or kept class c ≡ c → class < lists → first_of (of_class caches class) ≡ c.first
-  pub count : (class : ℕ) (c : Cached) → get_or kept class c ≡ c → class < lists → length (of_class caches class) ≡ c.count
+pub record HasCaches (kept : List Cache) (caches : List (List ℕ)) : Type 0 where
+  pub first : (class : ℕ) (c : Cache) → get_or kept class c ≡ c → class < lists → first_of (of_class caches class) ≡ c.first
+  pub count : (class : ℕ) (c : Cache) → get_or kept class c ≡ c → class < lists → length (of_class caches class) ≡ c.count
 
 pub record HasBatch (kept : Group) (batch : Batch) : Type 0 where
   pub descriptor : batch.descriptor ≡ kept.descriptor
@@ -90,21 +107,29 @@ pub record HasBatch (kept : Group) (batch : Batch) : Type 0 where
   pub count : length batch.blocks ≡ kept.count
   pub linked : batch.linked ≡ kept.linked
 
+-- a block is where it is said
+pub record IsPlace (b : ℕ) (p : BlockPlace) (small caches : List (List ℕ)) (batch : List ℕ) : Type 0 where
+  pub held : total (times b) small ≡ held_in p
+  pub cached : total (times b) caches ≡ cached_in p
+  pub batched : times b batch ≡ batched_in p
+
 -- its blocks, by first word
-pub record HasBlocksOf (owners : List BlockOwner) (i : ℕ) (small caches : List (List ℕ)) (batch : List ℕ) : Type 0 where
-  pub held : (b : ℕ) → total (times b) small ≡ held_by i (get_or owners b NoOwner)
-  pub cached : (b : ℕ) → total (times b) caches ≡ cached_by i (get_or owners b NoOwner)
-  pub batched : (b : ℕ) → times b batch ≡ batched_by i (get_or owners b NoOwner)
+abbrev pub HasBlocksOf : List BlockOwner → ℕ → List (List ℕ) → List (List ℕ) → List ℕ → Type 0
+HasBlocksOf owners i small caches batch = (b : ℕ) → IsPlace b (place_for i (get_or owners b no_block)) small caches batch
+
+-- a superblock is the seat's as it is said
+pub record IsShare (d : ℕ) (x : Share) (raw split cutting : List ℕ) (classed : List Claim) (large : List Span) : Type 0 where
+  pub is_raw : times d raw ≡ raw_in x
+  pub is_split : times d split ≡ split_in x
+  pub is_cutting : times d cutting ≡ cutting_in x
+  pub is_classed : times_classed d classed ≡ classed_in x
+  pub class : claim_class d classed ≡ class_in x
+  pub is_large : times_large d large ≡ large_in x
+  pub count : span_count d large ≡ count_in x
 
 -- its superblocks
-pub record HasSuperblocks (owners : List SuperblockOwner) (i : ℕ) (raw split cutting : List ℕ) (classed : List Claim) (large : List Span) : Type 0 where
-  pub is_raw : (d : ℕ) → times d raw ≡ raw_of i (get_or owners d NotOwned)
-  pub is_split : (d : ℕ) → times d split ≡ split_of i (get_or owners d NotOwned)
-  pub is_cutting : (d : ℕ) → times d cutting ≡ cutting_of i (get_or owners d NotOwned)
-  pub is_classed : (d : ℕ) → times_classed d classed ≡ classed_of i (get_or owners d NotOwned)
-  pub class : (d : ℕ) → claim_class d classed ≡ class_of i (get_or owners d NotOwned)
-  pub is_large : (d : ℕ) → times_large d large ≡ large_of i (get_or owners d NotOwned)
-  pub count : (d : ℕ) → span_count d large ≡ count_of i (get_or owners d NotOwned)
+abbrev pub HasSuperblocks : List SuperblockOwner → ℕ → List ℕ → List ℕ → List ℕ → List Claim → List Span → Type 0
+HasSuperblocks owners i raw split cutting classed large = (d : ℕ) → IsShare d (share_for i (get_or owners d no_superblock)) raw split cutting classed large
 
 -- its roots; a number that is no root's is no owner
 pub record HasRoots (owners : List ℕ) (i : ℕ) (owned : List ℕ) : Type 0 where

@@ -1,11 +1,12 @@
 //! The steps that read a shared word.
 
 ghost use Rattle.std.specs.Prelude.{◌<◌, length};
-ghost use Rattle.crash_core.specs.declared.event.Event.TheVariants.{LookUsed, LookHead, LookLink};
+ghost use Rattle.crash_core.specs.declared.event.Event.TheVariants.{LookUsed, LookHead, LookLink, KeepUsed};
 ghost use Rattle.crash_core.specs.Standing.{IsCore, Takes};
 
 use crate::answer::StepAnswer;
-use crate::owners::Seen;
+use crate::heads::head_first;
+use crate::owners::{Seat, Seen};
 use crate::state::CoreState;
 use super_block::{HEAD_WORD, LISTS, USED_WORD};
 
@@ -16,9 +17,12 @@ pub(crate) fn look_used(core: &mut CoreState, seat: usize) -> StepAnswer
     ensures { Takes core.old seat LookUsed result core.new }
 {
     let word = core.words[USED_WORD as usize];
-    let notes = &mut core.seats[seat];
-    notes.ticket = None;
-    notes.seen_used = Some(word);
+    let notes = core.seats[seat];
+    core.seats[seat] = Seat {
+        ticket: None,
+        seen_used: Some(word),
+        ..notes
+    };
     StepAnswer::Done
 }
 
@@ -32,9 +36,54 @@ pub(crate) fn look_head(core: &mut CoreState, seat: usize, list: u64) -> StepAns
         return StepAnswer::NotNow;
     }
     let word = core.words[(HEAD_WORD + list) as usize];
-    let notes = &mut core.seats[seat];
-    notes.ticket = None;
-    notes.seen_head = Some(Seen { of: list, word });
-    notes.seen_link = None;
+    let notes = core.seats[seat];
+    core.seats[seat] = Seat {
+        ticket: None,
+        seen_head: Some(Seen { of: list, word }),
+        seen_link: None,
+        ..notes
+    };
+    StepAnswer::Done
+}
+
+/// Reads the link of the first descriptor of the list whose head was seen.
+pub(crate) fn look_link(core: &mut CoreState, seat: usize) -> StepAnswer
+    requires core { IsCore core.old }
+    requires seat { seat < length core.old.seats.items }
+    ensures { Takes core.old seat LookLink result core.new }
+{
+    let notes = core.seats[seat];
+    let Some(head) = notes.seen_head else {
+        return StepAnswer::NotNow;
+    };
+    let first = head_first(head.word);
+    if first == 0 {
+        return StepAnswer::NotNow;
+    }
+    let word = core.words[core.geometry.link(first - 1) as usize];
+    core.seats[seat] = Seat {
+        ticket: None,
+        seen_link: Some(word),
+        ..notes
+    };
+    StepAnswer::Done
+}
+
+/// Makes the mark durable as far as it was read.
+pub(crate) fn keep_used(core: &mut CoreState, seat: usize) -> StepAnswer
+    requires core { IsCore core.old }
+    requires seat { seat < length core.old.seats.items }
+    ensures { Takes core.old seat KeepUsed result core.new }
+{
+    let notes = core.seats[seat];
+    let Some(used) = notes.seen_used else {
+        return StepAnswer::NotNow;
+    };
+    let at = (core.geometry.length() + USED_WORD) as usize;
+    core.words[at] = core.words[at].max(used);
+    core.seats[seat] = Seat {
+        ticket: None,
+        ..notes
+    };
     StepAnswer::Done
 }

@@ -1,33 +1,47 @@
 //! Whose each block and each superblock is, and what of a seat's own the core keeps by seat.
 
-/// Whose the small block is that begins at a word.
+/// Where a seat has a small block.
 #[derive(Clone, Copy)]
-pub enum BlockOwner {
-    /// No seat's: it is free in its superblock, or no block begins there.
-    NoOwner,
-    /// The seat holds it.
-    HeldBy { seat: usize },
-    /// It is in a cache of the seat.
-    CachedBy { seat: usize },
-    /// It is in the seat's batch.
-    BatchedBy { seat: usize },
+pub enum BlockPlace {
+    /// It has it not.
+    Nowhere,
+    /// It holds it.
+    Held,
+    /// In a cache.
+    Cached,
+    /// In its batch.
+    Batched,
 }
 
-/// Whose a superblock is.
+/// Whose the small block is that begins at a word, and where that seat has it.
 #[derive(Clone, Copy)]
-pub enum SuperblockOwner {
-    /// No seat's.
-    NotOwned,
-    /// The seat claims it, without a class.
-    RawOf { seat: usize },
-    /// The seat claims it since it split a large block.
-    SplitOf { seat: usize },
-    /// The seat claims it, and makes its blocks.
-    CuttingOf { seat: usize },
-    /// The seat claims it, with a class.
-    ClassedOf { seat: usize, class: u64 },
-    /// Part of a large block of the seat; the first part has how many there are, the others 0.
-    LargeOf { seat: usize, count: u64 },
+pub struct BlockOwner {
+    pub seat: usize,
+    pub place: BlockPlace,
+}
+
+/// What a seat has of a superblock.
+#[derive(Clone, Copy)]
+pub enum Share {
+    /// Nothing.
+    Nothing,
+    /// It claims it, without a class.
+    Raw,
+    /// It claims it since it split a large block.
+    Split,
+    /// It claims it, and makes its blocks.
+    Cutting,
+    /// It claims it, with a class.
+    Classed { class: u64 },
+    /// A large block takes it: the first part has how many there are, the others 0.
+    Large { count: u64 },
+}
+
+/// Whose a superblock is, and what that seat has of it.
+#[derive(Clone, Copy)]
+pub struct SuperblockOwner {
+    pub seat: usize,
+    pub share: Share,
 }
 
 /// A head or an anchor as it was seen: of which list or superblock, and the word.
@@ -39,7 +53,7 @@ pub struct Seen {
 
 /// Blocks that lead along one another: the first, and how many there are.
 #[derive(Clone, Copy)]
-pub struct Cached {
+pub struct Cache {
     pub first: u64,
     pub count: u64,
 }
@@ -68,6 +82,6 @@ pub struct Seat {
     pub seen_link: Option<u64>,
     pub seen_anchor: Option<Seen>,
     /// The cache of each class.
-    pub caches: [Cached; 21],
+    pub caches: [Cache; 21],
     pub batch: Group,
 }

@@ -4,4 +4,4 @@ use Rattle.crash_core.proofs.looks.look_used.Goals as goal
 
 pub returns : goal.returns
 returns c = λ k views v keeps below at going ticket.
-    look_used c.args.core.now k views c.args.seat v c.index_mut-notes.result.now keeps below at (sym c.index_mut-notes.ensures.value) going ticket c.index-word.result.now c.index-word.ensures
+    look_used c.args.core.now k views c.args.seat v c.index-notes.result.now keeps below at (sym c.index-notes.ensures) going ticket c.index-word.result.now c.index-word.ensures
