@@ -1,10 +1,13 @@
 -- What is so of a seat of a state that the core stands for.
-use Rattle.std.proofs.Common.{◌≡◌, ◌≢◌, ℕ, zero, suc, ◌+◌, ◌-◌, ◌*◌, max, ap₂, ◌<◌, ◌≤◌, inl, inr, true, List, get_or, set, length, Option, None, Some, refl, ap, sym, subst, ◌∙◌, lt-ltb, arith}
+use Rattle.std.proofs.Common.{◌≡◌, ◌≢◌, ℕ, zero, suc, ◌+◌, ◌-◌, ◌*◌, max, ap₂, ◌<◌, ◌≤◌, inl, inr, true, List, [], ◌∷◌, get_or, set, length, Option, None, Some, refl, ap, sym, subst, ◌∙◌, lt-ltb, arith}
+use Rattle.std.proofs.lemmas.Bool.{cases_eq}
 use Rattle.std.specs.Prelude.{Vec}
 use Rattle.std.specs.declared.alloc.Global.{Global}
 use Rattle.std.specs.Vec.{with_item}
-use Rattle.heap_model.specs.Geometry.{lists, image_words, link_word}
-use Rattle.heap_model.specs.Words.{head_first}
+use Rattle.heap_model.specs.Counting.{times, total}
+use Rattle.heap_model.specs.Rest.{list_numbers}
+use Rattle.heap_model.specs.Geometry.{largest_capacity_fits, lists, image_words, link_word}
+use Rattle.heap_model.specs.Words.{head_first, head_pops}
 use Rattle.crash_core.specs.declared.answer.StepAnswer.TheVariants.{Done, NotNow}
 use Rattle.crash_core.specs.declared.event.Event.{Event}
 use Rattle.crash_core.specs.declared.event.Event.TheVariants.{LookUsed, LookHead, LookLink, LookAnchor, KeepUsed}
@@ -14,12 +17,14 @@ use Rattle.crash_core.specs.declared.state.CoreState.{CoreState}
 use Rattle.crash_core.specs.Cells.{used_cell, head_cell, link_cell, is_cell}
 use Rattle.crash_core.specs.Memory.{volatile_at, memory_of, read, table_index, table_length}
 use Rattle.crash_core.specs.View.{Setup, View, one_if_some}
-use Rattle.crash_core.specs.Effects.{seen, seen_word, before}
+use Rattle.crash_core.specs.Effects.{seen, seen_word, seen_of, before}
 use Rattle.crash_core.specs.Guards.{IsThere, HasTicketFor}
-use Rattle.crash_core.specs.Standing.{IsKept, Keeps, Steps, snapshot}
+use Rattle.crash_core.specs.Standing.{IsKept, IsCore, Keeps, Steps, snapshot}
 use Rattle.crash_core.proofs.QuietLemmas.{not_there}
 use Rattle.crash_core.proofs.StandingLemmas.{step_noted, step_not, memory_in}
-use Rattle.crash_core.proofs.WordLemmas.{entry_is, read_is, put_back}
+use Rattle.crash_core.proofs.TotalLemmas.{total_at, ne-eqb-none}
+use Rattle.crash_core.proofs.ListLemmas.{number_once}
+use Rattle.crash_core.proofs.WordLemmas.{entry_there, entry_is, read_is, put_back}
 
 module _ (c : CoreState) (k : Setup) (views : List View) (i : ℕ) (v : View) (t : Seat) (keeps : Keeps c k views) (below : i < length views) (at : get_or views i v ≡ v)
     (at_t : get_or c.seats.items i t ≡ t) where
@@ -34,3 +39,73 @@ module _ (c : CoreState) (k : Setup) (views : List View) (i : ℕ) (v : View) (t
   first_below head some more = let is = saw head some in let knows = (keeps.sound.good.knows i v below at).seen_head (ap one_if_some is) in
       let small = knows.small in let same : head_first (seen_word v.seen_head) ≡ head_first head.word = ap (λ x. head_first (seen_word x)) is in let cap = keeps.capacity in omega arith
 
+
+  -- what the core has not seen the seat has not
+  pub unseen_head : t.seen_head ≡ None → IsThere v.seen_head → ⊥
+  unseen_head none there = not_there (sym (ap one_if_some (kept.notes.seen_head ∙ ap snapshot none)) ∙ there)
+
+  pub unseen_link : t.seen_link ≡ None → IsThere v.seen_link → ⊥
+  unseen_link none there = not_there (sym (ap one_if_some (kept.notes.seen_link ∙ none)) ∙ there)
+
+  pub unseen_used : t.seen_used ≡ None → IsThere v.seen_used → ⊥
+  unseen_used none there = not_there (sym (ap one_if_some (kept.notes.seen_used ∙ none)) ∙ there)
+
+  pub unseen_anchor : t.seen_anchor ≡ None → IsThere v.seen_anchor → ⊥
+  unseen_anchor none there = not_there (sym (ap one_if_some (kept.notes.seen_anchor ∙ ap snapshot none)) ∙ there)
+
+  pub saw_anchor : (word : Seen) → t.seen_anchor ≡ Some word → v.seen_anchor ≡ Some (record { of = word.of; word = word.word })
+  saw_anchor word some = kept.notes.seen_anchor ∙ ap snapshot some
+
+-- what fits of a seat of a core
+pub record HeadFits (c : CoreState) (head : Seen) : Type 0 where
+  pub list : head.of < lists
+  pub first : head_first head.word ≤ c.geometry.capacity
+  pub long : length c.words.items ≡ table_length c.geometry.capacity
+  pub superblocks : length c.superblocks.items ≡ c.geometry.capacity
+  pub small : c.geometry.capacity ≤ 4096
+
+pub head_fits : (c : CoreState) (i : ℕ) (t : Seat) (head : Seen) → IsCore c → i < length c.seats.items → get_or c.seats.items i t ≡ t → t.seen_head ≡ Some head → HeadFits c head
+head_fits c i t head core less at_t some =
+    let below : i < length core.views = subst (λ n. i < n) (sym core.keeps.seats) less in
+    let here = entry_there core.views i below in
+    let is = saw c core.setup core.views i here.0 t core.keeps below here.1 at_t head some in
+    let knows = (core.keeps.sound.good.knows i here.0 below here.1).seen_head (ap one_if_some is) in
+    let l = core.keeps.sound.long in let cap = core.keeps.capacity in let small = knows.small in let s = core.keeps.superblocks in let m = core.keeps.sound.good.small in let top = largest_capacity_fits in
+    let same : head_first (seen_word here.0.seen_head) ≡ head_first head.word = ap (λ x. head_first (seen_word x)) is in
+    record {
+      list = subst (λ x. seen_of x < lists) is knows.is_list;
+      first = omega arith;
+      long = omega arith;
+      superblocks = omega arith;
+      small = omega arith;
+    }
+
+total_member : (f : ℕ → ℕ) (n : ℕ) (ns : List ℕ) → 0 < times n ns → f n ≤ total f ns
+total_member f n [] some = absurd (omega arith)
+total_member f n (m ∷ ns) some = elim (cases_eq m n) [
+  | inl here ↦ let e = ap f here in omega arith
+  | inr other ↦ let none = ne-eqb-none m n other in let rest = total_member f n ns (omega arith) in omega arith
+]
+
+-- a head that is as it was seen, and whose link was read, has a first descriptor, and may count one pop more
+pub record PopFits (head : Seen) : Type 0 where
+  pub some : head_first head.word ≢ 0
+  pub pops : head_pops head.word < 1099511627775
+
+pub pop_fits : (c : CoreState) (i : ℕ) (t : Seat) (head : Seen) (link : ℕ) → IsCore c → i < length c.seats.items → get_or c.seats.items i t ≡ t → t.seen_head ≡ Some head → t.seen_link ≡ Some link → IsThere t.ticket → PopFits head
+pop_fits c i t head link core less at_t some some_link ticket =
+    let below : i < length core.views = subst (λ n. i < n) (sym core.keeps.seats) less in
+    let here = entry_there core.views i below in
+    let is = saw c core.setup core.views i here.0 t core.keeps below here.1 at_t head some in
+    let notes = (core.keeps.each i t here.0 below at_t here.1).notes in
+    let knows = (core.keeps.sound.good.knows i here.0 below here.1).seen_head (ap one_if_some is) in
+    let linked = knows.linked (ap one_if_some (notes.seen_link ∙ some_link)) in
+    let b = core.keeps.sound.good.adds.budget in
+    let tickets = total_at (λ (x : View). one_if_some x.ticket) core.views i here.0 below here.1 in
+    let mine = ap one_if_some notes.ticket in
+    let one = total_member (λ l. head_pops (head_at c core.setup l)) (seen_of here.0.seen_head) list_numbers (let n = number_once (seen_of here.0.seen_head) knows.is_list in omega arith) in
+    let low = core.keeps.low in let p = knows.pops in
+    let same : head_pops (seen_word here.0.seen_head) ≡ head_pops head.word = ap (λ x. head_pops (seen_word x)) is in
+    record { some = subst (λ x. head_first (seen_word x) ≢ 0) is linked.0; pops = omega arith } where
+      head_at : CoreState → Setup → ℕ → ℕ
+      head_at c k l = (memory_of k.capacity c.words.items).volatile (head_cell l)

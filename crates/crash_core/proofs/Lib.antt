@@ -36,5 +36,8 @@ pub mod SplittingLemmas
 mod ExampleLemmas
 pub mod StandingLemmas
 pub mod WordLemmas
+pub mod ShareLemmas
 pub mod KeptFacts
+pub mod ClaimLemmas
+pub mod ListSteps
 pub mod LookSteps

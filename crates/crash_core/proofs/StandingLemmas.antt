@@ -35,7 +35,7 @@ pub stands_after : (c c' : CoreState) (k : Setup) (views : List View) (i : ℕ) 
     → get_or c.seats.items i t ≡ t → MayStep (memory_in c k) v event
     → c'.words.items ≡ words_after k c.words.items v event → c'.seats.items ≡ set c.seats.items i t' → IsSameHeap c c'
     → IsKept c' i t' (seat_after (memory_in c k) v event)
-    → ((j : ℕ) (s : Seat) (u : View) → j ≢ i → IsKept c j s u → IsKept c' j s u)
+    → ((j : ℕ) (s : Seat) (u : View) → j ≢ i → j < length views → get_or views j u ≡ u → IsKept c j s u → IsKept c' j s u)
     → StandsFor c' k (state_after k (state_of c views) i v event)
 stands_after c c' k views i v t t' event keeps below at at_t may words seats same mine others = record {
   words = words;
@@ -54,9 +54,10 @@ stands_after c c' k views i v t t' event keeps below at at_t may words seats sam
           let at_w : w ≡ u = sym (get_or-set_same views i w u below) ∙ subst (λ n. get_or (set views i w) n u ≡ u) here at_u in
           let at_t' : t' ≡ s = sym (get_or-set_same c.seats.items i t' s (subst (λ n. i < n) keeps.seats below)) ∙ subst (λ n. get_or (set c.seats.items i t') n s ≡ s) here (subst (λ l. get_or l j s ≡ s) seats at_s) in
           subst (λ n. IsKept c' n s u) (sym here) (subst (λ x. IsKept c' i x u) at_t' (subst (λ x. IsKept c' i t' x) at_w mine))
-      | inr other ↦ others j s u other (keeps.each j s u (subst (λ n. j < n) (length-set views i w) below_j)
-          (sym (get_or-set_other c.seats.items i j t' s other) ∙ subst (λ l. get_or l j s ≡ s) seats at_s)
-          (sym (get_or-set_other views i j w u other) ∙ at_u))
+      | inr other ↦
+          let less : j < length views = subst (λ n. j < n) (length-set views i w) below_j in
+          let at_old : get_or views j u ≡ u = sym (get_or-set_other views i j w u other) ∙ at_u in
+          others j s u other less at_old (keeps.each j s u less (sym (get_or-set_other c.seats.items i j t' s other) ∙ subst (λ l. get_or l j s ≡ s) seats at_s) at_old)
     ];
   };
 } where
@@ -73,7 +74,7 @@ pub step_done : (c c' : CoreState) (k : Setup) (views : List View) (i : ℕ) (v 
     → (seat_after (memory_in c k) v event).stopped ≡ None
     → c'.words.items ≡ words_after k c.words.items v event → c'.seats.items ≡ set c.seats.items i t' → IsSameHeap c c'
     → IsKept c' i t' (seat_after (memory_in c k) v event)
-    → ((j : ℕ) (s : Seat) (u : View) → j ≢ i → IsKept c j s u → IsKept c' j s u)
+    → ((j : ℕ) (s : Seat) (u : View) → j ≢ i → j < length views → get_or views j u ≡ u → IsKept c j s u → IsKept c' j s u)
     → Steps c c' k views i v event Done
 step_done c c' k views i v t t' event keeps below at at_t going ticket ready seen on words seats same mine others =
     let may = may_step (memory_in c k) v event going ticket ready in
@@ -101,4 +102,4 @@ step_noted c k views i v t t' words event keeps below at at_t going ticket ready
       superblocks = subst (λ (p : Parts). HasSuperblocks c.superblocks.items i p.raw p.split p.cutting p.classed p.large) (sym same) old.superblocks;
       roots = subst (λ (p : Parts). HasRoots c.roots.items i p.roots) (sym same) old.roots;
     })
-    (λ j s u other h. record { notes = h.notes; caches = h.caches; batch = h.batch; blocks = h.blocks; superblocks = h.superblocks; roots = h.roots })
+    (λ j s u other less at_u h. record { notes = h.notes; caches = h.caches; batch = h.batch; blocks = h.blocks; superblocks = h.superblocks; roots = h.roots })

@@ -1,5 +1,5 @@
 -- What the core keeps of a state: the words themselves; by seat its tickets and snapshots, and the ends of its caches and of its batch; and whose each block, superblock and root is.
-use Rattle.std.specs.Prelude.{◌≡◌, ◌≢◌, ℕ, ◌+◌, ◌*◌, ◌<◌, ◌≤◌, cond, nat_eq, List, get_or, length, Option, None, Some}
+use Rattle.std.specs.Prelude.{◌≡◌, ◌≢◌, ℕ, zero, suc, ◌+◌, ◌*◌, ◌<◌, ◌≤◌, cond, nat_eq, List, get_or, length, Option, None, Some}
 use Rattle.heap_model.specs.Counting.{times, total, one_if}
 use Rattle.heap_model.specs.Geometry.{lists, roots, image_words, largest_capacity}
 use Rattle.crash_core.specs.declared.answer.StepAnswer.{StepAnswer}
@@ -73,6 +73,11 @@ large_in x = 0
 abbrev pub count_in : Share → ℕ
 count_in (share.Large count) = count
 count_in x = 0
+
+-- what a seat has of a superblock that comes from a list
+abbrev pub listed : ℕ → Share
+listed zero = share.Raw
+listed (suc n) = share.Classed (suc n)
 
 -- past the end nothing is anyone's
 abbrev pub no_block : BlockOwner

@@ -7,9 +7,11 @@ mod crash;
 mod event;
 mod heads;
 mod laws;
+mod lists;
 mod looks;
 mod opening;
 mod owners;
+mod shares;
 mod state;
 
 pub use anchors::{anchor_after_give, anchor_after_take_all};

@@ -1,0 +1,151 @@
+-- The steps of the core that exchange the head of a list.
+use Rattle.std.proofs.Common.{◌≡◌, ◌≢◌, ℕ, zero, suc, ◌+◌, ◌-◌, ◌*◌, ◌<◌, ◌≤◌, inl, inr, true, false, cond, nat_eq, nat_lt, List, get_or, set, length, Option, None, Some, refl, ap, ap₂, sym, subst, ◌∙◌, length-set, lt-ltb, eq-eqb, arith}
+use Rattle.std.specs.Vec.{with_item}
+use Rattle.heap_model.specs.Counting.{times}
+use Rattle.heap_model.specs.Geometry.{lists}
+use Rattle.heap_model.specs.Words.{head_of, head_first, head_pops}
+use Rattle.crash_core.specs.declared.answer.StepAnswer.TheVariants.{Done, NotNow}
+use Rattle.crash_core.specs.declared.event.Event.TheVariants.{Pop, Push}
+use Rattle.crash_core.specs.declared.owners.Seat.{Seat}
+use Rattle.crash_core.specs.declared.owners.Seen.{Seen}
+use Rattle.crash_core.specs.declared.owners.Share.{Share}
+use Rattle.crash_core.specs.declared.owners.Share.TheVariants as share
+use Rattle.crash_core.specs.declared.state.CoreState.{CoreState}
+use Rattle.crash_core.specs.Cells.{head_cell, link_cell}
+use Rattle.crash_core.specs.Memory.{Memory, volatile_at, used}
+use Rattle.crash_core.specs.View.{Setup, View, one_if_some, times_raw, times_classed, times_large}
+use Rattle.crash_core.specs.Effects.{seen, seen_word, seen_of, before, cleared, claimed, popped, popped_head, pushed, pushed_raw, pushed_classed, pushed_head, won, lost}
+use Rattle.crash_core.specs.Guards.{IsThere, MayPush, MayList}
+use Rattle.crash_core.specs.Sound.{Good, KnowsHead}
+use Rattle.crash_core.specs.Steps.{seat_after}
+use Rattle.crash_core.specs.Standing.{share_for, no_superblock, listed, IsShare, IsKept, Keeps, Steps, snapshot}
+use Rattle.crash_core.proofs.QuietLemmas.{not_there}
+use Rattle.crash_core.proofs.TotalLemmas.{total_at}
+use Rattle.crash_core.proofs.OwnLemmas.{one_at_most}
+use Rattle.crash_core.proofs.ListLemmas.{in_lists_at}
+use Rattle.crash_core.proofs.PlaceLemmas.{pick, skip}
+use Rattle.crash_core.proofs.StandingLemmas.{step_done, step_not, memory_in}
+use Rattle.crash_core.proofs.KeptFacts as facts
+use Rattle.crash_core.proofs.ShareLemmas.{no_share, share_alone, shares_theirs}
+use Rattle.crash_core.proofs.ClaimLemmas.{claimed_kept, raw_given_up, class_given_up}
+use Rattle.crash_core.proofs.WordLemmas.{entry_is, read_is}
+
+claimed_going : (base : View) (d list : ℕ) → (claimed base d list).stopped ≡ base.stopped
+claimed_going base d zero = refl
+claimed_going base d (suc n) = refl
+
+before_is : (n : ℕ) → n ≢ 0 → before n ≡ n - 1
+before_is zero some = absurd (some refl)
+before_is (suc n) some = omega arith
+
+module _ (c : CoreState) (k : Setup) (views : List View) (i : ℕ) (v : View) (t : Seat) (keeps : Keeps c k views) (below : i < length views) (at : get_or views i v ≡ v)
+    (at_t : get_or c.seats.items i t ≡ t) where
+  kept : IsKept c i t v
+  kept = keeps.each i t v below at_t at
+
+  good : Good k (memory_in c k) views
+  good = keeps.sound.good
+
+  -- a descriptor of a list is nobody's
+  listed_alone : (list d : ℕ) → list < lists → 0 < times d (good.shape.lists list) → (j : ℕ) (u : View) → j < length views → get_or views j u ≡ u
+      → (times_raw d u ≡ 0) × (times_classed d u.classed ≡ 0) × (times_large d u.large ≡ 0)
+  listed_alone zero d is some j u b a =
+      let p = good.shaped.placed.one_place d in let most = one_at_most (nat_lt d (used (memory_in c k))) in
+      let raw = total_at (times_raw d) views j u b a in let classed = total_at (λ (x : View). times_classed d x.classed) views j u b a in let large = total_at (λ (x : View). times_large d x.large) views j u b a in
+      (omega arith, omega arith, omega arith)
+  listed_alone (suc n) d is some j u b a =
+      let p = good.shaped.placed.one_place d in let most = one_at_most (nat_lt d (used (memory_in c k))) in
+      let l = in_lists_at d good.shape.lists (suc n) is (λ e. absurd (omega (arith, e))) in
+      let raw = total_at (times_raw d) views j u b a in let classed = total_at (λ (x : View). times_classed d x.classed) views j u b a in let large = total_at (λ (x : View). times_large d x.large) views j u b a in
+      (omega arith, omega arith, omega arith)
+
+  nothing : (list d : ℕ) → list < lists → 0 < times d (good.shape.lists list) → (j : ℕ) (s : Seat) (u : View) → j < length views → get_or views j u ≡ u → IsKept c j s u
+      → share_for j (get_or c.superblocks.items d no_superblock) ≡ share.Nothing
+  nothing list d is some j s u b a h = let z = listed_alone list d is some j u b a in
+      no_share d (share_for j (get_or c.superblocks.items d no_superblock)) u.raw u.split u.cutting u.classed u.large (h.superblocks d) z.0 z.1 z.2
+
+  module _ (head : Seen) (some : t.seen_head ≡ Some head) where
+    is : v.seen_head ≡ Some (record { of = head.of; word = head.word })
+    is = facts.saw c k views i v t keeps below at at_t head some
+
+    of_is : seen_of v.seen_head ≡ head.of
+    of_is = ap seen_of is
+
+    word_is : seen_word v.seen_head ≡ head.word
+    word_is = ap seen_word is
+
+    knows : KnowsHead k.capacity (λ l. (memory_in c k).volatile (head_cell l)) (λ d. (memory_in c k).volatile (link_cell d)) good.shape.lists (seen_of v.seen_head) (seen_word v.seen_head) v.seen_link
+    knows = (good.knows i v below at).seen_head (ap one_if_some is)
+
+    is_list : seen_of v.seen_head < lists
+    is_list = knows.is_list
+
+    -- the head as it is now
+    now : (at_word found : ℕ) → at_word ≡ 16 + head.of → found ≡ get_or c.words.items at_word found → (memory_in c k).volatile (head_cell (seen_of v.seen_head)) ≡ found
+    now at_word found here found_is = read_is k.capacity c.words.items (volatile_at (head_cell (seen_of v.seen_head))) (lt-ltb (seen_of v.seen_head) lists is_list)
+        ∙ entry_is c.words.items (16 + seen_of v.seen_head) 0 found (let l = keeps.sound.long in let less = is_list in omega arith)
+        ∙ ap (λ n. get_or c.words.items n found) (let e = of_is in let g : 16 + seen_of v.seen_head ≡ at_word = omega arith in g) ∙ sym found_is
+
+    pub lost_pop : (at_word found : ℕ) → at_word ≡ 16 + head.of → found ≡ get_or c.words.items at_word found → found ≢ head.word → Steps c c k views i v Pop NotNow
+    lost_pop at_word found here found_is differs = step_not c k views i v Pop (λ may seen. differs (sym (now at_word found here found_is) ∙ seen ∙ word_is))
+
+    pub lost_push : (d at_word found : ℕ) → at_word ≡ 16 + head.of → found ≡ get_or c.words.items at_word found → found ≢ head.word → Steps c c k views i v (Push d) NotNow
+    lost_push d at_word found here found_is differs = step_not c k views i v (Push d) (λ may seen. differs (sym (now at_word found here found_is) ∙ seen ∙ word_is))
+
+    module _ (going : v.stopped ≡ None) (ticket : IsThere v.ticket) (at_word found : ℕ) (here : at_word ≡ 16 + head.of) (found_is : found ≡ get_or c.words.items at_word found) (same : found ≡ head.word) where
+      as_seen : (memory_in c k).volatile (head_cell (seen_of v.seen_head)) ≡ seen_word v.seen_head
+      as_seen = now at_word found here found_is ∙ same ∙ sym word_is
+
+      test : nat_eq ((memory_in c k).volatile (head_cell (seen_of v.seen_head))) (seen_word v.seen_head) ≡ true
+      test = eq-eqb ((memory_in c k).volatile (head_cell (seen_of v.seen_head))) (seen_word v.seen_head) as_seen
+
+      index : at_word ≡ 16 + seen_of v.seen_head
+      index = let e = of_is in omega arith
+
+      pub pop : (link : ℕ) → t.seen_link ≡ Some link → (word d : ℕ) (x : Share) (anchor : Option Seen) → word ≡ head_of (head_first link) (head_pops head.word + 1)
+          → d ≡ head_first head.word - 1 → x ≡ listed head.of → snapshot anchor ≡ cleared d 1 (snapshot t.seen_anchor)
+          → Steps c (record c { words = with_item c.words at_word word; superblocks = with_item c.superblocks d (record { seat = i; share = x });
+            seats = with_item c.seats i (record t { ticket = None; seen_head = None; seen_link = None; seen_anchor = anchor }) }) k views i v Pop Done
+      pop link some_link word d x anchor word_new d_new x_is anchor_is =
+          step_done c c' k views i v t t' Pop keeps below at at_t going ticket (record { is_seen = ap one_if_some is; link = ap one_if_some saw_link }) as_seen
+          (ap (λ (y : View). y.stopped) seat_is ∙ claimed_going base d (seen_of v.seen_head) ∙ going)
+          (ap₂ (λ n y. set c.words.items n y) index (word_new ∙ sym (pick (nat_eq ((memory_in c k).volatile (head_cell (seen_of v.seen_head))) (seen_word v.seen_head)) (popped_head v) ((memory_in c k).volatile (head_cell (seen_of v.seen_head))) test ∙ left)))
+          refl (record { capacity = refl; budget = refl; blocks = refl; superblocks = length-set c.superblocks.items d (record { seat = i; share = x }); roots = refl })
+          (subst (IsKept c' i t') (sym seat_is)
+          (claimed_kept c' i t' base c.superblocks.items d (seen_of v.seen_head) x (x_is ∙ ap listed (sym of_is)) refl (subst (λ n. d < n) (sym keeps.superblocks) less) (nothing (seen_of v.seen_head) d is_list in_list i t v below at kept)
+          kept.superblocks
+          (let n = kept.notes in record { ticket = refl; stopped = n.stopped; seen_used = n.seen_used; seen_head = refl; seen_link = refl; seen_anchor = ap (cleared d 1) n.seen_anchor ∙ sym anchor_is })
+          kept.caches kept.batch kept.blocks kept.roots))
+          (λ j s u other b a h. record { notes = h.notes; caches = h.caches; batch = h.batch; blocks = h.blocks;
+            superblocks = shares_theirs c.superblocks.items i j d x (λ e y. IsShare e y u.raw u.split u.cutting u.classed u.large) (subst (λ n. d < n) (sym keeps.superblocks) less) other (nothing (seen_of v.seen_head) d is_list in_list j s u b a h) h.superblocks;
+            roots = h.roots })
+          where
+        t' : Seat
+        t' = record t { ticket = None; seen_head = None; seen_link = None; seen_anchor = anchor }
+
+        c' : CoreState
+        c' = record c { words = with_item c.words at_word word; superblocks = with_item c.superblocks d (record { seat = i; share = x }); seats = with_item c.seats i t' }
+
+        base : View
+        base = record (won v) { seen_head = None; seen_link = None; seen_anchor = cleared d 1 v.seen_anchor }
+
+        saw_link : v.seen_link ≡ Some link
+        saw_link = kept.notes.seen_link ∙ some_link
+
+        linked : head_first (seen_word v.seen_head) ≢ 0
+        linked = (knows.linked (ap one_if_some saw_link)).0
+
+        d_is : before (head_first (seen_word v.seen_head)) ≡ d
+        d_is = before_is (head_first (seen_word v.seen_head)) linked ∙ ap (λ n. head_first n - 1) word_is ∙ sym d_new
+
+        seat_is : seat_after (memory_in c k) v Pop ≡ claimed base d (seen_of v.seen_head)
+        seat_is = pick (nat_eq ((memory_in c k).volatile (head_cell (seen_of v.seen_head))) (seen_word v.seen_head)) (popped v (before (head_first (seen_word v.seen_head)))) (record (lost v) { seen_head = None }) test ∙ ap (popped v) d_is
+
+        left : popped_head v ≡ head_of (head_first link) (head_pops head.word + 1)
+        left = ap₂ (λ a b. head_of (head_first a) (head_pops b + 1)) (ap seen saw_link) word_is
+
+        in_list : 0 < times d (good.shape.lists (seen_of v.seen_head))
+        in_list = subst (λ n. 0 < times n (good.shape.lists (seen_of v.seen_head))) d_is (knows.listed (ap head_pops (sym as_seen)) linked)
+
+        less : d < k.capacity
+        less = let s = knows.small in let l = linked in let e = d_is in let b = before_is (head_first (seen_word v.seen_head)) linked in omega arith

@@ -1,0 +1,63 @@
+//! The steps that exchange the head of a list.
+
+ghost use Rattle.std.specs.Prelude.{◌≡◌, ◌<◌, length, get_or, Some};
+ghost use Rattle.crash_core.specs.declared.event.Event.TheVariants.{Pop, Push};
+ghost use Rattle.crash_core.specs.declared.owners.Seat.{Seat};
+ghost use Rattle.crash_core.specs.Effects.{cleared};
+ghost use Rattle.crash_core.specs.Guards.{IsThere};
+ghost use Rattle.crash_core.specs.Standing.{IsCore, Takes, snapshot};
+
+use crate::answer::StepAnswer;
+use crate::heads::{head_after_pop, head_first};
+use crate::owners::{Seat, Seen, Share, SuperblockOwner};
+use crate::state::CoreState;
+use super_block::HEAD_WORD;
+
+impl Seen {
+    /// The snapshot, unless it is of one of `n` numbers from one on.
+    pub(crate) fn cleared(seen: Option<Seen>, from: u64, n: u64) -> Option<Seen>
+        ensures { snapshot result ≡ cleared from n (snapshot seen) }
+    {
+        let Some(seen) = seen else {
+            return None;
+        };
+        if seen.of < from {
+            return Some(seen);
+        }
+        if seen.of - from < n { None } else { Some(seen) }
+    }
+}
+
+/// Claims the first descriptor of the list whose head and link were seen.
+pub(crate) fn pop(core: &mut CoreState, seat: usize) -> StepAnswer
+    requires core { IsCore core.old }
+    requires seat { seat < length core.old.seats.items }
+    requires ticket { (t : Seat) → get_or core.old.seats.items seat t ≡ t → IsThere t.ticket }
+    ensures { Takes core.old seat Pop result core.new }
+{
+    let notes = core.seats[seat];
+    let Some(head) = notes.seen_head else {
+        return StepAnswer::NotNow;
+    };
+    let Some(link) = notes.seen_link else {
+        return StepAnswer::NotNow;
+    };
+    let at = (HEAD_WORD + head.of) as usize;
+    if core.words[at] != head.word {
+        return StepAnswer::NotNow;
+    }
+    let d = head_first(head.word) - 1;
+    core.words[at] = head_after_pop(head.word, link);
+    core.superblocks[d as usize] = SuperblockOwner {
+        seat,
+        share: Share::listed(head.of),
+    };
+    core.seats[seat] = Seat {
+        ticket: None,
+        seen_head: None,
+        seen_link: None,
+        seen_anchor: Seen::cleared(notes.seen_anchor, d, 1),
+        ..notes
+    };
+    StepAnswer::Done
+}

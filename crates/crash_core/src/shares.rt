@@ -1,0 +1,63 @@
+//! What a seat has of a superblock, and where it has a block.
+
+ghost use Rattle.std.specs.Prelude.{◌≡◌, ◌+◌, get_or};
+ghost use Rattle.heap_model.specs.Counting.{one_if};
+ghost use Rattle.crash_core.specs.Standing.{share_for, place_for, no_superblock, no_block, raw_in, split_in, classed_in, cutting_in, listed};
+
+use crate::owners::{BlockPlace, Share};
+use crate::state::CoreState;
+
+/// What the seat has of superblock `d`; nothing where there is no such superblock.
+pub(crate) fn share(core: &CoreState, seat: usize, d: u64) -> Share
+    ensures { result ≡ share_for seat (get_or core.now.superblocks.items d no_superblock) }
+{
+    if d >= core.superblocks.len() as u64 {
+        return Share::Nothing;
+    }
+    let owner = core.superblocks[d as usize];
+    if owner.seat == seat { owner.share } else { Share::Nothing }
+}
+
+/// Where the seat has the block that begins at a word.
+pub(crate) fn place(core: &CoreState, seat: usize, block: u64) -> BlockPlace
+    ensures { result ≡ place_for seat (get_or core.now.blocks.items block no_block) }
+{
+    if block >= core.blocks.len() as u64 {
+        return BlockPlace::Nowhere;
+    }
+    let owner = core.blocks[block as usize];
+    if owner.seat == seat { owner.place } else { BlockPlace::Nowhere }
+}
+
+impl Share {
+    /// Whether it is a claim without a class, in whatever state.
+    pub(crate) fn is_unclassed(self) -> bool
+        ensures { one_if result ≡ raw_in self + split_in self + cutting_in self }
+    {
+        match self {
+            Share::Raw | Share::Split | Share::Cutting => true,
+            Share::Nothing | Share::Classed { .. } | Share::Large { .. } => false,
+        }
+    }
+
+    /// Whether it is a claim of a superblock whose blocks are not being made.
+    pub(crate) fn is_settled(self) -> bool
+        ensures { one_if result ≡ raw_in self + split_in self + classed_in self }
+    {
+        match self {
+            Share::Raw | Share::Split | Share::Classed { .. } => true,
+            Share::Nothing | Share::Cutting | Share::Large { .. } => false,
+        }
+    }
+
+    /// What a seat has of a superblock that comes from a list.
+    pub(crate) fn listed(list: u64) -> Share
+        ensures { result ≡ listed list }
+    {
+        if list == 0 {
+            Share::Raw
+        } else {
+            Share::Classed { class: list }
+        }
+    }
+}
