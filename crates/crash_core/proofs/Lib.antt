@@ -37,6 +37,7 @@ mod ExampleLemmas
 pub mod StandingLemmas
 pub mod WordLemmas
 pub mod ShareLemmas
+pub mod ReadLemmas
 pub mod KeptFacts
 pub mod ClaimLemmas
 pub mod ListSteps

@@ -167,6 +167,10 @@ pub record StandsFor (c : CoreState) (k : Setup) (s : State) : Type 0 where
   pub words : c.words.items ≡ s.words
   pub keeps : Keeps c k s.views
 
+-- the memory that its words are
+abbrev pub memory_at : CoreState → Memory
+memory_at c = memory_of c.geometry.capacity c.words.items
+
 -- some state is there that it stands for
 pub record IsCore (c : CoreState) : Type 0 where
   pub setup : Setup

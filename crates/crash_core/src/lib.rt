@@ -11,6 +11,7 @@ mod lists;
 mod looks;
 mod opening;
 mod owners;
+mod reads;
 mod shares;
 mod state;
 

@@ -1,0 +1,10 @@
+use Rattle.std.proofs.Common.{lt-ltb, arith}
+use Rattle.crash_core.specs.Cells.{anchor_cell}
+use Rattle.crash_core.proofs.ReadLemmas.{lengths, reads_volatile}
+use Rattle.crash_core.proofs.reads.anchor.Goals as goal
+
+pub index-requires : goal.index-requires
+index-requires c = let l = (lengths c.args.core.now c.requires.core).words in let e = c.anchor.ensures in let d = c.requires.d in omega arith
+
+pub returns : goal.returns
+returns c = reads_volatile c.args.core.now (anchor_cell c.args.d) c.anchor.result c.index.result.now c.requires.core (lt-ltb c.args.d c.args.core.now.geometry.capacity c.requires.d) c.anchor.ensures c.index.ensures
