@@ -41,4 +41,5 @@ pub mod ReadLemmas
 pub mod KeptFacts
 pub mod ClaimLemmas
 pub mod ListSteps
+pub mod PushDecision
 pub mod LookSteps

@@ -1,5 +1,5 @@
 -- What the core keeps of a state: the words themselves; by seat its tickets and snapshots, and the ends of its caches and of its batch; and whose each block, superblock and root is.
-use Rattle.std.specs.Prelude.{◌≡◌, ◌≢◌, ℕ, zero, suc, ◌+◌, ◌*◌, ◌<◌, ◌≤◌, cond, nat_eq, List, get_or, length, Option, None, Some}
+use Rattle.std.specs.Prelude.{◌≡◌, ◌≢◌, ℕ, zero, suc, ◌+◌, ◌*◌, ◌<◌, ◌≤◌, ◌↔◌, Bool, true, cond, nat_eq, List, get_or, length, Option, None, Some}
 use Rattle.heap_model.specs.Counting.{times, total, one_if}
 use Rattle.heap_model.specs.Geometry.{lists, roots, image_words, largest_capacity}
 use Rattle.crash_core.specs.declared.answer.StepAnswer.{StepAnswer}
@@ -193,3 +193,7 @@ pub data Steps (old new : CoreState) (k : Setup) (views : List View) (i : ℕ) (
 abbrev pub Takes : CoreState → ℕ → Event → StepAnswer → CoreState → Type 0
 Takes old i event answer new = (k : Setup) (views : List View) (v : View) → Keeps old k views → i < length views → get_or views i v ≡ v → v.stopped ≡ None
     → HasTicketFor v event → Steps old new k views i v event answer
+
+-- the answer to whether a guard holds of the seat, in each state that the core stands for
+abbrev pub Decides : CoreState → ℕ → (Memory → View → Type 0) → Bool → Type 0
+Decides c i Guard answer = (k : Setup) (views : List View) (v : View) → Keeps c k views → i < length views → get_or views i v ≡ v → (answer ≡ true) ↔ Guard (memory_of k.capacity c.words.items) v

@@ -1,7 +1,7 @@
 //! The anchors that exchanges leave.
 
 ghost use Rattle.std.specs.Prelude.{◌≡◌, ◌+◌, ◌<◌, ◌≤◌, ◌≢◌};
-ghost use Rattle.heap_model.specs.Words.{anchor_state, anchor_count, full_anchor};
+ghost use Rattle.heap_model.specs.Words.{anchor_state, anchor_first, anchor_count, full_anchor};
 ghost use Rattle.crash_core.specs.Effects.{given_anchor};
 
 use anchor_word::{Anchor, State, give, pack, unpack};
@@ -30,4 +30,34 @@ pub fn anchor_after_give(anchor: u64, first: u64, count: u64, all: u64) -> u64
         Some(old) => pack(&give(&old, first, count, all)),
         None => anchor,
     }
+}
+
+/// The state of an anchor that has all blocks free.
+pub(crate) const EMPTY: u64 = 0;
+
+/// The state of an anchor that has some blocks free.
+pub(crate) const PARTIAL: u64 = 1;
+
+/// The anchor of a superblock with no free block.
+pub(crate) const FULL_ANCHOR: u64 = 2;
+
+/// The state of an anchor, as its number.
+pub(crate) fn anchor_state(anchor: u64) -> u64
+    ensures { result ≡ anchor_state anchor }
+{
+    anchor % 4
+}
+
+/// The index of the first free block.
+pub(crate) fn anchor_first(anchor: u64) -> u64
+    ensures { result ≡ anchor_first anchor }
+{
+    anchor / 4 % (1 << 31)
+}
+
+/// How many blocks are free.
+pub(crate) fn anchor_count(anchor: u64) -> u64
+    ensures { result ≡ anchor_count anchor }
+{
+    anchor >> 33
 }

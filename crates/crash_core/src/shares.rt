@@ -50,6 +50,16 @@ impl Share {
         }
     }
 
+    /// Whether it is a claim with a class.
+    pub(crate) fn is_classed(self) -> bool
+        ensures { one_if result ≡ classed_in self }
+    {
+        match self {
+            Share::Classed { .. } => true,
+            Share::Nothing | Share::Raw | Share::Split | Share::Cutting | Share::Large { .. } => false,
+        }
+    }
+
     /// What a seat has of a superblock that comes from a list.
     pub(crate) fn listed(list: u64) -> Share
         ensures { result ≡ listed list }
