@@ -42,4 +42,7 @@ pub mod KeptFacts
 pub mod ClaimLemmas
 pub mod ListSteps
 pub mod PushDecision
+pub mod LookDecision
+pub mod RangeLemmas
+pub mod FreshSteps
 pub mod LookSteps

@@ -11,12 +11,12 @@ use Rattle.crash_core.specs.declared.event.Event.TheVariants.{LookUsed, LookHead
 use Rattle.crash_core.specs.declared.owners.Seat.{Seat}
 use Rattle.crash_core.specs.declared.owners.Seen.{Seen}
 use Rattle.crash_core.specs.declared.state.CoreState.{CoreState}
-use Rattle.crash_core.specs.Cells.{used_cell, head_cell, link_cell, is_cell}
-use Rattle.crash_core.specs.Memory.{volatile_at, memory_of, read, table_index, table_length}
+use Rattle.crash_core.specs.Cells.{used_cell, head_cell, link_cell, anchor_cell, is_cell}
+use Rattle.crash_core.specs.Memory.{anchor, volatile_at, memory_of, read, table_index, table_length}
 use Rattle.crash_core.specs.View.{Setup, View, one_if_some}
 use Rattle.crash_core.specs.Effects.{seen, seen_word, before}
-use Rattle.crash_core.specs.Guards.{IsThere, HasTicketFor}
-use Rattle.crash_core.specs.Standing.{IsKept, Keeps, Steps, snapshot}
+use Rattle.crash_core.specs.Guards.{IsThere, HasTicketFor, MayLookAt}
+use Rattle.crash_core.specs.Standing.{IsKept, Keeps, Steps, snapshot, memory_at}
 use Rattle.crash_core.proofs.QuietLemmas.{not_there}
 use Rattle.crash_core.proofs.StandingLemmas.{step_noted, step_not, memory_in}
 use Rattle.crash_core.proofs.KeptFacts as facts
@@ -124,3 +124,17 @@ module _ (c : CoreState) (k : Setup) (views : List View) (i : ℕ) (v : View) (t
       }) refl refl refl where
         saw_used : v.seen_used ≡ Some used
         saw_used = kept.notes.seen_used ∙ some
+
+  pub look_anchor : IsThere v.ticket → (d word : ℕ) → MayLookAt v d → d < c.geometry.capacity → word ≡ anchor (memory_at c) d
+      → Steps c (record c { seats = with_item c.seats i (record t { ticket = None; seen_anchor = Some (record { of = d; word = word }) }) }) k views i v (LookAnchor d) Done
+  look_anchor ticket d word may less is = step_noted c k views i v t (record t { ticket = None; seen_anchor = Some (record { of = d; word = word }) }) c.words (LookAnchor d)
+      keeps below at at_t going ticket may tt going
+      (sym (put_back k.capacity c.words.items (volatile_at (anchor_cell d)) (lt-ltb d k.capacity (let cap = keeps.capacity in omega arith))))
+      (let n = kept.notes in record {
+        ticket = refl;
+        stopped = n.stopped;
+        seen_used = n.seen_used;
+        seen_head = n.seen_head;
+        seen_link = n.seen_link;
+        seen_anchor = ap (λ x. Some (record { of = d; word = x })) (ap (λ n. anchor (memory_of n c.words.items) d) keeps.capacity ∙ sym is);
+      }) refl refl refl

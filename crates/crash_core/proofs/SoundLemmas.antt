@@ -32,14 +32,14 @@ module _ (k : Setup) (m : Memory) (views : List View) (i : ℕ) (v : View) (belo
     | inr none ↦ absurd (let e = ap (times_own v) none in omega arith)
   ]
 
-  taken : (d : ℕ) → 0 < times_raw d v + times_classed d v.classed → d < k.capacity
+  pub taken : (d : ℕ) → 0 < times_raw d v + times_classed d v.classed → d < k.capacity
   taken d some = elim (cases_lt d (used m)) [
     | inl less ↦ let r = good.shaped.durable.room in omega arith
     | inr past ↦ absurd (let raw = total_at (times_raw d) views i v below_i at in let classed = total_at (λ (u : View). times_classed d u.classed) views i v below_i at in
         let p = good.shaped.placed.one_place d in let none = below_not d (used m) past in omega arith)
   ]
 
-  batched : (d : ℕ) → v.batch.descriptor ≡ d → 1 ≤ length v.batch.blocks → d < k.capacity
+  pub batched : (d : ℕ) → v.batch.descriptor ≡ d → 1 ≤ length v.batch.blocks → d < k.capacity
   batched d of some = let b = first_of v.batch.blocks in let there = first_there v.batch.blocks some in let t = total_at (times_block b) views i v below_i at in
       let cut = (good.shaped.chained.inside b (omega arith)).0 in
       let here : superblock_at k.capacity b ≡ d = ap (λ c. superblock_at c b) (sym cap) ∙ ((good.blocks i v below_i at).batched b there).0 ∙ of in

@@ -167,6 +167,12 @@ pub record StandsFor (c : CoreState) (k : Setup) (s : State) : Type 0 where
   pub words : c.words.items ≡ s.words
   pub keeps : Keeps c k s.views
 
+-- the owners of n superblocks from one on are another, and all others stay
+pub record IsRange (old new : List SuperblockOwner) (from n : ℕ) (owner : SuperblockOwner) : Type 0 where
+  pub long : length new ≡ length old
+  pub inside : (d : ℕ) → from ≤ d → d < from + n → get_or new d no_superblock ≡ owner
+  pub outside : (d : ℕ) → (from ≤ d → d < from + n → ⊥) → get_or new d no_superblock ≡ get_or old d no_superblock
+
 -- the memory that its words are
 abbrev pub memory_at : CoreState → Memory
 memory_at c = memory_of c.geometry.capacity c.words.items

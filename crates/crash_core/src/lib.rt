@@ -5,6 +5,7 @@ mod anchors;
 mod answer;
 mod crash;
 mod event;
+mod fresh;
 mod heads;
 mod laws;
 mod lists;

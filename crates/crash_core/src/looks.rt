@@ -1,12 +1,15 @@
 //! The steps that read a shared word.
 
-ghost use Rattle.std.specs.Prelude.{◌<◌, length};
-ghost use Rattle.crash_core.specs.declared.event.Event.TheVariants.{LookUsed, LookHead, LookLink, KeepUsed};
-ghost use Rattle.crash_core.specs.Standing.{IsCore, Takes};
+ghost use Rattle.std.specs.Prelude.{◌≡◌, ◌<◌, length, true};
+ghost use Rattle.crash_core.specs.declared.event.Event.TheVariants.{LookUsed, LookHead, LookLink, LookAnchor, KeepUsed};
+ghost use Rattle.crash_core.specs.Guards.{MayLookAt};
+ghost use Rattle.crash_core.specs.Standing.{IsCore, Takes, Decides};
 
 use crate::answer::StepAnswer;
 use crate::heads::head_first;
 use crate::owners::{Seat, Seen};
+use crate::reads::anchor;
+use crate::shares::share;
 use crate::state::CoreState;
 use super_block::{HEAD_WORD, LISTS, USED_WORD};
 
@@ -86,4 +89,43 @@ pub(crate) fn keep_used(core: &mut CoreState, seat: usize) -> StepAnswer
         ..notes
     };
     StepAnswer::Done
+}
+
+/// Reads the anchor of a superblock that is claimed, or that the batch is of.
+pub(crate) fn look_anchor(core: &mut CoreState, seat: usize, d: u64) -> StepAnswer
+    requires core { IsCore core.old }
+    requires seat { seat < length core.old.seats.items }
+    ensures { Takes core.old seat (LookAnchor d) result core.new }
+{
+    let notes = core.seats[seat];
+    if !may_look_at(core, seat, d) {
+        return StepAnswer::NotNow;
+    }
+    let word = anchor(core, d);
+    core.seats[seat] = Seat {
+        ticket: None,
+        seen_anchor: Some(Seen { of: d, word }),
+        ..notes
+    };
+    StepAnswer::Done
+}
+
+/// Whether the seat may read the anchor.
+fn may_look_at(core: &CoreState, seat: usize, d: u64) -> bool
+    requires core { IsCore core.now }
+    requires seat { seat < length core.now.seats.items }
+    ensures decides { Decides core.now seat (λ m v. MayLookAt v d) result }
+    ensures below { result ≡ true → d < core.now.geometry.capacity }
+{
+    let batch = core.seats[seat].batch;
+    if d >= core.geometry.capacity() {
+        return false;
+    }
+    if share(core, seat, d).is_settled() {
+        return true;
+    }
+    if batch.count == 0 {
+        return false;
+    }
+    batch.descriptor == d
 }

@@ -1,0 +1,1 @@
+-- The step of the core that takes superblocks that were never taken.

@@ -1,0 +1,63 @@
+//! The step that takes superblocks that were never taken.
+
+ghost use Rattle.std.specs.Prelude.{◌≡◌, ◌<◌, ◌≤◌, ◌+◌, length};
+ghost use Rattle.crash_core.specs.declared.event.Event.TheVariants.{TakeFresh};
+ghost use Rattle.crash_core.specs.Standing.{IsCore, Takes, IsRange};
+
+use crate::answer::StepAnswer;
+use crate::owners::{Seat, Seen, Share, SuperblockOwner};
+use crate::state::CoreState;
+use super_block::USED_WORD;
+
+/// Takes `n` superblocks that were never taken, if the mark is as it was read.
+pub(crate) fn take_fresh(core: &mut CoreState, seat: usize, n: u64) -> StepAnswer
+    requires core { IsCore core.old }
+    requires seat { seat < length core.old.seats.items }
+    ensures { Takes core.old seat (TakeFresh n) result core.new }
+{
+    let notes = core.seats[seat];
+    let Some(used) = notes.seen_used else {
+        return StepAnswer::NotNow;
+    };
+    let capacity = core.geometry.capacity();
+    if n == 0 {
+        return StepAnswer::NotNow;
+    }
+    if n > capacity {
+        return StepAnswer::NotNow;
+    }
+    if used > capacity - n {
+        return StepAnswer::NotNow;
+    }
+    if core.words[USED_WORD as usize] != used {
+        return StepAnswer::NotNow;
+    }
+    core.words[USED_WORD as usize] = used + n;
+    let owner = SuperblockOwner {
+        seat,
+        share: Share::Raw,
+    };
+    give_range(&mut core.superblocks, used, n, owner);
+    core.seats[seat] = Seat {
+        ticket: None,
+        seen_used: Some(used + n),
+        seen_anchor: Seen::cleared(notes.seen_anchor, used, n),
+        ..notes
+    };
+    StepAnswer::Done
+}
+
+/// Gives `n` superblocks from one on an owner.
+pub(crate) fn give_range(
+    owners: &mut Vec<SuperblockOwner>,
+    from: u64,
+    n: u64,
+    owner: SuperblockOwner,
+)
+    requires { from + n ≤ length owners.old.items }
+    ensures { IsRange owners.old.items owners.new.items from n owner }
+{
+    for d in from..from + n {
+        owners[d as usize] = owner;
+    }
+}
