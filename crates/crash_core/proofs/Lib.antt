@@ -43,6 +43,9 @@ pub mod ClaimLemmas
 pub mod ListSteps
 pub mod PushDecision
 pub mod LookDecision
+pub mod OwnDecision
+pub mod WordSteps
+pub mod StoreSteps
 pub mod RangeLemmas
 pub mod FreshSteps
 pub mod LookSteps

@@ -103,11 +103,11 @@ in_classes_own b class zero (bs ∷ lists) some there = let here = within_own (w
 in_classes_own b class (suc n) (bs ∷ lists) some there = let rest = in_classes_own b (class + 1) n lists (subst (λ c. 0 < words_of_class c) (let e : class + suc n ≡ class + 1 + n = omega arith in e) some) there in omega arith
 
 -- the list that has an entry
-record HasClass (b : ℕ) (lists : List (List ℕ)) : Type 0 where
-  n : ℕ
-  there : 0 < times b (get_or lists n [])
+pub record HasClass (b : ℕ) (lists : List (List ℕ)) : Type 0 where
+  pub n : ℕ
+  pub there : 0 < times b (get_or lists n [])
 
-which_class : (b : ℕ) (lists : List (List ℕ)) → 0 < total (times b) lists → HasClass b lists
+pub which_class : (b : ℕ) (lists : List (List ℕ)) → 0 < total (times b) lists → HasClass b lists
 which_class b [] some = absurd (omega arith)
 which_class b (bs ∷ lists) some = elim (cases_lt 0 (times b bs)) [
   | inl here ↦ record { n = 0; there = here }

@@ -11,4 +11,5 @@ pub mod Opening
 pub mod Crash
 pub mod OwnerLists
 pub mod Splitting
+pub mod OwnWords
 pub mod Standing

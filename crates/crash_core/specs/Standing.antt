@@ -1,5 +1,5 @@
 -- What the core keeps of a state: the words themselves; by seat its tickets and snapshots, and the ends of its caches and of its batch; and whose each block, superblock and root is.
-use Rattle.std.specs.Prelude.{◌≡◌, ◌≢◌, ℕ, zero, suc, ◌+◌, ◌*◌, ◌<◌, ◌≤◌, ◌↔◌, Bool, true, cond, nat_eq, List, get_or, length, Option, None, Some}
+use Rattle.std.specs.Prelude.{◌≡◌, ◌≢◌, ℕ, zero, suc, ◌+◌, ◌*◌, ◌<◌, ◌≤◌, ◌↔◌, Bool, true, cond, nat_eq, List, get_or, set, length, Option, None, Some}
 use Rattle.heap_model.specs.Counting.{times, total, one_if}
 use Rattle.heap_model.specs.Geometry.{lists, roots, image_words, largest_capacity}
 use Rattle.crash_core.specs.declared.answer.StepAnswer.{StepAnswer}
@@ -79,6 +79,11 @@ abbrev pub listed : ℕ → Share
 listed zero = share.Raw
 listed (suc n) = share.Classed (suc n)
 
+-- what a seat has of its own superblock after a store to the anchor
+abbrev pub anchored : ℕ → Share
+anchored zero = share.Raw
+anchored (suc n) = share.Cutting
+
 -- past the end nothing is anyone's
 abbrev pub no_block : BlockOwner
 no_block = record { seat = 0; place = place.Nowhere }
@@ -101,7 +106,8 @@ pub record HasNotes (t : Seat) (v : View) : Type 0 where
 
 -- where its caches and its batch begin and end, and how long they are
 pub record HasCaches (kept : List Cache) (caches : List (List ℕ)) : Type 0 where
-  pub first : (class : ℕ) (c : Cache) → get_or kept class c ≡ c → class < lists → first_of (of_class caches class) ≡ c.first
+  pub long : length kept ≡ lists
+  pub first : (class : ℕ) (c : Cache) → get_or kept class c ≡ c → class < lists → 1 ≤ length (of_class caches class) → first_of (of_class caches class) ≡ c.first
   pub count : (class : ℕ) (c : Cache) → get_or kept class c ≡ c → class < lists → length (of_class caches class) ≡ c.count
 
 pub record HasBatch (kept : Group) (batch : Batch) : Type 0 where
@@ -199,6 +205,25 @@ pub data Steps (old new : CoreState) (k : Setup) (views : List View) (i : ℕ) (
 abbrev pub Takes : CoreState → ℕ → Event → StepAnswer → CoreState → Type 0
 Takes old i event answer new = (k : Setup) (views : List View) (v : View) → Keeps old k views → i < length views → get_or views i v ≡ v → v.stopped ≡ None
     → HasTicketFor v event → Steps old new k views i v event answer
+
+-- of each state that the core stands for, a seat's parts have become those of another view; no word changed, nor its tickets
+pub record IsMoved (old new : CoreState) (views : List View) (i : ℕ) (t : Seat) (w : View) : Type 0 where
+  pub after : Seat
+  pub seats : new.seats.items ≡ set old.seats.items i after
+  pub ticket : after.ticket ≡ t.ticket
+  pub stopped : after.stopped ≡ t.stopped
+  pub words : new.words ≡ old.words
+  pub geometry : new.geometry ≡ old.geometry
+  pub budget : new.budget ≡ old.budget
+  pub blocks : length new.blocks.items ≡ length old.blocks.items
+  pub superblocks : length new.superblocks.items ≡ length old.superblocks.items
+  pub roots : new.roots.items ≡ old.roots.items
+  pub mine : IsKept new i after w
+  pub others : (j : ℕ) (s : Seat) (u : View) → j ≢ i → j < length views → get_or views j u ≡ u → IsKept old j s u → IsKept new j s u
+
+abbrev pub Moves : CoreState → ℕ → (Memory → View → View) → CoreState → Type 0
+Moves old i change new = (k : Setup) (views : List View) (v : View) (t : Seat) → Keeps old k views → i < length views → get_or views i v ≡ v → get_or old.seats.items i t ≡ t
+    → IsMoved old new views i t (change (memory_of k.capacity old.words.items) v)
 
 -- the answer to whether a guard holds of the seat, in each state that the core stands for
 abbrev pub Decides : CoreState → ℕ → (Memory → View → Type 0) → Bool → Type 0

@@ -11,10 +11,14 @@ mod laws;
 mod lists;
 mod looks;
 mod opening;
+mod own_words;
 mod owners;
+mod part;
 mod reads;
 mod shares;
 mod state;
+mod stores;
+mod words;
 
 pub use anchors::{anchor_after_give, anchor_after_take_all};
 pub use answer::StepAnswer;

@@ -2,7 +2,7 @@
 
 ghost use Rattle.std.specs.Prelude.{◌≡◌, ◌+◌, get_or};
 ghost use Rattle.heap_model.specs.Counting.{one_if};
-ghost use Rattle.crash_core.specs.Standing.{share_for, place_for, no_superblock, no_block, raw_in, split_in, classed_in, cutting_in, listed};
+ghost use Rattle.crash_core.specs.Standing.{share_for, place_for, no_superblock, no_block, raw_in, split_in, classed_in, cutting_in, large_in, held_in, cached_in, batched_in, listed, anchored};
 
 use crate::owners::{BlockPlace, Share};
 use crate::state::CoreState;
@@ -50,6 +50,27 @@ impl Share {
         }
     }
 
+    /// Whether it is a claim at all.
+    pub(crate) fn is_claimed(self) -> bool
+        ensures { one_if result ≡ raw_in self + split_in self + cutting_in self + classed_in self }
+    {
+        match self {
+            Share::Raw | Share::Split | Share::Cutting | Share::Classed { .. } => true,
+            Share::Nothing | Share::Large { .. } => false,
+        }
+    }
+
+    /// Whether all words of the superblock are the seat's: of a claim without a class, or of a
+    /// large block.
+    pub(crate) fn has_words(self) -> bool
+        ensures { one_if result ≡ raw_in self + split_in self + cutting_in self + large_in self }
+    {
+        match self {
+            Share::Raw | Share::Split | Share::Cutting | Share::Large { .. } => true,
+            Share::Nothing | Share::Classed { .. } => false,
+        }
+    }
+
     /// Whether it is a claim with a class.
     pub(crate) fn is_classed(self) -> bool
         ensures { one_if result ≡ classed_in self }
@@ -68,6 +89,38 @@ impl Share {
             Share::Raw
         } else {
             Share::Classed { class: list }
+        }
+    }
+}
+
+impl Share {
+    /// What a seat has of its own superblock after a store to the anchor.
+    pub(crate) fn anchored(value: u64) -> Share
+        ensures { result ≡ anchored value }
+    {
+        if value == 0 { Share::Raw } else { Share::Cutting }
+    }
+
+    /// Whether its blocks are being made.
+    pub(crate) fn is_cutting(self) -> bool
+        ensures { one_if result ≡ cutting_in self }
+    {
+        match self {
+            Share::Cutting => true,
+            Share::Nothing | Share::Raw | Share::Split | Share::Classed { .. } => false,
+            Share::Large { .. } => false,
+        }
+    }
+}
+
+impl BlockPlace {
+    /// Whether the seat has the block at all.
+    pub(crate) fn is_somewhere(self) -> bool
+        ensures { one_if result ≡ held_in self + cached_in self + batched_in self }
+    {
+        match self {
+            BlockPlace::Held | BlockPlace::Cached | BlockPlace::Batched => true,
+            BlockPlace::Nowhere => false,
         }
     }
 }

@@ -1,0 +1,23 @@
+use Rattle.std.proofs.Common.{◌≡◌, ◌+◌, ◌<◌, refl, ap, sym, subst, ◌∙◌, true≢false, arith}
+use Rattle.crash_core.specs.declared.event.Event.TheVariants.{Store}
+use Rattle.crash_core.specs.Cells.{cell_at, link_cell, anchor_cell, data_cell}
+use Rattle.crash_core.specs.OwnWords.{IsPlain}
+use Rattle.crash_core.specs.Standing.{cutting_in, split_in, cached_in, batched_in}
+use Rattle.crash_core.proofs.StandingLemmas.{step_not}
+use Rattle.crash_core.proofs.ReadLemmas.{lengths}
+use Rattle.crash_core.proofs.WordLemmas.{entry_there}
+use Rattle.crash_core.proofs.PushDecision.{refused}
+use Rattle.crash_core.proofs.StoreSteps.{change_free, change_cached, change_batched}
+use Rattle.crash_core.proofs.stores.may_change.Goals as goal
+
+pub returns-in-Nowhere : goal.returns-in-Nowhere
+returns-in-Nowhere c = λ k views v keeps below at. (λ e. change_free c.args.core.now k views c.args.seat v c.index.result.now keeps below at (sym c.index.ensures) c.args.word c.place.result c.place.ensures (ap (λ p. cached_in p + batched_in p) c.in-Nowhere.is), λ may. refl)
+
+pub returns-in-Held : goal.returns-in-Held
+returns-in-Held c = λ k views v keeps below at. (λ e. change_free c.args.core.now k views c.args.seat v c.index.result.now keeps below at (sym c.index.ensures) c.args.word c.place.result c.place.ensures (ap (λ p. cached_in p + batched_in p) c.in-Held.is), λ may. refl)
+
+pub returns-in-Cached : goal.returns-in-Cached
+returns-in-Cached c = λ k views v keeps below at. refused (change_cached c.args.core.now k views c.args.seat v c.index.result.now keeps below at (sym c.index.ensures) c.args.word (sym c.in-Cached.is ∙ c.place.ensures))
+
+pub returns-in-Batched : goal.returns-in-Batched
+returns-in-Batched c = λ k views v keeps below at. change_batched c.args.core.now k views c.args.seat v c.index.result.now keeps below at (sym c.index.ensures) c.args.word (sym c.in-Batched.is ∙ c.place.ensures)

@@ -1,0 +1,18 @@
+use Rattle.std.proofs.Common.{◌≡◌, ◌+◌, ◌<◌, refl, ap, sym, subst, ◌∙◌, true≢false, arith}
+use Rattle.crash_core.specs.declared.event.Event.TheVariants.{Store}
+use Rattle.crash_core.specs.Cells.{cell_at, link_cell, anchor_cell, data_cell}
+use Rattle.crash_core.specs.OwnWords.{IsPlain}
+use Rattle.crash_core.specs.Standing.{cutting_in, split_in, cached_in, batched_in}
+use Rattle.crash_core.proofs.StandingLemmas.{step_not}
+use Rattle.crash_core.proofs.ReadLemmas.{lengths}
+use Rattle.crash_core.proofs.WordLemmas.{entry_there}
+use Rattle.crash_core.proofs.PushDecision.{refused}
+use Rattle.crash_core.proofs.StoreSteps.{shared}
+use Rattle.crash_core.proofs.stores.store.Goals as goal
+
+pub returns-then-not-is_own : goal.returns-then-not-is_own
+returns-then-not-is_own c = λ k views v keeps below at going ticket. step_not c.args.core.now k views c.args.seat v (Store c.args.word c.args.value)
+    (λ may seen. true≢false (sym ((c.if-not-is_own.ensures k views v keeps below at).1 may.0)))
+
+pub returns-in-Shared : goal.returns-in-Shared
+returns-in-Shared c = λ k views v keeps below at going ticket. shared c.args.core.now k views c.args.seat v (entry_there c.args.core.now.seats.items c.args.seat c.requires.seat).0 keeps below at (entry_there c.args.core.now.seats.items c.args.seat c.requires.seat).1 going c.args.word c.args.value c.in-Shared.ensures

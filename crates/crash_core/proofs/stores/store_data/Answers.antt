@@ -1,0 +1,19 @@
+use Rattle.std.proofs.Common.{◌≡◌, ◌+◌, ◌<◌, refl, ap, sym, subst, ◌∙◌, true≢false, arith}
+use Rattle.crash_core.specs.declared.event.Event.TheVariants.{Store}
+use Rattle.crash_core.specs.Cells.{cell_at, link_cell, anchor_cell, data_cell}
+use Rattle.crash_core.specs.OwnWords.{IsPlain}
+use Rattle.crash_core.specs.Standing.{cutting_in, split_in, cached_in, batched_in}
+use Rattle.crash_core.proofs.StandingLemmas.{step_not}
+use Rattle.crash_core.proofs.ReadLemmas.{lengths}
+use Rattle.crash_core.proofs.WordLemmas.{entry_there}
+use Rattle.crash_core.proofs.PushDecision.{refused}
+use Rattle.crash_core.proofs.StoreSteps.{data_stored, not_stored}
+use Rattle.crash_core.proofs.stores.store_data.Goals as goal
+
+pub returns-then-not-may_change : goal.returns-then-not-may_change
+returns-then-not-may_change c = λ k views v keeps below at going ticket. not_stored c.args.core.now k views c.args.seat v c.index-notes.result.now keeps below at (sym c.index-notes.ensures) going c.args.word c.args.value (data_cell c.args.word) c.requires.part.0
+    (λ may. true≢false (sym ((c.if-not-may_change.ensures k views v keeps below at).1 may)))
+
+pub returns : goal.returns
+returns c = λ k views v keeps below at going ticket. data_stored c.args.core.now k views c.args.seat v c.index-notes.result.now keeps below at (sym c.index-notes.ensures) going c.args.word c.args.value c.stored.result c.requires.part.0 ticket ((c.requires.own k views v keeps below at).0 refl)
+    ((c.if-not-may_change.ensures k views v keeps below at).0 refl) c.stored.ensures

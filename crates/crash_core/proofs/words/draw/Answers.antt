@@ -1,0 +1,16 @@
+use Rattle.std.proofs.Common.{◌≡◌, ◌+◌, ◌*◌, refl, ap, sym, subst, ◌∙◌, true≢false, arith}
+use Rattle.crash_core.specs.declared.event.Event.TheVariants.{Load, Settle}
+use Rattle.crash_core.proofs.ReadLemmas.{lengths}
+use Rattle.crash_core.proofs.StandingLemmas.{step_not}
+use Rattle.crash_core.proofs.WordLemmas.{entry_there}
+use Rattle.crash_core.proofs.WordSteps.{draw, stop, ticket_fits}
+use Rattle.crash_core.proofs.words.draw.Goals as goal
+
+pub returns-then-ticket-core : goal.returns-then-ticket-core
+returns-then-ticket-core c = λ k views v keeps below at going ticket. stop c.args.core.now k views c.args.seat v c.index-notes.result.now keeps below at (sym c.index-notes.ensures) going (2 * c.length.result) c.index-ticket.result.now (ap (λ n. 2 * n) c.length.ensures) c.index-ticket.ensures c.if-ticket-core.true
+
+pub returns : goal.returns
+returns c = λ k views v keeps below at going ticket. draw c.args.core.now k views c.args.seat v c.index-notes.result.now keeps below at (sym c.index-notes.ensures) going (2 * c.length.result) c.index-ticket.result.now (ap (λ n. 2 * n) c.length.ensures) c.index-ticket.ensures (let e = c.if-ticket-core.false in omega arith)
+
+pub overflow_add-ticket : goal.overflow_add-ticket
+overflow_add-ticket c = let f = ticket_fits c.args.core.now (2 * c.length.result) c.index-ticket.result.now c.requires.core (ap (λ n. 2 * n) c.length.ensures) c.index-ticket.ensures in omega arith

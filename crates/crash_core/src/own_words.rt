@@ -1,0 +1,82 @@
+//! Which words are a seat's own.
+
+ghost use Rattle.std.specs.Prelude.{◌<◌, ◌≤◌, length};
+ghost use Rattle.heap_model.specs.Geometry.{start_word, image_words};
+ghost use Rattle.crash_core.specs.Cells.{cell_at, data_cell};
+ghost use Rattle.crash_core.specs.Guards.{IsOwn};
+ghost use Rattle.crash_core.specs.OwnWords.{IsPart};
+ghost use Rattle.crash_core.specs.Standing.{IsCore, Decides};
+
+use crate::part::Part;
+use crate::reads::info;
+use crate::shares::{place, share};
+use crate::state::CoreState;
+use size_table::size_of;
+use super_block::{FIXED_WORDS, Geometry, LAST_CLASS, ROOT_WORD, SUPERBLOCK_WORDS, WORD_BYTES};
+
+/// The part of the image that a word is.
+pub(crate) fn part_at(geometry: Geometry, word: u64) -> Part
+    ensures { IsPart geometry.capacity word result }
+{
+    if word < ROOT_WORD {
+        return Part::Shared;
+    }
+    if word < FIXED_WORDS {
+        return Part::Root { i: word - ROOT_WORD };
+    }
+    if word >= geometry.length() {
+        return Part::Shared;
+    }
+    if word >= geometry.start(0) {
+        return Part::Data { word };
+    }
+    let d = (word - FIXED_WORDS) / 8;
+    match (word - FIXED_WORDS) % 8 {
+        0 => Part::Info { d },
+        1 => Part::Anchor { d },
+        2 => Part::Link { d },
+        _ => Part::Shared,
+    }
+}
+
+/// Whether the word is the seat's own.
+pub(crate) fn is_own(core: &CoreState, seat: usize, word: u64) -> bool
+    requires core { IsCore core.now }
+    requires seat { seat < length core.now.seats.items }
+    ensures { Decides core.now seat (λ m v. IsOwn v (cell_at v.setup.capacity word)) result }
+{
+    match part_at(core.geometry, word) {
+        Part::Shared => false,
+        Part::Root { i } => core.roots[i as usize] as usize == seat,
+        Part::Info { d } => share(core, seat, d).is_unclassed(),
+        Part::Anchor { d } => share(core, seat, d).is_unclassed(),
+        Part::Link { d } => share(core, seat, d).is_claimed(),
+        Part::Data { word } => is_own_data(core, seat, word),
+    }
+}
+
+/// Whether a word of a superblock is: all are of one that is claimed without a class or is part of
+/// a large block; of a superblock that is cut, those of the seat's blocks.
+fn is_own_data(core: &CoreState, seat: usize, word: u64) -> bool
+    requires core { IsCore core.now }
+    requires seat { seat < length core.now.seats.items }
+    requires from { start_word core.now.geometry.capacity 0 ≤ word }
+    requires until { word < image_words core.now.geometry.capacity }
+    ensures { Decides core.now seat (λ m v. IsOwn v (data_cell word)) result }
+{
+    let d = (word - core.geometry.start(0)) / SUPERBLOCK_WORDS;
+    if share(core, seat, d).has_words() {
+        return true;
+    }
+    let class = info(core, d);
+    if class == 0 {
+        return false;
+    }
+    if class > LAST_CLASS {
+        return false;
+    }
+    let words = size_of(class as u8) / WORD_BYTES;
+    let start = core.geometry.start(d);
+    let block = start + (word - start) / words * words;
+    place(core, seat, block).is_somewhere()
+}
