@@ -46,6 +46,7 @@ pub mod LookDecision
 pub mod OwnDecision
 pub mod WordSteps
 pub mod StoreSteps
+pub mod MoveSteps
 pub mod RangeLemmas
 pub mod FreshSteps
 pub mod LookSteps

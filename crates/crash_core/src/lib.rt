@@ -10,6 +10,7 @@ mod heads;
 mod laws;
 mod lists;
 mod looks;
+mod moves;
 mod opening;
 mod own_words;
 mod owners;

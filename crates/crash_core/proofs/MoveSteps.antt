@@ -1,0 +1,230 @@
+-- The core when a block goes from a cache to what its seat holds.
+use Rattle.std.proofs.Common.{◌≡◌, ◌≢◌, ℕ, zero, suc, ◌+◌, ◌-◌, ◌*◌, ◌<◌, ◌≤◌, ◌↔◌, inl, inr, true, false, nat_eq, nat_lt, List, [], ◌∷◌, get_or, set, length, refl, ap, sym, subst, ◌∙◌, length-set, lt-ltb, ltb-true, arith}
+use Rattle.std.proofs.lemmas.Bool.{cases_eq}
+use Rattle.std.proofs.lemmas.List.{get_or-set_same, get_or-set_other}
+use Rattle.std.specs.Vec.{with_item}
+use Rattle.heap_model.specs.Geometry.{lists, start_word, image_words}
+use Rattle.heap_model.specs.Sizes.{IsClass, words_of_class}
+use Rattle.heap_model.specs.Counting.{times, total, one_if}
+use Rattle.heap_model.specs.Chains.{Walks}
+use Rattle.heap_model.proofs.SizeLemmas.{two_words}
+use Rattle.crash_core.specs.declared.owners.BlockPlace.{BlockPlace}
+use Rattle.crash_core.specs.declared.owners.BlockPlace.TheVariants as place
+use Rattle.crash_core.specs.declared.owners.BlockOwner.{BlockOwner}
+use Rattle.crash_core.specs.declared.owners.Cache.{Cache}
+use Rattle.crash_core.specs.declared.owners.Seat.{Seat}
+use Rattle.crash_core.specs.declared.state.CoreState.{CoreState}
+use Rattle.crash_core.specs.Cells.{superblock_at}
+use Rattle.crash_core.specs.Memory.{Memory, next, info, memory_of}
+use Rattle.crash_core.specs.View.{Setup, View, of_class, times_block}
+use Rattle.crash_core.specs.Effects.{first_of, rest_of, after_alloc}
+use Rattle.crash_core.specs.Guards.{MayAlloc}
+use Rattle.crash_core.specs.Sound.{Good}
+use Rattle.crash_core.specs.Standing.{place_for, no_block, held_in, cached_in, batched_in, IsPlace, IsKept, IsCore, Keeps, IsMoved, Decides, memory_at}
+use Rattle.crash_core.proofs.TotalLemmas.{total_at, eq-eqb-one, ne-eqb-none}
+use Rattle.crash_core.proofs.BlockLemmas.{inside_of, first_there, of_class_same, of_class_other, total_lists}
+use Rattle.crash_core.proofs.OwnerLemmas.{in_lists_total}
+use Rattle.crash_core.proofs.ShiftLemmas.{first_rest}
+use Rattle.crash_core.proofs.StandingLemmas.{memory_in}
+use Rattle.crash_core.proofs.ShareLemmas.{places_mine, places_theirs, place_alone}
+use Rattle.crash_core.proofs.ReadLemmas.{lengths}
+use Rattle.crash_core.proofs.WordLemmas.{entry_is, entry_there}
+
+abbrev pub no_cache : Cache
+no_cache = record { first = 0; count = 0 }
+
+cached_only : (p : BlockPlace) → 0 < cached_in p → (held_in p ≡ 0) × (cached_in p ≡ 1) × (batched_in p ≡ 0)
+cached_only place.Nowhere some = absurd (omega arith)
+cached_only place.Held some = absurd (omega arith)
+cached_only place.Cached some = (refl, refl, refl)
+cached_only place.Batched some = absurd (omega arith)
+
+rest_length : (bs : List ℕ) → length (rest_of bs) ≡ length bs - 1
+rest_length [] = refl
+rest_length (b ∷ bs) = omega arith
+
+rest_first : (f : ℕ → ℕ) (bs : List ℕ) → Walks f (first_of bs) bs → 1 ≤ length (rest_of bs) → first_of (rest_of bs) ≡ f (first_of bs)
+rest_first f [] walks some = absurd (omega arith)
+rest_first f (b ∷ []) walks some = absurd (omega arith)
+rest_first f (b ∷ n ∷ bs) walks some = sym walks.1.0
+
+module _ (c : CoreState) (k : Setup) (views : List View) (i : ℕ) (v : View) (t : Seat) (keeps : Keeps c k views) (below : i < length views) (at : get_or views i v ≡ v)
+    (at_t : get_or c.seats.items i t ≡ t) where
+  kept : IsKept c i t v
+  kept = keeps.each i t v below at_t at
+
+  good : Good k (memory_in c k) views
+  good = keeps.sound.good
+
+  -- a block of a seat lies in the superblocks
+  pub block_range : (b : ℕ) → 0 < times_block b v → (start_word c.geometry.capacity 0 ≤ b) × (b < image_words c.geometry.capacity)
+  block_range b some =
+      let tot = total_at (times_block b) views i v below at in
+      let inside = good.shaped.chained.inside b (omega arith) in
+      let is_class = good.shaped.chained.is_class (superblock_at k.capacity b) inside.0 in
+      let ends = inside_of k.capacity (info (memory_in c k) (superblock_at k.capacity b)) (superblock_at k.capacity b) b is_class inside.1 in
+      let low = ends.0 in let high = ends.1 in
+      let less = good.shaped.durable.below (superblock_at k.capacity b) (omega arith) in let q = good.shaped.durable.behind in let r = good.shaped.durable.room in
+      let two = two_words (info (memory_in c k) (superblock_at k.capacity b)) is_class in let cap = keeps.capacity in
+      within (superblock_at k.capacity b) low high (omega arith) (omega arith) where
+        within : (d : ℕ) → start_word k.capacity d ≤ b → b + words_of_class (info (memory_in c k) (superblock_at k.capacity b)) ≤ start_word k.capacity (d + 1) → 0 < words_of_class (info (memory_in c k) (superblock_at k.capacity b)) → d < k.capacity
+            → (start_word c.geometry.capacity 0 ≤ b) × (b < image_words c.geometry.capacity)
+        within d low high two less = let cap = keeps.capacity in (omega arith, omega arith)
+
+  module _ (class : ℕ) where
+    abbrev e : Cache
+    e = get_or t.caches class no_cache
+
+    at_e : class < lists → get_or t.caches class e ≡ e
+    at_e less = entry_is t.caches class e no_cache (let l = kept.caches.long in omega arith)
+
+    pub count_is : class < lists → length (of_class v.caches class) ≡ e.count
+    count_is less = kept.caches.count class e (at_e less) less
+
+    pub may_alloc : class ≢ 0 → class ≤ 20 → (nat_lt 0 e.count ≡ true) ↔ MayAlloc v class
+    may_alloc some last = (
+      λ h. record { is_class = record { some = omega arith; last = last }; cached = (let n = count_is (omega arith) in let more = ltb-true 0 e.count h in omega arith) },
+      λ may. lt-ltb 0 e.count (let n = count_is (omega arith) in let m = may.cached in omega arith),
+    )
+
+    module _ (may : MayAlloc v class) where
+      less : class < lists
+      less = let l = may.is_class.last in omega arith
+
+      pub some_count : 1 ≤ e.count
+      some_count = let n = count_is less in let m = may.cached in omega arith
+
+      first_is : first_of (of_class v.caches class) ≡ e.first
+      first_is = kept.caches.first class e (at_e less) less may.cached
+
+      long_small : class < length v.small
+      long_small = let s = (good.set_up i v below at).small in let l = less in omega arith
+
+      long_caches : class < length v.caches
+      long_caches = let s = (good.set_up i v below at).caches in let l = less in omega arith
+
+      in_cache : 0 < times e.first (of_class v.caches class)
+      in_cache = subst (λ b. 0 < times b (of_class v.caches class)) first_is (first_there (of_class v.caches class) may.cached)
+
+      in_caches : 0 < total (times e.first) v.caches
+      in_caches = in_lists_total e.first class v.caches in_cache
+
+      pub first_range : (start_word c.geometry.capacity 0 ≤ e.first) × (e.first < image_words c.geometry.capacity)
+      first_range = block_range e.first (let s = in_caches in omega arith)
+
+      pub first_long : e.first < length c.blocks.items
+      first_long = let r = first_range.1 in let b = keeps.blocks in let cap = keeps.capacity in omega arith
+
+      old : IsPlace e.first (place_for i (get_or c.blocks.items e.first no_block)) v.small v.caches v.batch.blocks
+      old = kept.blocks e.first
+
+      was : (held_in (place_for i (get_or c.blocks.items e.first no_block)) ≡ 0) × (cached_in (place_for i (get_or c.blocks.items e.first no_block)) ≡ 1) × (batched_in (place_for i (get_or c.blocks.items e.first no_block)) ≡ 0)
+      was = cached_only (place_for i (get_or c.blocks.items e.first no_block)) (let o = old.cached in let s = in_caches in omega arith)
+
+      there : place_for i (get_or c.blocks.items e.first no_block) ≡ place.Nowhere → ⊥
+      there none = let w = was.1 in let z = ap cached_in none in omega arith
+
+      parts_at : (y : ℕ) → times y (of_class v.caches class) ≡ one_if (nat_eq (first_of (of_class v.caches class)) y) + times y (rest_of (of_class v.caches class))
+      parts_at y = ap (times y) (first_rest (of_class v.caches class) may.cached)
+
+      pub alloc : (first : ℕ) → first ≡ next (memory_at c) e.first
+          → IsMoved c (record c { blocks = with_item c.blocks e.first (record { seat = i; place = place.Held }); seats = with_item c.seats i (record t { caches = set t.caches class (record { first = first; count = e.count - 1 }) }) }) views i t (after_alloc v class)
+      alloc first next_is = record {
+        after = record t { caches = set t.caches class (record { first = first; count = e.count - 1 }) };
+        seats = refl;
+        ticket = refl;
+        stopped = refl;
+        words = refl;
+        geometry = refl;
+        budget = refl;
+        blocks = length-set c.blocks.items e.first (record { seat = i; place = place.Held });
+        superblocks = refl;
+        roots = refl;
+        mine = record {
+          notes = (let n = kept.notes in record { ticket = n.ticket; stopped = n.stopped; seen_used = n.seen_used; seen_head = n.seen_head; seen_link = n.seen_link; seen_anchor = n.seen_anchor });
+          caches = record {
+            long = length-set t.caches class (record { first = first; count = e.count - 1 }) ∙ kept.caches.long;
+            first = first_now;
+            count = count_now;
+          };
+          batch = kept.batch;
+          blocks = places_mine c.blocks.items i e.first place.Held (λ y p. IsPlace y p (set v.small class (b ∷ of_class v.small class)) (set v.caches class (rest_of cs)) v.batch.blocks) first_long
+              (record {
+                held = (let l = total_lists e.first v.small class (b ∷ of_class v.small class) long_small in let one = eq-eqb-one b e.first first_is in let o = old.held in let w = was.0 in omega arith);
+                cached = (let l = total_lists e.first v.caches class (rest_of cs) long_caches in let one = eq-eqb-one b e.first first_is in let p = parts_at e.first in let o = old.cached in let w = was.1 in omega arith);
+                batched = (let o = old.batched in let w = was.2 in omega arith);
+              })
+              (λ y other. let o = kept.blocks y in let none = ne-eqb-none b y (λ h. other (sym h ∙ first_is)) in record {
+                held = (let l = total_lists y v.small class (b ∷ of_class v.small class) long_small in let h = o.held in omega arith);
+                cached = (let l = total_lists y v.caches class (rest_of cs) long_caches in let p = parts_at y in let h = o.cached in omega arith);
+                batched = o.batched;
+              });
+          superblocks = kept.superblocks;
+          roots = kept.roots;
+        };
+        others = λ j s u other less_j at_u h. record {
+          notes = h.notes; caches = h.caches; batch = h.batch;
+          blocks = places_theirs c.blocks.items i j e.first place.Held (λ y p. IsPlace y p u.small u.caches u.batch.blocks) first_long other (place_alone i j (get_or c.blocks.items e.first no_block) other there) h.blocks;
+          superblocks = h.superblocks; roots = h.roots;
+        };
+      } where
+        cs : List ℕ
+        cs = of_class v.caches class
+
+        b : ℕ
+        b = first_of (of_class v.caches class)
+
+        new : Cache
+        new = record { first = first; count = e.count - 1 }
+
+        long_t : class < length t.caches
+        long_t = let l = kept.caches.long in let n = less in omega arith
+
+        leads : 1 ≤ length (rest_of (of_class v.caches class)) → first_of (rest_of (of_class v.caches class)) ≡ first
+        leads some = rest_first (next (memory_in c k)) (of_class v.caches class) ((good.blocks i v below at).cache_linked class) some
+            ∙ ap (next (memory_in c k)) first_is ∙ ap (λ n. next (memory_of n c.words.items) e.first) keeps.capacity ∙ sym next_is
+
+        first_now : (n : ℕ) (x : Cache) → get_or (set t.caches class new) n x ≡ x → n < lists → 1 ≤ length (of_class (set v.caches class (rest_of cs)) n) → first_of (of_class (set v.caches class (rest_of cs)) n) ≡ x.first
+        first_now n x at_x less_n some = elim (cases_eq n class) [
+          | inl here ↦
+              let same = of_class_same v.caches class (rest_of cs) n here long_caches in
+              let x_is : new ≡ x = sym (get_or-set_same t.caches class new x long_t) ∙ subst (λ m. get_or (set t.caches class new) m x ≡ x) here at_x in
+              ap first_of same ∙ leads (subst (λ l. 1 ≤ length l) same some) ∙ ap (λ (y : Cache). y.first) x_is
+          | inr other ↦
+              let same = of_class_other v.caches class (rest_of cs) n other in
+              ap first_of same ∙ kept.caches.first n x (sym (get_or-set_other t.caches class n new x other) ∙ at_x) less_n (subst (λ l. 1 ≤ length l) same some)
+        ]
+
+        count_now : (n : ℕ) (x : Cache) → get_or (set t.caches class new) n x ≡ x → n < lists → length (of_class (set v.caches class (rest_of cs)) n) ≡ x.count
+        count_now n x at_x less_n = elim (cases_eq n class) [
+          | inl here ↦
+              let same = of_class_same v.caches class (rest_of cs) n here long_caches in
+              let x_is : new ≡ x = sym (get_or-set_same t.caches class new x long_t) ∙ subst (λ m. get_or (set t.caches class new) m x ≡ x) here at_x in
+              ap length same ∙ rest_length (of_class v.caches class) ∙ ap (λ m. m - 1) (count_is less) ∙ ap (λ (y : Cache). y.count) x_is
+          | inr other ↦ ap length (of_class_other v.caches class (rest_of cs) n other) ∙ kept.caches.count n x (sym (get_or-set_other t.caches class n new x other) ∙ at_x) less_n
+        ]
+
+-- what fits when a block may be held
+pub record AllocFits (c : CoreState) (class : ℕ) (e : Cache) : Type 0 where
+  pub last : class < 21
+  pub count : 1 ≤ e.count
+  pub from : start_word c.geometry.capacity 0 ≤ e.first
+  pub until : e.first < image_words c.geometry.capacity
+  pub long : e.first < length c.blocks.items
+
+pub alloc_fits : (c : CoreState) (i class : ℕ) (t : Seat) → IsCore c → i < length c.seats.items → get_or c.seats.items i t ≡ t → Decides c i (λ m v. MayAlloc v class) true → AllocFits c class (get_or t.caches class no_cache)
+alloc_fits c i class t core less at_t may =
+    let below : i < length core.views = subst (λ n. i < n) (sym core.keeps.seats) less in
+    let here = entry_there core.views i below in
+    let holds = (may core.setup core.views here.0 core.keeps below here.1).0 refl in
+    let range = first_range c core.setup core.views i here.0 t core.keeps below here.1 at_t class holds in
+    record {
+      last = (let l = holds.is_class.last in omega arith);
+      count = some_count c core.setup core.views i here.0 t core.keeps below here.1 at_t class holds;
+      from = range.0;
+      until = range.1;
+      long = first_long c core.setup core.views i here.0 t core.keeps below here.1 at_t class holds;
+    }
+
+pub retold : (old new : CoreState) (views : List View) (i : ℕ) (t t' : Seat) (w : View) → t ≡ t' → IsMoved old new views i t w → IsMoved old new views i t' w
+retold old new views i t t' w same moved = subst (λ x. IsMoved old new views i x w) same moved
