@@ -47,6 +47,7 @@ pub mod OwnDecision
 pub mod WordSteps
 pub mod StoreSteps
 pub mod MoveSteps
+pub mod FreeSteps
 pub mod RangeLemmas
 pub mod FreshSteps
 pub mod LookSteps

@@ -1,14 +1,18 @@
 //! How blocks go between what a seat holds, its caches and its batch.
 
-ghost use Rattle.std.specs.Prelude.{◌≡◌, ◌<◌, length, true};
-ghost use Rattle.crash_core.specs.Effects.{after_alloc};
-ghost use Rattle.crash_core.specs.Guards.{MayAlloc};
-ghost use Rattle.crash_core.specs.Standing.{IsCore, Decides, Moves};
+ghost use Rattle.std.specs.Prelude.{◌≡◌, ◌<◌, ◌≤◌, length, get_or, true};
+ghost use Rattle.heap_model.specs.Geometry.{start_word, image_words};
+ghost use Rattle.crash_core.specs.Cells.{superblock_at};
+ghost use Rattle.crash_core.specs.Memory.{info};
+ghost use Rattle.crash_core.specs.Effects.{after_alloc, after_free};
+ghost use Rattle.crash_core.specs.Guards.{MayAlloc, MayFree};
+ghost use Rattle.crash_core.specs.Standing.{IsCore, Decides, Moves, memory_at, held_in, place_for, no_block};
 
 use crate::owners::{BlockOwner, BlockPlace, Cache, Seat};
-use crate::reads::next;
+use crate::reads::{info, next};
+use crate::shares::place;
 use crate::state::CoreState;
-use super_block::LAST_CLASS;
+use super_block::{LAST_CLASS, SUPERBLOCK_WORDS};
 
 /// Whether the seat may hold the first block of the cache.
 pub(crate) fn may_alloc(core: &CoreState, seat: usize, class: u64) -> bool
@@ -43,6 +47,69 @@ pub(crate) fn alloc(core: &mut CoreState, seat: usize, class: u64)
     caches[class as usize] = Cache {
         first,
         count: cache.count - 1,
+    };
+    core.seats[seat] = Seat {
+        caches,
+        ..notes
+    };
+}
+
+/// The class of a held block.
+fn held_class(core: &CoreState, seat: usize, block: u64) -> u64
+    requires core { IsCore core.now }
+    requires seat { seat < length core.now.seats.items }
+    requires held { 0 < held_in (place_for seat (get_or core.now.blocks.items block no_block)) }
+    ensures class { result
+        ≡ info (memory_at core.now) (superblock_at core.now.geometry.capacity block) }
+    ensures some { 1 ≤ result }
+    ensures last { result ≤ 20 }
+    ensures from { start_word core.now.geometry.capacity 0 ≤ block }
+    ensures until { block < image_words core.now.geometry.capacity }
+{
+    let d = (block - core.geometry.start(0)) / SUPERBLOCK_WORDS;
+    info(core, d)
+}
+
+/// Whether the seat may put the held block in front of the cache of its class.
+pub(crate) fn may_free(core: &CoreState, seat: usize, block: u64) -> bool
+    requires core { IsCore core.now }
+    requires seat { seat < length core.now.seats.items }
+    ensures decides { Decides core.now seat (λ m v. MayFree m v block) result }
+    ensures held { result ≡ true
+        → 0 < held_in (place_for seat (get_or core.now.blocks.items block no_block)) }
+{
+    if !place(core, seat, block).is_held() {
+        return false;
+    }
+    let class = held_class(core, seat, block);
+    let notes = core.seats[seat];
+    let cache = notes.caches[class as usize];
+    if cache.count == 0 {
+        return true;
+    }
+    next(core, block) == cache.first
+}
+
+/// Puts the held block in front of the cache of its class.
+pub(crate) fn free(core: &mut CoreState, seat: usize, block: u64)
+    requires core { IsCore core.old }
+    requires seat { seat < length core.old.seats.items }
+    requires may { Decides core.old seat (λ m v. MayFree m v block) true }
+    requires held { 0 < held_in (place_for seat (get_or core.old.blocks.items block no_block)) }
+    ensures { Moves core.old seat (λ m v. after_free v
+        (info m (superblock_at v.setup.capacity block)) block) core.new }
+{
+    let class = held_class(core, seat, block);
+    let notes = core.seats[seat];
+    let cache = notes.caches[class as usize];
+    core.blocks[block as usize] = BlockOwner {
+        seat,
+        place: BlockPlace::Cached,
+    };
+    let mut caches = notes.caches;
+    caches[class as usize] = Cache {
+        first: block,
+        count: cache.count + 1,
     };
     core.seats[seat] = Seat {
         caches,

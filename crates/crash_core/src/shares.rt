@@ -114,6 +114,16 @@ impl Share {
 }
 
 impl BlockPlace {
+    /// Whether the seat holds the block.
+    pub(crate) fn is_held(self) -> bool
+        ensures { one_if result ≡ held_in self }
+    {
+        match self {
+            BlockPlace::Held => true,
+            BlockPlace::Nowhere | BlockPlace::Cached | BlockPlace::Batched => false,
+        }
+    }
+
     /// Whether the seat has the block at all.
     pub(crate) fn is_somewhere(self) -> bool
         ensures { one_if result ≡ held_in self + cached_in self + batched_in self }

@@ -1,0 +1,18 @@
+use Rattle.std.proofs.Common.{◌≡◌, ◌<◌, ◌≤◌, ◌+◌, get_or, refl, ap, sym, subst, ◌∙◌, arith}
+use Rattle.crash_core.specs.Standing.{held_in}
+use Rattle.crash_core.proofs.PushDecision.{refused}
+use Rattle.crash_core.proofs.ReadLemmas.{lengths}
+use Rattle.crash_core.proofs.WordLemmas.{entry_is, entry_there}
+use Rattle.crash_core.proofs.MoveSteps.{retold}
+use Rattle.crash_core.proofs.FreeSteps.{free, count_short}
+use Rattle.crash_core.proofs.moves.free.Goals as goal
+
+pub overflow_add-caches : goal.overflow_add-caches
+overflow_add-caches c = let r = c.requires.core in let b = subst (λ n. c.args.seat < n) (sym r.keeps.seats) c.requires.seat in let here = entry_there r.views c.args.seat b in
+    let f = count_short c.args.core.now r.setup r.views c.args.seat here.0 c.index.result.now r.keeps b here.1 (sym c.index.ensures) c.args.block c.requires.held c.held_class-class.result c.held_class-class.ensures.class in
+    let l = (lengths c.args.core.now c.requires.core).small in omega arith
+
+pub returns : goal.returns
+returns c = λ k views v t keeps below at at_t.
+    let same : c.index.result.now ≡ t = c.index.ensures ∙ entry_is c.args.core.now.seats.items c.args.seat c.index.result.now t c.requires.seat ∙ at_t in
+    retold _ _ views c.args.seat c.index.result.now t _ same (free c.args.core.now k views c.args.seat v c.index.result.now keeps below at (sym c.index.ensures) c.args.block c.requires.held c.held_class-class.result c.held_class-class.ensures.class)
