@@ -48,6 +48,7 @@ pub mod WordSteps
 pub mod StoreSteps
 pub mod MoveSteps
 pub mod FreeSteps
+pub mod LiftSteps
 pub mod RangeLemmas
 pub mod FreshSteps
 pub mod LookSteps

@@ -20,7 +20,7 @@ use Rattle.crash_core.specs.View.{Setup, View, of_class, times_block}
 use Rattle.crash_core.specs.Effects.{first_of, rest_of, after_alloc}
 use Rattle.crash_core.specs.Guards.{MayAlloc}
 use Rattle.crash_core.specs.Sound.{Good}
-use Rattle.crash_core.specs.Standing.{place_for, no_block, held_in, cached_in, batched_in, IsPlace, IsKept, IsCore, Keeps, IsMoved, Decides, memory_at}
+use Rattle.crash_core.specs.Standing.{HasCaches, place_for, no_block, held_in, cached_in, batched_in, IsPlace, IsKept, IsCore, Keeps, IsMoved, Decides, memory_at}
 use Rattle.crash_core.proofs.TotalLemmas.{total_at, eq-eqb-one, ne-eqb-none}
 use Rattle.crash_core.proofs.BlockLemmas.{inside_of, first_there, of_class_same, of_class_other, total_lists}
 use Rattle.crash_core.proofs.OwnerLemmas.{in_lists_total}
@@ -88,25 +88,25 @@ module _ (c : CoreState) (k : Setup) (views : List View) (i : ℕ) (v : View) (t
     )
 
     module _ (may : MayAlloc v class) where
-      less : class < lists
+      pub less : class < lists
       less = let l = may.is_class.last in omega arith
 
       pub some_count : 1 ≤ e.count
       some_count = let n = count_is less in let m = may.cached in omega arith
 
-      first_is : first_of (of_class v.caches class) ≡ e.first
+      pub first_is : first_of (of_class v.caches class) ≡ e.first
       first_is = kept.caches.first class e (at_e less) less may.cached
 
       long_small : class < length v.small
       long_small = let s = (good.set_up i v below at).small in let l = less in omega arith
 
-      long_caches : class < length v.caches
+      pub long_caches : class < length v.caches
       long_caches = let s = (good.set_up i v below at).caches in let l = less in omega arith
 
-      in_cache : 0 < times e.first (of_class v.caches class)
+      pub in_cache : 0 < times e.first (of_class v.caches class)
       in_cache = subst (λ b. 0 < times b (of_class v.caches class)) first_is (first_there (of_class v.caches class) may.cached)
 
-      in_caches : 0 < total (times e.first) v.caches
+      pub in_caches : 0 < total (times e.first) v.caches
       in_caches = in_lists_total e.first class v.caches in_cache
 
       pub first_range : (start_word c.geometry.capacity 0 ≤ e.first) × (e.first < image_words c.geometry.capacity)
@@ -115,58 +115,24 @@ module _ (c : CoreState) (k : Setup) (views : List View) (i : ℕ) (v : View) (t
       pub first_long : e.first < length c.blocks.items
       first_long = let r = first_range.1 in let b = keeps.blocks in let cap = keeps.capacity in omega arith
 
-      old : IsPlace e.first (place_for i (get_or c.blocks.items e.first no_block)) v.small v.caches v.batch.blocks
+      pub old : IsPlace e.first (place_for i (get_or c.blocks.items e.first no_block)) v.small v.caches v.batch.blocks
       old = kept.blocks e.first
 
-      was : (held_in (place_for i (get_or c.blocks.items e.first no_block)) ≡ 0) × (cached_in (place_for i (get_or c.blocks.items e.first no_block)) ≡ 1) × (batched_in (place_for i (get_or c.blocks.items e.first no_block)) ≡ 0)
+      pub was : (held_in (place_for i (get_or c.blocks.items e.first no_block)) ≡ 0) × (cached_in (place_for i (get_or c.blocks.items e.first no_block)) ≡ 1) × (batched_in (place_for i (get_or c.blocks.items e.first no_block)) ≡ 0)
       was = cached_only (place_for i (get_or c.blocks.items e.first no_block)) (let o = old.cached in let s = in_caches in omega arith)
 
-      there : place_for i (get_or c.blocks.items e.first no_block) ≡ place.Nowhere → ⊥
+      pub there : place_for i (get_or c.blocks.items e.first no_block) ≡ place.Nowhere → ⊥
       there none = let w = was.1 in let z = ap cached_in none in omega arith
 
-      parts_at : (y : ℕ) → times y (of_class v.caches class) ≡ one_if (nat_eq (first_of (of_class v.caches class)) y) + times y (rest_of (of_class v.caches class))
+      pub parts_at : (y : ℕ) → times y (of_class v.caches class) ≡ one_if (nat_eq (first_of (of_class v.caches class)) y) + times y (rest_of (of_class v.caches class))
       parts_at y = ap (times y) (first_rest (of_class v.caches class) may.cached)
 
-      pub alloc : (first : ℕ) → first ≡ next (memory_at c) e.first
-          → IsMoved c (record c { blocks = with_item c.blocks e.first (record { seat = i; place = place.Held }); seats = with_item c.seats i (record t { caches = set t.caches class (record { first = first; count = e.count - 1 }) }) }) views i t (after_alloc v class)
-      alloc first next_is = record {
-        after = record t { caches = set t.caches class (record { first = first; count = e.count - 1 }) };
-        seats = refl;
-        ticket = refl;
-        stopped = refl;
-        words = refl;
-        geometry = refl;
-        budget = refl;
-        blocks = length-set c.blocks.items e.first (record { seat = i; place = place.Held });
-        superblocks = refl;
-        roots = refl;
-        mine = record {
-          notes = (let n = kept.notes in record { ticket = n.ticket; stopped = n.stopped; seen_used = n.seen_used; seen_head = n.seen_head; seen_link = n.seen_link; seen_anchor = n.seen_anchor });
-          caches = record {
-            long = length-set t.caches class (record { first = first; count = e.count - 1 }) ∙ kept.caches.long;
-            first = first_now;
-            count = count_now;
-          };
-          batch = kept.batch;
-          blocks = places_mine c.blocks.items i e.first place.Held (λ y p. IsPlace y p (set v.small class (b ∷ of_class v.small class)) (set v.caches class (rest_of cs)) v.batch.blocks) first_long
-              (record {
-                held = (let l = total_lists e.first v.small class (b ∷ of_class v.small class) long_small in let one = eq-eqb-one b e.first first_is in let o = old.held in let w = was.0 in omega arith);
-                cached = (let l = total_lists e.first v.caches class (rest_of cs) long_caches in let one = eq-eqb-one b e.first first_is in let p = parts_at e.first in let o = old.cached in let w = was.1 in omega arith);
-                batched = (let o = old.batched in let w = was.2 in omega arith);
-              })
-              (λ y other. let o = kept.blocks y in let none = ne-eqb-none b y (λ h. other (sym h ∙ first_is)) in record {
-                held = (let l = total_lists y v.small class (b ∷ of_class v.small class) long_small in let h = o.held in omega arith);
-                cached = (let l = total_lists y v.caches class (rest_of cs) long_caches in let p = parts_at y in let h = o.cached in omega arith);
-                batched = o.batched;
-              });
-          superblocks = kept.superblocks;
-          roots = kept.roots;
-        };
-        others = λ j s u other less_j at_u h. record {
-          notes = h.notes; caches = h.caches; batch = h.batch;
-          blocks = places_theirs c.blocks.items i j e.first place.Held (λ y p. IsPlace y p u.small u.caches u.batch.blocks) first_long other (place_alone i j (get_or c.blocks.items e.first no_block) other there) h.blocks;
-          superblocks = h.superblocks; roots = h.roots;
-        };
+      -- the cache without its first block
+      pub caches_after : (first : ℕ) → first ≡ next (memory_at c) e.first → HasCaches (set t.caches class (record { first = first; count = e.count - 1 })) (set v.caches class (rest_of (of_class v.caches class)))
+      caches_after first next_is = record {
+        long = length-set t.caches class (record { first = first; count = e.count - 1 }) ∙ kept.caches.long;
+        first = first_now;
+        count = count_now;
       } where
         cs : List ℕ
         cs = of_class v.caches class
@@ -203,6 +169,44 @@ module _ (c : CoreState) (k : Setup) (views : List View) (i : ℕ) (v : View) (t
               ap length same ∙ rest_length (of_class v.caches class) ∙ ap (λ m. m - 1) (count_is less) ∙ ap (λ (y : Cache). y.count) x_is
           | inr other ↦ ap length (of_class_other v.caches class (rest_of cs) n other) ∙ kept.caches.count n x (sym (get_or-set_other t.caches class n new x other) ∙ at_x) less_n
         ]
+
+      pub alloc : (first : ℕ) → first ≡ next (memory_at c) e.first
+          → IsMoved c (record c { blocks = with_item c.blocks e.first (record { seat = i; place = place.Held }); seats = with_item c.seats i (record t { caches = set t.caches class (record { first = first; count = e.count - 1 }) }) }) views i t (after_alloc v class)
+      alloc first next_is = record {
+        after = record t { caches = set t.caches class (record { first = first; count = e.count - 1 }) };
+        seats = refl;
+        ticket = refl;
+        stopped = refl;
+        words = refl;
+        geometry = refl;
+        budget = refl;
+        blocks = length-set c.blocks.items e.first (record { seat = i; place = place.Held });
+        superblocks = refl;
+        roots = refl;
+        mine = record {
+          notes = (let n = kept.notes in record { ticket = n.ticket; stopped = n.stopped; seen_used = n.seen_used; seen_head = n.seen_head; seen_link = n.seen_link; seen_anchor = n.seen_anchor });
+          caches = caches_after first next_is;
+          batch = kept.batch;
+          blocks = places_mine c.blocks.items i e.first place.Held (λ y p. IsPlace y p (set v.small class (first_of (of_class v.caches class) ∷ of_class v.small class)) (set v.caches class (rest_of (of_class v.caches class))) v.batch.blocks) first_long
+              (record {
+                held = (let l = total_lists e.first v.small class (first_of (of_class v.caches class) ∷ of_class v.small class) long_small in let one = eq-eqb-one (first_of (of_class v.caches class)) e.first first_is in let o = old.held in let w = was.0 in omega arith);
+                cached = (let l = total_lists e.first v.caches class (rest_of (of_class v.caches class)) long_caches in let one = eq-eqb-one (first_of (of_class v.caches class)) e.first first_is in let p = parts_at e.first in let o = old.cached in let w = was.1 in omega arith);
+                batched = (let o = old.batched in let w = was.2 in omega arith);
+              })
+              (λ y other. let o = kept.blocks y in let none = ne-eqb-none (first_of (of_class v.caches class)) y (λ h. other (sym h ∙ first_is)) in record {
+                held = (let l = total_lists y v.small class (first_of (of_class v.caches class) ∷ of_class v.small class) long_small in let h = o.held in omega arith);
+                cached = (let l = total_lists y v.caches class (rest_of (of_class v.caches class)) long_caches in let p = parts_at y in let h = o.cached in omega arith);
+                batched = o.batched;
+              });
+          superblocks = kept.superblocks;
+          roots = kept.roots;
+        };
+        others = λ j s u other less_j at_u h. record {
+          notes = h.notes; caches = h.caches; batch = h.batch;
+          blocks = places_theirs c.blocks.items i j e.first place.Held (λ y p. IsPlace y p u.small u.caches u.batch.blocks) first_long other (place_alone i j (get_or c.blocks.items e.first no_block) other there) h.blocks;
+          superblocks = h.superblocks; roots = h.roots;
+        };
+      }
 
 -- what fits when a block may be held
 pub record AllocFits (c : CoreState) (class : ℕ) (e : Cache) : Type 0 where

@@ -1,14 +1,14 @@
 //! How blocks go between what a seat holds, its caches and its batch.
 
-ghost use Rattle.std.specs.Prelude.{◌≡◌, ◌<◌, ◌≤◌, length, get_or, true};
+ghost use Rattle.std.specs.Prelude.{◌≡◌, ◌<◌, ◌≤◌, length, get_or, cond, nat_eq, true};
 ghost use Rattle.heap_model.specs.Geometry.{start_word, image_words};
 ghost use Rattle.crash_core.specs.Cells.{superblock_at};
 ghost use Rattle.crash_core.specs.Memory.{info};
-ghost use Rattle.crash_core.specs.Effects.{after_alloc, after_free};
-ghost use Rattle.crash_core.specs.Guards.{MayAlloc, MayFree};
+ghost use Rattle.crash_core.specs.Effects.{after_alloc, after_free, after_lift};
+ghost use Rattle.crash_core.specs.Guards.{MayAlloc, MayFree, MayLift};
 ghost use Rattle.crash_core.specs.Standing.{IsCore, Decides, Moves, memory_at, held_in, place_for, no_block};
 
-use crate::owners::{BlockOwner, BlockPlace, Cache, Seat};
+use crate::owners::{BlockOwner, BlockPlace, Cache, Group, Seat};
 use crate::reads::{info, next};
 use crate::shares::place;
 use crate::state::CoreState;
@@ -115,4 +115,73 @@ pub(crate) fn free(core: &mut CoreState, seat: usize, block: u64)
         caches,
         ..notes
     };
+}
+
+/// Whether the first block of the cache may go behind the batch: the batch is empty, or of the
+/// block's superblock, and its last block is still linked to the block.
+pub(crate) fn may_lift(core: &CoreState, seat: usize, class: u64) -> bool
+    requires core { IsCore core.now }
+    requires seat { seat < length core.now.seats.items }
+    ensures { Decides core.now seat (λ m v. MayLift m v class) result }
+{
+    if !may_alloc(core, seat, class) {
+        return false;
+    }
+    let notes = core.seats[seat];
+    let cache = notes.caches[class as usize];
+    if notes.batch.count == 0 {
+        return true;
+    }
+    if !notes.batch.linked {
+        return false;
+    }
+    let d = (cache.first - core.geometry.start(0)) / SUPERBLOCK_WORDS;
+    if notes.batch.descriptor != d {
+        return false;
+    }
+    next(core, notes.batch.last) == cache.first
+}
+
+/// Moves the first block of the cache behind the batch.
+pub(crate) fn lift(core: &mut CoreState, seat: usize, class: u64)
+    requires core { IsCore core.old }
+    requires seat { seat < length core.old.seats.items }
+    requires may { Decides core.old seat (λ m v. MayLift m v class) true }
+    ensures { Moves core.old seat (λ m v. after_lift v class) core.new }
+{
+    let notes = core.seats[seat];
+    let cache = notes.caches[class as usize];
+    let d = (cache.first - core.geometry.start(0)) / SUPERBLOCK_WORDS;
+    let first = next(core, cache.first);
+    core.blocks[cache.first as usize] = BlockOwner {
+        seat,
+        place: BlockPlace::Batched,
+    };
+    let mut caches = notes.caches;
+    caches[class as usize] = Cache {
+        first,
+        count: cache.count - 1,
+    };
+    let batch = Group {
+        descriptor: d,
+        class,
+        first: notes.batch.first_with(cache.first),
+        last: cache.first,
+        count: notes.batch.count + 1,
+        linked: true,
+    };
+    core.seats[seat] = Seat {
+        caches,
+        batch,
+        ..notes
+    };
+}
+
+impl Group {
+    /// The first block once another is behind the last.
+    fn first_with(self, block: u64) -> u64
+        ensures { result ≡ cond (nat_eq self.count 0) block self.first }
+    {
+        if self.count == 0 { block } else { self.first }
+    }
 }
