@@ -49,6 +49,7 @@ pub mod StoreSteps
 pub mod MoveSteps
 pub mod FreeSteps
 pub mod LiftSteps
+pub mod SplitSteps
 pub mod RangeLemmas
 pub mod FreshSteps
 pub mod LookSteps

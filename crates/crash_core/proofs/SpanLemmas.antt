@@ -35,7 +35,7 @@ pub block_of : (c class d b : ℕ) → 0 < times b (class_blocks c class d) → 
 block_of c class d b some = let s = in_steps (start_word c d) (words_of_class class) (blocks_of class) b some in record { index = s.0; below = s.1; at = s.2 }
 
 -- 1 in the range
-abbrev in_range : ℕ → ℕ → ℕ → ℕ
+abbrev pub in_range : ℕ → ℕ → ℕ → ℕ
 in_range from n e = one_if (nat_le from e && nat_lt e (from + n))
 
 pub range_is : (from n e : ℕ) → from ≤ e → e < from + n → in_range from n e ≡ 1
@@ -44,13 +44,13 @@ range_is from n e low high = one_if_true (nat_le from e && nat_lt e (from + n)) 
 pub range_not : (from n e : ℕ) → (from ≤ e → e < from + n → ⊥) → in_range from n e ≡ 0
 range_not from n e out = one_if_false (nat_le from e && nat_lt e (from + n)) (λ t. let both = and_both (nat_le from e) (nat_lt e (from + n)) t in out (leb-true from e both.0) (ltb-true e (from + n) both.1))
 
-cases_range : (from n e : ℕ) → ((from ≤ e) × (e < from + n)) ⊎ (from ≤ e → e < from + n → ⊥)
+pub cases_range : (from n e : ℕ) → ((from ≤ e) × (e < from + n)) ⊎ (from ≤ e → e < from + n → ⊥)
 cases_range from n e = elim (cases_lt e from) [
   | inl less ↦ inr (λ low high. omega arith)
   | inr low ↦ elim (cases_lt e (from + n)) [ inl high ↦ inl (low, high) | inr past ↦ inr (λ l h. omega arith) ]
 ]
 
-times_range : (e from n : ℕ) → times e (steps from 1 n) ≡ in_range from n e
+pub times_range : (e from n : ℕ) → times e (steps from 1 n) ≡ in_range from n e
 times_range e from n = let t = times_steps e from n in elim (cases_range from n e) [
   | inl inside ↦ let a = below_not e from inside.0 in let b = below_is e (from + n) inside.1 in let r = range_is from n e inside.0 inside.1 in omega arith
   | inr out ↦ let r = range_not from n e out in elim (cases_lt e from) [
@@ -60,7 +60,7 @@ times_range e from n = let t = times_steps e from n in elim (cases_range from n 
 ]
 
 -- numbers of a range taken out
-without_range_in : (e from n : ℕ) (xs : List ℕ) → from ≤ e → e < from + n → times e (without_range from n xs) ≡ 0
+pub without_range_in : (e from n : ℕ) (xs : List ℕ) → from ≤ e → e < from + n → times e (without_range from n xs) ≡ 0
 without_range_in e from n [] low high = refl
 without_range_in e from n (x ∷ xs) low high = by_test (nat_le from x && nat_lt x (from + n)) refl (without_range_in e from n xs low high) where
   by_test : (test : Bool) → (nat_le from x && nat_lt x (from + n)) ≡ test → times e (without_range from n xs) ≡ 0 → times e (cond test (without_range from n xs) (x ∷ without_range from n xs)) ≡ 0
@@ -70,7 +70,7 @@ without_range_in e from n (x ∷ xs) low high = by_test (nat_le from x && nat_lt
     | inr other ↦ let none = ne-eqb-none x e other in omega arith
   ]
 
-without_range_out : (e from n : ℕ) (xs : List ℕ) → (from ≤ e → e < from + n → ⊥) → times e (without_range from n xs) ≡ times e xs
+pub without_range_out : (e from n : ℕ) (xs : List ℕ) → (from ≤ e → e < from + n → ⊥) → times e (without_range from n xs) ≡ times e xs
 without_range_out e from n [] out = refl
 without_range_out e from n (x ∷ xs) out = by_test (nat_le from x && nat_lt x (from + n)) refl (without_range_out e from n xs out) where
   by_test : (test : Bool) → (nat_le from x && nat_lt x (from + n)) ≡ test → times e (without_range from n xs) ≡ times e xs → times e (cond test (without_range from n xs) (x ∷ without_range from n xs)) ≡ one_if (nat_eq x e) + times e xs
@@ -79,7 +79,7 @@ without_range_out e from n (x ∷ xs) out = by_test (nat_le from x && nat_lt x (
   by_test false t rest = omega arith
 
 -- a large block taken out
-without_span_is : (e d : ℕ) (spans : List Span) → 1 ≤ span_count d spans → times_large e (without_span d spans) + in_range d (span_count d spans) e ≡ times_large e spans
+pub without_span_is : (e d : ℕ) (spans : List Span) → 1 ≤ span_count d spans → times_large e (without_span d spans) + in_range d (span_count d spans) e ≡ times_large e spans
 without_span_is e d [] some = absurd (omega arith)
 without_span_is e d (span ∷ spans) some = elim (cases_eq span.first d) as (λ _. times_large e (cond (nat_eq span.first d) spans (span ∷ without_span d spans)) + in_range d (cond (nat_eq span.first d) span.count (span_count d spans)) e ≡ one_if (takes e span) + times_large e spans) [
   | inl same ↦ subst (λ t. times_large e (cond t spans (span ∷ without_span d spans)) + in_range d (cond t span.count (span_count d spans)) e ≡ one_if (takes e span) + times_large e spans) (sym (eq-eqb span.first d same))
@@ -88,7 +88,7 @@ without_span_is e d (span ∷ spans) some = elim (cases_eq span.first d) as (λ 
       (let rest = without_span_is e d spans (let c : span_count d (span ∷ spans) ≡ span_count d spans = ap (λ t. cond t span.count (span_count d spans)) (ne_eqb span.first d other) in omega arith) in omega arith)
 ]
 
-span_other : (e d : ℕ) (spans : List Span) → e ≢ d → span_count e (without_span d spans) ≡ span_count e spans
+pub span_other : (e d : ℕ) (spans : List Span) → e ≢ d → span_count e (without_span d spans) ≡ span_count e spans
 span_other e d [] other = refl
 span_other e d (span ∷ spans) other = elim (cases_eq span.first d) as (λ _. span_count e (cond (nat_eq span.first d) spans (span ∷ without_span d spans)) ≡ cond (nat_eq span.first e) span.count (span_count e spans)) [
   | inl same ↦ subst (λ t. span_count e (cond t spans (span ∷ without_span d spans)) ≡ cond (nat_eq span.first e) span.count (span_count e spans)) (sym (eq-eqb span.first d same))

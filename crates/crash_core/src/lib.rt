@@ -17,6 +17,7 @@ mod owners;
 mod part;
 mod reads;
 mod shares;
+mod spans;
 mod state;
 mod stores;
 mod words;

@@ -2,7 +2,7 @@
 
 ghost use Rattle.std.specs.Prelude.{◌≡◌, ◌+◌, get_or};
 ghost use Rattle.heap_model.specs.Counting.{one_if};
-ghost use Rattle.crash_core.specs.Standing.{share_for, place_for, no_superblock, no_block, raw_in, split_in, classed_in, cutting_in, large_in, held_in, cached_in, batched_in, listed, anchored};
+ghost use Rattle.crash_core.specs.Standing.{share_for, place_for, no_superblock, no_block, raw_in, split_in, classed_in, cutting_in, large_in, count_in, held_in, cached_in, batched_in, listed, anchored};
 
 use crate::owners::{BlockPlace, Share};
 use crate::state::CoreState;
@@ -99,6 +99,17 @@ impl Share {
         ensures { result ≡ anchored value }
     {
         if value == 0 { Share::Raw } else { Share::Cutting }
+    }
+
+    /// How many superblocks the large block that begins there takes; 0 where none does.
+    pub(crate) fn large_count(self) -> u64
+        ensures { result ≡ count_in self }
+    {
+        match self {
+            Share::Large { count } => count,
+            Share::Nothing | Share::Raw | Share::Split | Share::Cutting => 0,
+            Share::Classed { .. } => 0,
+        }
     }
 
     /// Whether its blocks are being made.

@@ -1,0 +1,175 @@
+-- The core when the superblocks of a held large block are claimed.
+use Rattle.std.proofs.Common.{◌≡◌, ◌≢◌, ℕ, zero, suc, ◌+◌, ◌-◌, ◌*◌, ◌/◌, ◌%◌, ◌<◌, ◌≤◌, ◌↔◌, inl, inr, true, false, nat_lt, List, [], ◌∷◌, ◌++◌, get_or, set, length, refl, ap, ap₂, sym, subst, ◌∙◌, lt-ltb, ltb-true, arith}
+use Rattle.std.proofs.lemmas.Bool.{cases_lt}
+use Rattle.std.specs.Prelude.{Vec, Option}
+use Rattle.std.specs.declared.alloc.Global.{Global}
+use Rattle.std.specs.Vec.{with_item}
+use Rattle.heap_model.specs.Geometry.{start_word}
+use Rattle.heap_model.specs.Counting.{times, total, below}
+use Rattle.crash_core.specs.declared.owners.Seat.{Seat}
+use Rattle.crash_core.specs.declared.owners.Seen.{Seen}
+use Rattle.crash_core.specs.declared.owners.Share.{Share}
+use Rattle.crash_core.specs.declared.owners.Share.TheVariants as share
+use Rattle.crash_core.specs.declared.owners.SuperblockOwner.{SuperblockOwner}
+use Rattle.crash_core.specs.declared.state.CoreState.{CoreState}
+use Rattle.crash_core.specs.Cells.{superblock_at}
+use Rattle.crash_core.specs.Memory.{used}
+use Rattle.crash_core.specs.View.{Setup, View, Span, Claim, times_classed, times_large}
+use Rattle.crash_core.specs.Effects.{steps, cleared, claim_class, span_count, without_span, after_split}
+use Rattle.crash_core.specs.Guards.{MaySplit}
+use Rattle.crash_core.specs.Sound.{Good}
+use Rattle.crash_core.specs.Standing.{share_for, no_superblock, raw_in, split_in, cutting_in, classed_in, class_in, large_in, count_in, IsShare, IsRange, IsKept, IsCore, Keeps, IsMoved, Decides, snapshot}
+use Rattle.crash_core.proofs.TotalLemmas.{total_at}
+use Rattle.crash_core.proofs.FrameLemmas.{times_append, below_not}
+use Rattle.crash_core.proofs.LinkFrameLemmas.{span_covers}
+use Rattle.crash_core.proofs.SpanLemmas.{range_is, range_not, times_range, without_span_is, span_other}
+use Rattle.crash_core.proofs.StandingLemmas.{memory_in}
+use Rattle.crash_core.proofs.ShareLemmas.{share_alone}
+use Rattle.crash_core.proofs.RangeLemmas.{range_mine, range_theirs}
+use Rattle.crash_core.proofs.WordLemmas.{entry_there}
+
+large_only : (x : Share) → 0 < large_in x → (raw_in x ≡ 0) × (split_in x ≡ 0) × (cutting_in x ≡ 0) × (classed_in x ≡ 0) × (class_in x ≡ 0) × (large_in x ≡ 1)
+large_only share.Nothing some = absurd (omega arith)
+large_only share.Raw some = absurd (omega arith)
+large_only share.Split some = absurd (omega arith)
+large_only share.Cutting some = absurd (omega arith)
+large_only (share.Classed class) some = absurd (omega arith)
+large_only (share.Large count) some = (refl, refl, refl, refl, refl, refl)
+
+-- where no large block takes it, none begins there
+no_span : (e : ℕ) (spans : List Span) → times_large e spans ≡ 0 → span_count e spans ≡ 0
+no_span e spans none = elim (cases_lt 0 (span_count e spans)) [
+  | inl some ↦ absurd (let c = span_covers e e spans some (omega arith) (omega arith) in omega arith)
+  | inr zero_count ↦ omega arith
+]
+
+module _ (c : CoreState) (k : Setup) (views : List View) (i : ℕ) (v : View) (t : Seat) (keeps : Keeps c k views) (below_i : i < length views) (at : get_or views i v ≡ v)
+    (at_t : get_or c.seats.items i t ≡ t) (block : ℕ) where
+  kept : IsKept c i t v
+  kept = keeps.each i t v below_i at_t at
+
+  good : Good k (memory_in c k) views
+  good = keeps.sound.good
+
+  cap : v.setup.capacity ≡ c.geometry.capacity
+  cap = ap (λ (s : Setup). s.capacity) (good.set_up i v below_i at).setup ∙ keeps.capacity
+
+  abbrev d : ℕ
+  d = superblock_at c.geometry.capacity block
+
+  d_v : superblock_at v.setup.capacity block ≡ d
+  d_v = ap (λ n. superblock_at n block) cap
+
+  pub split_first : MaySplit v block → block ≡ start_word c.geometry.capacity d
+  split_first may = subst (λ n. block ≡ start_word n (superblock_at n block)) cap may.first
+
+  count_is : span_count d v.large ≡ count_in (share_for i (get_or c.superblocks.items d no_superblock))
+  count_is = (kept.superblocks d).count
+
+  pub split_before : block < start_word c.geometry.capacity 0 → MaySplit v block → ⊥
+  split_before less may = let f = split_first may in omega arith
+
+  pub split_inside : (block - start_word c.geometry.capacity 0) % 8192 ≢ 0 → MaySplit v block → ⊥
+  split_inside apart may = apart (at_start d (split_first may)) where
+    at_start : (n : ℕ) → block ≡ start_word c.geometry.capacity n → (block - start_word c.geometry.capacity 0) % 8192 ≡ 0
+    at_start n is = omega arith
+
+  pub split_there : start_word c.geometry.capacity 0 ≤ block → (block - start_word c.geometry.capacity 0) % 8192 ≡ 0 → (x : Share) (n : ℕ) → x ≡ share_for i (get_or c.superblocks.items d no_superblock) → n ≡ count_in x
+      → (nat_lt 0 n ≡ true) ↔ MaySplit v block
+  split_there from whole x n x_is n_is = (
+    λ h. record {
+      held = subst (λ m. 1 ≤ span_count m v.large) (sym d_v) (let e = count_is in let f = ap count_in x_is in let more = ltb-true 0 n h in omega arith);
+      first = subst (λ m. block ≡ start_word m (superblock_at m block)) (sym cap) (omega arith);
+    },
+    λ may. lt-ltb 0 n (let h = subst (λ m. 1 ≤ span_count m v.large) d_v may.held in let e = count_is in let f = ap count_in x_is in omega arith),
+  )
+
+  module _ (may : MaySplit v block) where
+    abbrev n : ℕ
+    n = span_count d v.large
+
+    some : 0 < n
+    some = subst (λ m. 0 < span_count m v.large) d_v may.held
+
+    covered : (e : ℕ) → d ≤ e → e < d + n → 0 < large_in (share_for i (get_or c.superblocks.items e no_superblock))
+    covered e low high = let o = (kept.superblocks e).is_large in let h = span_covers d e v.large some low high in omega arith
+
+    large_low : (e : ℕ) → d ≤ e → e < d + n → e < k.capacity
+    large_low e low high = elim (cases_lt e (used (memory_in c k))) [
+      | inl less ↦ let r = good.shaped.durable.room in omega arith
+      | inr past ↦ absurd (let h = span_covers d e v.large some low high in let large = total_at (λ (x : View). times_large e x.large) views i v below_i at in
+          let p = good.shaped.placed.one_place e in let z = below_not e (used (memory_in c k)) past in omega arith)
+    ]
+
+    pub range_fits : d + n ≤ length c.superblocks.items
+    range_fits = let s = some in let l = large_low (d + n - 1) (omega arith) (omega arith) in let f = keeps.superblocks in omega arith
+
+    pub split_count : n ≡ count_in (share_for i (get_or c.superblocks.items d no_superblock))
+    split_count = count_is
+
+    pub split : (count : ℕ) → count ≡ n → (owners : Vec SuperblockOwner Global) (anchor : Option Seen) → IsRange c.superblocks.items owners.items d count (record { seat = i; share = share.Split }) → snapshot anchor ≡ cleared d count (snapshot t.seen_anchor)
+        → IsMoved c (record c { superblocks = owners; seats = with_item c.seats i (record t { seen_anchor = anchor }) }) views i t (after_split v (superblock_at v.setup.capacity block))
+    split count count_n owners anchor range_count anchor_is = subst (λ m. IsMoved c (record c { superblocks = owners; seats = with_item c.seats i (record t { seen_anchor = anchor }) }) views i t (after_split v m)) (sym d_v) (record {
+      after = record t { seen_anchor = anchor };
+      seats = refl;
+      ticket = refl;
+      stopped = refl;
+      words = refl;
+      geometry = refl;
+      budget = refl;
+      blocks = refl;
+      superblocks = range.long;
+      roots = refl;
+      mine = record {
+        notes = (let o = kept.notes in record { ticket = o.ticket; stopped = o.stopped; seen_used = o.seen_used; seen_head = o.seen_head; seen_link = o.seen_link;
+          seen_anchor = ap₂ (λ m a. cleared d m a) (sym count_n) o.seen_anchor ∙ sym anchor_is });
+        caches = kept.caches;
+        batch = kept.batch;
+        blocks = kept.blocks;
+        superblocks = range_mine c.superblocks.items owners.items i d n share.Split (λ e y. IsShare e y v.raw (v.split ++ steps d 1 n) v.cutting v.classed (without_span d v.large)) range
+            (λ e low high. let o = kept.superblocks e in let z = large_only (share_for i (get_or c.superblocks.items e no_superblock)) (covered e low high) in
+              let w = without_span_is e d v.large some in let r = range_is d n e low high in let l = o.is_large in let z5 = z.5 in
+              let gone : times_large e (without_span d v.large) ≡ 0 = omega arith in record {
+                is_raw = o.is_raw ∙ z.0;
+                is_split = (let a = times_append e v.split (steps d 1 n) in let b = times_range e d n in let s = o.is_split in let z1 = z.1 in omega arith);
+                is_cutting = o.is_cutting ∙ z.2;
+                is_classed = o.is_classed ∙ z.3;
+                class = o.class ∙ z.4;
+                is_large = gone;
+                count = no_span e (without_span d v.large) gone;
+              })
+            (λ e out. let o = kept.superblocks e in let w = without_span_is e d v.large some in let r = range_not d n e out in record {
+                is_raw = o.is_raw;
+                is_split = (let a = times_append e v.split (steps d 1 n) in let b = times_range e d n in let s = o.is_split in omega arith);
+                is_cutting = o.is_cutting;
+                is_classed = o.is_classed;
+                class = o.class;
+                is_large = (let l = o.is_large in omega arith);
+                count = span_other e d v.large (λ same. out (omega (arith, same)) (let s = some in omega (arith, same, s))) ∙ o.count;
+              });
+        roots = kept.roots;
+      };
+      others = λ j s u other less_j at_u h. record {
+        notes = h.notes; caches = h.caches; batch = h.batch; blocks = h.blocks;
+        superblocks = range_theirs c.superblocks.items owners.items i j d n share.Split (λ e y. IsShare e y u.raw u.split u.cutting u.classed u.large) other range
+            (λ e low high. share_alone i j (get_or c.superblocks.items e no_superblock) other (λ none. let l = covered e low high in let z = ap large_in none in omega arith)) h.superblocks;
+        roots = h.roots;
+      };
+    }) where
+      range : IsRange c.superblocks.items owners.items d n (record { seat = i; share = share.Split })
+      range = subst (λ m. IsRange c.superblocks.items owners.items d m (record { seat = i; share = share.Split })) count_n range_count
+
+-- what fits when a large block may be split
+pub record SplitFits (c : CoreState) (i block : ℕ) : Type 0 where
+  pub from : start_word c.geometry.capacity 0 ≤ block
+  pub range : superblock_at c.geometry.capacity block + count_in (share_for i (get_or c.superblocks.items (superblock_at c.geometry.capacity block) no_superblock)) ≤ length c.superblocks.items
+
+pub split_fits : (c : CoreState) (i block : ℕ) (t : Seat) → IsCore c → i < length c.seats.items → get_or c.seats.items i t ≡ t → Decides c i (λ m v. MaySplit v block) true → SplitFits c i block
+split_fits c i block t core less at_t may =
+    let below_i : i < length core.views = subst (λ n. i < n) (sym core.keeps.seats) less in
+    let here = entry_there core.views i below_i in
+    let holds = (may core.setup core.views here.0 core.keeps below_i here.1).0 refl in
+    let f = split_first c core.setup core.views i here.0 t core.keeps below_i here.1 at_t block holds in
+    let r = range_fits c core.setup core.views i here.0 t core.keeps below_i here.1 at_t block holds in
+    let n = split_count c core.setup core.views i here.0 t core.keeps below_i here.1 at_t block holds in
+    record { from = omega arith; range = omega arith }

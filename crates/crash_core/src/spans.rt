@@ -1,0 +1,51 @@
+//! How superblocks go between what a seat claims and its large blocks.
+
+ghost use Rattle.std.specs.Prelude.{◌≡◌, ◌<◌, length, true};
+ghost use Rattle.crash_core.specs.Cells.{superblock_at};
+ghost use Rattle.crash_core.specs.Effects.{after_split};
+ghost use Rattle.crash_core.specs.Guards.{MaySplit};
+ghost use Rattle.crash_core.specs.Standing.{IsCore, Decides, Moves};
+
+use crate::fresh::give_range;
+use crate::owners::{Seat, Seen, Share, SuperblockOwner};
+use crate::shares::share;
+use crate::state::CoreState;
+use super_block::SUPERBLOCK_WORDS;
+
+/// Whether a large block that the seat holds begins at the word.
+pub(crate) fn may_split(core: &CoreState, seat: usize, block: u64) -> bool
+    requires core { IsCore core.now }
+    requires seat { seat < length core.now.seats.items }
+    ensures { Decides core.now seat (λ m v. MaySplit v block) result }
+{
+    let start = core.geometry.start(0);
+    if block < start {
+        return false;
+    }
+    if (block - start) % SUPERBLOCK_WORDS != 0 {
+        return false;
+    }
+    share(core, seat, (block - start) / SUPERBLOCK_WORDS).large_count() > 0
+}
+
+/// Claims the superblocks of a held large block.
+pub(crate) fn split(core: &mut CoreState, seat: usize, block: u64)
+    requires core { IsCore core.old }
+    requires seat { seat < length core.old.seats.items }
+    requires may { Decides core.old seat (λ m v. MaySplit v block) true }
+    ensures { Moves core.old seat (λ m v. after_split v
+        (superblock_at v.setup.capacity block)) core.new }
+{
+    let notes = core.seats[seat];
+    let d = (block - core.geometry.start(0)) / SUPERBLOCK_WORDS;
+    let count = share(core, seat, d).large_count();
+    let owner = SuperblockOwner {
+        seat,
+        share: Share::Split,
+    };
+    give_range(&mut core.superblocks, d, count, owner);
+    core.seats[seat] = Seat {
+        seen_anchor: Seen::cleared(notes.seen_anchor, d, count),
+        ..notes
+    };
+}
