@@ -50,6 +50,7 @@ pub mod MoveSteps
 pub mod FreeSteps
 pub mod LiftSteps
 pub mod SplitSteps
+pub mod LargeSteps
 pub mod RangeLemmas
 pub mod FreshSteps
 pub mod LookSteps

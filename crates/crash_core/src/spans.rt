@@ -2,8 +2,8 @@
 
 ghost use Rattle.std.specs.Prelude.{◌≡◌, ◌<◌, length, true};
 ghost use Rattle.crash_core.specs.Cells.{superblock_at};
-ghost use Rattle.crash_core.specs.Effects.{after_split};
-ghost use Rattle.crash_core.specs.Guards.{MaySplit};
+ghost use Rattle.crash_core.specs.Effects.{after_large, after_split};
+ghost use Rattle.crash_core.specs.Guards.{MayHoldLarge, MaySplit};
 ghost use Rattle.crash_core.specs.Standing.{IsCore, Decides, Moves};
 
 use crate::fresh::give_range;
@@ -46,6 +46,29 @@ pub(crate) fn split(core: &mut CoreState, seat: usize, block: u64)
     give_range(&mut core.superblocks, d, count, owner);
     core.seats[seat] = Seat {
         seen_anchor: Seen::cleared(notes.seen_anchor, d, count),
+        ..notes
+    };
+}
+
+/// Holds a large block that takes `n` claimed superblocks from `d` on.
+pub(crate) fn hold_large(core: &mut CoreState, seat: usize, d: u64, n: u64)
+    requires core { IsCore core.old }
+    requires seat { seat < length core.old.seats.items }
+    requires may { Decides core.old seat (λ m v. MayHoldLarge m v d n) true }
+    ensures { Moves core.old seat (λ m v. after_large v d n) core.new }
+{
+    let notes = core.seats[seat];
+    let rest = SuperblockOwner {
+        seat,
+        share: Share::Large { count: 0 },
+    };
+    give_range(&mut core.superblocks, d, n, rest);
+    core.superblocks[d as usize] = SuperblockOwner {
+        seat,
+        share: Share::Large { count: n },
+    };
+    core.seats[seat] = Seat {
+        seen_anchor: Seen::cleared(notes.seen_anchor, d, n),
         ..notes
     };
 }
