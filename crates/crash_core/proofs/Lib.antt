@@ -51,6 +51,7 @@ pub mod FreeSteps
 pub mod LiftSteps
 pub mod SplitSteps
 pub mod LargeSteps
+pub mod JoinDecision
 pub mod RangeLemmas
 pub mod FreshSteps
 pub mod LookSteps

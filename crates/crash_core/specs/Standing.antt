@@ -1,5 +1,5 @@
 -- What the core keeps of a state: the words themselves; by seat its tickets and snapshots, and the ends of its caches and of its batch; and whose each block, superblock and root is.
-use Rattle.std.specs.Prelude.{◌≡◌, ◌≢◌, ℕ, zero, suc, ◌+◌, ◌*◌, ◌<◌, ◌≤◌, ◌↔◌, Bool, true, cond, nat_eq, List, get_or, set, length, Option, None, Some}
+use Rattle.std.specs.Prelude.{◌≡◌, ◌≢◌, ◌⊎◌, ℕ, zero, suc, ◌+◌, ◌*◌, ◌<◌, ◌≤◌, ◌↔◌, Bool, true, cond, nat_eq, List, get_or, set, length, Option, None, Some}
 use Rattle.heap_model.specs.Counting.{times, total, one_if}
 use Rattle.heap_model.specs.Geometry.{lists, roots, image_words, largest_capacity}
 use Rattle.crash_core.specs.declared.answer.StepAnswer.{StepAnswer}
@@ -16,7 +16,8 @@ use Rattle.crash_core.specs.declared.owners.Cache.{Cache}
 use Rattle.crash_core.specs.declared.owners.Group.{Group}
 use Rattle.crash_core.specs.declared.owners.Seat.{Seat}
 use Rattle.crash_core.specs.declared.state.CoreState.{CoreState}
-use Rattle.crash_core.specs.Memory.{Memory, memory_of}
+use Rattle.heap_model.specs.Words.{anchor_state, empty_state, large_info}
+use Rattle.crash_core.specs.Memory.{Memory, memory_of, info, anchor, durable_info}
 use Rattle.crash_core.specs.View.{Setup, View, Span, Claim, Batch, Snapshot, of_class, times_classed, times_large}
 use Rattle.crash_core.specs.Effects.{first_of, last_of, claim_class, span_count}
 use Rattle.crash_core.specs.Guards.{HasTicketFor, MayDo}
@@ -228,3 +229,10 @@ Moves old i change new = (k : Setup) (views : List View) (v : View) (t : Seat) �
 -- the answer to whether a guard holds of the seat, in each state that the core stands for
 abbrev pub Decides : CoreState → ℕ → (Memory → View → Type 0) → Bool → Type 0
 Decides c i Guard answer = (k : Setup) (views : List View) (v : View) → Keeps c k views → i < length views → get_or views i v ≡ v → (answer ≡ true) ↔ Guard (memory_of k.capacity c.words.items) v
+
+-- superblock e may be one of the n from d on that become a large block
+pub record MayJoin (m : Memory) (v : View) (d n e : ℕ) : Type 0 where
+  pub claimed : 0 < times e v.raw + times e v.split
+  pub empty : (anchor_state (anchor m e) ≡ empty_state) ⊎ (0 < times e v.split)
+  pub holds : info m e ≡ cond (nat_eq e d) (large_info n) 0
+  pub durable : durable_info m e ≡ info m e

@@ -1,16 +1,18 @@
 //! How superblocks go between what a seat claims and its large blocks.
 
-ghost use Rattle.std.specs.Prelude.{◌≡◌, ◌<◌, length, true};
+ghost use Rattle.std.specs.Prelude.{◌≡◌, ◌<◌, ◌≤◌, length, true};
 ghost use Rattle.crash_core.specs.Cells.{superblock_at};
 ghost use Rattle.crash_core.specs.Effects.{after_large, after_split};
 ghost use Rattle.crash_core.specs.Guards.{MayHoldLarge, MaySplit};
-ghost use Rattle.crash_core.specs.Standing.{IsCore, Decides, Moves};
+ghost use Rattle.crash_core.specs.Standing.{IsCore, Decides, Moves, MayJoin};
 
+use crate::anchors::{EMPTY, anchor_state};
 use crate::fresh::give_range;
 use crate::owners::{Seat, Seen, Share, SuperblockOwner};
+use crate::reads::{anchor, durable_info, durable_used, info};
 use crate::shares::share;
 use crate::state::CoreState;
-use super_block::SUPERBLOCK_WORDS;
+use super_block::{LARGE_INFO, LARGE_STEP, SUPERBLOCK_WORDS};
 
 /// Whether a large block that the seat holds begins at the word.
 pub(crate) fn may_split(core: &CoreState, seat: usize, block: u64) -> bool
@@ -71,4 +73,53 @@ pub(crate) fn hold_large(core: &mut CoreState, seat: usize, d: u64, n: u64)
         seen_anchor: Seen::cleared(notes.seen_anchor, d, n),
         ..notes
     };
+}
+
+/// Whether `n` superblocks from `d` on may become a large block.
+pub(crate) fn may_hold_large(core: &CoreState, seat: usize, d: u64, n: u64) -> bool
+    requires core { IsCore core.now }
+    requires seat { seat < length core.now.seats.items }
+    ensures { Decides core.now seat (λ m v. MayHoldLarge m v d n) result }
+{
+    if n == 0 {
+        return false;
+    }
+    let mark = durable_used(core);
+    if n > mark {
+        return false;
+    }
+    if d > mark - n {
+        return false;
+    }
+    for e in d..d + n {
+        if !may_join(core, seat, d, n, e) {
+            return false;
+        }
+    }
+    true
+}
+
+/// Whether superblock `e` may be one of them.
+fn may_join(core: &CoreState, seat: usize, d: u64, n: u64, e: u64) -> bool
+    requires core { IsCore core.now }
+    requires seat { seat < length core.now.seats.items }
+    requires e { e < core.now.geometry.capacity }
+    requires n { n ≤ core.now.geometry.capacity }
+    ensures { Decides core.now seat (λ m v. MayJoin m v d n e) result }
+{
+    let wanted = if e == d { LARGE_INFO + LARGE_STEP * n } else { 0 };
+    if info(core, e) != wanted {
+        return false;
+    }
+    if durable_info(core, e) != wanted {
+        return false;
+    }
+    match share(core, seat, e) {
+        Share::Split => true,
+        Share::Raw => anchor_state(anchor(core, e)) == EMPTY,
+        Share::Nothing => false,
+        Share::Cutting => false,
+        Share::Classed { .. } => false,
+        Share::Large { .. } => false,
+    }
 }
