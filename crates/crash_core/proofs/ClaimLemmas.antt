@@ -1,14 +1,14 @@
 -- The superblocks that the core keeps for a seat after it claims one, or gives one up.
-use Rattle.std.proofs.Common.{◌≡◌, ◌≢◌, ℕ, zero, suc, ◌+◌, ◌*◌, ◌<◌, ◌≤◌, inl, inr, Bool, true, false, cond, nat_eq, nat_lt, List, [], ◌∷◌, get_or, set, length, Option, None, Some, refl, ap, sym, subst, ◌∙◌, eq-eqb, eqb-true, arith}
+use Rattle.std.proofs.Common.{◌≡◌, ◌≢◌, ℕ, zero, suc, ◌+◌, ◌<◌, ◌≤◌, inl, inr, nat_eq, List, [], ◌∷◌, get_or, set, length, refl, sym, subst, ◌∙◌, eq-eqb, arith}
 use Rattle.std.proofs.lemmas.Bool.{cases_eq, cases_lt}
-use Rattle.heap_model.specs.Counting.{times, total, without, one_if}
+use Rattle.heap_model.specs.Counting.{times, without}
 use Rattle.crash_core.specs.declared.owners.Share.{Share}
 use Rattle.crash_core.specs.declared.owners.Share.TheVariants as share
 use Rattle.crash_core.specs.declared.owners.SuperblockOwner.{SuperblockOwner}
 use Rattle.crash_core.specs.declared.owners.Seat.{Seat}
 use Rattle.crash_core.specs.declared.state.CoreState.{CoreState}
-use Rattle.crash_core.specs.View.{View, Claim, Span, times_classed, times_large}
-use Rattle.crash_core.specs.Effects.{claimed, claim_class, without_claim, span_count}
+use Rattle.crash_core.specs.View.{View, Claim, Span, times_classed}
+use Rattle.crash_core.specs.Effects.{claimed, claim_class, without_claim}
 use Rattle.crash_core.specs.Standing.{share_for, no_superblock, listed, HasNotes, HasCaches, HasBatch, HasBlocksOf, IsShare, HasSuperblocks, HasRoots, IsKept}
 use Rattle.crash_core.proofs.TotalLemmas.{eq-eqb-one, ne-eqb-none}
 use Rattle.crash_core.proofs.FrameLemmas.{times_without, without_none}
@@ -116,13 +116,13 @@ raw_given_up owners i d raw split cutting classed large less some old =
       is_large = o.is_large;
       count = o.count;
     }) where
-  gone : (x : Share) → IsShare d x raw split cutting classed large → IsShare d share.Nothing (without d raw) (without d split) cutting classed large
-  gone share.Nothing o = absurd (let a = o.is_raw in let b = o.is_split in omega arith)
-  gone share.Raw o = record { is_raw = without_at d raw (let a = o.is_raw in omega arith); is_split = without_at d split (let a = o.is_split in omega arith); is_cutting = o.is_cutting; is_classed = o.is_classed; class = o.class; is_large = o.is_large; count = o.count }
-  gone share.Split o = record { is_raw = without_at d raw (let a = o.is_raw in omega arith); is_split = without_at d split (let a = o.is_split in omega arith); is_cutting = o.is_cutting; is_classed = o.is_classed; class = o.class; is_large = o.is_large; count = o.count }
-  gone share.Cutting o = absurd (let a = o.is_raw in let b = o.is_split in omega arith)
-  gone (share.Classed class) o = absurd (let a = o.is_raw in let b = o.is_split in omega arith)
-  gone (share.Large count) o = absurd (let a = o.is_raw in let b = o.is_split in omega arith)
+      gone : (x : Share) → IsShare d x raw split cutting classed large → IsShare d share.Nothing (without d raw) (without d split) cutting classed large
+      gone share.Nothing o = absurd (let a = o.is_raw in let b = o.is_split in omega arith)
+      gone share.Raw o = record { is_raw = without_at d raw (let a = o.is_raw in omega arith); is_split = without_at d split (let a = o.is_split in omega arith); is_cutting = o.is_cutting; is_classed = o.is_classed; class = o.class; is_large = o.is_large; count = o.count }
+      gone share.Split o = record { is_raw = without_at d raw (let a = o.is_raw in omega arith); is_split = without_at d split (let a = o.is_split in omega arith); is_cutting = o.is_cutting; is_classed = o.is_classed; class = o.class; is_large = o.is_large; count = o.count }
+      gone share.Cutting o = absurd (let a = o.is_raw in let b = o.is_split in omega arith)
+      gone (share.Classed class) o = absurd (let a = o.is_raw in let b = o.is_split in omega arith)
+      gone (share.Large count) o = absurd (let a = o.is_raw in let b = o.is_split in omega arith)
 
 -- a claim with a class that is given up
 pub class_given_up : (owners : List SuperblockOwner) (i d : ℕ) (raw split cutting : List ℕ) (classed : List Claim) (large : List Span) → d < length owners → 0 < times_classed d classed
@@ -139,12 +139,12 @@ class_given_up owners i d raw split cutting classed large less some old =
       is_large = o.is_large;
       count = o.count;
     }) where
-  gone : (x : Share) → IsShare d x raw split cutting classed large → IsShare d share.Nothing raw split cutting (without_claim d classed) large
-  gone share.Nothing o = absurd (let a = o.is_classed in omega arith)
-  gone share.Raw o = absurd (let a = o.is_classed in omega arith)
-  gone share.Split o = absurd (let a = o.is_classed in omega arith)
-  gone share.Cutting o = absurd (let a = o.is_classed in omega arith)
-  gone (share.Large count) o = absurd (let a = o.is_classed in omega arith)
-  gone (share.Classed class) o = record { is_raw = o.is_raw; is_split = o.is_split; is_cutting = o.is_cutting; is_classed = none; class = class_absent d (without_claim d classed) none; is_large = o.is_large; count = o.count } where
-    none : times_classed d (without_claim d classed) ≡ 0
-    none = let n = times_without_claim d d classed some in let one = eq-eqb-one d d refl in let a = o.is_classed in omega arith
+      gone : (x : Share) → IsShare d x raw split cutting classed large → IsShare d share.Nothing raw split cutting (without_claim d classed) large
+      gone share.Nothing o = absurd (let a = o.is_classed in omega arith)
+      gone share.Raw o = absurd (let a = o.is_classed in omega arith)
+      gone share.Split o = absurd (let a = o.is_classed in omega arith)
+      gone share.Cutting o = absurd (let a = o.is_classed in omega arith)
+      gone (share.Large count) o = absurd (let a = o.is_classed in omega arith)
+      gone (share.Classed class) o = record { is_raw = o.is_raw; is_split = o.is_split; is_cutting = o.is_cutting; is_classed = none; class = class_absent d (without_claim d classed) none; is_large = o.is_large; count = o.count } where
+        none : times_classed d (without_claim d classed) ≡ 0
+        none = let n = times_without_claim d d classed some in let one = eq-eqb-one d d refl in let a = o.is_classed in omega arith

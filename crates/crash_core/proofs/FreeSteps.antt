@@ -1,33 +1,30 @@
 -- The core when a held block goes in front of a cache.
-use Rattle.std.proofs.Common.{◌≡◌, ◌≢◌, ℕ, zero, suc, ◌+◌, ◌-◌, ◌*◌, ◌<◌, ◌≤◌, ◌↔◌, inl, inr, Bool, true, false, cond, nat_eq, nat_lt, List, [], ◌∷◌, get_or, set, length, refl, ap, sym, subst, ◌∙◌, length-set, eq-eqb, eqb-true, arith}
+use Rattle.std.proofs.Common.{◌≡◌, ◌≢◌, ℕ, zero, suc, ◌+◌, ◌<◌, ◌≤◌, ◌↔◌, inl, inr, Bool, true, false, cond, nat_eq, List, [], ◌∷◌, get_or, set, length, refl, ap, sym, subst, ◌∙◌, length-set, eq-eqb, eqb-true, arith}
 use Rattle.std.proofs.lemmas.Bool.{cases_eq, cases_lt}
 use Rattle.std.proofs.lemmas.List.{get_or-set_same, get_or-set_other}
 use Rattle.std.specs.Vec.{with_item}
 use Rattle.heap_model.specs.Geometry.{lists, start_word, image_words}
-use Rattle.heap_model.specs.Sizes.{IsClass, words_of_class}
-use Rattle.heap_model.specs.Counting.{times, total, one_if, without}
+use Rattle.heap_model.specs.Sizes.{IsClass}
+use Rattle.heap_model.specs.Counting.{times, total, without}
 use Rattle.crash_core.specs.declared.owners.BlockPlace.{BlockPlace}
 use Rattle.crash_core.specs.declared.owners.BlockPlace.TheVariants as place
-use Rattle.crash_core.specs.declared.owners.BlockOwner.{BlockOwner}
 use Rattle.crash_core.specs.declared.owners.Cache.{Cache}
 use Rattle.crash_core.specs.declared.owners.Seat.{Seat}
 use Rattle.crash_core.specs.declared.state.CoreState.{CoreState}
 use Rattle.crash_core.specs.Cells.{superblock_at}
-use Rattle.crash_core.specs.Memory.{Memory, next, info, memory_of}
+use Rattle.crash_core.specs.Memory.{next, info, memory_of}
 use Rattle.crash_core.specs.View.{Setup, View, of_class, times_block}
 use Rattle.crash_core.specs.Effects.{first_of, after_free}
 use Rattle.crash_core.specs.Guards.{MayFree}
-use Rattle.crash_core.specs.Sound.{Good, tally_of}
-use Rattle.crash_core.specs.Standing.{place_for, no_block, held_in, cached_in, batched_in, IsPlace, IsKept, IsCore, Keeps, IsMoved, memory_at}
+use Rattle.crash_core.specs.Sound.{Good}
+use Rattle.crash_core.specs.Standing.{place_for, no_block, held_in, cached_in, batched_in, IsPlace, IsKept, Keeps, IsMoved, memory_at}
 use Rattle.crash_core.proofs.TotalLemmas.{total_at, eq-eqb-one, ne-eqb-none}
 use Rattle.crash_core.proofs.BlockLemmas.{of_class_same, of_class_other, total_lists}
-use Rattle.crash_core.proofs.OwnLemmas.{one_at_most}
-use Rattle.crash_core.proofs.OwnerLemmas.{in_lists_total, HasClass, which_class}
+use Rattle.crash_core.proofs.OwnerLemmas.{in_lists_total, which_class}
 use Rattle.crash_core.proofs.StandingLemmas.{memory_in}
 use Rattle.crash_core.proofs.ClaimLemmas.{without_at, without_off}
 use Rattle.crash_core.proofs.ShareLemmas.{places_mine, places_theirs, place_alone}
-use Rattle.crash_core.proofs.PushDecision.{refused}
-use Rattle.crash_core.proofs.WordLemmas.{entry_is, entry_there}
+use Rattle.crash_core.proofs.WordLemmas.{entry_is}
 use Rattle.crash_core.proofs.MoveSteps as moves
 
 -- numbers below a limit, each there once at most, are at most as many
@@ -84,10 +81,10 @@ module _ (c : CoreState) (k : Setup) (views : List View) (i : ℕ) (v : View) (t
         | inl some ↦ let o = once b in let l = at_most b class v.caches in omega arith
         | inr none ↦ omega arith
       ]) where
-    at_most : (b n : ℕ) (lists : List (List ℕ)) → times b (get_or lists n []) ≤ total (times b) lists
-    at_most b n [] = omega arith
-    at_most b zero (bs ∷ lists) = omega arith
-    at_most b (suc n) (bs ∷ lists) = let rest = at_most b n lists in omega arith
+        at_most : (b n : ℕ) (lists : List (List ℕ)) → times b (get_or lists n []) ≤ total (times b) lists
+        at_most b n [] = omega arith
+        at_most b zero (bs ∷ lists) = omega arith
+        at_most b (suc n) (bs ∷ lists) = let rest = at_most b n lists in omega arith
 
   module _ (block : ℕ) (held : 0 < held_in (place_for i (get_or c.blocks.items block no_block))) where
     was : (held_in (place_for i (get_or c.blocks.items block no_block)) ≡ 1) × (cached_in (place_for i (get_or c.blocks.items block no_block)) ≡ 0) × (batched_in (place_for i (get_or c.blocks.items block no_block)) ≡ 0)
@@ -147,8 +144,8 @@ module _ (c : CoreState) (k : Setup) (views : List View) (i : ℕ) (v : View) (t
       free_linked some to to_is = (
         λ h. to_may (λ more. ap (λ n. next (memory_of n c.words.items) block) keeps.capacity ∙ sym to_is ∙ eqb-true to e.first h ∙ sym (kept.caches.first class e at_e less more)),
         λ may. eq-eqb to e.first (to_is ∙ ap (λ n. next (memory_of n c.words.items) block) (sym keeps.capacity)
-          ∙ subst (λ n. 1 ≤ length (of_class v.caches n) → next (memory_in c k) block ≡ first_of (of_class v.caches n)) (info_v ∙ sym class_is) may.linked (let n = count_is in omega arith)
-          ∙ kept.caches.first class e at_e less (let n = count_is in omega arith)),
+            ∙ subst (λ n. 1 ≤ length (of_class v.caches n) → next (memory_in c k) block ≡ first_of (of_class v.caches n)) (info_v ∙ sym class_is) may.linked (let n = count_is in omega arith)
+            ∙ kept.caches.first class e at_e less (let n = count_is in omega arith)),
       )
 
       long_small : class < length v.small
@@ -208,9 +205,12 @@ module _ (c : CoreState) (k : Setup) (views : List View) (i : ℕ) (v : View) (t
           roots = kept.roots;
         };
         others = λ j s u other less_j at_u h. record {
-          notes = h.notes; caches = h.caches; batch = h.batch;
+          notes = h.notes;
+          caches = h.caches;
+          batch = h.batch;
           blocks = places_theirs c.blocks.items i j block place.Cached (λ y p. IsPlace y p u.small u.caches u.batch.blocks) block_long other (place_alone i j (get_or c.blocks.items block no_block) other there) h.blocks;
-          superblocks = h.superblocks; roots = h.roots;
+          superblocks = h.superblocks;
+          roots = h.roots;
         };
       } where
         long_t : class < length t.caches

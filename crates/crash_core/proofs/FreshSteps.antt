@@ -1,23 +1,21 @@
 -- The step of the core that takes superblocks that were never taken.
-use Rattle.std.proofs.Common.{◌≡◌, ◌≢◌, ℕ, ◌+◌, ◌*◌, ◌<◌, ◌≤◌, inl, inr, true, cond, nat_eq, nat_lt, List, ◌++◌, get_or, set, length, Option, None, Some, refl, ap, ap₂, sym, subst, ◌∙◌, eq-eqb, arith}
+use Rattle.std.proofs.Common.{◌≡◌, ◌≢◌, ℕ, ◌+◌, ◌<◌, ◌≤◌, inl, inr, true, nat_eq, List, ◌++◌, get_or, set, length, Option, None, Some, refl, ap, ap₂, sym, subst, ◌∙◌, eq-eqb, arith}
 use Rattle.std.proofs.lemmas.Bool.{cases_lt}
 use Rattle.std.specs.Prelude.{Vec}
 use Rattle.std.specs.declared.alloc.Global.{Global}
 use Rattle.std.specs.Vec.{with_item}
-use Rattle.heap_model.specs.Counting.{times, below}
+use Rattle.heap_model.specs.Counting.{times}
 use Rattle.crash_core.specs.declared.answer.StepAnswer.TheVariants.{Done, NotNow}
 use Rattle.crash_core.specs.declared.event.Event.TheVariants.{TakeFresh}
 use Rattle.crash_core.specs.declared.owners.Seat.{Seat}
 use Rattle.crash_core.specs.declared.owners.Seen.{Seen}
-use Rattle.crash_core.specs.declared.owners.Share.{Share}
 use Rattle.crash_core.specs.declared.owners.Share.TheVariants as share
 use Rattle.crash_core.specs.declared.owners.SuperblockOwner.{SuperblockOwner}
 use Rattle.crash_core.specs.declared.state.CoreState.{CoreState}
-use Rattle.crash_core.specs.Cells.{used_cell}
-use Rattle.crash_core.specs.Memory.{Memory, used, volatile_at}
+use Rattle.crash_core.specs.Memory.{used}
 use Rattle.crash_core.specs.View.{Setup, View, one_if_some, times_raw, times_classed, times_large}
 use Rattle.crash_core.specs.Effects.{seen, cleared, steps, taken_fresh, lost}
-use Rattle.crash_core.specs.Guards.{IsThere, MayTake}
+use Rattle.crash_core.specs.Guards.{IsThere}
 use Rattle.crash_core.specs.Sound.{Good}
 use Rattle.crash_core.specs.Steps.{seat_after}
 use Rattle.crash_core.specs.Standing.{share_for, no_superblock, IsShare, IsKept, IsRange, Keeps, Steps, snapshot}
@@ -67,8 +65,14 @@ module _ (c : CoreState) (k : Setup) (views : List View) (i : ℕ) (v : View) (t
         (ap (λ y. set c.words.items 8 y) (word_is ∙ sym (pick (nat_eq (used (memory_in c k)) (seen v.seen_used)) (used (memory_in c k) + n) (used (memory_in c k)) test ∙ (let e = as_seen in let f = ap seen saw in let z : used (memory_in c k) + n ≡ mark + n = omega arith in z))))
         refl (record { capacity = refl; budget = refl; blocks = refl; superblocks = range.long; roots = refl })
         (subst (IsKept c' i t') (sym won_it) (record {
-          notes = (let o = kept.notes in record { ticket = refl; stopped = o.stopped; seen_used = ap Some (let e = ap seen saw in let z : seen v.seen_used + n ≡ word = omega arith in z); seen_head = o.seen_head; seen_link = o.seen_link;
-            seen_anchor = ap₂ (λ a b. cleared a n b) (ap seen saw) o.seen_anchor ∙ sym anchor_is });
+          notes = (let o = kept.notes in record {
+            ticket = refl;
+            stopped = o.stopped;
+            seen_used = ap Some (let e = ap seen saw in let z : seen v.seen_used + n ≡ word = omega arith in z);
+            seen_head = o.seen_head;
+            seen_link = o.seen_link;
+            seen_anchor = ap₂ (λ a b. cleared a n b) (ap seen saw) o.seen_anchor ∙ sym anchor_is;
+          });
           caches = kept.caches;
           batch = kept.batch;
           blocks = kept.blocks;
@@ -93,38 +97,43 @@ module _ (c : CoreState) (k : Setup) (views : List View) (i : ℕ) (v : View) (t
               });
           roots = kept.roots;
         }))
-        (λ j s w other b a h. record { notes = h.notes; caches = h.caches; batch = h.batch; blocks = h.blocks;
+        (λ j s w other b a h. record {
+          notes = h.notes;
+          caches = h.caches;
+          batch = h.batch;
+          blocks = h.blocks;
           superblocks = range_theirs c.superblocks.items owners.items i j u n share.Raw (λ d y. IsShare d y w.raw w.split w.cutting w.classed w.large) other range_u (λ d low high. fresh d low j s w b a h) h.superblocks;
-          roots = h.roots })
+          roots = h.roots;
+        })
       where
-      t' : Seat
-      t' = record t { ticket = None; seen_used = Some word; seen_anchor = anchor }
+        t' : Seat
+        t' = record t { ticket = None; seen_used = Some word; seen_anchor = anchor }
 
-      c' : CoreState
-      c' = record c { words = with_item c.words 8 word; superblocks = owners; seats = with_item c.seats i t' }
+        c' : CoreState
+        c' = record c { words = with_item c.words 8 word; superblocks = owners; seats = with_item c.seats i t' }
 
-      range_u : IsRange c.superblocks.items owners.items u n (record { seat = i; share = share.Raw })
-      range_u = subst (λ x. IsRange c.superblocks.items owners.items x n (record { seat = i; share = share.Raw })) (sym (ap seen saw)) range
+        range_u : IsRange c.superblocks.items owners.items u n (record { seat = i; share = share.Raw })
+        range_u = subst (λ x. IsRange c.superblocks.items owners.items x n (record { seat = i; share = share.Raw })) (sym (ap seen saw)) range
 
-      as_seen : used (memory_in c k) ≡ seen v.seen_used
-      as_seen = now found is ∙ same ∙ sym (ap seen saw)
+        as_seen : used (memory_in c k) ≡ seen v.seen_used
+        as_seen = now found is ∙ same ∙ sym (ap seen saw)
 
-      test : nat_eq (used (memory_in c k)) (seen v.seen_used) ≡ true
-      test = eq-eqb (used (memory_in c k)) (seen v.seen_used) as_seen
+        test : nat_eq (used (memory_in c k)) (seen v.seen_used) ≡ true
+        test = eq-eqb (used (memory_in c k)) (seen v.seen_used) as_seen
 
-      won_it : seat_after (memory_in c k) v (TakeFresh n) ≡ taken_fresh v n
-      won_it = pick (nat_eq (used (memory_in c k)) (seen v.seen_used)) (taken_fresh v n) (record (lost v) { seen_used = None }) test
+        won_it : seat_after (memory_in c k) v (TakeFresh n) ≡ taken_fresh v n
+        won_it = pick (nat_eq (used (memory_in c k)) (seen v.seen_used)) (taken_fresh v n) (record (lost v) { seen_used = None }) test
 
-      fresh : (d : ℕ) → u ≤ d → (j : ℕ) (s : Seat) (w : View) → j < length views → get_or views j w ≡ w → IsKept c j s w → share_for j (get_or c.superblocks.items d no_superblock) ≡ share.Nothing
-      fresh d low j s w b a h = let p = good.shaped.placed.one_place d in let e = as_seen in let none = below_not d (used (memory_in c k)) (omega arith) in
-          let raw = total_at (times_raw d) views j w b a in let classed = total_at (λ (x : View). times_classed d x.classed) views j w b a in let large = total_at (λ (x : View). times_large d x.large) views j w b a in
-          no_share d (share_for j (get_or c.superblocks.items d no_superblock)) w.raw w.split w.cutting w.classed w.large (h.superblocks d) (omega arith) (omega arith) (omega arith)
+        fresh : (d : ℕ) → u ≤ d → (j : ℕ) (s : Seat) (w : View) → j < length views → get_or views j w ≡ w → IsKept c j s w → share_for j (get_or c.superblocks.items d no_superblock) ≡ share.Nothing
+        fresh d low j s w b a h = let p = good.shaped.placed.one_place d in let e = as_seen in let none = below_not d (used (memory_in c k)) (omega arith) in
+            let raw = total_at (times_raw d) views j w b a in let classed = total_at (λ (x : View). times_classed d x.classed) views j w b a in let large = total_at (λ (x : View). times_large d x.large) views j w b a in
+            no_share d (share_for j (get_or c.superblocks.items d no_superblock)) w.raw w.split w.cutting w.classed w.large (h.superblocks d) (omega arith) (omega arith) (omega arith)
 
-      none_there : (d : ℕ) → (u ≤ d → d < u + n → ⊥) → times d (steps u 1 n) ≡ 0
-      none_there d out = elim (cases_lt d u) [
-        | inl low ↦ let b = times_steps d u n in let one = below_is d u low in let two = below_is d (u + n) (omega arith) in omega arith
-        | inr some_u ↦ elim (cases_lt d (u + n)) [
-          | inl high ↦ absurd (out some_u high)
-          | inr past ↦ let b = times_steps d u n in let one = below_not d u some_u in let two = below_not d (u + n) past in omega arith
+        none_there : (d : ℕ) → (u ≤ d → d < u + n → ⊥) → times d (steps u 1 n) ≡ 0
+        none_there d out = elim (cases_lt d u) [
+          | inl low ↦ let b = times_steps d u n in let one = below_is d u low in let two = below_is d (u + n) (omega arith) in omega arith
+          | inr some_u ↦ elim (cases_lt d (u + n)) [
+            | inl high ↦ absurd (out some_u high)
+            | inr past ↦ let b = times_steps d u n in let one = below_not d u some_u in let two = below_not d (u + n) past in omega arith
+          ]
         ]
-      ]

@@ -1,13 +1,12 @@
 -- When superblocks may become a large block, by what the core keeps.
-use Rattle.std.proofs.Common.{◌≡◌, ◌≢◌, ℕ, zero, suc, ◌+◌, ◌*◌, ◌<◌, ◌≤◌, ◌↔◌, inl, inr, true, false, cond, nat_eq, List, get_or, length, refl, ap, sym, subst, ◌∙◌, eq-eqb, eqb-true, arith}
+use Rattle.std.proofs.Common.{◌≡◌, ◌≢◌, ℕ, ◌+◌, ◌<◌, ◌≤◌, ◌↔◌, inl, inr, true, cond, nat_eq, List, get_or, length, refl, ap, sym, subst, ◌∙◌, eq-eqb, eqb-true, arith}
 use Rattle.std.proofs.lemmas.Bool.{cases_eq}
-use Rattle.heap_model.specs.Counting.{times}
 use Rattle.heap_model.specs.Words.{anchor_state, large_info}
 use Rattle.crash_core.specs.declared.owners.Seat.{Seat}
 use Rattle.crash_core.specs.declared.owners.Share.{Share}
 use Rattle.crash_core.specs.declared.owners.Share.TheVariants as share
 use Rattle.crash_core.specs.declared.state.CoreState.{CoreState}
-use Rattle.crash_core.specs.Memory.{Memory, info, anchor, durable_used, durable_info, memory_of}
+use Rattle.crash_core.specs.Memory.{info, anchor, durable_used, durable_info, memory_of}
 use Rattle.crash_core.specs.View.{Setup, View}
 use Rattle.crash_core.specs.Guards.{MayHoldLarge}
 use Rattle.crash_core.specs.Standing.{share_for, no_superblock, raw_in, split_in, IsKept, IsCore, Keeps, MayJoin, memory_at}

@@ -1,16 +1,15 @@
 -- The core when claimed superblocks become a held large block.
-use Rattle.std.proofs.Common.{◌≡◌, ◌≢◌, ℕ, zero, suc, ◌+◌, ◌*◌, ◌<◌, ◌≤◌, inl, inr, true, false, cond, nat_eq, List, [], ◌∷◌, get_or, set, length, refl, ap, ap₂, sym, subst, ◌∙◌, length-set, eq-eqb, arith}
+use Rattle.std.proofs.Common.{◌≡◌, ◌≢◌, ℕ, ◌+◌, ◌<◌, ◌≤◌, inl, inr, true, nat_eq, List, ◌∷◌, get_or, length, refl, ap, sym, subst, ◌∙◌, length-set, eq-eqb, arith}
 use Rattle.std.specs.Prelude.{Vec, Option}
 use Rattle.std.specs.declared.alloc.Global.{Global}
 use Rattle.std.specs.Vec.{with_item}
-use Rattle.heap_model.specs.Counting.{times}
 use Rattle.crash_core.specs.declared.owners.Seat.{Seat}
 use Rattle.crash_core.specs.declared.owners.Seen.{Seen}
 use Rattle.crash_core.specs.declared.owners.Share.{Share}
 use Rattle.crash_core.specs.declared.owners.Share.TheVariants as share
 use Rattle.crash_core.specs.declared.owners.SuperblockOwner.{SuperblockOwner}
 use Rattle.crash_core.specs.declared.state.CoreState.{CoreState}
-use Rattle.crash_core.specs.View.{Setup, View, Span, times_large}
+use Rattle.crash_core.specs.View.{Setup, View, Span}
 use Rattle.crash_core.specs.Effects.{cleared, span_count, without_range, after_large}
 use Rattle.crash_core.specs.Guards.{MayHoldLarge}
 use Rattle.crash_core.specs.Sound.{Good}
@@ -83,7 +82,10 @@ module _ (c : CoreState) (k : Setup) (views : List View) (i : ℕ) (v : View) (t
       roots = kept.roots;
     };
     others = λ j s u other less_j at_u h. record {
-      notes = h.notes; caches = h.caches; batch = h.batch; blocks = h.blocks;
+      notes = h.notes;
+      caches = h.caches;
+      batch = h.batch;
+      blocks = h.blocks;
       superblocks = shares_theirs owners.items i j d (share.Large n) (λ e y. IsShare e y u.raw u.split u.cutting u.classed u.large) long other
           (ap (share_for j) (range.inside d (omega arith) (let s = may.some in omega arith)) ∙ share_theirs i j (share.Large 0) other)
           (range_theirs c.superblocks.items owners.items i j d n (share.Large 0) (λ e y. IsShare e y u.raw u.split u.cutting u.classed u.large) other range

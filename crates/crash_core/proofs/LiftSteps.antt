@@ -1,29 +1,25 @@
 -- The core when the first block of a cache goes behind the batch.
-use Rattle.std.proofs.Common.{◌≡◌, ◌≢◌, ℕ, zero, suc, ◌+◌, ◌-◌, ◌*◌, ◌/◌, ◌<◌, ◌≤◌, ◌↔◌, inl, inr, Bool, true, false, cond, nat_eq, List, [], ◌∷◌, ◌++◌, get_or, set, length, refl, ap, ap₂, sym, subst, ◌∙◌, length-set, eq-eqb, eqb-true, true≢false, arith}
-use Rattle.std.proofs.lemmas.Bool.{cases_lt}
+use Rattle.std.proofs.Common.{◌≡◌, ◌≢◌, ℕ, ◌+◌, ◌-◌, ◌<◌, ◌≤◌, ◌↔◌, true, false, cond, nat_eq, List, [], ◌∷◌, ◌++◌, get_or, set, length, refl, ap, ap₂, sym, subst, ◌∙◌, length-set, eq-eqb, eqb-true, true≢false, arith}
 use Rattle.std.specs.Vec.{with_item}
-use Rattle.heap_model.specs.Geometry.{lists, start_word, image_words}
-use Rattle.heap_model.specs.Counting.{times, total, one_if}
-use Rattle.crash_core.specs.declared.owners.BlockPlace.{BlockPlace}
+use Rattle.heap_model.specs.Geometry.{start_word, image_words}
+use Rattle.heap_model.specs.Counting.{times}
 use Rattle.crash_core.specs.declared.owners.BlockPlace.TheVariants as place
 use Rattle.crash_core.specs.declared.owners.Cache.{Cache}
-use Rattle.crash_core.specs.declared.owners.Group.{Group}
 use Rattle.crash_core.specs.declared.owners.Seat.{Seat}
 use Rattle.crash_core.specs.declared.state.CoreState.{CoreState}
 use Rattle.crash_core.specs.Cells.{superblock_at}
-use Rattle.crash_core.specs.Memory.{Memory, next, memory_of}
-use Rattle.crash_core.specs.View.{Setup, View, of_class, times_block}
+use Rattle.crash_core.specs.Memory.{next, memory_of}
+use Rattle.crash_core.specs.View.{Setup, View, of_class}
 use Rattle.crash_core.specs.Effects.{first_of, last_of, rest_of, after_lift}
-use Rattle.crash_core.specs.Guards.{MayAlloc, MayLift, IsBehind}
+use Rattle.crash_core.specs.Guards.{MayAlloc, MayLift}
 use Rattle.crash_core.specs.Sound.{Good}
-use Rattle.crash_core.specs.Standing.{place_for, no_block, IsPlace, IsKept, IsCore, Keeps, IsMoved, Decides, memory_at}
+use Rattle.crash_core.specs.Standing.{no_block, IsPlace, IsKept, Keeps, IsMoved, Decides, memory_at}
 use Rattle.crash_core.proofs.TotalLemmas.{eq-eqb-one, ne-eqb-none}
 use Rattle.crash_core.proofs.FrameLemmas.{times_append}
 use Rattle.crash_core.proofs.BlockLemmas.{total_lists}
 use Rattle.crash_core.proofs.PlaceLemmas.{skip, not-eq}
 use Rattle.crash_core.proofs.StandingLemmas.{memory_in}
 use Rattle.crash_core.proofs.ShareLemmas.{places_mine, places_theirs, place_alone}
-use Rattle.crash_core.proofs.WordLemmas.{entry_there}
 use Rattle.crash_core.proofs.FreeSteps.{short, once}
 use Rattle.crash_core.proofs.MoveSteps as moves
 
@@ -86,19 +82,25 @@ module _ (c : CoreState) (k : Setup) (views : List View) (i : ℕ) (v : View) (t
 
     pub lift_behind : t.batch.count ≢ 0 → t.batch.linked ≡ true → (d : ℕ) → d ≡ superblock_at c.geometry.capacity e.first → t.batch.descriptor ≡ d → (to : ℕ) → to ≡ next (memory_at c) t.batch.last → (nat_eq to e.first ≡ true) ↔ MayLift (memory_in c k) v class
     lift_behind some linked d d_is same to to_is = (
-      λ h. record { is_class = may.is_class; cached = may.cached; behind = λ more. record {
-        same = kept.batch.descriptor ∙ same ∙ d_is ∙ sym (ap₂ superblock_at cap first_is);
-        unchanged = kept.batch.linked ∙ linked;
-        linked = now ∙ eqb-true to e.first h ∙ sym first_is;
-      } },
+      λ h. record {
+        is_class = may.is_class;
+        cached = may.cached;
+        behind = λ more. record {
+          same = kept.batch.descriptor ∙ same ∙ d_is ∙ sym (ap₂ superblock_at cap first_is);
+          unchanged = kept.batch.linked ∙ linked;
+          linked = now ∙ eqb-true to e.first h ∙ sym first_is;
+        };
+      },
       λ lifts. eq-eqb to e.first (sym now ∙ (lifts.behind (let n = kept.batch.count in omega arith)).linked ∙ first_is),
     ) where
       now : next (memory_in c k) (last_of v.batch.blocks) ≡ to
       now = ap (next (memory_in c k)) kept.batch.last ∙ ap (λ n. next (memory_of n c.words.items) t.batch.last) keeps.capacity ∙ sym to_is
 
     pub lift : (first d head : ℕ) → first ≡ next (memory_at c) e.first → d ≡ superblock_at c.geometry.capacity e.first → head ≡ cond (nat_eq t.batch.count 0) e.first t.batch.first
-        → IsMoved c (record c { blocks = with_item c.blocks e.first (record { seat = i; place = place.Batched });
-          seats = with_item c.seats i (record t { caches = set t.caches class (record { first = first; count = e.count - 1 }); batch = record { descriptor = d; class = class; first = head; last = e.first; count = t.batch.count + 1; linked = true } }) }) views i t (after_lift v class)
+        → IsMoved c (record c {
+          blocks = with_item c.blocks e.first (record { seat = i; place = place.Batched });
+          seats = with_item c.seats i (record t { caches = set t.caches class (record { first = first; count = e.count - 1 }); batch = record { descriptor = d; class = class; first = head; last = e.first; count = t.batch.count + 1; linked = true } });
+        }) views i t (after_lift v class)
     lift first d head next_is d_is head_is = record {
       after = record t { caches = set t.caches class (record { first = first; count = e.count - 1 }); batch = record { descriptor = d; class = class; first = head; last = e.first; count = t.batch.count + 1; linked = true } };
       seats = refl;
@@ -136,10 +138,13 @@ module _ (c : CoreState) (k : Setup) (views : List View) (i : ℕ) (v : View) (t
         roots = kept.roots;
       };
       others = λ j s u other less_j at_u h. record {
-        notes = h.notes; caches = h.caches; batch = h.batch;
+        notes = h.notes;
+        caches = h.caches;
+        batch = h.batch;
         blocks = places_theirs c.blocks.items i j e.first place.Batched (λ y p. IsPlace y p u.small u.caches u.batch.blocks) long other
             (place_alone i j (get_or c.blocks.items e.first no_block) other (moves.there c k views i v t keeps below at at_t class may)) h.blocks;
-        superblocks = h.superblocks; roots = h.roots;
+        superblocks = h.superblocks;
+        roots = h.roots;
       };
     } where
       b : ℕ

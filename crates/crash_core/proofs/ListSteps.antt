@@ -1,5 +1,5 @@
 -- The steps of the core that exchange the head of a list.
-use Rattle.std.proofs.Common.{◌≡◌, ◌≢◌, ℕ, zero, suc, ◌+◌, ◌-◌, ◌*◌, ◌<◌, ◌≤◌, inl, inr, Bool, true, false, cond, ltb-true, true≢false, nat_eq, nat_lt, List, get_or, set, length, Option, None, Some, refl, ap, ap₂, sym, subst, ◌∙◌, length-set, lt-ltb, eq-eqb, arith}
+use Rattle.std.proofs.Common.{◌≡◌, ◌≢◌, ℕ, zero, suc, ◌+◌, ◌-◌, ◌<◌, inl, inr, Bool, true, false, cond, ltb-true, true≢false, nat_eq, nat_lt, List, get_or, set, length, Option, None, Some, refl, ap, ap₂, sym, subst, ◌∙◌, length-set, lt-ltb, eq-eqb, arith}
 use Rattle.std.proofs.lemmas.Bool.{cases_lt}
 use Rattle.std.specs.Vec.{with_item}
 use Rattle.heap_model.specs.Counting.{times}
@@ -13,14 +13,13 @@ use Rattle.crash_core.specs.declared.owners.Share.{Share}
 use Rattle.crash_core.specs.declared.owners.Share.TheVariants as share
 use Rattle.crash_core.specs.declared.state.CoreState.{CoreState}
 use Rattle.crash_core.specs.Cells.{head_cell, link_cell}
-use Rattle.crash_core.specs.Memory.{Memory, volatile_at, used}
+use Rattle.crash_core.specs.Memory.{volatile_at, used}
 use Rattle.crash_core.specs.View.{Setup, View, one_if_some, times_raw, times_classed, times_large}
 use Rattle.crash_core.specs.Effects.{seen, seen_word, seen_of, before, cleared, claimed, popped, popped_head, pushed, pushed_raw, pushed_classed, pushed_head, won, lost}
 use Rattle.crash_core.specs.Guards.{IsThere, MayPush, MayList, as_free, of_its_class}
 use Rattle.crash_core.specs.Sound.{Good, KnowsHead}
 use Rattle.crash_core.specs.Steps.{seat_after}
 use Rattle.crash_core.specs.Standing.{share_for, no_superblock, listed, IsShare, IsKept, Keeps, Steps, snapshot}
-use Rattle.crash_core.proofs.QuietLemmas.{not_there}
 use Rattle.crash_core.proofs.TotalLemmas.{total_at}
 use Rattle.crash_core.proofs.OwnLemmas.{one_at_most}
 use Rattle.crash_core.proofs.ListLemmas.{in_lists_at}
@@ -105,8 +104,11 @@ module _ (c : CoreState) (k : Setup) (views : List View) (i : ℕ) (v : View) (t
 
       pub pop : (link : ℕ) → t.seen_link ≡ Some link → (word d : ℕ) (x : Share) (anchor : Option Seen) → word ≡ head_of (head_first link) (head_pops head.word + 1)
           → d ≡ head_first head.word - 1 → x ≡ listed head.of → snapshot anchor ≡ cleared d 1 (snapshot t.seen_anchor)
-          → Steps c (record c { words = with_item c.words at_word word; superblocks = with_item c.superblocks d (record { seat = i; share = x });
-            seats = with_item c.seats i (record t { ticket = None; seen_head = None; seen_link = None; seen_anchor = anchor }) }) k views i v Pop Done
+          → Steps c (record c {
+            words = with_item c.words at_word word;
+            superblocks = with_item c.superblocks d (record { seat = i; share = x });
+            seats = with_item c.seats i (record t { ticket = None; seen_head = None; seen_link = None; seen_anchor = anchor });
+          }) k views i v Pop Done
       pop link some_link word d x anchor word_new d_new x_is anchor_is =
           step_done c c' k views i v t t' Pop keeps below at at_t going ticket (record { is_seen = ap one_if_some is; link = ap one_if_some saw_link }) as_seen
           (ap (λ (y : View). y.stopped) seat_is ∙ claimed_going base d (seen_of v.seen_head) ∙ going)
@@ -117,44 +119,52 @@ module _ (c : CoreState) (k : Setup) (views : List View) (i : ℕ) (v : View) (t
           kept.superblocks
           (let n = kept.notes in record { ticket = refl; stopped = n.stopped; seen_used = n.seen_used; seen_head = refl; seen_link = refl; seen_anchor = ap (cleared d 1) n.seen_anchor ∙ sym anchor_is })
           kept.caches kept.batch kept.blocks kept.roots))
-          (λ j s u other b a h. record { notes = h.notes; caches = h.caches; batch = h.batch; blocks = h.blocks;
+          (λ j s u other b a h. record {
+            notes = h.notes;
+            caches = h.caches;
+            batch = h.batch;
+            blocks = h.blocks;
             superblocks = shares_theirs c.superblocks.items i j d x (λ e y. IsShare e y u.raw u.split u.cutting u.classed u.large) (subst (λ n. d < n) (sym keeps.superblocks) less) other (nothing (seen_of v.seen_head) d is_list in_list j s u b a h) h.superblocks;
-            roots = h.roots })
-          where
-        t' : Seat
-        t' = record t { ticket = None; seen_head = None; seen_link = None; seen_anchor = anchor }
+            roots = h.roots;
+          })
+        where
+          t' : Seat
+          t' = record t { ticket = None; seen_head = None; seen_link = None; seen_anchor = anchor }
 
-        c' : CoreState
-        c' = record c { words = with_item c.words at_word word; superblocks = with_item c.superblocks d (record { seat = i; share = x }); seats = with_item c.seats i t' }
+          c' : CoreState
+          c' = record c { words = with_item c.words at_word word; superblocks = with_item c.superblocks d (record { seat = i; share = x }); seats = with_item c.seats i t' }
 
-        base : View
-        base = record (won v) { seen_head = None; seen_link = None; seen_anchor = cleared d 1 v.seen_anchor }
+          base : View
+          base = record (won v) { seen_head = None; seen_link = None; seen_anchor = cleared d 1 v.seen_anchor }
 
-        saw_link : v.seen_link ≡ Some link
-        saw_link = kept.notes.seen_link ∙ some_link
+          saw_link : v.seen_link ≡ Some link
+          saw_link = kept.notes.seen_link ∙ some_link
 
-        linked : head_first (seen_word v.seen_head) ≢ 0
-        linked = (knows.linked (ap one_if_some saw_link)).0
+          linked : head_first (seen_word v.seen_head) ≢ 0
+          linked = (knows.linked (ap one_if_some saw_link)).0
 
-        d_is : before (head_first (seen_word v.seen_head)) ≡ d
-        d_is = before_is (head_first (seen_word v.seen_head)) linked ∙ ap (λ n. head_first n - 1) word_is ∙ sym d_new
+          d_is : before (head_first (seen_word v.seen_head)) ≡ d
+          d_is = before_is (head_first (seen_word v.seen_head)) linked ∙ ap (λ n. head_first n - 1) word_is ∙ sym d_new
 
-        seat_is : seat_after (memory_in c k) v Pop ≡ claimed base d (seen_of v.seen_head)
-        seat_is = pick (nat_eq ((memory_in c k).volatile (head_cell (seen_of v.seen_head))) (seen_word v.seen_head)) (popped v (before (head_first (seen_word v.seen_head)))) (record (lost v) { seen_head = None }) test ∙ ap (popped v) d_is
+          seat_is : seat_after (memory_in c k) v Pop ≡ claimed base d (seen_of v.seen_head)
+          seat_is = pick (nat_eq ((memory_in c k).volatile (head_cell (seen_of v.seen_head))) (seen_word v.seen_head)) (popped v (before (head_first (seen_word v.seen_head)))) (record (lost v) { seen_head = None }) test ∙ ap (popped v) d_is
 
-        left : popped_head v ≡ head_of (head_first link) (head_pops head.word + 1)
-        left = ap₂ (λ a b. head_of (head_first a) (head_pops b + 1)) (ap seen saw_link) word_is
+          left : popped_head v ≡ head_of (head_first link) (head_pops head.word + 1)
+          left = ap₂ (λ a b. head_of (head_first a) (head_pops b + 1)) (ap seen saw_link) word_is
 
-        in_list : 0 < times d (good.shape.lists (seen_of v.seen_head))
-        in_list = subst (λ n. 0 < times n (good.shape.lists (seen_of v.seen_head))) d_is (knows.listed (ap head_pops (sym as_seen)) linked)
+          in_list : 0 < times d (good.shape.lists (seen_of v.seen_head))
+          in_list = subst (λ n. 0 < times n (good.shape.lists (seen_of v.seen_head))) d_is (knows.listed (ap head_pops (sym as_seen)) linked)
 
-        less : d < k.capacity
-        less = let s = knows.small in let l = linked in let e = d_is in let b = before_is (head_first (seen_word v.seen_head)) linked in omega arith
+          less : d < k.capacity
+          less = let s = knows.small in let l = linked in let e = d_is in let b = before_is (head_first (seen_word v.seen_head)) linked in omega arith
 
       pub push : (d : ℕ) → MayPush (memory_in c k) v d → d < length c.superblocks.items → (word : ℕ) (anchor : Option Seen) → word ≡ head_of (d + 1) (head_pops head.word)
           → snapshot anchor ≡ cleared d 1 (snapshot t.seen_anchor)
-          → Steps c (record c { words = with_item c.words at_word word; superblocks = with_item c.superblocks d (record { seat = i; share = share.Nothing });
-            seats = with_item c.seats i (record t { ticket = None; seen_head = None; seen_anchor = anchor }) }) k views i v (Push d) Done
+          → Steps c (record c {
+            words = with_item c.words at_word word;
+            superblocks = with_item c.superblocks d (record { seat = i; share = share.Nothing });
+            seats = with_item c.seats i (record t { ticket = None; seen_head = None; seen_anchor = anchor });
+          }) k views i v (Push d) Done
       push d may less word anchor word_new anchor_is = by_claim (nat_lt 0 (times d v.raw + times d v.split)) refl where
         t' : Seat
         t' = record t { ticket = None; seen_head = None; seen_anchor = anchor }
@@ -172,15 +182,20 @@ module _ (c : CoreState) (k : Setup) (views : List View) (i : ℕ) (v : View) (t
         mine_share : share_for i (get_or c.superblocks.items d no_superblock) ≡ share.Nothing → ⊥
         mine_share none = let o = subst (λ y. IsShare d y v.raw v.split v.cutting v.classed v.large) none (kept.superblocks d) in
             claims_none (seen_of v.seen_head) may.listed o where
-          claims_none : (list : ℕ) → MayList (memory_in c k) v d list → IsShare d share.Nothing v.raw v.split v.cutting v.classed v.large → ⊥
-          claims_none list (as_free l is_zero claimed empty) o = let a = o.is_raw in let b = o.is_split in let e = o.is_cutting in let f = o.is_classed in let g = claimed.claimed in absurd (omega arith)
-          claims_none list (of_its_class l apart classed class_is state_now) o = let f = o.is_classed in absurd (omega arith)
+              claims_none : (list : ℕ) → MayList (memory_in c k) v d list → IsShare d share.Nothing v.raw v.split v.cutting v.classed v.large → ⊥
+              claims_none list (as_free l is_zero claimed empty) o = let a = o.is_raw in let b = o.is_split in let e = o.is_cutting in let f = o.is_classed in let g = claimed.claimed in absurd (omega arith)
+              claims_none list (of_its_class l apart classed class_is state_now) o = let f = o.is_classed in absurd (omega arith)
 
         theirs : (j : ℕ) (s : Seat) (u : View) → j ≢ i → j < length views → get_or views j u ≡ u → IsKept c j s u → IsKept c' j s u
-        theirs j s u other b a h = record { notes = h.notes; caches = h.caches; batch = h.batch; blocks = h.blocks;
+        theirs j s u other b a h = record {
+          notes = h.notes;
+          caches = h.caches;
+          batch = h.batch;
+          blocks = h.blocks;
           superblocks = shares_theirs c.superblocks.items i j d share.Nothing (λ e y. IsShare e y u.raw u.split u.cutting u.classed u.large) less other
               (share_alone i j (get_or c.superblocks.items d no_superblock) other mine_share) h.superblocks;
-          roots = h.roots }
+          roots = h.roots;
+        }
 
         done : (w : View) → seat_after (memory_in c k) v (Push d) ≡ w → w.stopped ≡ None → IsKept c' i t' w → Steps c c' k views i v (Push d) Done
         done w is_w on mine = step_done c c' k views i v t t' (Push d) keeps below at at_t going ticket may as_seen (ap (λ (y : View). y.stopped) is_w ∙ on) words_are refl

@@ -1,12 +1,11 @@
 -- When an anchor may be read, by what the core keeps.
-use Rattle.std.proofs.Common.{◌≡◌, ◌≢◌, ℕ, ◌+◌, ◌*◌, ◌<◌, ◌≤◌, ◌↔◌, inl, inr, true, false, nat_eq, List, get_or, length, refl, ap, sym, subst, ◌∙◌, eq-eqb, eqb-true, arith}
+use Rattle.std.proofs.Common.{◌≡◌, ◌≢◌, ℕ, ◌+◌, ◌<◌, ◌≤◌, ◌↔◌, inl, inr, true, nat_eq, List, get_or, length, sym, ◌∙◌, eq-eqb, eqb-true, arith}
 use Rattle.crash_core.specs.declared.owners.Seat.{Seat}
 use Rattle.crash_core.specs.declared.owners.Share.{Share}
 use Rattle.crash_core.specs.declared.state.CoreState.{CoreState}
-use Rattle.crash_core.specs.Memory.{Memory}
 use Rattle.crash_core.specs.View.{Setup, View}
 use Rattle.crash_core.specs.Guards.{MayLookAt}
-use Rattle.crash_core.specs.Standing.{share_for, no_superblock, raw_in, split_in, cutting_in, classed_in, IsShare, IsKept, Keeps}
+use Rattle.crash_core.specs.Standing.{share_for, no_superblock, raw_in, split_in, classed_in, IsShare, IsKept, Keeps}
 use Rattle.crash_core.proofs.SoundLemmas.{taken, batched}
 use Rattle.crash_core.proofs.StandingLemmas.{memory_in}
 use Rattle.crash_core.proofs.PushDecision.{settled_cut}

@@ -1,21 +1,18 @@
 -- The steps of the core that read a shared word.
-use Rattle.std.proofs.Common.{◌≡◌, ◌≢◌, ℕ, zero, suc, ◌+◌, ◌-◌, ◌*◌, max, ap₂, ◌<◌, ◌≤◌, inl, inr, true, List, get_or, set, length, Option, None, Some, refl, ap, sym, subst, ◌∙◌, lt-ltb, arith}
-use Rattle.std.specs.Prelude.{Vec}
-use Rattle.std.specs.declared.alloc.Global.{Global}
+use Rattle.std.proofs.Common.{◌≡◌, ◌≢◌, ℕ, zero, suc, ◌+◌, ◌-◌, max, ap₂, ◌<◌, true, List, get_or, set, length, None, Some, refl, ap, sym, subst, ◌∙◌, lt-ltb, arith}
 use Rattle.std.specs.Vec.{with_item}
 use Rattle.heap_model.specs.Geometry.{lists, image_words, link_word}
 use Rattle.heap_model.specs.Words.{head_first}
 use Rattle.crash_core.specs.declared.answer.StepAnswer.TheVariants.{Done, NotNow}
-use Rattle.crash_core.specs.declared.event.Event.{Event}
 use Rattle.crash_core.specs.declared.event.Event.TheVariants.{LookUsed, LookHead, LookLink, LookAnchor, KeepUsed}
 use Rattle.crash_core.specs.declared.owners.Seat.{Seat}
 use Rattle.crash_core.specs.declared.owners.Seen.{Seen}
 use Rattle.crash_core.specs.declared.state.CoreState.{CoreState}
 use Rattle.crash_core.specs.Cells.{used_cell, head_cell, link_cell, anchor_cell, is_cell}
-use Rattle.crash_core.specs.Memory.{anchor, volatile_at, memory_of, read, table_index, table_length}
+use Rattle.crash_core.specs.Memory.{anchor, volatile_at, memory_of}
 use Rattle.crash_core.specs.View.{Setup, View, one_if_some}
 use Rattle.crash_core.specs.Effects.{seen, seen_word, before}
-use Rattle.crash_core.specs.Guards.{IsThere, HasTicketFor, MayLookAt}
+use Rattle.crash_core.specs.Guards.{IsThere, MayLookAt}
 use Rattle.crash_core.specs.Standing.{IsKept, Keeps, Steps, snapshot, memory_at}
 use Rattle.crash_core.proofs.QuietLemmas.{not_there}
 use Rattle.crash_core.proofs.StandingLemmas.{step_noted, step_not, memory_in}

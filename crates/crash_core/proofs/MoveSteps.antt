@@ -1,21 +1,20 @@
 -- The core when a block goes from a cache to what its seat holds.
-use Rattle.std.proofs.Common.{◌≡◌, ◌≢◌, ℕ, zero, suc, ◌+◌, ◌-◌, ◌*◌, ◌<◌, ◌≤◌, ◌↔◌, inl, inr, true, false, nat_eq, nat_lt, List, [], ◌∷◌, get_or, set, length, refl, ap, sym, subst, ◌∙◌, length-set, lt-ltb, ltb-true, arith}
+use Rattle.std.proofs.Common.{◌≡◌, ◌≢◌, ℕ, ◌+◌, ◌-◌, ◌<◌, ◌≤◌, ◌↔◌, inl, inr, true, nat_eq, nat_lt, List, [], ◌∷◌, get_or, set, length, refl, ap, sym, subst, ◌∙◌, length-set, lt-ltb, ltb-true, arith}
 use Rattle.std.proofs.lemmas.Bool.{cases_eq}
 use Rattle.std.proofs.lemmas.List.{get_or-set_same, get_or-set_other}
 use Rattle.std.specs.Vec.{with_item}
 use Rattle.heap_model.specs.Geometry.{lists, start_word, image_words}
-use Rattle.heap_model.specs.Sizes.{IsClass, words_of_class}
+use Rattle.heap_model.specs.Sizes.{words_of_class}
 use Rattle.heap_model.specs.Counting.{times, total, one_if}
 use Rattle.heap_model.specs.Chains.{Walks}
 use Rattle.heap_model.proofs.SizeLemmas.{two_words}
 use Rattle.crash_core.specs.declared.owners.BlockPlace.{BlockPlace}
 use Rattle.crash_core.specs.declared.owners.BlockPlace.TheVariants as place
-use Rattle.crash_core.specs.declared.owners.BlockOwner.{BlockOwner}
 use Rattle.crash_core.specs.declared.owners.Cache.{Cache}
 use Rattle.crash_core.specs.declared.owners.Seat.{Seat}
 use Rattle.crash_core.specs.declared.state.CoreState.{CoreState}
 use Rattle.crash_core.specs.Cells.{superblock_at}
-use Rattle.crash_core.specs.Memory.{Memory, next, info, memory_of}
+use Rattle.crash_core.specs.Memory.{next, info, memory_of}
 use Rattle.crash_core.specs.View.{Setup, View, of_class, times_block}
 use Rattle.crash_core.specs.Effects.{first_of, rest_of, after_alloc}
 use Rattle.crash_core.specs.Guards.{MayAlloc}
@@ -27,7 +26,6 @@ use Rattle.crash_core.proofs.OwnerLemmas.{in_lists_total}
 use Rattle.crash_core.proofs.ShiftLemmas.{first_rest}
 use Rattle.crash_core.proofs.StandingLemmas.{memory_in}
 use Rattle.crash_core.proofs.ShareLemmas.{places_mine, places_theirs, place_alone}
-use Rattle.crash_core.proofs.ReadLemmas.{lengths}
 use Rattle.crash_core.proofs.WordLemmas.{entry_is, entry_there}
 
 abbrev pub no_cache : Cache
@@ -202,9 +200,12 @@ module _ (c : CoreState) (k : Setup) (views : List View) (i : ℕ) (v : View) (t
           roots = kept.roots;
         };
         others = λ j s u other less_j at_u h. record {
-          notes = h.notes; caches = h.caches; batch = h.batch;
+          notes = h.notes;
+          caches = h.caches;
+          batch = h.batch;
           blocks = places_theirs c.blocks.items i j e.first place.Held (λ y p. IsPlace y p u.small u.caches u.batch.blocks) first_long other (place_alone i j (get_or c.blocks.items e.first no_block) other there) h.blocks;
-          superblocks = h.superblocks; roots = h.roots;
+          superblocks = h.superblocks;
+          roots = h.roots;
         };
       }
 

@@ -1,5 +1,5 @@
 -- Which words are a seat's own, by what the core keeps.
-use Rattle.std.proofs.Common.{◌≡◌, ◌≢◌, ℕ, zero, suc, ◌+◌, ◌-◌, ◌*◌, ◌/◌, ◌<◌, ◌≤◌, ◌↔◌, inl, inr, Bool, true, false, ◌&&◌, nat_eq, nat_lt, nat_le, List, [], ◌∷◌, get_or, length, refl, ap, sym, subst, ◌∙◌, eq-eqb, eqb-true, le-leb, lt-ltb, true≢false, arith}
+use Rattle.std.proofs.Common.{◌≡◌, ℕ, zero, suc, ◌+◌, ◌-◌, ◌*◌, ◌/◌, ◌<◌, ◌≤◌, ◌↔◌, inl, inr, Bool, true, false, ◌&&◌, nat_eq, nat_lt, nat_le, List, [], ◌∷◌, get_or, length, refl, ap, sym, subst, ◌∙◌, le-leb, lt-ltb, true≢false, arith}
 use Rattle.std.proofs.Math.Nat.{div-mul-le_self, lt-div-mul-add}
 use Rattle.std.proofs.lemmas.Bool.{cases_eq, cases_lt, cases_order}
 use Rattle.heap_model.specs.Geometry.{roots, start_word, image_words}
@@ -13,14 +13,14 @@ use Rattle.crash_core.specs.declared.owners.Seat.{Seat}
 use Rattle.crash_core.specs.declared.owners.Share.{Share}
 use Rattle.crash_core.specs.declared.state.CoreState.{CoreState}
 use Rattle.crash_core.specs.Cells.{Cell, info_cell, anchor_cell, link_cell, root_cell, data_cell, cell_at, superblock_at}
-use Rattle.crash_core.specs.Memory.{Memory, info, memory_of}
+use Rattle.crash_core.specs.Memory.{info, memory_of}
 use Rattle.crash_core.specs.View.{Setup, View, times_own, times_raw, times_large, times_block, times_within, times_in_classes}
 use Rattle.crash_core.specs.Guards.{IsOwn}
 use Rattle.crash_core.specs.Sound.{Good, IsCutBlock}
 use Rattle.crash_core.specs.Standing.{share_for, place_for, no_superblock, no_block, raw_in, split_in, cutting_in, classed_in, large_in, held_in, cached_in, batched_in, IsShare, IsPlace, IsKept, Keeps, memory_at}
 use Rattle.crash_core.proofs.PlaceLemmas.{and_is}
-use Rattle.crash_core.proofs.TotalLemmas.{total_at, eq-eqb-one, ne-eqb-none}
-use Rattle.crash_core.proofs.OwnerLemmas.{in_blocks, covered, HasClass, which_class}
+use Rattle.crash_core.proofs.TotalLemmas.{ne-eqb-none}
+use Rattle.crash_core.proofs.OwnerLemmas.{in_blocks, covered, which_class}
 use Rattle.crash_core.proofs.StandingLemmas.{memory_in}
 use Rattle.crash_core.proofs.WordLemmas.{entry_is}
 use Rattle.crash_core.proofs.PushDecision.{refused}
@@ -154,24 +154,24 @@ module _ (c : CoreState) (k : Setup) (views : List View) (i : ℕ) (v : View) (t
         at_block y cut y_from y_until = unique cut.index (cut.at ∙ (let e = keeps.capacity in let z = d_is in let g : start_word k.capacity (superblock_at k.capacity word) + cut.index * words_of_class class ≡ start_word c.geometry.capacity d + cut.index * words_of_class class =
             ap (λ n. start_word n (superblock_at n word) + cut.index * words_of_class class) keeps.capacity ∙ ap (λ n. start_word c.geometry.capacity n + cut.index * words_of_class class) (sym d_is) in g) ∙ ap (λ n. start_word c.geometry.capacity d + cut.index * n) (sym words_are))
             y_from (subst (λ n. word < y + n) (sym words_are) y_until) where
-          same_step : (s m n : ℕ) → y ≡ s + m * words → block ≡ s + n * words → y ≤ word → word < y + words → block ≤ word → word < block + words → y ≡ block
-          same_step s m n at_y at_block a e f g = elim (cases_order m n) as (λ _. y ≡ block) [
-            | inl one ↦ at_y ∙ ap (λ z. s + z * words) one ∙ sym at_block
-            | inr two ↦ elim two as (λ _. y ≡ block) [
-              | inl less ↦ absurd (let step = block_step m n words less in omega arith)
-              | inr more ↦ absurd (let step = block_step n m words more in omega arith)
-            ]
-          ]
+              same_step : (s m n : ℕ) → y ≡ s + m * words → block ≡ s + n * words → y ≤ word → word < y + words → block ≤ word → word < block + words → y ≡ block
+              same_step s m n at_y at_block a e f g = elim (cases_order m n) as (λ _. y ≡ block) [
+                | inl one ↦ at_y ∙ ap (λ z. s + z * words) one ∙ sym at_block
+                | inr two ↦ elim two as (λ _. y ≡ block) [
+                  | inl less ↦ absurd (let step = block_step m n words less in omega arith)
+                  | inr more ↦ absurd (let step = block_step n m words more in omega arith)
+                ]
+              ]
 
-          unique : (index : ℕ) → y ≡ start_word c.geometry.capacity d + index * words → y ≤ word → word < y + words → y ≡ block
-          unique index at_y a e = same_step (start_word c.geometry.capacity d) index ((word - start_word c.geometry.capacity d) / words) at_y block_is a e before_word after_word
+              unique : (index : ℕ) → y ≡ start_word c.geometry.capacity d + index * words → y ≤ word → word < y + words → y ≡ block
+              unique index at_y a e = same_step (start_word c.geometry.capacity d) index ((word - start_word c.geometry.capacity d) / words) at_y block_is a e before_word after_word
 
         pub data_block : (b ≡ true) ↔ IsOwn v (data_cell word)
         data_block = (
           λ e. let h = has_block (let one = (one_true b (held_in p + cached_in p + batched_in p) b_is).0 e in let n = counted in omega arith) in omega arith,
           λ own. (one_true b (held_in p + cached_in p + batched_in p) b_is).1 (let z = parts_of in
-            let has = covered k (memory_in c k) views good i v below at word (omega arith) in
-            let same : has.1.class ≡ class = sym has.1.info_is ∙ info_now in
-            let here : has.0 ≡ block = at_block has.0 (subst (λ n. IsCutBlock k.capacity n (superblock_at k.capacity word) has.0) same has.1.is) has.1.from (subst (λ n. word < has.0 + words_of_class n) same has.1.until) in
-            let owned = subst (λ y. 0 < times_block y v) here has.1.owned in let n = counted in omega arith),
+              let has = covered k (memory_in c k) views good i v below at word (omega arith) in
+              let same : has.1.class ≡ class = sym has.1.info_is ∙ info_now in
+              let here : has.0 ≡ block = at_block has.0 (subst (λ n. IsCutBlock k.capacity n (superblock_at k.capacity word) has.0) same has.1.is) has.1.from (subst (λ n. word < has.0 + words_of_class n) same has.1.until) in
+              let owned = subst (λ y. 0 < times_block y v) here has.1.owned in let n = counted in omega arith),
         )

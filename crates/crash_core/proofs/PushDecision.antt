@@ -1,7 +1,6 @@
 -- When a superblock may go to the list whose head was seen, by what the core keeps.
-use Rattle.std.proofs.Common.{◌≡◌, ◌≢◌, ℕ, zero, suc, ◌+◌, ◌*◌, ◌<◌, ◌≤◌, ◌↔◌, ◌⊎◌, inl, inr, Bool, true, false, cond, nat_eq, List, [], ◌∷◌, get_or, length, Option, None, Some, refl, ap, sym, subst, ◌∙◌, eq-eqb, eqb-true, true≢false, arith}
+use Rattle.std.proofs.Common.{◌≡◌, ◌≢◌, ℕ, zero, suc, ◌+◌, ◌<◌, ◌≤◌, ◌↔◌, inl, inr, Bool, true, false, cond, nat_eq, List, [], ◌∷◌, get_or, length, Some, refl, ap, sym, ◌∙◌, eq-eqb, eqb-true, true≢false, arith}
 use Rattle.std.proofs.lemmas.Bool.{cases_eq}
-use Rattle.heap_model.specs.Counting.{times, one_if}
 use Rattle.heap_model.specs.Words.{head_first, anchor_state}
 use Rattle.crash_core.specs.declared.owners.Seat.{Seat}
 use Rattle.crash_core.specs.declared.owners.Seen.{Seen}
@@ -10,11 +9,10 @@ use Rattle.crash_core.specs.declared.owners.Share.TheVariants as share
 use Rattle.crash_core.specs.declared.owners.SuperblockOwner.{SuperblockOwner}
 use Rattle.crash_core.specs.declared.state.CoreState.{CoreState}
 use Rattle.crash_core.specs.Memory.{Memory, info, anchor, link, durable_used, memory_of}
-use Rattle.crash_core.specs.View.{Setup, View, one_if_some, times_classed, times_claimed}
+use Rattle.crash_core.specs.View.{Setup, View, one_if_some, times_classed}
 use Rattle.crash_core.specs.Effects.{seen_word, seen_of}
-use Rattle.crash_core.specs.Guards.{IsThere, MayList, as_free, of_its_class, MayPush}
+use Rattle.crash_core.specs.Guards.{MayList, as_free, of_its_class, MayPush}
 use Rattle.crash_core.specs.Standing.{share_for, no_superblock, raw_in, split_in, cutting_in, classed_in, IsShare, IsKept, Keeps, memory_at}
-use Rattle.crash_core.proofs.PlaceLemmas.{skip}
 use Rattle.crash_core.proofs.StandingLemmas.{memory_in}
 use Rattle.crash_core.proofs.KeptFacts as facts
 
@@ -102,8 +100,8 @@ module _ (c : CoreState) (k : Setup) (views : List View) (i : ℕ) (v : View) (t
       pub as_free_one : head.of ≡ 0 → (nat_eq state 0 ≡ true) ↔ MayPush m v d
       as_free_one zero_list = (
         λ e. may_push (as_free (seen_of v.seen_head) (of_is ∙ zero_list)
-          (record { claimed = (let a = s.is_raw in let b = s.is_split in let f = s.is_classed in omega arith); not_cutting = s.is_cutting ∙ settled_cut x settled })
-          (now ∙ eqb-true state 0 e)),
+            (record { claimed = (let a = s.is_raw in let b = s.is_split in let f = s.is_classed in omega arith); not_cutting = s.is_cutting ∙ settled_cut x settled })
+            (now ∙ eqb-true state 0 e)),
         λ may. eq-eqb state 0 (sym now ∙ empty_of (seen_of v.seen_head) (of_is ∙ zero_list) may.listed),
       )
 
@@ -120,7 +118,7 @@ module _ (c : CoreState) (k : Setup) (views : List View) (i : ℕ) (v : View) (t
       pub of_class_one : head.of ≢ 0 → 0 < classed_in x → state ≤ 1 → (holds : ℕ) → holds ≡ info (memory_at c) d → (nat_eq holds head.of ≡ true) ↔ MayPush m v d
       of_class_one some_list classed low holds holds_is = (
         λ e. may_push (of_its_class (seen_of v.seen_head) (λ z. some_list (sym of_is ∙ z)) (let f = s.is_classed in omega arith)
-          (ap (λ n. info n d) (sym same) ∙ sym holds_is ∙ eqb-true holds head.of e ∙ sym of_is)
-          (elim (cases_eq state 0) [ inl none ↦ inr (now ∙ none) | inr more ↦ inl (now ∙ (let z : state ≡ 1 = omega arith in z)) ])),
+            (ap (λ n. info n d) (sym same) ∙ sym holds_is ∙ eqb-true holds head.of e ∙ sym of_is)
+            (elim (cases_eq state 0) [ inl none ↦ inr (now ∙ none) | inr more ↦ inl (now ∙ (let z : state ≡ 1 = omega arith in z)) ])),
         λ may. eq-eqb holds head.of (holds_is ∙ ap (λ n. info n d) same ∙ (class_of (seen_of v.seen_head) (λ z. some_list (sym of_is ∙ z)) may.listed).1 ∙ of_is),
       )

@@ -1,5 +1,5 @@
 -- A word of the core that is read is the value of its cell.
-use Rattle.std.proofs.Common.{◌≡◌, ℕ, ◌+◌, ◌*◌, ◌<◌, ◌≤◌, true, get_or, length, ap, sym, subst, ◌∙◌, arith}
+use Rattle.std.proofs.Common.{◌≡◌, ℕ, ◌+◌, ◌≤◌, true, get_or, length, ap, sym, ◌∙◌, arith}
 use Rattle.heap_model.specs.Geometry.{image_words, largest_capacity_fits}
 use Rattle.crash_core.specs.declared.state.CoreState.{CoreState}
 use Rattle.crash_core.specs.Cells.{Cell, is_cell, index_of}

@@ -1,8 +1,8 @@
 -- Whose each superblock and each block is, after one changes hands.
-use Rattle.std.proofs.Common.{◌≡◌, ◌≢◌, ℕ, zero, suc, ◌+◌, ◌<◌, ◌≤◌, inl, inr, Bool, true, false, cond, nat_eq, List, [], ◌∷◌, get_or, set, length, refl, ap, sym, subst, ◌∙◌, eq-eqb, eqb-true, arith}
+use Rattle.std.proofs.Common.{◌≡◌, ◌≢◌, ℕ, ◌+◌, ◌<◌, inl, inr, Bool, true, false, nat_eq, List, get_or, set, length, refl, ap, sym, subst, ◌∙◌, eq-eqb, eqb-true, arith}
 use Rattle.std.proofs.lemmas.Bool.{cases_eq}
 use Rattle.std.proofs.lemmas.List.{get_or-set_same, get_or-set_other}
-use Rattle.heap_model.specs.Counting.{times, total, without}
+use Rattle.heap_model.specs.Counting.{times, total}
 use Rattle.crash_core.specs.declared.owners.BlockPlace.{BlockPlace}
 use Rattle.crash_core.specs.declared.owners.BlockPlace.TheVariants as place
 use Rattle.crash_core.specs.declared.owners.BlockOwner.{BlockOwner}

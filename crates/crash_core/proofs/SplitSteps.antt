@@ -1,11 +1,10 @@
 -- The core when the superblocks of a held large block are claimed.
-use Rattle.std.proofs.Common.{◌≡◌, ◌≢◌, ℕ, zero, suc, ◌+◌, ◌-◌, ◌*◌, ◌/◌, ◌%◌, ◌<◌, ◌≤◌, ◌↔◌, inl, inr, true, false, nat_lt, List, [], ◌∷◌, ◌++◌, get_or, set, length, refl, ap, ap₂, sym, subst, ◌∙◌, lt-ltb, ltb-true, arith}
+use Rattle.std.proofs.Common.{◌≡◌, ◌≢◌, ℕ, ◌+◌, ◌-◌, ◌%◌, ◌<◌, ◌≤◌, ◌↔◌, inl, inr, true, nat_lt, List, ◌++◌, get_or, length, refl, ap, ap₂, sym, subst, ◌∙◌, lt-ltb, ltb-true, arith}
 use Rattle.std.proofs.lemmas.Bool.{cases_lt}
 use Rattle.std.specs.Prelude.{Vec, Option}
 use Rattle.std.specs.declared.alloc.Global.{Global}
 use Rattle.std.specs.Vec.{with_item}
 use Rattle.heap_model.specs.Geometry.{start_word}
-use Rattle.heap_model.specs.Counting.{times, total, below}
 use Rattle.crash_core.specs.declared.owners.Seat.{Seat}
 use Rattle.crash_core.specs.declared.owners.Seen.{Seen}
 use Rattle.crash_core.specs.declared.owners.Share.{Share}
@@ -14,8 +13,8 @@ use Rattle.crash_core.specs.declared.owners.SuperblockOwner.{SuperblockOwner}
 use Rattle.crash_core.specs.declared.state.CoreState.{CoreState}
 use Rattle.crash_core.specs.Cells.{superblock_at}
 use Rattle.crash_core.specs.Memory.{used}
-use Rattle.crash_core.specs.View.{Setup, View, Span, Claim, times_classed, times_large}
-use Rattle.crash_core.specs.Effects.{steps, cleared, claim_class, span_count, without_span, after_split}
+use Rattle.crash_core.specs.View.{Setup, View, Span, times_large}
+use Rattle.crash_core.specs.Effects.{steps, cleared, span_count, without_span, after_split}
 use Rattle.crash_core.specs.Guards.{MaySplit}
 use Rattle.crash_core.specs.Sound.{Good}
 use Rattle.crash_core.specs.Standing.{share_for, no_superblock, raw_in, split_in, cutting_in, classed_in, class_in, large_in, count_in, IsShare, IsRange, IsKept, IsCore, Keeps, IsMoved, Decides, snapshot}
@@ -121,36 +120,45 @@ module _ (c : CoreState) (k : Setup) (views : List View) (i : ℕ) (v : View) (t
       superblocks = range.long;
       roots = refl;
       mine = record {
-        notes = (let o = kept.notes in record { ticket = o.ticket; stopped = o.stopped; seen_used = o.seen_used; seen_head = o.seen_head; seen_link = o.seen_link;
-          seen_anchor = ap₂ (λ m a. cleared d m a) (sym count_n) o.seen_anchor ∙ sym anchor_is });
+        notes = (let o = kept.notes in record {
+          ticket = o.ticket;
+          stopped = o.stopped;
+          seen_used = o.seen_used;
+          seen_head = o.seen_head;
+          seen_link = o.seen_link;
+          seen_anchor = ap₂ (λ m a. cleared d m a) (sym count_n) o.seen_anchor ∙ sym anchor_is;
+        });
         caches = kept.caches;
         batch = kept.batch;
         blocks = kept.blocks;
         superblocks = range_mine c.superblocks.items owners.items i d n share.Split (λ e y. IsShare e y v.raw (v.split ++ steps d 1 n) v.cutting v.classed (without_span d v.large)) range
             (λ e low high. let o = kept.superblocks e in let z = large_only (share_for i (get_or c.superblocks.items e no_superblock)) (covered e low high) in
-              let w = without_span_is e d v.large some in let r = range_is d n e low high in let l = o.is_large in let z5 = z.5 in
-              let gone : times_large e (without_span d v.large) ≡ 0 = omega arith in record {
-                is_raw = o.is_raw ∙ z.0;
-                is_split = (let a = times_append e v.split (steps d 1 n) in let b = times_range e d n in let s = o.is_split in let z1 = z.1 in omega arith);
-                is_cutting = o.is_cutting ∙ z.2;
-                is_classed = o.is_classed ∙ z.3;
-                class = o.class ∙ z.4;
-                is_large = gone;
-                count = no_span e (without_span d v.large) gone;
-              })
+            let w = without_span_is e d v.large some in let r = range_is d n e low high in let l = o.is_large in let z5 = z.5 in
+            let gone : times_large e (without_span d v.large) ≡ 0 = omega arith in record {
+              is_raw = o.is_raw ∙ z.0;
+              is_split = (let a = times_append e v.split (steps d 1 n) in let b = times_range e d n in let s = o.is_split in let z1 = z.1 in omega arith);
+              is_cutting = o.is_cutting ∙ z.2;
+              is_classed = o.is_classed ∙ z.3;
+              class = o.class ∙ z.4;
+              is_large = gone;
+              count = no_span e (without_span d v.large) gone;
+            })
             (λ e out. let o = kept.superblocks e in let w = without_span_is e d v.large some in let r = range_not d n e out in record {
-                is_raw = o.is_raw;
-                is_split = (let a = times_append e v.split (steps d 1 n) in let b = times_range e d n in let s = o.is_split in omega arith);
-                is_cutting = o.is_cutting;
-                is_classed = o.is_classed;
-                class = o.class;
-                is_large = (let l = o.is_large in omega arith);
-                count = span_other e d v.large (λ same. out (omega (arith, same)) (let s = some in omega (arith, same, s))) ∙ o.count;
-              });
+              is_raw = o.is_raw;
+              is_split = (let a = times_append e v.split (steps d 1 n) in let b = times_range e d n in let s = o.is_split in omega arith);
+              is_cutting = o.is_cutting;
+              is_classed = o.is_classed;
+              class = o.class;
+              is_large = (let l = o.is_large in omega arith);
+              count = span_other e d v.large (λ same. out (omega (arith, same)) (let s = some in omega (arith, same, s))) ∙ o.count;
+            });
         roots = kept.roots;
       };
       others = λ j s u other less_j at_u h. record {
-        notes = h.notes; caches = h.caches; batch = h.batch; blocks = h.blocks;
+        notes = h.notes;
+        caches = h.caches;
+        batch = h.batch;
+        blocks = h.blocks;
         superblocks = range_theirs c.superblocks.items owners.items i j d n share.Split (λ e y. IsShare e y u.raw u.split u.cutting u.classed u.large) other range
             (λ e low high. share_alone i j (get_or c.superblocks.items e no_superblock) other (λ none. let l = covered e low high in let z = ap large_in none in omega arith)) h.superblocks;
         roots = h.roots;

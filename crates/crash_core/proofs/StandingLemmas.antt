@@ -1,21 +1,19 @@
 -- What a step of the core owes, so that it stands for the state after the step.
-use Rattle.std.proofs.Common.{◌≡◌, ◌≢◌, ℕ, ◌+◌, ◌<◌, ◌≤◌, inl, inr, List, get_or, set, length, Option, None, Some, refl, ap, sym, subst, ◌∙◌, length-set, arith}
+use Rattle.std.proofs.Common.{◌≡◌, ◌≢◌, ℕ, ◌<◌, ◌≤◌, inl, inr, List, get_or, set, length, None, refl, ap, sym, subst, ◌∙◌, length-set}
 use Rattle.std.specs.Prelude.{Vec}
 use Rattle.std.specs.declared.alloc.Global.{Global}
 use Rattle.std.specs.Vec.{with_item}
 use Rattle.std.proofs.lemmas.Bool.{cases_eq}
 use Rattle.std.proofs.lemmas.List.{get_or-set_same, get_or-set_other}
-use Rattle.crash_core.specs.declared.answer.StepAnswer.{StepAnswer}
-use Rattle.crash_core.specs.declared.answer.StepAnswer.TheVariants.{Done, Stopped, NotNow}
+use Rattle.crash_core.specs.declared.answer.StepAnswer.TheVariants.{Done, NotNow}
 use Rattle.crash_core.specs.declared.event.Event.{Event}
 use Rattle.crash_core.specs.declared.owners.Seat.{Seat}
 use Rattle.crash_core.specs.declared.state.CoreState.{CoreState}
-use Rattle.crash_core.specs.Memory.{Memory, memory_of, read, write}
+use Rattle.crash_core.specs.Memory.{Memory, memory_of}
 use Rattle.crash_core.specs.View.{Setup, View, one_if_some}
-use Rattle.crash_core.specs.Effects.{place_of, left_there}
-use Rattle.crash_core.specs.Guards.{IsAsSeen, IsReadyFor, HasTicketFor, MayStep, MayDo}
+use Rattle.crash_core.specs.Guards.{IsAsSeen, IsReadyFor, HasTicketFor, MayStep}
 use Rattle.crash_core.specs.Sound.{Sound}
-use Rattle.crash_core.specs.Steps.{words_after, seat_after, found_by, state_after}
+use Rattle.crash_core.specs.Steps.{words_after, seat_after, state_after}
 use Rattle.crash_core.specs.Standing.{HasNotes, HasCaches, HasBatch, HasBlocksOf, HasSuperblocks, HasRoots, IsKept, Keeps, StandsFor, state_of, Steps, steps_done, steps_not}
 use Rattle.crash_core.proofs.StepLemmas.{Parts, parts}
 use Rattle.crash_core.proofs.SoundLemmas.{sound_step}

@@ -1,8 +1,7 @@
 -- The stores of the core to a seat's own words.
-use Rattle.std.proofs.Common.{◌≡◌, ◌≢◌, ℕ, zero, suc, ◌+◌, ◌*◌, ◌<◌, ◌≤◌, ◌↔◌, ◌⊎◌, inl, inr, Bool, true, false, cond, nat_eq, List, [], ◌∷◌, get_or, set, length, Option, None, Some, refl, ap, ap₂, sym, subst, ◌∙◌, length-set, eq-eqb, eqb-true, true≢false, arith}
-use Rattle.std.proofs.lemmas.Bool.{cases_lt}
+use Rattle.std.proofs.Common.{◌≡◌, ◌≢◌, ℕ, zero, suc, ◌+◌, ◌<◌, ◌≤◌, ◌↔◌, ◌⊎◌, inl, inr, true, false, cond, nat_eq, List, ◌∷◌, get_or, set, length, None, refl, ap, ap₂, sym, subst, ◌∙◌, length-set, eq-eqb, eqb-true, arith}
 use Rattle.std.specs.Vec.{with_item}
-use Rattle.heap_model.specs.Counting.{times, total, without}
+use Rattle.heap_model.specs.Counting.{times, without}
 use Rattle.heap_model.specs.Words.{anchor_state}
 use Rattle.crash_core.specs.declared.answer.StepAnswer.TheVariants.{Done, NotNow}
 use Rattle.crash_core.specs.declared.event.Event.TheVariants.{Store, Settle}
@@ -15,20 +14,19 @@ use Rattle.crash_core.specs.declared.owners.Share.TheVariants as share
 use Rattle.crash_core.specs.declared.owners.SuperblockOwner.{SuperblockOwner}
 use Rattle.crash_core.specs.declared.state.CoreState.{CoreState}
 use Rattle.crash_core.specs.Cells.{Cell, used_cell, head_cell, info_cell, anchor_cell, link_cell, root_cell, data_cell, no_cell, cell_at, is_cell, index_of}
-use Rattle.crash_core.specs.Memory.{Memory, volatile_at, anchor, memory_of}
-use Rattle.crash_core.specs.View.{Setup, View, Claim, Span, times_raw, times_own, times_classed, times_large}
+use Rattle.crash_core.specs.Memory.{Memory, anchor, memory_of}
+use Rattle.crash_core.specs.View.{Setup, View, Claim, Span, times_own, times_classed, times_large}
 use Rattle.crash_core.specs.Effects.{claim_class, span_count, last_of, learn, used_up, stored, stored_anchor}
 use Rattle.crash_core.specs.Guards.{IsThere, IsOwn, MayStore, MayAnchor, as_empty, as_full, MayChange}
 use Rattle.crash_core.specs.OwnWords.{IsPlain}
 use Rattle.crash_core.specs.Sound.{Good}
-use Rattle.crash_core.specs.Standing.{HasBatch, share_for, place_for, cached_in, batched_in, no_superblock, no_block, anchored, raw_in, split_in, cutting_in, classed_in, class_in, large_in, count_in, IsShare, IsPlace, HasSuperblocks, IsKept, Keeps, Steps, memory_at}
+use Rattle.crash_core.specs.Standing.{HasBatch, share_for, place_for, cached_in, batched_in, no_superblock, no_block, anchored, split_in, cutting_in, classed_in, class_in, large_in, count_in, IsShare, HasSuperblocks, IsKept, Keeps, Steps, memory_at}
 use Rattle.crash_core.proofs.SoundLemmas.{in_table}
 use Rattle.crash_core.proofs.PlaceLemmas.{index_at}
 use Rattle.crash_core.proofs.TotalLemmas.{eq-eqb-one, ne-eqb-none}
 use Rattle.crash_core.proofs.StandingLemmas.{step_done, step_not, may_step, memory_in, IsSameHeap}
 use Rattle.crash_core.proofs.ShareLemmas.{shares_mine, shares_theirs, share_alone}
 use Rattle.crash_core.proofs.ClaimLemmas.{without_at, without_off}
-use Rattle.crash_core.proofs.PushDecision.{refused}
 
 -- the superblocks of a seat after a store to the anchor of one
 anchored_kept : (owners : List SuperblockOwner) (i d value : ℕ) (raw split cutting : List ℕ) (classed : List Claim) (large : List Span) (base : View) → base.raw ≡ raw → base.split ≡ split → base.cutting ≡ cutting → base.classed ≡ classed → base.large ≡ large
@@ -45,23 +43,23 @@ anchored_kept owners i d zero raw split cutting classed large base a b e f g les
       is_large = subst (λ l. times_large n l ≡ large_in (share_for i (get_or owners n no_superblock))) (sym g) o.is_large;
       count = subst (λ l. span_count n l ≡ count_in (share_for i (get_or owners n no_superblock))) (sym g) o.count;
     }) where
-  now : (x : Share) → IsShare d x raw split cutting classed large → IsShare d share.Raw (d ∷ without d base.raw) (without d base.split) (without d base.cutting) base.classed base.large
-  now x o = let z = zeros x o in record {
-    is_raw = (let one = eq-eqb-one d d refl in let w = without_at d base.raw (let q = ap (times d) a in let r = z.0 in omega arith) in omega arith);
-    is_split = without_at d base.split (let q = ap (times d) b in let r = z.1 in omega arith);
-    is_cutting = without_at d base.cutting (let q = ap (times d) e in let r = z.2 in omega arith);
-    is_classed = ap (times_classed d) f ∙ z.3;
-    class = ap (claim_class d) f ∙ z.4;
-    is_large = ap (times_large d) g ∙ z.5;
-    count = ap (span_count d) g ∙ z.6;
-  } where
-    zeros : (x : Share) → IsShare d x raw split cutting classed large → (times d raw ≤ 1) × (times d split ≤ 1) × (times d cutting ≤ 1) × (times_classed d classed ≡ 0) × (claim_class d classed ≡ 0) × (times_large d large ≡ 0) × (span_count d large ≡ 0)
-    zeros share.Nothing o = absurd (let p = o.is_raw in let q = o.is_split in let r = o.is_cutting in omega arith)
-    zeros share.Raw o = let p = o.is_raw in let q = o.is_split in let r = o.is_cutting in (omega arith, omega arith, omega arith, o.is_classed, o.class, o.is_large, o.count)
-    zeros share.Split o = let p = o.is_raw in let q = o.is_split in let r = o.is_cutting in (omega arith, omega arith, omega arith, o.is_classed, o.class, o.is_large, o.count)
-    zeros share.Cutting o = let p = o.is_raw in let q = o.is_split in let r = o.is_cutting in (omega arith, omega arith, omega arith, o.is_classed, o.class, o.is_large, o.count)
-    zeros (share.Classed class) o = absurd (let p = o.is_raw in let q = o.is_split in let r = o.is_cutting in omega arith)
-    zeros (share.Large count) o = absurd (let p = o.is_raw in let q = o.is_split in let r = o.is_cutting in omega arith)
+      now : (x : Share) → IsShare d x raw split cutting classed large → IsShare d share.Raw (d ∷ without d base.raw) (without d base.split) (without d base.cutting) base.classed base.large
+      now x o = let z = zeros x o in record {
+        is_raw = (let one = eq-eqb-one d d refl in let w = without_at d base.raw (let q = ap (times d) a in let r = z.0 in omega arith) in omega arith);
+        is_split = without_at d base.split (let q = ap (times d) b in let r = z.1 in omega arith);
+        is_cutting = without_at d base.cutting (let q = ap (times d) e in let r = z.2 in omega arith);
+        is_classed = ap (times_classed d) f ∙ z.3;
+        class = ap (claim_class d) f ∙ z.4;
+        is_large = ap (times_large d) g ∙ z.5;
+        count = ap (span_count d) g ∙ z.6;
+      } where
+        zeros : (x : Share) → IsShare d x raw split cutting classed large → (times d raw ≤ 1) × (times d split ≤ 1) × (times d cutting ≤ 1) × (times_classed d classed ≡ 0) × (claim_class d classed ≡ 0) × (times_large d large ≡ 0) × (span_count d large ≡ 0)
+        zeros share.Nothing o = absurd (let p = o.is_raw in let q = o.is_split in let r = o.is_cutting in omega arith)
+        zeros share.Raw o = let p = o.is_raw in let q = o.is_split in let r = o.is_cutting in (omega arith, omega arith, omega arith, o.is_classed, o.class, o.is_large, o.count)
+        zeros share.Split o = let p = o.is_raw in let q = o.is_split in let r = o.is_cutting in (omega arith, omega arith, omega arith, o.is_classed, o.class, o.is_large, o.count)
+        zeros share.Cutting o = let p = o.is_raw in let q = o.is_split in let r = o.is_cutting in (omega arith, omega arith, omega arith, o.is_classed, o.class, o.is_large, o.count)
+        zeros (share.Classed class) o = absurd (let p = o.is_raw in let q = o.is_split in let r = o.is_cutting in omega arith)
+        zeros (share.Large count) o = absurd (let p = o.is_raw in let q = o.is_split in let r = o.is_cutting in omega arith)
 anchored_kept owners i d (suc value) raw split cutting classed large base a b e f g less some old =
     shares_mine owners i d share.Cutting (λ n y. IsShare n y (without d base.raw) (without d base.split) (d ∷ without d base.cutting) base.classed base.large) less
     (now (share_for i (get_or owners d no_superblock)) (old d)) (λ n other. let o = old n in record {
@@ -73,23 +71,23 @@ anchored_kept owners i d (suc value) raw split cutting classed large base a b e 
       is_large = subst (λ l. times_large n l ≡ large_in (share_for i (get_or owners n no_superblock))) (sym g) o.is_large;
       count = subst (λ l. span_count n l ≡ count_in (share_for i (get_or owners n no_superblock))) (sym g) o.count;
     }) where
-  now : (x : Share) → IsShare d x raw split cutting classed large → IsShare d share.Cutting (without d base.raw) (without d base.split) (d ∷ without d base.cutting) base.classed base.large
-  now x o = let z = zeros x o in record {
-    is_raw = without_at d base.raw (let q = ap (times d) a in let r = z.0 in omega arith);
-    is_split = without_at d base.split (let q = ap (times d) b in let r = z.1 in omega arith);
-    is_cutting = (let one = eq-eqb-one d d refl in let w = without_at d base.cutting (let q = ap (times d) e in let r = z.2 in omega arith) in omega arith);
-    is_classed = ap (times_classed d) f ∙ z.3;
-    class = ap (claim_class d) f ∙ z.4;
-    is_large = ap (times_large d) g ∙ z.5;
-    count = ap (span_count d) g ∙ z.6;
-  } where
-    zeros : (x : Share) → IsShare d x raw split cutting classed large → (times d raw ≤ 1) × (times d split ≤ 1) × (times d cutting ≤ 1) × (times_classed d classed ≡ 0) × (claim_class d classed ≡ 0) × (times_large d large ≡ 0) × (span_count d large ≡ 0)
-    zeros share.Nothing o = absurd (let p = o.is_raw in let q = o.is_split in let r = o.is_cutting in omega arith)
-    zeros share.Raw o = let p = o.is_raw in let q = o.is_split in let r = o.is_cutting in (omega arith, omega arith, omega arith, o.is_classed, o.class, o.is_large, o.count)
-    zeros share.Split o = let p = o.is_raw in let q = o.is_split in let r = o.is_cutting in (omega arith, omega arith, omega arith, o.is_classed, o.class, o.is_large, o.count)
-    zeros share.Cutting o = let p = o.is_raw in let q = o.is_split in let r = o.is_cutting in (omega arith, omega arith, omega arith, o.is_classed, o.class, o.is_large, o.count)
-    zeros (share.Classed class) o = absurd (let p = o.is_raw in let q = o.is_split in let r = o.is_cutting in omega arith)
-    zeros (share.Large count) o = absurd (let p = o.is_raw in let q = o.is_split in let r = o.is_cutting in omega arith)
+      now : (x : Share) → IsShare d x raw split cutting classed large → IsShare d share.Cutting (without d base.raw) (without d base.split) (d ∷ without d base.cutting) base.classed base.large
+      now x o = let z = zeros x o in record {
+        is_raw = without_at d base.raw (let q = ap (times d) a in let r = z.0 in omega arith);
+        is_split = without_at d base.split (let q = ap (times d) b in let r = z.1 in omega arith);
+        is_cutting = (let one = eq-eqb-one d d refl in let w = without_at d base.cutting (let q = ap (times d) e in let r = z.2 in omega arith) in omega arith);
+        is_classed = ap (times_classed d) f ∙ z.3;
+        class = ap (claim_class d) f ∙ z.4;
+        is_large = ap (times_large d) g ∙ z.5;
+        count = ap (span_count d) g ∙ z.6;
+      } where
+        zeros : (x : Share) → IsShare d x raw split cutting classed large → (times d raw ≤ 1) × (times d split ≤ 1) × (times d cutting ≤ 1) × (times_classed d classed ≡ 0) × (claim_class d classed ≡ 0) × (times_large d large ≡ 0) × (span_count d large ≡ 0)
+        zeros share.Nothing o = absurd (let p = o.is_raw in let q = o.is_split in let r = o.is_cutting in omega arith)
+        zeros share.Raw o = let p = o.is_raw in let q = o.is_split in let r = o.is_cutting in (omega arith, omega arith, omega arith, o.is_classed, o.class, o.is_large, o.count)
+        zeros share.Split o = let p = o.is_raw in let q = o.is_split in let r = o.is_cutting in (omega arith, omega arith, omega arith, o.is_classed, o.class, o.is_large, o.count)
+        zeros share.Cutting o = let p = o.is_raw in let q = o.is_split in let r = o.is_cutting in (omega arith, omega arith, omega arith, o.is_classed, o.class, o.is_large, o.count)
+        zeros (share.Classed class) o = absurd (let p = o.is_raw in let q = o.is_split in let r = o.is_cutting in omega arith)
+        zeros (share.Large count) o = absurd (let p = o.is_raw in let q = o.is_split in let r = o.is_cutting in omega arith)
 
 plain_may : (m : Memory) (v : View) (cell : Cell) (value : ℕ) → IsPlain cell → MayStore m v cell value
 plain_may m v used_cell value is = absurd is
@@ -161,8 +159,14 @@ module _ (c : CoreState) (k : Setup) (views : List View) (i : ℕ) (v : View) (t
     plainly = record c { words = with_item c.words word value; seats = with_item c.seats i (record t { ticket = None }) }
 
     kept_base : IsKept plainly i (record t { ticket = None }) base
-    kept_base = record { notes = (let n = kept.notes in record { ticket = refl; stopped = n.stopped; seen_used = n.seen_used; seen_head = n.seen_head; seen_link = n.seen_link; seen_anchor = n.seen_anchor });
-        caches = kept.caches; batch = kept.batch; blocks = kept.blocks; superblocks = kept.superblocks; roots = kept.roots }
+    kept_base = record {
+      notes = (let n = kept.notes in record { ticket = refl; stopped = n.stopped; seen_used = n.seen_used; seen_head = n.seen_head; seen_link = n.seen_link; seen_anchor = n.seen_anchor });
+      caches = kept.caches;
+      batch = kept.batch;
+      blocks = kept.blocks;
+      superblocks = kept.superblocks;
+      roots = kept.roots;
+    }
 
     others_base : (j : ℕ) (s : Seat) (u : View) → j ≢ i → j < length views → get_or views j u ≡ u → IsKept c j s u → IsKept plainly j s u
     others_base j s u other less at_u h = record { notes = h.notes; caches = h.caches; batch = h.batch; blocks = h.blocks; superblocks = h.superblocks; roots = h.roots }
@@ -188,11 +192,15 @@ module _ (c : CoreState) (k : Setup) (views : List View) (i : ℕ) (v : View) (t
   data_stored word value b is ticket own may b_is = store_as word value (data_cell word) is (record c { words = with_item c.words word value; seats = with_item c.seats i (record t { ticket = None; batch = b }) })
       (record t { ticket = None; batch = b }) ticket own may refl refl
       (record { capacity = refl; budget = refl; blocks = refl; superblocks = refl; roots = refl }) going
-      (record { notes = (let n = kept.notes in record { ticket = refl; stopped = n.stopped; seen_used = n.seen_used; seen_head = n.seen_head; seen_link = n.seen_link; seen_anchor = n.seen_anchor });
+      (record {
+        notes = (let n = kept.notes in record { ticket = refl; stopped = n.stopped; seen_used = n.seen_used; seen_head = n.seen_head; seen_link = n.seen_link; seen_anchor = n.seen_anchor });
         caches = kept.caches;
         batch = subst (λ g. HasBatch g (record v.batch { linked = cond (nat_eq word (last_of v.batch.blocks)) false v.batch.linked })) (sym b_is)
-          (let o = kept.batch in record { descriptor = o.descriptor; class = o.class; first = o.first; last = o.last; count = o.count; linked = ap₂ (λ n l. cond (nat_eq word n) false l) o.last o.linked });
-        blocks = kept.blocks; superblocks = kept.superblocks; roots = kept.roots })
+            (let o = kept.batch in record { descriptor = o.descriptor; class = o.class; first = o.first; last = o.last; count = o.count; linked = ap₂ (λ n l. cond (nat_eq word n) false l) o.last o.linked });
+        blocks = kept.blocks;
+        superblocks = kept.superblocks;
+        roots = kept.roots;
+      })
       (λ j s u other less at_u h. record { notes = h.notes; caches = h.caches; batch = h.batch; blocks = h.blocks; superblocks = h.superblocks; roots = h.roots })
 
   pub anchor_stored : (word value d : ℕ) (x : Share) → cell_at c.geometry.capacity word ≡ anchor_cell d → d < c.geometry.capacity → IsThere v.ticket → IsOwn v (cell_at v.setup.capacity word) → MayAnchor (memory_in c k) v d value → x ≡ anchored value
@@ -200,34 +208,46 @@ module _ (c : CoreState) (k : Setup) (views : List View) (i : ℕ) (v : View) (t
   anchor_stored word value d x is less ticket own may x_is = store_as word value (anchor_cell d) is c' (record t { ticket = None }) ticket own may refl refl
       (record { capacity = refl; budget = refl; blocks = refl; superblocks = length-set c.superblocks.items d (record { seat = i; share = x }); roots = refl })
       (anchored_going (base word value (anchor_cell d) is) d value ∙ going) (mine value x_is)
-      (λ j s u other less_j at_u h. record { notes = h.notes; caches = h.caches; batch = h.batch; blocks = h.blocks;
+      (λ j s u other less_j at_u h. record {
+        notes = h.notes;
+        caches = h.caches;
+        batch = h.batch;
+        blocks = h.blocks;
         superblocks = shares_theirs c.superblocks.items i j d x (λ e y. IsShare e y u.raw u.split u.cutting u.classed u.large) long other (share_alone i j (get_or c.superblocks.items d no_superblock) other mine_share) h.superblocks;
-        roots = h.roots }) where
-    c' : CoreState
-    c' = record c { words = with_item c.words word value; superblocks = with_item c.superblocks d (record { seat = i; share = x }); seats = with_item c.seats i (record t { ticket = None }) }
+        roots = h.roots;
+      }) where
+        c' : CoreState
+        c' = record c { words = with_item c.words word value; superblocks = with_item c.superblocks d (record { seat = i; share = x }); seats = with_item c.seats i (record t { ticket = None }) }
 
-    long : d < length c.superblocks.items
-    long = let n = keeps.superblocks in let g = keeps.capacity in omega arith
+        long : d < length c.superblocks.items
+        long = let n = keeps.superblocks in let g = keeps.capacity in omega arith
 
-    has_raw : 0 < times d v.raw + times d v.split + times d v.cutting
-    has_raw = subst (λ y. 0 < times_own v y) (ap (λ n. cell_at n word) (cap ∙ keeps.capacity) ∙ is) own
+        has_raw : 0 < times d v.raw + times d v.split + times d v.cutting
+        has_raw = subst (λ y. 0 < times_own v y) (ap (λ n. cell_at n word) (cap ∙ keeps.capacity) ∙ is) own
 
-    mine_share : share_for i (get_or c.superblocks.items d no_superblock) ≡ share.Nothing → ⊥
-    mine_share none = let o = subst (λ y. IsShare d y v.raw v.split v.cutting v.classed v.large) none (kept.superblocks d) in
-        let p = o.is_raw in let q = o.is_split in let r = o.is_cutting in let h = has_raw in absurd (omega arith)
+        mine_share : share_for i (get_or c.superblocks.items d no_superblock) ≡ share.Nothing → ⊥
+        mine_share none = let o = subst (λ y. IsShare d y v.raw v.split v.cutting v.classed v.large) none (kept.superblocks d) in
+            let p = o.is_raw in let q = o.is_split in let r = o.is_cutting in let h = has_raw in absurd (omega arith)
 
-    mine : (n : ℕ) → x ≡ anchored n → IsKept c' i (record t { ticket = None }) (stored_anchor (base word value (anchor_cell d) is) d n)
-    mine zero e = record { notes = (let n = kept.notes in record { ticket = refl; stopped = n.stopped; seen_used = n.seen_used; seen_head = n.seen_head; seen_link = n.seen_link; seen_anchor = n.seen_anchor });
-      caches = kept.caches; batch = kept.batch; blocks = kept.blocks;
-      superblocks = subst (λ y. HasSuperblocks (set c.superblocks.items d (record { seat = i; share = y })) i (d ∷ without d v.raw) (without d v.split) (without d v.cutting) v.classed v.large) (sym e)
-          (anchored_kept c.superblocks.items i d zero v.raw v.split v.cutting v.classed v.large (base word value (anchor_cell d) is) refl refl refl refl refl long has_raw kept.superblocks);
-      roots = kept.roots }
-    mine (suc m) e = record { notes = (let n = kept.notes in record { ticket = refl; stopped = n.stopped; seen_used = n.seen_used; seen_head = n.seen_head; seen_link = n.seen_link; seen_anchor = n.seen_anchor });
-      caches = kept.caches; batch = kept.batch; blocks = kept.blocks;
-      superblocks = subst (λ y. HasSuperblocks (set c.superblocks.items d (record { seat = i; share = y })) i (without d v.raw) (without d v.split) (d ∷ without d v.cutting) v.classed v.large) (sym e)
-          (anchored_kept c.superblocks.items i d (suc m) v.raw v.split v.cutting v.classed v.large (base word value (anchor_cell d) is) refl refl refl refl refl long has_raw kept.superblocks);
-      roots = kept.roots }
-
+        mine : (n : ℕ) → x ≡ anchored n → IsKept c' i (record t { ticket = None }) (stored_anchor (base word value (anchor_cell d) is) d n)
+        mine zero e = record {
+          notes = (let n = kept.notes in record { ticket = refl; stopped = n.stopped; seen_used = n.seen_used; seen_head = n.seen_head; seen_link = n.seen_link; seen_anchor = n.seen_anchor });
+          caches = kept.caches;
+          batch = kept.batch;
+          blocks = kept.blocks;
+          superblocks = subst (λ y. HasSuperblocks (set c.superblocks.items d (record { seat = i; share = y })) i (d ∷ without d v.raw) (without d v.split) (without d v.cutting) v.classed v.large) (sym e)
+              (anchored_kept c.superblocks.items i d zero v.raw v.split v.cutting v.classed v.large (base word value (anchor_cell d) is) refl refl refl refl refl long has_raw kept.superblocks);
+          roots = kept.roots;
+        }
+        mine (suc m) e = record {
+          notes = (let n = kept.notes in record { ticket = refl; stopped = n.stopped; seen_used = n.seen_used; seen_head = n.seen_head; seen_link = n.seen_link; seen_anchor = n.seen_anchor });
+          caches = kept.caches;
+          batch = kept.batch;
+          blocks = kept.blocks;
+          superblocks = subst (λ y. HasSuperblocks (set c.superblocks.items d (record { seat = i; share = y })) i (without d v.raw) (without d v.split) (d ∷ without d v.cutting) v.classed v.large) (sym e)
+              (anchored_kept c.superblocks.items i d (suc m) v.raw v.split v.cutting v.classed v.large (base word value (anchor_cell d) is) refl refl refl refl refl long has_raw kept.superblocks);
+          roots = kept.roots;
+        }
 
 module _ (c : CoreState) (k : Setup) (views : List View) (i : ℕ) (v : View) (t : Seat) (keeps : Keeps c k views) (below : i < length views) (at : get_or views i v ≡ v)
     (at_t : get_or c.seats.items i t ≡ t) where

@@ -1,9 +1,9 @@
 -- The words of a table as they are read: a value that is there is the word of its place, and put back it changes nothing.
-use Rattle.std.proofs.Common.{◌≡◌, ℕ, zero, suc, ◌+◌, ◌*◌, ◌<◌, ◌≤◌, true, cond, List, [], ◌∷◌, get_or, set, length, refl, ap, sym, subst, ◌∙◌, arith}
+use Rattle.std.proofs.Common.{◌≡◌, ℕ, zero, suc, ◌+◌, ◌<◌, true, List, [], ◌∷◌, get_or, set, length, refl, ap, ◌∙◌, arith}
 use Rattle.std.proofs.lemmas.List.{set-get_or}
 use Rattle.heap_model.specs.Geometry.{image_words}
 use Rattle.crash_core.specs.Cells.{is_cell, index_of}
-use Rattle.crash_core.specs.Memory.{Memory, Place, volatile_at, durable_at, tickets, read, memory_of, table_index}
+use Rattle.crash_core.specs.Memory.{Place, volatile_at, durable_at, tickets, read, memory_of, table_index}
 use Rattle.crash_core.proofs.PlaceLemmas.{pick}
 use Rattle.crash_core.proofs.TableLemmas.{is_place}
 

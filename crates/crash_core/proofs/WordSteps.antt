@@ -1,26 +1,26 @@
 -- The steps of the core on a seat's own words, and its draws.
-use Rattle.std.proofs.Common.{◌≡◌, ◌≢◌, ℕ, ◌+◌, ◌*◌, ◌<◌, ◌≤◌, inl, inr, true, false, cond, nat_lt, nat_eq, List, [], ◌∷◌, get_or, set, length, Option, None, Some, refl, ap, ap₂, sym, subst, ◌∙◌, lt-ltb, arith}
+use Rattle.std.proofs.Common.{◌≡◌, ℕ, ◌+◌, ◌*◌, ◌<◌, ◌≤◌, true, nat_lt, List, [], ◌∷◌, get_or, set, length, Option, None, Some, refl, ap, ap₂, sym, subst, ◌∙◌, lt-ltb, arith}
 use Rattle.std.proofs.lemmas.List.{set-get_or}
 use Rattle.std.specs.Vec.{with_item}
-use Rattle.heap_model.specs.Geometry.{image_words, largest_capacity_fits}
+use Rattle.heap_model.specs.Geometry.{image_words}
 use Rattle.heap_model.specs.Counting.{total}
-use Rattle.crash_core.specs.declared.answer.StepAnswer.TheVariants.{Done, Stopped, NotNow}
-use Rattle.crash_core.specs.declared.event.Event.TheVariants.{Tick, Load, Store, Settle}
+use Rattle.crash_core.specs.declared.answer.StepAnswer.TheVariants.{Done, Stopped}
+use Rattle.crash_core.specs.declared.event.Event.TheVariants.{Tick, Load, Settle}
 use Rattle.crash_core.specs.declared.owners.Seat.{Seat}
 use Rattle.crash_core.specs.declared.state.CoreState.{CoreState}
-use Rattle.crash_core.specs.Cells.{Cell, cell_at, is_cell, index_of}
-use Rattle.crash_core.specs.Memory.{Memory, volatile_at, durable_at, tickets, memory_of}
+use Rattle.crash_core.specs.Cells.{cell_at, is_cell, index_of}
+use Rattle.crash_core.specs.Memory.{volatile_at}
 use Rattle.crash_core.specs.View.{Setup, View, one_if_some}
 use Rattle.crash_core.specs.Effects.{drew, stopped}
-use Rattle.crash_core.specs.Guards.{IsThere, IsOwn, MayStep}
+use Rattle.crash_core.specs.Guards.{IsThere, IsOwn}
 use Rattle.crash_core.specs.Sound.{Good}
-use Rattle.crash_core.specs.Steps.{seat_after, state_after}
-use Rattle.crash_core.specs.Standing.{IsKept, IsCore, Keeps, Steps, steps_stopped, StandsFor, HasNotes, snapshot, state_of}
+use Rattle.crash_core.specs.Steps.{seat_after}
+use Rattle.crash_core.specs.Standing.{IsKept, IsCore, Keeps, Steps, steps_stopped, HasNotes}
 use Rattle.crash_core.proofs.StepLemmas.{parts}
 use Rattle.crash_core.proofs.SoundLemmas.{in_table}
 use Rattle.crash_core.proofs.PlaceLemmas.{pick, skip, not-lt, index_at, index_within}
-use Rattle.crash_core.proofs.StandingLemmas.{step_done, step_noted, step_not, may_step, memory_in, stands_after}
-use Rattle.crash_core.proofs.WordLemmas.{entry_is, entry_there, read_is, put_back}
+use Rattle.crash_core.proofs.StandingLemmas.{step_done, step_noted, may_step, memory_in, stands_after}
+use Rattle.crash_core.proofs.WordLemmas.{entry_is, read_is, put_back}
 
 stopped_most : (views : List View) → total (λ (v : View). one_if_some v.stopped) views ≤ length views
 stopped_most [] = omega arith
@@ -70,8 +70,14 @@ module _ (c : CoreState) (k : Setup) (views : List View) (i : ℕ) (v : View) (t
       (ap₂ (λ n x. set c.words.items n x) (let e = own_index word own in let g = keeps.capacity in omega arith) found_is)
       (sym (ap (set c.seats.items i) (sym at_t) ∙ set-get_or c.seats.items i t))
       (record { capacity = refl; budget = refl; blocks = refl; superblocks = refl; roots = refl })
-      (record { notes = (let n = kept.notes in record { ticket = n.ticket; stopped = n.stopped; seen_used = n.seen_used; seen_head = n.seen_head; seen_link = n.seen_link; seen_anchor = n.seen_anchor });
-        caches = kept.caches; batch = kept.batch; blocks = kept.blocks; superblocks = kept.superblocks; roots = kept.roots })
+      (record {
+        notes = (let n = kept.notes in record { ticket = n.ticket; stopped = n.stopped; seen_used = n.seen_used; seen_head = n.seen_head; seen_link = n.seen_link; seen_anchor = n.seen_anchor });
+        caches = kept.caches;
+        batch = kept.batch;
+        blocks = kept.blocks;
+        superblocks = kept.superblocks;
+        roots = kept.roots;
+      })
       (λ j s u other less at_u h. record { notes = h.notes; caches = h.caches; batch = h.batch; blocks = h.blocks; superblocks = h.superblocks; roots = h.roots }) where
         found_is : found ≡ (memory_in c k).volatile (cell_at v.setup.capacity word)
         found_is = is ∙ entry_is c.words.items word found 0 (let l = keeps.sound.long in let b = own_below word own in let g = keeps.capacity in omega arith)
@@ -95,8 +101,8 @@ module _ (c : CoreState) (k : Setup) (views : List View) (i : ℕ) (v : View) (t
         (ap (λ (y : View). y.stopped) drawn ∙ going) words_are
         (subst (HasNotes (record t { ticket = Some ticket })) (sym drawn) (let n = kept.notes in record { ticket = ap Some found; stopped = n.stopped; seen_used = n.seen_used; seen_head = n.seen_head; seen_link = n.seen_link; seen_anchor = n.seen_anchor }))
         refl refl (ap parts drawn) where
-      drawn : seat_after (memory_in c k) v (Tick None) ≡ drew v (memory_in c k).drawn
-      drawn = pick (nat_lt (memory_in c k).drawn v.setup.budget) (drew v (memory_in c k).drawn) (stopped v (memory_in c k).drawn) (lt-ltb (memory_in c k).drawn v.setup.budget (let f = found in let b = budget_is in omega arith))
+          drawn : seat_after (memory_in c k) v (Tick None) ≡ drew v (memory_in c k).drawn
+          drawn = pick (nat_lt (memory_in c k).drawn v.setup.budget) (drew v (memory_in c k).drawn) (stopped v (memory_in c k).drawn) (lt-ltb (memory_in c k).drawn v.setup.budget (let f = found in let b = budget_is in omega arith))
 
     pub stop : c.budget ≤ ticket → Steps c (record c { words = with_item c.words at_word (ticket + 1); seats = with_item c.seats i (record t { ticket = None; stopped = Some ticket }) }) k views i v (Tick None) (Stopped ticket)
     stop past = steps_stopped ticket (record { may = may_step (memory_in c k) v (Tick None) going tt tt; as_seen = tt })
@@ -105,13 +111,18 @@ module _ (c : CoreState) (k : Setup) (views : List View) (i : ℕ) (v : View) (t
         (record { capacity = refl; budget = refl; blocks = refl; superblocks = refl; roots = refl })
         (subst (IsKept c' i t') (sym at_end) (record {
           notes = (let n = kept.notes in record { ticket = refl; stopped = ap Some found; seen_used = n.seen_used; seen_head = n.seen_head; seen_link = n.seen_link; seen_anchor = n.seen_anchor });
-          caches = kept.caches; batch = kept.batch; blocks = kept.blocks; superblocks = kept.superblocks; roots = kept.roots }))
+          caches = kept.caches;
+          batch = kept.batch;
+          blocks = kept.blocks;
+          superblocks = kept.superblocks;
+          roots = kept.roots;
+        }))
         (λ j s u other less at_u h. record { notes = h.notes; caches = h.caches; batch = h.batch; blocks = h.blocks; superblocks = h.superblocks; roots = h.roots })) where
-      t' : Seat
-      t' = record t { ticket = None; stopped = Some ticket }
+          t' : Seat
+          t' = record t { ticket = None; stopped = Some ticket }
 
-      c' : CoreState
-      c' = record c { words = with_item c.words at_word (ticket + 1); seats = with_item c.seats i t' }
+          c' : CoreState
+          c' = record c { words = with_item c.words at_word (ticket + 1); seats = with_item c.seats i t' }
 
-      at_end : seat_after (memory_in c k) v (Tick None) ≡ stopped v (memory_in c k).drawn
-      at_end = skip (nat_lt (memory_in c k).drawn v.setup.budget) (drew v (memory_in c k).drawn) (stopped v (memory_in c k).drawn) (not-lt (memory_in c k).drawn v.setup.budget (let f = found in let b = budget_is in omega arith))
+          at_end : seat_after (memory_in c k) v (Tick None) ≡ stopped v (memory_in c k).drawn
+          at_end = skip (nat_lt (memory_in c k).drawn v.setup.budget) (drew v (memory_in c k).drawn) (stopped v (memory_in c k).drawn) (not-lt (memory_in c k).drawn v.setup.budget (let f = found in let b = budget_is in omega arith))

@@ -1,5 +1,5 @@
 -- What a word is, as far as it may be a seat's own.
-use Rattle.std.specs.Prelude.{◌≡◌, ℕ, ◌+◌, ◌*◌, ◌<◌, ◌≤◌}
+use Rattle.std.specs.Prelude.{◌≡◌, ℕ, ◌<◌, ◌≤◌}
 use Rattle.heap_model.specs.Geometry.{roots, start_word, image_words}
 use Rattle.crash_core.specs.declared.part.Part.{Part}
 use Rattle.crash_core.specs.declared.part.Part.TheVariants as part

@@ -1,7 +1,7 @@
 -- What the core keeps of a state: the words themselves; by seat its tickets and snapshots, and the ends of its caches and of its batch; and whose each block, superblock and root is.
-use Rattle.std.specs.Prelude.{◌≡◌, ◌≢◌, ◌⊎◌, ℕ, zero, suc, ◌+◌, ◌*◌, ◌<◌, ◌≤◌, ◌↔◌, Bool, true, cond, nat_eq, List, get_or, set, length, Option, None, Some}
+use Rattle.std.specs.Prelude.{◌≡◌, ◌≢◌, ◌⊎◌, ℕ, zero, suc, ◌+◌, ◌<◌, ◌≤◌, ◌↔◌, Bool, true, cond, nat_eq, List, get_or, set, length, Option, None, Some}
 use Rattle.heap_model.specs.Counting.{times, total, one_if}
-use Rattle.heap_model.specs.Geometry.{lists, roots, image_words, largest_capacity}
+use Rattle.heap_model.specs.Geometry.{lists, roots, image_words}
 use Rattle.crash_core.specs.declared.answer.StepAnswer.{StepAnswer}
 use Rattle.crash_core.specs.declared.answer.StepAnswer.TheVariants.{Done, Stopped, NotNow}
 use Rattle.crash_core.specs.declared.event.Event.{Event}
@@ -22,7 +22,7 @@ use Rattle.crash_core.specs.View.{Setup, View, Span, Claim, Batch, Snapshot, of_
 use Rattle.crash_core.specs.Effects.{first_of, last_of, claim_class, span_count}
 use Rattle.crash_core.specs.Guards.{HasTicketFor, MayDo}
 use Rattle.crash_core.specs.Sound.{Sound}
-use Rattle.crash_core.specs.Steps.{State, StepsTo, state_after, seat_after}
+use Rattle.crash_core.specs.Steps.{State, state_after, seat_after}
 
 -- where seat i has the block
 abbrev pub place_for : ℕ → BlockOwner → BlockPlace

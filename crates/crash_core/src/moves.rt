@@ -48,10 +48,7 @@ pub(crate) fn alloc(core: &mut CoreState, seat: usize, class: u64)
         first,
         count: cache.count - 1,
     };
-    core.seats[seat] = Seat {
-        caches,
-        ..notes
-    };
+    core.seats[seat] = Seat { caches, ..notes };
 }
 
 /// The class of a held block.
@@ -111,10 +108,7 @@ pub(crate) fn free(core: &mut CoreState, seat: usize, block: u64)
         first: block,
         count: cache.count + 1,
     };
-    core.seats[seat] = Seat {
-        caches,
-        ..notes
-    };
+    core.seats[seat] = Seat { caches, ..notes };
 }
 
 /// Whether the first block of the cache may go behind the batch: the batch is empty, or of the

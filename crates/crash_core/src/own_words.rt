@@ -22,7 +22,9 @@ pub(crate) fn part_at(geometry: Geometry, word: u64) -> Part
         return Part::Shared;
     }
     if word < FIXED_WORDS {
-        return Part::Root { i: word - ROOT_WORD };
+        return Part::Root {
+            i: word - ROOT_WORD,
+        };
     }
     if word >= geometry.length() {
         return Part::Shared;

@@ -15,7 +15,11 @@ pub(crate) fn share(core: &CoreState, seat: usize, d: u64) -> Share
         return Share::Nothing;
     }
     let owner = core.superblocks[d as usize];
-    if owner.seat == seat { owner.share } else { Share::Nothing }
+    if owner.seat == seat {
+        owner.share
+    } else {
+        Share::Nothing
+    }
 }
 
 /// Where the seat has the block that begins at a word.
@@ -26,7 +30,11 @@ pub(crate) fn place(core: &CoreState, seat: usize, block: u64) -> BlockPlace
         return BlockPlace::Nowhere;
     }
     let owner = core.blocks[block as usize];
-    if owner.seat == seat { owner.place } else { BlockPlace::Nowhere }
+    if owner.seat == seat {
+        owner.place
+    } else {
+        BlockPlace::Nowhere
+    }
 }
 
 impl Share {
@@ -77,7 +85,8 @@ impl Share {
     {
         match self {
             Share::Classed { .. } => true,
-            Share::Nothing | Share::Raw | Share::Split | Share::Cutting | Share::Large { .. } => false,
+            Share::Nothing | Share::Raw | Share::Split | Share::Cutting | Share::Large { .. } =>
+                false,
         }
     }
 
@@ -98,7 +107,11 @@ impl Share {
     pub(crate) fn anchored(value: u64) -> Share
         ensures { result ≡ anchored value }
     {
-        if value == 0 { Share::Raw } else { Share::Cutting }
+        if value == 0 {
+            Share::Raw
+        } else {
+            Share::Cutting
+        }
     }
 
     /// How many superblocks the large block that begins there takes; 0 where none does.

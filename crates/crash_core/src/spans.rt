@@ -107,7 +107,11 @@ fn may_join(core: &CoreState, seat: usize, d: u64, n: u64, e: u64) -> bool
     requires n { n ≤ core.now.geometry.capacity }
     ensures { Decides core.now seat (λ m v. MayJoin m v d n e) result }
 {
-    let wanted = if e == d { LARGE_INFO + LARGE_STEP * n } else { 0 };
+    let wanted = if e == d {
+        LARGE_INFO + LARGE_STEP * n
+    } else {
+        0
+    };
     if info(core, e) != wanted {
         return false;
     }

@@ -1,4 +1,4 @@
-use Rattle.std.proofs.Common.{◌-◌, length, ◌≡◌}
+use Rattle.std.proofs.Common.{◌-◌}
 use Rattle.crash_core.specs.Standing.{IsRange}
 use Rattle.crash_core.proofs.fresh.give_range.Given as goal
 

@@ -1,4 +1,4 @@
-use Rattle.std.proofs.Common.{◌≡◌, ◌≢◌, ◌+◌, ◌-◌, refl, ap, sym, subst, ◌∙◌, arith}
+use Rattle.std.proofs.Common.{◌+◌, refl, sym, arith}
 use Rattle.crash_core.specs.declared.event.Event.TheVariants.{TakeFresh}
 use Rattle.crash_core.proofs.StandingLemmas.{step_not}
 use Rattle.crash_core.proofs.ReadLemmas.{lengths}

@@ -1,4 +1,4 @@
-use Rattle.std.proofs.Common.{◌≡◌, ◌≢◌, ◌+◌, ◌<◌, sym, ap, subst, ◌∙◌, arith}
+use Rattle.std.proofs.Common.{◌+◌, ◌<◌, sym, ap, subst, ◌∙◌, arith}
 use Rattle.crash_core.specs.Standing.{raw_in, split_in, classed_in}
 use Rattle.crash_core.proofs.KeptFacts.{unseen_head}
 use Rattle.crash_core.proofs.PushDecision.{refused, unsettled, beyond, undurable, unlinked, as_free_one, unclassed, full_one, of_class_one}

@@ -1,9 +1,5 @@
-use Rattle.std.proofs.Common.{◌≡◌, ◌≢◌, ◌+◌, ◌-◌, refl, ap, sym, subst, ◌∙◌, arith}
-use Rattle.heap_model.specs.Words.{head_first}
+use Rattle.std.proofs.Common.{◌+◌, ◌-◌, refl, ap, sym, arith}
 use Rattle.crash_core.specs.declared.event.Event.TheVariants.{Pop}
-use Rattle.crash_core.specs.Standing.{snapshot}
-use Rattle.crash_core.specs.Guards.{IsThere}
-use Rattle.crash_core.proofs.QuietLemmas.{not_there}
 use Rattle.crash_core.proofs.StandingLemmas.{step_not}
 use Rattle.crash_core.proofs.KeptFacts.{head_fits, pop_fits, unseen_head, unseen_link}
 use Rattle.crash_core.proofs.ListSteps.{pop, lost_pop}
@@ -30,18 +26,18 @@ returns-then-index-head c = λ k views v keeps below at going ticket.
 
 pub overflow_sub-d : goal.overflow_sub-d
 overflow_sub-d c = let f = pop_fits c.args.core.now c.args.seat c.index-notes.result.now c.in-Some.head c.in-Some-seen_link.link c.requires.core c.requires.seat (sym c.index-notes.ensures) c.in-Some.is c.in-Some-seen_link.is
-      (c.requires.ticket c.index-notes.result.now (sym c.index-notes.ensures)) in let some = f.some in let e = c.head_first-d.ensures in omega arith
+    (c.requires.ticket c.index-notes.result.now (sym c.index-notes.ensures)) in let some = f.some in let e = c.head_first-d.ensures in omega arith
 
 pub head_after_pop-requires : goal.head_after_pop-requires
 head_after_pop-requires c = (pop_fits c.args.core.now c.args.seat c.index-notes.result.now c.in-Some.head c.in-Some-seen_link.link c.requires.core c.requires.seat (sym c.index-notes.ensures) c.in-Some.is c.in-Some-seen_link.is
-      (c.requires.ticket c.index-notes.result.now (sym c.index-notes.ensures))).pops
+    (c.requires.ticket c.index-notes.result.now (sym c.index-notes.ensures))).pops
 
 pub index_mut-requires : goal.index_mut-requires
 index_mut-requires c = let f = head_fits c.args.core.now c.args.seat c.index-notes.result.now c.in-Some.head c.requires.core c.requires.seat (sym c.index-notes.ensures) c.in-Some.is in let l = f.list in let g = f.long in omega arith
 
 pub index_mut-requires-2 : goal.index_mut-requires-2
 index_mut-requires-2 c = let f = pop_fits c.args.core.now c.args.seat c.index-notes.result.now c.in-Some.head c.in-Some-seen_link.link c.requires.core c.requires.seat (sym c.index-notes.ensures) c.in-Some.is c.in-Some-seen_link.is
-      (c.requires.ticket c.index-notes.result.now (sym c.index-notes.ensures)) in let some = f.some in let e = c.head_first-d.ensures in
+    (c.requires.ticket c.index-notes.result.now (sym c.index-notes.ensures)) in let some = f.some in let e = c.head_first-d.ensures in
     let h = head_fits c.args.core.now c.args.seat c.index-notes.result.now c.in-Some.head c.requires.core c.requires.seat (sym c.index-notes.ensures) c.in-Some.is in let n = h.first in let s = h.superblocks in omega arith
 
 pub returns : goal.returns

@@ -1,4 +1,4 @@
-use Rattle.std.proofs.Common.{◌≡◌, ◌+◌, sym, subst, refl, arith}
+use Rattle.std.proofs.Common.{◌+◌, sym, arith}
 use Rattle.crash_core.proofs.LookSteps.{no_keep, keep_used}
 use Rattle.crash_core.proofs.looks.keep_used.Goals as goal
 

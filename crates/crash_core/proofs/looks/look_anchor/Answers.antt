@@ -1,4 +1,4 @@
-use Rattle.std.proofs.Common.{◌≡◌, refl, sym, ◌∙◌, true≢false}
+use Rattle.std.proofs.Common.{refl, sym, true≢false}
 use Rattle.crash_core.specs.declared.event.Event.TheVariants.{LookAnchor}
 use Rattle.crash_core.proofs.StandingLemmas.{step_not}
 use Rattle.crash_core.proofs.LookSteps.{look_anchor}

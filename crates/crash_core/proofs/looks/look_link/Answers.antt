@@ -16,12 +16,12 @@ returns-then-first-eq0 c = λ k views v keeps below at going ticket.
 pub link-requires : goal.link-requires
 link-requires c = let r = c.requires.core in let here = entry_there r.views c.args.seat (let n = r.keeps.seats in omega arith) in
     let f = first_below c.args.core.now r.setup r.views c.args.seat here.0 c.index-notes.result.now r.keeps (let n = r.keeps.seats in omega arith) here.1 (sym c.index-notes.ensures) c.in-Some.head c.in-Some.is
-      (subst (λ n. n ≡ 0 → ⊥) c.head_first-first.ensures c.if-first-eq0.false) in let e = c.head_first-first.ensures in omega arith
+    (subst (λ n. n ≡ 0 → ⊥) c.head_first-first.ensures c.if-first-eq0.false) in let e = c.head_first-first.ensures in omega arith
 
 pub index-word-requires : goal.index-word-requires
 index-word-requires c = let r = c.requires.core in let here = entry_there r.views c.args.seat (let n = r.keeps.seats in omega arith) in
     let f = first_below c.args.core.now r.setup r.views c.args.seat here.0 c.index-notes.result.now r.keeps (let n = r.keeps.seats in omega arith) here.1 (sym c.index-notes.ensures) c.in-Some.head c.in-Some.is
-      (subst (λ n. n ≡ 0 → ⊥) c.head_first-first.ensures c.if-first-eq0.false) in let h = c.head_first-first.ensures in
+    (subst (λ n. n ≡ 0 → ⊥) c.head_first-first.ensures c.if-first-eq0.false) in let h = c.head_first-first.ensures in
     let l = r.keeps.sound.long in let cap = r.keeps.capacity in let e = c.link.ensures in omega arith
 
 pub returns : goal.returns

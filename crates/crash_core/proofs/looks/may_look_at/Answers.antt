@@ -1,4 +1,4 @@
-use Rattle.std.proofs.Common.{◌≡◌, ◌+◌, ◌<◌, refl, ap, sym, subst, ◌∙◌, arith}
+use Rattle.std.proofs.Common.{◌+◌, ◌<◌, refl, ap, sym, subst, ◌∙◌, arith}
 use Rattle.crash_core.specs.Standing.{raw_in, split_in, classed_in}
 use Rattle.crash_core.proofs.PushDecision.{refused}
 use Rattle.crash_core.proofs.LookDecision.{anchor_beyond, anchor_settled, anchor_unbatched, anchor_batched}

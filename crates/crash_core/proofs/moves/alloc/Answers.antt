@@ -1,4 +1,4 @@
-use Rattle.std.proofs.Common.{◌≡◌, ◌*◌, get_or, refl, ap, sym, subst, ◌∙◌, arith}
+use Rattle.std.proofs.Common.{◌≡◌, refl, sym, ◌∙◌, arith}
 use Rattle.crash_core.proofs.WordLemmas.{entry_is}
 use Rattle.crash_core.proofs.MoveSteps.{alloc, alloc_fits, retold}
 use Rattle.crash_core.proofs.moves.alloc.Goals as goal

@@ -1,6 +1,4 @@
-use Rattle.std.proofs.Common.{◌≡◌, ◌<◌, ◌≤◌, ◌+◌, get_or, refl, ap, sym, subst, ◌∙◌, arith}
-use Rattle.crash_core.specs.Standing.{held_in}
-use Rattle.crash_core.proofs.PushDecision.{refused}
+use Rattle.std.proofs.Common.{◌≡◌, ◌<◌, sym, subst, ◌∙◌, arith}
 use Rattle.crash_core.proofs.ReadLemmas.{lengths}
 use Rattle.crash_core.proofs.WordLemmas.{entry_is, entry_there}
 use Rattle.crash_core.proofs.MoveSteps.{retold}

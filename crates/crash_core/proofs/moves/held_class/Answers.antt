@@ -1,10 +1,8 @@
-use Rattle.std.proofs.Common.{◌≡◌, ◌<◌, ◌≤◌, ◌+◌, ◌-◌, ◌/◌, get_or, refl, ap, sym, subst, ◌∙◌, arith}
+use Rattle.std.proofs.Common.{◌<◌, ◌-◌, ◌/◌, ap, sym, subst, ◌∙◌, arith}
 use Rattle.heap_model.specs.Sizes.{IsClass}
 use Rattle.crash_core.specs.Memory.{info}
-use Rattle.crash_core.specs.Standing.{held_in, memory_at}
-use Rattle.crash_core.proofs.PushDecision.{refused}
-use Rattle.crash_core.proofs.ReadLemmas.{lengths}
-use Rattle.crash_core.proofs.WordLemmas.{entry_is, entry_there}
+use Rattle.crash_core.specs.Standing.{memory_at}
+use Rattle.crash_core.proofs.WordLemmas.{entry_there}
 use Rattle.crash_core.proofs.FreeSteps.{held_range, held_is}
 use Rattle.crash_core.proofs.moves.held_class.Goals as goal
 

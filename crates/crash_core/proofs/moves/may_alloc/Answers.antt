@@ -1,4 +1,4 @@
-use Rattle.std.proofs.Common.{◌≡◌, sym, arith}
+use Rattle.std.proofs.Common.{sym, arith}
 use Rattle.crash_core.proofs.MoveSteps.{may_alloc}
 use Rattle.crash_core.proofs.moves.may_alloc.Goals as goal
 

@@ -1,9 +1,8 @@
-use Rattle.std.proofs.Common.{◌≡◌, ◌≢◌, ◌<◌, ◌≤◌, ◌+◌, ◌-◌, ◌*◌, ◌/◌, get_or, refl, ap, sym, subst, ◌∙◌, true≢false, arith}
+use Rattle.std.proofs.Common.{◌<◌, ◌-◌, ◌/◌, get_or, refl, ap, sym, subst, true≢false, arith}
 use Rattle.crash_core.proofs.PushDecision.{refused}
-use Rattle.crash_core.proofs.ReadLemmas.{lengths}
-use Rattle.crash_core.proofs.WordLemmas.{entry_is, entry_there}
-use Rattle.crash_core.proofs.MoveSteps.{alloc_fits, retold}
-use Rattle.crash_core.proofs.LiftSteps.{lift, lift_alloc, lift_allocs, lift_empty, lift_unlinked, lift_apart, lift_behind, last_range, batch_short}
+use Rattle.crash_core.proofs.WordLemmas.{entry_there}
+use Rattle.crash_core.proofs.MoveSteps.{alloc_fits}
+use Rattle.crash_core.proofs.LiftSteps.{lift_alloc, lift_empty, lift_unlinked, lift_apart, lift_behind, last_range}
 use Rattle.crash_core.proofs.moves.may_lift.Goals as goal
 
 pub returns-then-not-may_alloc : goal.returns-then-not-may_alloc

@@ -1,4 +1,3 @@
-use Rattle.std.proofs.Common.{◌≡◌, sym, ap, subst, ◌∙◌, arith}
 use Rattle.crash_core.specs.Cells.{data_cell}
 use Rattle.crash_core.proofs.WordLemmas.{entry_there}
 use Rattle.crash_core.proofs.OwnDecision.{own_is, own_shared, own_root, own_info, own_anchor, own_link}

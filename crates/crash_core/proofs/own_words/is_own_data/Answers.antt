@@ -1,5 +1,4 @@
-use Rattle.std.proofs.Common.{◌≡◌, ◌+◌, ◌-◌, ◌*◌, ◌/◌, ◌≤◌, refl, sym, ap, subst, ◌∙◌, arith}
-use Rattle.heap_model.specs.Geometry.{start_word}
+use Rattle.std.proofs.Common.{◌+◌, ◌-◌, ◌*◌, ◌/◌, refl, sym, ap, arith}
 use Rattle.heap_model.specs.Sizes.{IsClass, words_of_class, size_of}
 use Rattle.heap_model.proofs.SizeLemmas.{two_words}
 use Rattle.crash_core.proofs.PushDecision.{refused}

@@ -1,6 +1,6 @@
-use Rattle.std.proofs.Common.{◌≡◌, ◌+◌, refl, arith}
+use Rattle.std.proofs.Common.{◌+◌, refl, arith}
 use Rattle.crash_core.specs.Cells.{used_cell}
-use Rattle.crash_core.proofs.ReadLemmas.{lengths, reads_durable}
+use Rattle.crash_core.proofs.ReadLemmas.{reads_durable}
 use Rattle.crash_core.proofs.reads.durable_used.Goals as goal
 
 pub returns : goal.returns

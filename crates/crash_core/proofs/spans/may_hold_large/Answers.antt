@@ -1,10 +1,10 @@
-use Rattle.std.proofs.Common.{◌≡◌, ◌+◌, ◌≤◌, ◌∙◌, refl, sym, subst, true≢false, inl, inr, arith}
+use Rattle.std.proofs.Common.{refl, sym, subst, true≢false, inl, inr, arith}
 use Rattle.std.proofs.lemmas.Bool.{cases_eq}
 use Rattle.crash_core.specs.Memory.{memory_of}
 use Rattle.crash_core.specs.Standing.{MayJoin}
 use Rattle.crash_core.proofs.PushDecision.{refused}
 use Rattle.crash_core.proofs.WordLemmas.{entry_there}
-use Rattle.crash_core.proofs.JoinDecision.{large_none, large_past, joins, all_join, mark_low}
+use Rattle.crash_core.proofs.JoinDecision.{large_none, large_past, joins, all_join}
 use Rattle.crash_core.proofs.spans.may_hold_large.Goals as goal
 
 pub returns-then-n-eq0 : goal.returns-then-n-eq0
@@ -32,6 +32,6 @@ loop-e-preserved c = λ k views v keeps below at. (
 pub returns : goal.returns
 returns c = λ k views v keeps below at. (
   λ e. all_join c.args.core.now k views c.args.seat v (entry_there c.args.core.now.seats.items c.args.seat c.requires.seat).0 keeps below at (entry_there c.args.core.now.seats.items c.args.seat c.requires.seat).1 c.args.d c.args.n (let f = c.if-n-eq0.false in omega arith) (let e = c.durable_used-mark.ensures in let f = c.if-n-mark.false in let g = c.if-d-mark.false in omega arith)
-    (λ x low less. (c.loop-e.invariant k views v keeps below at).0 refl x low (let b = c.loop-e-test.false in omega arith)),
+      (λ x low less. (c.loop-e.invariant k views v keeps below at).0 refl x low (let b = c.loop-e-test.false in omega arith)),
   λ may. refl,
 )

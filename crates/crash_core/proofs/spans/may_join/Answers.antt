@@ -1,11 +1,10 @@
-use Rattle.std.proofs.Common.{◌≡◌, ◌+◌, ◌≤◌, ◌∙◌, cond, nat_eq, eq-eqb, refl, sym, subst, ap, arith}
+use Rattle.std.proofs.Common.{◌≡◌, ◌+◌, ◌∙◌, cond, nat_eq, eq-eqb, refl, sym, ap, arith}
 use Rattle.heap_model.specs.Words.{large_info}
 use Rattle.crash_core.proofs.PlaceLemmas.{pick, skip, not-eq}
 use Rattle.crash_core.specs.Standing.{raw_in, split_in}
 use Rattle.crash_core.proofs.PushDecision.{refused}
-use Rattle.crash_core.proofs.ReadLemmas.{lengths}
 use Rattle.crash_core.proofs.WordLemmas.{entry_there}
-use Rattle.crash_core.proofs.JoinDecision.{other_info, other_durable, unclaimed, join_split, join_raw}
+use Rattle.crash_core.proofs.JoinDecision.{unclaimed, join_split, join_raw}
 use Rattle.crash_core.proofs.spans.may_join.Goals as goal
 use Rattle.crash_core.proofs.spans.may_join.Goals.{then-e-d, else-e-d}
 

@@ -1,9 +1,8 @@
-use Rattle.std.proofs.Common.{◌≡◌, ◌≢◌, ◌<◌, ◌≤◌, ◌+◌, ◌-◌, ◌*◌, ◌/◌, ◌%◌, get_or, refl, ap, ap₂, sym, subst, ◌∙◌, true≢false, arith}
-use Rattle.crash_core.specs.Standing.{share_for, no_superblock, count_in, IsRange}
+use Rattle.std.proofs.Common.{◌-◌, ◌/◌, ◌%◌, get_or, ap, sym, ◌∙◌, arith}
+use Rattle.crash_core.specs.Standing.{share_for, no_superblock}
 use Rattle.crash_core.proofs.PushDecision.{refused}
-use Rattle.crash_core.proofs.WordLemmas.{entry_is, entry_there}
-use Rattle.crash_core.proofs.MoveSteps.{retold}
-use Rattle.crash_core.proofs.SplitSteps.{split_before, split_inside, split_there, split, split_fits, split_count}
+use Rattle.crash_core.proofs.WordLemmas.{entry_there}
+use Rattle.crash_core.proofs.SplitSteps.{split_before, split_inside, split_there}
 use Rattle.crash_core.proofs.spans.may_split.Goals as goal
 
 pub returns-then-block-start : goal.returns-then-block-start

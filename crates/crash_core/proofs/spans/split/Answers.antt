@@ -1,12 +1,11 @@
-use Rattle.std.proofs.Common.{◌≡◌, ◌≢◌, ◌<◌, ◌≤◌, ◌+◌, ◌-◌, ◌*◌, ◌/◌, ◌%◌, get_or, refl, ap, ap₂, sym, subst, ◌∙◌, true≢false, arith}
+use Rattle.std.proofs.Common.{◌≡◌, ◌-◌, ◌/◌, get_or, refl, ap, sym, subst, ◌∙◌, arith}
 use Rattle.crash_core.specs.declared.owners.Share.TheVariants as share
 use Rattle.crash_core.specs.Cells.{superblock_at}
 use Rattle.crash_core.specs.Effects.{cleared, span_count}
 use Rattle.crash_core.specs.Standing.{snapshot, share_for, no_superblock, count_in, IsRange}
-use Rattle.crash_core.proofs.PushDecision.{refused}
-use Rattle.crash_core.proofs.WordLemmas.{entry_is, entry_there}
+use Rattle.crash_core.proofs.WordLemmas.{entry_is}
 use Rattle.crash_core.proofs.MoveSteps.{retold}
-use Rattle.crash_core.proofs.SplitSteps.{split_before, split_inside, split_there, split, split_fits, split_count}
+use Rattle.crash_core.proofs.SplitSteps.{split, split_fits, split_count}
 use Rattle.crash_core.proofs.spans.split.Goals as goal
 
 pub overflow_sub-d : goal.overflow_sub-d

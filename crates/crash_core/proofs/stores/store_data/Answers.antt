@@ -1,12 +1,5 @@
-use Rattle.std.proofs.Common.{◌≡◌, ◌+◌, ◌<◌, refl, ap, sym, subst, ◌∙◌, true≢false, arith}
-use Rattle.crash_core.specs.declared.event.Event.TheVariants.{Store}
-use Rattle.crash_core.specs.Cells.{cell_at, link_cell, anchor_cell, data_cell}
-use Rattle.crash_core.specs.OwnWords.{IsPlain}
-use Rattle.crash_core.specs.Standing.{cutting_in, split_in, cached_in, batched_in}
-use Rattle.crash_core.proofs.StandingLemmas.{step_not}
-use Rattle.crash_core.proofs.ReadLemmas.{lengths}
-use Rattle.crash_core.proofs.WordLemmas.{entry_there}
-use Rattle.crash_core.proofs.PushDecision.{refused}
+use Rattle.std.proofs.Common.{refl, sym, true≢false}
+use Rattle.crash_core.specs.Cells.{data_cell}
 use Rattle.crash_core.proofs.StoreSteps.{data_stored, not_stored}
 use Rattle.crash_core.proofs.stores.store_data.Goals as goal
 

@@ -1,8 +1,4 @@
-use Rattle.std.proofs.Common.{◌≡◌, ◌+◌, ◌*◌, refl, ap, sym, subst, ◌∙◌, true≢false, arith}
-use Rattle.crash_core.specs.declared.event.Event.TheVariants.{Load, Settle}
-use Rattle.crash_core.proofs.ReadLemmas.{lengths}
-use Rattle.crash_core.proofs.StandingLemmas.{step_not}
-use Rattle.crash_core.proofs.WordLemmas.{entry_there}
+use Rattle.std.proofs.Common.{◌*◌, ap, sym, arith}
 use Rattle.crash_core.proofs.WordSteps.{draw, stop, ticket_fits}
 use Rattle.crash_core.proofs.words.draw.Goals as goal
 

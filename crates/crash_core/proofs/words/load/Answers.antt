@@ -1,8 +1,6 @@
-use Rattle.std.proofs.Common.{◌≡◌, ◌+◌, ◌*◌, refl, ap, sym, subst, ◌∙◌, true≢false, arith}
-use Rattle.crash_core.specs.declared.event.Event.TheVariants.{Load, Settle}
-use Rattle.crash_core.proofs.ReadLemmas.{lengths}
+use Rattle.std.proofs.Common.{refl, sym, true≢false}
+use Rattle.crash_core.specs.declared.event.Event.TheVariants.{Load}
 use Rattle.crash_core.proofs.StandingLemmas.{step_not}
-use Rattle.crash_core.proofs.WordLemmas.{entry_there}
 use Rattle.crash_core.proofs.WordSteps.{load}
 use Rattle.crash_core.proofs.words.load.Goals as goal
 
