@@ -108,7 +108,8 @@ pub record HasNotes (t : Seat) (v : View) : Type 0 where
 -- where its caches and its batch begin and end, and how long they are
 pub record HasCaches (kept : List Cache) (caches : List (List ℕ)) : Type 0 where
   pub long : length kept ≡ lists
-  pub first : (class : ℕ) (c : Cache) → get_or kept class c ≡ c → class < lists → 1 ≤ length (of_class caches class) → first_of (of_class caches class) ≡ c.first
+  pub first : (class : ℕ) (c : Cache) → get_or kept class c ≡ c → class < lists → 1 ≤ length (of_class caches class)
+      → first_of (of_class caches class) ≡ c.first
   pub count : (class : ℕ) (c : Cache) → get_or kept class c ≡ c → class < lists → length (of_class caches class) ≡ c.count
 
 pub record HasBatch (kept : Group) (batch : Batch) : Type 0 where
@@ -141,7 +142,8 @@ pub record IsShare (d : ℕ) (x : Share) (raw split cutting : List ℕ) (classed
 
 -- its superblocks
 abbrev pub HasSuperblocks : List SuperblockOwner → ℕ → List ℕ → List ℕ → List ℕ → List Claim → List Span → Type 0
-HasSuperblocks owners i raw split cutting classed large = (d : ℕ) → IsShare d (share_for i (get_or owners d no_superblock)) raw split cutting classed large
+HasSuperblocks owners i raw split cutting classed large = (d : ℕ)
+    → IsShare d (share_for i (get_or owners d no_superblock)) raw split cutting classed large
 
 -- its roots; a number that is no root's is no owner
 pub record HasRoots (owners : List ℕ) (i : ℕ) (owned : List ℕ) : Type 0 where
@@ -196,16 +198,18 @@ state_of c views = record { words = c.words.items; views = views }
 
 -- of each state that the core stands for, the answer is what its step has, and then it stands for the state after the step
 pub data Steps (old new : CoreState) (k : Setup) (views : List View) (i : ℕ) (v : View) (event : Event) : StepAnswer → Type 0 where
-  steps_done : MayDo (memory_of k.capacity old.words.items) v event → (seat_after (memory_of k.capacity old.words.items) v event).stopped ≡ None
+  steps_done : MayDo (memory_of k.capacity old.words.items) v event
+      → (seat_after (memory_of k.capacity old.words.items) v event).stopped ≡ None
       → StandsFor new k (state_after k (state_of old views) i v event) → Steps old new k views i v event Done
-  steps_stopped : (step : ℕ) → MayDo (memory_of k.capacity old.words.items) v event → (seat_after (memory_of k.capacity old.words.items) v event).stopped ≡ Some step
+  steps_stopped : (step : ℕ) → MayDo (memory_of k.capacity old.words.items) v event
+      → (seat_after (memory_of k.capacity old.words.items) v event).stopped ≡ Some step
       → StandsFor new k (state_after k (state_of old views) i v event) → Steps old new k views i v event (Stopped step)
   steps_not : (MayDo (memory_of k.capacity old.words.items) v event → ⊥) → new ≡ old → Steps old new k views i v event NotNow
 
 -- the same, of a seat that has not stopped, and has a ticket where the event needs one
 abbrev pub Takes : CoreState → ℕ → Event → StepAnswer → CoreState → Type 0
-Takes old i event answer new = (k : Setup) (views : List View) (v : View) → Keeps old k views → i < length views → get_or views i v ≡ v → v.stopped ≡ None
-    → HasTicketFor v event → Steps old new k views i v event answer
+Takes old i event answer new = (k : Setup) (views : List View) (v : View) → Keeps old k views → i < length views
+    → get_or views i v ≡ v → v.stopped ≡ None → HasTicketFor v event → Steps old new k views i v event answer
 
 -- of each state that the core stands for, a seat's parts have become those of another view; no word changed, nor its tickets
 pub record IsMoved (old new : CoreState) (views : List View) (i : ℕ) (t : Seat) (w : View) : Type 0 where
@@ -220,15 +224,17 @@ pub record IsMoved (old new : CoreState) (views : List View) (i : ℕ) (t : Seat
   pub superblocks : length new.superblocks.items ≡ length old.superblocks.items
   pub roots : new.roots.items ≡ old.roots.items
   pub mine : IsKept new i after w
-  pub others : (j : ℕ) (s : Seat) (u : View) → j ≢ i → j < length views → get_or views j u ≡ u → IsKept old j s u → IsKept new j s u
+  pub others : (j : ℕ) (s : Seat) (u : View) → j ≢ i → j < length views → get_or views j u ≡ u
+      → IsKept old j s u → IsKept new j s u
 
 abbrev pub Moves : CoreState → ℕ → (Memory → View → View) → CoreState → Type 0
-Moves old i change new = (k : Setup) (views : List View) (v : View) (t : Seat) → Keeps old k views → i < length views → get_or views i v ≡ v → get_or old.seats.items i t ≡ t
-    → IsMoved old new views i t (change (memory_of k.capacity old.words.items) v)
+Moves old i change new = (k : Setup) (views : List View) (v : View) (t : Seat) → Keeps old k views → i < length views
+    → get_or views i v ≡ v → get_or old.seats.items i t ≡ t → IsMoved old new views i t (change (memory_of k.capacity old.words.items) v)
 
 -- the answer to whether a guard holds of the seat, in each state that the core stands for
 abbrev pub Decides : CoreState → ℕ → (Memory → View → Type 0) → Bool → Type 0
-Decides c i Guard answer = (k : Setup) (views : List View) (v : View) → Keeps c k views → i < length views → get_or views i v ≡ v → (answer ≡ true) ↔ Guard (memory_of k.capacity c.words.items) v
+Decides c i Guard answer = (k : Setup) (views : List View) (v : View) → Keeps c k views → i < length views → get_or views i v ≡ v
+    → (answer ≡ true) ↔ Guard (memory_of k.capacity c.words.items) v
 
 -- superblock e may be one of the n from d on that become a large block
 pub record MayJoin (m : Memory) (v : View) (d n e : ℕ) : Type 0 where
