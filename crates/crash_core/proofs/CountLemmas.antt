@@ -103,3 +103,16 @@ all_home c class d chain is all blocks most b at =
         | inl some ↦ most x (blocks x some)
         | inr none ↦ omega arith
       ]
+
+-- blocks of a superblock, each there once at most, are no more than it has
+pub chain_short : (c class d : ℕ) (chain : List ℕ) → IsClass class → ((b : ℕ) → 0 < times b chain → IsCutBlock c class d b)
+    → ((b : ℕ) → IsCutBlock c class d b → times b chain ≤ 1) → length chain ≤ blocks_of class
+chain_short c class d chain is blocks most =
+    let n = length_steps (start_word c d) (words_of_class class) (blocks_of class) in let sum = counted (class_blocks c class d) chain (λ x some. block_once c class d x is (blocks x some)) in
+    let all = at_most (class_blocks c class d) (λ x. elim (cases_lt 0 (times x chain)) [
+      | inl some ↦ most x (blocks x some)
+      | inr none ↦ omega arith
+    ]) in omega arith where
+      at_most : (xs : List ℕ) → ((x : ℕ) → times x chain ≤ 1) → total (λ x. times x chain) xs ≤ length xs
+      at_most [] limit = omega arith
+      at_most (x ∷ xs) limit = let first = limit x in let rest = at_most xs limit in omega arith

@@ -57,37 +57,37 @@ module _ (k : Setup) (m : Memory) (views : List View) (i : ℕ) (v : View) (belo
   of_batch b some = let s = seat.blocks.batched b some in
       (ap (λ c. superblock_at c b) (sym cap) ∙ s.0 ∙ may.batch, ap (info m) (sym may.batch) ∙ s.1)
 
-  info_is : info m d ≡ class
+  pub info_is : info m d ≡ class
   info_is = (of_batch (first_of bs) (first_there bs may.some)).1
 
-  cut_d : 0 < times_cut good.shape (tally_of views) d
+  pub cut_d : 0 < times_cut good.shape (tally_of views) d
   cut_d = let b = first_of bs in let some = first_there bs may.some in
       subst (λ e. 0 < times_cut good.shape (tally_of views) e) (of_batch b some).0 (good.shaped.chained.inside b (out b some)).0
 
-  in_batch : (b : ℕ) → 0 < times b bs → IsCutBlock k.capacity class d b
+  pub in_batch : (b : ℕ) → 0 < times b bs → IsCutBlock k.capacity class d b
   in_batch b some = let here = of_batch b some in
       subst (λ c. IsCutBlock k.capacity c d b) info_is (subst (λ e. IsCutBlock k.capacity (info m e) e b) here.0 (good.shaped.chained.inside b (out b some)).1)
 
-  is_class : IsClass class
+  pub is_class : IsClass class
   is_class = subst IsClass info_is (good.shaped.chained.is_class d cut_d)
 
-  anchored : IsAnchoredBy (next m) k.capacity class d (anchor m d) (good.shape.chains d)
+  pub anchored : IsAnchoredBy (next m) k.capacity class d (anchor m d) (good.shape.chains d)
   anchored = subst (λ c. IsAnchoredBy (next m) k.capacity c d (anchor m d) (good.shape.chains d)) info_is (good.shaped.chained.anchored d cut_d)
 
   abbrev chain' : List ℕ
   chain' = bs ++ good.shape.chains d
 
   -- the new anchor
-  first_block : IsCutBlock k.capacity class d (first_of bs)
+  pub first_block : IsCutBlock k.capacity class d (first_of bs)
   first_block = in_batch (first_of bs) (first_there bs may.some)
 
-  index_is : (first_of bs - start_word v.setup.capacity d) / words_of_class class ≡ first_block.index
+  pub index_is : (first_of bs - start_word v.setup.capacity d) / words_of_class class ≡ first_block.index
   index_is =
       let e : first_of bs - start_word v.setup.capacity d ≡ first_block.index * words_of_class class = (let z = first_block.at in let c = cap in omega arith) in
       let two = two_words class is_class in
       ap (λ n. n / words_of_class class) e ∙ mul-div_cancel first_block.index {n = words_of_class class} (omega arith)
 
-  count_is : length bs + anchor_count word ≡ length chain'
+  pub count_is : length bs + anchor_count word ≡ length chain'
   count_is = let b = length-append bs (good.shape.chains d) in let c = anchored.count in let z = ap anchor_count as_seen in omega arith
 
   abbrev state' : ℕ

@@ -55,3 +55,8 @@ pub mod JoinDecision
 pub mod RangeLemmas
 pub mod FreshSteps
 pub mod LookSteps
+pub mod GivenLemmas
+pub mod ChainSteps
+pub mod TakeAllSteps
+pub mod CutSteps
+pub mod GiveSteps

@@ -30,7 +30,7 @@ use Rattle.crash_core.proofs.ShareLemmas.{no_share, share_alone, shares_theirs}
 use Rattle.crash_core.proofs.ClaimLemmas.{claimed_kept, raw_given_up, class_given_up}
 use Rattle.crash_core.proofs.WordLemmas.{entry_is, read_is}
 
-claimed_going : (base : View) (d list : ℕ) → (claimed base d list).stopped ≡ base.stopped
+pub claimed_going : (base : View) (d list : ℕ) → (claimed base d list).stopped ≡ base.stopped
 claimed_going base d zero = refl
 claimed_going base d (suc n) = refl
 

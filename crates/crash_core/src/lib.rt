@@ -3,7 +3,9 @@
 
 mod anchors;
 mod answer;
+mod chains;
 mod crash;
+mod cuts;
 mod event;
 mod fresh;
 mod heads;

@@ -1,0 +1,102 @@
+-- Chains of blocks as the core reads them, and what it keeps once the blocks of a chain are in a cache.
+use Rattle.std.proofs.Common.{◌≡◌, ◌≢◌, ℕ, ◌+◌, ◌<◌, ◌≤◌, inl, inr, List, [], ◌∷◌, get_or, set, length, refl, ap, sym, subst, ◌∙◌, length-set, le-leb, lt-ltb, arith}
+use Rattle.std.proofs.lemmas.Bool.{cases_eq}
+use Rattle.std.proofs.lemmas.List.{get_or-set_same, get_or-set_other}
+use Rattle.heap_model.specs.Chains.{Walks}
+use Rattle.heap_model.specs.Geometry.{lists, start_word, image_words}
+use Rattle.heap_model.specs.Sizes.{IsClass, words_of_class}
+use Rattle.heap_model.specs.Counting.{times, total}
+use Rattle.heap_model.proofs.SizeLemmas.{two_words}
+use Rattle.crash_core.specs.declared.owners.BlockPlace.TheVariants as place
+use Rattle.crash_core.specs.declared.owners.BlockOwner.{BlockOwner}
+use Rattle.crash_core.specs.declared.owners.Cache.{Cache}
+use Rattle.crash_core.specs.declared.owners.Seat.{Seat}
+use Rattle.crash_core.specs.declared.state.CoreState.{CoreState}
+use Rattle.crash_core.specs.Cells.{data_cell}
+use Rattle.crash_core.specs.Memory.{volatile_at, next}
+use Rattle.crash_core.specs.View.{Setup, View, of_class, times_block}
+use Rattle.crash_core.specs.Effects.{chain, first_of}
+use Rattle.crash_core.specs.Sound.{IsCutBlock}
+use Rattle.crash_core.specs.Standing.{place_for, no_block, IsPlace, HasBlocksOf, HasCaches, IsGiven, IsKept, Keeps}
+use Rattle.crash_core.proofs.TotalLemmas.{total_at}
+use Rattle.crash_core.proofs.PlaceLemmas.{and_is}
+use Rattle.crash_core.proofs.BlockLemmas.{inside_of, walks_chain, of_class_same, of_class_other, total_lists}
+use Rattle.crash_core.proofs.StandingLemmas.{memory_in}
+use Rattle.crash_core.proofs.ShareLemmas.{no_place}
+use Rattle.crash_core.proofs.GivenLemmas.{given_mine, given_theirs, walks_other}
+use Rattle.crash_core.proofs.WordLemmas.{read_is}
+
+within : (n d b words : ℕ) → start_word n d ≤ b → b + words ≤ start_word n (d + 1) → 2 ≤ words → d < n → (start_word n 0 ≤ b) × (b < image_words n)
+within n d b words low high two less = (omega arith, omega arith)
+
+-- a block of a cut superblock lies in the image
+pub cut_range : (n class d b : ℕ) → IsClass class → d < n → IsCutBlock n class d b → (start_word n 0 ≤ b) × (b < image_words n)
+cut_range n class d b is less cut = let ends = inside_of n class d b is cut in within n d b (words_of_class class) ends.0 ends.1 (two_words class is) less
+
+pub none_of : {A : Type 0} (xs : List A) → length xs ≡ 0 → xs ≡ []
+none_of [] none = refl
+none_of (x ∷ xs) none = absurd (omega arith)
+
+pub walk_first : (f : ℕ → ℕ) (from : ℕ) (xs : List ℕ) → length xs ≢ 0 → Walks f from xs → first_of xs ≡ from
+walk_first f from [] some walks = absurd (some refl)
+walk_first f from (x ∷ xs) some walks = sym walks.0
+
+module _ (c : CoreState) (k : Setup) (views : List View) (keeps : Keeps c k views) where
+  -- the first word of a block, as it stands in the table
+  pub raw_next : (b : ℕ) → start_word k.capacity 0 ≤ b → b < image_words k.capacity → next (memory_in c k) b ≡ get_or c.words.items b 0
+  raw_next b from until = read_is k.capacity c.words.items (volatile_at (data_cell b)) (and_is _ _ (le-leb (start_word k.capacity 0) b from) (lt-ltb b (image_words k.capacity) until))
+
+  -- blocks of a cut superblock that are linked are the chain that the table leads along
+  pub chain_is : (class d from : ℕ) (bs : List ℕ) → IsClass class → d < k.capacity → ((b : ℕ) → 0 < times b bs → IsCutBlock k.capacity class d b) → Walks (next (memory_in c k)) from bs
+      → chain (λ n. get_or c.words.items n 0) from (length bs) ≡ bs
+  chain_is class d from bs is less cut walks = walks_chain (λ n. get_or c.words.items n 0) from bs
+      (walks_other (next (memory_in c k)) (λ n. get_or c.words.items n 0) from bs (λ b some. let r = cut_range k.capacity class d b is less (cut b some) in raw_next b r.0 r.1) walks)
+
+  pub block_fits : (class d b : ℕ) → IsClass class → d < k.capacity → IsCutBlock k.capacity class d b → (b < length c.blocks.items) × (b < length c.words.items)
+  block_fits class d b is less cut = let r = (cut_range k.capacity class d b is less cut).1 in let n = keeps.blocks in let l = keeps.sound.long in (omega arith, omega arith)
+
+-- blocks that were nobody's come into an empty cache
+module _ (c : CoreState) (k : Setup) (views : List View) (i : ℕ) (v : View) (t : Seat) (keeps : Keeps c k views) (below : i < length views) (at : get_or views i v ≡ v)
+    (at_t : get_or c.seats.items i t ≡ t) (class : ℕ) (less : class < lists) (bs : List ℕ) (empty : of_class v.caches class ≡ [])
+    (free : (b : ℕ) → 0 < times b bs → (times b bs ≡ 1) × (total (times_block b) views ≡ 0)) where
+  kept : IsKept c i t v
+  kept = keeps.each i t v below at_t at
+
+  long_caches : class < length v.caches
+  long_caches = let s = (keeps.sound.good.set_up i v below at).caches in let l = less in omega arith
+
+  long_t : class < length t.caches
+  long_t = let l = kept.caches.long in let n = less in omega arith
+
+  pub caches_given : (first count : ℕ) → first_of bs ≡ first → length bs ≡ count → HasCaches (set t.caches class (record { first = first; count = count })) (set v.caches class bs)
+  caches_given first count first_is count_is = record {
+    long = length-set t.caches class new ∙ kept.caches.long;
+    first = λ n x at_x less_n some. elim (cases_eq n class) [
+      | inl here ↦ ap first_of (of_class_same v.caches class bs n here long_caches) ∙ first_is ∙ ap (λ (y : Cache). y.first) (new_at n x at_x here)
+      | inr other ↦ let same = of_class_other v.caches class bs n other in
+          ap first_of same ∙ kept.caches.first n x (sym (get_or-set_other t.caches class n new x other) ∙ at_x) less_n (subst (λ l. 1 ≤ length l) same some)
+    ];
+    count = λ n x at_x less_n. elim (cases_eq n class) [
+      | inl here ↦ ap length (of_class_same v.caches class bs n here long_caches) ∙ count_is ∙ ap (λ (y : Cache). y.count) (new_at n x at_x here)
+      | inr other ↦ ap length (of_class_other v.caches class bs n other) ∙ kept.caches.count n x (sym (get_or-set_other t.caches class n new x other) ∙ at_x) less_n
+    ];
+  } where
+    new : Cache
+    new = record { first = first; count = count }
+
+    new_at : (n : ℕ) (x : Cache) → get_or (set t.caches class new) n x ≡ x → n ≡ class → new ≡ x
+    new_at n x at_x here = sym (get_or-set_same t.caches class new x long_t) ∙ subst (λ m. get_or (set t.caches class new) m x ≡ x) here at_x
+
+  cached_more : (b : ℕ) → total (times b) (set v.caches class bs) ≡ total (times b) v.caches + times b bs
+  cached_more b = let l = total_lists b v.caches class bs long_caches in let none = ap (times b) empty in omega arith
+
+  pub blocks_given : (owners : List BlockOwner) → IsGiven c.blocks.items owners bs (record { seat = i; place = place.Cached }) → HasBlocksOf owners i v.small (set v.caches class bs) v.batch.blocks
+  blocks_given owners given = given_mine c.blocks.items owners i bs place.Cached (λ b p. IsPlace b p v.small (set v.caches class bs) v.batch.blocks) given
+      (λ b some. let f = free b some in let one = f.0 in let nobody = f.1 in let mine = total_at (times_block b) views i v below at in let more = cached_more b in record { held = omega arith; cached = omega arith; batched = omega arith })
+      (λ b none. let o = kept.blocks b in let more = cached_more b in record { held = o.held; cached = (let h = o.cached in omega arith); batched = o.batched })
+
+  pub blocks_theirs : (owners : List BlockOwner) → IsGiven c.blocks.items owners bs (record { seat = i; place = place.Cached })
+      → (j : ℕ) (s : Seat) (u : View) → j ≢ i → j < length views → get_or views j u ≡ u → IsKept c j s u → HasBlocksOf owners j u.small u.caches u.batch.blocks
+  blocks_theirs owners given j s u other below_j at_u h = given_theirs c.blocks.items owners i j bs place.Cached (λ b p. IsPlace b p u.small u.caches u.batch.blocks) other given
+      (λ b some. no_place b (place_for j (get_or c.blocks.items b no_block)) u.small u.caches u.batch.blocks (h.blocks b) (let nobody = (free b some).1 in let theirs = total_at (times_block b) views j u below_j at_u in omega arith))
+      h.blocks

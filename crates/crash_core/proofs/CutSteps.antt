@@ -1,0 +1,299 @@
+-- The core when the blocks that were made of a superblock come into a cache.
+use Rattle.std.proofs.Common.{◌≡◌, ◌≢◌, ℕ, zero, suc, ◌+◌, ◌*◌, ◌<◌, ◌≤◌, ◌↔◌, inl, inr, Bool, true, nat_lt, List, [], get_or, set, length, refl, ap, ap₂, sym, subst, ◌∙◌, length-set, arith}
+use Rattle.std.proofs.lemmas.Bool.{cases_lt}
+use Rattle.std.specs.Prelude.{Vec, Option}
+use Rattle.std.specs.declared.alloc.Global.{Global}
+use Rattle.std.specs.Vec.{with_item}
+use Rattle.heap_model.specs.Chains.{Walks}
+use Rattle.heap_model.specs.Geometry.{lists, start_word}
+use Rattle.heap_model.specs.Sizes.{IsClass, words_of_class, blocks_of}
+use Rattle.heap_model.specs.Counting.{times, total, without}
+use Rattle.heap_model.proofs.SizeLemmas.{four_blocks}
+use Rattle.crash_core.specs.declared.owners.BlockPlace.TheVariants as place
+use Rattle.crash_core.specs.declared.owners.BlockOwner.{BlockOwner}
+use Rattle.crash_core.specs.declared.owners.Seat.{Seat}
+use Rattle.crash_core.specs.declared.owners.Seen.{Seen}
+use Rattle.crash_core.specs.declared.owners.Share.{Share}
+use Rattle.crash_core.specs.declared.owners.Share.TheVariants as share
+use Rattle.crash_core.specs.declared.owners.SuperblockOwner.{SuperblockOwner}
+use Rattle.crash_core.specs.declared.state.CoreState.{CoreState}
+use Rattle.crash_core.specs.Memory.{used, durable_used, durable_info, info, next, memory_of}
+use Rattle.crash_core.specs.View.{Setup, View, Claim, Span, of_class, times_block, times_raw}
+use Rattle.crash_core.specs.Effects.{chain, steps, first_of, class_blocks, cleared, after_cut}
+use Rattle.crash_core.specs.Guards.{MayCut}
+use Rattle.crash_core.specs.Sound.{tally_of, times_cut, IsCutBlock, Good}
+use Rattle.crash_core.specs.Standing.{share_for, no_superblock, cutting_in, IsShare, HasSuperblocks, HasCaches, HasBlocksOf, IsGiven, IsKept, IsCore, Keeps, IsMoved, Decides, memory_at, snapshot}
+use Rattle.crash_core.proofs.TotalLemmas.{total_at}
+use Rattle.crash_core.proofs.OwnLemmas.{one_at_most}
+use Rattle.crash_core.proofs.CountLemmas.{length_steps, block_once}
+use Rattle.crash_core.proofs.BlockLemmas.{superblock_is}
+use Rattle.crash_core.proofs.SpanLemmas.{block_of}
+use Rattle.crash_core.proofs.StandingLemmas.{memory_in}
+use Rattle.crash_core.proofs.ShareLemmas.{shares_mine, shares_theirs, share_alone}
+use Rattle.crash_core.proofs.ClaimLemmas.{without_at, without_off}
+use Rattle.crash_core.proofs.MoveSteps.{no_cache}
+use Rattle.crash_core.proofs.ChainSteps.{chain_is, block_fits, none_of, caches_given, blocks_given, blocks_theirs}
+use Rattle.crash_core.proofs.WordLemmas.{entry_is, entry_there}
+
+-- blocks of which the first ones are linked, from one on
+pub record IsHalfLinked (f : ℕ → ℕ) (start words n block left : ℕ) : Type 0 where
+  pub linked : Walks f start (steps start words n) ↔ Walks f block (steps block words left)
+  pub low : start ≤ block
+  pub room : block + left * words ≤ start + n * words
+  pub some : 1 ≤ left
+
+pub half_start : (f : ℕ → ℕ) (start words n left : ℕ) → 1 ≤ n → left ≡ n → IsHalfLinked f start words n start left
+half_start f start words n left some is = subst (IsHalfLinked f start words n start) (sym is) (record { linked = (λ w. w, λ w. w); low = omega arith; room = omega arith; some = some })
+
+more_left : (r words : ℕ) → suc r * words ≡ words + r * words
+more_left r words = grind arith
+
+pub half_room : (f : ℕ → ℕ) (start words n block left : ℕ) → IsHalfLinked f start words n block left → 0 < left → block + words ≤ start + n * words
+half_room f start words n block zero half some = absurd (omega arith)
+half_room f start words n block (suc r) half some = let m = more_left r words in let h = half.room in omega arith
+
+pub half_step : (f : ℕ → ℕ) (start words n block left left' to : ℕ) → IsHalfLinked f start words n block left → left ≡ suc left' → 0 < left' → f block ≡ block + words → to ≡ block + words → IsHalfLinked f start words n to left'
+half_step f start words n block left zero to half is some leads to_is = absurd (omega arith)
+half_step f start words n block left (suc r) to half is some leads to_is = subst (λ x. IsHalfLinked f start words n x (suc r)) (sym to_is) (record {
+  linked = (λ w. on (h.linked.0 w), λ u. h.linked.1 (back u));
+  low = (let l = h.low in omega arith);
+  room = (let m = more_left (suc r) words in let e = h.room in omega arith);
+  some = omega arith;
+}) where
+  h : IsHalfLinked f start words n block (suc (suc r))
+  h = subst (IsHalfLinked f start words n block) is half
+
+  on : Walks f block (steps block words (suc (suc r))) → Walks f (block + words) (steps (block + words) words (suc r))
+  on w = (refl, w.1.1)
+
+  back : Walks f (block + words) (steps (block + words) words (suc r)) → Walks f block (steps block words (suc (suc r)))
+  back u = (refl, (leads, u.1))
+
+pub half_apart : (f : ℕ → ℕ) (start words n block left left' : ℕ) → IsHalfLinked f start words n block left → left ≡ suc left' → 0 < left' → f block ≢ block + words → Walks f start (steps start words n) → ⊥
+half_apart f start words n block left zero half is some apart w = absurd (omega arith)
+half_apart f start words n block left (suc r) half is some apart w = apart ((subst (IsHalfLinked f start words n block) is half).linked.0 w).1.0
+
+pub half_whole : (f : ℕ → ℕ) (start words n block left : ℕ) → IsHalfLinked f start words n block left → left ≡ 1 → Walks f start (steps start words n)
+half_whole f start words n block left half is = (subst (IsHalfLinked f start words n block) is half).linked.1 (refl, tt)
+
+-- a superblock whose blocks were made is given up
+cut_given_up : (owners : List SuperblockOwner) (i d : ℕ) (raw split cutting : List ℕ) (classed : List Claim) (large : List Span) → d < length owners → 0 < times d cutting
+    → HasSuperblocks owners i raw split cutting classed large
+    → HasSuperblocks (set owners d (record { seat = i; share = share.Nothing })) i raw split (without d cutting) classed large
+cut_given_up owners i d raw split cutting classed large less some old =
+    shares_mine owners i d share.Nothing (λ e y. IsShare e y raw split (without d cutting) classed large) less (gone (share_for i (get_or owners d no_superblock)) (old d))
+    (λ e other. let o = old e in record {
+      is_raw = o.is_raw;
+      is_split = o.is_split;
+      is_cutting = without_off e d cutting other ∙ o.is_cutting;
+      is_classed = o.is_classed;
+      class = o.class;
+      is_large = o.is_large;
+      count = o.count;
+    }) where
+      gone : (x : Share) → IsShare d x raw split cutting classed large → IsShare d share.Nothing raw split (without d cutting) classed large
+      gone share.Nothing o = absurd (let a = o.is_cutting in omega arith)
+      gone share.Raw o = absurd (let a = o.is_cutting in omega arith)
+      gone share.Split o = absurd (let a = o.is_cutting in omega arith)
+      gone share.Cutting o = record { is_raw = o.is_raw; is_split = o.is_split; is_cutting = without_at d cutting (let a = o.is_cutting in omega arith); is_classed = o.is_classed; class = o.class; is_large = o.is_large; count = o.count }
+      gone (share.Classed class) o = absurd (let a = o.is_cutting in omega arith)
+      gone (share.Large count) o = absurd (let a = o.is_cutting in omega arith)
+
+module _ (c : CoreState) (k : Setup) (views : List View) (i : ℕ) (v : View) (t : Seat) (keeps : Keeps c k views) (below : i < length views) (at : get_or views i v ≡ v)
+    (at_t : get_or c.seats.items i t ≡ t) (d : ℕ) where
+  kept : IsKept c i t v
+  kept = keeps.each i t v below at_t at
+
+  good : Good k (memory_in c k) views
+  good = keeps.sound.good
+
+  same : memory_at c ≡ memory_in c k
+  same = ap (λ n. memory_of n c.words.items) (sym keeps.capacity)
+
+  cap : v.setup.capacity ≡ k.capacity
+  cap = ap (λ (s : Setup). s.capacity) (good.set_up i v below at).setup
+
+  s : IsShare d (share_for i (get_or c.superblocks.items d no_superblock)) v.raw v.split v.cutting v.classed v.large
+  s = kept.superblocks d
+
+  pub cut_unclaimed : cutting_in (share_for i (get_or c.superblocks.items d no_superblock)) ≡ 0 → MayCut (memory_in c k) v d → ⊥
+  cut_unclaimed none may = let g = may.cutting in let f = s.is_cutting in omega arith
+
+  pub cut_undurable : (mark : ℕ) → mark ≡ durable_used (memory_at c) → mark ≤ d → MayCut (memory_in c k) v d → ⊥
+  cut_undurable mark is past may = let less = may.durable in let e : durable_used (memory_in c k) ≡ mark = ap durable_used (sym same) ∙ sym is in omega arith
+
+  module _ (class : ℕ) (class_is : class ≡ info (memory_at c) d) where
+    now : info (memory_in c k) d ≡ class
+    now = ap (λ m. info m d) (sym same) ∙ sym class_is
+
+    pub cut_none : class ≡ 0 → MayCut (memory_in c k) v d → ⊥
+    cut_none none may = let l = may.class.some in let e = now in omega arith
+
+    pub cut_past : 20 < class → MayCut (memory_in c k) v d → ⊥
+    cut_past past may = let l = may.class.last in let e = now in omega arith
+
+    pub cut_other : (held : ℕ) → held ≡ durable_info (memory_at c) d → held ≢ class → MayCut (memory_in c k) v d → ⊥
+    cut_other held held_is other may = other (held_is ∙ ap (λ m. durable_info m d) same ∙ may.durable_class ∙ now)
+
+    module _ (some : 1 ≤ class) (last : class ≤ 20) where
+      is : IsClass class
+      is = record { some = some; last = last }
+
+      less : class < lists
+      less = omega arith
+
+      count_is : length (of_class v.caches class) ≡ (get_or t.caches class no_cache).count
+      count_is = kept.caches.count class (get_or t.caches class no_cache) (entry_is t.caches class (get_or t.caches class no_cache) no_cache (let l = kept.caches.long in let n = less in omega arith)) less
+
+      pub cut_cached : (get_or t.caches class no_cache).count ≢ 0 → MayCut (memory_in c k) v d → ⊥
+      cut_cached other may = other (sym count_is ∙ ap length (ap (of_class v.caches) (sym now) ∙ may.uncached))
+
+      walks_are : Walks (next (memory_at c)) (start_word c.geometry.capacity d) (class_blocks c.geometry.capacity class d)
+          ≡ Walks (next (memory_in c k)) (start_word v.setup.capacity d) (class_blocks v.setup.capacity (info (memory_in c k) d) d)
+      walks_are = ap₂ (λ m n. Walks (next m) (start_word n d) (class_blocks n class d)) same (sym keeps.capacity ∙ sym cap)
+          ∙ ap (λ x. Walks (next (memory_in c k)) (start_word v.setup.capacity d) (class_blocks v.setup.capacity x d)) (sym now)
+
+      pub cut_decided : 0 < cutting_in (share_for i (get_or c.superblocks.items d no_superblock)) → (mark held : ℕ) → mark ≡ durable_used (memory_at c) → d < mark → held ≡ durable_info (memory_at c) d → held ≡ class
+          → (get_or t.caches class no_cache).count ≡ 0 → (answer : Bool)
+          → (answer ≡ true) ↔ Walks (next (memory_at c)) (start_word c.geometry.capacity d) (class_blocks c.geometry.capacity class d) → (answer ≡ true) ↔ MayCut (memory_in c k) v d
+      cut_decided cutting mark held mark_is durable held_is held_same none answer linked = (
+        λ e. record {
+          cutting = (let f = s.is_cutting in omega arith);
+          class = subst IsClass (sym now) is;
+          durable_class = ap (λ m. durable_info m d) (sym same) ∙ sym held_is ∙ held_same ∙ sym now;
+          durable = (let e2 : durable_used (memory_in c k) ≡ mark = ap durable_used (sym same) ∙ sym mark_is in omega arith);
+          linked = subst (λ (T : Type 0). T) walks_are (linked.0 e);
+          uncached = subst (λ n. of_class v.caches n ≡ []) (sym now) (none_of (of_class v.caches class) (count_is ∙ none));
+        },
+        λ may. linked.1 (subst (λ (T : Type 0). T) (sym walks_are) may.linked),
+      )
+
+    module _ (may : MayCut (memory_in c k) v d) where
+      pub cut_class : IsClass class
+      cut_class = subst IsClass now may.class
+
+      pub d_less : d < k.capacity
+      d_less = let l = may.durable in let q = good.shaped.durable.behind in let r = good.shaped.durable.room in omega arith
+
+      less_class : class < lists
+      less_class = let l = cut_class.last in omega arith
+
+      abbrev cs : List ℕ
+      cs = class_blocks k.capacity class d
+
+      blocks_are : class_blocks v.setup.capacity (info (memory_in c k) d) d ≡ cs
+      blocks_are = ap₂ (λ n x. class_blocks n x d) cap now
+
+      walks : Walks (next (memory_in c k)) (start_word k.capacity d) cs
+      walks = subst (λ n. Walks (next (memory_in c k)) (start_word n d) (class_blocks n class d)) cap
+          (subst (λ x. Walks (next (memory_in c k)) (start_word v.setup.capacity d) (class_blocks v.setup.capacity x d)) now may.linked)
+
+      in_block : (b : ℕ) → 0 < times b cs → IsCutBlock k.capacity class d b
+      in_block b some = block_of k.capacity class d b some
+
+      not_cut : times_cut good.shape (tally_of views) d ≡ 0
+      not_cut = let some = may.cutting in let tot = total_at (times_raw d) views i v below at in let p = good.shaped.placed.one_place d in let most = one_at_most (nat_lt d (used (memory_in c k))) in omega arith
+
+      free : (b : ℕ) → 0 < times b cs → (times b cs ≡ 1) × (total (times_block b) views ≡ 0)
+      free b some = (block_once k.capacity class d b cut_class (in_block b some), elim (cases_lt 0 (total (times_block b) views)) as (λ _. total (times_block b) views ≡ 0) [
+        | inl there ↦ absurd (let x = (good.shaped.chained.inside b there).0 in let n = not_cut in let e = ap (times_cut good.shape (tally_of views)) (superblock_is k.capacity class d b cut_class (in_block b some)) in omega arith)
+        | inr none ↦ omega arith
+      ])
+
+      pub whole : (first count : ℕ) → first ≡ start_word c.geometry.capacity d → count ≡ blocks_of class
+          → (first ≡ start_word k.capacity d) × (count ≡ length cs) × (chain (λ n. get_or c.words.items n 0) first count ≡ cs)
+      whole first count first_is count_is = (first_from, count_all, ap₂ (chain (λ n. get_or c.words.items n 0)) first_from count_all ∙ chain_is c k views keeps class d (start_word k.capacity d) cs cut_class d_less in_block walks) where
+        first_from : first ≡ start_word k.capacity d
+        first_from = first_is ∙ ap (λ n. start_word n d) (sym keeps.capacity)
+
+        count_all : count ≡ length cs
+        count_all = count_is ∙ sym (length_steps (start_word k.capacity d) (words_of_class class) (blocks_of class))
+
+      pub inside : (first count : ℕ) → first ≡ start_word c.geometry.capacity d → count ≡ blocks_of class
+          → (b : ℕ) → 0 < times b (chain (λ n. get_or c.words.items n 0) first count) → (b < length c.blocks.items) × (b < length c.words.items)
+      inside first count first_is count_is b there = block_fits c k views keeps class d b cut_class d_less (in_block b (subst (λ xs. 0 < times b xs) (whole first count first_is count_is).2 there))
+
+      pub cut : (first count : ℕ) → first ≡ start_word c.geometry.capacity d → count ≡ blocks_of class → (blocks : Vec BlockOwner Global)
+          → IsGiven c.blocks.items blocks.items (chain (λ n. get_or c.words.items n 0) first count) (record { seat = i; place = place.Cached })
+          → (anchor : Option Seen) → snapshot anchor ≡ cleared d 1 (snapshot t.seen_anchor)
+          → IsMoved c (record c {
+            blocks = blocks;
+            superblocks = with_item c.superblocks d (record { seat = i; share = share.Nothing });
+            seats = with_item c.seats i (record t { caches = set t.caches class (record { first = first; count = count }); seen_anchor = anchor });
+          }) views i t (after_cut (memory_in c k) v d)
+      cut first count first_is count_is blocks given anchor anchor_is = record {
+        after = record t { caches = set t.caches class (record { first = first; count = count }); seen_anchor = anchor };
+        seats = refl;
+        ticket = refl;
+        stopped = refl;
+        words = refl;
+        geometry = refl;
+        budget = refl;
+        blocks = given.long;
+        superblocks = length-set c.superblocks.items d (record { seat = i; share = share.Nothing });
+        roots = refl;
+        mine = record {
+          notes = (let n = kept.notes in record { ticket = n.ticket; stopped = n.stopped; seen_used = n.seen_used; seen_head = n.seen_head; seen_link = n.seen_link; seen_anchor = ap (cleared d 1) n.seen_anchor ∙ sym anchor_is });
+          caches = subst (HasCaches (set t.caches class (record { first = first; count = count }))) (sym caches_are)
+              (caches_given c k views i v t keeps below at at_t class less_class cs empty free first count (first_step ∙ sym w.0) (sym w.1));
+          batch = kept.batch;
+          blocks = subst (λ l. HasBlocksOf blocks.items i v.small l v.batch.blocks) (sym caches_are) (blocks_given c k views i v t keeps below at at_t class less_class cs empty free blocks.items given_cs);
+          superblocks = cut_given_up c.superblocks.items i d v.raw v.split v.cutting v.classed v.large long may.cutting kept.superblocks;
+          roots = kept.roots;
+        };
+        others = λ j r u other b a h. record {
+          notes = h.notes;
+          caches = h.caches;
+          batch = h.batch;
+          blocks = blocks_theirs c k views i v t keeps below at at_t class less_class cs empty free blocks.items given_cs j r u other b a h;
+          superblocks = shares_theirs c.superblocks.items i j d share.Nothing (λ e y. IsShare e y u.raw u.split u.cutting u.classed u.large) long other (share_alone i j (get_or c.superblocks.items d no_superblock) other mine_share) h.superblocks;
+          roots = h.roots;
+        };
+      } where
+        w : (first ≡ start_word k.capacity d) × (count ≡ length cs) × (chain (λ n. get_or c.words.items n 0) first count ≡ cs)
+        w = whole first count first_is count_is
+
+        given_cs : IsGiven c.blocks.items blocks.items cs (record { seat = i; place = place.Cached })
+        given_cs = subst (λ xs. IsGiven c.blocks.items blocks.items xs (record { seat = i; place = place.Cached })) w.2 given
+
+        empty : of_class v.caches class ≡ []
+        empty = ap (of_class v.caches) (sym now) ∙ may.uncached
+
+        caches_are : set v.caches (info (memory_in c k) d) (class_blocks v.setup.capacity (info (memory_in c k) d) d) ≡ set v.caches class cs
+        caches_are = ap₂ (set v.caches) now blocks_are
+
+        long : d < length c.superblocks.items
+        long = let l = d_less in let n = keeps.superblocks in omega arith
+
+        mine_share : share_for i (get_or c.superblocks.items d no_superblock) ≡ share.Nothing → ⊥
+        mine_share none = let g = may.cutting in let f = s.is_cutting in let z = ap cutting_in none in omega arith
+
+        first_step : first_of cs ≡ start_word k.capacity d
+        first_step = first_steps (start_word k.capacity d) (words_of_class class) (blocks_of class) (let four = four_blocks class cut_class in omega arith) where
+          first_steps : (from apart n : ℕ) → 0 < n → first_of (steps from apart n) ≡ from
+          first_steps from apart zero some = absurd (omega arith)
+          first_steps from apart (suc n) some = refl
+
+-- what fits when the blocks come into the cache
+pub record CutFits (c : CoreState) (d class : ℕ) : Type 0 where
+  pub is_class : IsClass class
+  pub below : d < c.geometry.capacity
+  pub inside : (first count : ℕ) → first ≡ start_word c.geometry.capacity d → count ≡ blocks_of class
+      → (b : ℕ) → 0 < times b (chain (λ n. get_or c.words.items n 0) first count) → (b < length c.blocks.items) × (b < length c.words.items)
+
+pub cut_below : (c : CoreState) (i d : ℕ) → IsCore c → i < length c.seats.items → Decides c i (λ m v. MayCut m v d) true → d < c.geometry.capacity
+cut_below c i d core less decides =
+    let below : i < length core.views = subst (λ n. i < n) (sym core.keeps.seats) less in
+    let here = entry_there core.views i below in
+    let may = (decides core.setup core.views here.0 core.keeps below here.1).0 refl in
+    let l = may.durable in let q = core.keeps.sound.good.shaped.durable.behind in let r = core.keeps.sound.good.shaped.durable.room in let g = core.keeps.capacity in omega arith
+
+pub cut_fits : (c : CoreState) (i d : ℕ) (t : Seat) (class : ℕ) → IsCore c → i < length c.seats.items → get_or c.seats.items i t ≡ t → Decides c i (λ m v. MayCut m v d) true → class ≡ info (memory_at c) d → CutFits c d class
+cut_fits c i d t class core less at_t decides class_is =
+    let below : i < length core.views = subst (λ n. i < n) (sym core.keeps.seats) less in
+    let here = entry_there core.views i below in
+    let may = (decides core.setup core.views here.0 core.keeps below here.1).0 refl in record {
+      is_class = cut_class c core.setup core.views i here.0 t core.keeps below here.1 at_t d class class_is may;
+      below = cut_below c i d core less decides;
+      inside = inside c core.setup core.views i here.0 t core.keeps below here.1 at_t d class class_is may;
+    }

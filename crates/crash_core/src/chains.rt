@@ -1,0 +1,206 @@
+//! The steps that exchange an anchor, and what becomes of the blocks that it leads along.
+
+ghost use Rattle.std.specs.Prelude.{◌≡◌, ◌≢◌, ◌<◌, ◌≤◌, ◌+◌, ◌*◌, ℕ, length, get_or, true};
+ghost use Rattle.heap_model.specs.Counting.{times};
+ghost use Rattle.heap_model.specs.Geometry.{start_word};
+ghost use Rattle.heap_model.specs.Sizes.{IsClass, words_of_class};
+ghost use Rattle.heap_model.specs.Words.{anchor_first};
+ghost use Rattle.crash_core.specs.declared.event.Event.TheVariants.{TakeAll, Give};
+ghost use Rattle.crash_core.specs.declared.owners.Seat.{Seat};
+ghost use Rattle.crash_core.specs.Effects.{chain};
+ghost use Rattle.crash_core.specs.Guards.{IsThere, MayTakeAll, MayGive};
+ghost use Rattle.crash_core.specs.Standing.{IsCore, IsGiven, Takes, Decides};
+
+use crate::anchors::{
+    FULL_ANCHOR, PARTIAL, anchor_after_give, anchor_after_take_all, anchor_count, anchor_first,
+    anchor_state,
+};
+use crate::answer::StepAnswer;
+use crate::owners::{BlockOwner, BlockPlace, Cache, Group, Seat, Share, SuperblockOwner};
+use crate::reads::{anchor, info, next};
+use crate::shares::share;
+use crate::state::CoreState;
+use size_table::{blocks_of, size_of};
+use super_block::Geometry;
+
+/// Gives the blocks of a chain an owner: `count` blocks from the first one on, as first words lead.
+pub(crate) fn give_chain(
+    words: &[u64],
+    owners: &mut Vec<BlockOwner>,
+    first: u64,
+    count: u64,
+    owner: BlockOwner,
+)
+    requires { (b : ℕ) → 0 < times b (chain (λ n. get_or words.now n 0) first count)
+        → (b < length owners.old.items) × (b < length words.now) }
+    ensures { IsGiven owners.old.items owners.new.items
+        (chain (λ n. get_or words.now n 0) first count) owner }
+{
+    let mut block = first;
+    for _step in 0..count {
+        owners[block as usize] = owner;
+        block = words[block as usize];
+    }
+}
+
+/// The block that an anchor of superblock `d` leads to first.
+fn first_free(geometry: Geometry, d: u64, class: u64, anchor: u64) -> u64
+    requires d { d < geometry.capacity }
+    requires capacity { geometry.capacity ≤ 4096 }
+    requires class { IsClass class }
+    ensures { result
+        ≡ start_word geometry.capacity d + anchor_first anchor * words_of_class class }
+{
+    geometry.start(d) + anchor_first(anchor) * (size_of(class as u8) / 8)
+}
+
+/// Takes all free blocks of a superblock into the cache of its class, if its anchor is as it was
+/// seen.
+pub(crate) fn take_all(core: &mut CoreState, seat: usize, d: u64) -> StepAnswer
+    requires core { IsCore core.old }
+    requires seat { seat < length core.old.seats.items }
+    ensures { Takes core.old seat (TakeAll d) result core.new }
+{
+    let notes = core.seats[seat];
+    let Some(seen) = notes.seen_anchor else {
+        return StepAnswer::NotNow;
+    };
+    if !may_take_all(core, seat, d) {
+        return StepAnswer::NotNow;
+    }
+    let word = anchor(core, d);
+    if word != seen.word {
+        return StepAnswer::NotNow;
+    }
+    let class = info(core, d);
+    let first = first_free(core.geometry, d, class, word);
+    let count = anchor_count(word);
+    let owner = BlockOwner {
+        seat,
+        place: BlockPlace::Cached,
+    };
+    give_chain(&core.words, &mut core.blocks, first, count, owner);
+    core.words[core.geometry.anchor(d) as usize] = anchor_after_take_all();
+    core.superblocks[d as usize] = SuperblockOwner {
+        seat,
+        share: Share::Nothing,
+    };
+    let mut caches = notes.caches;
+    caches[class as usize] = Cache { first, count };
+    core.seats[seat] = Seat {
+        ticket: None,
+        seen_anchor: None,
+        caches,
+        ..notes
+    };
+    StepAnswer::Done
+}
+
+/// Whether the seat may take all free blocks of the superblock: it claims it with a class, saw
+/// some blocks free in its anchor, and has none of the class in its cache.
+fn may_take_all(core: &CoreState, seat: usize, d: u64) -> bool
+    requires core { IsCore core.now }
+    requires seat { seat < length core.now.seats.items }
+    ensures decides { Decides core.now seat (λ m v. MayTakeAll v d) result }
+    ensures below { result ≡ true → d < core.now.geometry.capacity }
+{
+    let notes = core.seats[seat];
+    let Some(seen) = notes.seen_anchor else {
+        return false;
+    };
+    if d >= core.geometry.capacity() {
+        return false;
+    }
+    if seen.of != d {
+        return false;
+    }
+    if anchor_state(seen.word) != PARTIAL {
+        return false;
+    }
+    if !share(core, seat, d).is_classed() {
+        return false;
+    }
+    notes.caches[info(core, d) as usize].count == 0
+}
+
+/// Gives the batch back to its superblock, if the anchor is as it was seen.
+pub(crate) fn give(core: &mut CoreState, seat: usize, d: u64) -> StepAnswer
+    requires core { IsCore core.old }
+    requires seat { seat < length core.old.seats.items }
+    requires ticket { (t : Seat) → get_or core.old.seats.items seat t ≡ t → IsThere t.ticket }
+    ensures { Takes core.old seat (Give d) result core.new }
+{
+    let notes = core.seats[seat];
+    let batch = notes.batch;
+    let Some(seen) = notes.seen_anchor else {
+        return StepAnswer::NotNow;
+    };
+    if !may_give(core, seat, d) {
+        return StepAnswer::NotNow;
+    }
+    let word = anchor(core, d);
+    if word != seen.word {
+        return StepAnswer::NotNow;
+    }
+    let class = batch.class as u8;
+    let index = (batch.first - core.geometry.start(d)) / (size_of(class) / 8);
+    let given = anchor_after_give(word, index, batch.count, blocks_of(class));
+    let owner = BlockOwner {
+        seat,
+        place: BlockPlace::Nowhere,
+    };
+    give_chain(&core.words, &mut core.blocks, batch.first, batch.count, owner);
+    core.words[core.geometry.anchor(d) as usize] = given;
+    core.seats[seat] = Seat {
+        ticket: None,
+        seen_anchor: None,
+        batch: NO_BATCH,
+        ..notes
+    };
+    if word != FULL_ANCHOR {
+        return StepAnswer::Done;
+    }
+    core.superblocks[d as usize] = SuperblockOwner {
+        seat,
+        share: Share::listed(batch.class),
+    };
+    StepAnswer::Done
+}
+
+/// A batch of no blocks.
+pub(crate) const NO_BATCH: Group = Group {
+    descriptor: 0,
+    class: 0,
+    first: 0,
+    last: 0,
+    count: 0,
+    linked: false,
+};
+
+/// Whether the seat may give the batch to the superblock: it is of its blocks, its anchor was
+/// seen, and its last block is linked to the first free one.
+fn may_give(core: &CoreState, seat: usize, d: u64) -> bool
+    requires core { IsCore core.now }
+    requires seat { seat < length core.now.seats.items }
+    ensures { Decides core.now seat (λ m v. MayGive m v d) result }
+{
+    let notes = core.seats[seat];
+    let batch = notes.batch;
+    let Some(seen) = notes.seen_anchor else {
+        return false;
+    };
+    if batch.count == 0 {
+        return false;
+    }
+    if batch.descriptor != d {
+        return false;
+    }
+    if seen.of != d {
+        return false;
+    }
+    if anchor_count(seen.word) == 0 {
+        return true;
+    }
+    let free = first_free(core.geometry, d, batch.class, seen.word);
+    next(core, batch.last) == free
+}
