@@ -195,10 +195,13 @@ module _ (c : CoreState) (k : Setup) (views : List View) (i : ℕ) (v : View) (t
       not_cut = let some = may.cutting in let tot = total_at (times_raw d) views i v below at in let p = good.shaped.placed.one_place d in let most = one_at_most (nat_lt d (used (memory_in c k))) in omega arith
 
       free : (b : ℕ) → 0 < times b cs → (times b cs ≡ 1) × (total (times_block b) views ≡ 0)
-      free b some = (block_once k.capacity class d b cut_class (in_block b some), elim (cases_lt 0 (total (times_block b) views)) as (λ _. total (times_block b) views ≡ 0) [
-        | inl there ↦ absurd (let x = (good.shaped.chained.inside b there).0 in let n = not_cut in let e = ap (times_cut good.shape (tally_of views)) (superblock_is k.capacity class d b cut_class (in_block b some)) in omega arith)
-        | inr none ↦ omega arith
-      ])
+      free b some = (
+        block_once k.capacity class d b cut_class (in_block b some),
+        elim (cases_lt 0 (total (times_block b) views)) as (λ _. total (times_block b) views ≡ 0) [
+          | inl there ↦ absurd (let x = (good.shaped.chained.inside b there).0 in let n = not_cut in let e = ap (times_cut good.shape (tally_of views)) (superblock_is k.capacity class d b cut_class (in_block b some)) in omega arith)
+          | inr none ↦ omega arith
+        ],
+      )
 
       pub whole : (first count : ℕ) → first ≡ start_word c.geometry.capacity d → count ≡ blocks_of class
           → (first ≡ start_word k.capacity d) × (count ≡ length cs) × (chain (λ n. get_or c.words.items n 0) first count ≡ cs)

@@ -187,8 +187,10 @@ module _ (c : CoreState) (k : Setup) (views : List View) (i : ℕ) (v : View) (t
               let tot = total_at (times_block b) views i v below at in omega arith)
 
           first_is : (first : ℕ) → first ≡ start_word c.geometry.capacity d → (first ≡ start_word v.setup.capacity d) × (first ≤ t.batch.first)
-          first_is first is = (is ∙ ap (λ n. start_word n d) (sym keeps.capacity ∙ sym cap),
-              (let b = (gives.first_block k (memory_in c k) views i v below at good ticket d may as_seen).at in let e = kept.batch.first in let g = keeps.capacity in omega arith))
+          first_is first is = (
+            is ∙ ap (λ n. start_word n d) (sym keeps.capacity ∙ sym cap),
+            (let b = (gives.first_block k (memory_in c k) views i v below at good ticket d may as_seen).at in let e = kept.batch.first in let g = keeps.capacity in omega arith),
+          )
 
           pub first_low : start_word c.geometry.capacity d ≤ t.batch.first
           first_low = (first_is (start_word c.geometry.capacity d) refl).1

@@ -60,3 +60,4 @@ pub mod ChainSteps
 pub mod TakeAllSteps
 pub mod CutSteps
 pub mod GiveSteps
+pub mod TickSteps

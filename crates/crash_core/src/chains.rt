@@ -149,7 +149,13 @@ pub(crate) fn give(core: &mut CoreState, seat: usize, d: u64) -> StepAnswer
         seat,
         place: BlockPlace::Nowhere,
     };
-    give_chain(&core.words, &mut core.blocks, batch.first, batch.count, owner);
+    give_chain(
+        &core.words,
+        &mut core.blocks,
+        batch.first,
+        batch.count,
+        owner,
+    );
     core.words[core.geometry.anchor(d) as usize] = given;
     core.seats[seat] = Seat {
         ticket: None,

@@ -22,6 +22,7 @@ mod shares;
 mod spans;
 mod state;
 mod stores;
+mod ticks;
 mod words;
 
 pub use anchors::{anchor_after_give, anchor_after_take_all};

@@ -18,8 +18,11 @@ pub returns-then-seen-d : goal.returns-then-seen-d
 returns-then-seen-d c = λ k views v keeps below at. refused (give_other c.args.core.now k views c.args.seat v c.index-notes.result.now keeps below at (sym c.index-notes.ensures) c.args.d c.in-Some.seen c.in-Some.is c.if-seen-d.true)
 
 pub returns-then-anchor_count-eq0 : goal.returns-then-anchor_count-eq0
-returns-then-anchor_count-eq0 c = λ k views v keeps below at. (λ e. give_full_one c.args.core.now k views c.args.seat v c.index-notes.result.now keeps below at (sym c.index-notes.ensures) c.args.d c.in-Some.seen c.in-Some.is
-    c.if-batch-eq0.false (let e = c.if-batch-d.false in omega arith) (let e = c.if-seen-d.false in omega arith) (sym c.anchor_count.ensures ∙ c.if-anchor_count-eq0.true), λ may. refl)
+returns-then-anchor_count-eq0 c = λ k views v keeps below at. (
+  λ e. give_full_one c.args.core.now k views c.args.seat v c.index-notes.result.now keeps below at (sym c.index-notes.ensures) c.args.d c.in-Some.seen c.in-Some.is
+      c.if-batch-eq0.false (let e = c.if-batch-d.false in omega arith) (let e = c.if-seen-d.false in omega arith) (sym c.anchor_count.ensures ∙ c.if-anchor_count-eq0.true),
+  λ may. refl,
+)
 
 pub first_free-free-requires-clause-d : goal.first_free-free-requires-clause-d
 first_free-free-requires-clause-d c = let b = (batch_fits c.args.core.now c.args.seat c.index-notes.result.now c.requires.core c.requires.seat (sym c.index-notes.ensures) c.if-batch-eq0.false).below in let e = c.if-batch-d.false in omega arith
