@@ -61,3 +61,4 @@ pub mod TakeAllSteps
 pub mod CutSteps
 pub mod GiveSteps
 pub mod TickSteps
+pub mod EventSteps

@@ -1,10 +1,11 @@
 -- What the core keeps of a state: the words themselves; by seat its tickets and snapshots, and the ends of its caches and of its batch; and whose each block, superblock and root is.
-use Rattle.std.specs.Prelude.{◌≡◌, ◌≢◌, ◌⊎◌, ℕ, zero, suc, ◌+◌, ◌<◌, ◌≤◌, ◌↔◌, Bool, true, cond, nat_eq, List, get_or, set, length, Option, None, Some}
+use Rattle.std.specs.Prelude.{◌≡◌, ◌≢◌, ◌⊎◌, ℕ, zero, suc, ◌+◌, ◌<◌, ◌≤◌, ◌↔◌, Bool, true, cond, nat_eq, List, get_or, set, length, Option, None, Some, ⊤}
 use Rattle.heap_model.specs.Counting.{times, total, one_if}
 use Rattle.heap_model.specs.Geometry.{lists, roots, image_words}
 use Rattle.crash_core.specs.declared.answer.StepAnswer.{StepAnswer}
 use Rattle.crash_core.specs.declared.answer.StepAnswer.TheVariants.{Done, Stopped, NotNow}
 use Rattle.crash_core.specs.declared.event.Event.{Event}
+use Rattle.crash_core.specs.declared.event.Event.TheVariants.{Tick, Settle}
 use Rattle.crash_core.specs.declared.owners.BlockPlace.{BlockPlace}
 use Rattle.crash_core.specs.declared.owners.BlockPlace.TheVariants as place
 use Rattle.crash_core.specs.declared.owners.BlockOwner.{BlockOwner}
@@ -20,9 +21,9 @@ use Rattle.heap_model.specs.Words.{anchor_state, empty_state, large_info}
 use Rattle.crash_core.specs.Memory.{Memory, memory_of, info, anchor, durable_info}
 use Rattle.crash_core.specs.View.{Setup, View, Span, Claim, Batch, Snapshot, of_class, times_classed, times_large}
 use Rattle.crash_core.specs.Effects.{first_of, last_of, claim_class, span_count}
-use Rattle.crash_core.specs.Guards.{HasTicketFor, MayDo}
+use Rattle.crash_core.specs.Guards.{IsThere, HasTicketFor, MayDo}
 use Rattle.crash_core.specs.Sound.{Sound}
-use Rattle.crash_core.specs.Steps.{State, state_after, seat_after}
+use Rattle.crash_core.specs.Steps.{State, StepsTo, Runs, state_after, seat_after}
 
 -- where seat i has the block
 abbrev pub place_for : ℕ → BlockOwner → BlockPlace
@@ -216,6 +217,22 @@ pub data Steps (old new : CoreState) (k : Setup) (views : List View) (i : ℕ) (
 abbrev pub Takes : CoreState → ℕ → Event → StepAnswer → CoreState → Type 0
 Takes old i event answer new = (k : Setup) (views : List View) (v : View) → Keeps old k views → i < length views
     → get_or views i v ≡ v → v.stopped ≡ None → HasTicketFor v event → Steps old new k views i v event answer
+
+-- a ticket is there, where the event needs one
+abbrev pub HasTicketAt : Option ℕ → Event → Type 0
+HasTicketAt ticket (Tick shift) = ⊤
+HasTicketAt ticket (Settle word) = ⊤
+HasTicketAt ticket event = IsThere ticket
+
+-- of each state that the core stands for, the answer is what the event has there, and then it stands for what the event makes of the state
+abbrev pub Follows : CoreState → ℕ → Event → StepAnswer → CoreState → Type 0
+Follows old i event answer new = (k : Setup) (s : State) → StandsFor old k s
+    → (next : State) × StepsTo k s i event answer next × StandsFor new k next
+
+-- the same of a list of events, with an answer for each
+abbrev pub RunsOn : CoreState → List (ℕ × Event) → List StepAnswer → CoreState → Type 0
+RunsOn old events answers new = (k : Setup) (s : State) → StandsFor old k s
+    → (next : State) × Runs k s events answers next × StandsFor new k next
 
 -- of each state that the core stands for, a seat's parts have become those of another view; no word changed, nor its tickets
 pub record IsMoved (old new : CoreState) (views : List View) (i : ℕ) (t : Seat) (w : View) : Type 0 where

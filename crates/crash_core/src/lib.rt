@@ -21,6 +21,7 @@ mod reads;
 mod shares;
 mod spans;
 mod state;
+mod steps;
 mod stores;
 mod ticks;
 mod words;

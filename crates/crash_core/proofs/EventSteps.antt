@@ -1,0 +1,103 @@
+-- What a step of the core makes of each state that it stands for.
+use Rattle.std.proofs.Common.{◌≡◌, ℕ, ◌<◌, List, get_or, length, Option, None, Some, refl, ap, sym, subst, ◌∙◌, length-set}
+use Rattle.crash_core.specs.declared.answer.StepAnswer.{StepAnswer}
+use Rattle.crash_core.specs.declared.answer.StepAnswer.TheVariants.{Done, Stopped, NotNow}
+use Rattle.crash_core.specs.declared.event.Event.{Event}
+use Rattle.crash_core.specs.declared.event.Event.TheVariants.{Tick, Load, Store, Settle, LookUsed, TakeFresh, KeepUsed, LookHead, LookLink, Pop, Push, LookAnchor, TakeAll, Give}
+use Rattle.crash_core.specs.declared.owners.Seat.{Seat}
+use Rattle.crash_core.specs.declared.state.CoreState.{CoreState}
+use Rattle.crash_core.specs.View.{Setup, View, one_if_some}
+use Rattle.crash_core.specs.Guards.{HasTicketFor}
+use Rattle.crash_core.specs.Memory.{memory_of}
+use Rattle.crash_core.specs.Steps.{State, StepsTo, is_done, stops, not_now, has_stopped, state_after, seat_after}
+use Rattle.crash_core.specs.Standing.{IsCore, Keeps, StandsFor, HasTicketAt, Takes, Follows, Steps, steps_done, steps_stopped, steps_not, state_of}
+use Rattle.crash_core.proofs.WordLemmas.{entry_is, entry_there}
+
+-- what a seat has by its ticket
+ticket_for : (v : View) (ticket : Option ℕ) (event : Event) → v.ticket ≡ ticket → HasTicketAt ticket event → HasTicketFor v event
+ticket_for v ticket (Tick shift) is has = tt
+ticket_for v ticket (Load word) is has = ap one_if_some is ∙ has
+ticket_for v ticket (Store word value) is has = ap one_if_some is ∙ has
+ticket_for v ticket (Settle word) is has = tt
+ticket_for v ticket LookUsed is has = ap one_if_some is ∙ has
+ticket_for v ticket (TakeFresh n) is has = ap one_if_some is ∙ has
+ticket_for v ticket KeepUsed is has = ap one_if_some is ∙ has
+ticket_for v ticket (LookHead list) is has = ap one_if_some is ∙ has
+ticket_for v ticket LookLink is has = ap one_if_some is ∙ has
+ticket_for v ticket Pop is has = ap one_if_some is ∙ has
+ticket_for v ticket (Push d) is has = ap one_if_some is ∙ has
+ticket_for v ticket (LookAnchor d) is has = ap one_if_some is ∙ has
+ticket_for v ticket (TakeAll d) is has = ap one_if_some is ∙ has
+ticket_for v ticket (Give d) is has = ap one_if_some is ∙ has
+
+ticket_of : (v : View) (ticket : Option ℕ) (event : Event) → v.ticket ≡ ticket → HasTicketFor v event → HasTicketAt ticket event
+ticket_of v ticket (Tick shift) is has = tt
+ticket_of v ticket (Load word) is has = ap one_if_some (sym is) ∙ has
+ticket_of v ticket (Store word value) is has = ap one_if_some (sym is) ∙ has
+ticket_of v ticket (Settle word) is has = tt
+ticket_of v ticket LookUsed is has = ap one_if_some (sym is) ∙ has
+ticket_of v ticket (TakeFresh n) is has = ap one_if_some (sym is) ∙ has
+ticket_of v ticket KeepUsed is has = ap one_if_some (sym is) ∙ has
+ticket_of v ticket (LookHead list) is has = ap one_if_some (sym is) ∙ has
+ticket_of v ticket LookLink is has = ap one_if_some (sym is) ∙ has
+ticket_of v ticket Pop is has = ap one_if_some (sym is) ∙ has
+ticket_of v ticket (Push d) is has = ap one_if_some (sym is) ∙ has
+ticket_of v ticket (LookAnchor d) is has = ap one_if_some (sym is) ∙ has
+ticket_of v ticket (TakeAll d) is has = ap one_if_some (sym is) ∙ has
+ticket_of v ticket (Give d) is has = ap one_if_some (sym is) ∙ has
+
+-- the state is the core's words with its views
+stated : (c : CoreState) (k : Setup) (s : State) → StandsFor c k s → s ≡ state_of c s.views
+stated c k s stands = ap (λ ws. let r : State = record { words = ws; views = s.views } in r) (sym stands.words)
+
+abbrev pub Next : CoreState → Setup → State → ℕ → Event → StepAnswer → Type 0
+Next new k s i event answer = (next : State) × StepsTo k s i event answer next × StandsFor new k next
+
+of_steps : (c new : CoreState) (k : Setup) (views : List View) (i : ℕ) (v : View) (event : Event) (answer : StepAnswer) → Keeps c k views → get_or views i v ≡ v → v.stopped ≡ None
+    → Steps c new k views i v event answer → Next new k (state_of c views) i event answer
+of_steps c new k views i v event Done keeps at going (steps_done may on stands) = (state_after k (state_of c views) i v event, is_done v at may on, stands)
+of_steps c new k views i v event (Stopped ticket) keeps at going (steps_stopped step may at_end stands) = (state_after k (state_of c views) i v event, stops v step at may at_end, stands)
+of_steps c new k views i v event NotNow keeps at going (steps_not refused same) = (state_of c views, not_now v at going refused, subst (λ x. StandsFor x k (state_of c views)) (sym same) (record { words = refl; keeps = keeps }))
+
+module _ (c : CoreState) (i : ℕ) (t : Seat) (event : Event) (less : i < length c.seats.items) (at_t : get_or c.seats.items i t ≡ t) where
+  by_views : (new : CoreState) (answer : StepAnswer) → ((k : Setup) (views : List View) → Keeps c k views → Next new k (state_of c views) i event answer) → Follows c i event answer new
+  by_views new answer next = λ k s stands. subst (λ x. Next new k x i event answer) (sym (stated c k s stands)) (next k s.views stands.keeps)
+
+  seat_there : (k : Setup) (views : List View) → Keeps c k views → (v : View) × (get_or views i v ≡ v)
+  seat_there k views keeps = entry_there views i (subst (λ n. i < n) (sym keeps.seats) less)
+
+  pub follows_stopped : (step : ℕ) → t.stopped ≡ Some step → Follows c i event (Stopped step) c
+  follows_stopped step some = by_views c (Stopped step) (λ k views keeps.
+      let v = seat_there k views keeps in
+      (state_of c views, has_stopped v.0 step v.1 ((keeps.each i t v.0 (subst (λ n. i < n) (sym keeps.seats) less) at_t v.1).notes.stopped ∙ some), record { words = refl; keeps = keeps }))
+
+  pub follows_not : t.stopped ≡ None → (HasTicketAt t.ticket event → ⊥) → Follows c i event NotNow c
+  follows_not going none = by_views c NotNow (λ k views keeps.
+      let v = seat_there k views keeps in let notes = (keeps.each i t v.0 (subst (λ n. i < n) (sym keeps.seats) less) at_t v.1).notes in
+      (state_of c views, not_now v.0 v.1 (notes.stopped ∙ going) (λ may. none (ticket_of v.0 t.ticket event notes.ticket may.may.ticket)), record { words = refl; keeps = keeps }))
+
+  pub follows_taken : t.stopped ≡ None → HasTicketAt t.ticket event → (new : CoreState) (answer : StepAnswer) → Takes c i event answer new → Follows c i event answer new
+  follows_taken going has new answer takes = by_views new answer (λ k views keeps.
+      let v = seat_there k views keeps in let below : i < length views = subst (λ n. i < n) (sym keeps.seats) less in let notes = (keeps.each i t v.0 below at_t v.1).notes in
+      of_steps c new k views i v.0 event answer keeps v.1 (notes.stopped ∙ going)
+      (takes k views v.0 keeps below v.1 (notes.stopped ∙ going) (ticket_for v.0 t.ticket event notes.ticket has)))
+
+-- a step leaves as many seats
+views_after : (k : Setup) (s : State) (i : ℕ) (event : Event) (answer : StepAnswer) (next : State) → StepsTo k s i event answer next → length next.views ≡ length s.views
+views_after k s i event Done next (is_done v at may on) = length-set s.views i (seat_after (memory_of k.capacity s.words) v event)
+views_after k s i event (Stopped ticket) next (stops v step at may on) = length-set s.views i (seat_after (memory_of k.capacity s.words) v event)
+views_after k s i event NotNow next (not_now v at going refused) = refl
+views_after k s i event (Stopped ticket) next (has_stopped v step at some) = refl
+
+pub seats_after : (c new : CoreState) (i : ℕ) (event : Event) (answer : StepAnswer) → IsCore c → Follows c i event answer new → length new.seats.items ≡ length c.seats.items
+seats_after c new i event answer core follows = let next = follows core.setup (state_of c core.views) (record { words = refl; keeps = core.keeps }) in
+    sym next.2.keeps.seats ∙ views_after core.setup (state_of c core.views) i event answer next.0 next.1 ∙ core.keeps.seats
+
+-- the core after a step stands for a state again
+pub core_after : (c new : CoreState) (i : ℕ) (event : Event) (answer : StepAnswer) → IsCore c → Follows c i event answer new → IsCore new
+core_after c new i event answer core follows = let next = follows core.setup (state_of c core.views) (record { words = refl; keeps = core.keeps }) in
+    record { setup = core.setup; views = next.0.views; keeps = next.2.keeps }
+
+pub same_ticket : (c : CoreState) (i : ℕ) (t : Seat) (event : Event) → get_or c.seats.items i t ≡ t → i < length c.seats.items → HasTicketAt t.ticket event
+    → (s : Seat) → get_or c.seats.items i s ≡ s → HasTicketAt s.ticket event
+same_ticket c i t event at_t less has s at_s = subst (λ (x : Seat). HasTicketAt x.ticket event) (sym at_t ∙ entry_is c.seats.items i t s less ∙ at_s) has
