@@ -62,3 +62,4 @@ pub mod CutSteps
 pub mod GiveSteps
 pub mod TickSteps
 pub mod EventSteps
+pub mod RunSteps

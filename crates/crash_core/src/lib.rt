@@ -18,6 +18,7 @@ mod own_words;
 mod owners;
 mod part;
 mod reads;
+mod runs;
 mod shares;
 mod spans;
 mod state;

@@ -1,0 +1,30 @@
+//! Lists of events, run one after another.
+
+ghost use Rattle.std.specs.Prelude.{ℕ, ◌<◌, length, Contains, IfOk};
+ghost use Rattle.crash_core.specs.Standing.{IsCore, RunsOn};
+ghost use Rattle.crash_core.specs.declared.event.Event.{Event};
+
+use crate::answer::StepAnswer;
+use crate::event::Event;
+use crate::state::CoreState;
+use crate::steps::step;
+use std::alloc::{AllocError, Global};
+
+/// Tries the events in their order, and gives the answer of each. Want of memory is the only
+/// refusal; the events before it have been tried then.
+pub(crate) fn run(
+    core: &mut CoreState,
+    alloc: Global,
+    events: &[(usize, Event)],
+) -> Result<Vec<StepAnswer>, AllocError>
+    requires core { IsCore core.old }
+    requires seats { (e : ℕ × Event) → Contains events.now e → e.0 < length core.old.seats.items }
+    ensures runs { IfOk result (λ answers. RunsOn core.old events.now answers.items core.new) }
+    ensures core { IsCore core.new }
+{
+    let mut answers = Vec::new(alloc);
+    for (seat, event) in events {
+        answers.push(step(core, *seat, *event))?;
+    }
+    Ok(answers)
+}
