@@ -149,13 +149,8 @@ pub(crate) fn give(core: &mut CoreState, seat: usize, d: u64) -> StepAnswer
         seat,
         place: BlockPlace::Nowhere,
     };
-    give_chain(
-        &core.words,
-        &mut core.blocks,
-        batch.first,
-        batch.count,
-        owner,
-    );
+    let Group { first, count, .. } = batch;
+    give_chain(&core.words, &mut core.blocks, first, count, owner);
     core.words[core.geometry.anchor(d) as usize] = given;
     core.seats[seat] = Seat {
         ticket: None,
