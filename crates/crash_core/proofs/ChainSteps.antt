@@ -12,15 +12,15 @@ use Rattle.crash_core.specs.declared.owners.BlockOwner.{BlockOwner}
 use Rattle.crash_core.specs.declared.owners.Cache.{Cache}
 use Rattle.crash_core.specs.declared.owners.Seat.{Seat}
 use Rattle.crash_core.specs.declared.state.CoreState.{CoreState}
-use Rattle.crash_core.specs.Cells.{data_cell}
-use Rattle.crash_core.specs.Memory.{volatile_at, next}
-use Rattle.crash_core.specs.View.{Setup, View, of_class, times_block}
-use Rattle.crash_core.specs.Effects.{chain, first_of}
-use Rattle.crash_core.specs.Sound.{IsCutBlock}
+use Rattle.core_model.specs.Cells.{data_cell}
+use Rattle.core_model.specs.Memory.{volatile_at, next}
+use Rattle.core_model.specs.View.{Setup, View, of_class, times_block}
+use Rattle.core_model.specs.Effects.{chain, first_of}
+use Rattle.core_model.specs.Sound.{IsCutBlock}
 use Rattle.crash_core.specs.Standing.{place_for, no_block, IsPlace, HasBlocksOf, HasCaches, IsGiven, IsKept, Keeps}
-use Rattle.crash_core.proofs.TotalLemmas.{total_at}
-use Rattle.crash_core.proofs.PlaceLemmas.{and_is}
-use Rattle.crash_core.proofs.BlockLemmas.{inside_of, walks_chain, of_class_same, of_class_other, total_lists}
+use Rattle.core_model.proofs.TotalLemmas.{total_at}
+use Rattle.core_model.proofs.PlaceLemmas.{and_is}
+use Rattle.core_model.proofs.BlockLemmas.{inside_of, walks_chain, of_class_same, of_class_other, total_lists}
 use Rattle.crash_core.proofs.StandingLemmas.{memory_in}
 use Rattle.crash_core.proofs.ShareLemmas.{no_place}
 use Rattle.crash_core.proofs.GivenLemmas.{given_mine, given_theirs, walks_other}

@@ -7,13 +7,13 @@ use Rattle.crash_core.specs.declared.owners.Share.TheVariants as share
 use Rattle.crash_core.specs.declared.owners.SuperblockOwner.{SuperblockOwner}
 use Rattle.crash_core.specs.declared.owners.Seat.{Seat}
 use Rattle.crash_core.specs.declared.state.CoreState.{CoreState}
-use Rattle.crash_core.specs.View.{View, Claim, Span, times_classed}
-use Rattle.crash_core.specs.Effects.{claimed, claim_class, without_claim}
+use Rattle.core_model.specs.View.{View, Claim, Span, times_classed}
+use Rattle.core_model.specs.Effects.{claimed, claim_class, without_claim}
 use Rattle.crash_core.specs.Standing.{share_for, no_superblock, listed, HasNotes, HasCaches, HasBatch, HasBlocksOf, IsShare, HasSuperblocks, HasRoots, IsKept}
-use Rattle.crash_core.proofs.TotalLemmas.{eq-eqb-one, ne-eqb-none}
-use Rattle.crash_core.proofs.FrameLemmas.{times_without, without_none}
-use Rattle.crash_core.proofs.CountLemmas.{times_without_claim, class_without}
-use Rattle.crash_core.proofs.PlaceLemmas.{pick, skip, not-eq}
+use Rattle.core_model.proofs.TotalLemmas.{eq-eqb-one, ne-eqb-none}
+use Rattle.core_model.proofs.FrameLemmas.{times_without, without_none}
+use Rattle.core_model.proofs.CountLemmas.{times_without_claim, class_without}
+use Rattle.core_model.proofs.PlaceLemmas.{pick, skip, not-eq}
 use Rattle.crash_core.proofs.ShareLemmas.{shares_mine}
 
 -- a number that was there once is gone; the others stay

@@ -6,10 +6,10 @@ use Rattle.std.proofs.lemmas.List.{get_or-set_same, get_or-set_other}
 use Rattle.heap_model.specs.Geometry.{image_words}
 use Rattle.heap_model.specs.Durability.{IsTransient, is_head, is_anchor, is_link}
 use Rattle.heap_model.specs.Durability.{IsCrashImage}
-use Rattle.crash_core.specs.Memory.{table_length}
-use Rattle.crash_core.specs.Held.{durable_image}
+use Rattle.core_model.specs.Memory.{table_length}
+use Rattle.core_model.specs.Held.{durable_image}
 use Rattle.crash_core.specs.Crash.{IsLeft}
-use Rattle.crash_core.proofs.PlaceLemmas.{pick, skip, not-lt}
+use Rattle.core_model.proofs.PlaceLemmas.{pick, skip, not-lt}
 
 pub left_same : (capacity : ℕ) (words : List ℕ) → IsLeft capacity words words
 left_same capacity words = record { long = refl; others = λ word other. refl }

@@ -17,17 +17,17 @@ use Rattle.crash_core.specs.declared.owners.Share.{Share}
 use Rattle.crash_core.specs.declared.owners.Share.TheVariants as share
 use Rattle.crash_core.specs.declared.owners.SuperblockOwner.{SuperblockOwner}
 use Rattle.crash_core.specs.declared.state.CoreState.{CoreState}
-use Rattle.crash_core.specs.Memory.{used, durable_used, durable_info, info, next, memory_of}
-use Rattle.crash_core.specs.View.{Setup, View, Claim, Span, of_class, times_block, times_raw}
-use Rattle.crash_core.specs.Effects.{chain, steps, first_of, class_blocks, cleared, after_cut}
-use Rattle.crash_core.specs.Guards.{MayCut}
-use Rattle.crash_core.specs.Sound.{tally_of, times_cut, IsCutBlock, Good}
+use Rattle.core_model.specs.Memory.{used, durable_used, durable_info, info, next, memory_of}
+use Rattle.core_model.specs.View.{Setup, View, Claim, Span, of_class, times_block, times_raw}
+use Rattle.core_model.specs.Effects.{chain, steps, first_of, class_blocks, cleared, after_cut}
+use Rattle.core_model.specs.Guards.{MayCut}
+use Rattle.core_model.specs.Sound.{tally_of, times_cut, IsCutBlock, Good}
 use Rattle.crash_core.specs.Standing.{share_for, no_superblock, cutting_in, IsShare, HasSuperblocks, HasCaches, HasBlocksOf, IsGiven, IsKept, IsCore, Keeps, IsMoved, Decides, memory_at, snapshot}
-use Rattle.crash_core.proofs.TotalLemmas.{total_at}
-use Rattle.crash_core.proofs.OwnLemmas.{one_at_most}
-use Rattle.crash_core.proofs.CountLemmas.{length_steps, block_once}
-use Rattle.crash_core.proofs.BlockLemmas.{superblock_is}
-use Rattle.crash_core.proofs.SpanLemmas.{block_of}
+use Rattle.core_model.proofs.TotalLemmas.{total_at}
+use Rattle.core_model.proofs.OwnLemmas.{one_at_most}
+use Rattle.core_model.proofs.CountLemmas.{length_steps, block_once}
+use Rattle.core_model.proofs.BlockLemmas.{superblock_is}
+use Rattle.core_model.proofs.SpanLemmas.{block_of}
 use Rattle.crash_core.proofs.StandingLemmas.{memory_in}
 use Rattle.crash_core.proofs.ShareLemmas.{shares_mine, shares_theirs, share_alone}
 use Rattle.crash_core.proofs.ClaimLemmas.{without_at, without_off}

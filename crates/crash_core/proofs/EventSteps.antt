@@ -1,15 +1,15 @@
 -- What a step of the core makes of each state that it stands for.
 use Rattle.std.proofs.Common.{◌≡◌, ℕ, ◌<◌, List, get_or, length, Option, None, Some, refl, ap, sym, subst, ◌∙◌, length-set}
-use Rattle.crash_core.specs.declared.answer.StepAnswer.{StepAnswer}
-use Rattle.crash_core.specs.declared.answer.StepAnswer.TheVariants.{Done, Stopped, NotNow}
-use Rattle.crash_core.specs.declared.event.Event.{Event}
-use Rattle.crash_core.specs.declared.event.Event.TheVariants.{Tick, Load, Store, Settle, LookUsed, TakeFresh, KeepUsed, LookHead, LookLink, Pop, Push, LookAnchor, TakeAll, Give}
+use Rattle.core_model.specs.declared.answer.StepAnswer.{StepAnswer}
+use Rattle.core_model.specs.declared.answer.StepAnswer.TheVariants.{Done, Stopped, NotNow}
+use Rattle.core_model.specs.declared.event.Event.{Event}
+use Rattle.core_model.specs.declared.event.Event.TheVariants.{Tick, Load, Store, Settle, LookUsed, TakeFresh, KeepUsed, LookHead, LookLink, Pop, Push, LookAnchor, TakeAll, Give}
 use Rattle.crash_core.specs.declared.owners.Seat.{Seat}
 use Rattle.crash_core.specs.declared.state.CoreState.{CoreState}
-use Rattle.crash_core.specs.View.{Setup, View, one_if_some}
-use Rattle.crash_core.specs.Guards.{HasTicketFor}
-use Rattle.crash_core.specs.Memory.{memory_of}
-use Rattle.crash_core.specs.Steps.{State, StepsTo, is_done, stops, not_now, has_stopped, state_after, seat_after}
+use Rattle.core_model.specs.View.{Setup, View, one_if_some}
+use Rattle.core_model.specs.Guards.{HasTicketFor}
+use Rattle.core_model.specs.Memory.{memory_of}
+use Rattle.core_model.specs.Steps.{State, StepsTo, is_done, stops, not_now, has_stopped, state_after, seat_after}
 use Rattle.crash_core.specs.Standing.{IsCore, Keeps, StandsFor, HasTicketAt, Takes, Follows, Steps, steps_done, steps_stopped, steps_not, state_of}
 use Rattle.crash_core.proofs.WordLemmas.{entry_is, entry_there}
 

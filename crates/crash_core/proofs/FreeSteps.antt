@@ -11,16 +11,16 @@ use Rattle.crash_core.specs.declared.owners.BlockPlace.TheVariants as place
 use Rattle.crash_core.specs.declared.owners.Cache.{Cache}
 use Rattle.crash_core.specs.declared.owners.Seat.{Seat}
 use Rattle.crash_core.specs.declared.state.CoreState.{CoreState}
-use Rattle.crash_core.specs.Cells.{superblock_at}
-use Rattle.crash_core.specs.Memory.{next, info, memory_of}
-use Rattle.crash_core.specs.View.{Setup, View, of_class, times_block}
-use Rattle.crash_core.specs.Effects.{first_of, after_free}
-use Rattle.crash_core.specs.Guards.{MayFree}
-use Rattle.crash_core.specs.Sound.{Good}
+use Rattle.core_model.specs.Cells.{superblock_at}
+use Rattle.core_model.specs.Memory.{next, info, memory_of}
+use Rattle.core_model.specs.View.{Setup, View, of_class, times_block}
+use Rattle.core_model.specs.Effects.{first_of, after_free}
+use Rattle.core_model.specs.Guards.{MayFree}
+use Rattle.core_model.specs.Sound.{Good}
 use Rattle.crash_core.specs.Standing.{place_for, no_block, held_in, cached_in, batched_in, IsPlace, IsKept, Keeps, IsMoved, memory_at}
-use Rattle.crash_core.proofs.TotalLemmas.{total_at, eq-eqb-one, ne-eqb-none}
-use Rattle.crash_core.proofs.BlockLemmas.{of_class_same, of_class_other, total_lists}
-use Rattle.crash_core.proofs.OwnerLemmas.{in_lists_total, which_class}
+use Rattle.core_model.proofs.TotalLemmas.{total_at, eq-eqb-one, ne-eqb-none}
+use Rattle.core_model.proofs.BlockLemmas.{of_class_same, of_class_other, total_lists}
+use Rattle.core_model.proofs.OwnerLemmas.{in_lists_total, which_class}
 use Rattle.crash_core.proofs.StandingLemmas.{memory_in}
 use Rattle.crash_core.proofs.ClaimLemmas.{without_at, without_off}
 use Rattle.crash_core.proofs.ShareLemmas.{places_mine, places_theirs, place_alone}

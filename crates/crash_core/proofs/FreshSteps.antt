@@ -5,23 +5,23 @@ use Rattle.std.specs.Prelude.{Vec}
 use Rattle.std.specs.declared.alloc.Global.{Global}
 use Rattle.std.specs.Vec.{with_item}
 use Rattle.heap_model.specs.Counting.{times}
-use Rattle.crash_core.specs.declared.answer.StepAnswer.TheVariants.{Done, NotNow}
-use Rattle.crash_core.specs.declared.event.Event.TheVariants.{TakeFresh}
+use Rattle.core_model.specs.declared.answer.StepAnswer.TheVariants.{Done, NotNow}
+use Rattle.core_model.specs.declared.event.Event.TheVariants.{TakeFresh}
 use Rattle.crash_core.specs.declared.owners.Seat.{Seat}
 use Rattle.crash_core.specs.declared.owners.Seen.{Seen}
 use Rattle.crash_core.specs.declared.owners.Share.TheVariants as share
 use Rattle.crash_core.specs.declared.owners.SuperblockOwner.{SuperblockOwner}
 use Rattle.crash_core.specs.declared.state.CoreState.{CoreState}
-use Rattle.crash_core.specs.Memory.{used}
-use Rattle.crash_core.specs.View.{Setup, View, one_if_some, times_raw, times_classed, times_large}
-use Rattle.crash_core.specs.Effects.{seen, cleared, steps, taken_fresh, lost}
-use Rattle.crash_core.specs.Guards.{IsThere}
-use Rattle.crash_core.specs.Sound.{Good}
-use Rattle.crash_core.specs.Steps.{seat_after}
+use Rattle.core_model.specs.Memory.{used}
+use Rattle.core_model.specs.View.{Setup, View, one_if_some, times_raw, times_classed, times_large}
+use Rattle.core_model.specs.Effects.{seen, cleared, steps, taken_fresh, lost}
+use Rattle.core_model.specs.Guards.{IsThere}
+use Rattle.core_model.specs.Sound.{Good}
+use Rattle.core_model.specs.Steps.{seat_after}
 use Rattle.crash_core.specs.Standing.{share_for, no_superblock, IsShare, IsKept, IsRange, Keeps, Steps, snapshot}
-use Rattle.crash_core.proofs.TotalLemmas.{total_at}
-use Rattle.crash_core.proofs.FrameLemmas.{below_is, below_not, times_append, times_steps}
-use Rattle.crash_core.proofs.PlaceLemmas.{pick}
+use Rattle.core_model.proofs.TotalLemmas.{total_at}
+use Rattle.core_model.proofs.FrameLemmas.{below_is, below_not, times_append, times_steps}
+use Rattle.core_model.proofs.PlaceLemmas.{pick}
 use Rattle.crash_core.proofs.StandingLemmas.{step_done, step_not, memory_in}
 use Rattle.crash_core.proofs.ShareLemmas.{no_share}
 use Rattle.crash_core.proofs.RangeLemmas.{range_mine, range_theirs}

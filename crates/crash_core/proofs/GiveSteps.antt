@@ -9,8 +9,8 @@ use Rattle.heap_model.specs.Sizes.{IsClass, words_of_class, blocks_of}
 use Rattle.heap_model.specs.Counting.{times}
 use Rattle.heap_model.specs.Words.{anchor_state, anchor_first, anchor_count, full_anchor}
 use Rattle.heap_model.proofs.SizeLemmas.{few_blocks}
-use Rattle.crash_core.specs.declared.answer.StepAnswer.TheVariants.{Done, NotNow}
-use Rattle.crash_core.specs.declared.event.Event.TheVariants.{Give}
+use Rattle.core_model.specs.declared.answer.StepAnswer.TheVariants.{Done, NotNow}
+use Rattle.core_model.specs.declared.event.Event.TheVariants.{Give}
 use Rattle.crash_core.specs.declared.owners.BlockPlace.TheVariants as place
 use Rattle.crash_core.specs.declared.owners.BlockOwner.{BlockOwner}
 use Rattle.crash_core.specs.declared.owners.Group.{Group}
@@ -19,20 +19,20 @@ use Rattle.crash_core.specs.declared.owners.Seen.{Seen}
 use Rattle.crash_core.specs.declared.owners.Share.{Share}
 use Rattle.crash_core.specs.declared.owners.Share.TheVariants as share
 use Rattle.crash_core.specs.declared.state.CoreState.{CoreState}
-use Rattle.crash_core.specs.Cells.{superblock_at}
-use Rattle.crash_core.specs.Memory.{anchor, info, next, memory_of}
-use Rattle.crash_core.specs.View.{Setup, View, one_if_some, no_batch, times_block, times_classed}
-use Rattle.crash_core.specs.Effects.{chain, first_of, last_of, seen_word, seen_of, won, lost, claimed, trimmed, given, given_anchor, batch_anchor}
-use Rattle.crash_core.specs.Guards.{IsThere, MayGive}
-use Rattle.crash_core.specs.Sound.{tally_of, times_cut, IsCutBlock, Good}
-use Rattle.crash_core.specs.Steps.{seat_after}
+use Rattle.core_model.specs.Cells.{superblock_at}
+use Rattle.core_model.specs.Memory.{anchor, info, next, memory_of}
+use Rattle.core_model.specs.View.{Setup, View, one_if_some, no_batch, times_block, times_classed}
+use Rattle.core_model.specs.Effects.{chain, first_of, last_of, seen_word, seen_of, won, lost, claimed, trimmed, given, given_anchor, batch_anchor}
+use Rattle.core_model.specs.Guards.{IsThere, MayGive}
+use Rattle.core_model.specs.Sound.{tally_of, times_cut, IsCutBlock, Good}
+use Rattle.core_model.specs.Steps.{seat_after}
 use Rattle.crash_core.specs.Standing.{share_for, no_superblock, no_block, listed, batched_in, IsPlace, IsShare, HasBlocksOf, IsGiven, IsKept, IsCore, Keeps, Steps, Decides, memory_at}
-use Rattle.crash_core.proofs.TotalLemmas.{total_at}
-use Rattle.crash_core.proofs.FrameLemmas.{times_append}
-use Rattle.crash_core.proofs.SoundLemmas.{batched}
-use Rattle.crash_core.proofs.CountLemmas.{chain_short}
-use Rattle.crash_core.proofs.PlaceLemmas.{pick}
-use Rattle.crash_core.proofs.BlockLemmas.{first_there}
+use Rattle.core_model.proofs.TotalLemmas.{total_at}
+use Rattle.core_model.proofs.FrameLemmas.{times_append}
+use Rattle.core_model.proofs.SoundLemmas.{batched}
+use Rattle.core_model.proofs.CountLemmas.{chain_short}
+use Rattle.core_model.proofs.PlaceLemmas.{pick}
+use Rattle.core_model.proofs.BlockLemmas.{first_there}
 use Rattle.crash_core.proofs.StandingLemmas.{step_done, step_not, memory_in}
 use Rattle.crash_core.proofs.ShareLemmas.{no_share, shares_theirs, place_alone}
 use Rattle.crash_core.proofs.ClaimLemmas.{claimed_kept}
@@ -42,8 +42,8 @@ use Rattle.crash_core.proofs.FreeSteps.{once}
 use Rattle.crash_core.proofs.LiftSteps.{last_range}
 use Rattle.crash_core.proofs.GivenLemmas.{given_mine, given_theirs}
 use Rattle.crash_core.proofs.ChainSteps.{chain_is, block_fits}
-use Rattle.crash_core.proofs.AnchorLemmas as on_anchor
-use Rattle.crash_core.proofs.GiveLemmas as gives
+use Rattle.core_model.proofs.AnchorLemmas as on_anchor
+use Rattle.core_model.proofs.GiveLemmas as gives
 use Rattle.crash_core.proofs.WordLemmas.{entry_there}
 
 abbrev pub empty_group : Group

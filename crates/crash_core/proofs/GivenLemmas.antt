@@ -7,9 +7,9 @@ use Rattle.heap_model.specs.Counting.{times}
 use Rattle.crash_core.specs.declared.owners.BlockPlace.{BlockPlace}
 use Rattle.crash_core.specs.declared.owners.BlockPlace.TheVariants as place
 use Rattle.crash_core.specs.declared.owners.BlockOwner.{BlockOwner}
-use Rattle.crash_core.specs.Effects.{chain}
+use Rattle.core_model.specs.Effects.{chain}
 use Rattle.crash_core.specs.Standing.{place_for, no_block, IsGiven}
-use Rattle.crash_core.proofs.TotalLemmas.{eq-eqb-one, ne-eqb-none}
+use Rattle.core_model.proofs.TotalLemmas.{eq-eqb-one, ne-eqb-none}
 use Rattle.crash_core.proofs.ShareLemmas.{place_own, place_theirs}
 
 pub some_left : (next : ℕ → ℕ) (at left : ℕ) → 0 < left → 0 < times at (chain next at left)

@@ -6,11 +6,11 @@ use Rattle.crash_core.specs.declared.owners.Seat.{Seat}
 use Rattle.crash_core.specs.declared.owners.Share.{Share}
 use Rattle.crash_core.specs.declared.owners.Share.TheVariants as share
 use Rattle.crash_core.specs.declared.state.CoreState.{CoreState}
-use Rattle.crash_core.specs.Memory.{info, anchor, durable_used, durable_info, memory_of}
-use Rattle.crash_core.specs.View.{Setup, View}
-use Rattle.crash_core.specs.Guards.{MayHoldLarge}
+use Rattle.core_model.specs.Memory.{info, anchor, durable_used, durable_info, memory_of}
+use Rattle.core_model.specs.View.{Setup, View}
+use Rattle.core_model.specs.Guards.{MayHoldLarge}
 use Rattle.crash_core.specs.Standing.{share_for, no_superblock, raw_in, split_in, IsKept, IsCore, Keeps, MayJoin, memory_at}
-use Rattle.crash_core.proofs.PlaceLemmas.{pick, skip, not-eq}
+use Rattle.core_model.proofs.PlaceLemmas.{pick, skip, not-eq}
 use Rattle.crash_core.proofs.StandingLemmas.{memory_in}
 
 pub mark_low : (c : CoreState) → IsCore c → durable_used (memory_at c) ≤ c.geometry.capacity

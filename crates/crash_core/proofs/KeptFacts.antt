@@ -8,15 +8,15 @@ use Rattle.heap_model.specs.Words.{head_first, head_pops}
 use Rattle.crash_core.specs.declared.owners.Seat.{Seat}
 use Rattle.crash_core.specs.declared.owners.Seen.{Seen}
 use Rattle.crash_core.specs.declared.state.CoreState.{CoreState}
-use Rattle.crash_core.specs.Cells.{head_cell}
-use Rattle.crash_core.specs.Memory.{memory_of, table_length}
-use Rattle.crash_core.specs.View.{Setup, View, one_if_some}
-use Rattle.crash_core.specs.Effects.{seen_word, seen_of}
-use Rattle.crash_core.specs.Guards.{IsThere}
+use Rattle.core_model.specs.Cells.{head_cell}
+use Rattle.core_model.specs.Memory.{memory_of, table_length}
+use Rattle.core_model.specs.View.{Setup, View, one_if_some}
+use Rattle.core_model.specs.Effects.{seen_word, seen_of}
+use Rattle.core_model.specs.Guards.{IsThere}
 use Rattle.crash_core.specs.Standing.{IsKept, IsCore, Keeps, snapshot}
-use Rattle.crash_core.proofs.QuietLemmas.{not_there}
-use Rattle.crash_core.proofs.TotalLemmas.{total_at, ne-eqb-none}
-use Rattle.crash_core.proofs.ListLemmas.{number_once}
+use Rattle.core_model.proofs.QuietLemmas.{not_there}
+use Rattle.core_model.proofs.TotalLemmas.{total_at, ne-eqb-none}
+use Rattle.core_model.proofs.ListLemmas.{number_once}
 use Rattle.crash_core.proofs.WordLemmas.{entry_there}
 
 module _ (c : CoreState) (k : Setup) (views : List View) (i : ℕ) (v : View) (t : Seat) (keeps : Keeps c k views) (below : i < length views) (at : get_or views i v ≡ v)

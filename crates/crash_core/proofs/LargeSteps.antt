@@ -9,13 +9,13 @@ use Rattle.crash_core.specs.declared.owners.Share.{Share}
 use Rattle.crash_core.specs.declared.owners.Share.TheVariants as share
 use Rattle.crash_core.specs.declared.owners.SuperblockOwner.{SuperblockOwner}
 use Rattle.crash_core.specs.declared.state.CoreState.{CoreState}
-use Rattle.crash_core.specs.View.{Setup, View, Span}
-use Rattle.crash_core.specs.Effects.{cleared, span_count, without_range, after_large}
-use Rattle.crash_core.specs.Guards.{MayHoldLarge}
-use Rattle.crash_core.specs.Sound.{Good}
+use Rattle.core_model.specs.View.{Setup, View, Span}
+use Rattle.core_model.specs.Effects.{cleared, span_count, without_range, after_large}
+use Rattle.core_model.specs.Guards.{MayHoldLarge}
+use Rattle.core_model.specs.Sound.{Good}
 use Rattle.crash_core.specs.Standing.{share_for, no_superblock, raw_in, split_in, cutting_in, classed_in, class_in, large_in, count_in, IsShare, IsRange, IsKept, IsCore, Keeps, IsMoved, Decides, snapshot}
-use Rattle.crash_core.proofs.PlaceLemmas.{pick, skip, not-eq}
-use Rattle.crash_core.proofs.SpanLemmas.{range_is, range_not, without_range_in, without_range_out}
+use Rattle.core_model.proofs.PlaceLemmas.{pick, skip, not-eq}
+use Rattle.core_model.proofs.SpanLemmas.{range_is, range_not, without_range_in, without_range_out}
 use Rattle.crash_core.proofs.StandingLemmas.{memory_in}
 use Rattle.crash_core.proofs.ShareLemmas.{share_own, share_theirs, share_alone, shares_mine, shares_theirs}
 use Rattle.crash_core.proofs.RangeLemmas.{in_or_out, range_theirs}

@@ -7,17 +7,17 @@ use Rattle.crash_core.specs.declared.owners.BlockPlace.TheVariants as place
 use Rattle.crash_core.specs.declared.owners.Cache.{Cache}
 use Rattle.crash_core.specs.declared.owners.Seat.{Seat}
 use Rattle.crash_core.specs.declared.state.CoreState.{CoreState}
-use Rattle.crash_core.specs.Cells.{superblock_at}
-use Rattle.crash_core.specs.Memory.{next, memory_of}
-use Rattle.crash_core.specs.View.{Setup, View, of_class}
-use Rattle.crash_core.specs.Effects.{first_of, last_of, rest_of, after_lift}
-use Rattle.crash_core.specs.Guards.{MayAlloc, MayLift}
-use Rattle.crash_core.specs.Sound.{Good}
+use Rattle.core_model.specs.Cells.{superblock_at}
+use Rattle.core_model.specs.Memory.{next, memory_of}
+use Rattle.core_model.specs.View.{Setup, View, of_class}
+use Rattle.core_model.specs.Effects.{first_of, last_of, rest_of, after_lift}
+use Rattle.core_model.specs.Guards.{MayAlloc, MayLift}
+use Rattle.core_model.specs.Sound.{Good}
 use Rattle.crash_core.specs.Standing.{no_block, IsPlace, IsKept, Keeps, IsMoved, Decides, memory_at}
-use Rattle.crash_core.proofs.TotalLemmas.{eq-eqb-one, ne-eqb-none}
-use Rattle.crash_core.proofs.FrameLemmas.{times_append}
-use Rattle.crash_core.proofs.BlockLemmas.{total_lists}
-use Rattle.crash_core.proofs.PlaceLemmas.{skip, not-eq}
+use Rattle.core_model.proofs.TotalLemmas.{eq-eqb-one, ne-eqb-none}
+use Rattle.core_model.proofs.FrameLemmas.{times_append}
+use Rattle.core_model.proofs.BlockLemmas.{total_lists}
+use Rattle.core_model.proofs.PlaceLemmas.{skip, not-eq}
 use Rattle.crash_core.proofs.StandingLemmas.{memory_in}
 use Rattle.crash_core.proofs.ShareLemmas.{places_mine, places_theirs, place_alone}
 use Rattle.crash_core.proofs.FreeSteps.{short, once}

@@ -5,25 +5,25 @@ use Rattle.std.specs.Vec.{with_item}
 use Rattle.heap_model.specs.Counting.{times}
 use Rattle.heap_model.specs.Geometry.{lists}
 use Rattle.heap_model.specs.Words.{head_of, head_first, head_pops}
-use Rattle.crash_core.specs.declared.answer.StepAnswer.TheVariants.{Done, NotNow}
-use Rattle.crash_core.specs.declared.event.Event.TheVariants.{Pop, Push}
+use Rattle.core_model.specs.declared.answer.StepAnswer.TheVariants.{Done, NotNow}
+use Rattle.core_model.specs.declared.event.Event.TheVariants.{Pop, Push}
 use Rattle.crash_core.specs.declared.owners.Seat.{Seat}
 use Rattle.crash_core.specs.declared.owners.Seen.{Seen}
 use Rattle.crash_core.specs.declared.owners.Share.{Share}
 use Rattle.crash_core.specs.declared.owners.Share.TheVariants as share
 use Rattle.crash_core.specs.declared.state.CoreState.{CoreState}
-use Rattle.crash_core.specs.Cells.{head_cell, link_cell}
-use Rattle.crash_core.specs.Memory.{volatile_at, used}
-use Rattle.crash_core.specs.View.{Setup, View, one_if_some, times_raw, times_classed, times_large}
-use Rattle.crash_core.specs.Effects.{seen, seen_word, seen_of, before, cleared, claimed, popped, popped_head, pushed, pushed_raw, pushed_classed, pushed_head, won, lost}
-use Rattle.crash_core.specs.Guards.{IsThere, MayPush, MayList, as_free, of_its_class}
-use Rattle.crash_core.specs.Sound.{Good, KnowsHead}
-use Rattle.crash_core.specs.Steps.{seat_after}
+use Rattle.core_model.specs.Cells.{head_cell, link_cell}
+use Rattle.core_model.specs.Memory.{volatile_at, used}
+use Rattle.core_model.specs.View.{Setup, View, one_if_some, times_raw, times_classed, times_large}
+use Rattle.core_model.specs.Effects.{seen, seen_word, seen_of, before, cleared, claimed, popped, popped_head, pushed, pushed_raw, pushed_classed, pushed_head, won, lost}
+use Rattle.core_model.specs.Guards.{IsThere, MayPush, MayList, as_free, of_its_class}
+use Rattle.core_model.specs.Sound.{Good, KnowsHead}
+use Rattle.core_model.specs.Steps.{seat_after}
 use Rattle.crash_core.specs.Standing.{share_for, no_superblock, listed, IsShare, IsKept, Keeps, Steps, snapshot}
-use Rattle.crash_core.proofs.TotalLemmas.{total_at}
-use Rattle.crash_core.proofs.OwnLemmas.{one_at_most}
-use Rattle.crash_core.proofs.ListLemmas.{in_lists_at}
-use Rattle.crash_core.proofs.PlaceLemmas.{pick, skip}
+use Rattle.core_model.proofs.TotalLemmas.{total_at}
+use Rattle.core_model.proofs.OwnLemmas.{one_at_most}
+use Rattle.core_model.proofs.ListLemmas.{in_lists_at}
+use Rattle.core_model.proofs.PlaceLemmas.{pick, skip}
 use Rattle.crash_core.proofs.StandingLemmas.{step_done, step_not, memory_in}
 use Rattle.crash_core.proofs.KeptFacts as facts
 use Rattle.crash_core.proofs.ShareLemmas.{no_share, share_alone, shares_theirs}

@@ -3,10 +3,10 @@ use Rattle.std.proofs.Common.{◌≡◌, ◌≢◌, ℕ, ◌+◌, ◌<◌, ◌�
 use Rattle.crash_core.specs.declared.owners.Seat.{Seat}
 use Rattle.crash_core.specs.declared.owners.Share.{Share}
 use Rattle.crash_core.specs.declared.state.CoreState.{CoreState}
-use Rattle.crash_core.specs.View.{Setup, View}
-use Rattle.crash_core.specs.Guards.{MayLookAt}
+use Rattle.core_model.specs.View.{Setup, View}
+use Rattle.core_model.specs.Guards.{MayLookAt}
 use Rattle.crash_core.specs.Standing.{share_for, no_superblock, raw_in, split_in, classed_in, IsShare, IsKept, Keeps}
-use Rattle.crash_core.proofs.SoundLemmas.{taken, batched}
+use Rattle.core_model.proofs.SoundLemmas.{taken, batched}
 use Rattle.crash_core.proofs.StandingLemmas.{memory_in}
 use Rattle.crash_core.proofs.PushDecision.{settled_cut}
 

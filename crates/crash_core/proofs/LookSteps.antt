@@ -3,18 +3,18 @@ use Rattle.std.proofs.Common.{◌≡◌, ◌≢◌, ℕ, zero, suc, ◌+◌, ◌
 use Rattle.std.specs.Vec.{with_item}
 use Rattle.heap_model.specs.Geometry.{lists, image_words, link_word}
 use Rattle.heap_model.specs.Words.{head_first}
-use Rattle.crash_core.specs.declared.answer.StepAnswer.TheVariants.{Done, NotNow}
-use Rattle.crash_core.specs.declared.event.Event.TheVariants.{LookUsed, LookHead, LookLink, LookAnchor, KeepUsed}
+use Rattle.core_model.specs.declared.answer.StepAnswer.TheVariants.{Done, NotNow}
+use Rattle.core_model.specs.declared.event.Event.TheVariants.{LookUsed, LookHead, LookLink, LookAnchor, KeepUsed}
 use Rattle.crash_core.specs.declared.owners.Seat.{Seat}
 use Rattle.crash_core.specs.declared.owners.Seen.{Seen}
 use Rattle.crash_core.specs.declared.state.CoreState.{CoreState}
-use Rattle.crash_core.specs.Cells.{used_cell, head_cell, link_cell, anchor_cell, is_cell}
-use Rattle.crash_core.specs.Memory.{anchor, volatile_at, memory_of}
-use Rattle.crash_core.specs.View.{Setup, View, one_if_some}
-use Rattle.crash_core.specs.Effects.{seen, seen_word, before}
-use Rattle.crash_core.specs.Guards.{IsThere, MayLookAt}
+use Rattle.core_model.specs.Cells.{used_cell, head_cell, link_cell, anchor_cell, is_cell}
+use Rattle.core_model.specs.Memory.{anchor, volatile_at, memory_of}
+use Rattle.core_model.specs.View.{Setup, View, one_if_some}
+use Rattle.core_model.specs.Effects.{seen, seen_word, before}
+use Rattle.core_model.specs.Guards.{IsThere, MayLookAt}
 use Rattle.crash_core.specs.Standing.{IsKept, Keeps, Steps, snapshot, memory_at}
-use Rattle.crash_core.proofs.QuietLemmas.{not_there}
+use Rattle.core_model.proofs.QuietLemmas.{not_there}
 use Rattle.crash_core.proofs.StandingLemmas.{step_noted, step_not, memory_in}
 use Rattle.crash_core.proofs.KeptFacts as facts
 use Rattle.crash_core.proofs.WordLemmas.{entry_is, read_is, put_back}

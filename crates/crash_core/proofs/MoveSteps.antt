@@ -13,17 +13,17 @@ use Rattle.crash_core.specs.declared.owners.BlockPlace.TheVariants as place
 use Rattle.crash_core.specs.declared.owners.Cache.{Cache}
 use Rattle.crash_core.specs.declared.owners.Seat.{Seat}
 use Rattle.crash_core.specs.declared.state.CoreState.{CoreState}
-use Rattle.crash_core.specs.Cells.{superblock_at}
-use Rattle.crash_core.specs.Memory.{next, info, memory_of}
-use Rattle.crash_core.specs.View.{Setup, View, of_class, times_block}
-use Rattle.crash_core.specs.Effects.{first_of, rest_of, after_alloc}
-use Rattle.crash_core.specs.Guards.{MayAlloc}
-use Rattle.crash_core.specs.Sound.{Good}
+use Rattle.core_model.specs.Cells.{superblock_at}
+use Rattle.core_model.specs.Memory.{next, info, memory_of}
+use Rattle.core_model.specs.View.{Setup, View, of_class, times_block}
+use Rattle.core_model.specs.Effects.{first_of, rest_of, after_alloc}
+use Rattle.core_model.specs.Guards.{MayAlloc}
+use Rattle.core_model.specs.Sound.{Good}
 use Rattle.crash_core.specs.Standing.{HasCaches, place_for, no_block, held_in, cached_in, batched_in, IsPlace, IsKept, IsCore, Keeps, IsMoved, Decides, memory_at}
-use Rattle.crash_core.proofs.TotalLemmas.{total_at, eq-eqb-one, ne-eqb-none}
-use Rattle.crash_core.proofs.BlockLemmas.{inside_of, first_there, of_class_same, of_class_other, total_lists}
-use Rattle.crash_core.proofs.OwnerLemmas.{in_lists_total}
-use Rattle.crash_core.proofs.ShiftLemmas.{first_rest}
+use Rattle.core_model.proofs.TotalLemmas.{total_at, eq-eqb-one, ne-eqb-none}
+use Rattle.core_model.proofs.BlockLemmas.{inside_of, first_there, of_class_same, of_class_other, total_lists}
+use Rattle.core_model.proofs.OwnerLemmas.{in_lists_total}
+use Rattle.core_model.proofs.ShiftLemmas.{first_rest}
 use Rattle.crash_core.proofs.StandingLemmas.{memory_in}
 use Rattle.crash_core.proofs.ShareLemmas.{places_mine, places_theirs, place_alone}
 use Rattle.crash_core.proofs.WordLemmas.{entry_is, entry_there}

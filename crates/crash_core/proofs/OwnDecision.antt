@@ -12,15 +12,15 @@ use Rattle.crash_core.specs.declared.owners.BlockPlace.{BlockPlace}
 use Rattle.crash_core.specs.declared.owners.Seat.{Seat}
 use Rattle.crash_core.specs.declared.owners.Share.{Share}
 use Rattle.crash_core.specs.declared.state.CoreState.{CoreState}
-use Rattle.crash_core.specs.Cells.{Cell, info_cell, anchor_cell, link_cell, root_cell, data_cell, cell_at, superblock_at}
-use Rattle.crash_core.specs.Memory.{info, memory_of}
-use Rattle.crash_core.specs.View.{Setup, View, times_own, times_raw, times_large, times_block, times_within, times_in_classes}
-use Rattle.crash_core.specs.Guards.{IsOwn}
-use Rattle.crash_core.specs.Sound.{Good, IsCutBlock}
+use Rattle.core_model.specs.Cells.{Cell, info_cell, anchor_cell, link_cell, root_cell, data_cell, cell_at, superblock_at}
+use Rattle.core_model.specs.Memory.{info, memory_of}
+use Rattle.core_model.specs.View.{Setup, View, times_own, times_raw, times_large, times_block, times_within, times_in_classes}
+use Rattle.core_model.specs.Guards.{IsOwn}
+use Rattle.core_model.specs.Sound.{Good, IsCutBlock}
 use Rattle.crash_core.specs.Standing.{share_for, place_for, no_superblock, no_block, raw_in, split_in, cutting_in, classed_in, large_in, held_in, cached_in, batched_in, IsShare, IsPlace, IsKept, Keeps, memory_at}
-use Rattle.crash_core.proofs.PlaceLemmas.{and_is}
-use Rattle.crash_core.proofs.TotalLemmas.{ne-eqb-none}
-use Rattle.crash_core.proofs.OwnerLemmas.{in_blocks, covered, which_class}
+use Rattle.core_model.proofs.PlaceLemmas.{and_is}
+use Rattle.core_model.proofs.TotalLemmas.{ne-eqb-none}
+use Rattle.core_model.proofs.OwnerLemmas.{in_blocks, covered, which_class}
 use Rattle.crash_core.proofs.StandingLemmas.{memory_in}
 use Rattle.crash_core.proofs.WordLemmas.{entry_is}
 use Rattle.crash_core.proofs.PushDecision.{refused}

@@ -8,10 +8,10 @@ use Rattle.crash_core.specs.declared.owners.Share.{Share}
 use Rattle.crash_core.specs.declared.owners.Share.TheVariants as share
 use Rattle.crash_core.specs.declared.owners.SuperblockOwner.{SuperblockOwner}
 use Rattle.crash_core.specs.declared.state.CoreState.{CoreState}
-use Rattle.crash_core.specs.Memory.{Memory, info, anchor, link, durable_used, memory_of}
-use Rattle.crash_core.specs.View.{Setup, View, one_if_some, times_classed}
-use Rattle.crash_core.specs.Effects.{seen_word, seen_of}
-use Rattle.crash_core.specs.Guards.{MayList, as_free, of_its_class, MayPush}
+use Rattle.core_model.specs.Memory.{Memory, info, anchor, link, durable_used, memory_of}
+use Rattle.core_model.specs.View.{Setup, View, one_if_some, times_classed}
+use Rattle.core_model.specs.Effects.{seen_word, seen_of}
+use Rattle.core_model.specs.Guards.{MayList, as_free, of_its_class, MayPush}
 use Rattle.crash_core.specs.Standing.{share_for, no_superblock, raw_in, split_in, cutting_in, classed_in, IsShare, IsKept, Keeps, memory_at}
 use Rattle.crash_core.proofs.StandingLemmas.{memory_in}
 use Rattle.crash_core.proofs.KeptFacts as facts

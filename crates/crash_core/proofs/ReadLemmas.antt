@@ -2,10 +2,10 @@
 use Rattle.std.proofs.Common.{◌≡◌, ℕ, ◌+◌, ◌≤◌, true, get_or, length, ap, sym, ◌∙◌, arith}
 use Rattle.heap_model.specs.Geometry.{image_words, largest_capacity_fits}
 use Rattle.crash_core.specs.declared.state.CoreState.{CoreState}
-use Rattle.crash_core.specs.Cells.{Cell, is_cell, index_of}
-use Rattle.crash_core.specs.Memory.{volatile_at, durable_at, table_length}
+use Rattle.core_model.specs.Cells.{Cell, is_cell, index_of}
+use Rattle.core_model.specs.Memory.{volatile_at, durable_at, table_length}
 use Rattle.crash_core.specs.Standing.{IsCore, memory_at}
-use Rattle.crash_core.proofs.PlaceLemmas.{index_within}
+use Rattle.core_model.proofs.PlaceLemmas.{index_within}
 use Rattle.crash_core.proofs.WordLemmas.{entry_is, read_is}
 
 -- how long its lists are

@@ -1,11 +1,11 @@
 -- What a list of events makes of each state that the core stands for, an event at a time.
 use Rattle.std.proofs.Common.{◌≡◌, ℕ, suc, ◌+◌, ◌<◌, ◌≤◌, List, [], ◌∷◌, ◌++◌, get_or, length, take, take_all, refl, ap, sym, subst, ◌∙◌, arith}
 use Rattle.std.proofs.Math.Seq.{take-suc}
-use Rattle.crash_core.specs.declared.answer.StepAnswer.{StepAnswer}
-use Rattle.crash_core.specs.declared.event.Event.{Event}
+use Rattle.core_model.specs.declared.answer.StepAnswer.{StepAnswer}
+use Rattle.core_model.specs.declared.event.Event.{Event}
 use Rattle.crash_core.specs.declared.state.CoreState.{CoreState}
-use Rattle.crash_core.specs.View.{Setup}
-use Rattle.crash_core.specs.Steps.{State, StepsTo, Runs}
+use Rattle.core_model.specs.View.{Setup}
+use Rattle.core_model.specs.Steps.{State, StepsTo, Runs}
 use Rattle.crash_core.specs.Standing.{IsCore, Follows, RunsOn}
 
 -- one event more

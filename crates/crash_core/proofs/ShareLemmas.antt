@@ -9,9 +9,9 @@ use Rattle.crash_core.specs.declared.owners.BlockOwner.{BlockOwner}
 use Rattle.crash_core.specs.declared.owners.Share.{Share}
 use Rattle.crash_core.specs.declared.owners.Share.TheVariants as share
 use Rattle.crash_core.specs.declared.owners.SuperblockOwner.{SuperblockOwner}
-use Rattle.crash_core.specs.View.{Claim, Span, times_classed, times_large}
+use Rattle.core_model.specs.View.{Claim, Span, times_classed, times_large}
 use Rattle.crash_core.specs.Standing.{share_for, place_for, no_superblock, no_block, IsShare, IsPlace}
-use Rattle.crash_core.proofs.PlaceLemmas.{pick, skip, not-eq}
+use Rattle.core_model.proofs.PlaceLemmas.{pick, skip, not-eq}
 
 -- of a thing that seat i has another has nothing
 pub share_theirs : (i j : ℕ) (x : Share) → j ≢ i → share_for j (record { seat = i; share = x }) ≡ share.Nothing

@@ -11,17 +11,17 @@ use Rattle.crash_core.specs.declared.owners.Share.{Share}
 use Rattle.crash_core.specs.declared.owners.Share.TheVariants as share
 use Rattle.crash_core.specs.declared.owners.SuperblockOwner.{SuperblockOwner}
 use Rattle.crash_core.specs.declared.state.CoreState.{CoreState}
-use Rattle.crash_core.specs.Cells.{superblock_at}
-use Rattle.crash_core.specs.Memory.{used}
-use Rattle.crash_core.specs.View.{Setup, View, Span, times_large}
-use Rattle.crash_core.specs.Effects.{steps, cleared, span_count, without_span, after_split}
-use Rattle.crash_core.specs.Guards.{MaySplit}
-use Rattle.crash_core.specs.Sound.{Good}
+use Rattle.core_model.specs.Cells.{superblock_at}
+use Rattle.core_model.specs.Memory.{used}
+use Rattle.core_model.specs.View.{Setup, View, Span, times_large}
+use Rattle.core_model.specs.Effects.{steps, cleared, span_count, without_span, after_split}
+use Rattle.core_model.specs.Guards.{MaySplit}
+use Rattle.core_model.specs.Sound.{Good}
 use Rattle.crash_core.specs.Standing.{share_for, no_superblock, raw_in, split_in, cutting_in, classed_in, class_in, large_in, count_in, IsShare, IsRange, IsKept, IsCore, Keeps, IsMoved, Decides, snapshot}
-use Rattle.crash_core.proofs.TotalLemmas.{total_at}
-use Rattle.crash_core.proofs.FrameLemmas.{times_append, below_not}
-use Rattle.crash_core.proofs.LinkFrameLemmas.{span_covers}
-use Rattle.crash_core.proofs.SpanLemmas.{range_is, range_not, times_range, without_span_is, span_other}
+use Rattle.core_model.proofs.TotalLemmas.{total_at}
+use Rattle.core_model.proofs.FrameLemmas.{times_append, below_not}
+use Rattle.core_model.proofs.LinkFrameLemmas.{span_covers}
+use Rattle.core_model.proofs.SpanLemmas.{range_is, range_not, times_range, without_span_is, span_other}
 use Rattle.crash_core.proofs.StandingLemmas.{memory_in}
 use Rattle.crash_core.proofs.ShareLemmas.{share_alone}
 use Rattle.crash_core.proofs.RangeLemmas.{range_mine, range_theirs}

@@ -5,18 +5,18 @@ use Rattle.std.specs.declared.alloc.Global.{Global}
 use Rattle.std.specs.Vec.{with_item}
 use Rattle.std.proofs.lemmas.Bool.{cases_eq}
 use Rattle.std.proofs.lemmas.List.{get_or-set_same, get_or-set_other}
-use Rattle.crash_core.specs.declared.answer.StepAnswer.TheVariants.{Done, NotNow}
-use Rattle.crash_core.specs.declared.event.Event.{Event}
+use Rattle.core_model.specs.declared.answer.StepAnswer.TheVariants.{Done, NotNow}
+use Rattle.core_model.specs.declared.event.Event.{Event}
 use Rattle.crash_core.specs.declared.owners.Seat.{Seat}
 use Rattle.crash_core.specs.declared.state.CoreState.{CoreState}
-use Rattle.crash_core.specs.Memory.{Memory, memory_of}
-use Rattle.crash_core.specs.View.{Setup, View, one_if_some}
-use Rattle.crash_core.specs.Guards.{IsAsSeen, IsReadyFor, HasTicketFor, MayStep}
-use Rattle.crash_core.specs.Sound.{Sound}
-use Rattle.crash_core.specs.Steps.{words_after, seat_after, state_after}
+use Rattle.core_model.specs.Memory.{Memory, memory_of}
+use Rattle.core_model.specs.View.{Setup, View, one_if_some}
+use Rattle.core_model.specs.Guards.{IsAsSeen, IsReadyFor, HasTicketFor, MayStep}
+use Rattle.core_model.specs.Sound.{Sound}
+use Rattle.core_model.specs.Steps.{words_after, seat_after, state_after}
 use Rattle.crash_core.specs.Standing.{HasNotes, HasCaches, HasBatch, HasBlocksOf, HasSuperblocks, HasRoots, IsKept, Keeps, StandsFor, state_of, Steps, steps_done, steps_not}
-use Rattle.crash_core.proofs.StepLemmas.{Parts, parts}
-use Rattle.crash_core.proofs.SoundLemmas.{sound_step}
+use Rattle.core_model.proofs.StepLemmas.{Parts, parts}
+use Rattle.core_model.proofs.SoundLemmas.{sound_step}
 
 abbrev pub memory_in : CoreState → Setup → Memory
 memory_in c k = memory_of k.capacity c.words.items

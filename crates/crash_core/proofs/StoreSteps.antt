@@ -3,8 +3,8 @@ use Rattle.std.proofs.Common.{◌≡◌, ◌≢◌, ℕ, zero, suc, ◌+◌, ◌
 use Rattle.std.specs.Vec.{with_item}
 use Rattle.heap_model.specs.Counting.{times, without}
 use Rattle.heap_model.specs.Words.{anchor_state}
-use Rattle.crash_core.specs.declared.answer.StepAnswer.TheVariants.{Done, NotNow}
-use Rattle.crash_core.specs.declared.event.Event.TheVariants.{Store, Settle}
+use Rattle.core_model.specs.declared.answer.StepAnswer.TheVariants.{Done, NotNow}
+use Rattle.core_model.specs.declared.event.Event.TheVariants.{Store, Settle}
 use Rattle.crash_core.specs.declared.owners.BlockPlace.{BlockPlace}
 use Rattle.crash_core.specs.declared.owners.BlockPlace.TheVariants as place
 use Rattle.crash_core.specs.declared.owners.Seat.{Seat}
@@ -13,17 +13,17 @@ use Rattle.crash_core.specs.declared.owners.Share.{Share}
 use Rattle.crash_core.specs.declared.owners.Share.TheVariants as share
 use Rattle.crash_core.specs.declared.owners.SuperblockOwner.{SuperblockOwner}
 use Rattle.crash_core.specs.declared.state.CoreState.{CoreState}
-use Rattle.crash_core.specs.Cells.{Cell, used_cell, head_cell, info_cell, anchor_cell, link_cell, root_cell, data_cell, no_cell, cell_at, is_cell, index_of}
-use Rattle.crash_core.specs.Memory.{Memory, anchor, memory_of}
-use Rattle.crash_core.specs.View.{Setup, View, Claim, Span, times_own, times_classed, times_large}
-use Rattle.crash_core.specs.Effects.{claim_class, span_count, last_of, learn, used_up, stored, stored_anchor}
-use Rattle.crash_core.specs.Guards.{IsThere, IsOwn, MayStore, MayAnchor, as_empty, as_full, MayChange}
+use Rattle.core_model.specs.Cells.{Cell, used_cell, head_cell, info_cell, anchor_cell, link_cell, root_cell, data_cell, no_cell, cell_at, is_cell, index_of}
+use Rattle.core_model.specs.Memory.{Memory, anchor, memory_of}
+use Rattle.core_model.specs.View.{Setup, View, Claim, Span, times_own, times_classed, times_large}
+use Rattle.core_model.specs.Effects.{claim_class, span_count, last_of, learn, used_up, stored, stored_anchor}
+use Rattle.core_model.specs.Guards.{IsThere, IsOwn, MayStore, MayAnchor, as_empty, as_full, MayChange}
 use Rattle.crash_core.specs.OwnWords.{IsPlain}
-use Rattle.crash_core.specs.Sound.{Good}
+use Rattle.core_model.specs.Sound.{Good}
 use Rattle.crash_core.specs.Standing.{HasBatch, share_for, place_for, cached_in, batched_in, no_superblock, no_block, anchored, split_in, cutting_in, classed_in, class_in, large_in, count_in, IsShare, HasSuperblocks, IsKept, Keeps, Steps, memory_at}
-use Rattle.crash_core.proofs.SoundLemmas.{in_table}
-use Rattle.crash_core.proofs.PlaceLemmas.{index_at}
-use Rattle.crash_core.proofs.TotalLemmas.{eq-eqb-one, ne-eqb-none}
+use Rattle.core_model.proofs.SoundLemmas.{in_table}
+use Rattle.core_model.proofs.PlaceLemmas.{index_at}
+use Rattle.core_model.proofs.TotalLemmas.{eq-eqb-one, ne-eqb-none}
 use Rattle.crash_core.proofs.StandingLemmas.{step_done, step_not, may_step, memory_in, IsSameHeap}
 use Rattle.crash_core.proofs.ShareLemmas.{shares_mine, shares_theirs, share_alone}
 use Rattle.crash_core.proofs.ClaimLemmas.{without_at, without_off}

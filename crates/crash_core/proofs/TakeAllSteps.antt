@@ -7,25 +7,25 @@ use Rattle.heap_model.specs.Geometry.{lists, start_word, anchor_word}
 use Rattle.heap_model.specs.Sizes.{IsClass, words_of_class}
 use Rattle.heap_model.specs.Counting.{times, total}
 use Rattle.heap_model.specs.Words.{anchor_state, anchor_first, anchor_count, full_anchor}
-use Rattle.crash_core.specs.declared.answer.StepAnswer.TheVariants.{Done, NotNow}
-use Rattle.crash_core.specs.declared.event.Event.TheVariants.{TakeAll}
+use Rattle.core_model.specs.declared.answer.StepAnswer.TheVariants.{Done, NotNow}
+use Rattle.core_model.specs.declared.event.Event.TheVariants.{TakeAll}
 use Rattle.crash_core.specs.declared.owners.BlockPlace.TheVariants as place
 use Rattle.crash_core.specs.declared.owners.BlockOwner.{BlockOwner}
 use Rattle.crash_core.specs.declared.owners.Seat.{Seat}
 use Rattle.crash_core.specs.declared.owners.Seen.{Seen}
 use Rattle.crash_core.specs.declared.owners.Share.TheVariants as share
 use Rattle.crash_core.specs.declared.state.CoreState.{CoreState}
-use Rattle.crash_core.specs.Memory.{anchor, info, next, memory_of}
-use Rattle.crash_core.specs.View.{Setup, View, one_if_some, of_class, times_block, times_classed}
-use Rattle.crash_core.specs.Effects.{chain, seen_word, seen_of, claim_class, anchored_blocks, taken_all, lost}
-use Rattle.crash_core.specs.Guards.{IsThere, MayTakeAll}
-use Rattle.crash_core.specs.Sound.{tally_of, times_cut, IsAnchoredBy, IsCutBlock, Good}
-use Rattle.crash_core.specs.Steps.{seat_after}
+use Rattle.core_model.specs.Memory.{anchor, info, next, memory_of}
+use Rattle.core_model.specs.View.{Setup, View, one_if_some, of_class, times_block, times_classed}
+use Rattle.core_model.specs.Effects.{chain, seen_word, seen_of, claim_class, anchored_blocks, taken_all, lost}
+use Rattle.core_model.specs.Guards.{IsThere, MayTakeAll}
+use Rattle.core_model.specs.Sound.{tally_of, times_cut, IsAnchoredBy, IsCutBlock, Good}
+use Rattle.core_model.specs.Steps.{seat_after}
 use Rattle.crash_core.specs.Standing.{share_for, no_superblock, classed_in, IsShare, HasCaches, HasBlocksOf, IsGiven, IsKept, IsCore, Keeps, Steps, Decides, memory_at}
-use Rattle.crash_core.proofs.SoundLemmas.{taken}
-use Rattle.crash_core.proofs.PlaceLemmas.{pick}
-use Rattle.crash_core.proofs.BlockLemmas.{walks_chain}
-use Rattle.crash_core.proofs.TotalLemmas.{total_at}
+use Rattle.core_model.proofs.SoundLemmas.{taken}
+use Rattle.core_model.proofs.PlaceLemmas.{pick}
+use Rattle.core_model.proofs.BlockLemmas.{walks_chain}
+use Rattle.core_model.proofs.TotalLemmas.{total_at}
 use Rattle.crash_core.proofs.StandingLemmas.{step_done, step_not, memory_in}
 use Rattle.crash_core.proofs.ShareLemmas.{shares_theirs, share_alone}
 use Rattle.crash_core.proofs.ClaimLemmas.{class_given_up}

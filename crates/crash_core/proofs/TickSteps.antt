@@ -6,21 +6,21 @@ use Rattle.std.specs.declared.alloc.Global.{Global}
 use Rattle.std.specs.Vec.{with_item}
 use Rattle.super_block.specs.declared.geometry.Geometry.{Geometry}
 use Rattle.heap_model.specs.Geometry.{image_words}
-use Rattle.crash_core.specs.declared.answer.StepAnswer.TheVariants.{Done, Stopped}
-use Rattle.crash_core.specs.declared.event.Event.TheVariants.{Tick}
-use Rattle.crash_core.specs.declared.event.Shift.{Shift}
-use Rattle.crash_core.specs.declared.event.Shift.TheVariants.{Cut, Alloc, Free, Lift, Large, Split}
+use Rattle.core_model.specs.declared.answer.StepAnswer.TheVariants.{Done, Stopped}
+use Rattle.core_model.specs.declared.event.Event.TheVariants.{Tick}
+use Rattle.core_model.specs.declared.event.Shift.{Shift}
+use Rattle.core_model.specs.declared.event.Shift.TheVariants.{Cut, Alloc, Free, Lift, Large, Split}
 use Rattle.crash_core.specs.declared.owners.Seat.{Seat}
 use Rattle.crash_core.specs.declared.state.CoreState.{CoreState}
-use Rattle.crash_core.specs.Cells.{superblock_at}
-use Rattle.crash_core.specs.Memory.{Memory, info}
-use Rattle.crash_core.specs.View.{Setup, View}
-use Rattle.crash_core.specs.Effects.{drew, stopped, shifted}
-use Rattle.crash_core.specs.Guards.{MayShift, MayFree}
-use Rattle.crash_core.specs.Steps.{seat_after}
+use Rattle.core_model.specs.Cells.{superblock_at}
+use Rattle.core_model.specs.Memory.{Memory, info}
+use Rattle.core_model.specs.View.{Setup, View}
+use Rattle.core_model.specs.Effects.{drew, stopped, shifted}
+use Rattle.core_model.specs.Guards.{MayShift, MayFree}
+use Rattle.core_model.specs.Steps.{seat_after}
 use Rattle.crash_core.specs.Standing.{held_in, place_for, no_block, HasBlocksOf, HasSuperblocks, HasRoots, IsKept, IsCore, Keeps, IsMoved, Moves, Decides, Steps, steps_stopped}
-use Rattle.crash_core.proofs.PlaceLemmas.{pick, skip, not-lt}
-use Rattle.crash_core.proofs.OwnerLemmas.{in_lists_total}
+use Rattle.core_model.proofs.PlaceLemmas.{pick, skip, not-lt}
+use Rattle.core_model.proofs.OwnerLemmas.{in_lists_total}
 use Rattle.crash_core.proofs.StandingLemmas.{step_done, may_step, memory_in, stands_after}
 use Rattle.crash_core.proofs.WordLemmas.{entry_is, entry_there}
 

@@ -2,10 +2,10 @@
 use Rattle.std.proofs.Common.{◌≡◌, ℕ, zero, suc, ◌+◌, ◌<◌, true, List, [], ◌∷◌, get_or, set, length, refl, ap, ◌∙◌, arith}
 use Rattle.std.proofs.lemmas.List.{set-get_or}
 use Rattle.heap_model.specs.Geometry.{image_words}
-use Rattle.crash_core.specs.Cells.{is_cell, index_of}
-use Rattle.crash_core.specs.Memory.{Place, volatile_at, durable_at, tickets, read, memory_of, table_index}
-use Rattle.crash_core.proofs.PlaceLemmas.{pick}
-use Rattle.crash_core.proofs.TableLemmas.{is_place}
+use Rattle.core_model.specs.Cells.{is_cell, index_of}
+use Rattle.core_model.specs.Memory.{Place, volatile_at, durable_at, tickets, read, memory_of, table_index}
+use Rattle.core_model.proofs.PlaceLemmas.{pick}
+use Rattle.core_model.proofs.TableLemmas.{is_place}
 
 -- where an entry is there the default does not matter
 pub entry_is : {A : Type 0} (xs : List A) (i : ℕ) (a b : A) → i < length xs → get_or xs i a ≡ get_or xs i b

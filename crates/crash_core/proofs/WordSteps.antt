@@ -4,21 +4,21 @@ use Rattle.std.proofs.lemmas.List.{set-get_or}
 use Rattle.std.specs.Vec.{with_item}
 use Rattle.heap_model.specs.Geometry.{image_words}
 use Rattle.heap_model.specs.Counting.{total}
-use Rattle.crash_core.specs.declared.answer.StepAnswer.TheVariants.{Done, Stopped}
-use Rattle.crash_core.specs.declared.event.Event.TheVariants.{Tick, Load, Settle}
+use Rattle.core_model.specs.declared.answer.StepAnswer.TheVariants.{Done, Stopped}
+use Rattle.core_model.specs.declared.event.Event.TheVariants.{Tick, Load, Settle}
 use Rattle.crash_core.specs.declared.owners.Seat.{Seat}
 use Rattle.crash_core.specs.declared.state.CoreState.{CoreState}
-use Rattle.crash_core.specs.Cells.{cell_at, is_cell, index_of}
-use Rattle.crash_core.specs.Memory.{volatile_at}
-use Rattle.crash_core.specs.View.{Setup, View, one_if_some}
-use Rattle.crash_core.specs.Effects.{drew, stopped}
-use Rattle.crash_core.specs.Guards.{IsThere, IsOwn}
-use Rattle.crash_core.specs.Sound.{Good}
-use Rattle.crash_core.specs.Steps.{seat_after}
+use Rattle.core_model.specs.Cells.{cell_at, is_cell, index_of}
+use Rattle.core_model.specs.Memory.{volatile_at}
+use Rattle.core_model.specs.View.{Setup, View, one_if_some}
+use Rattle.core_model.specs.Effects.{drew, stopped}
+use Rattle.core_model.specs.Guards.{IsThere, IsOwn}
+use Rattle.core_model.specs.Sound.{Good}
+use Rattle.core_model.specs.Steps.{seat_after}
 use Rattle.crash_core.specs.Standing.{IsKept, IsCore, Keeps, Steps, steps_stopped, HasNotes}
-use Rattle.crash_core.proofs.StepLemmas.{parts}
-use Rattle.crash_core.proofs.SoundLemmas.{in_table}
-use Rattle.crash_core.proofs.PlaceLemmas.{pick, skip, not-lt, index_at, index_within}
+use Rattle.core_model.proofs.StepLemmas.{parts}
+use Rattle.core_model.proofs.SoundLemmas.{in_table}
+use Rattle.core_model.proofs.PlaceLemmas.{pick, skip, not-lt, index_at, index_within}
 use Rattle.crash_core.proofs.StandingLemmas.{step_done, step_noted, may_step, memory_in, stands_after}
 use Rattle.crash_core.proofs.WordLemmas.{entry_is, read_is, put_back}
 

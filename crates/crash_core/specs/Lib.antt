@@ -1,15 +1,4 @@
-pub mod Cells
-pub mod Memory
-pub mod View
-pub mod Effects
-pub mod Guards
-pub mod Sound
-pub mod Steps
-pub mod Examples
-pub mod Held
-pub mod Opening
 pub mod Crash
 pub mod OwnerLists
-pub mod Splitting
 pub mod OwnWords
 pub mod Standing

@@ -3,8 +3,8 @@ use Rattle.std.specs.Prelude.{◌≡◌, ℕ, ◌<◌, ◌≤◌}
 use Rattle.heap_model.specs.Geometry.{roots, start_word, image_words}
 use Rattle.crash_core.specs.declared.part.Part.{Part}
 use Rattle.crash_core.specs.declared.part.Part.TheVariants as part
-use Rattle.crash_core.specs.Cells.{Cell, info_cell, anchor_cell, link_cell, root_cell, data_cell, cell_at}
-use Rattle.crash_core.specs.View.{View, times_own}
+use Rattle.core_model.specs.Cells.{Cell, info_cell, anchor_cell, link_cell, root_cell, data_cell, cell_at}
+use Rattle.core_model.specs.View.{View, times_own}
 
 -- the word is the cell of that part
 abbrev pub IsPart : ℕ → ℕ → Part → Type 0

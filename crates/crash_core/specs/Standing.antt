@@ -2,10 +2,10 @@
 use Rattle.std.specs.Prelude.{◌≡◌, ◌≢◌, ◌⊎◌, ℕ, zero, suc, ◌+◌, ◌<◌, ◌≤◌, ◌↔◌, Bool, true, cond, nat_eq, List, get_or, set, length, Option, None, Some, ⊤}
 use Rattle.heap_model.specs.Counting.{times, total, one_if}
 use Rattle.heap_model.specs.Geometry.{lists, roots, image_words}
-use Rattle.crash_core.specs.declared.answer.StepAnswer.{StepAnswer}
-use Rattle.crash_core.specs.declared.answer.StepAnswer.TheVariants.{Done, Stopped, NotNow}
-use Rattle.crash_core.specs.declared.event.Event.{Event}
-use Rattle.crash_core.specs.declared.event.Event.TheVariants.{Tick, Settle}
+use Rattle.core_model.specs.declared.answer.StepAnswer.{StepAnswer}
+use Rattle.core_model.specs.declared.answer.StepAnswer.TheVariants.{Done, Stopped, NotNow}
+use Rattle.core_model.specs.declared.event.Event.{Event}
+use Rattle.core_model.specs.declared.event.Event.TheVariants.{Tick, Settle}
 use Rattle.crash_core.specs.declared.owners.BlockPlace.{BlockPlace}
 use Rattle.crash_core.specs.declared.owners.BlockPlace.TheVariants as place
 use Rattle.crash_core.specs.declared.owners.BlockOwner.{BlockOwner}
@@ -18,12 +18,12 @@ use Rattle.crash_core.specs.declared.owners.Group.{Group}
 use Rattle.crash_core.specs.declared.owners.Seat.{Seat}
 use Rattle.crash_core.specs.declared.state.CoreState.{CoreState}
 use Rattle.heap_model.specs.Words.{anchor_state, empty_state, large_info}
-use Rattle.crash_core.specs.Memory.{Memory, memory_of, info, anchor, durable_info}
-use Rattle.crash_core.specs.View.{Setup, View, Span, Claim, Batch, Snapshot, of_class, times_classed, times_large}
-use Rattle.crash_core.specs.Effects.{first_of, last_of, claim_class, span_count}
-use Rattle.crash_core.specs.Guards.{IsThere, HasTicketFor, MayDo}
-use Rattle.crash_core.specs.Sound.{Sound}
-use Rattle.crash_core.specs.Steps.{State, StepsTo, Runs, state_after, seat_after}
+use Rattle.core_model.specs.Memory.{Memory, memory_of, info, anchor, durable_info}
+use Rattle.core_model.specs.View.{Setup, View, Span, Claim, Batch, Snapshot, of_class, times_classed, times_large}
+use Rattle.core_model.specs.Effects.{first_of, last_of, claim_class, span_count}
+use Rattle.core_model.specs.Guards.{IsThere, HasTicketFor, MayDo}
+use Rattle.core_model.specs.Sound.{Sound}
+use Rattle.core_model.specs.Steps.{State, StepsTo, Runs, state_after, seat_after}
 
 -- where seat i has the block
 abbrev pub place_for : ℕ → BlockOwner → BlockPlace

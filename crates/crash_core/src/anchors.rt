@@ -2,7 +2,7 @@
 
 ghost use Rattle.std.specs.Prelude.{◌≡◌, ◌+◌, ◌<◌, ◌≤◌, ◌≢◌};
 ghost use Rattle.heap_model.specs.Words.{anchor_state, anchor_first, anchor_count, full_anchor};
-ghost use Rattle.crash_core.specs.Effects.{given_anchor};
+ghost use Rattle.core_model.specs.Effects.{given_anchor};
 
 use anchor_word::{Anchor, State, give, pack, unpack};
 

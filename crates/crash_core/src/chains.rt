@@ -5,21 +5,21 @@ ghost use Rattle.heap_model.specs.Counting.{times};
 ghost use Rattle.heap_model.specs.Geometry.{start_word};
 ghost use Rattle.heap_model.specs.Sizes.{IsClass, words_of_class};
 ghost use Rattle.heap_model.specs.Words.{anchor_first};
-ghost use Rattle.crash_core.specs.declared.event.Event.TheVariants.{TakeAll, Give};
+ghost use Rattle.core_model.specs.declared.event.Event.TheVariants.{TakeAll, Give};
 ghost use Rattle.crash_core.specs.declared.owners.Seat.{Seat};
-ghost use Rattle.crash_core.specs.Effects.{chain};
-ghost use Rattle.crash_core.specs.Guards.{IsThere, MayTakeAll, MayGive};
+ghost use Rattle.core_model.specs.Effects.{chain};
+ghost use Rattle.core_model.specs.Guards.{IsThere, MayTakeAll, MayGive};
 ghost use Rattle.crash_core.specs.Standing.{IsCore, IsGiven, Takes, Decides};
 
 use crate::anchors::{
     FULL_ANCHOR, PARTIAL, anchor_after_give, anchor_after_take_all, anchor_count, anchor_first,
     anchor_state,
 };
-use crate::answer::StepAnswer;
 use crate::owners::{BlockOwner, BlockPlace, Cache, Group, Seat, Share, SuperblockOwner};
 use crate::reads::{anchor, info, next};
 use crate::shares::share;
 use crate::state::CoreState;
+use core_model::StepAnswer;
 use size_table::{blocks_of, size_of};
 use super_block::Geometry;
 

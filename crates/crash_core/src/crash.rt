@@ -3,8 +3,8 @@
 ghost use Rattle.std.specs.Prelude.{◌≡◌, ◌≤◌, ℕ, length, slice_index, IfOk};
 ghost use Rattle.heap_model.specs.Geometry.{image_words, state_word, capacity_word};
 ghost use Rattle.heap_model.specs.Durability.{IsCrashImage};
-ghost use Rattle.crash_core.specs.Memory.{table_length};
-ghost use Rattle.crash_core.specs.Held.{durable_image};
+ghost use Rattle.core_model.specs.Memory.{table_length};
+ghost use Rattle.core_model.specs.Held.{durable_image};
 ghost use Rattle.crash_core.specs.Crash.{IsLeft};
 
 use line_memory::Chance;

@@ -4,9 +4,9 @@ ghost use Rattle.std.specs.Prelude.{◌≡◌, ◌<◌, ◌↔◌, length, true}
 ghost use Rattle.heap_model.specs.Chains.{Walks};
 ghost use Rattle.heap_model.specs.Geometry.{start_word};
 ghost use Rattle.heap_model.specs.Sizes.{IsClass};
-ghost use Rattle.crash_core.specs.Memory.{next};
-ghost use Rattle.crash_core.specs.Effects.{class_blocks, after_cut};
-ghost use Rattle.crash_core.specs.Guards.{MayCut};
+ghost use Rattle.core_model.specs.Memory.{next};
+ghost use Rattle.core_model.specs.Effects.{class_blocks, after_cut};
+ghost use Rattle.core_model.specs.Guards.{MayCut};
 ghost use Rattle.crash_core.specs.Standing.{IsCore, Decides, Moves, memory_at};
 
 use crate::chains::give_chain;

@@ -1,12 +1,12 @@
 //! The step that takes superblocks that were never taken.
 
 ghost use Rattle.std.specs.Prelude.{◌≡◌, ◌<◌, ◌≤◌, ◌+◌, length};
-ghost use Rattle.crash_core.specs.declared.event.Event.TheVariants.{TakeFresh};
+ghost use Rattle.core_model.specs.declared.event.Event.TheVariants.{TakeFresh};
 ghost use Rattle.crash_core.specs.Standing.{IsCore, Takes, IsRange};
 
-use crate::answer::StepAnswer;
 use crate::owners::{Seat, Seen, Share, SuperblockOwner};
 use crate::state::CoreState;
+use core_model::StepAnswer;
 use super_block::USED_WORD;
 
 /// Takes `n` superblocks that were never taken, if the mark is as it was read.

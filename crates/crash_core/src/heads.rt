@@ -3,8 +3,8 @@
 
 ghost use Rattle.std.specs.Prelude.{◌≡◌, ◌+◌, ◌-◌, ◌<◌, ◌^◌};
 ghost use Rattle.heap_model.specs.Words.{head_of, head_first, head_pops};
-ghost use Rattle.crash_core.specs.View.{View};
-ghost use Rattle.crash_core.specs.Effects.{seen, seen_word, popped_head, pushed_head};
+ghost use Rattle.core_model.specs.View.{View};
+ghost use Rattle.core_model.specs.Effects.{seen, seen_word, popped_head, pushed_head};
 
 /// The bits of the first descriptor's number.
 const FIRST_BITS: u32 = 24;

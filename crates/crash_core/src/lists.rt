@@ -1,19 +1,19 @@
 //! The steps that exchange the head of a list.
 
 ghost use Rattle.std.specs.Prelude.{◌≡◌, ◌<◌, length, get_or, true};
-ghost use Rattle.crash_core.specs.declared.event.Event.TheVariants.{Pop, Push};
+ghost use Rattle.core_model.specs.declared.event.Event.TheVariants.{Pop, Push};
 ghost use Rattle.crash_core.specs.declared.owners.Seat.{Seat};
-ghost use Rattle.crash_core.specs.Effects.{cleared};
-ghost use Rattle.crash_core.specs.Guards.{IsThere, MayPush};
+ghost use Rattle.core_model.specs.Effects.{cleared};
+ghost use Rattle.core_model.specs.Guards.{IsThere, MayPush};
 ghost use Rattle.crash_core.specs.Standing.{IsCore, Takes, Decides, snapshot};
 
 use crate::anchors::{EMPTY, PARTIAL, anchor_state};
-use crate::answer::StepAnswer;
 use crate::heads::{head_after_pop, head_after_push, head_first};
 use crate::owners::{Seat, Seen, Share, SuperblockOwner};
 use crate::reads::{anchor, durable_used, info, link};
 use crate::shares::share;
 use crate::state::CoreState;
+use core_model::StepAnswer;
 use super_block::HEAD_WORD;
 
 impl Seen {

@@ -1,16 +1,16 @@
 //! The steps that read a shared word.
 
 ghost use Rattle.std.specs.Prelude.{◌≡◌, ◌<◌, length, true};
-ghost use Rattle.crash_core.specs.declared.event.Event.TheVariants.{LookUsed, LookHead, LookLink, LookAnchor, KeepUsed};
-ghost use Rattle.crash_core.specs.Guards.{MayLookAt};
+ghost use Rattle.core_model.specs.declared.event.Event.TheVariants.{LookUsed, LookHead, LookLink, LookAnchor, KeepUsed};
+ghost use Rattle.core_model.specs.Guards.{MayLookAt};
 ghost use Rattle.crash_core.specs.Standing.{IsCore, Takes, Decides};
 
-use crate::answer::StepAnswer;
 use crate::heads::head_first;
 use crate::owners::{Seat, Seen};
 use crate::reads::anchor;
 use crate::shares::share;
 use crate::state::CoreState;
+use core_model::StepAnswer;
 use super_block::{HEAD_WORD, LISTS, USED_WORD};
 
 /// Reads the mark below which superblocks have been taken.

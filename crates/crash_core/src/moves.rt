@@ -2,10 +2,10 @@
 
 ghost use Rattle.std.specs.Prelude.{◌≡◌, ◌<◌, ◌≤◌, length, get_or, cond, nat_eq, true};
 ghost use Rattle.heap_model.specs.Geometry.{start_word, image_words};
-ghost use Rattle.crash_core.specs.Cells.{superblock_at};
-ghost use Rattle.crash_core.specs.Memory.{info};
-ghost use Rattle.crash_core.specs.Effects.{after_alloc, after_free, after_lift};
-ghost use Rattle.crash_core.specs.Guards.{MayAlloc, MayFree, MayLift};
+ghost use Rattle.core_model.specs.Cells.{superblock_at};
+ghost use Rattle.core_model.specs.Memory.{info};
+ghost use Rattle.core_model.specs.Effects.{after_alloc, after_free, after_lift};
+ghost use Rattle.core_model.specs.Guards.{MayAlloc, MayFree, MayLift};
 ghost use Rattle.crash_core.specs.Standing.{IsCore, Decides, Moves, memory_at, held_in, place_for, no_block};
 
 use crate::owners::{BlockOwner, BlockPlace, Cache, Group, Seat};

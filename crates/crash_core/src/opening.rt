@@ -2,7 +2,7 @@
 
 ghost use Rattle.std.specs.Prelude.{◌≡◌, ◌++◌, ◌∷◌, [], ℕ, List, IfOk};
 ghost use Rattle.crash_core.specs.OwnerLists.{OwnerLists};
-ghost use Rattle.crash_core.specs.Opening.{setup_of, opened_state};
+ghost use Rattle.core_model.specs.Opening.{setup_of, opened_state};
 
 use std::alloc::{AllocError, Global};
 use std::marker::Model;

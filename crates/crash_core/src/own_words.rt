@@ -2,8 +2,8 @@
 
 ghost use Rattle.std.specs.Prelude.{◌<◌, ◌≤◌, length};
 ghost use Rattle.heap_model.specs.Geometry.{start_word, image_words};
-ghost use Rattle.crash_core.specs.Cells.{cell_at, data_cell};
-ghost use Rattle.crash_core.specs.Guards.{IsOwn};
+ghost use Rattle.core_model.specs.Cells.{cell_at, data_cell};
+ghost use Rattle.core_model.specs.Guards.{IsOwn};
 ghost use Rattle.crash_core.specs.OwnWords.{IsPart};
 ghost use Rattle.crash_core.specs.Standing.{IsCore, Decides};
 

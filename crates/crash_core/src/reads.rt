@@ -2,7 +2,7 @@
 
 ghost use Rattle.std.specs.Prelude.{◌≡◌, ◌<◌, ◌≤◌};
 ghost use Rattle.heap_model.specs.Geometry.{start_word, image_words};
-ghost use Rattle.crash_core.specs.Memory.{info, anchor, link, next, durable_used, durable_info};
+ghost use Rattle.core_model.specs.Memory.{info, anchor, link, next, durable_used, durable_info};
 ghost use Rattle.crash_core.specs.Standing.{IsCore, memory_at};
 
 use crate::state::CoreState;

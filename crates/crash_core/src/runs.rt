@@ -2,12 +2,11 @@
 
 ghost use Rattle.std.specs.Prelude.{ℕ, ◌<◌, length, Contains, IfOk};
 ghost use Rattle.crash_core.specs.Standing.{IsCore, RunsOn};
-ghost use Rattle.crash_core.specs.declared.event.Event.{Event};
+ghost use Rattle.core_model.specs.declared.event.Event.{Event};
 
-use crate::answer::StepAnswer;
-use crate::event::Event;
 use crate::state::CoreState;
 use crate::steps::step;
+use core_model::{Event, StepAnswer};
 use std::alloc::{AllocError, Global};
 
 /// Tries the events in their order, and gives the answer of each. Want of memory is the only

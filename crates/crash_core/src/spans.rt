@@ -1,9 +1,9 @@
 //! How superblocks go between what a seat claims and its large blocks.
 
 ghost use Rattle.std.specs.Prelude.{◌≡◌, ◌<◌, ◌≤◌, length, true};
-ghost use Rattle.crash_core.specs.Cells.{superblock_at};
-ghost use Rattle.crash_core.specs.Effects.{after_large, after_split};
-ghost use Rattle.crash_core.specs.Guards.{MayHoldLarge, MaySplit};
+ghost use Rattle.core_model.specs.Cells.{superblock_at};
+ghost use Rattle.core_model.specs.Effects.{after_large, after_split};
+ghost use Rattle.core_model.specs.Guards.{MayHoldLarge, MaySplit};
 ghost use Rattle.crash_core.specs.Standing.{IsCore, Decides, Moves, MayJoin};
 
 use crate::anchors::{EMPTY, anchor_state};

@@ -4,9 +4,7 @@ ghost use Rattle.std.specs.Prelude.{◌≡◌, ◌↔◌, ◌<◌, length, get_o
 ghost use Rattle.crash_core.specs.declared.owners.Seat.{Seat};
 ghost use Rattle.crash_core.specs.Standing.{IsCore, Takes, Follows, HasTicketAt};
 
-use crate::answer::StepAnswer;
 use crate::chains::{give, take_all};
-use crate::event::Event;
 use crate::fresh::take_fresh;
 use crate::lists::{pop, push};
 use crate::looks::{keep_used, look_anchor, look_head, look_link, look_used};
@@ -14,6 +12,7 @@ use crate::state::CoreState;
 use crate::stores::store;
 use crate::ticks::tick;
 use crate::words::{load, settle};
+use core_model::{Event, StepAnswer};
 
 /// Takes a step of a seat, if it may be taken now.
 pub(crate) fn step(core: &mut CoreState, seat: usize, event: Event) -> StepAnswer

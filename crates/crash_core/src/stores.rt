@@ -1,21 +1,21 @@
 //! The stores to a seat's own words.
 
 ghost use Rattle.std.specs.Prelude.{◌≡◌, ◌<◌, length, cond, nat_eq, true, false};
-ghost use Rattle.crash_core.specs.declared.event.Event.TheVariants.{Store};
+ghost use Rattle.core_model.specs.declared.event.Event.TheVariants.{Store};
 ghost use Rattle.crash_core.specs.declared.part.Part.TheVariants.{Anchor, Link, Data};
-ghost use Rattle.crash_core.specs.Cells.{cell_at, data_cell};
-ghost use Rattle.crash_core.specs.Guards.{IsOwn, MayAnchor, MayChange};
+ghost use Rattle.core_model.specs.Cells.{cell_at, data_cell};
+ghost use Rattle.core_model.specs.Guards.{IsOwn, MayAnchor, MayChange};
 ghost use Rattle.crash_core.specs.OwnWords.{IsPart, IsPlain};
 ghost use Rattle.crash_core.specs.Standing.{IsCore, Takes, Decides};
 
 use crate::anchors::{EMPTY, FULL_ANCHOR, anchor_state};
-use crate::answer::StepAnswer;
 use crate::own_words::{is_own, part_at};
 use crate::owners::{BlockPlace, Group, Seat, Share, SuperblockOwner};
 use crate::part::Part;
 use crate::reads::anchor;
 use crate::shares::{place, share};
 use crate::state::CoreState;
+use core_model::StepAnswer;
 
 /// Stores to a word of its own.
 pub(crate) fn store(core: &mut CoreState, seat: usize, word: u64, value: u64) -> StepAnswer

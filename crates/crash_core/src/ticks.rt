@@ -1,19 +1,18 @@
 //! The draw of a ticket, with the change of a seat's parts that goes with it.
 
 ghost use Rattle.std.specs.Prelude.{◌<◌, length, true, Some};
-ghost use Rattle.crash_core.specs.declared.event.Event.TheVariants.{Tick};
-ghost use Rattle.crash_core.specs.Effects.{shifted};
-ghost use Rattle.crash_core.specs.Guards.{MayShift};
+ghost use Rattle.core_model.specs.declared.event.Event.TheVariants.{Tick};
+ghost use Rattle.core_model.specs.Effects.{shifted};
+ghost use Rattle.core_model.specs.Guards.{MayShift};
 ghost use Rattle.crash_core.specs.Standing.{IsCore, Takes, Decides, Moves};
 
-use crate::answer::StepAnswer;
 use crate::cuts::{cut, may_cut};
-use crate::event::Shift;
 use crate::moves::{alloc, free, lift, may_alloc, may_free, may_lift};
 use crate::owners::Seat;
 use crate::spans::{hold_large, may_hold_large, may_split, split};
 use crate::state::CoreState;
 use crate::words::draw;
+use core_model::{Shift, StepAnswer};
 
 /// Draws a ticket, and changes the seat's parts where there is something to change, and the
 /// ticket is below the budget.

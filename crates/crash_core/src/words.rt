@@ -1,13 +1,13 @@
 //! The steps on a seat's own words, and the draw of a ticket.
 
 ghost use Rattle.std.specs.Prelude.{◌<◌, length, None};
-ghost use Rattle.crash_core.specs.declared.event.Event.TheVariants.{Tick, Load, Store, Settle};
+ghost use Rattle.core_model.specs.declared.event.Event.TheVariants.{Tick, Load, Store, Settle};
 ghost use Rattle.crash_core.specs.Standing.{IsCore, Takes};
 
-use crate::answer::StepAnswer;
 use crate::own_words::is_own;
 use crate::owners::Seat;
 use crate::state::CoreState;
+use core_model::StepAnswer;
 
 /// Loads a word of its own.
 pub(crate) fn load(core: &mut CoreState, seat: usize, word: u64) -> StepAnswer

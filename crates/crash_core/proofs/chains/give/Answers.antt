@@ -3,9 +3,9 @@ use Rattle.heap_model.specs.Geometry.{start_word}
 use Rattle.heap_model.specs.Sizes.{words_of_class}
 use Rattle.heap_model.specs.Counting.{times}
 use Rattle.heap_model.proofs.SizeLemmas.{size_of-words, few_blocks, two_words}
-use Rattle.crash_core.specs.declared.event.Event.TheVariants.{Give}
+use Rattle.core_model.specs.declared.event.Event.TheVariants.{Give}
 use Rattle.crash_core.specs.declared.owners.BlockPlace.TheVariants as place
-use Rattle.crash_core.specs.Effects.{chain, given_anchor}
+use Rattle.core_model.specs.Effects.{chain, given_anchor}
 use Rattle.crash_core.specs.Standing.{IsGiven}
 use Rattle.crash_core.proofs.StandingLemmas.{step_not}
 use Rattle.crash_core.proofs.ReadLemmas.{lengths}

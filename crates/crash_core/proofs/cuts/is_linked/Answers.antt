@@ -2,7 +2,7 @@ use Rattle.std.proofs.Common.{◌≡◌, ◌+◌, ◌-◌, ◌/◌, refl, sym, s
 use Rattle.heap_model.specs.Geometry.{start_word}
 use Rattle.heap_model.specs.Sizes.{words_of_class, blocks_of}
 use Rattle.heap_model.proofs.SizeLemmas.{size_of-words, few_words, two_words, four_blocks, blocks_fit}
-use Rattle.crash_core.specs.Memory.{next}
+use Rattle.core_model.specs.Memory.{next}
 use Rattle.crash_core.specs.Standing.{memory_at}
 use Rattle.crash_core.proofs.ReadLemmas.{lengths}
 use Rattle.crash_core.proofs.PushDecision.{refused}

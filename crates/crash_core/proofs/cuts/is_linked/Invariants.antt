@@ -1,7 +1,7 @@
 use Rattle.std.proofs.Common.{◌-◌, ◌+◌}
 use Rattle.heap_model.specs.Geometry.{start_word}
 use Rattle.heap_model.specs.Sizes.{words_of_class, blocks_of}
-use Rattle.crash_core.specs.Memory.{next}
+use Rattle.core_model.specs.Memory.{next}
 use Rattle.crash_core.specs.Standing.{memory_at}
 use Rattle.crash_core.proofs.CutSteps.{IsHalfLinked}
 use Rattle.crash_core.proofs.cuts.is_linked.Given as goal

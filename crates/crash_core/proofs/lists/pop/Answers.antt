@@ -1,5 +1,5 @@
 use Rattle.std.proofs.Common.{◌+◌, ◌-◌, refl, ap, sym, arith}
-use Rattle.crash_core.specs.declared.event.Event.TheVariants.{Pop}
+use Rattle.core_model.specs.declared.event.Event.TheVariants.{Pop}
 use Rattle.crash_core.proofs.StandingLemmas.{step_not}
 use Rattle.crash_core.proofs.KeptFacts.{head_fits, pop_fits, unseen_head, unseen_link}
 use Rattle.crash_core.proofs.ListSteps.{pop, lost_pop}

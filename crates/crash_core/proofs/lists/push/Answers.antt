@@ -1,5 +1,5 @@
 use Rattle.std.proofs.Common.{◌+◌, refl, sym, true≢false, arith}
-use Rattle.crash_core.specs.declared.event.Event.TheVariants.{Push}
+use Rattle.core_model.specs.declared.event.Event.TheVariants.{Push}
 use Rattle.crash_core.proofs.StandingLemmas.{step_not}
 use Rattle.crash_core.proofs.ReadLemmas.{lengths}
 use Rattle.crash_core.proofs.KeptFacts.{head_fits, unseen_head}

@@ -1,5 +1,5 @@
 use Rattle.std.proofs.Common.{refl, sym, true≢false}
-use Rattle.crash_core.specs.declared.event.Event.TheVariants.{LookAnchor}
+use Rattle.core_model.specs.declared.event.Event.TheVariants.{LookAnchor}
 use Rattle.crash_core.proofs.StandingLemmas.{step_not}
 use Rattle.crash_core.proofs.LookSteps.{look_anchor}
 use Rattle.crash_core.proofs.looks.look_anchor.Goals as goal

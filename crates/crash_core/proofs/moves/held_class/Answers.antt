@@ -1,6 +1,6 @@
 use Rattle.std.proofs.Common.{◌<◌, ◌-◌, ◌/◌, ap, sym, subst, ◌∙◌, arith}
 use Rattle.heap_model.specs.Sizes.{IsClass}
-use Rattle.crash_core.specs.Memory.{info}
+use Rattle.core_model.specs.Memory.{info}
 use Rattle.crash_core.specs.Standing.{memory_at}
 use Rattle.crash_core.proofs.WordLemmas.{entry_there}
 use Rattle.crash_core.proofs.FreeSteps.{held_range, held_is}

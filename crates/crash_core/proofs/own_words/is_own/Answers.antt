@@ -1,4 +1,4 @@
-use Rattle.crash_core.specs.Cells.{data_cell}
+use Rattle.core_model.specs.Cells.{data_cell}
 use Rattle.crash_core.proofs.WordLemmas.{entry_there}
 use Rattle.crash_core.proofs.OwnDecision.{own_is, own_shared, own_root, own_info, own_anchor, own_link}
 use Rattle.crash_core.proofs.own_words.is_own.Goals as goal

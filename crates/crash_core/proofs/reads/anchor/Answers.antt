@@ -1,5 +1,5 @@
 use Rattle.std.proofs.Common.{lt-ltb, arith}
-use Rattle.crash_core.specs.Cells.{anchor_cell}
+use Rattle.core_model.specs.Cells.{anchor_cell}
 use Rattle.crash_core.proofs.ReadLemmas.{lengths, reads_volatile}
 use Rattle.crash_core.proofs.reads.anchor.Goals as goal
 

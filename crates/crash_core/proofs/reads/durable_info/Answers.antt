@@ -1,5 +1,5 @@
 use Rattle.std.proofs.Common.{◌+◌, lt-ltb, arith}
-use Rattle.crash_core.specs.Cells.{info_cell}
+use Rattle.core_model.specs.Cells.{info_cell}
 use Rattle.crash_core.proofs.ReadLemmas.{lengths, reads_durable}
 use Rattle.crash_core.proofs.reads.durable_info.Goals as goal
 

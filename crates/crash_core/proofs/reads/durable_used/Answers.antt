@@ -1,5 +1,5 @@
 use Rattle.std.proofs.Common.{◌+◌, refl, arith}
-use Rattle.crash_core.specs.Cells.{used_cell}
+use Rattle.core_model.specs.Cells.{used_cell}
 use Rattle.crash_core.proofs.ReadLemmas.{reads_durable}
 use Rattle.crash_core.proofs.reads.durable_used.Goals as goal
 

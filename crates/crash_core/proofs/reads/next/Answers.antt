@@ -1,7 +1,7 @@
 use Rattle.std.proofs.Common.{refl, le-leb, lt-ltb}
 use Rattle.heap_model.specs.Geometry.{start_word, image_words}
-use Rattle.crash_core.specs.Cells.{data_cell}
-use Rattle.crash_core.proofs.PlaceLemmas.{and_is}
+use Rattle.core_model.specs.Cells.{data_cell}
+use Rattle.core_model.proofs.PlaceLemmas.{and_is}
 use Rattle.crash_core.proofs.ReadLemmas.{reads_volatile}
 use Rattle.crash_core.proofs.reads.next.Goals as goal
 

@@ -1,6 +1,6 @@
 use Rattle.std.proofs.Common.{get_or, None, sym, subst, arith}
 use Rattle.std.proofs.lemmas.List.Elements.{Contains-get_or}
-use Rattle.crash_core.specs.declared.event.Event.TheVariants.{Tick}
+use Rattle.core_model.specs.declared.event.Event.TheVariants.{Tick}
 use Rattle.crash_core.proofs.WordLemmas.{entry_is}
 use Rattle.crash_core.proofs.RunSteps.{IsRunning, running_on, running_whole}
 use Rattle.crash_core.proofs.runs.run.Goals as goal

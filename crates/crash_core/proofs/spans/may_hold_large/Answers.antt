@@ -1,6 +1,6 @@
 use Rattle.std.proofs.Common.{refl, sym, subst, true≢false, inl, inr, arith}
 use Rattle.std.proofs.lemmas.Bool.{cases_eq}
-use Rattle.crash_core.specs.Memory.{memory_of}
+use Rattle.core_model.specs.Memory.{memory_of}
 use Rattle.crash_core.specs.Standing.{MayJoin}
 use Rattle.crash_core.proofs.PushDecision.{refused}
 use Rattle.crash_core.proofs.WordLemmas.{entry_there}

@@ -1,6 +1,6 @@
 use Rattle.std.proofs.Common.{◌≡◌, ◌+◌, ◌∙◌, cond, nat_eq, eq-eqb, refl, sym, ap, arith}
 use Rattle.heap_model.specs.Words.{large_info}
-use Rattle.crash_core.proofs.PlaceLemmas.{pick, skip, not-eq}
+use Rattle.core_model.proofs.PlaceLemmas.{pick, skip, not-eq}
 use Rattle.crash_core.specs.Standing.{raw_in, split_in}
 use Rattle.crash_core.proofs.PushDecision.{refused}
 use Rattle.crash_core.proofs.WordLemmas.{entry_there}

@@ -1,7 +1,7 @@
 use Rattle.std.proofs.Common.{◌≡◌, ◌-◌, ◌/◌, get_or, refl, ap, sym, subst, ◌∙◌, arith}
 use Rattle.crash_core.specs.declared.owners.Share.TheVariants as share
-use Rattle.crash_core.specs.Cells.{superblock_at}
-use Rattle.crash_core.specs.Effects.{cleared, span_count}
+use Rattle.core_model.specs.Cells.{superblock_at}
+use Rattle.core_model.specs.Effects.{cleared, span_count}
 use Rattle.crash_core.specs.Standing.{snapshot, share_for, no_superblock, count_in, IsRange}
 use Rattle.crash_core.proofs.WordLemmas.{entry_is}
 use Rattle.crash_core.proofs.MoveSteps.{retold}

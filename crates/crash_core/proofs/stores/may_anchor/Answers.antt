@@ -3,7 +3,7 @@ use Rattle.crash_core.specs.Standing.{cutting_in, split_in}
 use Rattle.crash_core.proofs.WordLemmas.{entry_there}
 use Rattle.crash_core.proofs.PushDecision.{refused}
 use Rattle.crash_core.proofs.StoreSteps.{no_anchor, cutting_anchor, split_anchor, other_anchor}
-use Rattle.crash_core.specs.Guards.{as_empty}
+use Rattle.core_model.specs.Guards.{as_empty}
 use Rattle.crash_core.proofs.stores.may_anchor.Goals as goal
 
 pub returns-then-value-eq0 : goal.returns-then-value-eq0

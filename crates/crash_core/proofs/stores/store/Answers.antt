@@ -1,5 +1,5 @@
 use Rattle.std.proofs.Common.{sym, true≢false}
-use Rattle.crash_core.specs.declared.event.Event.TheVariants.{Store}
+use Rattle.core_model.specs.declared.event.Event.TheVariants.{Store}
 use Rattle.crash_core.proofs.StandingLemmas.{step_not}
 use Rattle.crash_core.proofs.WordLemmas.{entry_there}
 use Rattle.crash_core.proofs.StoreSteps.{shared}

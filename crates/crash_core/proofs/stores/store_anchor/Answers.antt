@@ -1,5 +1,5 @@
 use Rattle.std.proofs.Common.{refl, sym, true≢false, arith}
-use Rattle.crash_core.specs.Cells.{anchor_cell}
+use Rattle.core_model.specs.Cells.{anchor_cell}
 use Rattle.crash_core.proofs.ReadLemmas.{lengths}
 use Rattle.crash_core.proofs.StoreSteps.{anchor_stored, not_stored}
 use Rattle.crash_core.proofs.stores.store_anchor.Goals as goal

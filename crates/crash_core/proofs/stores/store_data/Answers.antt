@@ -1,5 +1,5 @@
 use Rattle.std.proofs.Common.{refl, sym, true≢false}
-use Rattle.crash_core.specs.Cells.{data_cell}
+use Rattle.core_model.specs.Cells.{data_cell}
 use Rattle.crash_core.proofs.StoreSteps.{data_stored, not_stored}
 use Rattle.crash_core.proofs.stores.store_data.Goals as goal
 

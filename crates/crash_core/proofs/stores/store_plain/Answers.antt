@@ -1,5 +1,5 @@
 use Rattle.std.proofs.Common.{refl, sym}
-use Rattle.crash_core.specs.Cells.{cell_at}
+use Rattle.core_model.specs.Cells.{cell_at}
 use Rattle.crash_core.proofs.StoreSteps.{plain}
 use Rattle.crash_core.proofs.stores.store_plain.Goals as goal
 

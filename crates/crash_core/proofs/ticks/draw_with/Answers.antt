@@ -1,6 +1,6 @@
 use Rattle.std.proofs.Common.{◌*◌, Some, refl, sym, true≢false, arith}
-use Rattle.crash_core.specs.declared.event.Event.TheVariants.{Tick}
-use Rattle.crash_core.specs.Effects.{shifted}
+use Rattle.core_model.specs.declared.event.Event.TheVariants.{Tick}
+use Rattle.core_model.specs.Effects.{shifted}
 use Rattle.crash_core.proofs.StandingLemmas.{step_not}
 use Rattle.crash_core.proofs.ReadLemmas.{lengths}
 use Rattle.crash_core.proofs.WordSteps.{ticket_fits}

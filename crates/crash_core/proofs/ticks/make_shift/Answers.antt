@@ -1,6 +1,6 @@
 use Rattle.std.proofs.Common.{true, Some, sym, subst}
-use Rattle.crash_core.specs.Effects.{shifted}
-use Rattle.crash_core.specs.Guards.{MayShift}
+use Rattle.core_model.specs.Effects.{shifted}
+use Rattle.core_model.specs.Guards.{MayShift}
 use Rattle.crash_core.specs.Standing.{Decides, Moves}
 use Rattle.crash_core.proofs.TickSteps.{free_held}
 use Rattle.crash_core.proofs.ticks.make_shift.Goals as goal

@@ -1,5 +1,5 @@
 use Rattle.std.proofs.Common.{Some, sym, subst}
-use Rattle.crash_core.specs.Guards.{MayShift}
+use Rattle.core_model.specs.Guards.{MayShift}
 use Rattle.crash_core.specs.Standing.{Decides}
 use Rattle.crash_core.proofs.ticks.may_shift.Goals as goal
 

@@ -1,5 +1,5 @@
 use Rattle.std.proofs.Common.{refl, sym, true≢false}
-use Rattle.crash_core.specs.declared.event.Event.TheVariants.{Load}
+use Rattle.core_model.specs.declared.event.Event.TheVariants.{Load}
 use Rattle.crash_core.proofs.StandingLemmas.{step_not}
 use Rattle.crash_core.proofs.WordSteps.{load}
 use Rattle.crash_core.proofs.words.load.Goals as goal

@@ -1,5 +1,5 @@
 use Rattle.std.proofs.Common.{◌+◌, refl, ap, sym, true≢false, arith}
-use Rattle.crash_core.specs.declared.event.Event.TheVariants.{Settle}
+use Rattle.core_model.specs.declared.event.Event.TheVariants.{Settle}
 use Rattle.crash_core.proofs.ReadLemmas.{lengths}
 use Rattle.crash_core.proofs.StandingLemmas.{step_not}
 use Rattle.crash_core.proofs.WordLemmas.{entry_there}

@@ -1,0 +1,417 @@
+-- A push: a claimed descriptor goes to the front of a list.
+use Rattle.std.proofs.Common.{◌≡◌, ◌≢◌, ℕ, ◌+◌, ◌<◌, ◌≤◌, inl, inr, ◌⊎◌, Bool, true, false, cond, ◌&&◌, nat_eq, nat_lt, List, ◌∷◌, get_or, set, length, Option, None, refl, ap, sym, subst, ◌∙◌, eq-eqb, ne_eqb, lt-ltb, arith}
+use Rattle.std.proofs.lemmas.Bool.{cases_eq, cases_lt}
+use Rattle.heap_model.specs.Geometry.{lists, largest_capacity_fits}
+use Rattle.heap_model.specs.Sizes.{IsClass}
+use Rattle.heap_model.specs.Words.{head_first, head_pops, anchor_state, empty_state, full_state}
+use Rattle.heap_model.specs.Chains.{Follows}
+use Rattle.heap_model.specs.Rest.{list_numbers}
+use Rattle.heap_model.specs.Counting.{times, total, one_if, below, without}
+use Rattle.core_model.specs.Cells.{head_cell, superblock_at}
+use Rattle.core_model.specs.Memory.{Memory, volatile_at, used, durable_used, head, anchor, info, link, next, write}
+use Rattle.core_model.specs.View.{Setup, View, Batch, Snapshot, Look, one_if_some, known, times_raw, times_classed, times_claimed, times_large, times_block}
+use Rattle.core_model.specs.Effects.{before, seen, seen_word, seen_of, cleared, claim_class, without_claim, steps, won, pushed, pushed_raw, pushed_classed, pushed_head, trimmed}
+use Rattle.core_model.specs.Guards.{IsThere, MayPush, MayList, as_free, of_its_class}
+use Rattle.core_model.specs.Sound.{Shape, Tally, tally_of, IsInShape, IsSetUp, AreChained, IsCutBlock, Knows, KnowsHead, KnowsWords, Adds, stale, stale_anchor, stale_head, differs, class_numbers, times_in_lists, times_parked, times_cut, empties, Good}
+use Rattle.core_model.proofs.TotalLemmas.{total_set, total_same, total_at, total_change, total_unchanged, eq-eqb-one, ne-eqb-none}
+use Rattle.core_model.proofs.FrameLemmas.{untouched, words_frame, times_without, without_none, times_steps, below_is, below_not}
+use Rattle.core_model.proofs.StepLemmas.{IsSeat, seat_at, good_step, adds_step}
+use Rattle.core_model.proofs.OwnLemmas.{one_at_most, words_trimmed, stale_cleared, stale_head_most, cleared_other, won_tickets, length_only}
+use Rattle.core_model.proofs.FreshLemmas.{cleared_same}
+use Rattle.core_model.proofs.CountLemmas.{times_without_claim, class_without, without_less, all_home}
+use Rattle.heap_model.proofs.CountingLemmas.{one_if_true}
+use Rattle.core_model.proofs.PlaceLemmas.{and_is, not-lt}
+use Rattle.core_model.proofs.ListLemmas.{relist, relist_same, relist_other, head_parts, lists_set, pops_set, in_lists_set}
+
+-- a push leaves what others saw of the list's head: its pops, and that the descriptor is in the list
+pub knows_push : (capacity : ℕ) (heads links : ℕ → ℕ) (descriptors : ℕ → List ℕ) (at word d : ℕ) (list seen_word : ℕ) (next : Option ℕ)
+    → head_pops word ≡ head_pops (heads at) → KnowsHead capacity heads links descriptors list seen_word next
+    → KnowsHead capacity (λ n. cond (nat_eq n at) word (heads n)) links (relist descriptors at (d ∷ descriptors at)) list seen_word next
+knows_push capacity heads links descriptors at word d list seen_word next same_pops h =
+    let pops = pops_are list in
+    record {
+      is_list = h.is_list;
+      small = h.small;
+      pops = omega arith;
+      listed = λ e some. let old = h.listed (e ∙ pops) some in let more = grows list (before (head_first seen_word)) in omega arith;
+      linked = λ there. ((h.linked there).0, λ e. (h.linked there).1 (e ∙ pops));
+    } where
+      pops_are : (n : ℕ) → head_pops (cond (nat_eq n at) word (heads n)) ≡ head_pops (heads n)
+      pops_are n = elim (cases_eq n at) [
+        | inl same ↦ ap (λ t. head_pops (cond t word (heads n))) (eq-eqb n at same) ∙ same_pops ∙ ap (λ x. head_pops (heads x)) (sym same)
+        | inr other ↦ ap (λ t. head_pops (cond t word (heads n))) (ne_eqb n at other)
+      ]
+
+      grows : (n e : ℕ) → times e (descriptors n) ≤ times e (relist descriptors at (d ∷ descriptors at) n)
+      grows n e = elim (cases_eq n at) [
+        | inl same ↦ let a = ap (times e) (relist_same descriptors at (d ∷ descriptors at) n same) in let b = ap (λ x. times e (descriptors x)) same in omega arith
+        | inr other ↦ let a = ap (times e) (relist_other descriptors at (d ∷ descriptors at) n other) in omega arith
+      ]
+
+module _ (k : Setup) (m : Memory) (views : List View) (i : ℕ) (v : View) (below_i : i < length views) (at : get_or views i v ≡ v) (good : Good k m views)
+    (ticket : IsThere v.ticket) (d : ℕ) (may : MayPush m v d) (as_seen : head m (seen_of v.seen_head) ≡ seen_word v.seen_head) where
+  seat : IsSeat k m good.shape v
+  seat = seat_at k m views good i v below_i at
+
+  abbrev l : ℕ
+  l = seen_of v.seen_head
+
+  abbrev word : ℕ
+  word = seen_word v.seen_head
+
+  abbrev m' : Memory
+  m' = write m (volatile_at (head_cell l)) (pushed_head v d)
+
+  abbrev g' : Shape
+  g' = record good.shape { lists = relist good.shape.lists l (d ∷ good.shape.lists l) }
+
+  is_list : l < lists
+  is_list = (seat.knows.seen_head may.is_seen).is_list
+
+  small_d : d < k.capacity
+  small_d = let a = may.durable in let b = good.shaped.durable.behind in let c = good.shaped.durable.room in omega arith
+
+  parts_of_head : (head_first (pushed_head v d) ≡ d + 1) × (head_pops (pushed_head v d) ≡ head_pops (head m l))
+  parts_of_head = let fits = good.small in let limit = largest_capacity_fits in let less = small_d in let p = head_parts (d + 1) (head_pops word) (omega arith) in (p.0, p.1 ∙ ap head_pops (sym as_seen))
+
+  follows : Follows (link m) k.capacity (head_first (pushed_head v d)) (d ∷ good.shape.lists l)
+  follows = (parts_of_head.0, small_d, subst (λ x. Follows (link m) k.capacity x (good.shape.lists l)) (ap head_first as_seen ∙ sym may.linked) (good.shaped.lists.follows l is_list))
+
+  -- each list, with one more in the one
+  at_list : (n e : ℕ) → n ≡ l → times e (relist good.shape.lists l (d ∷ good.shape.lists l) n) ≡ one_if (nat_eq d e) + times e (good.shape.lists n)
+  at_list n e same = ap (times e) (relist_same good.shape.lists l (d ∷ good.shape.lists l) n same) ∙ ap (λ x. one_if (nat_eq d e) + times e (good.shape.lists x)) (sym same)
+
+  off_list : (n e : ℕ) → n ≢ l → times e (relist good.shape.lists l (d ∷ good.shape.lists l) n) ≡ times e (good.shape.lists n)
+  off_list n e other = ap (times e) (relist_other good.shape.lists l (d ∷ good.shape.lists l) n other)
+
+  others : (j : ℕ) (x : View) → IsSeat k m good.shape x → IsSeat k m' g' x
+  others j x h = record {
+    set_up = h.set_up;
+    claims = h.claims;
+    blocks = h.blocks;
+    knows = (let s = h.knows in record {
+      seen_head = λ t. knows_push k.capacity (head m) (link m) good.shape.lists l (pushed_head v d) d (seen_of x.seen_head) (seen_word x.seen_head) x.seen_link parts_of_head.1 (s.seen_head t);
+      seen_used = s.seen_used;
+      looked = s.looked;
+      seen_anchor = s.seen_anchor;
+      seen_empty = s.seen_empty;
+      floor = s.floor;
+    });
+    words = words_frame k.capacity m m' x (λ cell own. untouched x m.volatile (head_cell l) (pushed_head v d) cell refl own) (λ cell own. refl) h.words;
+    tickets = h.tickets;
+  }
+
+  -- the seat's snapshots; `w` has the descriptor no more
+  knows_after : (w : View) → w.seen_head ≡ None → w.seen_used ≡ v.seen_used → w.used_look ≡ v.used_look → w.taken ≡ v.taken → w.batch ≡ v.batch → w.seen_anchor ≡ cleared d 1 v.seen_anchor
+      → ((e : ℕ) → d ≢ e → times_claimed e w ≡ times_claimed e v) → ((e : ℕ) → d ≢ e → times_classed e w.classed ≡ times_classed e v.classed) → w.floor ≡ v.floor
+      → Knows k.capacity m' g' w
+  knows_after w none used_same look_same taken batch anchor_same same_claims classed floor = let s = seat.knows in record {
+    seen_head = λ t. absurd (let n = ap one_if_some none in omega arith);
+    seen_used = subst (λ x. IsThere x → seen x ≤ used m) (sym used_same) s.seen_used;
+    looked = (let y = s.looked in let a = ap (λ (x : Look). x.word) look_same in let b = ap (λ (x : Look). x.taken) look_same in omega arith);
+    seen_anchor = λ t. let still = subst IsThere anchor_same t in let same = anchor_same ∙ cleared_same d 1 v.seen_anchor still in
+        subst (λ (x : Option Snapshot). (0 < times_claimed (seen_of x) w) ⊎ ((w.batch.descriptor ≡ seen_of x) × (1 ≤ length w.batch.blocks))) (sym same)
+        (subst (λ (b : Batch). (0 < times_claimed (seen_of v.seen_anchor) w) ⊎ ((b.descriptor ≡ seen_of v.seen_anchor) × (1 ≤ length b.blocks))) (sym batch)
+        (elim (s.seen_anchor (subst IsThere same t)) [ inl c ↦ inl (let e = same_claims (seen_of v.seen_anchor) (λ is. cleared_other d 1 v.seen_anchor still (omega (arith, is)) (omega (arith, is))) in omega arith) | inr b ↦ inr b ]));
+    seen_empty = λ t. let still = subst IsThere anchor_same t in let same = anchor_same ∙ cleared_same d 1 v.seen_anchor still in
+        subst (λ (x : Option Snapshot). 0 < times_classed (seen_of x) w.classed → anchor_state (seen_word x) ≡ empty_state → anchor_state (anchor m (seen_of x)) ≡ empty_state) (sym same)
+        (λ some. s.seen_empty (subst IsThere same t) (let e = classed (seen_of v.seen_anchor) (λ is. cleared_other d 1 v.seen_anchor still (omega (arith, is)) (omega (arith, is))) in omega arith));
+    floor = (let f = s.floor in omega arith);
+  }
+
+  stale_less : (w : View) → w.losses ≡ v.losses → w.seen_head ≡ None → w.seen_used ≡ v.seen_used → w.seen_anchor ≡ cleared d 1 v.seen_anchor → ((e : ℕ) → d ≢ e → times_raw e v ≤ times_raw e w)
+      → w.losses + stale m' w ≤ v.losses + stale m v
+  stale_less w losses none used_same anchor_same more =
+      let e = stale_cleared m v w d 1 v.seen_anchor (λ e out. more e (λ same. out (omega (arith, same)) (omega (arith, same)))) in
+      let a = ap (stale_anchor m w) anchor_same in let b = ap (λ x. differs x (used m)) used_same in let c = ap (stale_head m') none in omega arith
+
+  adds_after : (w : View) → w.ticket ≡ None → w.draws ≡ v.draws → w.stopped ≡ v.stopped → w.roots ≡ v.roots → w.taken ≡ v.taken → Adds k m' (set views i w)
+  adds_after w none draws stopped roots taken = adds_step k m m' views i v w below_i at good.adds refl draws stopped roots
+      (let p = pops_set (head m) l (pushed_head v d) is_list in let q = parts_of_head.1 in let n = ap one_if_some none in omega arith) (omega arith)
+
+  theirs : (x : View) → stale m' x + v.wins ≤ stale m x + (v.wins + 1)
+  theirs x = let e = stale_head_most m' x.seen_head in omega arith
+
+  set_up_after : (w : View) → w.setup ≡ v.setup → w.small ≡ v.small → w.caches ≡ v.caches → w.head_looks ≡ v.head_looks → length w.volatile ≡ length v.volatile → length w.durable ≡ length v.durable → IsSetUp k w
+  set_up_after w a b c looks e f = let s = seat.set_up in record { setup = a ∙ s.setup; small = ap length b ∙ s.small; caches = ap length c ∙ s.caches; looks = ap length looks ∙ s.looks; volatile = e ∙ s.volatile; durable = f ∙ s.durable }
+
+  -- what is known of the own words that are left
+  words_after : (x : View) → x.setup ≡ v.setup → x.volatile ≡ v.volatile → x.durable ≡ v.durable → KnowsWords k.capacity m' (trimmed x)
+  words_after x setup volatile durable = words_trimmed k.capacity m' x (ap (λ (s : Setup). s.capacity) (setup ∙ seat.set_up.setup))
+      (λ cell value is own knows. let old = seat.words.volatile cell value is (ap (λ values. known values cell) (sym volatile) ∙ knows) in untouched v m.volatile (head_cell l) (pushed_head v d) cell refl old.0 ∙ old.1)
+      (λ cell value is own knows. (seat.words.durable cell value is (ap (λ values. known values cell) (sym durable) ∙ knows)).1)
+
+  -- the claims together are at most one
+  one_claim : (e : ℕ) → times_raw e v + times_classed e v.classed + total (λ n. times e (good.shape.lists n)) list_numbers ≤ 1
+  one_claim e = let a = good.shaped.placed.one_place e in let r = total_at (times_raw e) views i v below_i at in let c = total_at (λ (x : View). times_classed e x.classed) views i v below_i at in
+      let limit = below_most e (used m) in omega arith where
+        below_most : (n limit : ℕ) → below n limit ≤ 1
+        below_most n limit = one_at_most (nat_lt n limit)
+
+  -- an empty superblock without a class goes to the list of the free ones
+  push_raw : 0 < times d v.raw + times d v.split → l ≡ 0 → anchor_state (anchor m d) ≡ empty_state → Good k m' (set views i (pushed_raw v d))
+  push_raw some is empty = good_step k m m' views i v w good g' below_i at
+      (subst (IsInShape k.capacity m' g') (sym tally) (let s = good.shaped in record {
+        lists = lists_set k.capacity (head m) (link m) good.shape.lists l (pushed_head v d) (d ∷ good.shape.lists l) s.lists follows;
+        placed = record { one_place = λ e. let old = s.placed.one_place e in let a = at_list 0 e (sym is) in let b = lists_are e in let c = raw_are e in omega arith };
+        untaken = record { blank = λ e past below_c. let b = s.untaken.blank e past below_c in record { volatile = b.volatile; durable = b.durable } };
+        listed = record {
+          free = λ e here. elim (cases_eq d e) as (λ _. anchor_state (anchor m e) ≡ empty_state) [
+            | inl same ↦ subst (λ x. anchor_state (anchor m x) ≡ empty_state) same empty
+            | inr other ↦ s.listed.free e (let a = at_list 0 e (sym is) in let z = ne-eqb-none d e other in omega arith)
+          ];
+          in_class = λ class e is_class here. s.listed.in_class class e is_class (let a = off_list class e (λ z. let y = is_class.some in omega (arith, z, is, y)) in omega arith);
+          is_full = s.listed.is_full;
+        };
+        chained = subst (λ c. AreChained k.capacity (info m) (anchor m) (next m) good.shape.chains c (tally_of views).blocks) cut_same s.chained;
+        durable = (let x = s.durable in record {
+          behind = x.behind;
+          room = x.room;
+          below = λ e here. elim (cases_eq d e) as (λ _. e < durable_used m) [
+            | inl same ↦ subst (λ y. y < durable_used m) same may.durable
+            | inr other ↦ x.below e (let a = at_list 0 e (sym is) in let z = ne-eqb-none d e other in let b = lists_are e in omega arith)
+          ];
+          infos = λ e here. x.infos e (let b = lists_are e in omega arith);
+        });
+      }))
+      (record {
+        set_up = set_up_after w refl refl refl refl (length_only base 0 v.volatile) (length_only base 0 v.durable);
+        claims = (let c = seat.claims in record {
+          is_raw = λ e here. c.is_raw e (let z = without_less e d v.raw in omega arith);
+          is_split = λ e here. c.is_split e (let z = without_less e d v.split in omega arith);
+          is_cutting = c.is_cutting;
+          is_classed = c.is_classed;
+          is_large = c.is_large;
+          is_part = c.is_part;
+          some = c.some;
+        });
+        blocks = seat.blocks;
+        knows = knows_after w refl refl refl refl refl refl (λ e other. let z = raw_is e in let n = ne-eqb-none d e other in omega arith) (λ e other. refl) refl;
+        words = words_after base refl refl refl;
+        tickets = won_tickets k.budget m.drawn v w seat.tickets ticket refl refl (omega arith) refl refl refl refl refl refl refl (omega arith);
+      })
+      (λ j x other b a h. others j x h)
+      (adds_after w refl refl refl refl refl)
+      (record { mine = stale_less w refl refl refl refl (λ e other. let z = raw_is e in let n = ne-eqb-none d e other in omega arith); more = omega arith })
+      (λ j x other b a. theirs x)
+      (let old = good.moves in let gives = total_same (λ (x : View). x.gives) views i v w below_i at refl in let moves = total_same (λ (x : View). x.moves) views i v w below_i at refl in
+      let empty_now = ap (λ (t : Tally). empties k.capacity (anchor m) (times_parked g' t)) tally in let same = ap (empties k.capacity (anchor m)) parked_same in omega arith) where
+        base : View
+        base = record (won v) { raw = without d v.raw; split = without d v.split; seen_head = None; seen_anchor = cleared d 1 v.seen_anchor }
+
+        w : View
+        w = pushed_raw v d
+
+        raw_is : (e : ℕ) → times_raw e w + one_if (nat_eq d e) ≡ times_raw e v
+        raw_is e = let most = one_claim d in elim (cases_lt 0 (times d v.raw)) as (λ _. times_raw e w + one_if (nat_eq d e) ≡ times_raw e v) [
+          | inl in_raw ↦ let a = times_without e d v.raw in_raw in let b = without_none e d v.split (omega arith) in omega arith
+          | inr not_raw ↦ let a = without_none e d v.raw (omega arith) in let b = times_without e d v.split (omega arith) in omega arith
+        ]
+
+        raw' : ℕ → ℕ
+        raw' e = total (times_raw e) (set views i w)
+
+        raw_are : (e : ℕ) → raw' e + one_if (nat_eq d e) ≡ total (times_raw e) views
+        raw_are e = let s = total_set (times_raw e) views i v w below_i at in let z = raw_is e in omega arith
+
+        t' : Tally
+        t' = record (tally_of views) { raw = raw' }
+
+        tally : tally_of (set views i w) ≡ t'
+        tally = λ j. record {
+          raw = raw';
+          classed = λ e. (total_same (λ (x : View). times_classed e x.classed) views i v w below_i at refl) j;
+          large = λ e. (total_same (λ (x : View). times_large e x.large) views i v w below_i at refl) j;
+          blocks = λ b. (total_same (times_block b) views i v w below_i at refl) j;
+        }
+
+        lists_are : (e : ℕ) → times_in_lists g' e ≡ times_in_lists good.shape e
+        lists_are e = total_unchanged (λ n. times e (good.shape.lists n)) (λ n. times e (relist good.shape.lists l (d ∷ good.shape.lists l) n)) 0 class_numbers (λ n other. off_list n e (λ z. other (z ∙ is))) refl
+
+        cut_same : times_cut good.shape (tally_of views) ≡ times_cut g' t'
+        cut_same = λ j e. (let z : times_cut good.shape (tally_of views) e ≡ times_cut g' t' e = (let b = lists_are e in omega arith) in z) j
+
+        parked_same : times_parked g' t' ≡ times_parked good.shape (tally_of views)
+        parked_same = λ j e. (let z : times_parked g' t' e ≡ times_parked good.shape (tally_of views) e = (let b = lists_are e in omega arith) in z) j
+
+  -- a superblock of a class is put down
+  module _ (claimed : 0 < times_classed d v.classed) where
+    abbrev base : View
+    base = record (won v) { classed = without_claim d v.classed; seen_head = None; seen_anchor = cleared d 1 v.seen_anchor; moves = cond (nat_eq l 0) (v.moves + 1) v.moves }
+
+    abbrev w : View
+    w = pushed_classed v d
+
+    classed_is : (e : ℕ) → times_classed e w.classed + one_if (nat_eq d e) ≡ times_classed e v.classed
+    classed_is e = times_without_claim e d v.classed claimed
+
+    abbrev classed' : ℕ → ℕ
+    classed' e = total (λ (x : View). times_classed e x.classed) (set views i w)
+
+    abbrev t' : Tally
+    t' = record (tally_of views) { classed = classed' }
+
+    classed_are : (e : ℕ) → classed' e + one_if (nat_eq d e) ≡ total (λ (x : View). times_classed e x.classed) views
+    classed_are e = let s = total_set (λ (x : View). times_classed e x.classed) views i v w below_i at in let z = classed_is e in omega arith
+
+    tally : tally_of (set views i w) ≡ t'
+    tally = λ j. record {
+      raw = λ e. (total_same (times_raw e) views i v w below_i at refl) j;
+      classed = classed';
+      large = λ e. (total_same (λ (x : View). times_large e x.large) views i v w below_i at refl) j;
+      blocks = λ b. (total_same (times_block b) views i v w below_i at refl) j;
+    }
+
+    cut_d : 0 < times_cut good.shape (tally_of views) d
+    cut_d = let c = total_at (λ (x : View). times_classed d x.classed) views i v below_i at in omega arith
+
+    is_classed : (e : ℕ) → 0 < times_classed e w.classed → IsClass (claim_class e w.classed) × (info m e ≡ claim_class e w.classed) × (anchor_state (anchor m e) < full_state)
+    is_classed e some = elim (cases_eq d e) [
+      | inl same ↦ absurd (let z = classed_is e in let n = eq-eqb-one d e same in let most = one_claim e in omega arith)
+      | inr other ↦ subst (λ n. IsClass n × (info m e ≡ n) × (anchor_state (anchor m e) < full_state)) (sym (class_without e d v.classed other))
+          (seat.claims.is_classed e (let z = classed_is e in let n = ne-eqb-none d e other in omega arith))
+    ]
+
+    mine : IsSeat k m' g' w
+    mine = record {
+      set_up = set_up_after w refl refl refl refl (length_only base 0 v.volatile) (length_only base 0 v.durable);
+      claims = (let c = seat.claims in record { is_raw = c.is_raw; is_split = c.is_split; is_cutting = c.is_cutting; is_classed = is_classed; is_large = c.is_large; is_part = c.is_part; some = c.some });
+      blocks = seat.blocks;
+      knows = knows_after w refl refl refl refl refl refl (λ e other. let z = classed_is e in let n = ne-eqb-none d e other in omega arith) (λ e other. let z = classed_is e in let n = ne-eqb-none d e other in omega arith) refl;
+      words = words_after base refl refl refl;
+      tickets = won_tickets k.budget m.drawn v w seat.tickets ticket refl refl (omega arith) refl refl refl refl refl refl refl (moved (nat_eq l 0));
+    } where
+      moved : (test : Bool) → v.gives + cond test (v.moves + 1) v.moves ≤ v.gives + v.moves + 1
+      moved true = omega arith
+      moved false = omega arith
+
+    -- in the list of its class
+    push_class : l ≢ 0 → info m d ≡ l → Good k m' (set views i w)
+    push_class some is = good_step k m m' views i v w good g' below_i at
+        (subst (IsInShape k.capacity m' g') (sym tally) (let s = good.shaped in record {
+          lists = lists_set k.capacity (head m) (link m) good.shape.lists l (pushed_head v d) (d ∷ good.shape.lists l) s.lists follows;
+          placed = record { one_place = λ e. let old = s.placed.one_place e in let a = off_list 0 e (λ z. some (sym z)) in let b = lists_are e in let c = classed_are e in omega arith };
+          untaken = record { blank = λ e past below_c. let b = s.untaken.blank e past below_c in record { volatile = b.volatile; durable = b.durable } };
+          listed = record { free = λ e here. s.listed.free e (let a = off_list 0 e (λ z. some (sym z)) in omega arith); in_class = in_class; is_full = s.listed.is_full };
+          chained = subst (λ c. AreChained k.capacity (info m) (anchor m) (next m) good.shape.chains c (tally_of views).blocks) cut_same s.chained;
+          durable = (let x = s.durable in record {
+            behind = x.behind;
+            room = x.room;
+            below = λ e here. x.below e (let a = off_list 0 e (λ z. some (sym z)) in let b = lists_are e in let c = classed_are e in omega arith);
+            infos = λ e here. x.infos e (let b = lists_are e in let c = classed_are e in omega arith);
+          });
+        }))
+        mine (λ j x other b a h. others j x h) (adds_after w refl refl refl refl refl)
+        (record { mine = stale_less w refl refl refl refl (λ e other. omega arith); more = omega arith })
+        (λ j x other b a. theirs x)
+        (let old = good.moves in let gives = total_same (λ (x : View). x.gives) views i v w below_i at refl in
+        let moves = total_same (λ (x : View). x.moves) views i v w below_i at (ap (λ t. cond t (v.moves + 1) v.moves) (ne_eqb l 0 some)) in
+        let empty = ap (λ (t : Tally). empties k.capacity (anchor m) (times_parked g' t)) tally in let same = ap (empties k.capacity (anchor m)) parked_same in omega arith) where
+          lists_are : (e : ℕ) → times_in_lists g' e ≡ times_in_lists good.shape e + one_if (nat_eq d e)
+          lists_are e = let a = in_lists_set e good.shape.lists l (d ∷ good.shape.lists l) is_list some in omega arith
+
+          cut_same : times_cut good.shape (tally_of views) ≡ times_cut g' t'
+          cut_same = λ j e. (let z : times_cut good.shape (tally_of views) e ≡ times_cut g' t' e = (let b = lists_are e in let c = classed_are e in omega arith) in z) j
+
+          parked_same : times_parked g' t' ≡ times_parked good.shape (tally_of views)
+          parked_same = λ j e. (let z : times_parked g' t' e ≡ times_parked good.shape (tally_of views) e = (let b = lists_are e in let c = classed_are e in omega arith) in z) j
+
+          in_class : (class e : ℕ) → IsClass class → 0 < times e (relist good.shape.lists l (d ∷ good.shape.lists l) class) → (info m e ≡ class) × (anchor_state (anchor m e) < full_state)
+          in_class class e is_class here = elim (cases_eq class l) [
+            | inl same ↦ elim (cases_eq d e) [
+              | inl it ↦ subst (λ x. (info m x ≡ class) × (anchor_state (anchor m x) < full_state)) it (is ∙ sym same, (seat.claims.is_classed d claimed).2)
+              | inr other ↦ good.shaped.listed.in_class class e is_class (let a = at_list class e same in let n = ne-eqb-none d e other in omega arith)
+            ]
+            | inr apart ↦ good.shaped.listed.in_class class e is_class (let a = off_list class e apart in omega arith)
+          ]
+
+    -- all of its blocks are in its chain
+    empty_home : anchor_state (anchor m d) ≡ empty_state → (b : ℕ) → IsCutBlock k.capacity (info m d) d b → (tally_of views).blocks b ≡ 0
+    empty_home empty b at_b =
+        let c = good.shaped.chained in
+        let anchored = c.anchored d cut_d in
+        let one = all_home k.capacity (info m d) d (good.shape.chains d) (c.is_class d cut_d) (anchored.empty.0 empty) (λ x some. c.chained d x cut_d some)
+        (λ x at_x. let o = c.owned d x cut_d at_x in omega arith) b at_b in
+        let o = c.owned d b cut_d at_b in omega arith
+
+    -- an empty one goes to the list of the free ones
+    push_moved : l ≡ 0 → anchor_state (anchor m d) ≡ empty_state → Good k m' (set views i w)
+    push_moved is empty = good_step k m m' views i v w good g' below_i at
+        (subst (IsInShape k.capacity m' g') (sym tally) (let s = good.shaped in record {
+          lists = lists_set k.capacity (head m) (link m) good.shape.lists l (pushed_head v d) (d ∷ good.shape.lists l) s.lists follows;
+          placed = record { one_place = λ e. let old = s.placed.one_place e in let a = at_list 0 e (sym is) in let b = lists_are e in let c = classed_are e in omega arith };
+          untaken = record { blank = λ e past below_c. let b = s.untaken.blank e past below_c in record { volatile = b.volatile; durable = b.durable } };
+          listed = record {
+            free = λ e here. elim (cases_eq d e) as (λ _. anchor_state (anchor m e) ≡ empty_state) [
+              | inl same ↦ subst (λ x. anchor_state (anchor m x) ≡ empty_state) same empty
+              | inr other ↦ s.listed.free e (let a = at_list 0 e (sym is) in let z = ne-eqb-none d e other in omega arith)
+            ];
+            in_class = λ class e is_class here. s.listed.in_class class e is_class (let a = off_list class e (λ z. let y = is_class.some in omega (arith, z, is, y)) in omega arith);
+            is_full = s.listed.is_full;
+          };
+          chained = (let c = s.chained in record {
+            is_class = λ e some. c.is_class e (let f = cut_are e in omega arith);
+            anchored = λ e some. c.anchored e (let f = cut_are e in omega arith);
+            owned = λ e b some. c.owned e b (let f = cut_are e in omega arith);
+            chained = λ e b some. c.chained e b (let f = cut_are e in omega arith);
+            inside = λ b some. let old = c.inside b some in (
+              elim (cases_eq d (superblock_at k.capacity b)) as (λ _. 0 < times_cut g' t' (superblock_at k.capacity b)) [
+                | inl same ↦ absurd (let none = empty_home empty b (subst (λ x. IsCutBlock k.capacity (info m x) x b) (sym same) old.1) in omega arith)
+                | inr other ↦ let f = cut_are (superblock_at k.capacity b) in let z = ne-eqb-none d (superblock_at k.capacity b) other in let o = old.0 in omega arith
+              ],
+              old.1,
+            );
+          });
+          durable = (let x = s.durable in record {
+            behind = x.behind;
+            room = x.room;
+            below = λ e here. elim (cases_eq d e) as (λ _. e < durable_used m) [
+              | inl same ↦ subst (λ y. y < durable_used m) same may.durable
+              | inr other ↦ x.below e (let a = at_list 0 e (sym is) in let z = ne-eqb-none d e other in let b = cut_are e in omega arith)
+            ];
+            infos = λ e here. x.infos e (let b = cut_are e in omega arith);
+          });
+        }))
+        mine (λ j x other b a h. others j x h) (adds_after w refl refl refl refl refl)
+        (record { mine = stale_less w refl refl refl refl (λ e other. omega arith); more = omega arith })
+        (λ j x other b a. theirs x)
+        (let old = good.moves in let gives = total_same (λ (x : View). x.gives) views i v w below_i at refl in
+        let moves = total_set (λ (x : View). x.moves) views i v w below_i at in let one_more = ap (λ t. cond t (v.moves + 1) v.moves) (eq-eqb l 0 is) in
+        let now = ap (λ (t : Tally). empties k.capacity (anchor m) (times_parked g' t)) tally in let less = empties_less in omega arith) where
+          lists_are : (e : ℕ) → times_in_lists g' e ≡ times_in_lists good.shape e
+          lists_are e = total_unchanged (λ n. times e (good.shape.lists n)) (λ n. times e (relist good.shape.lists l (d ∷ good.shape.lists l) n)) 0 class_numbers (λ n other. off_list n e (λ z. other (z ∙ is))) refl
+
+          cut_are : (e : ℕ) → times_cut g' t' e + one_if (nat_eq d e) ≡ times_cut good.shape (tally_of views) e
+          cut_are e = let b = lists_are e in let c = classed_are e in omega arith
+
+          old_at : ℕ → ℕ
+          old_at e = one_if (nat_lt 0 (times_parked good.shape (tally_of views) e) && nat_eq (anchor_state (anchor m e)) empty_state)
+
+          new_at : ℕ → ℕ
+          new_at e = one_if (nat_lt 0 (times_parked g' t' e) && nat_eq (anchor_state (anchor m e)) empty_state)
+
+          below_limit : (n limit : ℕ) → below n limit ≤ 1
+          below_limit n limit = one_at_most (nat_lt n limit)
+
+          empties_less : empties k.capacity (anchor m) (times_parked g' t') + 1 ≡ empties k.capacity (anchor m) (times_parked good.shape (tally_of views))
+          empties_less =
+              let step = total_change old_at new_at d (steps 0 1 k.capacity)
+              (λ e other. ap (λ n. one_if (nat_lt 0 n && nat_eq (anchor_state (anchor m e)) empty_state)) (let z : times_parked g' t' e ≡ times_parked good.shape (tally_of views) e = (let b = lists_are e in let c = classed_are e in let n = ne-eqb-none d e (λ q. other (sym q)) in omega arith) in z))
+              (let t = times_steps d 0 k.capacity in let a = below_not d 0 (omega arith) in let b = below_is d (0 + k.capacity) (let z = small_d in omega arith) in omega arith) in
+              let was : old_at d ≡ 1 = one_if_true (nat_lt 0 (times_parked good.shape (tally_of views) d) && nat_eq (anchor_state (anchor m d)) empty_state)
+              (and_is (nat_lt 0 (times_parked good.shape (tally_of views) d)) (nat_eq (anchor_state (anchor m d)) empty_state)
+              (lt-ltb 0 (times_parked good.shape (tally_of views) d) (let c = total_at (λ (x : View). times_classed d x.classed) views i v below_i at in omega arith)) (eq-eqb (anchor_state (anchor m d)) empty_state empty)) in
+              let is_none : times_parked g' t' d ≡ 0 = (let a = good.shaped.placed.one_place d in let limit = below_limit d (used m) in let b = lists_are d in let c = classed_are d in let n = eq-eqb-one d d refl in omega arith) in
+              let now : new_at d ≡ 0 = ap (λ n. one_if (nat_lt 0 n && nat_eq (anchor_state (anchor m d)) empty_state)) is_none in omega arith
+
+  pub push : Good k m' (set views i (pushed v d))
+  push = by_kind l refl may.listed where
+    by_kind : (n : ℕ) → n ≡ l → MayList m v d n → Good k m' (set views i (pushed v d))
+    by_kind n same (as_free list zero_list claimed empty) = elim (cases_lt 0 (times d v.raw + times d v.split)) [
+      | inl raw ↦ subst (λ t. Good k m' (set views i (cond t (pushed_raw v d) (pushed_classed v d)))) (sym (lt-ltb 0 (times d v.raw + times d v.split) raw)) (push_raw raw (sym same ∙ zero_list) empty)
+      | inr not_raw ↦ subst (λ t. Good k m' (set views i (cond t (pushed_raw v d) (pushed_classed v d)))) (sym (not-lt 0 (times d v.raw + times d v.split) not_raw))
+          (push_moved (let c = claimed.claimed in let z = claimed.not_cutting in omega arith) (sym same ∙ zero_list) empty)
+    ]
+    by_kind n same (of_its_class list some claimed info_is state) =
+        subst (λ t. Good k m' (set views i (cond t (pushed_raw v d) (pushed_classed v d)))) (sym (not-lt 0 (times d v.raw + times d v.split) (let most = one_claim d in omega arith)))
+        (push_class claimed (λ z. some (same ∙ z)) (info_is ∙ same))

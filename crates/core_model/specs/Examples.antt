@@ -1,0 +1,257 @@
+-- Worked examples by computation: two superblocks, of which the first is in the list of the free ones, and a seat with ticket 3.
+use Rattle.std.specs.Prelude.{◌≡◌, ℕ, ◌+◌, cond, nat_eq, true, [], ◌∷◌, replicate, None, Some, refl, get_or, set}
+use Rattle.heap_model.specs.Sizes.{class_sizes, words_of_class, blocks_of}
+use Rattle.core_model.specs.declared.event.Event.TheVariants.{Tick, Load, Store, Settle, LookUsed, TakeFresh, KeepUsed, LookHead, LookLink, Pop, Push, LookAnchor, TakeAll, Give}
+use Rattle.core_model.specs.declared.event.Shift.TheVariants.{Cut, Alloc, Free, Lift, Large, Split}
+use Rattle.core_model.specs.Cells.{Cell, used_cell, head_cell, info_cell, anchor_cell, link_cell, root_cell, data_cell, no_cell, cell_at}
+use Rattle.core_model.specs.Memory.{Memory, write, volatile_at}
+use Rattle.core_model.specs.View.{Setup, View, Look, no_batch, times_own, of_class}
+use Rattle.core_model.specs.Effects.{left_there, view_after, chain, steps}
+use Rattle.core_model.specs.Steps.{seat_after}
+
+-- word indices and cells
+pub at_mark : cell_at 2 8 ≡ used_cell
+at_mark = refl
+
+pub at_head : cell_at 2 20 ≡ head_cell 4
+at_head = refl
+
+pub at_root : cell_at 2 41 ≡ root_cell 1
+at_root = refl
+
+pub at_info : cell_at 2 1072 ≡ info_cell 1
+at_info = refl
+
+pub at_anchor : cell_at 2 1065 ≡ anchor_cell 0
+at_anchor = refl
+
+pub at_nothing : cell_at 2 1067 ≡ no_cell
+at_nothing = refl
+
+pub at_block : cell_at 2 1080 ≡ data_cell 1080
+at_block = refl
+
+abbrev setup : Setup
+setup = record { capacity = 2; budget = 10; used = 1; opened = [] }
+
+abbrev unread : Look
+unread = record { word = 1; ticket = None; wins = 0; taken = 0 }
+
+-- nothing is the seat's own but a ticket
+abbrev pub idle : View
+idle = record {
+  setup = setup;
+  small = replicate 21 [];
+  large = [];
+  roots = [];
+  caches = replicate 21 [];
+  batch = no_batch;
+  raw = [];
+  split = [];
+  cutting = [];
+  classed = [];
+  seen_used = None;
+  seen_head = None;
+  seen_link = None;
+  seen_anchor = None;
+  used_look = unread;
+  head_looks = replicate 21 unread;
+  volatile = [];
+  durable = [];
+  floor = 1;
+  ticket = Some 3;
+  last_ticket = Some 3;
+  stopped = None;
+  taken = 0;
+  draws = 4;
+  cuts = 0;
+  wins = 0;
+  losses = 0;
+  gives = 0;
+  moves = 0;
+}
+
+-- one superblock was taken; the free list has it, and was popped once
+abbrev values : Cell → ℕ
+values used_cell = 1
+values (head_cell list) = cond (nat_eq list 0) 16777217 0
+values (info_cell d) = 0
+values (anchor_cell d) = 0
+values (link_cell d) = 0
+values (root_cell i) = 0
+values (data_cell word) = 0
+values no_cell = 0
+
+abbrev pub memory : Memory
+memory = record { volatile = values; durable = values; drawn = 4 }
+
+-- a draw below the budget, and one at it, which stops the seat
+pub draws : (view_after memory idle (Tick None) 4).ticket ≡ Some 4
+draws = refl
+
+pub stops : (view_after memory idle (Tick None) 10).stopped ≡ Some 10
+stops = refl
+
+-- looks
+pub looks_at_used : (seat_after memory idle LookUsed).seen_used ≡ Some 1
+looks_at_used = refl
+
+pub looks_at_head : (seat_after memory idle (LookHead 0)).seen_head ≡ Some (record { of = 0; word = 16777217 })
+looks_at_head = refl
+
+-- the mark is taken further where it is as it was seen, and not where another was seen
+abbrev pub saw_used : ℕ → View
+saw_used n = record idle { seen_used = Some n }
+
+pub takes : left_there memory (saw_used 1) (TakeFresh 1) 1 ≡ 2
+takes = refl
+
+pub has_taken : (seat_after memory (saw_used 1) (TakeFresh 1)).raw ≡ 1 ∷ []
+has_taken = refl
+
+pub loses_take : left_there memory (saw_used 0) (TakeFresh 1) 1 ≡ 1
+loses_take = refl
+
+pub has_lost : (seat_after memory (saw_used 0) (TakeFresh 1)).losses ≡ 1
+has_lost = refl
+
+pub keeps_used : (seat_after memory (saw_used 1) KeepUsed).floor ≡ 1
+keeps_used = refl
+
+-- a pop counts, and the descriptor is claimed; with an old head it is lost
+abbrev pub saw_head : ℕ → View
+saw_head word = record idle { seen_head = Some (record { of = 0; word = word }); seen_link = Some 0 }
+
+pub pops : left_there memory (saw_head 16777217) Pop 16777217 ≡ 33554432
+pops = refl
+
+pub has_popped : (seat_after memory (saw_head 16777217) Pop).raw ≡ 0 ∷ []
+has_popped = refl
+
+pub loses_pop : (seat_after memory (saw_head 1) Pop).raw ≡ []
+loses_pop = refl
+
+pub pushes : left_there memory (record (saw_head 33554432) { raw = 0 ∷ [] }) (Push 0) 33554432 ≡ 33554433
+pushes = refl
+
+pub has_pushed : (view_after memory (record (saw_head 33554432) { raw = 0 ∷ [] }) (Push 0) 33554432).raw ≡ []
+has_pushed = refl
+
+-- its link, info and anchor, and its words, are own words of a claimed superblock without a class
+pub owns_link : times_own (record idle { raw = 1 ∷ [] }) (link_cell 1) ≡ 1
+owns_link = refl
+
+pub owns_words : times_own (record idle { raw = 1 ∷ [] }) (cell_at 2 9272) ≡ 1
+owns_words = refl
+
+pub owns_no_other : times_own (record idle { raw = 1 ∷ [] }) (cell_at 2 1080) ≡ 0
+owns_no_other = refl
+
+-- full in the anchor begins the making of blocks, 0 ends it
+pub begins_cut : (view_after memory (record idle { raw = 0 ∷ [] }) (Store 1065 2) 0).cutting ≡ 0 ∷ []
+begins_cut = refl
+
+pub ends_cut : (view_after memory (record idle { cutting = 0 ∷ [] }) (Store 1065 0) 2).raw ≡ 0 ∷ []
+ends_cut = refl
+
+-- the batch of two blocks of class 20 goes back to a full superblock, which is then claimed
+abbrev batched : View
+batched = record idle {
+  batch = record { descriptor = 0; class = 20; blocks = 2872 ∷ 1080 ∷ []; linked = true };
+  seen_anchor = Some (record { of = 0; word = 2 });
+}
+
+pub gives : left_there memory batched (Give 0) 2 ≡ 17179869189
+unfolding words_of_class class_sizes blocks_of
+gives = refl
+
+pub has_given : (view_after memory batched (Give 0) 2).classed ≡ record { descriptor = 0; class = 20 } ∷ []
+has_given = refl
+
+-- four words apart, and so many along the links
+pub three_steps : steps 8 4 3 ≡ 8 ∷ 12 ∷ 16 ∷ []
+three_steps = refl
+
+pub two_along : chain (λ word. word + word) 5 2 ≡ 5 ∷ 10 ∷ []
+two_along = refl
+
+-- a large block of one superblock, and its split
+pub holds_large : (view_after memory (record idle { raw = 0 ∷ 1 ∷ [] }) (Tick (Some (Large 1 1))) 4).large ≡ record {
+  first = 1;
+  count = 1;
+} ∷ []
+holds_large = refl
+
+pub splits : (view_after memory (record idle { large = record { first = 1; count = 1 } ∷ [] }) (Tick (Some (Split 9272))) 4).split ≡ 1 ∷ []
+splits = refl
+
+-- what a load, a store and a settling tell of a root
+abbrev with_root : View
+with_root = record idle { roots = 1 ∷ []; volatile = replicate 50 None; durable = replicate 50 None }
+
+pub loads : get_or (seat_after memory with_root (Load 41)).volatile 41 None ≡ Some 0
+loads = refl
+
+pub stores : get_or (seat_after memory with_root (Store 41 7)).volatile 41 None ≡ Some 7
+stores = refl
+
+pub settles : get_or (seat_after memory with_root (Settle 41)).durable 41 None ≡ Some 0
+settles = refl
+
+pub owns_root : times_own with_root (cell_at 2 41) ≡ 1
+owns_root = refl
+
+-- looks at a link and at an anchor
+pub looks_at_link : (seat_after memory (saw_head 16777217) LookLink).seen_link ≡ Some 0
+looks_at_link = refl
+
+pub looks_at_anchor : (seat_after memory (record idle { raw = 0 ∷ [] }) (LookAnchor 0)).seen_anchor ≡ Some (record { of = 0; word = 0 })
+looks_at_anchor = refl
+
+-- two blocks of a partial superblock go to the cache of its class; the second one's link was never written
+abbrev partial : View
+partial = record idle { classed = record { descriptor = 0; class = 20 } ∷ []; seen_anchor = Some (record { of = 0; word = 17179869185 }) }
+
+pub takes_all : left_there memory partial (TakeAll 0) 17179869185 ≡ 2
+takes_all = refl
+
+pub has_all : of_class (view_after memory partial (TakeAll 0) 17179869185).caches 20 ≡ 1080 ∷ 0 ∷ []
+unfolding words_of_class class_sizes
+has_all = refl
+
+pub is_done_with : (view_after memory partial (TakeAll 0) 17179869185).classed ≡ []
+is_done_with = refl
+
+pub loses_all : (view_after memory partial (TakeAll 0) 2).losses ≡ 1
+loses_all = refl
+
+-- a block is held, freed, and put behind the batch
+abbrev cached : View
+cached = record idle { caches = set (replicate 21 []) 20 (1080 ∷ 2872 ∷ []) }
+
+pub allocates : of_class (view_after memory cached (Tick (Some (Alloc 20))) 4).small 20 ≡ 1080 ∷ []
+allocates = refl
+
+pub leaves_one : of_class (view_after memory cached (Tick (Some (Alloc 20))) 4).caches 20 ≡ 2872 ∷ []
+leaves_one = refl
+
+pub lifts : (view_after memory cached (Tick (Some (Lift 20))) 4).batch.blocks ≡ 1080 ∷ []
+lifts = refl
+
+pub lifts_from : (view_after memory cached (Tick (Some (Lift 20))) 4).batch.descriptor ≡ 0
+lifts_from = refl
+
+-- superblock 1 is of class 20
+abbrev of_20 : Memory
+of_20 = write memory (volatile_at (info_cell 1)) 20
+
+abbrev holding : View
+holding = record idle { small = set (replicate 21 []) 20 (9272 ∷ []) }
+
+pub frees : of_class (view_after of_20 holding (Tick (Some (Free 9272))) 4).caches 20 ≡ 9272 ∷ []
+frees = refl
+
+pub cuts : of_class (view_after of_20 (record idle { cutting = 1 ∷ [] }) (Tick (Some (Cut 1))) 4).caches 20
+    ≡ 9272 ∷ 11064 ∷ 12856 ∷ 14648 ∷ []
+unfolding words_of_class class_sizes blocks_of
+cuts = refl

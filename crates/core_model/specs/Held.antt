@@ -1,0 +1,37 @@
+-- The blocks that seats hold, and that every mixed image of the shared words names each of them.
+use Rattle.std.specs.Prelude.{◌≡◌, ℕ, ◌+◌, ◌*◌, ◌<◌, cond, nat_lt, List, get_or, length}
+use Rattle.heap_model.specs.declared.block.Block.{Block}
+use Rattle.heap_model.specs.Geometry.{start_word, superblock_words, image_words}
+use Rattle.heap_model.specs.Sizes.{words_of_class}
+use Rattle.heap_model.specs.Counting.{times}
+use Rattle.heap_model.specs.Image.{Image}
+use Rattle.heap_model.specs.Durability.{NamesAreDurable}
+use Rattle.core_model.specs.View.{View, of_class}
+use Rattle.core_model.specs.Effects.{span_count}
+
+-- a block that the seat holds
+pub data IsHeld (v : View) : Block → Type 0 where
+  a_small : (class b : ℕ) → 0 < times b (of_class v.small class) → IsHeld v (record { first_word = b; words = words_of_class class })
+  a_large : (d n : ℕ) → 0 < n → span_count d v.large ≡ n → IsHeld v (record {
+    first_word = start_word v.setup.capacity d;
+    words = superblock_words * n;
+  })
+
+-- a block that some seat holds
+pub record IsHeldBy (views : List View) (b : Block) : Type 0 where
+  pub seat : ℕ
+  pub view : View
+  pub below : seat < length views
+  pub at : get_or views seat view ≡ view
+  pub holds : IsHeld view b
+
+-- the volatile words of the image, and the durable ones
+abbrev pub volatile_image : ℕ → List ℕ → Image
+volatile_image capacity words word = cond (nat_lt word (image_words capacity)) (get_or words word 0) 0
+
+abbrev pub durable_image : ℕ → List ℕ → Image
+durable_image capacity words word = cond (nat_lt word (image_words capacity)) (get_or words (image_words capacity + word) 0) 0
+
+-- each mixture of volatile and durable words names each held block, at its first word and with its size
+abbrev pub IsFirm : ℕ → List ℕ → List View → Type 0
+IsFirm capacity words views = NamesAreDurable (volatile_image capacity words) (durable_image capacity words) (IsHeldBy views)

@@ -1,0 +1,106 @@
+-- A heap at rest as it is opened for some seats: each held block and each root belongs to one seat, nothing is cached, batched or claimed, and all words are durable.
+use Rattle.std.specs.Prelude.{◌≡◌, ℕ, zero, suc, ◌+◌, ◌/◌, ◌<◌, Bool, cond, ◌&&◌, nat_eq, nat_lt, List, [], ◌∷◌, ◌++◌, length, map, replicate, slice_index, Contains, None, Some, get_or}
+use Rattle.heap_model.specs.declared.block.Block.{Block}
+use Rattle.heap_model.specs.Geometry.{roots, lists, info_word, head_word, capacity_word, used_word, superblock_words}
+use Rattle.core_model.specs.Cells.{superblock_at}
+use Rattle.core_model.specs.View.{Setup, Span, Look, View, no_batch}
+use Rattle.core_model.specs.Effects.{steps, trimmed}
+use Rattle.core_model.specs.Steps.{State}
+
+-- the members that belong to the seat
+abbrev pub picked : {A : Type 0} → ℕ → List A → List ℕ → List A
+picked seat [] owners = []
+picked seat (x ∷ xs) [] = []
+picked seat (x ∷ xs) (owner ∷ owners) = cond (nat_eq owner seat) (x ∷ picked seat xs owners) (picked seat xs owners)
+
+-- the values at n numbers from one on
+abbrev pub tabulate : {A : Type 0} → (ℕ → A) → ℕ → ℕ → List A
+tabulate f from zero = []
+tabulate f from (suc n) = f from ∷ tabulate f (from + 1) n
+
+-- the first words of the small blocks in superblocks of a class
+abbrev pub is_small : Block → Bool
+is_small b = nat_lt b.words superblock_words
+
+abbrev pub small_blocks : ℕ → (ℕ → ℕ) → ℕ → List Block → List ℕ
+small_blocks capacity info class [] = []
+small_blocks capacity info class (b ∷ bs) = cond (is_small b && nat_eq (info (superblock_at capacity b.first_word)) class)
+    (b.first_word ∷ small_blocks capacity info class bs) (small_blocks capacity info class bs)
+
+abbrev pub large_blocks : ℕ → List Block → List Span
+large_blocks capacity [] = []
+large_blocks capacity (b ∷ bs) = cond (is_small b) (large_blocks capacity bs) (record {
+  first = superblock_at capacity b.first_word;
+  count = b.words / superblock_words;
+} ∷ large_blocks capacity bs)
+
+-- who owns each held block, and each root: all below the number of seats
+pub record AreOwners (held : List Block) (seats : ℕ) (block_owners root_owners : List ℕ) : Type 0 where
+  pub blocks : length block_owners ≡ length held
+  pub roots_all : length root_owners ≡ roots
+  pub block_seats : (owner : ℕ) → Contains block_owners owner → owner < seats
+  pub root_seats : (owner : ℕ) → Contains root_owners owner → owner < seats
+
+abbrev pub setup_of : List ℕ → ℕ → Setup
+setup_of words budget = record {
+  capacity = slice_index words capacity_word;
+  budget = budget;
+  used = slice_index words used_word;
+  opened = words;
+}
+
+-- nothing was looked at yet
+abbrev pub unlooked : ℕ → Look
+unlooked word = record { word = word; ticket = None; wins = 0; taken = 0 }
+
+abbrev pub plain_view : Setup → List Block → List ℕ → View
+plain_view k held owned_roots = record {
+  setup = k;
+  small = tabulate (λ class. small_blocks k.capacity (λ d. slice_index k.opened (info_word d)) class held) 0 lists;
+  large = large_blocks k.capacity held;
+  roots = owned_roots;
+  caches = replicate lists [];
+  batch = no_batch;
+  raw = [];
+  split = [];
+  cutting = [];
+  classed = [];
+  seen_used = None;
+  seen_head = None;
+  seen_link = None;
+  seen_anchor = None;
+  used_look = unlooked k.used;
+  head_looks = tabulate (λ list. unlooked (slice_index k.opened (head_word list))) 0 lists;
+  volatile = map (λ word. Some word) k.opened;
+  durable = map (λ word. Some word) k.opened;
+  floor = k.used;
+  ticket = None;
+  last_ticket = None;
+  stopped = None;
+  taken = 0;
+  draws = 0;
+  cuts = 0;
+  wins = 0;
+  losses = 0;
+  gives = 0;
+  moves = 0;
+}
+
+-- the seat knows its own words, which are as in the opened image
+abbrev pub opened_view : Setup → List Block → List ℕ → List ℕ → ℕ → View
+opened_view k held block_owners root_owners seat = trimmed (plain_view k (picked seat held block_owners) (picked seat
+    (steps 0 1 roots) root_owners))
+
+-- the shared words and the views of an opened heap
+abbrev pub opened_state : Setup → List Block → List ℕ → List ℕ → ℕ → State
+opened_state k held block_owners root_owners seats = record {
+  words = k.opened ++ (k.opened ++ (0 ∷ []));
+  views = tabulate (opened_view k held block_owners root_owners) 0 seats;
+}
+
+-- the block stands in the list where the seat is the owner
+pub record IsOwnerOf (held : List Block) (block_owners : List ℕ) (seat : ℕ) (b : Block) : Type 0 where
+  pub at : ℕ
+  pub inside : at < length held
+  pub is : get_or held at b ≡ b
+  pub owner : get_or block_owners at (seat + 1) ≡ seat

@@ -1,0 +1,116 @@
+//! What follows from the definitions, as functions with nothing to run: a caller cites their
+//! clauses.
+
+ghost use Rattle.std.specs.Prelude.{◌≡◌, ◌≢◌, ◌<◌, ◌*◌, ◌++◌, ◌∷◌, [], ℕ, List, get_or, set, length, slice_index, ◌↔◌, ◌+◌};
+ghost use Rattle.heap_model.specs.declared.block.Block.{Block};
+ghost use Rattle.heap_model.specs.Geometry.{capacity_word, roots};
+ghost use Rattle.heap_model.specs.Counting.{times};
+ghost use Rattle.heap_model.specs.Rest.{IsReady};
+ghost use Rattle.core_model.specs.declared.answer.StepAnswer.{StepAnswer};
+ghost use Rattle.core_model.specs.declared.event.Event.{Event};
+ghost use Rattle.core_model.specs.Cells.{Cell};
+ghost use Rattle.core_model.specs.Memory.{Memory, memory_of, table_index};
+ghost use Rattle.core_model.specs.View.{Setup, View, times_own};
+ghost use Rattle.core_model.specs.Guards.{IsOwn, MayStep};
+ghost use Rattle.core_model.specs.Sound.{Good, Sound};
+ghost use Rattle.core_model.specs.Steps.{Keeps, State, IsSoundState, Runs, words_after, seat_after};
+ghost use Rattle.core_model.specs.Splitting.{Choice, remaining, given_off};
+ghost use Rattle.core_model.specs.Opening.{AreOwners, IsOwnerOf, setup_of, opened_view, opened_state};
+ghost use Rattle.core_model.specs.Held.{IsHeld, IsHeldBy, IsFirm, volatile_image, durable_image};
+ghost use Rattle.heap_model.specs.Image.{Image};
+ghost use Rattle.heap_model.specs.Blocks.{Names};
+ghost use Rattle.heap_model.specs.Durability.{IsCrashImage, IsClosedImage};
+ghost use Rattle.core_model.specs.Effects.{place_of};
+
+/// Each kind of step that a seat may take keeps memory and seats fitting together, whether an
+/// exchange is won or lost, and whether a draw gives a ticket or stops the seat.
+pub fn every_step_keeps_the_heap_sound()
+    ensures memory { (k : Setup) (m : Memory) (views : List View) (i : ℕ) (v : View)
+        → i < length views → get_or views i v ≡ v → Good k m views
+        → (event : Event) → MayStep m v event → Keeps k m views i v event }
+    ensures table { (k : Setup) (words : List ℕ) (views : List View) (i : ℕ) (v : View)
+        (event : Event) → i < length views → get_or views i v ≡ v → Sound k words views
+        → MayStep (memory_of k.capacity words) v event
+        → Sound k (words_after k words v event)
+        (set views i (seat_after (memory_of k.capacity words) v event)) }
+{}
+
+/// Whatever the seats do, in whatever order, the shared words and the views stay sound, and each
+/// mixture of volatile and durable words names each held block.
+pub fn every_list_of_events_keeps_the_heap_sound()
+    ensures sound { (k : Setup) (s s' : State) (events : List (ℕ × Event))
+        (answers : List StepAnswer) → IsSoundState k s → Runs k s events answers s'
+        → IsSoundState k s' }
+    ensures firm { (k : Setup) (s s' : State) (events : List (ℕ × Event))
+        (answers : List StepAnswer) → IsSoundState k s → Runs k s events answers s'
+        → IsFirm k.capacity s'.words s'.views }
+{}
+
+/// A heap at rest that is opened for some seats, with an owner for each held block and each root,
+/// is sound, and each seat has exactly what it owns; sound is whatever the seats make of it.
+pub fn an_opened_heap_is_sound()
+    ensures opened { (words : List ℕ) (held : List Block) (budget seats : ℕ)
+        (block_owners root_owners : List ℕ) → IsReady words held
+        → AreOwners held seats block_owners root_owners
+        → IsSoundState (setup_of words budget)
+        (opened_state (setup_of words budget) held block_owners root_owners seats) }
+    ensures held { (words : List ℕ) (held : List Block) (budget seats : ℕ)
+        (block_owners root_owners : List ℕ) → IsReady words held
+        → AreOwners held seats block_owners root_owners → (i : ℕ) (b : Block)
+        → IsHeld (opened_view (setup_of words budget) held block_owners root_owners i) b
+        ↔ IsOwnerOf held block_owners i b }
+    ensures owned { (words : List ℕ) (held : List Block) (budget seats : ℕ)
+        (block_owners root_owners : List ℕ) → AreOwners held seats block_owners root_owners
+        → (i n : ℕ) → (0 < times n
+        (opened_view (setup_of words budget) held block_owners root_owners i).roots)
+        ↔ ((n < roots) × (get_or root_owners n (i + 1) ≡ i)) }
+    ensures running { (words : List ℕ) (held : List Block) (budget seats : ℕ)
+        (block_owners root_owners : List ℕ) → IsReady words held
+        → AreOwners held seats block_owners root_owners
+        → (events : List (ℕ × Event)) (answers : List StepAnswer) (s : State)
+        → Runs (setup_of words budget)
+        (opened_state (setup_of words budget) held block_owners root_owners seats) events
+        answers s
+        → IsSoundState (setup_of words budget) s }
+    ensures firm { (words : List ℕ) (held : List Block) (budget seats : ℕ)
+        (block_owners root_owners : List ℕ) → IsReady words held
+        → AreOwners held seats block_owners root_owners
+        → (events : List (ℕ × Event)) (answers : List StepAnswer) (s : State)
+        → Runs (setup_of words budget)
+        (opened_state (setup_of words budget) held block_owners root_owners seats) events
+        answers s
+        → IsFirm (slice_index words capacity_word) s.words s.views }
+{}
+
+/// A seat may give some of its held blocks and roots, whichever are chosen, to a new seat that has
+/// done nothing yet: no word changes, and the state stays sound.
+pub fn a_seat_may_be_split()
+    ensures { (k : Setup) (words : List ℕ) (views : List View) (i : ℕ) (v : View)
+        → i < length views → get_or views i v ≡ v → Sound k words views → (c : Choice)
+        → Sound k words (set views i (remaining c v) ++ given_off c v ∷ []) }
+{}
+
+/// Whatever a crash leaves of a sound state, or a close, names each held block.
+pub fn a_crash_leaves_each_held_block_named()
+    ensures crash { (k : Setup) (s : State) → IsSoundState k s → (image : Image)
+        → IsCrashImage (durable_image k.capacity s.words) image
+        → (b : Block) → IsHeldBy s.views b → Names image (8 * b.first_word) b }
+    ensures closed { (k : Setup) (s : State) → IsSoundState k s → (image : Image)
+        → IsClosedImage (volatile_image k.capacity s.words) image
+        → (b : Block) → IsHeldBy s.views b → Names image (8 * b.first_word) b }
+{}
+
+/// A step that a seat may take works on a word of the shared table.
+pub fn a_step_works_on_a_word_of_the_table()
+    ensures { (k : Setup) (s : State) (i : ℕ) (v : View) (event : Event)
+        → i < length s.views → get_or s.views i v ≡ v → IsSoundState k s
+        → MayStep (memory_of k.capacity s.words) v event
+        → table_index k.capacity (place_of v event) < length s.words }
+{}
+
+/// No word is own to two seats.
+pub fn a_word_is_own_to_at_most_one_seat()
+    ensures { (k : Setup) (m : Memory) (views : List View) → Good k m views → (i j : ℕ) (v u : View)
+        → j ≢ i → i < length views → get_or views i v ≡ v → j < length views → get_or views j u ≡ u
+        → (cell : Cell) → IsOwn v cell → times_own u cell ≡ 0 }
+{}

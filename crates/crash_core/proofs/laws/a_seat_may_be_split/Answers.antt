@@ -1,5 +1,0 @@
-use Rattle.crash_core.proofs.SplittingLemmas.{split_sound}
-use Rattle.crash_core.proofs.laws.a_seat_may_be_split.Goals as goal
-
-pub returns : goal.returns
-returns c = split_sound

@@ -1,5 +1,0 @@
-use Rattle.crash_core.proofs.OwnerLemmas.{one_owner}
-use Rattle.crash_core.proofs.laws.a_word_is_own_to_at_most_one_seat.Goals as goal
-
-pub returns : goal.returns
-returns c = one_owner

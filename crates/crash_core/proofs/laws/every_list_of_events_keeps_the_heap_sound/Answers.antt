@@ -1,9 +1,0 @@
-use Rattle.crash_core.proofs.SoundLemmas.{sound_runs}
-use Rattle.crash_core.proofs.HeldLemmas.{firm}
-use Rattle.crash_core.proofs.laws.every_list_of_events_keeps_the_heap_sound.Goals as goal
-
-pub returns-clause-sound : goal.returns-clause-sound
-returns-clause-sound c = sound_runs
-
-pub returns-clause-firm : goal.returns-clause-firm
-returns-clause-firm c k s s' events answers sound runs = firm k s'.words s'.views (sound_runs k s s' events answers sound runs)

@@ -1,9 +1,0 @@
-use Rattle.crash_core.proofs.KeptLemmas.{kept}
-use Rattle.crash_core.proofs.SoundLemmas.{sound_step}
-use Rattle.crash_core.proofs.laws.every_step_keeps_the_heap_sound.Goals as goal
-
-pub returns-clause-memory : goal.returns-clause-memory
-returns-clause-memory c = kept
-
-pub returns-clause-table : goal.returns-clause-table
-returns-clause-table c = sound_step
