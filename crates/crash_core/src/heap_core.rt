@@ -1,0 +1,95 @@
+//! The core: a heap opened for some seats, that takes their steps in any order.
+
+ghost use Rattle.std.specs.Prelude.{◌≡◌, ◌<◌, ◌≤◌, ◌+◌, ℕ, length, slice_index, IfOk, Contains};
+ghost use Rattle.heap_model.specs.Geometry.{image_words};
+ghost use Rattle.heap_model.specs.Durability.{IsCrashImage};
+ghost use Rattle.core_model.specs.declared.event.Event.{Event};
+ghost use Rattle.core_model.specs.Held.{durable_image};
+ghost use Rattle.core_model.specs.Memory.{memory_of};
+ghost use Rattle.core_model.specs.Opening.{AreOwners, setup_of, opened_state};
+ghost use Rattle.core_model.specs.Steps.{State};
+ghost use Rattle.core_model.specs.View.{Setup};
+ghost use Rattle.crash_core.specs.Standing.{StandsFor, Follows, RunsOn};
+
+use crate::crash::crash_image;
+use crate::opened::opened_core;
+use crate::opening::Owners;
+use crate::runs::run;
+use crate::state::CoreState;
+use crate::steps::step;
+use core_model::{Event, StepAnswer};
+use line_memory::Chance;
+use std::alloc::{AllocError, Global};
+use super_block::Ready;
+
+/// A heap opened for some seats.
+#[derive(Drop)]
+pub struct Core {
+    state: CoreState,
+    spare: usize,
+}
+
+impl Core {
+    /// The heap, opened for 1 to 8 seats within a budget of tickets: each held block and each root
+    /// belongs to the seat that the owners name.
+    pub fn of(
+        alloc: Global,
+        heap: &Ready,
+        owners: &Owners,
+        seats: usize,
+        budget: u64,
+    ) -> Result<Core, AllocError>
+        requires owners { AreOwners heap.now.held seats owners.now.held owners.now.roots }
+        requires some { 1 ≤ seats }
+        requires seats { seats ≤ 8 }
+        requires budget { budget < 1099511627776 }
+        ensures ok { IfOk result (λ core. StandsFor core.state (setup_of heap.now.words budget)
+            (opened_state (setup_of heap.now.words budget) heap.now.held
+            owners.now.held owners.now.roots seats)) }
+    {
+        let state = opened_core(alloc, heap, owners, seats, budget)?;
+        Ok(Core { state, spare: 0 })
+    }
+
+    /// Makes room for so many steps.
+    pub fn reserve(&mut self, events: usize) -> Result<(), AllocError> {
+        if self.spare < events {
+            self.spare = events;
+        }
+        Ok(())
+    }
+
+    /// Takes a step of a seat, if it may be taken now.
+    pub fn step(&mut self, seat: usize, event: Event) -> StepAnswer {
+        self.spare -= 1;
+        step(&mut self.state, seat, event)
+    }
+
+    /// Tries the events in their order, and gives the answer of each.
+    pub fn replay(
+        &mut self,
+        alloc: Global,
+        events: &[(usize, Event)],
+    ) -> Result<Vec<StepAnswer>, AllocError> {
+        run(&mut self.state, alloc, events)
+    }
+
+    /// An image that a crash may leave of the state.
+    pub fn image<C: Chance>(
+        &self,
+        alloc: Global,
+        scramble: &mut C,
+    ) -> Result<Vec<u64>, AllocError> {
+        crash_image(alloc, &self.state.words, self.state.geometry, scramble)
+    }
+
+    /// How many tickets were drawn.
+    pub fn tickets(&self) -> u64 {
+        self.state.words[(2 * self.state.geometry.length()) as usize]
+    }
+
+    /// How many seats there are.
+    pub fn seats(&self) -> usize {
+        self.state.seats.len()
+    }
+}
