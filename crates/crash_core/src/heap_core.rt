@@ -20,6 +20,7 @@ use crate::steps::step;
 use core_model::{Event, StepAnswer};
 use line_memory::Chance;
 use std::alloc::{AllocError, Global};
+use std::marker::Model;
 use super_block::Ready;
 
 /// A heap opened for some seats.
@@ -27,6 +28,17 @@ use super_block::Ready;
 pub struct Core {
     state: CoreState,
     spare: usize,
+}
+
+impl Model for Core {
+    ghost use Rattle.crash_core.specs.Opened.{Opened};
+    ghost use Rattle.crash_core.specs.Standing.{IsCore};
+
+    ghost Value = { Opened };
+
+    ghost view = { λ a. record { state = a.state; spare = a.spare } };
+
+    ghost invariant = { λ a. IsCore a.state };
 }
 
 impl Core {
@@ -46,21 +58,29 @@ impl Core {
         ensures ok { IfOk result (λ core. StandsFor core.state (setup_of heap.now.words budget)
             (opened_state (setup_of heap.now.words budget) heap.now.held
             owners.now.held owners.now.roots seats)) }
+        ensures seats { IfOk result (λ core. length core.state.seats.items ≡ seats) }
     {
         let state = opened_core(alloc, heap, owners, seats, budget)?;
         Ok(Core { state, spare: 0 })
     }
 
     /// Makes room for so many steps.
-    pub fn reserve(&mut self, events: usize) -> Result<(), AllocError> {
-        if self.spare < events {
-            self.spare = events;
-        }
+    pub fn reserve(&mut self, events: usize) -> Result<(), AllocError>
+        ensures same { self.new.state ≡ self.old.state }
+        ensures spare { IfOk result (λ _. events ≤ self.new.spare) }
+    {
+        self.spare = self.spare.max(events);
         Ok(())
     }
 
     /// Takes a step of a seat, if it may be taken now.
-    pub fn step(&mut self, seat: usize, event: Event) -> StepAnswer {
+    pub fn step(&mut self, seat: usize, event: Event) -> StepAnswer
+        requires seat { seat < length self.old.state.seats.items }
+        requires spare { 1 ≤ self.old.spare }
+        ensures follows { Follows self.old.state seat event result self.new.state }
+        ensures seats { length self.new.state.seats.items ≡ length self.old.state.seats.items }
+        ensures spare { self.new.spare + 1 ≡ self.old.spare }
+    {
         self.spare -= 1;
         step(&mut self.state, seat, event)
     }
@@ -70,26 +90,39 @@ impl Core {
         &mut self,
         alloc: Global,
         events: &[(usize, Event)],
-    ) -> Result<Vec<StepAnswer>, AllocError> {
+    ) -> Result<Vec<StepAnswer>, AllocError>
+        requires seats { (e : ℕ × Event) → Contains events.now e
+            → e.0 < length self.old.state.seats.items }
+        ensures runs { IfOk result (λ answers.
+            RunsOn self.old.state events.now answers.items self.new.state) }
+        ensures seats { length self.new.state.seats.items ≡ length self.old.state.seats.items }
+    {
         run(&mut self.state, alloc, events)
     }
 
     /// An image that a crash may leave of the state.
-    pub fn image<C: Chance>(
-        &self,
-        alloc: Global,
-        scramble: &mut C,
-    ) -> Result<Vec<u64>, AllocError> {
+    pub fn image<C: Chance>(&self, alloc: Global, scramble: &mut C) -> Result<Vec<u64>, AllocError>
+        ensures ok { IfOk result (λ image. (k : Setup) (s : State)
+            → StandsFor self.now.state k s
+            → IsCrashImage (durable_image k.capacity s.words) (slice_index image.items)) }
+        ensures length { IfOk result (λ image. (k : Setup) (s : State)
+            → StandsFor self.now.state k s → length image.items ≡ image_words k.capacity) }
+    {
         crash_image(alloc, &self.state.words, self.state.geometry, scramble)
     }
 
     /// How many tickets were drawn.
-    pub fn tickets(&self) -> u64 {
+    pub fn tickets(&self) -> u64
+        ensures { (k : Setup) (s : State) → StandsFor self.now.state k s
+            → result ≡ (memory_of k.capacity s.words).drawn }
+    {
         self.state.words[(2 * self.state.geometry.length()) as usize]
     }
 
     /// How many seats there are.
-    pub fn seats(&self) -> usize {
+    pub fn seats(&self) -> usize
+        ensures { result ≡ length self.now.state.seats.items }
+    {
         self.state.seats.len()
     }
 }

@@ -1,6 +1,6 @@
 //! Lists of events, run one after another.
 
-ghost use Rattle.std.specs.Prelude.{ℕ, ◌<◌, length, Contains, IfOk};
+ghost use Rattle.std.specs.Prelude.{◌≡◌, ℕ, ◌<◌, length, Contains, IfOk};
 ghost use Rattle.crash_core.specs.Standing.{IsCore, RunsOn};
 ghost use Rattle.core_model.specs.declared.event.Event.{Event};
 
@@ -20,6 +20,7 @@ pub(crate) fn run(
     requires seats { (e : ℕ × Event) → Contains events.now e → e.0 < length core.old.seats.items }
     ensures runs { IfOk result (λ answers. RunsOn core.old events.now answers.items core.new) }
     ensures core { IsCore core.new }
+    ensures seats { length core.new.seats.items ≡ length core.old.seats.items }
 {
     let mut answers = Vec::new(alloc);
     for (seat, event) in events {
