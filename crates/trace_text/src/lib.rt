@@ -13,6 +13,7 @@ mod recovered;
 mod reply;
 mod report;
 mod request;
+mod schedule;
 mod trace;
 mod value;
 
@@ -26,6 +27,7 @@ pub use recovered::{map_text, report_text};
 pub use reply::{Reply, reply_text};
 pub use report::heap_line;
 pub use request::{Request, TraceError};
+pub use schedule::Schedule;
 pub use trace::parse_trace;
 
 #[cfg(test)]
