@@ -4,8 +4,9 @@
 # make bench   times the program beside the system's tools and other stores, runs of traces, the heap for one thread,
 #              and requests to the dictionary
 # make faults  refuses each request for memory of a small run in turn, and says how the runs ended
+# make schedules  runs the schedules of docs/ALGORITHM.md, and compares their answers
 # make clean   removes what these made
-.PHONY: all test check bench faults clean
+.PHONY: all test check bench faults schedules clean
 
 all: bin/heap_tool
 
@@ -29,6 +30,9 @@ bench: bin/heap_tool
 
 faults:
 	tools/faults
+
+schedules: bin/heap_tool
+	tools/schedules
 
 clean:
 	rm -rf bin crates/*/out
