@@ -28,3 +28,5 @@ pub mod GiveSteps
 pub mod TickSteps
 pub mod EventSteps
 pub mod RunSteps
+pub mod PickedLemmas
+pub mod OpenedBlocks

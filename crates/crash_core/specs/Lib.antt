@@ -3,3 +3,4 @@ pub mod OwnerLists
 pub mod OwnWords
 pub mod Standing
 pub mod Opened
+pub mod OpenedOwners

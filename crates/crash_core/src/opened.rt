@@ -1,7 +1,8 @@
 //! What the core keeps of a heap at rest, as it is opened for some seats.
 
-ghost use Rattle.std.specs.Prelude.{◌<◌, ◌≤◌, IfOk};
+ghost use Rattle.std.specs.Prelude.{◌≡◌, ◌+◌, ◌<◌, ◌≤◌, length, IfOk};
 ghost use Rattle.core_model.specs.Opening.{AreOwners, setup_of, opened_state};
+ghost use Rattle.crash_core.specs.OpenedOwners.{AreBlockOwners, AreSuperblockOwners, IsLargeGiven};
 ghost use Rattle.crash_core.specs.Standing.{StandsFor};
 
 use crate::chains::NO_BATCH;
@@ -9,9 +10,8 @@ use crate::fresh::give_range;
 use crate::opening::{Owners, opened_table};
 use crate::owners::{BlockOwner, BlockPlace, Cache, Seat, Share, SuperblockOwner};
 use crate::state::CoreState;
-use heap_model::Block;
 use std::alloc::{AllocError, Global};
-use super_block::{Geometry, Ready, SUPERBLOCK_WORDS};
+use super_block::{Ready, SUPERBLOCK_WORDS};
 
 /// A block that nobody has.
 const NO_BLOCK: BlockOwner = BlockOwner {
@@ -53,57 +53,68 @@ pub(crate) fn opened_core(
         (opened_state (setup_of heap.now.words budget) heap.now.held
         owners.now.held owners.now.roots seats)) }
 {
-    let geometry = heap.geometry();
-    let mut blocks = vec![in alloc; NO_BLOCK; geometry.length() as usize]?;
-    let mut superblocks = vec![in alloc; NO_SUPERBLOCK; geometry.capacity() as usize]?;
-    give_held(
-        geometry,
-        heap.held(),
-        owners.held(),
-        &mut blocks,
-        &mut superblocks,
-    );
     Ok(CoreState {
-        geometry,
+        geometry: heap.geometry(),
         budget,
         words: opened_table(alloc, heap)?,
         seats: vec![in alloc; NEW_SEAT; seats]?,
-        blocks,
-        superblocks,
+        blocks: block_owners(alloc, heap, owners.held())?,
+        superblocks: superblock_owners(alloc, heap, owners.held())?,
         roots: Vec::from_slice(alloc, owners.roots())?,
     })
 }
 
-/// Gives each held block to its seat.
-fn give_held(
-    geometry: Geometry,
-    held: &[Block],
+/// Whose each small block is, where the held blocks belong to these seats.
+fn block_owners(
+    alloc: Global,
+    heap: &Ready,
     owners: &[u32],
-    blocks: &mut Vec<BlockOwner>,
-    superblocks: &mut Vec<SuperblockOwner>,
-) {
-    for (i, block) in held.iter().enumerate() {
-        let seat = owners[i] as usize;
+) -> Result<Vec<BlockOwner>, AllocError>
+    requires { length owners.now ≡ length heap.now.held }
+    ensures ok { IfOk result (λ blocks. AreBlockOwners heap.now.words heap.now.held
+        owners.now blocks.items) }
+{
+    let length = heap.geometry().length();
+    let mut blocks = vec![in alloc; NO_BLOCK; length as usize]?;
+    for (i, block) in heap.held().iter().enumerate() {
         if block.words < SUPERBLOCK_WORDS {
             blocks[block.first_word as usize] = BlockOwner {
-                seat,
+                seat: owners[i] as usize,
                 place: BlockPlace::Held,
             };
-        } else {
-            give_large(geometry, *block, seat, superblocks);
         }
     }
+    Ok(blocks)
 }
 
-/// Gives the superblocks of a large block to a seat.
-fn give_large(
-    geometry: Geometry,
-    block: Block,
-    seat: usize,
-    superblocks: &mut Vec<SuperblockOwner>,
-) {
-    let d = (block.first_word - geometry.start(0)) / SUPERBLOCK_WORDS;
-    let count = block.words / SUPERBLOCK_WORDS;
+/// Whose each superblock is, where the held blocks belong to these seats.
+fn superblock_owners(
+    alloc: Global,
+    heap: &Ready,
+    owners: &[u32],
+) -> Result<Vec<SuperblockOwner>, AllocError>
+    requires { length owners.now ≡ length heap.now.held }
+    ensures ok { IfOk result (λ superblocks. AreSuperblockOwners heap.now.words heap.now.held
+        owners.now superblocks.items) }
+{
+    let geometry = heap.geometry();
+    let mut superblocks = vec![in alloc; NO_SUPERBLOCK; geometry.capacity() as usize]?;
+    for (i, block) in heap.held().iter().enumerate() {
+        if block.words >= SUPERBLOCK_WORDS {
+            let d = (block.first_word - geometry.start(0)) / SUPERBLOCK_WORDS;
+            let count = block.words / SUPERBLOCK_WORDS;
+            give_large(&mut superblocks, owners[i] as usize, d, count);
+        }
+    }
+    Ok(superblocks)
+}
+
+/// Gives a seat the superblocks of a large block, `count` of them from `d` on.
+fn give_large(superblocks: &mut Vec<SuperblockOwner>, seat: usize, d: u64, count: u64)
+    requires some { 0 < count }
+    requires inside { d + count ≤ length superblocks.old.items }
+    ensures { IsLargeGiven superblocks.old.items superblocks.new.items seat d count }
+{
     let rest = SuperblockOwner {
         seat,
         share: Share::Large { count: 0 },
