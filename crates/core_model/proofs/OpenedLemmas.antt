@@ -137,7 +137,7 @@ module _ (words : List ℕ) (held : List Block) (budget seats : ℕ) (block_owne
   in_used d less = let u = ready.formed.used in omega arith
 
   -- which superblocks a large block takes
-  part_takes : (d : ℕ) (p : Block) (l : IsLarge p) → one_if (seen_as.takes d (record { first = superblock_at c p.first_word; count = p.words / superblock_words })) ≡ large_part c d p
+  pub part_takes : (d : ℕ) (p : Block) (l : IsLarge p) → one_if (seen_as.takes d (record { first = superblock_at c p.first_word; count = p.words / superblock_words })) ≡ large_part c d p
   part_takes d p l = elim (cases_lt d l.d) [
     | inl less ↦ none (λ low high. omega (arith, low, l.here, less)) (λ low high. omega (arith, l.first, low, less))
     | inr low ↦ elim (cases_lt d (l.d + l.count)) [
@@ -152,7 +152,7 @@ module _ (words : List ℕ) (held : List Block) (budget seats : ℕ) (block_owne
     none out apart = one_if_false _ (λ t. let b = and_both _ _ t in out (leb-true (superblock_at c p.first_word) d b.0) (ltb-true d (superblock_at c p.first_word + p.words / superblock_words) b.1))
         ∙ sym (one_if_false _ (λ t. let b = and_both _ _ t in let e = and_both _ _ b.1 in apart (ltb-true p.first_word (start_word c (d + 1)) e.0) (ltb-true (start_word c d) (p.first_word + p.words) e.1)))
 
-  small_part : (d : ℕ) (p : Block) → is_small p ≡ true → large_part c d p ≡ 0
+  pub small_part : (d : ℕ) (p : Block) → is_small p ≡ true → large_part c d p ≡ 0
   small_part d p small = one_if_false _ (λ t. let b = and_both _ _ t in let l : superblock_words ≤ p.words = leb-true superblock_words p.words b.0 in let s : p.words < superblock_words = ltb-true p.words superblock_words small in omega arith)
 
   pub large_of : (p : Block) → Contains held p → is_small p ≡ false → IsLarge p

@@ -30,3 +30,4 @@ pub mod EventSteps
 pub mod RunSteps
 pub mod PickedLemmas
 pub mod OpenedBlocks
+pub mod OpenedSuperblocks
