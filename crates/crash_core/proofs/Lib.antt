@@ -31,3 +31,4 @@ pub mod RunSteps
 pub mod PickedLemmas
 pub mod OpenedBlocks
 pub mod OpenedSuperblocks
+pub mod OpenedCore

@@ -1,6 +1,7 @@
 //! What the core keeps of a heap at rest, as it is opened for some seats.
 
 ghost use Rattle.std.specs.Prelude.{◌≡◌, ◌+◌, ◌<◌, ◌≤◌, length, IfOk};
+ghost use Rattle.heap_model.specs.Rest.{IsReady};
 ghost use Rattle.core_model.specs.Opening.{AreOwners, setup_of, opened_state};
 ghost use Rattle.crash_core.specs.OpenedOwners.{AreBlockOwners, AreSuperblockOwners, IsLargeGiven};
 ghost use Rattle.crash_core.specs.Standing.{StandsFor};
@@ -73,6 +74,7 @@ fn block_owners(
     requires { length owners.now ≡ length heap.now.held }
     ensures ok { IfOk result (λ blocks. AreBlockOwners heap.now.words heap.now.held
         owners.now blocks.items) }
+    ensures ready { IfOk result (λ blocks. IsReady heap.now.words heap.now.held) }
 {
     let length = heap.geometry().length();
     let mut blocks = vec![in alloc; NO_BLOCK; length as usize]?;

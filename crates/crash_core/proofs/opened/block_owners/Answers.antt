@@ -33,4 +33,5 @@ loop-i-preserved c =
 pub returns : goal.returns
 returns c = let l = ap length c.held-block-items.ensures.held in record {
   ok = all_seated c.args.heap.now.words c.args.heap.now.held c.args.owners.now c.held-block-items.ensures.ready c.requires c.loop-i.i c.loop-i.blocks.items c.loop-i.invariant (let f = c.loop-i-test.false in omega arith);
+  ready = c.held-block-items.ensures.ready;
 }

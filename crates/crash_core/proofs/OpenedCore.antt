@@ -1,0 +1,93 @@
+-- What is kept of a heap at rest, as it is opened for some seats.
+use Rattle.std.proofs.Common.{◌≡◌, ℕ, zero, suc, ◌+◌, ◌<◌, ◌≤◌, false, nat_eq, List, [], ◌∷◌, ◌++◌, get_or, length, replicate, slice_index, None, refl, ap, sym, subst, ◌∙◌, arith}
+use Rattle.std.proofs.lemmas.List.{get_or-replicate, length-replicate}
+use Rattle.heap_model.specs.declared.block.Block.{Block}
+use Rattle.heap_model.specs.Geometry.{lists, roots, capacity_word}
+use Rattle.heap_model.specs.Counting.{one_if}
+use Rattle.heap_model.specs.Rest.{IsReady}
+use Rattle.core_model.specs.Opening.{AreOwners, setup_of, opened_view, opened_state}
+use Rattle.core_model.specs.View.{Setup, View, of_class}
+use Rattle.core_model.specs.Effects.{first_of}
+use Rattle.core_model.specs.Sound.{Sound}
+use Rattle.core_model.proofs.OpenLemmas.{length_tabulate, tabulate_at}
+use Rattle.core_model.proofs.OpenedLemmas.{opened}
+use Rattle.crash_core.specs.declared.owners.Cache.{Cache}
+use Rattle.crash_core.specs.declared.owners.Seat.{Seat}
+use Rattle.crash_core.specs.declared.state.CoreState.{CoreState}
+use Rattle.crash_core.specs.OpenedOwners.{AreBlockOwners, AreSuperblockOwners}
+use Rattle.crash_core.specs.Standing.{HasCaches, IsKept, Keeps, StandsFor}
+use Rattle.crash_core.proofs.PickedLemmas.{roots_of}
+
+abbrev pub empty_cache : Cache
+empty_cache = record { first = 0; count = 0 }
+
+-- a seat that has done nothing yet
+abbrev pub new_seat : Seat
+new_seat = record {
+  ticket = None;
+  stopped = None;
+  seen_used = None;
+  seen_head = None;
+  seen_link = None;
+  seen_anchor = None;
+  caches = replicate lists empty_cache;
+  batch = record { descriptor = 0; class = 0; first = 0; last = 0; count = 0; linked = false };
+}
+
+no_caches : HasCaches (replicate lists empty_cache) (replicate lists [])
+no_caches = record {
+  long = length-replicate lists empty_cache;
+  first = λ class c is less some. absurd (let e = none class less in omega arith);
+  count = λ class c is less. none class less ∙ ap (λ (x : Cache). x.count) (sym (get_or-replicate lists class empty_cache c less) ∙ is);
+} where
+  none : (class : ℕ) → class < lists → length (of_class (replicate lists []) class) ≡ 0
+  none class less = ap length (get_or-replicate {A = List ℕ} lists class [] [] less)
+
+-- what a core has that keeps an opened heap
+pub record IsOpened (c : CoreState) (words : List ℕ) (held : List Block) (budget seats : ℕ) (block_owners root_owners : List ℕ) : Type 0 where
+  pub words_are : c.words.items ≡ words ++ (words ++ (0 ∷ []))
+  pub capacity : c.geometry.capacity ≡ slice_index words capacity_word
+  pub budget_is : c.budget ≡ budget
+  pub seats_are : c.seats.items ≡ replicate seats new_seat
+  pub blocks : AreBlockOwners words held block_owners c.blocks.items
+  pub superblocks : AreSuperblockOwners words held block_owners c.superblocks.items
+  pub roots_are : c.roots.items ≡ root_owners
+
+pub stands : (c : CoreState) (words : List ℕ) (held : List Block) (budget seats : ℕ) (block_owners root_owners : List ℕ) → IsOpened c words held budget seats block_owners root_owners
+    → IsReady words held → AreOwners held seats block_owners root_owners → seats ≤ 8 → budget < 1099511627776
+    → StandsFor c (setup_of words budget) (opened_state (setup_of words budget) held block_owners root_owners seats)
+stands c words held budget seats block_owners root_owners is ready owners few low = record {
+  words = is.words_are;
+  keeps = record {
+    sound = subst (λ ws. Sound k ws views) (sym is.words_are) (opened words held budget seats block_owners root_owners ready owners);
+    capacity = sym is.capacity;
+    budget = sym is.budget_is;
+    low = low;
+    few = (let l = length_tabulate V 0 seats in omega arith);
+    seats = length_tabulate V 0 seats ∙ sym (ap length is.seats_are ∙ length-replicate seats new_seat);
+    blocks = is.blocks.long;
+    superblocks = is.superblocks.long;
+    roots = ap length is.roots_are ∙ owners.roots_all;
+    each = λ i t v below at_t at. let less : i < seats = (let l = length_tabulate V 0 seats in omega arith) in
+        subst (IsKept c i t) (sym (tabulate_at V 0 seats i v less) ∙ at)
+        (subst (λ s. IsKept c i s (V (0 + i))) (sym (get_or-replicate seats i new_seat t less) ∙ ap (λ l. get_or l i t) (sym is.seats_are) ∙ at_t) (subst (λ j. IsKept c i new_seat (V j)) (let e : i ≡ 0 + i = omega arith in e) (kept i)));
+  };
+} where
+  k : Setup
+  k = setup_of words budget
+
+  V : ℕ → View
+  V = opened_view k held block_owners root_owners
+
+  views : List View
+  views = (opened_state k held block_owners root_owners seats).views
+
+  kept : (i : ℕ) → IsKept c i new_seat (V i)
+  kept i = record {
+    notes = record { ticket = refl; stopped = refl; seen_used = refl; seen_head = refl; seen_link = refl; seen_anchor = refl };
+    caches = no_caches;
+    batch = record { descriptor = refl; class = refl; first = refl; last = refl; count = refl; linked = refl };
+    blocks = is.blocks.each i;
+    superblocks = is.superblocks.each i;
+    roots = record { is_owned = λ n. roots_of i roots root_owners owners.roots_all n ∙ ap (λ os. one_if (nat_eq (get_or os n (i + 1)) i)) (sym is.roots_are) };
+  }
