@@ -1,5 +1,5 @@
 -- Whose each small block is, as the held blocks of a heap at rest get their seats one after the other.
-use Rattle.std.proofs.Common.{◌≡◌, ◌≢◌, ℕ, zero, suc, ◌+◌, ◌<◌, ◌≤◌, inl, inr, Bool, true, false, cond, nat_eq, ◌&&◌, List, [], ◌∷◌, ◌++◌, Contains, get_or, set, length, take, replicate, slice_index, refl, ap, ap₂, sym, subst, ◌∙◌, length-set, add-one, eq-eqb, eqb-true, arith}
+use Rattle.std.proofs.Common.{◌≡◌, ◌≢◌, ℕ, zero, suc, ◌+◌, ◌<◌, ◌≤◌, inl, inr, true, false, cond, nat_eq, ◌&&◌, List, [], ◌∷◌, Contains, get_or, set, length, take, replicate, slice_index, refl, ap, ap₂, sym, subst, ◌∙◌, length-set, add-one, eq-eqb, eqb-true, arith}
 use Rattle.std.proofs.lemmas.Bool.{cases_eq}
 use Rattle.std.proofs.lemmas.List.{take_all, length-replicate}
 use Rattle.std.proofs.lemmas.List.Elements.{Contains-get_or}
@@ -11,7 +11,7 @@ use Rattle.heap_model.proofs.CountingLemmas.{one_if_true, one_if_false}
 use Rattle.heap_model.proofs.MemberLemmas.{in_none, head_or_rest}
 use Rattle.heap_model.proofs.SizeLemmas.{two_words}
 use Rattle.core_model.specs.Cells.{superblock_at}
-use Rattle.core_model.specs.Opening.{picked, tabulate, is_small, small_blocks, AreOwners}
+use Rattle.core_model.specs.Opening.{picked, is_small, small_blocks, AreOwners}
 use Rattle.core_model.proofs.BlockLemmas.{inside_of}
 use Rattle.core_model.proofs.PlaceLemmas.{pick, skip, not-eq, and_both, and_is}
 use Rattle.core_model.proofs.OpenLemmas.{picked_in, tabulate_sum, small_at, small_sum}
@@ -45,23 +45,7 @@ pub record HaveSeats (held : List Block) (owners : List ℕ) (i words : ℕ) (bl
   pub long : length blocks ≡ words
   pub each : (j b : ℕ) → IsHeldOnly (held_so_far held owners i j b) (place_for j (get_or blocks b no_block))
 
-nobody : (j n b : ℕ) → place_for j (get_or (replicate n no_block) b no_block) ≡ place.Nowhere
-nobody j n b = ap (place_for j) (all n b) ∙ by_test (nat_eq 0 j) where
-  all : (n b : ℕ) → get_or (replicate n no_block) b no_block ≡ no_block
-  all zero b = refl
-  all (suc n) zero = refl
-  all (suc n) (suc b) = all n b
-
-  by_test : (t : Bool) → cond t place.Nowhere place.Nowhere ≡ place.Nowhere
-  by_test true = refl
-  by_test false = refl
-
-pub none_seated : (held : List Block) (owners : List ℕ) (words : ℕ) → HaveSeats held owners 0 words (replicate words no_block)
-none_seated held owners words = record {
-  long = length-replicate words no_block;
-  each = λ j b. subst (IsHeldOnly 0) (sym (nobody j words b)) (record { held = refl; cached = refl; batched = refl });
-}
-
+-- the block at an index is held
 pub block_there : (held : List Block) (i : ℕ) (p : Block) → i < length held → get_or held i p ≡ p → Contains held p
 block_there held i p below at = subst (Contains held) at (Contains-get_or held i p below)
 

@@ -1,5 +1,5 @@
 -- What is kept of a heap at rest, as it is opened for some seats.
-use Rattle.std.proofs.Common.{◌≡◌, ℕ, zero, suc, ◌+◌, ◌<◌, ◌≤◌, false, nat_eq, List, [], ◌∷◌, ◌++◌, get_or, length, replicate, slice_index, None, refl, ap, sym, subst, ◌∙◌, arith}
+use Rattle.std.proofs.Common.{◌≡◌, ℕ, ◌+◌, ◌<◌, ◌≤◌, false, nat_eq, List, [], ◌∷◌, ◌++◌, get_or, length, replicate, slice_index, None, refl, ap, sym, subst, ◌∙◌, arith}
 use Rattle.std.proofs.lemmas.List.{get_or-replicate, length-replicate}
 use Rattle.heap_model.specs.declared.block.Block.{Block}
 use Rattle.heap_model.specs.Geometry.{lists, roots, capacity_word}
@@ -7,7 +7,6 @@ use Rattle.heap_model.specs.Counting.{one_if}
 use Rattle.heap_model.specs.Rest.{IsReady}
 use Rattle.core_model.specs.Opening.{AreOwners, setup_of, opened_view, opened_state}
 use Rattle.core_model.specs.View.{Setup, View, of_class}
-use Rattle.core_model.specs.Effects.{first_of}
 use Rattle.core_model.specs.Sound.{Sound}
 use Rattle.core_model.proofs.OpenLemmas.{length_tabulate, tabulate_at}
 use Rattle.core_model.proofs.OpenedLemmas.{opened}
@@ -15,7 +14,7 @@ use Rattle.crash_core.specs.declared.owners.Cache.{Cache}
 use Rattle.crash_core.specs.declared.owners.Seat.{Seat}
 use Rattle.crash_core.specs.declared.state.CoreState.{CoreState}
 use Rattle.crash_core.specs.OpenedOwners.{AreBlockOwners, AreSuperblockOwners}
-use Rattle.crash_core.specs.Standing.{HasCaches, IsKept, Keeps, StandsFor}
+use Rattle.crash_core.specs.Standing.{HasCaches, IsKept, StandsFor}
 use Rattle.crash_core.proofs.PickedLemmas.{roots_of}
 
 abbrev pub empty_cache : Cache

@@ -1,10 +1,10 @@
 -- Whose each superblock is, as the held blocks of a heap at rest get their seats one after the other.
-use Rattle.std.proofs.Common.{◌≡◌, ◌≢◌, ℕ, zero, suc, ◌+◌, ◌/◌, ◌<◌, ◌≤◌, inl, inr, Bool, true, false, cond, nat_eq, nat_lt, List, [], ◌∷◌, ◌++◌, Contains, get_or, set, length, take, replicate, slice_index, refl, ap, ap₂, sym, subst, ◌∙◌, length-set, add-one, eq-eqb, eqb-true, arith}
+use Rattle.std.proofs.Common.{◌≡◌, ◌≢◌, ℕ, suc, ◌+◌, ◌/◌, ◌<◌, ◌≤◌, inl, inr, Bool, true, false, cond, nat_eq, nat_lt, List, [], ◌∷◌, ◌++◌, Contains, get_or, set, length, take, replicate, slice_index, refl, ap, ap₂, sym, subst, ◌∙◌, length-set, add-one, eq-eqb, arith}
 use Rattle.std.proofs.lemmas.Bool.{cases_eq}
-use Rattle.std.proofs.lemmas.List.{append-nil, take_all, length-replicate}
+use Rattle.std.proofs.lemmas.List.{append-nil, take_all}
 use Rattle.heap_model.specs.declared.block.Block.{Block}
 use Rattle.heap_model.specs.Geometry.{roots, superblock_words, start_word}
-use Rattle.heap_model.specs.Counting.{times, total, one_if}
+use Rattle.heap_model.specs.Counting.{total, one_if}
 use Rattle.heap_model.specs.Rest.{IsReady, large_part}
 use Rattle.heap_model.proofs.MemberLemmas.{in_head, in_rest}
 use Rattle.core_model.specs.Cells.{superblock_at}
@@ -20,7 +20,7 @@ use Rattle.crash_core.specs.declared.owners.Share.{Share}
 use Rattle.crash_core.specs.declared.owners.Share.TheVariants as share
 use Rattle.crash_core.specs.declared.owners.SuperblockOwner.{SuperblockOwner}
 use Rattle.crash_core.specs.OpenedOwners.{AreSuperblockOwners, IsLargeGiven}
-use Rattle.crash_core.specs.Standing.{share_for, no_superblock, large_in, count_in, IsShare, HasSuperblocks, IsRange}
+use Rattle.crash_core.specs.Standing.{share_for, no_superblock, count_in, IsShare, HasSuperblocks, IsRange}
 use Rattle.crash_core.proofs.OpenedBlocks.{alone, for_one, block_there}
 use Rattle.crash_core.proofs.PickedLemmas.{picked_more, total_append, none_before, in_taken}
 use Rattle.crash_core.proofs.RangeLemmas.{in_or_out, range_theirs}
@@ -57,26 +57,6 @@ large_so_far c held owners i j = large_blocks c (picked j (take i held) (take i 
 pub record HaveSuperblocks (c : ℕ) (held : List Block) (owners : List ℕ) (i : ℕ) (superblocks : List SuperblockOwner) : Type 0 where
   pub long : length superblocks ≡ c
   pub each : (j : ℕ) → HasSuperblocks superblocks j [] [] [] [] (large_so_far c held owners i j)
-
-nobody : (j n d : ℕ) → share_for j (get_or (replicate n no_superblock) d no_superblock) ≡ share.Nothing
-nobody j n d = ap (share_for j) (all n d) ∙ by_test (nat_eq 0 j) where
-  all : (n d : ℕ) → get_or (replicate n no_superblock) d no_superblock ≡ no_superblock
-  all zero d = refl
-  all (suc n) zero = refl
-  all (suc n) (suc d) = all n d
-
-  by_test : (t : Bool) → cond t share.Nothing share.Nothing ≡ share.Nothing
-  by_test true = refl
-  by_test false = refl
-
-nothing : (d : ℕ) → IsShare d share.Nothing [] [] [] [] []
-nothing d = record { is_raw = refl; is_split = refl; is_cutting = refl; is_classed = refl; class = refl; is_large = refl; count = refl }
-
-pub none_given : (c : ℕ) (held : List Block) (owners : List ℕ) → HaveSuperblocks c held owners 0 (replicate c no_superblock)
-none_given c held owners = record {
-  long = length-replicate c no_superblock;
-  each = λ j d. subst (λ x. IsShare d x [] [] [] [] []) (sym (nobody j c d)) (nothing d);
-}
 
 -- a superblock that a large block of the seat takes
 is_large : (e count : ℕ) (large : List Span) → times_large e large ≡ 1 → span_count e large ≡ count → IsShare e (share.Large count) [] [] [] [] large

@@ -1,5 +1,5 @@
 -- What is picked for a seat of the first members of a list, one member more at a time.
-use Rattle.std.proofs.Common.{◌≡◌, ◌≢◌, ℕ, zero, suc, ◌+◌, ◌<◌, ◌≤◌, ◌↔◌, inl, inr, Bool, true, false, cond, nat_eq, nat_lt, List, [], ◌∷◌, ◌++◌, Contains, get_or, length, take, refl, ap, ap₂, subst, ◌&&◌, ◌∙◌, eq-eqb, eqb-true, arith}
+use Rattle.std.proofs.Common.{◌≡◌, ℕ, zero, suc, ◌+◌, ◌<◌, ◌≤◌, inl, inr, Bool, true, false, cond, nat_eq, nat_lt, List, [], ◌∷◌, ◌++◌, Contains, get_or, length, take, refl, ap, ap₂, subst, ◌&&◌, eq-eqb, eqb-true, arith}
 use Rattle.std.specs.Prelude.{AllPairs}
 use Rattle.std.proofs.lemmas.Bool.{cases_eq, cases_lt}
 use Rattle.std.proofs.lemmas.List.{get_or_past}
@@ -64,8 +64,8 @@ small_once held p ascending there small =
     total_once (λ (a b : Block). a.first_word < b.first_word) (small_at p.first_word) held p ascending
     (λ a b in_a in_b less some_a some_b. let e = at_first a some_a in let f = at_first b some_b in omega arith) there
     (one_if_true (is_small p && nat_eq p.first_word p.first_word) (and_is (is_small p) (nat_eq p.first_word p.first_word) small (eq-eqb p.first_word p.first_word refl))) where
-  at_first : (a : Block) → 0 < small_at p.first_word a → a.first_word ≡ p.first_word
-  at_first a some = eqb-true a.first_word p.first_word (and_both (is_small a) (nat_eq a.first_word p.first_word) (one_if_some (is_small a && nat_eq a.first_word p.first_word) some)).1
+      at_first : (a : Block) → 0 < small_at p.first_word a → a.first_word ≡ p.first_word
+      at_first a some = eqb-true a.first_word p.first_word (and_both (is_small a) (nat_eq a.first_word p.first_word) (one_if_some (is_small a && nat_eq a.first_word p.first_word) some)).1
 
 -- a seat has the roots of which it is the owner
 pub roots_of : (i count : ℕ) (os : List ℕ) → length os ≡ count → (n : ℕ) → times n (picked i (steps 0 1 count) os) ≡ one_if (nat_eq (get_or os n (i + 1)) i)
@@ -81,8 +81,8 @@ roots_of i count os long n =
         | inr zero_times ↦ omega arith
       ]
     ] where
-  in_range : get_or os n (i + 1) ≡ i → n < count
-  in_range is = elim (cases_lt n count) [ inl less ↦ less | inr past ↦ absurd (let e = get_or_past os n (i + 1) (omega arith) in omega arith) ]
+      in_range : get_or os n (i + 1) ≡ i → n < count
+      in_range is = elim (cases_lt n count) [ inl less ↦ less | inr past ↦ absurd (let e = get_or_past os n (i + 1) (omega arith) in omega arith) ]
 
 -- an entry of a list that is another
 pub entry_of : {A : Type 0} (items xs : List A) (i : ℕ) (d : A) → items ≡ xs → i < length items → get_or xs i (get_or items i d) ≡ get_or items i d

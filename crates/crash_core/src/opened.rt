@@ -66,11 +66,7 @@ pub(crate) fn opened_core(
 }
 
 /// Whose each small block is, where the held blocks belong to these seats.
-fn block_owners(
-    alloc: Global,
-    heap: &Ready,
-    owners: &[u32],
-) -> Result<Vec<BlockOwner>, AllocError>
+fn block_owners(alloc: Global, heap: &Ready, owners: &[u32]) -> Result<Vec<BlockOwner>, AllocError>
     requires { length owners.now ≡ length heap.now.held }
     ensures ok { IfOk result (λ blocks. AreBlockOwners heap.now.words heap.now.held
         owners.now blocks.items) }

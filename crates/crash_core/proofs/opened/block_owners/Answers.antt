@@ -1,9 +1,8 @@
-use Rattle.std.proofs.Common.{◌≡◌, ◌+◌, ap, sym, subst, ◌∙◌, get_or, length, refl, lt-ltb, slice_index, replicate, arith}
+use Rattle.std.proofs.Common.{◌+◌, ap, sym, subst, length, refl, lt-ltb, slice_index, arith}
 use Rattle.heap_model.specs.Geometry.{capacity_word, image_words}
 use Rattle.core_model.proofs.PlaceLemmas.{not-lt}
 use Rattle.crash_core.proofs.PickedLemmas.{entry_of}
-use Rattle.crash_core.specs.Standing.{no_block}
-use Rattle.crash_core.proofs.OpenedBlocks.{HaveSeats, none_seated, block_there, within, small_seated, large_seated, all_seated}
+use Rattle.crash_core.proofs.OpenedBlocks.{HaveSeats, block_there, within, small_seated, large_seated, all_seated}
 use Rattle.crash_core.proofs.opened.block_owners.Goals.{then-block-lt-SUPERBLOCK_WORDS, else-block-lt-SUPERBLOCK_WORDS}
 use Rattle.crash_core.proofs.opened.block_owners.Goals as goal
 
@@ -13,10 +12,6 @@ index_mut-requires c =
     let e = ap length c.held-block-items.ensures.held in let t = c.loop-i-test.true in
     let w = within c.args.heap.now.words c.args.heap.now.held c.args.owners.now c.held-block-items.ensures.ready c.requires _ (block_there c.args.heap.now.held c.loop-i.i _ (omega arith) at) (lt-ltb _ 8192 c.if-block-lt-SUPERBLOCK_WORDS.true) in
     let l = c.loop-i.invariant.long in omega (arith, w, l)
-
-pub loop-i-init : goal.loop-i-init
-loop-i-init c = subst (HaveSeats c.args.heap.now.held c.args.owners.now 0 _) (sym (c.in_ok-blocks.ensures.items_if_clones_equal (λ y e. e)))
-    (subst (λ n. HaveSeats c.args.heap.now.held c.args.owners.now 0 n (replicate c.length-length.result no_block)) (c.length-length.ensures ∙ ap image_words c.geometry.ensures) (none_seated c.args.heap.now.held c.args.owners.now c.length-length.result))
 
 pub loop-i-preserved : goal.loop-i-preserved
 loop-i-preserved c =

@@ -1,4 +1,4 @@
-use Rattle.std.proofs.Common.{◌≡◌, ◌+◌, ◌-◌, ◌/◌, ap, sym, subst, ◌∙◌, get_or, length, refl, lt-ltb, slice_index, arith}
+use Rattle.std.proofs.Common.{◌+◌, ◌-◌, ◌/◌, ap, sym, subst, ◌∙◌, get_or, length, refl, lt-ltb, slice_index, arith}
 use Rattle.heap_model.specs.Geometry.{capacity_word, start_word}
 use Rattle.core_model.proofs.PlaceLemmas.{not-lt}
 use Rattle.crash_core.specs.OpenedOwners.{IsLargeGiven}
