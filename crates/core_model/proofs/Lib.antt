@@ -27,6 +27,7 @@ pub mod KeptLemmas
 pub mod TableLemmas
 pub mod SoundLemmas
 pub mod HeldLemmas
+pub mod HeaderLemmas
 pub mod OpenLemmas
 pub mod OpenCountLemmas
 pub mod OpenedLemmas

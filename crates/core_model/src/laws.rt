@@ -1,9 +1,9 @@
 //! What follows from the definitions, as functions with nothing to run: a caller cites their
 //! clauses.
 
-ghost use Rattle.std.specs.Prelude.{◌≡◌, ◌≢◌, ◌<◌, ◌*◌, ◌++◌, ◌∷◌, [], ℕ, List, get_or, set, length, slice_index, ◌↔◌, ◌+◌};
+ghost use Rattle.std.specs.Prelude.{◌≡◌, ◌≢◌, ◌<◌, ◌*◌, ◌++◌, ◌∷◌, [], ℕ, List, get_or, set, length, slice_index, ◌↔◌, ◌+◌, None};
 ghost use Rattle.heap_model.specs.declared.block.Block.{Block};
-ghost use Rattle.heap_model.specs.Geometry.{capacity_word, roots};
+ghost use Rattle.heap_model.specs.Geometry.{capacity_word, image_words, roots};
 ghost use Rattle.heap_model.specs.Counting.{times};
 ghost use Rattle.heap_model.specs.Rest.{IsReady};
 ghost use Rattle.core_model.specs.declared.answer.StepAnswer.{StepAnswer};
@@ -17,6 +17,7 @@ ghost use Rattle.core_model.specs.Steps.{Keeps, State, IsSoundState, Runs, words
 ghost use Rattle.core_model.specs.Splitting.{Choice, remaining, given_off};
 ghost use Rattle.core_model.specs.Opening.{AreOwners, IsOwnerOf, setup_of, opened_view, opened_state};
 ghost use Rattle.core_model.specs.Held.{IsHeld, IsHeldBy, IsFirm, volatile_image, durable_image};
+ghost use Rattle.heap_model.specs.Header.{IsWellFormed, header_fault};
 ghost use Rattle.heap_model.specs.Image.{Image};
 ghost use Rattle.heap_model.specs.Blocks.{Names};
 ghost use Rattle.heap_model.specs.Durability.{IsCrashImage, IsClosedImage};
@@ -98,6 +99,25 @@ pub fn a_crash_leaves_each_held_block_named()
     ensures closed { (k : Setup) (s : State) → IsSoundState k s → (image : Image)
         → IsClosedImage (volatile_image k.capacity s.words) image
         → (b : Block) → IsHeldBy s.views b → Names image (8 * b.first_word) b }
+{}
+
+/// Whatever a crash leaves of a sound state, whose opened image has a good header, has one too; so
+/// does what it leaves of any state that the seats of an opened heap at rest come to.
+pub fn a_crash_leaves_a_good_header()
+    ensures sound { (k : Setup) (s : State) → IsSoundState k s
+        → IsWellFormed (8 * length k.opened) (slice_index k.opened) → (image : Image)
+        → IsCrashImage (durable_image k.capacity s.words) image
+        → header_fault (8 * image_words k.capacity) image ≡ None }
+    ensures running { (words : List ℕ) (held : List Block) (budget seats : ℕ)
+        (block_owners root_owners : List ℕ) → IsReady words held
+        → AreOwners held seats block_owners root_owners
+        → (events : List (ℕ × Event)) (answers : List StepAnswer) (s : State)
+        → Runs (setup_of words budget)
+        (opened_state (setup_of words budget) held block_owners root_owners seats) events
+        answers s
+        → (image : Image)
+        → IsCrashImage (durable_image (slice_index words capacity_word) s.words) image
+        → header_fault (8 * image_words (slice_index words capacity_word)) image ≡ None }
 {}
 
 /// A step that a seat may take works on a word of the shared table.
