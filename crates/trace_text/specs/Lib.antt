@@ -9,5 +9,6 @@ pub mod Trace
 pub mod Values
 pub mod Replies
 pub mod Generated
+pub mod Answered
 pub mod Examples
 pub mod TraceExamples

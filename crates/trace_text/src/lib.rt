@@ -1,6 +1,7 @@
 //! The texts that the tool prints of a heap, as bytes.
 #![tactic(auto, using(heap_model::specs::Geometry::largest_capacity_fits))]
 
+mod answered;
 mod class;
 mod generate;
 mod keys;
@@ -17,6 +18,7 @@ mod schedule;
 mod trace;
 mod value;
 
+pub use answered::{answers_text, tickets_line};
 pub use generate::gen_text;
 pub use laws::{
     a_trace_has_one_reading, each_held_block_is_told, each_use_is_told, printed_requests_are_read,
