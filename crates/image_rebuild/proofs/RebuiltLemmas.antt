@@ -1,23 +1,17 @@
 -- What recovery made in place leaves, done or stopped, and the report on it.
-use Rattle.std.proofs.Common.{◌≡◌, ◌⊎◌, ℕ, ◌+◌, ◌*◌, inl, inr, Bool, true, false, List, [], length, slice_index, None, refl, sym, ap, subst, ◌∙◌, arith}
+use Rattle.std.proofs.Common.{◌≡◌, ◌⊎◌, ℕ, ◌+◌, ◌*◌, inl, inr, Bool, true, false, List, length, slice_index, None, refl, sym, ap, subst, ◌∙◌, arith}
 use Rattle.heap_model.specs.declared.block.Block.{Block}
-use Rattle.heap_model.specs.Geometry.{state_word, capacity_word, clean}
-use Rattle.heap_model.specs.Header.{capacity_of, state_of, header_fault}
+use Rattle.heap_model.specs.Geometry.{state_word, capacity_word}
+use Rattle.heap_model.specs.Header.{capacity_of, header_fault}
 use Rattle.heap_model.specs.Image.{Image}
 use Rattle.heap_model.specs.Durability.{Mixes, IsCrashImage, IsTransient}
 use Rattle.heap_model.specs.Recovery.{in_header}
 use Rattle.heap_model.proofs.HeaderLemmas.{no_fault}
-use Rattle.heap_recover.specs.declared.answer.Recovered.{Recovered}
 use Rattle.heap_recover.specs.InPlace.{differences, IsRecoveryOf, RecoversAlike, IsBetween, Has, IsStoppedAt}
 use Rattle.line_memory.specs.View.{View}
 use Rattle.dict_model.specs.Links.{dict_links, root_kind}
 use Rattle.trace_run.specs.Left.{IsWhole}
-use Rattle.trace_text.specs.Recovered.{is_clean}
-use Rattle.trace_text.specs.Report.{report_of}
-use Rattle.trace_text.specs.Keys.{IsReport}
-use Rattle.image_run.specs.Reporting.{IsRecoveryOf as RecoversTo}
-use Rattle.image_run.proofs.TextLemmas.{same_test}
-use Rattle.image_rebuild.specs.Rebuilding.{IsRebuilt, TellsHeap}
+use Rattle.image_rebuild.specs.Rebuilding.{IsRebuilt}
 
 -- a list of the roots' kinds reads as their kinds
 pub kinds_same : (kinds : List ℕ) → ((i : ℕ) → slice_index kinds i ≡ root_kind i) → slice_index kinds ≡ root_kind
@@ -98,19 +92,3 @@ pub good_header : (image : Image) (count budget : ℕ) (stopped : Bool) (left : 
     → header_fault (8 * length left) (slice_index left) ≡ None
 good_header image count budget stopped left is =
     subst (λ n. header_fault (8 * n) (slice_index left) ≡ None) (sym is.long) (no_fault (8 * count) (slice_index left) is.alike.formed)
-
--- the report on a recovered heap without keys is that on the image
-pub tells_heap : (image : Image) (recovered : Recovered) (text : List ℕ) → RecoversTo image recovered
-    → IsReport (capacity_of (slice_index recovered.heap.words)) (is_clean recovered.was) None false recovered.heap.held text → TellsHeap image text
-tells_heap image recovered text is report = record {
-  held = recovered.heap.held;
-  free = recovered.free.items;
-  words = slice_index recovered.heap.words;
-  recovered = is.recovers;
-  text_is = report.is
-      ∙ ap (λ (keys : List ℕ). report_of (capacity_of (slice_index recovered.heap.words)) (is_clean recovered.was) keys recovered.heap.held) report.tells
-      ∙ ap (λ n. report_of n (is_clean recovered.was) [] recovered.heap.held) capacity
-      ∙ ap (λ b. report_of (capacity_of image) b [] recovered.heap.held) (same_test recovered.was (state_of image) clean is.was);
-} where
-  capacity : capacity_of (slice_index recovered.heap.words) ≡ capacity_of image
-  capacity = is.recovers.words_are.same capacity_word (in_header capacity_word (inr (inr (inl refl))))

@@ -1,16 +1,15 @@
 -- What recovery of an image made in place puts and prints.
-use Rattle.std.specs.Prelude.{◌≡◌, ◌≢◌, ◌⊎◌, ℕ, ◌*◌, ◌≤◌, Bool, true, false, List, [], ◌++◌, length, nat_eq, codes, slice_index}
-use Rattle.heap_model.specs.declared.block.Block.{Block}
-use Rattle.heap_model.specs.Geometry.{state_word, clean, dirty}
-use Rattle.heap_model.specs.Header.{capacity_of, state_of}
+use Rattle.std.specs.Prelude.{◌≡◌, ◌≢◌, ◌⊎◌, ℕ, ◌*◌, ◌≤◌, Bool, true, false, List, ◌++◌, length, codes, slice_index}
+use Rattle.heap_model.specs.Geometry.{state_word, dirty}
+use Rattle.heap_model.specs.Header.{capacity_of}
 use Rattle.heap_model.specs.Image.{Image, bytes_of_words}
 use Rattle.heap_model.specs.Durability.{IsTransient}
 use Rattle.heap_model.specs.Recovery.{IsRecovered}
 use Rattle.region_header.specs.Words.{AreWordsOf}
 use Rattle.heap_recover.specs.InPlace.{differences, RecoversAlike}
 use Rattle.dict_model.specs.Links.{dict_links, root_kind}
-use Rattle.trace_text.specs.Report.{line_feed, report_of}
-use Rattle.image_run.specs.Reporting.{IsKept, Recovers}
+use Rattle.trace_text.specs.Report.{line_feed}
+use Rattle.image_run.specs.Reporting.{IsKept, TellsHeap}
 
 -- The words that are left of an image of so many words, made the words of its recovery within a budget: all of them where that was
 -- not stopped, and else each the old or the new one, but those that a crash leaves with any value. Recovery of them keeps the same.
@@ -29,14 +28,6 @@ pub record IsRebuilt (image : Image) (count budget : ℕ) (stopped : Bool) (left
 abbrev pub rebuilt_line : Bool → List ℕ
 rebuilt_line true = codes "rebuild stopped" ++ line_feed
 rebuilt_line false = codes "rebuild done" ++ line_feed
-
--- the report on an image once it is recovered, without its keys
-pub record TellsHeap (image : Image) (text : List ℕ) : Type 0 where
-  pub held : List Block
-  pub free : List ℕ
-  pub words : Image
-  pub recovered : Recovers image held free words
-  pub text_is : text ≡ report_of (capacity_of image) (nat_eq (state_of image) clean) [] held
 
 -- the bytes of the image that is left, which are read again as its words, are put, and the line and the report on that image are printed
 pub record Rebuilds (image : Image) (count budget : ℕ) (put text : List ℕ) : Type 0 where

@@ -3,8 +3,8 @@ ghost use Rattle.std.specs.Prelude.{◌≡◌, ◌^◌, ◌*◌, ◌<◌, ◌++�
 ghost use Rattle.heap_model.specs.Header.{header_fault};
 ghost use Rattle.heap_recover.specs.InPlace.{IsRecoveryOf};
 ghost use Rattle.dict_model.specs.Links.{dict_links, root_kind};
-ghost use Rattle.image_run.specs.Reporting.{PointsOutside};
-ghost use Rattle.image_rebuild.specs.Rebuilding.{IsRebuilt, TellsHeap, Rebuilds, rebuilt_line};
+ghost use Rattle.image_run.specs.Reporting.{PointsOutside, TellsHeap};
+ghost use Rattle.image_rebuild.specs.Rebuilding.{IsRebuilt, Rebuilds, rebuilt_line};
 
 use dictionary::{DictFilter, root_kinds};
 use heap_recover::{RecoverFault, rebuild, recover};

@@ -1,5 +1,5 @@
 -- The text on a recovered heap is the report on the image that was recovered.
-use Rattle.std.proofs.Common.{◌≡◌, ◌↔◌, ℕ, Bool, nat_eq, List, [], ◌++◌, Some, slice_index, sym, ap, ◌∙◌, inl, inr, refl, Result, Ok, Err, IfOk}
+use Rattle.std.proofs.Common.{◌≡◌, ◌↔◌, ℕ, Bool, false, nat_eq, List, [], ◌++◌, Some, None, slice_index, sym, ap, ◌∙◌, inl, inr, refl, Result, Ok, Err, IfOk}
 use Rattle.std.specs.Prelude.{if◌then◌else◌}
 use Rattle.std.specs.BTreeMap.{BTreeMap, get}
 use Rattle.std.specs.Ordering.{nat_cmp}
@@ -15,9 +15,9 @@ use Rattle.dict_model.specs.Links.{shards}
 use Rattle.dictionary.specs.Reading.{AreMaps}
 use Rattle.trace_text.specs.Report.{report_of}
 use Rattle.trace_text.specs.HeapMap.{map_of}
-use Rattle.trace_text.specs.Keys.{TellsKeys}
+use Rattle.trace_text.specs.Keys.{TellsKeys, IsReport}
 use Rattle.trace_text.specs.Recovered.{is_clean}
-use Rattle.image_run.specs.Reporting.{IsRecoveryOf, IsTextOf, Reports, text_of, shown_text}
+use Rattle.image_run.specs.Reporting.{IsRecoveryOf, TellsHeap, IsTextOf, Reports, text_of, shown_text}
 use Rattle.image_run.proofs.EntryLemmas.{entries_ascend}
 
 -- a test that holds exactly where two numbers are equal
@@ -50,6 +50,22 @@ reports image recovered maps with_sum with_map text is are text_is =
       text_is = text_is.is ∙ same_text image recovered text_is.keys with_map is
           ∙ ap (λ (keys : List ℕ). shown_text image with_map keys recovered.heap.held recovered.free.items (slice_index recovered.heap.words)) told.2;
     }
+
+-- the report on a recovered heap without keys is that on the image
+pub tells_heap : (image : Image) (recovered : Recovered) (text : List ℕ) → IsRecoveryOf image recovered
+    → IsReport (capacity_of (slice_index recovered.heap.words)) (is_clean recovered.was) None false recovered.heap.held text → TellsHeap image text
+tells_heap image recovered text is report = record {
+  held = recovered.heap.held;
+  free = recovered.free.items;
+  words = slice_index recovered.heap.words;
+  recovered = is.recovers;
+  text_is = report.is
+      ∙ ap (λ (keys : List ℕ). report_of (capacity_of (slice_index recovered.heap.words)) (is_clean recovered.was) keys recovered.heap.held) report.tells
+      ∙ ap (λ n. report_of n (is_clean recovered.was) [] recovered.heap.held) capacity
+      ∙ ap (λ b. report_of (capacity_of image) b [] recovered.heap.held) (same_test recovered.was (state_of image) clean is.was);
+} where
+  capacity : capacity_of (slice_index recovered.heap.words) ≡ capacity_of image
+  capacity = is.recovers.words_are.same capacity_word (in_header capacity_word (inr (inr (inl refl))))
 
 -- what follows at an answer
 pub if_answer : {T E : Type 0} (P Q : T → Type 0) (result : Result T E) → IfOk result P → ((x : T) → P x → Q x) → IfOk result Q

@@ -42,6 +42,14 @@ pub record IsRecoveryOf (image : Image) (recovered : Recovered) : Type 0 where
   pub recovers : Recovers image recovered.heap.held recovered.free.items (slice_index recovered.heap.words)
   pub was : (recovered.was ≡ Clean) ↔ (state_of image ≡ clean)
 
+-- the report on an image once it is recovered, without its keys
+pub record TellsHeap (image : Image) (text : List ℕ) : Type 0 where
+  pub held : List Block
+  pub free : List ℕ
+  pub words : Image
+  pub recovered : Recovers image held free words
+  pub text_is : text ≡ report_of (capacity_of image) (nat_eq (state_of image) clean) [] held
+
 -- a key of one of the shards, with its value
 pub record IsEntryOf (image : Image) (entry : ℕ × List ℕ) : Type 0 where
   pub shard : ℕ

@@ -3,14 +3,15 @@ use Rattle.region_header.specs.declared.byte_list.Bytes.{Bytes}
 use Rattle.heap_model.specs.Header.{capacity_of}
 use Rattle.trace_text.specs.Recovered.{is_clean}
 use Rattle.trace_text.specs.Keys.{IsReport}
-use Rattle.image_rebuild.specs.Rebuilding.{TellsHeap}
 use Rattle.std.proofs.lemmas.Result.{IfOk-weaker}
 use Rattle.heap_recover.specs.Fault.{TellsFault}
 use Rattle.heap_recover.specs.declared.fault.RecoverFault.{RecoverFault}
 use Rattle.heap_model.specs.Reach.{IsOutside}
 use Rattle.dict_model.specs.Links.{dict_links}
+use Rattle.image_run.specs.Reporting.{TellsHeap}
 use Rattle.image_run.proofs.LeftLemmas.{recovery_of_words}
-use Rattle.image_rebuild.proofs.RebuiltLemmas.{kinds_same, tells_heap}
+use Rattle.image_run.proofs.TextLemmas.{tells_heap}
+use Rattle.image_rebuild.proofs.RebuiltLemmas.{kinds_same}
 use Rattle.image_rebuild.proofs.rebuilding.left_text.Goals as goal
 
 pub unreachable-requires-in-Err-Outside : goal.unreachable-requires-in-Err-Outside
