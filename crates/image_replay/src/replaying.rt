@@ -1,0 +1,118 @@
+//! Replays a schedule over a heap at rest, and makes what is printed.
+ghost use Rattle.std.specs.Prelude.{◌≡◌, ◌*◌, ◌++◌, None, length, replicate, slice_index, IfOk, IfErr};
+ghost use Rattle.heap_model.specs.Geometry.{roots};
+ghost use Rattle.heap_model.specs.Header.{header_fault};
+ghost use Rattle.trace_text.specs.Answered.{answers_text_of, tickets_line_of};
+ghost use Rattle.image_run.specs.Reporting.{TellsHeap};
+ghost use Rattle.image_replay.specs.Replaying.{CanBeReplayed, IsReplayed, Replays, StopsReplay, StopsReport};
+
+use crate::fault::ReplayFault;
+use crate::lines::{events_of, last_answers};
+use core_model::StepAnswer;
+use crash_core::{Core, Owners};
+use dictionary::{DictFilter, root_kinds};
+use heap_recover::{RecoverFault, recover};
+use image_run::MOST_BUDGET;
+use region_header::Bytes;
+use std::alloc::{AllocError, Global};
+use super_block::{ROOTS, Ready};
+use tool_ports::Chances;
+use trace_text::{Schedule, answers_text, report_text, tickets_line};
+
+// What the seats come to: the answer to each event, and of a crash then the image that it leaves.
+#[derive(Drop)]
+struct Replayed {
+    answers: Vec<StepAnswer>,
+    tickets: u64,
+    left: Vec<u64>,
+}
+
+/// Takes the steps of a schedule over a heap, all of whose blocks and roots belong to seat 0, and
+/// gives the text on them and on the image that a crash then leaves. The chances begin anew by the
+/// seed.
+pub fn replay_image<C: Chances>(
+    alloc: Global,
+    heap: &Ready,
+    schedule: &Schedule,
+    seed: u64,
+    chances: &mut C,
+) -> Result<Bytes, ReplayFault>
+    requires { CanBeReplayed schedule.now.seats schedule.now.lines.items }
+    ensures ok { IfOk result (Replays heap.now.words heap.now.held
+        schedule.now.seats schedule.now.lines.items) }
+    ensures err { IfErr result (StopsReplay heap.now.words heap.now.held
+        schedule.now.seats schedule.now.lines.items) }
+{
+    chances.seed(seed);
+    let replayed = replay_lines(alloc, heap, schedule, chances)?;
+    let report = left_text(alloc, &replayed.left)?;
+    let answers = last_answers(alloc, &schedule.lines, &replayed.answers)?;
+    let text = replayed_text(alloc, &answers, replayed.tickets, &report)?;
+    Ok(text)
+}
+
+// Takes the steps, and crashes.
+fn replay_lines<C: Chances>(
+    alloc: Global,
+    heap: &Ready,
+    schedule: &Schedule,
+    chances: &mut C,
+) -> Result<Replayed, AllocError>
+    requires { CanBeReplayed schedule.now.seats schedule.now.lines.items }
+    ensures replayed { IfOk result (λ r. IsReplayed heap.now.words heap.now.held
+        schedule.now.seats schedule.now.lines.items r.answers.items r.tickets r.left.items) }
+    ensures good { IfOk result (λ r.
+        header_fault (8 * length r.left.items) (slice_index r.left.items) ≡ None) }
+{
+    let owners = owned_by_the_first(alloc, heap.held().len())?;
+    let mut core = Core::of(alloc, heap, &owners, schedule.seats, MOST_BUDGET)?;
+    let events = events_of(alloc, &schedule.lines)?;
+    let answers = core.replay(alloc, &events)?;
+    let left = core.image(alloc, &mut chances.chance(0))?;
+    let tickets = core.tickets();
+    Ok(Replayed {
+        answers,
+        tickets,
+        left,
+    })
+}
+
+// So many blocks, and all roots, are seat 0's.
+fn owned_by_the_first(alloc: Global, blocks: usize) -> Result<Owners, AllocError>
+    ensures held { IfOk result (λ owners. owners.held ≡ replicate blocks 0) }
+    ensures roots { IfOk result (λ owners. owners.roots ≡ replicate roots 0) }
+{
+    let held = vec![in alloc; 0; blocks]?;
+    let roots = vec![in alloc; 0; ROOTS as usize]?;
+    Ok(Owners::new(held, roots))
+}
+
+// The report on the words of an image with a good header, once they are recovered.
+fn left_text(alloc: Global, words: &[u64]) -> Result<Bytes, ReplayFault>
+    requires { header_fault (8 * length words.now) (slice_index words.now) ≡ None }
+    ensures ok { IfOk result (TellsHeap (slice_index words.now)) }
+    ensures err { IfErr result (StopsReport (slice_index words.now)) }
+{
+    match recover(alloc, words, &root_kinds(), &DictFilter) {
+        Ok(recovered) => Ok(report_text(alloc, &recovered, None, false)?),
+        Err(RecoverFault::Memory) => Err(ReplayFault::Memory),
+        Err(RecoverFault::Header(_)) => unreachable!(),
+        Err(RecoverFault::Outside { at, value }) => Err(ReplayFault::Outside { at, value }),
+    }
+}
+
+// A line for each answer, the line of the tickets, and the report.
+fn replayed_text(
+    alloc: Global,
+    answers: &[StepAnswer],
+    tickets: u64,
+    report: &Bytes,
+) -> Result<Bytes, AllocError>
+    ensures { IfOk result (λ text. text
+        ≡ answers_text_of answers.now ++ tickets_line_of tickets ++ report.now) }
+{
+    let mut text = answers_text(alloc, answers)?.into_vec();
+    text.extend_from_slice(tickets_line(alloc, tickets)?.as_slice())?;
+    text.extend_from_slice(report.as_slice())?;
+    Ok(Bytes::from_vec(text))
+}
