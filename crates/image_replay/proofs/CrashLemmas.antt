@@ -1,31 +1,67 @@
 -- The heap as it is opened for a replay, and the image that a crash leaves.
-use Rattle.std.proofs.Common.{◌≡◌, ℕ, ◌*◌, ◌<◌, ◌≤◌, List, length, slice_index, replicate, None, ap, sym, subst, ◌∙◌, length-replicate, arith}
-use Rattle.std.specs.Prelude.{Contains}
+use Rattle.std.proofs.Common.{◌≡◌, ℕ, ◌*◌, ◌≤◌, List, length, slice_index, replicate, None, sym, subst, arith}
+use Rattle.std.proofs.lemmas.List.{length-replicate}
 use Rattle.heap_model.specs.declared.block.Block.{Block}
 use Rattle.heap_model.specs.Geometry.{roots, image_words}
-use Rattle.heap_model.specs.Header.{capacity_of, header_fault}
+use Rattle.heap_model.specs.Header.{header_fault}
 use Rattle.heap_model.specs.Durability.{IsCrashImage}
 use Rattle.heap_model.specs.Rest.{IsReady}
 use Rattle.core_model.specs.declared.answer.StepAnswer.{StepAnswer}
 use Rattle.core_model.specs.declared.event.Event.{Event}
 use Rattle.core_model.specs.Memory.{memory_of}
+use Rattle.core_model.specs.View.{Setup}
 use Rattle.core_model.specs.Held.{durable_image}
-use Rattle.core_model.specs.Opening.{AreOwners, setup_of, opened_state}
+use Rattle.core_model.specs.Opening.{AreOwners, opened_state}
 use Rattle.core_model.specs.Steps.{State, Runs}
 use Rattle.core_model.proofs.OpenedLemmas.{opened}
 use Rattle.core_model.proofs.SoundLemmas.{sound_runs}
 use Rattle.core_model.proofs.HeaderLemmas.{crash_header}
-use Rattle.image_replay.specs.Replaying.{replay_setup, replay_opening, IsReplayed}
+use Rattle.crash_core.specs.declared.state.CoreState.{CoreState}
+use Rattle.crash_core.specs.Standing.{StandsFor, RunsOn}
+use Rattle.heap_model.specs.Reach.{IsOutside}
+use Rattle.heap_recover.specs.Fault.{TellsFault}
+use Rattle.heap_recover.specs.declared.fault.RecoverFault.{RecoverFault}
+use Rattle.heap_recover.specs.declared.fault.RecoverFault.TheVariants.{Outside}
+use Rattle.dict_model.specs.Links.{dict_links, root_kind}
+use Rattle.image_run.specs.Reporting.{PointsOutside}
+use Rattle.image_replay.specs.Replaying.{events_of, replay_setup, replay_opening, IsReplayed}
 use Rattle.image_replay.proofs.LineLemmas.{in_replicate}
 
 -- all blocks and roots are seat 0's
 pub first_owns : (held : List Block) (seats : ℕ) → 1 ≤ seats → AreOwners held seats (replicate (length held) 0) (replicate roots 0)
 first_owns held seats some = record {
-  blocks = length-replicate (length held) 0;
-  roots_all = length-replicate roots 0;
-  block_seats = λ owner has. let none = in_replicate (length held) 0 owner has in omega arith;
-  root_seats = λ owner has. let none = in_replicate roots 0 owner has in omega arith;
+  blocks = length-replicate {A = ℕ} (length held) 0;
+  roots_all = length-replicate {A = ℕ} roots 0;
+  block_seats = λ owner has. let none : 0 ≡ owner = in_replicate (length held) 0 owner has in omega arith;
+  root_seats = λ owner has. let none : 0 ≡ owner = in_replicate roots 0 owner has in omega arith;
 }
+
+-- what the core does is what the seats do
+pub replayed : (words : List ℕ) (held : List Block) (seats : ℕ) (lines : List (ℕ × Event)) (block_owners root_owners : List ℕ) (events : List (ℕ × Event)) (answers : List StepAnswer) (tickets : ℕ)
+    (left : List ℕ) (old new : CoreState) → block_owners ≡ replicate (length held) 0 → root_owners ≡ replicate roots 0 → events ≡ events_of lines
+    → StandsFor old (replay_setup words) (opened_state (replay_setup words) held block_owners root_owners seats) → RunsOn old events answers new
+    → ((k : Setup) (s : State) → StandsFor new k s → tickets ≡ (memory_of k.capacity s.words).drawn)
+    → ((k : Setup) (s : State) → StandsFor new k s → IsCrashImage (durable_image k.capacity s.words) (slice_index left))
+    → ((k : Setup) (s : State) → StandsFor new k s → length left ≡ image_words k.capacity)
+    → IsReplayed words held seats lines answers tickets left
+replayed words held seats lines block_owners root_owners events answers tickets left old new blocks_are roots_are events_are stands runs drawn crash long =
+    let here = subst (λ (l : List ℕ). StandsFor old (replay_setup words) (opened_state (replay_setup words) held l (replicate roots 0) seats)) blocks_are
+    (subst (λ (l : List ℕ). StandsFor old (replay_setup words) (opened_state (replay_setup words) held block_owners l seats)) roots_are stands) in
+    let ran = runs (replay_setup words) (replay_opening words held seats) here in
+    record {
+      state = ran.0;
+      runs = subst (λ (es : List (ℕ × Event)). Runs (replay_setup words) (replay_opening words held seats) es answers ran.0) events_are ran.1;
+      tickets_are = drawn (replay_setup words) ran.0 ran.2;
+      left_is = crash (replay_setup words) ran.0 ran.2;
+      long = long (replay_setup words) ran.0 ran.2;
+    }
+
+-- a word that recovery tells as outside
+pub told_outside : (words kinds : List ℕ) → ((i : ℕ) → slice_index kinds i ≡ root_kind i) → (fault : RecoverFault) (at value : ℕ) → fault ≡ Outside at value
+    → TellsFault (8 * length words) (slice_index words) (slice_index kinds) dict_links fault → PointsOutside (slice_index words) at × (value ≡ slice_index words at)
+told_outside words kinds are fault at value is tells =
+    let why = subst (λ (f : RecoverFault). TellsFault (8 * length words) (slice_index words) (slice_index kinds) dict_links f) is tells in
+    (subst (λ (ks : ℕ → ℕ). IsOutside (slice_index words) ks dict_links at) (λ i w. are w i) why.1, why.2)
 
 -- the image that is left has a good header
 pub left_good : (words : List ℕ) (held : List Block) (seats : ℕ) (lines : List (ℕ × Event)) (answers : List StepAnswer) (tickets : ℕ) (left : List ℕ)

@@ -1,16 +1,14 @@
 -- The events of lines, and the answers that are told of them.
-use Rattle.std.proofs.Common.{◌≡◌, ℕ, ◌+◌, ◌<◌, ◌≤◌, inl, inr, List, [], ◌∷◌, ◌++◌, length, get_or, take, drop, replicate, None, refl, ap, sym, subst, ◌∙◌, append_assoc, length-append, length-drop, length-replicate, get_or-replicate, get_or-drop, arith}
+use Rattle.std.proofs.Common.{◌≡◌, ℕ, suc, ◌<◌, inl, inr, List, [], ◌∷◌, length, replicate, None, refl, ap, sym, subst, ◌∙◌, arith}
 use Rattle.std.specs.Prelude.{Contains}
-use Rattle.std.specs.List.{flat_map}
-use Rattle.std.proofs.lemmas.List.{drop_more, drop-drop}
+use Rattle.std.proofs.lemmas.List.{length-replicate, get_or-replicate}
 use Rattle.std.proofs.lemmas.List.Elements.{Contains-push_cases, Contains-append_cases}
 use Rattle.core_model.specs.declared.answer.StepAnswer.{StepAnswer}
-use Rattle.core_model.specs.declared.answer.StepAnswer.TheVariants.{NotNow}
 use Rattle.core_model.specs.declared.event.Event.{Event}
 use Rattle.core_model.specs.declared.event.Event.TheVariants.{Tick}
 use Rattle.core_model.specs.View.{Setup}
 use Rattle.core_model.specs.Steps.{State, Runs}
-use Rattle.image_replay.specs.Replaying.{draws_before, events_by, events_of, last_answers}
+use Rattle.image_replay.specs.Replaying.{draws_before, events_by, events_of}
 
 abbrev Line : Type 0
 Line = ℕ × Event
@@ -38,33 +36,3 @@ answered k s s' [] [] runs = refl
 answered k s s' [] (answer ∷ answers) runs = absurd runs
 answered k s s' (e ∷ events) [] runs = absurd runs
 answered k s s' (e ∷ events) (answer ∷ answers) runs = ap suc (answered k runs.0 s' events answers runs.3)
-
--- the events of a line and of those behind it
-events_more : (lines : List Line) (i : ℕ) (line : Line) → i < length lines → get_or lines i line ≡ line
-    → length (events_of (drop i lines)) ≡ draws_before line.1 + 1 + length (events_of (drop (i + 1) lines))
-events_more lines i line inside at =
-    let one = length-append (replicate (draws_before line.1) (line.0, Tick None)) ((line.0, line.1) ∷ []) in
-    let draws = length-replicate (draws_before line.1) (line.0, Tick None) in
-    let all = length-append (events_by line.0 line.1) (events_of (drop (i + 1) lines)) in
-    ap (λ (ls : List Line). length (events_of ls)) (drop_more lines i line inside ∙ ap (λ (l : Line). l ∷ drop (i + 1) lines) at) ∙ (omega arith)
-
--- the answer to the last event of a line, and those of the lines behind it
-module _ (lines : List Line) (answers told : List StepAnswer) (i next : ℕ) (line : Line) (inside : i < length lines) (at : get_or lines i line ≡ line)
-    (so_far : last_answers lines answers ≡ told ++ last_answers (drop i lines) (drop next answers))
-    (rest : length answers ≡ next + length (events_of (drop i lines))) where
-  pub more_left : length answers ≡ next + draws_before line.1 + 1 + length (events_of (drop (i + 1) lines))
-  more_left = let more = events_more lines i line inside at in omega arith
-
-  pub told_more : last_answers lines answers
-      ≡ (told ++ get_or answers (next + draws_before line.1) NotNow ∷ []) ++ last_answers (drop (i + 1) lines) (drop (next + draws_before line.1 + 1) answers)
-  told_more =
-      let d = draws_before line.1 in
-      let rest_lines = drop (i + 1) lines in
-      let here : drop i lines ≡ line ∷ rest_lines = drop_more lines i line inside ∙ ap (λ (l : Line). l ∷ rest_lines) at in
-      so_far ∙ ap (λ (ls : List Line). told ++ last_answers ls (drop next answers)) here
-      ∙ ap (λ (x : StepAnswer). told ++ (x ∷ last_answers rest_lines (drop (d + 1) (drop next answers)))) (get_or-drop next answers d NotNow)
-      ∙ ap (λ (xs : List StepAnswer). told ++ (get_or answers (next + d) NotNow ∷ last_answers rest_lines xs)) (drop-drop (d + 1) next answers ∙ ap (λ n. drop n answers) later)
-      ∙ sym (append_assoc told (get_or answers (next + d) NotNow ∷ []) (last_answers rest_lines (drop (next + d + 1) answers)))
-    where
-      later : next + (draws_before line.1 + 1) ≡ next + draws_before line.1 + 1
-      later = omega arith

@@ -7,10 +7,7 @@ use std::alloc::{AllocError, Global};
 
 /// The events of the lines: a line's event stands behind a draw of its ticket, unless it draws one
 /// itself, or needs none.
-pub fn events_of(
-    alloc: Global,
-    lines: &[(usize, Event)],
-) -> Result<Vec<(usize, Event)>, AllocError>
+pub fn events_of(alloc: Global, lines: &[(usize, Event)]) -> Result<Vec<(usize, Event)>, AllocError>
     ensures { IfOk result (λ events. events.items ≡ events_of lines.now) }
 {
     let mut events = Vec::new(alloc);
