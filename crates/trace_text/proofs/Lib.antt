@@ -7,6 +7,8 @@ pub mod ReadingLemmas
 pub mod PrintedLemmas
 pub mod ReplyLemmas
 pub mod UseLemmas
+pub mod NumberLemmas
+pub mod PieceLemmas
 pub mod WordLemmas
 pub mod LineLemmas
 pub mod LongestLemmas

@@ -3,7 +3,7 @@ use Rattle.std.proofs.Common.{◌≡◌, ◌≢◌, ℕ, ◌<◌, cond, List, []
 use Rattle.std.proofs.lemmas.Bool.{ne_eqb}
 use Rattle.std.proofs.lemmas.List.Elements.{All-head, All-tail}
 use Rattle.std.specs.List.{All, onto_first}
-use Rattle.trace_text.specs.Trace.{lines_of}
+use Rattle.trace_text.specs.Lines.{lines_of}
 
 -- a byte that is no line feed belongs to the first line
 lines_of-more : (c : ℕ) (rest : List ℕ) → c ≢ 10 → lines_of (c ∷ rest) ≡ onto_first c (lines_of rest)

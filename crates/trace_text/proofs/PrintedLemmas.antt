@@ -13,7 +13,8 @@ use Rattle.trace_text.specs.Generated.{request_line, value_of, made_request, mad
 use Rattle.trace_text.specs.Trace.{lines_of, longest_value, IsValue, IsLine, AreLines}
 use Rattle.trace_text.specs.Values.{value_word}
 use Rattle.trace_text.proofs.LineLemmas.{lines_of-ended}
-use Rattle.trace_text.proofs.WordLemmas.{key_has_no, put_line}
+use Rattle.trace_text.proofs.NumberLemmas.{number_has_no}
+use Rattle.trace_text.proofs.WordLemmas.{put_line}
 
 -- a text in one line
 abbrev IsPlain : List ℕ → Type 0
@@ -55,17 +56,17 @@ body_plain (Put key value) fits =
     All-append (λ n. n ≢ 10) (codes "put ") (decimal key ++ codes " " ++ value_word value)
     (verb_plain 112 117 116 32 (λ s. absurd (omega arith)) (λ s. absurd (omega arith)) (λ s. absurd (omega arith)) (λ s. absurd (omega arith)))
     (All-append (λ n. n ≢ 10) (decimal key ++ codes " ") (value_word value)
-    (All-append (λ n. n ≢ 10) (decimal key) (codes " ") (key_has_no 10 (decimal key) key (omega arith) (fits.0, refl))
+    (All-append (λ n. n ≢ 10) (decimal key) (codes " ") (number_has_no 10 (decimal key) key (omega arith) (fits.0, refl))
     (All-cons (λ n. n ≢ 10) 32 [] (λ s. absurd (omega arith)) (All-nil (λ n. n ≢ 10))))
     (value_plain value fits.1))
 body_plain (Get key) fits =
     All-append (λ n. n ≢ 10) (codes "get ") (decimal key)
     (verb_plain 103 101 116 32 (λ s. absurd (omega arith)) (λ s. absurd (omega arith)) (λ s. absurd (omega arith)) (λ s. absurd (omega arith)))
-    (key_has_no 10 (decimal key) key (omega arith) (fits, refl))
+    (number_has_no 10 (decimal key) key (omega arith) (fits, refl))
 body_plain (Del key) fits =
     All-append (λ n. n ≢ 10) (codes "del ") (decimal key)
     (verb_plain 100 101 108 32 (λ s. absurd (omega arith)) (λ s. absurd (omega arith)) (λ s. absurd (omega arith)) (λ s. absurd (omega arith)))
-    (key_has_no 10 (decimal key) key (omega arith) (fits, refl))
+    (number_has_no 10 (decimal key) key (omega arith) (fits, refl))
 
 body_read : (request : Request) → IsWithinBounds request → IsLine (body request) request
 body_read (Put key value) fits =

@@ -4,11 +4,13 @@ use Rattle.std.proofs.lemmas.Fmt.{decimal_injective}
 use Rattle.hex.proofs.HexLemmas.{decode_of-ok, decode_of-same}
 use Rattle.trace_text.specs.declared.request.Request.{Request}
 use Rattle.trace_text.specs.declared.request.Request.TheVariants.{Put, Get, Del}
-use Rattle.trace_text.specs.Trace.{IsKey, IsValue, IsPutLine, IsKeyLine, IsLine, IsOutside, AreLines, IsFirstOutside}
-use Rattle.trace_text.proofs.WordLemmas.{key_has_no, same_parts, heads_differ}
+use Rattle.trace_text.specs.Trace.{IsValue, IsPutLine, IsKeyLine, IsLine, IsOutside, AreLines, IsFirstOutside}
+use Rattle.trace_text.specs.Numbers.{IsNumber}
+use Rattle.trace_text.proofs.NumberLemmas.{number_has_no}
+use Rattle.trace_text.proofs.PieceLemmas.{same_parts, heads_differ}
 
 -- a word writes one key
-one_key : (word : List ℕ) (k m : ℕ) → IsKey word k → IsKey word m → k ≡ m
+one_key : (word : List ℕ) (k m : ℕ) → IsNumber word k → IsNumber word m → k ≡ m
 one_key word k m is_k is_m = decimal_injective k m is_k.0 is_m.0 (sym is_k.1 ∙ is_m.1)
 
 -- and one value
@@ -37,7 +39,7 @@ put_same line k m v w a b =
     let whole : codes "put " ++ a.key_word ++ codes " " ++ a.value_word ≡ codes "put " ++ b.key_word ++ codes " " ++ b.value_word = sym a.line_is ∙ b.line_is in
     let rest : (a.key_word ++ 32 ∷ []) ++ a.value_word ≡ (b.key_word ++ 32 ∷ []) ++ b.value_word = cc in
     let cut = sym (append_assoc a.key_word (32 ∷ []) a.value_word) ∙ rest ∙ append_assoc b.key_word (32 ∷ []) b.value_word in
-    let parts = same_parts 32 a.key_word b.key_word a.value_word b.value_word (key_has_no 32 a.key_word k (omega arith) a.key_is) (key_has_no 32 b.key_word m (omega arith) b.key_is) cut in
+    let parts = same_parts 32 a.key_word b.key_word a.value_word b.value_word (number_has_no 32 a.key_word k (omega arith) a.key_is) (number_has_no 32 b.key_word m (omega arith) b.key_is) cut in
     let key = one_key b.key_word k m (rw parts.0 at a.key_is) b.key_is in
     let value = one_value b.value_word v w (rw parts.1 at a.value_is) b.value_is in
     ap (λ n. Put n v) key ∙ ap (λ l. Put m l) value

@@ -5,6 +5,8 @@ pub mod Recovered
 pub mod Ranges
 pub mod HeapMap
 pub mod Laws
+pub mod Numbers
+pub mod Lines
 pub mod Trace
 pub mod Values
 pub mod Replies

@@ -1,16 +1,12 @@
 -- Request traces: texts of lines, and the request that each line asks for.
-use Rattle.std.specs.Prelude.{◌≡◌, ℕ, ◌+◌, ◌^◌, ◌<◌, ◌≤◌, ◌==◌, ◌⊎◌, if◌then◌else◌, List, [], ◌∷◌, ◌++◌, length, codes, decimal, Option, Some, None, Ok}
-use Rattle.std.specs.List.{onto_first}
+use Rattle.std.specs.Prelude.{◌≡◌, ℕ, ◌+◌, ◌≤◌, ◌⊎◌, List, [], ◌∷◌, ◌++◌, length, codes, Option, Some, None, Ok}
 use Rattle.hex.specs.Hex.{decode_of}
 use Rattle.trace_text.specs.declared.request.Request.{Request}
 use Rattle.trace_text.specs.declared.request.Request.TheVariants.{Put, Get, Del}
 use Rattle.trace_text.specs.declared.request.TraceError.{TraceError}
 use Rattle.trace_text.specs.declared.request.TraceError.TheVariants.{BadLine, Memory}
-
--- the lines of a text: each ends with a line feed, which the last one may lack
-abbrev pub lines_of : List ℕ → List (List ℕ)
-lines_of [] = []
-lines_of (c ∷ rest) = if c == 10 then [] ∷ lines_of rest else onto_first c (lines_of rest)
+use Rattle.trace_text.specs.Numbers.{IsNumber}
+pub use Rattle.trace_text.specs.Lines.{lines_of}
 
 -- the most bytes of a value
 abbrev pub longest_value : ℕ
@@ -22,22 +18,18 @@ IsValue word value =
     ((word ≡ codes "-") × (value ≡ []))
     ⊎ ((decode_of word ≡ Ok value) × (1 ≤ length value) × (length value ≤ longest_value))
 
--- a key as a word: a decimal number of 64 bits without leading zeros
-abbrev pub IsKey : List ℕ → ℕ → Type 0
-IsKey word key = (key < 2 ^ 64) × (word ≡ decimal key)
-
 -- the line is a word for what is to be done, a space, and a key
 pub record IsKeyLine (what line : List ℕ) (key : ℕ) : Type 0 where
   pub word : List ℕ
   pub line_is : line ≡ what ++ codes " " ++ word
-  pub key_is : IsKey word key
+  pub key_is : IsNumber word key
 
 -- the line is `put`, a key and a value, with one space between two of them
 pub record IsPutLine (line : List ℕ) (key : ℕ) (value : List ℕ) : Type 0 where
   pub key_word : List ℕ
   pub value_word : List ℕ
   pub line_is : line ≡ codes "put " ++ key_word ++ codes " " ++ value_word
-  pub key_is : IsKey key_word key
+  pub key_is : IsNumber key_word key
   pub value_is : IsValue value_word value
 
 -- the line asks for the request
@@ -54,11 +46,6 @@ IsOutside line = (request : Request) → IsLine line request → ⊥
 abbrev pub IsReading : List ℕ → Option Request → Type 0
 IsReading line (Some request) = IsLine line request
 IsReading line None = IsOutside line
-
--- what a word is read as: the key that it writes, or none
-abbrev pub IsKeyReading : List ℕ → Option ℕ → Type 0
-IsKeyReading word (Some key) = IsKey word key
-IsKeyReading word None = (key : ℕ) → IsKey word key → ⊥
 
 -- what a word is read as: the value that it writes, or none
 abbrev pub IsValueReading : List ℕ → Option (List ℕ) → Type 0

@@ -8,6 +8,7 @@ mod keys;
 mod laws;
 mod line;
 mod map;
+mod number;
 mod pieces;
 mod ranges;
 mod recovered;

@@ -1,7 +1,8 @@
 //! Reads a line of a trace, and its words.
-ghost use Rattle.std.specs.Prelude.{◌++◌, ◌<◌, ◌≤◌, ◌*◌, ◌↔◌, codes, length, slice_index, IfOk, IsTrue};
-ghost use Rattle.trace_text.specs.Trace.{longest_value, IsReading, IsKeyReading, IsValueReading};
+ghost use Rattle.std.specs.Prelude.{◌++◌, ◌≤◌, ◌*◌, ◌↔◌, codes, length, IfOk, IsTrue};
+ghost use Rattle.trace_text.specs.Trace.{longest_value, IsReading, IsValueReading};
 
+use crate::number::parse_number;
 use crate::pieces::{behind, split_once};
 use crate::request::Request;
 use hex::FromHexError;
@@ -19,10 +20,10 @@ pub(crate) fn parse_line(alloc: Global, line: &[u8]) -> Result<Option<Request>, 
         return parse_put(alloc, words);
     }
     if let Some(word) = behind(line, b"get ") {
-        return Ok(parse_key(word).map(Request::Get));
+        return Ok(parse_number(word).map(Request::Get));
     }
     if let Some(word) = behind(line, b"del ") {
-        return Ok(parse_key(word).map(Request::Del));
+        return Ok(parse_number(word).map(Request::Del));
     }
     Ok(None)
 }
@@ -34,44 +35,13 @@ fn parse_put(alloc: Global, words: &[u8]) -> Result<Option<Request>, AllocError>
     let Some((key, value)) = split_once(words, b' ') else {
         return Ok(None);
     };
-    let Some(key) = parse_key(key) else {
+    let Some(key) = parse_number(key) else {
         return Ok(None);
     };
     let Some(value) = parse_value(alloc, value)? else {
         return Ok(None);
     };
     Ok(Some(Request::Put(key, value)))
-}
-
-/// The key that a word writes.
-fn parse_key(word: &[u8]) -> Option<u64>
-    ensures { IsKeyReading word.now result }
-{
-    if word == b"0".as_slice() {
-        return Some(0);
-    }
-    if !begins_from_1(word) {
-        return None;
-    }
-    parse_positive(word)
-}
-
-/// Whether the word begins with a digit other than 0.
-fn begins_from_1(word: &[u8]) -> bool
-    ensures { IsTrue result ↔ ((48 < slice_index word.now 0) × (slice_index word.now 0 ≤ 57)) }
-{
-    matches!(word, [b'1'..=b'9', ..])
-}
-
-/// The key that a word writes which doesn't begin with a zero or a sign.
-fn parse_positive(word: &[u8]) -> Option<u64>
-    requires { 48 < slice_index word.now 0 }
-    ensures { IsKeyReading word.now result }
-{
-    match str::from_utf8(word) {
-        Ok(text) => text.parse().ok(),
-        Err(_) => None,
-    }
 }
 
 /// The value that a word writes.

@@ -1,7 +1,7 @@
 //! Bytes in front of a separator, and behind it.
 ghost use Rattle.std.specs.Prelude.{◌≡◌, ◌≢◌, ℕ, List, ◌∷◌, ◌++◌, [], ◌<◌, length, IfSome, IfNone, MatchOption};
 ghost use Rattle.std.specs.List.{All};
-ghost use Rattle.trace_text.specs.Trace.{lines_of};
+ghost use Rattle.trace_text.specs.Lines.{lines_of};
 
 /// The bytes before the first separator and those behind it, or `None` where there is no separator.
 pub(crate) fn split_once(bytes: &[u8], separator: u8) -> Option<(&[u8], &[u8])>
@@ -35,4 +35,17 @@ pub(crate) fn next_line(text: &[u8]) -> Option<(&[u8], &[u8])>
         Some((line, after)) => Some((line, after)),
         None => Some((text, &[])),
     }
+}
+
+/// How many lines the text has.
+pub(crate) fn count_lines(text: &[u8]) -> usize
+    ensures { result ≡ length (lines_of text.now) }
+{
+    let mut lines = 0;
+    let mut rest = text;
+    while let Some((_, after)) = next_line(rest) {
+        lines += 1;
+        rest = after;
+    }
+    lines
 }

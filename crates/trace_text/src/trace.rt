@@ -1,9 +1,10 @@
 //! Reads a trace of requests.
-ghost use Rattle.std.specs.Prelude.{◌≡◌, length, IfOk, IfErr};
-ghost use Rattle.trace_text.specs.Trace.{lines_of, AreLines, IsWhyNot};
+ghost use Rattle.std.specs.Prelude.{IfOk, IfErr};
+ghost use Rattle.trace_text.specs.Lines.{lines_of};
+ghost use Rattle.trace_text.specs.Trace.{AreLines, IsWhyNot};
 
 use crate::line::parse_line;
-use crate::pieces::next_line;
+use crate::pieces::{count_lines, next_line};
 use crate::request::{Request, TraceError};
 use std::alloc::Global;
 
@@ -31,17 +32,4 @@ pub fn parse_trace(alloc: Global, text: &[u8]) -> Result<Vec<Request>, TraceErro
         rest = after;
     }
     Ok(requests)
-}
-
-/// How many lines the text has.
-fn count_lines(text: &[u8]) -> usize
-    ensures { result ≡ length (lines_of text.now) }
-{
-    let mut lines = 0;
-    let mut rest = text;
-    while let Some((_, after)) = next_line(rest) {
-        lines += 1;
-        rest = after;
-    }
-    lines
 }

@@ -1,5 +1,5 @@
 use Rattle.std.proofs.Common.{◌∙◌, ap, rules}
-use Rattle.trace_text.specs.Trace.{lines_of}
+use Rattle.trace_text.specs.Lines.{lines_of}
 use Rattle.trace_text.proofs.LineLemmas.{lines_of-ended, lines_of-last}
 use Rattle.trace_text.proofs.pieces.next_line.Goals as goal
 

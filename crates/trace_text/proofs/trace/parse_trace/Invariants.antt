@@ -1,6 +1,6 @@
 use Rattle.std.proofs.Common.{◌+◌, ◌≤◌, length}
 use Rattle.std.specs.Vec.{vec_len, vec_capacity}
-use Rattle.trace_text.specs.Trace.{lines_of}
+use Rattle.trace_text.specs.Lines.{lines_of}
 use Rattle.trace_text.proofs.TraceLemmas.{IsReadUpTo}
 use Rattle.trace_text.proofs.trace.parse_trace.Given as goal
 

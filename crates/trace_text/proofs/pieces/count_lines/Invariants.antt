@@ -1,6 +1,6 @@
 use Rattle.std.proofs.Common.{◌≡◌, ◌+◌, ◌≤◌, length}
-use Rattle.trace_text.specs.Trace.{lines_of}
-use Rattle.trace_text.proofs.trace.count_lines.Given as goal
+use Rattle.trace_text.specs.Lines.{lines_of}
+use Rattle.trace_text.proofs.pieces.count_lines.Given as goal
 
 -- the lines so far and those that are left; and each has a byte or more
 abbrev pub invariant-loop-after : goal.invariant-loop-after
