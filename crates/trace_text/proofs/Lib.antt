@@ -13,4 +13,4 @@ pub mod WordLemmas
 pub mod LineLemmas
 pub mod LongestLemmas
 mod KeyLemmas
-pub mod TraceLemmas
+pub mod WrittenLemmas

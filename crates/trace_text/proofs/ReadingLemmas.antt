@@ -1,13 +1,14 @@
 -- A trace is read in one way.
-use Rattle.std.proofs.Common.{◌≡◌, ℕ, suc, ◌+◌, inl, inr, List, [], ◌∷◌, ◌++◌, length, codes, refl, sym, ap, subst, ◌∙◌, arith, append_assoc}
+use Rattle.std.proofs.Common.{◌≡◌, ℕ, inl, inr, List, [], ◌∷◌, ◌++◌, length, codes, sym, ap, ◌∙◌, arith, append_assoc}
 use Rattle.std.proofs.lemmas.Fmt.{decimal_injective}
 use Rattle.hex.proofs.HexLemmas.{decode_of-ok, decode_of-same}
 use Rattle.trace_text.specs.declared.request.Request.{Request}
 use Rattle.trace_text.specs.declared.request.Request.TheVariants.{Put, Get, Del}
-use Rattle.trace_text.specs.Trace.{IsValue, IsPutLine, IsKeyLine, IsLine, IsOutside, AreLines, IsFirstOutside}
+use Rattle.trace_text.specs.Trace.{IsValue, IsPutLine, IsKeyLine, IsLine, AreLines, IsFirstOutside}
 use Rattle.trace_text.specs.Numbers.{IsNumber}
 use Rattle.trace_text.proofs.NumberLemmas.{number_has_no}
 use Rattle.trace_text.proofs.PieceLemmas.{same_parts, heads_differ}
+use Rattle.trace_text.proofs.WrittenLemmas.{one_list, written_or_outside, one_outside}
 
 -- a word writes one key
 one_key : (word : List ℕ) (k m : ℕ) → IsNumber word k → IsNumber word m → k ≡ m
@@ -58,42 +59,12 @@ one_request line (Del k) (Del m) is_a is_b = ap Del (one_key_line (codes "del") 
 
 -- so lines ask for one list of requests
 pub one_reading : (lines : List (List ℕ)) (xs ys : List Request) → AreLines lines xs → AreLines lines ys → xs ≡ ys
-one_reading [] [] [] are_a are_b = refl
-one_reading [] [] (b ∷ ys) are_a are_b = absurd are_b
-one_reading [] (a ∷ xs) ys are_a are_b = absurd are_a
-one_reading (line ∷ lines) [] ys are_a are_b = absurd are_a
-one_reading (line ∷ lines) (a ∷ xs) [] are_a are_b = absurd are_b
-one_reading (line ∷ lines) (a ∷ xs) (b ∷ ys) are_a are_b =
-    let first = one_request line a b are_a.0 are_b.0 in
-    let rest = one_reading lines xs ys are_a.1 are_b.1 in
-    ap (λ r. r ∷ xs) first ∙ ap (λ (l : List Request). b ∷ l) rest
+one_reading lines xs ys are_a are_b = one_list IsLine one_request lines xs ys are_a are_b
 
 -- lines that ask for requests have none that is outside the grammar
-outside_between : (before : List (List ℕ)) (line : List ℕ) (after : List (List ℕ)) (asks : List Request) → AreLines (before ++ line ∷ after) asks → IsOutside line → ⊥
-outside_between [] line after [] are outside = are
-outside_between [] line after (a ∷ asks) are outside = outside a are.0
-outside_between (first ∷ before) line after [] are outside = are
-outside_between (first ∷ before) line after (a ∷ asks) are outside = outside_between before line after asks are.1 outside
-
 pub read_or_outside : (lines : List (List ℕ)) (asks : List Request) (number : ℕ) → AreLines lines asks → IsFirstOutside lines number → ⊥
-read_or_outside lines asks number are is = outside_between is.before is.outside is.after asks (subst (λ l. AreLines l asks) is.lines_are are) is.nothing
+read_or_outside lines asks number are is = written_or_outside IsLine lines asks number are is
 
 -- and only one line is the first outside
-first_outside : (b c : List (List ℕ)) (x y : List ℕ) (p q : List (List ℕ)) (r s : List Request) → b ++ x ∷ p ≡ c ++ y ∷ q → AreLines b r → AreLines c s
-    → IsOutside x → IsOutside y → length b ≡ length c
-first_outside [] [] x y p q r s same are_b are_c out_x out_y = refl
-first_outside [] (m ∷ c) x y p q r [] same are_b are_c out_x out_y = absurd are_c
-first_outside [] (m ∷ c) x y p q r (a ∷ s) same are_b are_c out_x out_y = let head : m ≡ x = cc in absurd (out_x a (subst (λ l. IsLine l a) head are_c.0))
-first_outside (l ∷ b) [] x y p q [] s same are_b are_c out_x out_y = absurd are_b
-first_outside (l ∷ b) [] x y p q (a ∷ r) s same are_b are_c out_x out_y = let head : l ≡ y = cc in absurd (out_y a (subst (λ l. IsLine l a) head are_b.0))
-first_outside (l ∷ b) (m ∷ c) x y p q [] s same are_b are_c out_x out_y = absurd are_b
-first_outside (l ∷ b) (m ∷ c) x y p q (a ∷ r) [] same are_b are_c out_x out_y = absurd are_c
-first_outside (l ∷ b) (m ∷ c) x y p q (a ∷ r) (d ∷ s) same are_b are_c out_x out_y =
-    let rest : b ++ x ∷ p ≡ c ++ y ∷ q = cc in
-    let count = first_outside b c x y p q r s rest are_b.1 are_c.1 out_x out_y in
-    ap suc count
-
 pub one_first_outside : (lines : List (List ℕ)) (m n : ℕ) → IsFirstOutside lines m → IsFirstOutside lines n → m ≡ n
-one_first_outside lines m n a b =
-    let same = first_outside a.before b.before a.outside b.outside a.after b.after a.asks b.asks (sym a.lines_are ∙ b.lines_are) a.asked b.asked a.nothing b.nothing in
-    a.counted ∙ ap (λ k. k + 1) same ∙ sym b.counted
+one_first_outside lines m n a b = one_outside IsLine lines m n a b

@@ -7,6 +7,7 @@ pub mod HeapMap
 pub mod Laws
 pub mod Numbers
 pub mod Lines
+pub mod Schedule
 pub mod Trace
 pub mod Values
 pub mod Replies

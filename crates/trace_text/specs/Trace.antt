@@ -1,10 +1,11 @@
 -- Request traces: texts of lines, and the request that each line asks for.
-use Rattle.std.specs.Prelude.{◌≡◌, ℕ, ◌+◌, ◌≤◌, ◌⊎◌, List, [], ◌∷◌, ◌++◌, length, codes, Option, Some, None, Ok}
+use Rattle.std.specs.Prelude.{◌≡◌, ℕ, ◌≤◌, ◌⊎◌, List, [], ◌++◌, length, codes, Option, Some, None, Ok}
 use Rattle.hex.specs.Hex.{decode_of}
 use Rattle.trace_text.specs.declared.request.Request.{Request}
 use Rattle.trace_text.specs.declared.request.Request.TheVariants.{Put, Get, Del}
 use Rattle.trace_text.specs.declared.request.TraceError.{TraceError}
 use Rattle.trace_text.specs.declared.request.TraceError.TheVariants.{BadLine, Memory}
+use Rattle.trace_text.specs.Lines.{AreWritten, WritesNothing, IsFirstOutsideOf}
 use Rattle.trace_text.specs.Numbers.{IsNumber}
 pub use Rattle.trace_text.specs.Lines.{lines_of}
 
@@ -40,7 +41,7 @@ IsLine line (Del key) = IsKeyLine (codes "del") line key
 
 -- the line asks for nothing
 abbrev pub IsOutside : List ℕ → Type 0
-IsOutside line = (request : Request) → IsLine line request → ⊥
+IsOutside line = WritesNothing IsLine line
 
 -- what a line is read as: the request that it asks for, or none
 abbrev pub IsReading : List ℕ → Option Request → Type 0
@@ -54,21 +55,11 @@ IsValueReading word None = (value : List ℕ) → IsValue word value → ⊥
 
 -- the lines ask for the requests, each for one
 abbrev pub AreLines : List (List ℕ) → List Request → Type 0
-AreLines [] [] = Unit {0}
-AreLines [] (request ∷ requests) = ⊥
-AreLines (line ∷ lines) [] = ⊥
-AreLines (line ∷ lines) (request ∷ requests) = IsLine line request × AreLines lines requests
+AreLines lines requests = AreWritten IsLine lines requests
 
 -- the line of this number, counted from 1, is the first that asks for nothing
-pub record IsFirstOutside (lines : List (List ℕ)) (number : ℕ) : Type 0 where
-  pub before : List (List ℕ)
-  pub outside : List ℕ
-  pub after : List (List ℕ)
-  pub lines_are : lines ≡ before ++ outside ∷ after
-  pub counted : number ≡ length before + 1
-  pub asks : List Request
-  pub asked : AreLines before asks
-  pub nothing : IsOutside outside
+abbrev pub IsFirstOutside : List (List ℕ) → ℕ → Type 0
+IsFirstOutside lines number = IsFirstOutsideOf IsLine lines number
 
 -- why a trace can't be read
 abbrev pub IsWhyNot : List ℕ → TraceError → Type 0
