@@ -14,3 +14,5 @@ pub mod LineLemmas
 pub mod LongestLemmas
 mod KeyLemmas
 pub mod WrittenLemmas
+pub mod EventLemmas
+pub mod StepLemmas

@@ -1,6 +1,6 @@
 -- Numbers as words.
 use Rattle.std.proofs.Common.{◌≡◌, ◌≢◌, ℕ, zero, suc, ◌<◌, ◌≤◌, List, [], ◌∷◌, get_or, decimal, Result, Ok, Err, refl, sym, ◌∙◌, arith}
-use Rattle.std.proofs.lemmas.Fmt.{decimal_is_IsNumeral, decimal-digits_value, first_decimal, parse-decimal, IsAscii-decimal}
+use Rattle.std.proofs.lemmas.Fmt.{decimal_is_IsNumeral, decimal-digits_value, first_decimal, parse-decimal, IsAscii-decimal, decimal_injective}
 use Rattle.std.proofs.lemmas.Str.{IsUtf8-from_ascii}
 use Rattle.std.proofs.lemmas.Str.Parse.{IsNumeralModel, numerals_by_value, tells_digits, parse_plain, digit_at}
 use Rattle.std.proofs.lemmas.List.{get_or_default}
@@ -46,3 +46,7 @@ pub number_has_no : (s : ℕ) (word : List ℕ) (number : ℕ) → s < 48 → Is
 number_has_no s word number low is =
     let digit = (decimal_is_IsNumeral number is.0).0.1 in
     rw is.1 (λ k d below found. let at = digit_at (decimal number) k digit below in let same = get_or_default (decimal number) k d 0 below in absurd (omega arith))
+
+-- a word writes one number
+pub one_number : (word : List ℕ) (m n : ℕ) → IsNumber word m → IsNumber word n → m ≡ n
+one_number word m n is_m is_n = decimal_injective m n is_m.0 is_n.0 (sym is_m.1 ∙ is_n.1)

@@ -1,20 +1,14 @@
 -- A trace is read in one way.
 use Rattle.std.proofs.Common.{◌≡◌, ℕ, inl, inr, List, [], ◌∷◌, ◌++◌, length, codes, sym, ap, ◌∙◌, arith, append_assoc}
-use Rattle.std.proofs.lemmas.Fmt.{decimal_injective}
 use Rattle.hex.proofs.HexLemmas.{decode_of-ok, decode_of-same}
 use Rattle.trace_text.specs.declared.request.Request.{Request}
 use Rattle.trace_text.specs.declared.request.Request.TheVariants.{Put, Get, Del}
 use Rattle.trace_text.specs.Trace.{IsValue, IsPutLine, IsKeyLine, IsLine, AreLines, IsFirstOutside}
-use Rattle.trace_text.specs.Numbers.{IsNumber}
-use Rattle.trace_text.proofs.NumberLemmas.{number_has_no}
+use Rattle.trace_text.proofs.NumberLemmas.{number_has_no, one_number}
 use Rattle.trace_text.proofs.PieceLemmas.{same_parts, heads_differ}
 use Rattle.trace_text.proofs.WrittenLemmas.{one_list, written_or_outside, one_outside}
 
--- a word writes one key
-one_key : (word : List ℕ) (k m : ℕ) → IsNumber word k → IsNumber word m → k ≡ m
-one_key word k m is_k is_m = decimal_injective k m is_k.0 is_m.0 (sym is_k.1 ∙ is_m.1)
-
--- and one value
+-- a word writes one value
 one_value : (word v w : List ℕ) → IsValue word v → IsValue word w → v ≡ w
 one_value word v w (inl none_v) (inl none_w) = none_v.1 ∙ sym none_w.1
 one_value word v w (inl none_v) (inr some_w) =
@@ -32,7 +26,7 @@ one_key_line : (what line : List ℕ) (k m : ℕ) → ((a b : List ℕ) → what
     → IsKeyLine what line k → IsKeyLine what line m → k ≡ m
 one_key_line what line k m split a b =
     let word : a.word ≡ b.word = split a.word b.word (sym a.line_is ∙ b.line_is) in
-    one_key b.word k m (rw word at a.key_is) b.key_is
+    one_number b.word k m (rw word at a.key_is) b.key_is
 
 -- lines of a key and a value
 put_same : (line : List ℕ) (k m : ℕ) (v w : List ℕ) → IsPutLine line k v → IsPutLine line m w → Put k v ≡ Put m w
@@ -41,7 +35,7 @@ put_same line k m v w a b =
     let rest : (a.key_word ++ 32 ∷ []) ++ a.value_word ≡ (b.key_word ++ 32 ∷ []) ++ b.value_word = cc in
     let cut = sym (append_assoc a.key_word (32 ∷ []) a.value_word) ∙ rest ∙ append_assoc b.key_word (32 ∷ []) b.value_word in
     let parts = same_parts 32 a.key_word b.key_word a.value_word b.value_word (number_has_no 32 a.key_word k (omega arith) a.key_is) (number_has_no 32 b.key_word m (omega arith) b.key_is) cut in
-    let key = one_key b.key_word k m (rw parts.0 at a.key_is) b.key_is in
+    let key = one_number b.key_word k m (rw parts.0 at a.key_is) b.key_is in
     let value = one_value b.value_word v w (rw parts.1 at a.value_is) b.value_is in
     ap (λ n. Put n v) key ∙ ap (λ l. Put m l) value
 

@@ -1,5 +1,5 @@
 -- Texts of lines.
-use Rattle.std.specs.Prelude.{◌≡◌, ℕ, ◌+◌, ◌==◌, if◌then◌else◌, List, [], ◌∷◌, ◌++◌, length}
+use Rattle.std.specs.Prelude.{◌≡◌, ℕ, ◌+◌, ◌==◌, if◌then◌else◌, List, [], ◌∷◌, ◌++◌, length, Option, Some, None}
 use Rattle.std.specs.List.{onto_first}
 
 -- the lines of a text: each ends with a line feed, which the last one may lack
@@ -17,6 +17,11 @@ AreWritten Writes (line ∷ lines) (thing ∷ things) = Writes line thing × Are
 -- the line writes nothing
 abbrev pub WritesNothing : {A : Type 0} → (List ℕ → A → Type 0) → List ℕ → Type 0
 WritesNothing {A = A} Writes line = (thing : A) → Writes line thing → ⊥
+
+-- what a line is read as: the thing that it writes, or none
+abbrev pub IsReadAs : {A : Type 0} → (List ℕ → A → Type 0) → List ℕ → Option A → Type 0
+IsReadAs Writes line (Some thing) = Writes line thing
+IsReadAs Writes line None = WritesNothing Writes line
 
 -- the line of this number, counted from 1, is the first that writes nothing
 pub record IsFirstOutsideOf {A : Type 0} (Writes : List ℕ → A → Type 0) (lines : List (List ℕ)) (number : ℕ) : Type 0 where

@@ -1,5 +1,5 @@
 -- Schedules: texts of lines, the number of seats and then the step that each line gives to a seat.
-use Rattle.std.specs.Prelude.{◌≡◌, ℕ, ◌+◌, ◌^◌, ◌<◌, ◌≤◌, ◌⊎◌, List, [], ◌∷◌, ◌++◌, codes, decimal, Some, None}
+use Rattle.std.specs.Prelude.{◌≡◌, ℕ, ◌+◌, ◌^◌, ◌<◌, ◌≤◌, ◌⊎◌, List, [], ◌∷◌, ◌++◌, codes, decimal, Option, Some, None}
 use Rattle.std.specs.List.{All, flat_map}
 use Rattle.core_model.specs.declared.event.Event.{Event}
 use Rattle.core_model.specs.declared.event.Event.TheVariants.{Tick, Load, Store, Settle, LookUsed, TakeFresh, KeepUsed, LookHead, LookLink, Pop, Push, LookAnchor, TakeAll, Give}
@@ -40,21 +40,28 @@ spaced numbers = flat_map (λ n. codes " " ++ decimal n) numbers
 abbrev pub words_of_event : Event → List ℕ
 words_of_event event = (parts_of event).0 ++ spaced (parts_of event).1
 
--- its numbers have 64 bits
-abbrev pub HasFittingNumbers : Event → Type 0
-HasFittingNumbers event = All (λ n. n < 2 ^ 64) (parts_of event).1
+-- the words write the event, and its numbers have 64 bits
+pub record IsEventWords (words : List ℕ) (event : Event) : Type 0 where
+  pub words_are : words ≡ words_of_event event
+  pub numbers_fit : All (λ n. n < 2 ^ 64) (parts_of event).1
 
 -- a line gives a seat a step: the seat's number, a space, and the event
 pub record IsStepLine (seats : ℕ) (line : List ℕ) (step : ℕ × Event) : Type 0 where
+  pub words : List ℕ
+  pub line_is : line ≡ decimal step.0 ++ codes " " ++ words
   pub seat_is_below : step.0 < seats
-  pub numbers_fit : HasFittingNumbers step.1
-  pub line_is : line ≡ decimal step.0 ++ codes " " ++ words_of_event step.1
+  pub event_is : IsEventWords words step.1
 
 -- the first line tells how many seats there are: 1 to 8
 pub record IsSeatsLine (line : List ℕ) (seats : ℕ) : Type 0 where
   pub some : 1 ≤ seats
   pub at_most_8 : seats ≤ 8
   pub line_is : line ≡ codes "seats " ++ decimal seats
+
+-- the event of the verb and the numbers, or none
+abbrev pub IsPartsReading : List ℕ → List ℕ → Option Event → Type 0
+IsPartsReading verb numbers (Some event) = (verb ≡ (parts_of event).0) × (numbers ≡ (parts_of event).1)
+IsPartsReading verb numbers None = (event : Event) → verb ≡ (parts_of event).0 → numbers ≡ (parts_of event).1 → ⊥
 
 -- the text writes the schedule
 pub record IsSchedule (text : List ℕ) (schedule : Schedule) : Type 0 where
@@ -64,18 +71,23 @@ pub record IsSchedule (text : List ℕ) (schedule : Schedule) : Type 0 where
   pub seats_are : IsSeatsLine first schedule.seats
   pub steps_are : AreWritten (IsStepLine schedule.seats) further schedule.lines.items
 
--- the first line tells the seats, and the line of this number is the first that gives no step
-pub record IsBadStep (first : List ℕ) (further : List (List ℕ)) (number : ℕ) : Type 0 where
-  pub seats : ℕ
-  pub seats_are : IsSeatsLine first seats
+-- the line of this number, counted with the first line, is the first that gives no step
+pub record IsBadStep (seats : ℕ) (further : List (List ℕ)) (number : ℕ) : Type 0 where
   pub place : ℕ
-  pub place_is : IsFirstOutsideOf (IsStepLine seats) further place
   pub counted : number ≡ place + 1
+  pub first : IsFirstOutsideOf (IsStepLine seats) further place
+
+-- why the lines behind the first give no steps
+abbrev pub IsWhyNoSteps : ℕ → List (List ℕ) → TraceError → Type 0
+IsWhyNoSteps seats further (BadLine line) = IsBadStep seats further line
+IsWhyNoSteps seats further Memory = Unit {0}
 
 -- the line of this number, counted from 1, is the first outside the grammar; an empty text counts as an empty line
 abbrev pub IsFirstBad : List (List ℕ) → ℕ → Type 0
 IsFirstBad [] number = number ≡ 1
-IsFirstBad (first ∷ further) number = (WritesNothing IsSeatsLine first × (number ≡ 1)) ⊎ IsBadStep first further number
+IsFirstBad (first ∷ further) number =
+    (WritesNothing IsSeatsLine first × (number ≡ 1))
+    ⊎ ((seats : ℕ) × IsSeatsLine first seats × IsBadStep seats further number)
 
 -- why a text is no schedule
 abbrev pub IsWhyNotSchedule : List ℕ → TraceError → Type 0

@@ -16,6 +16,7 @@ mod reply;
 mod report;
 mod request;
 mod schedule;
+mod step;
 mod trace;
 mod value;
 
@@ -30,7 +31,7 @@ pub use recovered::{map_text, report_text};
 pub use reply::{Reply, reply_text};
 pub use report::heap_line;
 pub use request::{Request, TraceError};
-pub use schedule::Schedule;
+pub use schedule::{Schedule, parse_schedule};
 pub use trace::parse_trace;
 
 #[cfg(test)]
