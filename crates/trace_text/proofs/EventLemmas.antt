@@ -13,7 +13,7 @@ use Rattle.trace_text.proofs.NumberLemmas.{number_has_no, one_number}
 use Rattle.trace_text.proofs.PieceLemmas.{same_parts, has_separator}
 
 -- a text of one word
-abbrev IsWord : List ℕ → Type 0
+abbrev pub IsWord : List ℕ → Type 0
 IsWord text = All (λ b. b ≢ 32) text
 
 is_word : List ℕ → Bool
@@ -36,10 +36,10 @@ word_passes (c ∷ text) is =
     All-cons (λ b. b ≢ 32) c text (λ same. cc (eq-eqb c 32 same, two.0)) (word_passes text two.1)
 
 -- a verb is a word, and at most two numbers stand behind it
-is_short : List ℕ × List ℕ → Bool
+pub is_short : List ℕ × List ℕ → Bool
 is_short parts = cond (is_word parts.0) (nat_le (length parts.1) 2) false
 
-each_is_short : (event : Event) → is_short (parts_of event) ≡ true
+pub each_is_short : (event : Event) → is_short (parts_of event) ≡ true
 unfolding is_short is_word
 each_is_short (Tick None) = refl
 each_is_short (Tick (Some (Cut d))) = refl
@@ -62,7 +62,7 @@ each_is_short (LookAnchor d) = refl
 each_is_short (TakeAll d) = refl
 each_is_short (Give d) = refl
 
-short_parts : (verb numbers : List ℕ) → is_short (verb, numbers) ≡ true → IsWord verb × (length numbers ≤ 2)
+pub short_parts : (verb numbers : List ℕ) → is_short (verb, numbers) ≡ true → IsWord verb × (length numbers ≤ 2)
 unfolding is_short
 short_parts verb numbers is =
     let two = passed (is_word verb) (nat_le (length numbers) 2) is in

@@ -16,3 +16,4 @@ mod KeyLemmas
 pub mod WrittenLemmas
 pub mod EventLemmas
 pub mod StepLemmas
+pub mod ScheduleLemmas

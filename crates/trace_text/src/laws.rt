@@ -1,5 +1,5 @@
 //! What the texts tell of a heap at rest, as functions with nothing to run.
-ghost use Rattle.std.specs.Prelude.{◌≡◌, ◌<◌, ◌+◌, ◌-◌, ◌*◌, ◌/◌, ℕ, List, true, Contains, map, slice_index};
+ghost use Rattle.std.specs.Prelude.{◌≡◌, ◌<◌, ◌≤◌, ◌+◌, ◌-◌, ◌*◌, ◌/◌, ℕ, List, true, Contains, map, slice_index};
 ghost use Rattle.std.specs.List.{All, flat_map, range_with_len};
 ghost use Rattle.heap_model.specs.declared.block.Block.{Block};
 ghost use Rattle.heap_model.specs.Blocks.{layout_of};
@@ -13,7 +13,9 @@ ghost use Rattle.trace_text.specs.Ranges.{longest_runs, AreLongestRuns};
 ghost use Rattle.trace_text.specs.Laws.{IsCounted, IsUse};
 ghost use Rattle.trace_text.specs.Trace.{lines_of, AreLines, IsFirstOutside};
 ghost use Rattle.trace_text.specs.Generated.{request_line, made_request, made_trace, IsWithinBounds};
+ghost use Rattle.trace_text.specs.Schedule.{IsSchedule, IsFirstBad};
 ghost use Rattle.trace_text.specs.declared.request.Request.{Request};
+ghost use Rattle.trace_text.specs.declared.schedule.Schedule.{Schedule};
 
 /// The texts tell of each held block.
 pub fn each_held_block_is_told()
@@ -71,4 +73,27 @@ pub fn printed_requests_are_read()
 
     ensures made { (n seed : ℕ) → AreLines (lines_of (made_trace n seed))
         (map (made_request seed) (range_with_len 0 n)) }
+{}
+
+/// A schedule is read in one way.
+pub fn a_schedule_has_one_reading()
+    // A text writes one schedule.
+    ensures schedule { (text : List ℕ) (a b : Schedule) → IsSchedule text a → IsSchedule text b
+        → (a.seats ≡ b.seats) × (a.lines.items ≡ b.lines.items) }
+
+    // A text that writes a schedule has no line that is outside the grammar.
+    ensures both { (text : List ℕ) (schedule : Schedule) (number : ℕ) → IsSchedule text schedule
+        → IsFirstBad (lines_of text) number → ⊥ }
+
+    // One line is the first that is outside.
+    ensures first { (lines : List (List ℕ)) (a b : ℕ) → IsFirstBad lines a → IsFirstBad lines b
+        → a ≡ b }
+{}
+
+/// A schedule has 1 to 8 seats, and steps of these alone.
+pub fn a_schedule_has_its_seats()
+    ensures seats { (text : List ℕ) (schedule : Schedule) → IsSchedule text schedule
+        → (1 ≤ schedule.seats) × (schedule.seats ≤ 8) }
+    ensures each { (text : List ℕ) (schedule : Schedule) → IsSchedule text schedule
+        → All (λ step. step.0 < schedule.seats) schedule.lines.items }
 {}

@@ -23,8 +23,8 @@ mod value;
 pub use answered::{answers_text, tickets_line};
 pub use generate::gen_text;
 pub use laws::{
-    a_trace_has_one_reading, each_held_block_is_told, each_use_is_told, printed_requests_are_read,
-    runs_are_the_longest,
+    a_schedule_has_its_seats, a_schedule_has_one_reading, a_trace_has_one_reading,
+    each_held_block_is_told, each_use_is_told, printed_requests_are_read, runs_are_the_longest,
 };
 pub use map::map_lines;
 pub use recovered::{map_text, report_text};
