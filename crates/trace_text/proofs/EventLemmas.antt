@@ -16,7 +16,7 @@ use Rattle.trace_text.proofs.PieceLemmas.{same_parts, has_separator}
 abbrev pub IsWord : List ℕ → Type 0
 IsWord text = All (λ b. b ≢ 32) text
 
-is_word : List ℕ → Bool
+unfoldable pub is_word : List ℕ → Bool
 is_word [] = true
 is_word (c ∷ text) = cond (nat_eq c 32) false (is_word text)
 
@@ -28,7 +28,7 @@ passed : (b t : Bool) → cond b t false ≡ true → (b ≡ true) × (t ≡ tru
 passed true t is = (refl, is)
 passed false t is = cc
 
-word_passes : (text : List ℕ) → is_word text ≡ true → IsWord text
+pub word_passes : (text : List ℕ) → is_word text ≡ true → IsWord text
 unfolding is_word
 word_passes [] is = All-nil (λ b. b ≢ 32)
 word_passes (c ∷ text) is =
@@ -69,7 +69,7 @@ short_parts verb numbers is =
     (word_passes verb two.0, leb-true (length numbers) 2 two.1)
 
 -- words without a space are a verb alone
-alone : (verb numbers words : List ℕ) → words ≡ verb ++ spaced numbers → IsWord words → (words ≡ verb) × (numbers ≡ [])
+pub alone : (verb numbers words : List ℕ) → words ≡ verb ++ spaced numbers → IsWord words → (words ≡ verb) × (numbers ≡ [])
 alone verb [] words are free = (are ∙ append-nil verb, refl)
 alone verb (n ∷ numbers) words are free = absurd (has_separator 32 verb (decimal n ++ spaced numbers) (subst (λ l. IsWord l) are free))
 
@@ -90,7 +90,7 @@ cut_once verb (n ∷ numbers) words first rest are is_verb cut is_first =
     record { n = n; others = numbers; numbers_are = refl; first_is = parts.0; rest_is = parts.1 }
 
 -- an event whose words have one space has one number
-one_number_behind : (words verb rest : List ℕ) (event : Event) → words ≡ verb ++ 32 ∷ rest → IsWord verb → IsWord rest → IsEventWords words event
+pub one_number_behind : (words verb rest : List ℕ) (event : Event) → words ≡ verb ++ 32 ∷ rest → IsWord verb → IsWord rest → IsEventWords words event
     → (n : ℕ) × (verb ≡ (parts_of event).0) × (n ∷ [] ≡ (parts_of event).1) × IsNumber rest n
 one_number_behind words verb rest event cut is_verb is_rest is =
     let short = short_parts (parts_of event).0 (parts_of event).1 (each_is_short event) in
@@ -100,9 +100,24 @@ one_number_behind words verb rest event cut is_verb is_rest is =
     let fits : parts.n < 2 ^ 64 = All-head (λ n. n < 2 ^ 64) parts.n [] (subst (λ l. All (λ n. n < 2 ^ 64) l) numbers is.numbers_fit) in
     (parts.n, parts.first_is, sym numbers, (fits, last.0))
 
-none_left : (numbers : List ℕ) (m n : ℕ) → length (m ∷ n ∷ numbers) ≤ 2 → numbers ≡ []
-none_left [] m n few = refl
-none_left (k ∷ numbers) m n few = absurd (omega arith)
+-- of two numbers at most, the first is before the space and the second behind it
+two_numbers : (numbers : List ℕ) (m : ℕ) (others rest first second : List ℕ) → numbers ≡ m ∷ others → All (λ n. n < 2 ^ 64) numbers → length numbers ≤ 2
+    → rest ≡ decimal m ++ spaced others → rest ≡ first ++ 32 ∷ second → IsWord first
+    → (n : ℕ) × (m ∷ n ∷ [] ≡ numbers) × IsNumber first m × IsNumber second n
+two_numbers numbers m [] rest first second are fit few rest_is cut is_first =
+    let fits : m < 2 ^ 64 = All-head (λ n. n < 2 ^ 64) m [] (subst (λ l. All (λ n. n < 2 ^ 64) l) are fit) in
+    let one : decimal m ≡ first ++ 32 ∷ second = sym (append-nil (decimal m)) ∙ sym rest_is ∙ cut in
+    absurd (has_separator 32 first second (subst (λ l. IsWord l) one (number_has_no 32 (decimal m) m (omega arith) (fits, refl))))
+two_numbers numbers m (n ∷ []) rest first second are fit few rest_is cut is_first =
+    let both_fit = subst (λ l. All (λ n. n < 2 ^ 64) l) are fit in
+    let fits : m < 2 ^ 64 = All-head (λ n. n < 2 ^ 64) m (n ∷ []) both_fit in
+    let fits_too : n < 2 ^ 64 = All-head (λ n. n < 2 ^ 64) n [] (All-tail (λ n. n < 2 ^ 64) m (n ∷ []) both_fit) in
+    let is_m : IsWord (decimal m) = number_has_no 32 (decimal m) m (omega arith) (fits, refl) in
+    let parts = same_parts 32 first (decimal m) second (decimal n ++ []) is_first is_m (sym cut ∙ rest_is) in
+    (n, sym are, (fits, parts.0), (fits_too, parts.1 ∙ append-nil (decimal n)))
+two_numbers numbers m (n ∷ k ∷ others) rest first second are fit few rest_is cut is_first =
+    let more = ap length are in
+    absurd (omega arith)
 
 -- and one whose words have another space has two
 two_numbers_behind : (words verb rest first second : List ℕ) (event : Event) → words ≡ verb ++ 32 ∷ rest → IsWord verb → rest ≡ first ++ 32 ∷ second → IsWord first
@@ -111,16 +126,8 @@ two_numbers_behind : (words verb rest first second : List ℕ) (event : Event) �
 two_numbers_behind words verb rest first second event cut is_verb cut_again is_first is =
     let short = short_parts (parts_of event).0 (parts_of event).1 (each_is_short event) in
     let one = cut_once (parts_of event).0 (parts_of event).1 words verb rest is.words_are short.0 cut is_verb in
-    let fit = subst (λ l. All (λ n. n < 2 ^ 64) l) one.numbers_are is.numbers_fit in
-    let fits : one.n < 2 ^ 64 = All-head (λ n. n < 2 ^ 64) one.n one.others fit in
-    let two = cut_once (decimal one.n) one.others rest first second one.rest_is (number_has_no 32 (decimal one.n) one.n (omega arith) (fits, refl)) cut_again is_first in
-    let numbers : (parts_of event).1 ≡ one.n ∷ two.n ∷ two.others = one.numbers_are ∙ ap (λ l. one.n ∷ l) two.numbers_are in
-    let none : two.others ≡ [] = none_left two.others one.n two.n (subst (λ l. length l ≤ 2) numbers short.1) in
-    let both_are : (parts_of event).1 ≡ one.n ∷ two.n ∷ [] = numbers ∙ ap (λ l. one.n ∷ two.n ∷ l) none in
-    let fits_too : two.n < 2 ^ 64 =
-    All-head (λ n. n < 2 ^ 64) two.n two.others (All-tail (λ n. n < 2 ^ 64) one.n (two.n ∷ two.others) (subst (λ l. All (λ n. n < 2 ^ 64) l) numbers is.numbers_fit)) in
-    let last : second ≡ decimal two.n = two.rest_is ∙ ap (λ l. decimal two.n ++ spaced l) none ∙ append-nil (decimal two.n) in
-    (one.n, two.n, one.first_is, sym both_are, (fits, two.first_is), (fits_too, last))
+    let two = two_numbers (parts_of event).1 one.n one.others rest first second one.numbers_are is.numbers_fit short.1 one.rest_is cut_again is_first in
+    (one.n, two.0, one.first_is, two.1, two.2, two.3)
 
 -- the words of an event with the verb and the numbers
 event_words : (words verb numbers : List ℕ) (event : Event) → words ≡ verb ++ spaced numbers → All (λ n. n < 2 ^ 64) numbers → verb ≡ (parts_of event).0

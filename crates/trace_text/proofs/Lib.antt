@@ -17,3 +17,4 @@ pub mod WrittenLemmas
 pub mod EventLemmas
 pub mod StepLemmas
 pub mod ScheduleLemmas
+mod OutsideExamples

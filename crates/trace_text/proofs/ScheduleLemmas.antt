@@ -1,5 +1,5 @@
 -- A schedule is read in one way.
-use Rattle.std.proofs.Common.{◌≡◌, ◌≢◌, ℕ, ◌+◌, ◌^◌, ◌<◌, ◌≤◌, nat_eq, inl, inr, cond, Option, Some, None, List, [], ◌∷◌, ◌++◌, codes, decimal, refl, sym, ap, subst, ◌∙◌, arith, append_assoc}
+use Rattle.std.proofs.Common.{◌≡◌, ℕ, ◌+◌, ◌^◌, ◌<◌, nat_eq, inl, inr, cond, Option, Some, None, List, [], ◌∷◌, ◌++◌, codes, decimal, refl, sym, ap, subst, ◌∙◌, arith, append_assoc}
 use Rattle.std.proofs.lemmas.List.{append-nil}
 use Rattle.std.proofs.lemmas.List.Elements.{All-nil, All-cons, All-head, All-tail}
 use Rattle.std.specs.Cmp.Lexicographic.{pointwise}
@@ -39,34 +39,34 @@ same_words v w (j ∷ m) (k ∷ n) is_v is_w fit_m fit_n same =
     (parts.0, ap (λ i. i ∷ m) (one_number (decimal j) j k (j_fits, refl) (k_fits, rest.0)) ∙ ap (λ l. k ∷ l) rest.1)
 
 -- each verb with its event
-find : {A : Type 0} → List ℕ → List (List ℕ × A) → Option A
+unfoldable pub find : {A : Type 0} → List ℕ → List (List ℕ × A) → Option A
 find verb [] = None
 find verb (row ∷ rows) = cond (pointwise nat_eq row.0 verb) (Some row.1) (find verb rows)
 
-alone : List (List ℕ × Event)
-alone = (codes "tick", Tick None) ∷ (codes "look-used", LookUsed) ∷ (codes "keep", KeepUsed) ∷ (codes "link", LookLink) ∷ (codes "pop", Pop) ∷ []
+unfoldable pub of_none : List (List ℕ × Event)
+of_none = (codes "tick", Tick None) ∷ (codes "look-used", LookUsed) ∷ (codes "keep", KeepUsed) ∷ (codes "link", LookLink) ∷ (codes "pop", Pop) ∷ []
 
-draw : Shift → Event
+abbrev pub draw : Shift → Event
 draw shift = Tick (Some shift)
 
-of_one : List (List ℕ × (ℕ → Event))
+unfoldable pub of_one : List (List ℕ × (ℕ → Event))
 of_one =
     (codes "cut", λ n. draw (Cut n)) ∷ (codes "alloc", λ n. draw (Alloc n)) ∷ (codes "free", λ n. draw (Free n)) ∷ (codes "lift", λ n. draw (Lift n))
     ∷ (codes "split", λ n. draw (Split n)) ∷ (codes "load", λ n. Load n) ∷ (codes "settle", λ n. Settle n) ∷ (codes "take", λ n. TakeFresh n)
     ∷ (codes "head", λ n. LookHead n) ∷ (codes "push", λ n. Push n) ∷ (codes "anchor", λ n. LookAnchor n) ∷ (codes "take-all", λ n. TakeAll n)
     ∷ (codes "give", λ n. Give n) ∷ []
 
-of_two : List (List ℕ × (ℕ → ℕ → Event))
+unfoldable pub of_two : List (List ℕ × (ℕ → ℕ → Event))
 of_two = (codes "large", λ m n. draw (Large m n)) ∷ (codes "store", λ m n. Store m n) ∷ []
 
-event_by : List ℕ → List ℕ → Option Event
-event_by verb [] = find verb alone
+unfoldable pub event_by : List ℕ → List ℕ → Option Event
+event_by verb [] = find verb of_none
 event_by verb (n ∷ []) = option_map (λ f. f n) (find verb of_one)
 event_by verb (m ∷ n ∷ []) = option_map (λ f. f m n) (find verb of_two)
 event_by verb (m ∷ n ∷ k ∷ numbers) = None
 
-found : (event : Event) → event_by (parts_of event).0 (parts_of event).1 ≡ Some event
-unfolding event_by find alone of_one of_two draw
+pub found : (event : Event) → event_by (parts_of event).0 (parts_of event).1 ≡ Some event
+unfolding event_by find of_none of_one of_two
 found (Tick None) = refl
 found (Tick (Some (Cut d))) = refl
 found (Tick (Some (Alloc class))) = refl

@@ -15,3 +15,4 @@ pub mod Generated
 pub mod Answered
 pub mod Examples
 pub mod TraceExamples
+pub mod ScheduleExamples

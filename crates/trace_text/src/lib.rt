@@ -35,6 +35,8 @@ pub use schedule::{Schedule, parse_schedule};
 pub use trace::parse_trace;
 
 #[cfg(test)]
+mod schedule_tests;
+#[cfg(test)]
 mod tests;
 #[cfg(test)]
 mod trace_tests;
