@@ -9,7 +9,8 @@ use Rattle.std.specs.List.{All}
 use Rattle.std.specs.Result.{result_ok}
 use Rattle.std.specs.Str.{IsUtf8}
 use Rattle.std.specs.Str.Parse.{AllDigits, digits_value, ParsesUnsigned}
-use Rattle.trace_text.specs.Numbers.{IsNumber, IsNumberReading}
+use Rattle.trace_text.specs.Lines.{IsReadAs}
+use Rattle.trace_text.specs.Numbers.{IsNumber}
 
 own : IsNumeralModel (AllDigits 10) (digits_value 10)
 own = numerals_by_value (AllDigits 10) tells_digits
@@ -29,7 +30,7 @@ number_begins word (suc number) is other =
     rw is.1 (first, digit.1)
 
 -- a text that begins so is read as the number that it writes
-pub number_reading : (E : Type 0) (word text : List ℕ) (r : Result ℕ E) → text ≡ word → 48 < get_or word 0 0 → ParsesUnsigned 64 10 text r → IsNumberReading word (result_ok r)
+pub number_reading : (E : Type 0) (word text : List ℕ) (r : Result ℕ E) → text ≡ word → 48 < get_or word 0 0 → ParsesUnsigned 64 10 text r → IsReadAs IsNumber word (result_ok r)
 number_reading E word text (Ok number) same begins parsed =
     let numeral = parse_plain own {E = E} 64 word (Ok number) (rw same at parsed) (λ plus. absurd (omega arith)) in
     let value : decimal (digits_value 10 word) ≡ word =

@@ -18,7 +18,7 @@ AreWritten Writes (line ∷ lines) (thing ∷ things) = Writes line thing × Are
 abbrev pub WritesNothing : {A : Type 0} → (List ℕ → A → Type 0) → List ℕ → Type 0
 WritesNothing {A = A} Writes line = (thing : A) → Writes line thing → ⊥
 
--- what a line is read as: the thing that it writes, or none
+-- what a line or a word is read as: the thing that it writes, or none
 abbrev pub IsReadAs : {A : Type 0} → (List ℕ → A → Type 0) → List ℕ → Option A → Type 0
 IsReadAs Writes line (Some thing) = Writes line thing
 IsReadAs Writes line None = WritesNothing Writes line

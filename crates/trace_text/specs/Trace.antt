@@ -1,5 +1,5 @@
 -- Request traces: texts of lines, and the request that each line asks for.
-use Rattle.std.specs.Prelude.{◌≡◌, ℕ, ◌≤◌, ◌⊎◌, List, [], ◌++◌, length, codes, Option, Some, None, Ok}
+use Rattle.std.specs.Prelude.{◌≡◌, ℕ, ◌≤◌, ◌⊎◌, List, [], ◌++◌, length, codes, Ok}
 use Rattle.hex.specs.Hex.{decode_of}
 use Rattle.trace_text.specs.declared.request.Request.{Request}
 use Rattle.trace_text.specs.declared.request.Request.TheVariants.{Put, Get, Del}
@@ -42,16 +42,6 @@ IsLine line (Del key) = IsKeyLine (codes "del") line key
 -- the line asks for nothing
 abbrev pub IsOutside : List ℕ → Type 0
 IsOutside line = WritesNothing IsLine line
-
--- what a line is read as: the request that it asks for, or none
-abbrev pub IsReading : List ℕ → Option Request → Type 0
-IsReading line (Some request) = IsLine line request
-IsReading line None = IsOutside line
-
--- what a word is read as: the value that it writes, or none
-abbrev pub IsValueReading : List ℕ → Option (List ℕ) → Type 0
-IsValueReading word (Some value) = IsValue word value
-IsValueReading word None = (value : List ℕ) → IsValue word value → ⊥
 
 -- the lines ask for the requests, each for one
 abbrev pub AreLines : List (List ℕ) → List Request → Type 0

@@ -1,6 +1,7 @@
 //! Reads a line of a trace, and its words.
 ghost use Rattle.std.specs.Prelude.{◌++◌, ◌≤◌, ◌*◌, ◌↔◌, codes, length, IfOk, IsTrue};
-ghost use Rattle.trace_text.specs.Trace.{longest_value, IsReading, IsValueReading};
+ghost use Rattle.trace_text.specs.Lines.{IsReadAs};
+ghost use Rattle.trace_text.specs.Trace.{longest_value, IsLine, IsValue};
 
 use crate::number::parse_number;
 use crate::pieces::{behind, split_once};
@@ -14,7 +15,7 @@ pub(crate) const LONGEST_VALUE: usize = 131_072;
 
 /// The request that a line asks for, or `None` where it asks for nothing.
 pub(crate) fn parse_line(alloc: Global, line: &[u8]) -> Result<Option<Request>, AllocError>
-    ensures ok { IfOk result (IsReading line.now) }
+    ensures ok { IfOk result (IsReadAs IsLine line.now) }
 {
     if let Some(words) = behind(line, b"put ") {
         return parse_put(alloc, words);
@@ -30,7 +31,7 @@ pub(crate) fn parse_line(alloc: Global, line: &[u8]) -> Result<Option<Request>, 
 
 /// The request of the words of a line behind its `put `.
 fn parse_put(alloc: Global, words: &[u8]) -> Result<Option<Request>, AllocError>
-    ensures ok { IfOk result (IsReading (codes "put " ++ words.now)) }
+    ensures ok { IfOk result (IsReadAs IsLine (codes "put " ++ words.now)) }
 {
     let Some((key, value)) = split_once(words, b' ') else {
         return Ok(None);
@@ -46,7 +47,7 @@ fn parse_put(alloc: Global, words: &[u8]) -> Result<Option<Request>, AllocError>
 
 /// The value that a word writes.
 fn parse_value(alloc: Global, word: &[u8]) -> Result<Option<Bytes>, AllocError>
-    ensures ok { IfOk result (IsValueReading word.now) }
+    ensures ok { IfOk result (IsReadAs IsValue word.now) }
 {
     if word == b"-".as_slice() {
         return Ok(Some(Bytes::from_vec(Vec::new(alloc))));
