@@ -15,10 +15,15 @@ usage: heap_tool COMMAND
   rebuild IMAGE [--stop K] [--seed X]
                        recover the heap in place, put the heap that is left, and print
                        whether it was stopped and a report; --stop and --seed as of run
+  replay IMAGE [--seed X]
+                       recover the heap, take the steps of the schedule on standard input,
+                       and print which were done and a report on what a crash then leaves;
+                       the image stays as it is; --seed as of run
   drain IMAGE CLASS    recover the heap, allocate in the class (1 to 20) until it is full,
                        and print the offsets; the image stays as it is
   gen N SEED           print a trace of N requests (0 to 100000) from SEED (0 to 1000000)
 IMAGE is the path of a file. Fault lines go to standard output.
 A request is a line: put KEY HEX, get KEY or del KEY; the value - has no bytes.
+A schedule is a line seats N (1 to 8), and then a seat and its step in each line.
 example: heap_tool format heap.img 4 && heap_tool gen 9 1 | heap_tool run heap.img --workers 1
 ";

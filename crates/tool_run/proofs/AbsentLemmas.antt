@@ -1,7 +1,7 @@
 -- What a command that gets an image comes to, where the store tells that there is no such image.
 use Rattle.std.proofs.Common.{◌≡◌, ◌⊎◌, ℕ, List, Option, Some, None, inl, inr, subst}
 use Rattle.tool_ports.specs.Contents.{Contents, Holds, told_of}
-use Rattle.tool_run.specs.Command.{Command, format_image, show_image, drain_image, gen_trace, run_image, rebuild_image, image_name, Asks}
+use Rattle.tool_run.specs.Command.{Command, format_image, show_image, drain_image, gen_trace, run_image, rebuild_image, replay_image, image_name, Asks}
 use Rattle.tool_run.specs.declared.fault.Fault.{Fault}
 use Rattle.tool_run.specs.declared.fault.Fault.TheVariants.{Memory, ReadFault, Absent, Malformed, Outside, BadShard}
 use Rattle.tool_run.specs.Examples.{one_command}
@@ -25,6 +25,7 @@ not_made (gen_trace requests seed) contents name left image text gets named none
 not_made (show_image n with_map) contents name left image text gets named none made = not_there contents n name made.1.bytes named none made.1.is_there
 not_made (drain_image n class) contents name left image text gets named none made = not_there contents n name made.1.bytes named none made.1.is_there
 not_made (rebuild_image n budget seed) contents name left image text gets named none made = not_there contents n name made.bytes named none made.is_there
+not_made (replay_image n seed) contents name left image text gets named none made = not_there contents n name made.1.heap.image.bytes named none made.1.heap.image.is_there
 not_made (run_image n options) contents name left image text gets named none made = not_there contents n name made.mapped.bytes named none made.mapped.is_there
 
 -- want of memory, a failed get, or that
@@ -52,7 +53,8 @@ stops_absent words command old new left store_failed source_failed sink_failed t
     let named : image_name command ≡ name = subst (λ (c : Command). image_name c ≡ name) same asks.is_named in
     elim stopped.cause as (λ _. (status ≡ no_image) ⊎ (status ≡ out_of_memory) ⊎ (status ≡ read_fault)) [
       | inl (inl why, untouched) ↦ refused command old name store_failed status fault named none is why
-      | inl (inr trace, untouched) ↦ absurd (not_there old (image_name command) name trace.mapped.bytes named none trace.mapped.is_there)
+      | inl (inr (inl trace), untouched) ↦ absurd (not_there old (image_name command) name trace.mapped.bytes named none trace.mapped.is_there)
+      | inl (inr (inr replay), untouched) ↦ absurd (not_there old (image_name command) name replay.image.bytes named none replay.image.is_there)
       | inr (image, text, made, why) ↦ absurd (not_made command old name left image text (subst Gets same asks.gets) named none made)
     ]
 

@@ -4,12 +4,12 @@ use Rattle.tool_ports.specs.Contents.{Contents}
 use Rattle.heap_model.specs.Image.{image_of_bytes}
 use Rattle.dict_model.specs.Shards.{LeadsAlone, BadShard as IsBadShard}
 use Rattle.dict_model.proofs.ShardLemmas.{no_bad_place, alone_once}
-use Rattle.tool_run.specs.Command.{Command, format_image, show_image, drain_image, gen_trace, run_image, rebuild_image, image_name, Asks}
+use Rattle.tool_run.specs.Command.{Command, format_image, show_image, drain_image, gen_trace, run_image, rebuild_image, replay_image, image_name, Asks}
 use Rattle.tool_run.specs.declared.fault.Fault.{Fault}
-use Rattle.tool_run.specs.declared.fault.Fault.TheVariants.{Usage, Memory, ReadFault, WriteFault, Absent, Malformed, Outside, BadShard, BadLine, TooLong}
+use Rattle.tool_run.specs.declared.fault.Fault.TheVariants.{Usage, Memory, ReadFault, WriteFault, Absent, Malformed, Outside, BadShard, BadLine, BadStep, TooLong}
 use Rattle.tool_run.specs.Examples.{one_command}
 use Rattle.tool_run.specs.Inside.{Refuses, IsCarriedOut, IsStopped, status_of}
-use Rattle.tool_run.specs.Making.{Makes, Reads, HasMapped, PointsOutside, fault_of}
+use Rattle.tool_run.specs.Making.{Makes, Reads, ReplaysASchedule, HasMapped, PointsOutside, fault_of}
 use Rattle.tool_run.specs.Outcome.{AsksToRead, HoldsBadShard}
 use Rattle.tool_run.specs.Status.{out_of_memory, read_fault, bad_shard}
 use Rattle.tool_run.proofs.OutsideLemmas.{of_told, same_bytes}
@@ -34,6 +34,7 @@ not_made (show_image n with_map) contents name shard at left image text reads na
 not_made (drain_image n class) contents name shard at left image text reads named has made = reads
 not_made (gen_trace requests seed) contents name shard at left image text reads named has made = reads
 not_made (rebuild_image n budget seed) contents name shard at left image text reads named has made = reads
+not_made (replay_image n seed) contents name shard at left image text reads named has made = reads
 not_made (run_image n options) contents name shard at left image text reads named has made = mapped_shard contents n name shard at named made.mapped has
 
 -- want of memory, a failed get, or that
@@ -57,6 +58,7 @@ refused command contents name shard at get_failed status (Outside place value) n
     absurd (has.inside place (subst (λ (l : List ℕ). PointsOutside (image_of_bytes l) place) same why.1.points))
 refused command contents name shard at get_failed status (BadShard other place) named has is why = inl is
 refused command contents name shard at get_failed status (BadLine line) named has is why = absurd why
+refused command contents name shard at get_failed status (BadStep line) named has is why = absurd why
 refused command contents name shard at get_failed status TooLong named has is why = absurd why
 
 -- a command that reads such an image makes nothing
@@ -71,6 +73,16 @@ pub not_done_bad : (words : List (List ℕ)) (command : Command) (old new : Cont
     → (name : List ℕ) (shard at : ℕ) → AsksToRead words name → HoldsBadShard old name shard at → (status ≡ bad_shard) ⊎ (status ≡ out_of_memory) ⊎ (status ≡ read_fault)
 not_done_bad words command old new left taken taken' status asked done name shard at asks has = absurd (none_made words command old left done.image done.text asked done.made name shard at asks has)
 
+-- a command that reads maps replays no schedule
+no_maps : (command : Command) → Reads command → ReplaysASchedule command → ⊥
+no_maps (show_image n with_map) reads replays = replays
+no_maps (run_image n options) reads replays = replays
+no_maps (format_image n capacity) reads replays = reads
+no_maps (drain_image n class) reads replays = reads
+no_maps (gen_trace requests seed) reads replays = reads
+no_maps (rebuild_image n budget seed) reads replays = reads
+no_maps (replay_image n seed) reads replays = reads
+
 -- why a command stopped
 pub stops_bad : (words : List (List ℕ)) (command : Command) (old new : Contents) (left : Option (List ℕ)) (store_failed source_failed sink_failed : Type 0) (taken taken' : Option (List ℕ)) (status : ℕ) (fault : Fault)
     → Asks words command → IsStopped command old new left store_failed source_failed sink_failed taken taken' fault → status ≡ status_of fault
@@ -81,8 +93,11 @@ stops_bad words command old new left store_failed source_failed sink_failed take
       | inl (inl why, untouched) ↦
           let same : asks.command ≡ command = one_command words asks.command command asks.asked asked in
           refused command old name shard at store_failed status fault (subst (λ (c : Command). image_name c ≡ name) same asks.is_named) has is why
-      | inl (inr trace, untouched) ↦
+      | inl (inr (inl trace), untouched) ↦
           let same : asks.command ≡ command = one_command words asks.command command asks.asked asked in
           absurd (mapped_shard old (image_name command) name shard at (subst (λ (c : Command). image_name c ≡ name) same asks.is_named) trace.mapped has)
+      | inl (inr (inr replay), untouched) ↦
+          let same : asks.command ≡ command = one_command words asks.command command asks.asked asked in
+          absurd (no_maps command (subst Reads same asks.reads) replay.replays)
       | inr (image, text, made, why) ↦ absurd (none_made words command old left image text asked made name shard at asks has)
     ]

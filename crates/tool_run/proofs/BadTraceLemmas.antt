@@ -9,7 +9,7 @@ use Rattle.tool_run.specs.declared.fault.Fault.{Fault}
 use Rattle.tool_run.specs.declared.fault.Fault.TheVariants.{Memory, ReadFault, BadLine, TooLong}
 use Rattle.tool_run.specs.Examples.{one_command}
 use Rattle.tool_run.specs.Inside.{Refuses, IsTraceFault, IsCarriedOut, IsStopped, status_of}
-use Rattle.tool_run.specs.Making.{Options, Makes, HasTrace, longest_trace}
+use Rattle.tool_run.specs.Making.{Options, Makes, ReplaysASchedule, HasTrace, longest_trace}
 use Rattle.tool_run.specs.Outcome.{AsksForRun, HoldsMaps, HoldsBadLine, HoldsTooMuch}
 use Rattle.tool_run.specs.Status.{out_of_memory, read_fault, bad_trace}
 use Rattle.tool_run.proofs.CompleteLemmas.{refused}
@@ -73,7 +73,8 @@ module _ (words : List (List ℕ)) (command : Command) (old new : Contents) (lef
       let same : command ≡ run_image name asks.options = one_command words command (run_image name asks.options) asked asks.asked in
       elim stopped.cause as (λ _. IsRefusal status) [
         | inl (inl why, untouched) ↦ by_image old name asks.options store_failed status fault has is (subst (λ (c : Command). Refuses c old store_failed fault) same why)
-        | inl (inr trace, untouched) ↦ by_trace left source_failed status fault is trace.why
+        | inl (inr (inl trace), untouched) ↦ by_trace left source_failed status fault is trace.why
+        | inl (inr (inr replay), untouched) ↦ absurd (subst ReplaysASchedule same replay.replays)
         | inr (image, text, made, why) ↦
             absurd (not_made old name asks.options left image text unfit (subst (λ (c : Command). Makes c old left image text) same made))
       ]

@@ -5,9 +5,9 @@ use Rattle.tool_ports.specs.Contents.{Contents}
 use Rattle.tool_ports.specs.Calls.{with_get, with_put}
 use Rattle.tool_ports.specs.declared.store_calls.StoreCalls.{StoreCalls}
 use Rattle.tool_run.specs.Calls.{get_limit, with_making, with_putting, with_command, with_status}
-use Rattle.tool_run.specs.Command.{Command, format_image, show_image, drain_image, gen_trace, run_image, rebuild_image, image_name}
+use Rattle.tool_run.specs.Command.{Command, format_image, show_image, drain_image, gen_trace, run_image, rebuild_image, replay_image, image_name}
 use Rattle.tool_run.specs.declared.fault.Fault.{Fault}
-use Rattle.tool_run.specs.declared.fault.Fault.TheVariants.{Usage, Memory, ReadFault, WriteFault, Absent, Malformed, Outside, BadShard, BadLine, TooLong}
+use Rattle.tool_run.specs.declared.fault.Fault.TheVariants.{Usage, Memory, ReadFault, WriteFault, Absent, Malformed, Outside, BadShard, BadLine, BadStep, TooLong}
 use Rattle.tool_run.specs.Inside.{DeliveryFails, IsStopped, Refuses, RefusesEither, status_of}
 use Rattle.tool_run.specs.Making.{Makes, Gets, PutsBack}
 use Rattle.tool_run.specs.Outcome.{IsCutOff, while_putting, while_printing}
@@ -34,6 +34,7 @@ wider_failure name text old new A A' B taken taken' image to (Malformed cause) h
 wider_failure name text old new A A' B taken taken' image to (Outside at value) h = h
 wider_failure name text old new A A' B taken taken' image to (BadShard shard at) h = h
 wider_failure name text old new A A' B taken taken' image to (BadLine line) h = h
+wider_failure name text old new A A' B taken taken' image to (BadStep line) h = h
 wider_failure name text old new A A' B taken taken' image to TooLong h = h
 
 pub stops_at_delivery : (command : Command) (name text : List ℕ) (image : Option (List ℕ)) (old mid new : Contents) (left : Option (List ℕ)) (first second third : ℕ) (read_failed print_failed : Type 0) (taken taken' : Option (List ℕ)) (fault : Fault)
@@ -70,7 +71,8 @@ refuses command name contents get_failed fault cause is gets named why =
 pub calls_refused : (command : Command) (contents : Contents) (left : Option (List ℕ)) (A B : Type 0) (before : StoreCalls) (fault : Fault) → RefusesEither command contents left A B fault
     → with_making command before ≡ with_status command (status_of fault) before
 calls_refused command contents left A B before WriteFault (inl why) = absurd why
-calls_refused command contents left A B before WriteFault (inr trace) = absurd trace.why
+calls_refused command contents left A B before WriteFault (inr (inl trace)) = absurd trace.why
+calls_refused command contents left A B before WriteFault (inr (inr replay)) = absurd replay.why
 calls_refused command contents left A B before fault why = refl
 
 -- another error is another result
@@ -86,6 +88,7 @@ putting_made (drain_image image class) contents left put text before made = ap (
 putting_made (gen_trace requests seed) contents left put text before made = ap (λ p. with_putting p before) made.0
 putting_made (run_image image options) contents left put text before made = ap (λ p. with_putting p (with_get get_limit before)) made.put_is
 putting_made (rebuild_image image budget seed) contents left put text before made = ap (λ p. with_putting p (with_get get_limit before)) made.put_is
+putting_made (replay_image image seed) contents left put text before made = ap (λ p. with_putting p (with_get get_limit before)) made.0
 
 -- a command that puts an image back gets once, and puts once where it is carried out
 pub put_back : (command : Command) (before : StoreCalls) → PutsBack command
@@ -96,6 +99,7 @@ put_back (drain_image image class) before puts = absurd puts
 put_back (gen_trace requests seed) before puts = absurd puts
 put_back (run_image image options) before puts = (refl, refl)
 put_back (rebuild_image image budget seed) before puts = (refl, refl)
+put_back (replay_image image seed) before puts = absurd puts
 
 module _ (command : Command) (contents : Contents) (left image : Option (List ℕ)) (text : List ℕ) (before mid after : StoreCalls) (made : Makes command contents left image text)
     (first : mid ≡ with_making command before) where
@@ -121,6 +125,7 @@ module _ (command : Command) (contents : Contents) (left image : Option (List �
   calls_undelivered name old new A B taken taken' (Err (Outside at value)) why put not_put = absurd why
   calls_undelivered name old new A B taken taken' (Err (BadShard shard at)) why put not_put = absurd why
   calls_undelivered name old new A B taken taken' (Err (BadLine line)) why put not_put = absurd why
+  calls_undelivered name old new A B taken taken' (Err (BadStep line)) why put not_put = absurd why
   calls_undelivered name old new A B taken taken' (Err TooLong) why put not_put = absurd why
 
 -- what was refused by its image was refused

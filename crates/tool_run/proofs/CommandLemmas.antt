@@ -8,12 +8,12 @@ use Rattle.clap.specs.declared.parser.matches.Found.{Found}
 use Rattle.clap.proofs.WalkLemmas.{one_text-rows, first_value-rows}
 use Rattle.heap_model.specs.Geometry.{largest_capacity}
 use Rattle.heap_model.specs.Sizes.{IsClass}
-use Rattle.tool_run.specs.Command.{format_image, show_image, drain_image, gen_trace, run_image, rebuild_image, AsksToFormat, AsksToShow, AsksToDrain, AsksToGen, AsksToRun, AsksToRebuild, IsUsage}
+use Rattle.tool_run.specs.Command.{format_image, show_image, drain_image, gen_trace, run_image, rebuild_image, replay_image, AsksToFormat, AsksToShow, AsksToDrain, AsksToGen, AsksToRun, AsksToRebuild, AsksToReplay, IsUsage}
 use Rattle.tool_run.specs.declared.trace_plan.TheConstants.{MOST_REQUESTS, GREATEST_SEED}
 use Rattle.image_run.specs.Running.{Options}
 use Rattle.image_run.specs.declared.options.TheConstants.{MOST_WORKERS, MOST_BUDGET}
 use Rattle.tool_run.specs.Examples.{first_word, letters}
-use Rattle.tool_run.specs.CommandLine.{format_app, show_app, drain_app, gen_app, run_app, rebuild_app, image_id, capacity_id, class_id, map_id, requests_id, trace_seed_id, workers_id, stop_id, seed_id, sum_id, HasNumberOr, IsTaken, IsMatchedBy, HasNumber, HasFlag}
+use Rattle.tool_run.specs.CommandLine.{format_app, show_app, drain_app, gen_app, run_app, rebuild_app, replay_app, image_id, capacity_id, class_id, map_id, requests_id, trace_seed_id, workers_id, stop_id, seed_id, sum_id, HasNumberOr, IsTaken, IsMatchedBy, HasNumber, HasFlag}
 
 -- what holds where there is none
 pub if_none : {T P : Type 0} (result : Option T) → result ≡ None → IfNone result P → P
@@ -149,6 +149,15 @@ module _ (app : App) (words : List (List ℕ)) (m : ArgMatches) (taken : IsMatch
     fits = fits;
   }
 
+  pub asks_replay : app ≡ replay_app → slice_get words 0 ≡ Some (codes "replay") → (image : List ℕ) (seed : ℕ)
+      → Some image ≡ first_of image_id (rows_of (found_of m)) → HasNumberOr (rows_of (found_of m)) seed_id 0 seed → seed < 2 ^ 64 → AsksToReplay words image seed
+  asks_replay is first image seed named seeded fits = record {
+    taken = is_taken replay_app is first;
+    named = rw (← rows_taken replay_app is) (sym named);
+    seeded = rw (← rows_taken replay_app is) seeded;
+    fits = fits;
+  }
+
   -- without the image's name nothing is asked for
   pub no_image_given : (wanted : App) → app ≡ wanted → (image : List ℕ) → None ≡ first_of image_id (rows_of (found_of m))
       → first_of image_id (matches_of wanted words) ≡ Some image → ⊥
@@ -206,15 +215,21 @@ pub usage_rebuild : (words : List (List ℕ)) → slice_get words 0 ≡ Some (co
 usage_rebuild words first none (rebuild_image image budget seed) asks = none image budget seed asks
 usage_rebuild words first none other asks = other_name words _ _ first (first_word words other asks) (λ e. omega (arith, first_letters _ _ e))
 
+pub usage_replay : (words : List (List ℕ)) → slice_get words 0 ≡ Some (codes "replay")
+    → ((image : List ℕ) (seed : ℕ) → AsksToReplay words image seed → ⊥) → IsUsage words
+usage_replay words first none (replay_image image seed) asks = none image seed asks
+usage_replay words first none other asks = other_name words _ _ first (first_word words other asks) (λ e. omega (arith, first_letters _ _ e))
+
 -- a word that names no command asks for none
 pub usage_other : (words : List (List ℕ)) (word : List ℕ) → slice_get words 0 ≡ Some word
-    → (word ≡ codes "format" → ⊥) → (word ≡ codes "show" → ⊥) → (word ≡ codes "drain" → ⊥) → (word ≡ codes "gen" → ⊥) → (word ≡ codes "run" → ⊥) → (word ≡ codes "rebuild" → ⊥) → IsUsage words
-usage_other words word first format show drain gen run rebuild (format_image image n) asks = other_name words _ _ first asks.taken.named format
-usage_other words word first format show drain gen run rebuild (show_image image flag) asks = other_name words _ _ first asks.taken.named show
-usage_other words word first format show drain gen run rebuild (drain_image image n) asks = other_name words _ _ first asks.taken.named drain
-usage_other words word first format show drain gen run rebuild (gen_trace requests seed) asks = other_name words _ _ first asks.taken.named gen
-usage_other words word first format show drain gen run rebuild (run_image image options) asks = other_name words _ _ first asks.taken.named run
-usage_other words word first format show drain gen run rebuild (rebuild_image image budget seed) asks = other_name words _ _ first asks.taken.named rebuild
+    → (word ≡ codes "format" → ⊥) → (word ≡ codes "show" → ⊥) → (word ≡ codes "drain" → ⊥) → (word ≡ codes "gen" → ⊥) → (word ≡ codes "run" → ⊥) → (word ≡ codes "rebuild" → ⊥) → (word ≡ codes "replay" → ⊥) → IsUsage words
+usage_other words word first format show drain gen run rebuild replay (format_image image n) asks = other_name words _ _ first asks.taken.named format
+usage_other words word first format show drain gen run rebuild replay (show_image image flag) asks = other_name words _ _ first asks.taken.named show
+usage_other words word first format show drain gen run rebuild replay (drain_image image n) asks = other_name words _ _ first asks.taken.named drain
+usage_other words word first format show drain gen run rebuild replay (gen_trace requests seed) asks = other_name words _ _ first asks.taken.named gen
+usage_other words word first format show drain gen run rebuild replay (run_image image options) asks = other_name words _ _ first asks.taken.named run
+usage_other words word first format show drain gen run rebuild replay (rebuild_image image budget seed) asks = other_name words _ _ first asks.taken.named rebuild
+usage_other words word first format show drain gen run rebuild replay (replay_image image seed) asks = other_name words _ _ first asks.taken.named replay
 
 no_name : (words : List (List ℕ)) (name : List ℕ) → words ≡ [] → slice_get words 0 ≡ Some name → ⊥
 no_name words name none first =

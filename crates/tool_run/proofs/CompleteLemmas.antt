@@ -4,16 +4,18 @@ use Rattle.tool_ports.specs.Contents.{Contents}
 use Rattle.heap_model.specs.Image.{image_of_bytes}
 use Rattle.dict_model.specs.Shards.{LeadsAlone, BadShard as IsBadShard}
 use Rattle.dict_model.proofs.ShardLemmas.{no_bad_place, alone_once}
-use Rattle.tool_run.specs.Command.{Command, format_image, show_image, drain_image, gen_trace, run_image, rebuild_image, image_name, Asks}
+use Rattle.tool_run.specs.Command.{Command, format_image, show_image, drain_image, gen_trace, run_image, rebuild_image, replay_image, image_name, Asks}
 use Rattle.tool_run.specs.declared.fault.Fault.{Fault}
-use Rattle.tool_run.specs.declared.fault.Fault.TheVariants.{Usage, Memory, ReadFault, WriteFault, Absent, Malformed, Outside, BadShard, BadLine, TooLong}
+use Rattle.tool_run.specs.declared.fault.Fault.TheVariants.{Usage, Memory, ReadFault, WriteFault, Absent, Malformed, Outside, BadShard, BadLine, BadStep, TooLong}
 use Rattle.tool_run.specs.Examples.{one_command}
-use Rattle.tool_run.specs.Inside.{Refuses, IsTraceFault, DeliveryFails, IsStopped, status_of}
-use Rattle.tool_run.specs.Making.{Gets, Reads, RunsATrace, PointsOutside, fault_of, longest_trace}
-use Rattle.tool_run.specs.Outcome.{HoldsGood, HoldsMaps, HoldsTrace, CanBeDone, IsCutOff, while_putting, while_printing}
+use Rattle.tool_run.specs.Inside.{Refuses, IsTraceFault, IsReplayFault, DeliveryFails, IsStopped, status_of}
+use Rattle.tool_run.specs.Making.{Gets, Reads, RunsATrace, ReplaysASchedule, ReadsSource, PointsOutside, fault_of, longest_trace}
+use Rattle.tool_run.specs.Outcome.{HoldsGood, HoldsMaps, HoldsTrace, HoldsReplay, CanBeDone, IsCutOff, while_putting, while_printing}
 use Rattle.tool_run.specs.Status.{done, out_of_memory}
 use Rattle.trace_text.specs.Trace.{lines_of, AreLines}
+use Rattle.trace_text.specs.Schedule.{IsSchedule}
 use Rattle.trace_text.proofs.ReadingLemmas.{read_or_outside}
+use Rattle.trace_text.proofs.ScheduleLemmas.{schedule_or_bad}
 use Rattle.tool_run.proofs.OutsideLemmas.{of_told, same_bytes}
 use Rattle.tool_run.proofs.TraceLemmas.{of_left}
 
@@ -24,6 +26,7 @@ good_of (show_image image with_map) contents left gets can = record { bytes = ca
 good_of (drain_image image class) contents left gets can = can
 good_of (gen_trace requests seed) contents left gets can = absurd gets
 good_of (rebuild_image image budget seed) contents left gets can = can
+good_of (replay_image image seed) contents left gets can = can.image
 good_of (run_image image options) contents left gets can = record { bytes = can.0.bytes; held = can.0.held; good = can.0.good; inside = can.0.inside }
 
 maps_of : (command : Command) (contents : Contents) (left : Option (List ℕ)) → Reads command → CanBeDone command contents left → HoldsMaps contents (image_name command)
@@ -33,6 +36,7 @@ maps_of (drain_image image class) contents left reads can = absurd reads
 maps_of (gen_trace requests seed) contents left reads can = absurd reads
 maps_of (run_image image options) contents left reads can = can.0
 maps_of (rebuild_image image budget seed) contents left reads can = absurd reads
+maps_of (replay_image image seed) contents left reads can = absurd reads
 
 trace_of : (command : Command) (contents : Contents) (left : Option (List ℕ)) → RunsATrace command → CanBeDone command contents left → HoldsTrace left
 trace_of (format_image image capacity) contents left runs can = absurd runs
@@ -41,6 +45,16 @@ trace_of (drain_image image class) contents left runs can = absurd runs
 trace_of (gen_trace requests seed) contents left runs can = absurd runs
 trace_of (run_image image options) contents left runs can = can.1
 trace_of (rebuild_image image budget seed) contents left runs can = absurd runs
+trace_of (replay_image image seed) contents left runs can = absurd runs
+
+replay_of : (command : Command) (contents : Contents) (left : Option (List ℕ)) → ReplaysASchedule command → CanBeDone command contents left → HoldsReplay contents (image_name command) left
+replay_of (format_image image capacity) contents left replays can = absurd replays
+replay_of (show_image image with_map) contents left replays can = absurd replays
+replay_of (drain_image image class) contents left replays can = absurd replays
+replay_of (gen_trace requests seed) contents left replays can = absurd replays
+replay_of (run_image image options) contents left replays can = absurd replays
+replay_of (rebuild_image image budget seed) contents left replays can = absurd replays
+replay_of (replay_image image seed) contents left replays can = can
 
 -- the trace is not refused
 trace_good : (left : Option (List ℕ)) (read_failed : Type 0) (status : ℕ) (fault : Fault) → HoldsTrace left → (read_failed → ⊥) → status ≡ status_of fault → IsTraceFault left read_failed fault
@@ -60,6 +74,27 @@ trace_good left read_failed status Absent has reads is why = absurd why
 trace_good left read_failed status (Malformed cause) has reads is why = absurd why
 trace_good left read_failed status (Outside at value) has reads is why = absurd why
 trace_good left read_failed status (BadShard shard at) has reads is why = absurd why
+trace_good left read_failed status (BadStep line) has reads is why = absurd why
+
+-- nor is the schedule, and its replay leaves nothing outside
+replay_good : (contents : Contents) (left : Option (List ℕ)) (name : List ℕ) (read_failed : Type 0) (status : ℕ) (fault : Fault) → HoldsReplay contents name left → (read_failed → ⊥) → status ≡ status_of fault
+    → IsReplayFault contents left name read_failed fault → (status ≡ done) ⊎ (status ≡ out_of_memory)
+replay_good contents left name read_failed status Memory has reads is why = inr is
+replay_good contents left name read_failed status ReadFault has reads is why = absurd (reads why)
+replay_good contents left name read_failed status (Outside at value) has reads is why = absurd (has.inside at value why)
+replay_good contents left name read_failed status (BadStep line) has reads is why =
+    let same : has.schedule.text ≡ why.text = of_left (λ all. all ≡ why.text) left has.schedule.text has.schedule.all why.has_text.all in
+    absurd (schedule_or_bad why.text has.schedule.schedule line (subst (λ (l : List ℕ). IsSchedule l has.schedule.schedule) same has.schedule.is) why.first)
+replay_good contents left name read_failed status TooLong has reads is why =
+    let more = of_left (λ all. longest_trace < length all) left has.schedule.text has.schedule.all why in
+    let short = has.schedule.short in
+    absurd (omega arith)
+replay_good contents left name read_failed status Usage has reads is why = absurd why
+replay_good contents left name read_failed status WriteFault has reads is why = absurd why
+replay_good contents left name read_failed status Absent has reads is why = absurd why
+replay_good contents left name read_failed status (Malformed cause) has reads is why = absurd why
+replay_good contents left name read_failed status (BadShard shard at) has reads is why = absurd why
+replay_good contents left name read_failed status (BadLine line) has reads is why = absurd why
 
 module _ (command : Command) (contents : Contents) (left : Option (List ℕ)) (get_failed : Type 0) (status : ℕ) (can : CanBeDone command contents left) (works : get_failed → ⊥) where
   pub refused : (fault : Fault) → status ≡ status_of fault → Refuses command contents get_failed fault → (status ≡ done) ⊎ (status ≡ out_of_memory)
@@ -88,6 +123,7 @@ module _ (command : Command) (contents : Contents) (left : Option (List ℕ)) (g
       absurd (no_bad_place (LeadsAlone (image_of_bytes has.bytes) shard) (alone_once (image_of_bytes has.bytes) shard) (image_of_bytes has.bytes) shard map.0 at map.1
       (subst (λ (l : List ℕ). IsBadShard (image_of_bytes l) shard at) same why.1.lowest.bad))
   refused (BadLine line) is why = absurd why
+  refused (BadStep line) is why = absurd why
   refused TooLong is why = absurd why
 
 cut_off : (P : Type 0) (name : List ℕ) (image : Option (List ℕ)) (text : List ℕ) (old new : Contents) (store_failed sink_failed : Type 0) (taken taken' : Option (List ℕ))
@@ -108,17 +144,20 @@ undelivered name image text old new store_failed sink_failed taken taken' status
 undelivered name image text old new store_failed sink_failed taken taken' status (Outside at value) store sink is why = absurd why
 undelivered name image text old new store_failed sink_failed taken taken' status (BadShard shard at) store sink is why = absurd why
 undelivered name image text old new store_failed sink_failed taken taken' status (BadLine line) store sink is why = absurd why
+undelivered name image text old new store_failed sink_failed taken taken' status (BadStep line) store sink is why = absurd why
 undelivered name image text old new store_failed sink_failed taken taken' status TooLong store sink is why = absurd why
 
 pub stops_complete : (words : List (List ℕ)) (command : Command) (old new : Contents) (left : Option (List ℕ)) (store_failed source_failed sink_failed : Type 0) (taken taken' : Option (List ℕ)) (status : ℕ) (fault : Fault)
     → Asks words command → IsStopped command old new left store_failed source_failed sink_failed taken taken' fault → status ≡ status_of fault
-    → (other : Command) → Asks words other → CanBeDone other old left → (store_failed → ⊥) → (RunsATrace other → source_failed → ⊥) → (sink_failed → ⊥) → (status ≡ done) ⊎ (status ≡ out_of_memory)
+    → (other : Command) → Asks words other → CanBeDone other old left → (store_failed → ⊥) → (ReadsSource other → source_failed → ⊥) → (sink_failed → ⊥) → (status ≡ done) ⊎ (status ≡ out_of_memory)
 stops_complete words command old new left store_failed source_failed sink_failed taken taken' status fault asked stopped is other asks can store source sink =
     let same : other ≡ command = one_command words other command asks asked in
     let here : CanBeDone command old left = subst (λ (c : Command). CanBeDone c old left) same can in
     elim stopped.cause as (λ _. (status ≡ done) ⊎ (status ≡ out_of_memory)) [
       | inl (inl why, untouched) ↦ refused command old left store_failed status here store fault is why
-      | inl (inr trace, untouched) ↦
-          trace_good left source_failed status fault (trace_of command old left trace.runs here) (source (subst RunsATrace (sym same) trace.runs)) is trace.why
+      | inl (inr (inl trace), untouched) ↦
+          trace_good left source_failed status fault (trace_of command old left trace.runs here) (source (subst ReadsSource (sym same) (inl trace.runs))) is trace.why
+      | inl (inr (inr replay), untouched) ↦
+          replay_good old left (image_name command) source_failed status fault (replay_of command old left replay.replays here) (source (subst ReadsSource (sym same) (inr replay.replays))) is replay.why
       | inr (image, text, made, why) ↦ undelivered (image_name command) image text old new store_failed sink_failed taken taken' status fault store sink is why
     ]

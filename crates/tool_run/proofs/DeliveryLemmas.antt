@@ -3,7 +3,7 @@ use Rattle.std.proofs.Common.{◌≡◌, ℕ, List, Option, Result, Ok, Err, IfE
 use Rattle.tool_ports.specs.Contents.{Contents}
 use Rattle.tool_ports.specs.Taken.{TakesPart}
 use Rattle.tool_run.specs.declared.fault.Fault.{Fault}
-use Rattle.tool_run.specs.declared.fault.Fault.TheVariants.{Usage, Memory, ReadFault, WriteFault, Absent, Malformed, Outside, BadShard, BadLine, TooLong}
+use Rattle.tool_run.specs.declared.fault.Fault.TheVariants.{Usage, Memory, ReadFault, WriteFault, Absent, Malformed, Outside, BadShard, BadLine, BadStep, TooLong}
 use Rattle.tool_run.specs.Inside.{PutFails, DeliveryFails}
 use Rattle.tool_run.specs.Outcome.{Puts, while_putting, while_printing}
 
@@ -20,6 +20,7 @@ not_put_at name image text old new put_failed print_failed taken (Malformed caus
 not_put_at name image text old new put_failed print_failed taken (Outside at value) h = h
 not_put_at name image text old new put_failed print_failed taken (BadShard shard at) h = h
 not_put_at name image text old new put_failed print_failed taken (BadLine line) h = h
+not_put_at name image text old new put_failed print_failed taken (BadStep line) h = h
 not_put_at name image text old new put_failed print_failed taken TooLong h = h
 
 pub not_put : (name : List ℕ) (image : Option (List ℕ)) (text : List ℕ) (old new : Contents) (put_failed print_failed : Type 0) (taken : Option (List ℕ)) (fault cause : Fault)

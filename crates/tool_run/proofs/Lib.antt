@@ -18,3 +18,5 @@ pub mod TraceLemmas
 pub mod BadTraceLemmas
 pub mod AbsentLemmas
 pub mod RebuildLemmas
+pub mod ReplayLemmas
+pub mod BadScheduleLemmas

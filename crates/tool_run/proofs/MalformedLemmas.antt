@@ -2,12 +2,12 @@
 use Rattle.std.proofs.Common.{◌≡◌, ◌⊎◌, ℕ, List, Option, Some, None, inl, inr, subst}
 use Rattle.tool_ports.specs.Contents.{Contents}
 use Rattle.heap_model.specs.declared.header.BadHeader.{BadHeader}
-use Rattle.tool_run.specs.Command.{Command, format_image, show_image, drain_image, gen_trace, run_image, rebuild_image, image_name, Asks}
+use Rattle.tool_run.specs.Command.{Command, format_image, show_image, drain_image, gen_trace, run_image, rebuild_image, replay_image, image_name, Asks}
 use Rattle.tool_run.specs.declared.fault.Fault.{Fault}
-use Rattle.tool_run.specs.declared.fault.Fault.TheVariants.{Usage, Memory, ReadFault, WriteFault, Absent, Malformed, Outside, BadShard, BadLine, TooLong}
+use Rattle.tool_run.specs.declared.fault.Fault.TheVariants.{Usage, Memory, ReadFault, WriteFault, Absent, Malformed, Outside, BadShard, BadLine, BadStep, TooLong}
 use Rattle.tool_run.specs.Examples.{one_command}
-use Rattle.tool_run.specs.Inside.{Refuses, IsStopped, status_of}
-use Rattle.tool_run.specs.Making.{Makes, Gets, HasMapped, fault_of}
+use Rattle.tool_run.specs.Inside.{Refuses, IsCarriedOut, IsStopped, status_of}
+use Rattle.tool_run.specs.Making.{Makes, Gets, HasMapped, HasGood, fault_of}
 use Rattle.tool_run.specs.Outcome.{AsksToGet, HoldsMalformed}
 use Rattle.tool_run.specs.Status.{out_of_memory, read_fault, bad_header}
 use Rattle.tool_run.proofs.OutsideLemmas.{of_told, same_bytes}
@@ -23,6 +23,11 @@ mapped_good : (contents : Contents) (n name : List ℕ) → n ≡ name → HasMa
 mapped_good contents n name named mapped has =
     both_headers mapped.bytes has.bytes has.cause (same_bytes contents n name mapped.bytes has.bytes named mapped.is_there has.held) mapped.good has.fault
 
+-- and so has one that can be recovered
+recoverable_good : (contents : Contents) (n name : List ℕ) → n ≡ name → HasGood contents n → HoldsMalformed contents name → ⊥
+recoverable_good contents n name named image has =
+    both_headers image.bytes has.bytes has.cause (same_bytes contents n name image.bytes has.bytes named image.is_there has.held) image.good has.fault
+
 -- nothing is made then
 not_made : (command : Command) (contents : Contents) (name : List ℕ) (left image : Option (List ℕ)) (text : List ℕ)
     → Gets command → image_name command ≡ name → HoldsMalformed contents name → Makes command contents left image text → ⊥
@@ -31,6 +36,7 @@ not_made (gen_trace requests seed) contents name left image text gets named has 
 not_made (rebuild_image n budget seed) contents name left image text gets named has made =
     both_headers made.bytes has.bytes has.cause (same_bytes contents n name made.bytes has.bytes named made.is_there has.held) made.good has.fault
 not_made (run_image n options) contents name left image text gets named has made = mapped_good contents n name named made.mapped has
+not_made (replay_image n seed) contents name left image text gets named has made = recoverable_good contents n name named made.1.heap.image has
 not_made (show_image n with_map) contents name left image text gets named has made =
     both_headers made.1.bytes has.bytes has.cause (same_bytes contents n name made.1.bytes has.bytes named made.1.is_there has.held) made.1.good has.fault
 not_made (drain_image n class) contents name left image text gets named has made =
@@ -49,6 +55,7 @@ refused command contents name get_failed status Absent named has is why =
     absurd (cc)
 refused command contents name get_failed status (Malformed cause) named has is why = inl is
 refused command contents name get_failed status (BadLine line) named has is why = absurd why
+refused command contents name get_failed status (BadStep line) named has is why = absurd why
 refused command contents name get_failed status TooLong named has is why = absurd why
 refused command contents name get_failed status (BadShard shard place) named has is why =
     both_headers why.1.bytes has.bytes has.cause (same_bytes contents (image_name command) name why.1.bytes has.bytes named why.1.is_there has.held) why.1.good has.fault
@@ -65,6 +72,14 @@ stops_malformed words command old new left store_failed source_failed sink_faile
     let named : image_name command ≡ name = subst (λ (c : Command). image_name c ≡ name) same asks.is_named in
     elim stopped.cause as (λ _. (status ≡ bad_header) ⊎ (status ≡ out_of_memory) ⊎ (status ≡ read_fault)) [
       | inl (inl why, untouched) ↦ refused command old name store_failed status fault named has is why
-      | inl (inr trace, untouched) ↦ absurd (mapped_good old (image_name command) name named trace.mapped has)
+      | inl (inr (inl trace), untouched) ↦ absurd (mapped_good old (image_name command) name named trace.mapped has)
+      | inl (inr (inr replay), untouched) ↦ absurd (recoverable_good old (image_name command) name named replay.image has)
       | inr (image, text, made, why) ↦ absurd (not_made command old name left image text (subst Gets same asks.gets) named has made)
     ]
+
+-- so it is not done
+pub not_done_malformed : (words : List (List ℕ)) (command : Command) (old new : Contents) (left taken taken' : Option (List ℕ)) (status : ℕ) → Asks words command → IsCarriedOut command old new left taken taken'
+    → (name : List ℕ) → AsksToGet words name → HoldsMalformed old name → (status ≡ bad_header) ⊎ (status ≡ out_of_memory) ⊎ (status ≡ read_fault)
+not_done_malformed words command old new left taken taken' status asked done name asks has =
+    let same : asks.command ≡ command = one_command words asks.command command asks.asked asked in
+    absurd (not_made command old name left done.image done.text (subst Gets same asks.gets) (subst (λ (c : Command). image_name c ≡ name) same asks.is_named) has done.made)

@@ -2,12 +2,12 @@
 use Rattle.std.proofs.Common.{◌≡◌, ◌⊎◌, ℕ, List, Option, Some, None, IfSome, inl, inr, sym, subst}
 use Rattle.tool_ports.specs.Contents.{Contents, Holds, told_of}
 use Rattle.heap_model.specs.Image.{image_of_bytes}
-use Rattle.tool_run.specs.Command.{Command, format_image, show_image, drain_image, gen_trace, run_image, rebuild_image, image_name, Asks}
+use Rattle.tool_run.specs.Command.{Command, format_image, show_image, drain_image, gen_trace, run_image, rebuild_image, replay_image, image_name, Asks}
 use Rattle.tool_run.specs.declared.fault.Fault.{Fault}
-use Rattle.tool_run.specs.declared.fault.Fault.TheVariants.{Usage, Memory, ReadFault, WriteFault, Absent, Malformed, Outside, BadShard, BadLine, TooLong}
+use Rattle.tool_run.specs.declared.fault.Fault.TheVariants.{Usage, Memory, ReadFault, WriteFault, Absent, Malformed, Outside, BadShard, BadLine, BadStep, TooLong}
 use Rattle.tool_run.specs.Examples.{one_command}
 use Rattle.tool_run.specs.Inside.{Refuses, IsCarriedOut, IsStopped, status_of}
-use Rattle.tool_run.specs.Making.{Makes, Gets, HasMapped, PointsOutside, fault_of}
+use Rattle.tool_run.specs.Making.{Makes, Gets, HasMapped, HasGood, PointsOutside, fault_of}
 use Rattle.tool_run.specs.Outcome.{AsksToGet, HoldsOutside}
 use Rattle.tool_run.specs.Status.{out_of_memory, read_fault, outside}
 
@@ -27,6 +27,12 @@ mapped_inside contents n name at named mapped has =
     let same : mapped.bytes ≡ has.bytes = same_bytes contents n name mapped.bytes has.bytes named mapped.is_there has.held in
     mapped.inside at (subst (λ (l : List ℕ). PointsOutside (image_of_bytes l) at) (sym same) has.points)
 
+-- nor has one that can be recovered
+good_inside : (contents : Contents) (n name : List ℕ) (at : ℕ) → n ≡ name → HasGood contents n → HoldsOutside contents name at → ⊥
+good_inside contents n name at named image has =
+    let same : image.bytes ≡ has.bytes = same_bytes contents n name image.bytes has.bytes named image.is_there has.held in
+    image.inside at (subst (λ (l : List ℕ). PointsOutside (image_of_bytes l) at) (sym same) has.points)
+
 -- nothing is made then
 not_made : (command : Command) (contents : Contents) (name : List ℕ) (at : ℕ) (left image : Option (List ℕ)) (text : List ℕ)
     → Gets command → image_name command ≡ name → HoldsOutside contents name at → Makes command contents left image text → ⊥
@@ -36,6 +42,7 @@ not_made (run_image n options) contents name at left image text gets named has m
 not_made (rebuild_image n budget seed) contents name at left image text gets named has made =
     let same : made.bytes ≡ has.bytes = same_bytes contents n name made.bytes has.bytes named made.is_there has.held in
     made.inside at (subst (λ (l : List ℕ). PointsOutside (image_of_bytes l) at) (sym same) has.points)
+not_made (replay_image n seed) contents name at left image text gets named has made = good_inside contents n name at named made.1.heap.image has
 not_made (show_image n with_map) contents name at left image text gets named has made =
     let same : made.1.bytes ≡ has.bytes = same_bytes contents n name made.1.bytes has.bytes named made.1.is_there has.held in
     made.1.inside at (subst (λ (l : List ℕ). PointsOutside (image_of_bytes l) at) (sym same) has.points)
@@ -64,6 +71,7 @@ refused command contents name at get_failed status (BadShard shard place) named 
     absurd (why.1.inside at (subst (λ (l : List ℕ). PointsOutside (image_of_bytes l) at) (sym same) has.points))
 refused command contents name at get_failed status (Outside place value) named has is why = inl is
 refused command contents name at get_failed status (BadLine line) named has is why = absurd why
+refused command contents name at get_failed status (BadStep line) named has is why = absurd why
 refused command contents name at get_failed status TooLong named has is why = absurd why
 
 -- a command that gets such an image makes nothing
@@ -88,8 +96,11 @@ stops_outside words command old new left store_failed source_failed sink_failed 
       | inl (inl why, untouched) ↦
           let same : asks.command ≡ command = one_command words asks.command command asks.asked asked in
           refused command old name at store_failed status fault (subst (λ (c : Command). image_name c ≡ name) same asks.is_named) has is why
-      | inl (inr trace, untouched) ↦
+      | inl (inr (inl trace), untouched) ↦
           let same : asks.command ≡ command = one_command words asks.command command asks.asked asked in
           absurd (mapped_inside old (image_name command) name at (subst (λ (c : Command). image_name c ≡ name) same asks.is_named) trace.mapped has)
+      | inl (inr (inr replay), untouched) ↦
+          let same : asks.command ≡ command = one_command words asks.command command asks.asked asked in
+          absurd (good_inside old (image_name command) name at (subst (λ (c : Command). image_name c ≡ name) same asks.is_named) replay.image has)
       | inr (image, text, made, why) ↦ absurd (none_made words command old left image text asked made name at asks has)
     ]

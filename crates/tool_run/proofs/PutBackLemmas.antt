@@ -1,15 +1,17 @@
 -- The calls of a command whose image is put back, by the status that it ends with.
-use Rattle.std.proofs.Common.{◌≡◌, ◌⊎◌, ℕ, List, inl, inr, sym, ◌∙◌, subst, arith}
+use Rattle.std.proofs.Common.{◌≡◌, ◌≢◌, ◌⊎◌, ℕ, Bool, true, false, nat_eq, List, inl, inr, refl, ap, sym, ◌∙◌, subst, arith}
+use Rattle.std.specs.Prelude.{if◌then◌else◌}
+use Rattle.std.proofs.lemmas.Bool.{ne_eqb}
 use Rattle.tool_ports.specs.Calls.{with_get, with_put}
 use Rattle.tool_ports.specs.declared.store_calls.StoreCalls.{StoreCalls}
-use Rattle.tool_run.specs.Calls.{get_limit, with_command, with_status}
-use Rattle.tool_run.specs.Command.{Command, Asks}
+use Rattle.tool_run.specs.Calls.{get_limit, with_making, with_command, with_status}
+use Rattle.tool_run.specs.Command.{Command, format_image, show_image, drain_image, gen_trace, run_image, rebuild_image, replay_image, Asks}
 use Rattle.tool_run.specs.declared.fault.Fault.{Fault}
 use Rattle.tool_run.specs.declared.fault.Fault.TheVariants.{Memory}
 use Rattle.tool_run.specs.Examples.{one_command}
 use Rattle.tool_run.specs.Inside.{status_of}
-use Rattle.tool_run.specs.Making.{PutsBack}
-use Rattle.tool_run.specs.Outcome.{AsksToPutBack}
+use Rattle.tool_run.specs.Making.{Gets, PutsBack}
+use Rattle.tool_run.specs.Outcome.{AsksToLook, AsksToPutBack}
 use Rattle.tool_run.specs.Status.{done, write_fault}
 use Rattle.tool_run.proofs.CallLemmas.{put_back}
 
@@ -27,3 +29,34 @@ put_once words command before after status fault asked calls is name asks (inr c
     let same : asks.command ≡ command = one_command words asks.command command asks.asked asked in
     let written : after ≡ with_command command before = subst (λ n. after ≡ with_status command n before) (sym is ∙ cut) calls in
     written ∙ (put_back command before (subst PutsBack same asks.puts)).1
+
+-- a command that puts nothing back gets once, whatever it ends with
+look_once : (command : Command) (before : StoreCalls) → Gets command → ¬ (PutsBack command)
+    → (with_making command before ≡ with_get get_limit before) × (with_command command before ≡ with_get get_limit before)
+look_once (format_image image capacity) before gets none = absurd gets
+look_once (show_image image with_map) before gets none = (refl, refl)
+look_once (drain_image image class) before gets none = (refl, refl)
+look_once (gen_trace requests seed) before gets none = absurd gets
+look_once (run_image image options) before gets none = absurd (none tt)
+look_once (rebuild_image image budget seed) before gets none = absurd (none tt)
+look_once (replay_image image seed) before gets none = (refl, refl)
+
+either : {A : Type 0} (b : Bool) (x y z : A) → x ≡ z → y ≡ z → (if b then x else y) ≡ z
+either true x y z first second = first
+either false x y z first second = second
+
+pub looked_once : (words : List (List ℕ)) (command : Command) (before after : StoreCalls) (fault : Fault)
+    → Asks words command → after ≡ with_status command (status_of fault) before → (name : List ℕ) → AsksToLook words name → after ≡ with_get get_limit before
+looked_once words command before after fault asked calls name asks =
+    let same : asks.command ≡ command = one_command words asks.command command asks.asked asked in
+    let once = look_once command before (subst Gets same asks.gets) (subst (λ (c : Command). ¬ (PutsBack c)) same asks.puts_none) in
+    calls ∙ either (nat_eq (status_of fault) write_fault) _ _ _ once.1 once.0
+
+-- one whose image is put back got once alone, where its result was neither put nor cut off
+pub got_alone : (words : List (List ℕ)) (command : Command) (before after : StoreCalls) (status : ℕ) (fault : Fault)
+    → Asks words command → after ≡ with_status command (status_of fault) before → status ≡ status_of fault
+    → (name : List ℕ) → AsksToPutBack words name → status ≢ write_fault → after ≡ with_get get_limit before
+got_alone words command before after status fault asked calls is name asks whole =
+    let same : asks.command ≡ command = one_command words asks.command command asks.asked asked in
+    let not_cut : nat_eq (status_of fault) write_fault ≡ false = ne_eqb (status_of fault) write_fault (λ e. whole (is ∙ e)) in
+    calls ∙ ap (λ b. if b then with_command command before else with_making command before) not_cut ∙ (put_back command before (subst PutsBack same asks.puts)).0

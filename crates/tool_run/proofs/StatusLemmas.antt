@@ -1,16 +1,16 @@
 -- From why a command stopped, and the line that was printed then, to what its status says.
-use Rattle.std.proofs.Common.{◌≡◌, ℕ, ◌≤◌, List, Option, IfSome, Contains, inl, inr, refl, sym, subst, arith, lit<}
+use Rattle.std.proofs.Common.{◌≡◌, ◌⊎◌, ℕ, zero, suc, ◌<◌, ◌≤◌, List, [], ◌∷◌, get_or, Option, IfSome, Contains, inl, inr, refl, sym, subst, arith, lit<}
 use Rattle.tool_ports.specs.Causes.{Rose}
 use Rattle.tool_ports.specs.Contents.{Contents}
 use Rattle.tool_ports.specs.Taken.{TakesPart}
-use Rattle.tool_run.specs.Command.{Command, format_image, show_image, drain_image, gen_trace, run_image, rebuild_image, image_name, Asks}
+use Rattle.tool_run.specs.Command.{Command, format_image, show_image, drain_image, gen_trace, run_image, rebuild_image, replay_image, image_name, Asks}
 use Rattle.tool_run.specs.declared.fault.Fault.{Fault}
-use Rattle.tool_run.specs.declared.fault.Fault.TheVariants.{Usage, Memory, ReadFault, WriteFault, Absent, Malformed, Outside, BadShard, BadLine, TooLong}
-use Rattle.tool_run.specs.Inside.{IsStopped, status_of, line_of}
+use Rattle.tool_run.specs.declared.fault.Fault.TheVariants.{Usage, Memory, ReadFault, WriteFault, Absent, Malformed, Outside, BadShard, BadLine, BadStep, TooLong}
+use Rattle.tool_run.specs.Inside.{IsStopped, IsBeforeReading, status_of, line_of}
 use Rattle.tool_run.specs.Lines.{Tells}
-use Rattle.tool_run.specs.Making.{RunsATrace}
-use Rattle.tool_run.specs.Outcome.{AsksForRun, IsReadFault, at_image, at_trace, IsWriteFault, IsAbsent, IsBadHeader, IsOutsideAt, IsBadShardAt, IsBadTrace, at_line, too_long}
-use Rattle.tool_run.specs.Status.{statuses, own_line, read_fault, write_fault, no_image, bad_header, outside, bad_shard, bad_trace}
+use Rattle.tool_run.specs.Making.{RunsATrace, ReplaysASchedule, ReadsSource}
+use Rattle.tool_run.specs.Outcome.{AsksForRun, AsksForReplay, AsksForSource, IsReadFault, at_image, at_trace, at_schedule, IsWriteFault, IsAbsent, IsBadHeader, IsOutsideAt, in_image, in_image_left, IsBadShardAt, IsBadTrace, at_line, too_long, at_step, schedule_too_long}
+use Rattle.tool_run.specs.Status.{statuses, own_line, IsBeforeTrace, usage, read_fault, write_fault, no_image, bad_header, outside, bad_shard, bad_trace}
 use Rattle.tool_run.proofs.CallLemmas.{rose_since}
 
 -- a fault has a status
@@ -24,6 +24,7 @@ has_status (Malformed cause) status is = rw is (6, lit< tt, refl)
 has_status (Outside at value) status is = rw is (7, lit< tt, refl)
 has_status (BadShard shard at) status is = rw is (8, lit< tt, refl)
 has_status (BadLine line) status is = rw is (9, lit< tt, refl)
+has_status (BadStep line) status is = rw is (9, lit< tt, refl)
 has_status TooLong status is = rw is (9, lit< tt, refl)
 
 -- a line that tells, where the count is compared with an earlier one and what was taken goes by another name
@@ -39,7 +40,22 @@ for_run words (show_image image with_map) runs asked = absurd runs
 for_run words (drain_image image class) runs asked = absurd runs
 for_run words (gen_trace requests seed) runs asked = absurd runs
 for_run words (rebuild_image image budget seed) runs asked = absurd runs
+for_run words (replay_image image seed) runs asked = absurd runs
 for_run words (run_image image options) runs asked = record { options = options; asked = asked }
+
+-- and those for one that replays a schedule ask for a replay
+pub for_replay : (words : List (List ℕ)) (command : Command) → ReplaysASchedule command → Asks words command → AsksForReplay words (image_name command)
+for_replay words (format_image image capacity) replays asked = absurd replays
+for_replay words (show_image image with_map) replays asked = absurd replays
+for_replay words (drain_image image class) replays asked = absurd replays
+for_replay words (gen_trace requests seed) replays asked = absurd replays
+for_replay words (run_image image options) replays asked = absurd replays
+for_replay words (rebuild_image image budget seed) replays asked = absurd replays
+for_replay words (replay_image image seed) replays asked = record { seed = seed; asked = asked }
+
+-- those for one that reads the source
+pub for_source : (words : List (List ℕ)) (command : Command) → ReadsSource command → Asks words command → AsksForSource words (image_name command)
+for_source words command reads asked = record { command = command; asked = asked; reads = reads; is_named = refl }
 
 module _ (words : List (List ℕ)) (command : Command) (old new : Contents) (left : Option (List ℕ)) (store_failed source_failed : Type 0) (first second third : ℕ) (taken mid final : Option (List ℕ))
     (status : ℕ) (asked : Asks words command) (low : first ≤ second) (high : second ≤ third) where
@@ -48,7 +64,8 @@ module _ (words : List (List ℕ)) (command : Command) (old new : Contents) (lef
       → status ≡ read_fault → IsReadFault words old store_failed source_failed
   is_read_fault ReadFault stopped is four = elim stopped.cause [
     | inl (inl why, same) ↦ at_image (image_name command) (record { command = command; asked = asked; gets = why.0; is_named = refl }) why.1
-    | inl (inr trace, same) ↦ at_trace (image_name command) (for_run words command trace.runs asked) trace.mapped trace.why
+    | inl (inr (inl trace), same) ↦ at_trace (image_name command) (for_run words command trace.runs asked) trace.mapped trace.why
+    | inl (inr (inr replay), same) ↦ at_schedule (image_name command) (for_replay words command replay.replays asked) replay.image replay.why
     | inr (image, text, made, why) ↦ absurd why
   ]
   is_read_fault other stopped is four = absurd (omega arith)
@@ -59,7 +76,8 @@ module _ (words : List (List ℕ)) (command : Command) (old new : Contents) (lef
       → status ≡ write_fault → IsWriteFault words old new left store_failed first third taken final
   is_write_fault WriteFault name stopped is told five = elim stopped.cause [
     | inl (inl why, same) ↦ absurd why
-    | inl (inr trace, same) ↦ absurd trace.why
+    | inl (inr (inl trace), same) ↦ absurd trace.why
+    | inl (inr (inr replay), same) ↦ absurd replay.why
     | inr (image, text, made, why) ↦ record {
       command = command;
       asked = asked;
@@ -87,25 +105,22 @@ module _ (words : List (List ℕ)) (command : Command) (old new : Contents) (lef
       malformed = why.1;
       told = tells_since (line_of (Malformed cause) name) first second third taken mid final low same.sink told;
     }
-    | inl (inr trace, same) ↦ absurd trace.why
+    | inl (inr (inl trace), same) ↦ absurd trace.why
+    | inl (inr (inr replay), same) ↦ absurd replay.why
     | inr (image, text, made, why) ↦ absurd why
   ]
   is_bad_header other name stopped is told seven = absurd (omega arith)
 
-  -- a word of the image points outside
+  -- a word points outside, in the image or in what a crash leaves of a replay
   pub is_outside : (fault : Fault) (name : List ℕ) → IsStopped command old new left store_failed source_failed (Rose first second) taken mid fault → status ≡ status_of fault
       → Tells (line_of fault name) second third mid final
-      → status ≡ outside → IsOutsideAt words old (λ line. Tells line first third taken final)
+      → status ≡ outside → IsOutsideAt words old left (λ line. Tells line first third taken final)
   is_outside (Outside at value) name stopped is told eight = elim stopped.cause [
-    | inl (inl why, same) ↦ record {
-      name = image_name command;
-      asks = record { command = command; asked = asked; gets = why.0; is_named = refl };
-      at = at;
-      value = value;
-      has = why.1;
-      told = tells_since (line_of (Outside at value) name) first second third taken mid final low same.sink told;
-    }
-    | inl (inr trace, same) ↦ absurd trace.why
+    | inl (inl why, same) ↦ in_image (image_name command) at value (record { command = command; asked = asked; gets = why.0; is_named = refl }) why.1
+        (tells_since (line_of (Outside at value) name) first second third taken mid final low same.sink told)
+    | inl (inr (inl trace), same) ↦ absurd trace.why
+    | inl (inr (inr replay), same) ↦ in_image_left (image_name command) at value (for_replay words command replay.replays asked) replay.why
+        (tells_since (line_of (Outside at value) name) first second third taken mid final low same.sink told)
     | inr (image, text, made, why) ↦ absurd why
   ]
   is_outside other name stopped is told eight = absurd (omega arith)
@@ -123,7 +138,8 @@ module _ (words : List (List ℕ)) (command : Command) (old new : Contents) (lef
       has = why.1;
       told = tells_since (line_of (BadShard shard at) name) first second third taken mid final low same.sink told;
     }
-    | inl (inr trace, same) ↦ absurd trace.why
+    | inl (inr (inl trace), same) ↦ absurd trace.why
+    | inl (inr (inr replay), same) ↦ absurd replay.why
     | inr (image, text, made, why) ↦ absurd why
   ]
   is_bad_shard other name stopped is told nine = absurd (omega arith)
@@ -139,7 +155,8 @@ module _ (words : List (List ℕ)) (command : Command) (old new : Contents) (lef
       lacks = why.1;
       told = subst (λ (n : List ℕ). Tells (line_of Absent n) first third taken final) named (tells_since (line_of Absent name) first second third taken mid final low same.sink told);
     }
-    | inl (inr trace, same) ↦ absurd trace.why
+    | inl (inr (inl trace), same) ↦ absurd trace.why
+    | inl (inr (inr replay), same) ↦ absurd replay.why
     | inr (image, text, made, why) ↦ absurd why
   ]
   is_absent other name named stopped is told six = absurd (omega arith)
@@ -149,7 +166,8 @@ module _ (words : List (List ℕ)) (command : Command) (old new : Contents) (lef
       → Tells (line_of fault name) second third mid final → IfSome (own_line (status_of fault)) (λ line. Tells line first third taken final)
   own_told Usage name stopped told = elim stopped.cause [
     | inl (inl why, same) ↦ absurd why
-    | inl (inr trace, same) ↦ absurd trace.why
+    | inl (inr (inl trace), same) ↦ absurd trace.why
+    | inl (inr (inr replay), same) ↦ absurd replay.why
     | inr (image, text, made, why) ↦ absurd why
   ]
   own_told Memory name stopped told = elim stopped.cause [
@@ -173,14 +191,57 @@ module _ (words : List (List ℕ)) (command : Command) (old new : Contents) (lef
       → status ≡ bad_trace → IsBadTrace words old left (λ line. Tells line first third taken final)
   is_bad_trace (BadLine line) name stopped is told ten = elim stopped.cause [
     | inl (inl why, same) ↦ absurd why
-    | inl (inr trace, same) ↦ at_line (image_name command) line (for_run words command trace.runs asked) trace.mapped trace.why
+    | inl (inr (inl trace), same) ↦ at_line (image_name command) line (for_run words command trace.runs asked) trace.mapped trace.why
         (tells_since (line_of (BadLine line) name) first second third taken mid final low same.sink told)
+    | inl (inr (inr replay), same) ↦ absurd replay.why
+    | inr (image, text, made, why) ↦ absurd why
+  ]
+  is_bad_trace (BadStep line) name stopped is told ten = elim stopped.cause [
+    | inl (inl why, same) ↦ absurd why
+    | inl (inr (inl trace), same) ↦ absurd trace.why
+    | inl (inr (inr replay), same) ↦ at_step (image_name command) line (for_replay words command replay.replays asked) replay.image replay.why
+        (tells_since (line_of (BadStep line) name) first second third taken mid final low same.sink told)
     | inr (image, text, made, why) ↦ absurd why
   ]
   is_bad_trace TooLong name stopped is told ten = elim stopped.cause [
     | inl (inl why, same) ↦ absurd why
-    | inl (inr trace, same) ↦ too_long (image_name command) (for_run words command trace.runs asked) trace.mapped trace.why
+    | inl (inr (inl trace), same) ↦ too_long (image_name command) (for_run words command trace.runs asked) trace.mapped trace.why
+        (tells_since (line_of TooLong name) first second third taken mid final low same.sink told)
+    | inl (inr (inr replay), same) ↦ schedule_too_long (image_name command) (for_replay words command replay.replays asked) replay.image replay.why
         (tells_since (line_of TooLong name) first second third taken mid final low same.sink told)
     | inr (image, text, made, why) ↦ absurd why
   ]
   is_bad_trace other name stopped is told ten = absurd (omega arith)
+
+-- a status of words or an image that were refused
+early : (status i : ℕ) → i < 5 → get_or (usage ∷ no_image ∷ bad_header ∷ outside ∷ bad_shard ∷ []) i status ≡ status → (status ≡ usage) ⊎ ((no_image ≤ status) × (status ≤ bad_shard))
+early status zero below is = inl (sym is)
+early status (suc zero) below is = inr (let e : 6 ≡ status = is in omega arith, let e : 6 ≡ status = is in omega arith)
+early status (suc (suc zero)) below is = inr (let e : 7 ≡ status = is in omega arith, let e : 7 ≡ status = is in omega arith)
+early status (suc (suc (suc zero))) below is = inr (let e : 8 ≡ status = is in omega arith, let e : 8 ≡ status = is in omega arith)
+early status (suc (suc (suc (suc zero)))) below is = inr (let e : 9 ≡ status = is in omega arith, let e : 9 ≡ status = is in omega arith)
+early status (suc (suc (suc (suc (suc i))))) below is = absurd (omega arith)
+
+too_late : (status n : ℕ) → IsBeforeTrace status → status ≡ n → (3 ≤ n) → (n ≤ 5) ⊎ (10 ≤ n) → ⊥
+too_late status n before is low high = elim (early status before.among.0 before.among.1 before.among.2) [
+  | inl two ↦ omega arith
+  | inr between ↦ elim high [
+    | inl h ↦ (let a = between.0 in omega arith)
+    | inr h ↦ (let b = between.1 in omega arith)
+  ]
+]
+
+-- by such a status nothing was read from the source
+pub before_reading : (words : List (List ℕ)) (command : Command) (status : ℕ) (fault : Fault) → Asks words command → status ≡ status_of fault → IsBeforeTrace status
+    → (status ≡ outside → (name : List ℕ) → ¬ (AsksForReplay words name)) → IsBeforeReading command fault
+before_reading words command status Usage asked is before no_replay = tt
+before_reading words command status Memory asked is before no_replay = too_late status 3 before is (omega arith) (inl (omega arith))
+before_reading words command status ReadFault asked is before no_replay = too_late status 4 before is (omega arith) (inl (omega arith))
+before_reading words command status WriteFault asked is before no_replay = too_late status 5 before is (omega arith) (inl (omega arith))
+before_reading words command status Absent asked is before no_replay = tt
+before_reading words command status (Malformed cause) asked is before no_replay = tt
+before_reading words command status (Outside at value) asked is before no_replay = λ replays. no_replay is (image_name command) (for_replay words command replays asked)
+before_reading words command status (BadShard shard at) asked is before no_replay = tt
+before_reading words command status (BadLine line) asked is before no_replay = too_late status 10 before is (omega arith) (inr (omega arith))
+before_reading words command status (BadStep line) asked is before no_replay = too_late status 10 before is (omega arith) (inr (omega arith))
+before_reading words command status TooLong asked is before no_replay = too_late status 10 before is (omega arith) (inr (omega arith))

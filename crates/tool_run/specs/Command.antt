@@ -7,7 +7,7 @@ use Rattle.heap_model.specs.Sizes.{IsClass}
 use Rattle.tool_run.specs.declared.trace_plan.TheConstants.{MOST_REQUESTS, GREATEST_SEED}
 use Rattle.image_run.specs.Running.{Options}
 use Rattle.image_run.specs.declared.options.TheConstants.{MOST_WORKERS, MOST_BUDGET}
-use Rattle.tool_run.specs.CommandLine.{format_app, show_app, drain_app, gen_app, run_app, rebuild_app, image_id, capacity_id, class_id, map_id, requests_id, trace_seed_id, workers_id, stop_id, seed_id, sum_id, HasNumberOr, IsTaken, HasText, HasNumber, HasFlag}
+use Rattle.tool_run.specs.CommandLine.{format_app, show_app, drain_app, gen_app, run_app, rebuild_app, replay_app, image_id, capacity_id, class_id, map_id, requests_id, trace_seed_id, workers_id, stop_id, seed_id, sum_id, HasNumberOr, IsTaken, HasText, HasNumber, HasFlag}
 
 -- what the tool can be asked for
 pub data Command : Type 0 where
@@ -17,6 +17,7 @@ pub data Command : Type 0 where
   gen_trace : (requests seed : ℕ) → Command
   run_image : (image : List ℕ) → (options : Options) → Command
   rebuild_image : (image : List ℕ) → (budget seed : ℕ) → Command
+  replay_image : (image : List ℕ) → (seed : ℕ) → Command
 
 -- the image that a command is about; the empty name where it is about none
 abbrev pub image_name : Command → List ℕ
@@ -26,6 +27,7 @@ image_name (drain_image image class) = image
 image_name (gen_trace requests seed) = []
 image_name (run_image image options) = image
 image_name (rebuild_image image budget seed) = image
+image_name (replay_image image seed) = image
 
 -- the bytes of each word
 abbrev pub texts : List (String Global) → List (List ℕ)
@@ -83,6 +85,13 @@ pub record AsksToRebuild (words : List (List ℕ)) (image : List ℕ) (budget se
   pub seeded : HasNumberOr (matches_of rebuild_app words) seed_id 0 seed
   pub fits : seed < 2 ^ 64
 
+-- the words 'replay IMAGE', with the option or without: the seed is 0 where none is given
+pub record AsksToReplay (words : List (List ℕ)) (image : List ℕ) (seed : ℕ) : Type 0 where
+  pub taken : IsTaken replay_app words
+  pub named : HasText (matches_of replay_app words) image_id image
+  pub seeded : HasNumberOr (matches_of replay_app words) seed_id 0 seed
+  pub fits : seed < 2 ^ 64
+
 -- the words ask for this command
 abbrev pub Asks : List (List ℕ) → Command → Type 0
 Asks words (format_image image capacity) = AsksToFormat words image capacity
@@ -91,6 +100,7 @@ Asks words (drain_image image class) = AsksToDrain words image class
 Asks words (gen_trace requests seed) = AsksToGen words requests seed
 Asks words (run_image image options) = AsksToRun words image options
 Asks words (rebuild_image image budget seed) = AsksToRebuild words image budget seed
+Asks words (replay_image image seed) = AsksToReplay words image seed
 
 -- the words ask for no command
 abbrev pub IsUsage : List (List ℕ) → Type 0

@@ -92,6 +92,10 @@ run_app = with_rule (with_rule (with_limits plain_run_app) (flag_rule sum_id)) (
 abbrev pub rebuild_app : App
 rebuild_app = with_limits (with_rule (new_app (codes "rebuild")) (word_rule image_id))
 
+-- 'replay IMAGE [--seed X]'
+abbrev pub replay_app : App
+replay_app = with_rule (with_rule (new_app (codes "replay")) (word_rule image_id)) (option_rule seed_id 0 (2 ^ 64 - 1))
+
 -- the first word names the command, and clap finds no fault in the words behind it
 pub record IsTaken (app : App) (words : List (List ℕ)) : Type 0 where
   pub named : slice_get words 0 ≡ Some app.top.name

@@ -13,8 +13,8 @@ use Rattle.heap_model.specs.Geometry.{largest_capacity}
 use Rattle.heap_model.specs.Sizes.{size_of, class_sizes}
 use Rattle.heap_model.specs.declared.header.BadHeader.TheVariants.{Length}
 use Rattle.trace_text.specs.Report.{line_feed}
-use Rattle.tool_run.specs.Command.{Command, Asks, format_image, show_image, drain_image, gen_trace, run_image, rebuild_image}
-use Rattle.tool_run.specs.CommandLine.{format_app, drain_app, show_app, gen_app, run_app, rebuild_app, image_id, capacity_id, class_id, map_id, requests_id, trace_seed_id, workers_id, stop_id, seed_id, sum_id, HasText, HasNumber, HasNumberOr, HasFlag, IsNumber}
+use Rattle.tool_run.specs.Command.{Command, Asks, format_image, show_image, drain_image, gen_trace, run_image, rebuild_image, replay_image}
+use Rattle.tool_run.specs.CommandLine.{format_app, drain_app, show_app, gen_app, run_app, rebuild_app, replay_app, image_id, capacity_id, class_id, map_id, requests_id, trace_seed_id, workers_id, stop_id, seed_id, sum_id, HasText, HasNumber, HasNumberOr, HasFlag, IsNumber}
 use Rattle.tool_ports.specs.Calls.{no_calls, with_get, with_put}
 use Rattle.tool_run.specs.Calls.{get_limit, with_status}
 use Rattle.tool_run.specs.Lines.{no_image_line, bad_header_line, bad_line_line}
@@ -157,6 +157,25 @@ rebuild_to_its_end = record {
   fits = lit< tt;
 }
 
+-- a replay, with a seed and without
+replay_seeded : Asks (codes "replay" ∷ codes "h" ∷ codes "--seed" ∷ codes "5" ∷ []) (replay_image (codes "h") 5)
+unfolding clap_on_literals
+replay_seeded = record {
+  taken = record { named = refl; faultless = refl };
+  named = refl;
+  seeded = inl (record { text = codes "5"; given = refl; counted = record { digits = (lit< tt, (lit< tt, tt)); value = refl } });
+  fits = lit< tt;
+}
+
+replay_plain : Asks (codes "replay" ∷ codes "h" ∷ []) (replay_image (codes "h") 0)
+unfolding clap_on_literals
+replay_plain = record {
+  taken = record { named = refl; faultless = refl };
+  named = refl;
+  seeded = inr (refl, refl);
+  fits = lit< tt;
+}
+
 -- more workers than there may be, and none told
 nine_workers : fault_of run_app (codes "run" ∷ codes "h" ∷ codes "--workers" ∷ codes "9" ∷ []) ≡ ValueValidation ∷ []
 unfolding clap_on_literals
@@ -224,6 +243,7 @@ name_of (drain_image image class) = codes "drain"
 name_of (gen_trace requests seed) = codes "gen"
 name_of (run_image image options) = codes "run"
 name_of (rebuild_image image budget seed) = codes "rebuild"
+name_of (replay_image image seed) = codes "replay"
 
 -- it is the first word
 pub first_word : (words : List (List ℕ)) (command : Command) → Asks words command → slice_get words 0 ≡ Some (name_of command)
@@ -233,10 +253,11 @@ first_word words (drain_image image class) asks = asks.taken.named
 first_word words (gen_trace requests seed) asks = asks.taken.named
 first_word words (run_image image options) asks = asks.taken.named
 first_word words (rebuild_image image budget seed) asks = asks.taken.named
+first_word words (replay_image image seed) asks = asks.taken.named
 
--- the first two letters of a name tell it
+-- the first three letters of a name tell it
 abbrev pub letters : List ℕ → ℕ
-letters name = 256 * slice_index name 0 + slice_index name 1
+letters name = 65536 * slice_index name 0 + 256 * slice_index name 1 + slice_index name 2
 
 -- so two commands that words ask for have one name
 one_letter : (words : List (List ℕ)) (a b : Command) → Asks words a → Asks words b → letters (name_of a) ≡ letters (name_of b)
@@ -273,5 +294,9 @@ one_command words (rebuild_image image budget seed) (rebuild_image other limit b
     let named = one_text_given (matches_of rebuild_app words) image_id image other asks.named also.named in
     let within = one_number_or (matches_of rebuild_app words) stop_id MOST_BUDGET budget limit asks.within also.within in
     let seeded = one_number_or (matches_of rebuild_app words) seed_id 0 seed begun asks.seeded also.seeded in
+    cc
+one_command words (replay_image image seed) (replay_image other begun) asks also =
+    let named = one_text_given (matches_of replay_app words) image_id image other asks.named also.named in
+    let seeded = one_number_or (matches_of replay_app words) seed_id 0 seed begun asks.seeded also.seeded in
     cc
 one_command words a b asks also = absurd (omega (arith, one_letter words a b asks also))

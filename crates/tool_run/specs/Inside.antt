@@ -9,9 +9,9 @@ use Rattle.heap_recover.specs.declared.fault.RecoverFault.{RecoverFault}
 use Rattle.heap_recover.specs.declared.fault.RecoverFault.TheVariants.{Header, Outside as OutsideFound, Memory as RecoverMemory}
 use Rattle.tool_ports.specs.Taken.{taken_with}
 use Rattle.tool_run.specs.declared.command.Invocation.{Invocation}
-use Rattle.tool_run.specs.declared.command.Invocation.TheVariants.{Format, Show, Drain, Gen, Run, Rebuild}
+use Rattle.tool_run.specs.declared.command.Invocation.TheVariants.{Format, Show, Drain, Gen, Run, Rebuild, Replay}
 use Rattle.tool_run.specs.declared.fault.Fault.{Fault}
-use Rattle.tool_run.specs.declared.fault.Fault.TheVariants.{Usage, Memory, ReadFault, WriteFault, Absent, Malformed, Outside, BadShard, BadLine, TooLong}
+use Rattle.tool_run.specs.declared.fault.Fault.TheVariants.{Usage, Memory, ReadFault, WriteFault, Absent, Malformed, Outside, BadShard, BadLine, BadStep, TooLong}
 use Rattle.tool_ports.specs.declared.reading.ReadAllFault.{ReadAllFault}
 use Rattle.tool_ports.specs.declared.reading.ReadAllFault.TheVariants.{TooLong as MoreGiven, Failed as ReadFailed, Memory as ReadMemory}
 use Rattle.trace_run.specs.Said.{Line}
@@ -19,11 +19,13 @@ use Rattle.trace_text.specs.declared.request.TraceError.{TraceError}
 use Rattle.trace_text.specs.declared.request.TraceError.TheVariants.{BadLine as BadTraceLine, Memory as TraceMemory}
 use Rattle.trace_text.specs.Trace.{lines_of, AreLines}
 use Rattle.image_run.specs.Running.{options_of}
+use Rattle.image_replay.specs.declared.fault.ReplayFault.{ReplayFault}
+use Rattle.image_replay.specs.declared.fault.ReplayFault.TheVariants.{Outside as OutsideLeft, Memory as ReplayMemory}
 use Rattle.dictionary.specs.declared.fault.MapFault.{MapFault}
 use Rattle.dictionary.specs.declared.fault.MapFault.TheVariants.{BadShard as NoMap, Memory as MapMemory}
-use Rattle.tool_run.specs.Command.{Command, format_image, show_image, drain_image, gen_trace, run_image, rebuild_image, image_name}
-use Rattle.tool_run.specs.Lines.{usage_line, memory_line, read_line, write_line, no_image_line, bad_header_line, outside_line, bad_shard_line, bad_line_line, too_long_line}
-use Rattle.tool_run.specs.Making.{Makes, Gets, Reads, RunsATrace, IsMalformed, HasOutside, HasBadShard, HasMapped, HasTrace, HasBadLine, HasTooMuch}
+use Rattle.tool_run.specs.Command.{Command, format_image, show_image, drain_image, gen_trace, run_image, rebuild_image, replay_image, image_name}
+use Rattle.tool_run.specs.Lines.{usage_line, memory_line, read_line, write_line, no_image_line, bad_header_line, outside_line, bad_shard_line, bad_line_line, bad_step_line, too_long_line}
+use Rattle.tool_run.specs.Making.{Makes, Gets, Reads, RunsATrace, ReplaysASchedule, IsMalformed, HasOutside, HasBadShard, HasMapped, HasTrace, HasBadLine, HasTooMuch, HasGood, HasBadStep, HasOutsideLeft}
 use Rattle.tool_run.specs.Outcome.{Puts, IsCutOff}
 use Rattle.tool_run.specs.Status.{usage, out_of_memory, read_fault, write_fault, no_image, bad_header, outside, bad_shard, bad_trace}
 
@@ -35,6 +37,7 @@ command_of (Drain image class) = drain_image image.now class.number
 command_of (Gen plan) = gen_trace plan.requests plan.seed
 command_of (Run image options) = run_image image.now (options_of options)
 command_of (Rebuild image budget seed) = rebuild_image image.now budget seed
+command_of (Replay image seed) = replay_image image.now seed
 
 -- the status of a fault
 abbrev pub status_of : Fault → ℕ
@@ -47,6 +50,7 @@ status_of (Malformed cause) = bad_header
 status_of (Outside at value) = outside
 status_of (BadShard shard at) = bad_shard
 status_of (BadLine line) = bad_trace
+status_of (BadStep line) = bad_trace
 status_of TooLong = bad_trace
 
 -- the line of a fault, where the command is about the image of this name
@@ -60,6 +64,7 @@ line_of (Malformed cause) name = bad_header_line cause
 line_of (Outside at value) name = outside_line at value
 line_of (BadShard shard at) name = bad_shard_line shard at
 line_of (BadLine line) name = bad_line_line line
+line_of (BadStep line) name = bad_step_line line
 line_of TooLong name = too_long_line
 
 -- the line of the fault has no numbers
@@ -67,6 +72,7 @@ abbrev pub IsPlain : Fault → Type 0
 IsPlain (Outside at value) = ⊥
 IsPlain (BadShard shard at) = ⊥
 IsPlain (BadLine line) = ⊥
+IsPlain (BadStep line) = ⊥
 IsPlain TooLong = Unit {0}
 IsPlain Usage = Unit {0}
 IsPlain Memory = Unit {0}
@@ -86,6 +92,7 @@ Refuses command contents get_failed (Malformed cause) = Gets command × IsMalfor
 Refuses command contents get_failed (Outside at value) = Gets command × HasOutside contents (image_name command) at value
 Refuses command contents get_failed (BadShard shard at) = Reads command × HasBadShard contents (image_name command) shard at
 Refuses command contents get_failed (BadLine line) = ⊥
+Refuses command contents get_failed (BadStep line) = ⊥
 Refuses command contents get_failed TooLong = ⊥
 
 -- what stands against the trace that a source has left; `read_failed` is that the source's count of failures rose
@@ -99,6 +106,7 @@ IsTraceFault left read_failed (Malformed cause) = ⊥
 IsTraceFault left read_failed (Outside at value) = ⊥
 IsTraceFault left read_failed (BadShard shard at) = ⊥
 IsTraceFault left read_failed (BadLine line) = HasBadLine left line
+IsTraceFault left read_failed (BadStep line) = ⊥
 IsTraceFault left read_failed TooLong = HasTooMuch left
 
 -- why a run was refused by its trace, once its image was good
@@ -107,23 +115,49 @@ pub record RefusesTrace (command : Command) (contents : Contents) (left : Option
   pub mapped : HasMapped contents (image_name command)
   pub why : IsTraceFault left read_failed fault
 
+-- why a replay over an image that is good makes nothing: its schedule, or what it leaves
+abbrev pub IsReplayFault : Contents → Option (List ℕ) → List ℕ → Type 0 → Fault → Type 0
+IsReplayFault contents left name read_failed Usage = ⊥
+IsReplayFault contents left name read_failed Memory = Unit {0}
+IsReplayFault contents left name read_failed ReadFault = read_failed
+IsReplayFault contents left name read_failed WriteFault = ⊥
+IsReplayFault contents left name read_failed Absent = ⊥
+IsReplayFault contents left name read_failed (Malformed cause) = ⊥
+IsReplayFault contents left name read_failed (Outside at value) = HasOutsideLeft contents left name at value
+IsReplayFault contents left name read_failed (BadShard shard at) = ⊥
+IsReplayFault contents left name read_failed (BadLine line) = ⊥
+IsReplayFault contents left name read_failed (BadStep line) = HasBadStep left line
+IsReplayFault contents left name read_failed TooLong = HasTooMuch left
+
+-- why a replay was refused, once its image was good
+pub record RefusesReplay (command : Command) (contents : Contents) (left : Option (List ℕ)) (read_failed : Type 0) (fault : Fault) : Type 0 where
+  pub replays : ReplaysASchedule command
+  pub image : HasGood contents (image_name command)
+  pub why : IsReplayFault contents left (image_name command) read_failed fault
+
+-- why nothing was made for a command whose image was good
+abbrev pub RefusesLater : Command → Contents → Option (List ℕ) → Type 0 → Fault → Type 0
+RefusesLater command contents left read_failed fault =
+    RefusesTrace command contents left read_failed fault ⊎ RefusesReplay command contents left read_failed fault
+
 -- why nothing was made for a command
 abbrev pub RefusesEither : Command → Contents → Option (List ℕ) → Type 0 → Type 0 → Fault → Type 0
 RefusesEither command contents left get_failed read_failed fault =
-    Refuses command contents get_failed fault ⊎ RefusesTrace command contents left read_failed fault
+    Refuses command contents get_failed fault ⊎ RefusesLater command contents left read_failed fault
 
--- the words or the image were refused, so that no trace was read
-abbrev pub IsBeforeReading : Fault → Type 0
-IsBeforeReading Usage = Unit {0}
-IsBeforeReading Memory = ⊥
-IsBeforeReading ReadFault = ⊥
-IsBeforeReading WriteFault = ⊥
-IsBeforeReading Absent = Unit {0}
-IsBeforeReading (Malformed cause) = Unit {0}
-IsBeforeReading (Outside at value) = Unit {0}
-IsBeforeReading (BadShard shard at) = Unit {0}
-IsBeforeReading (BadLine line) = ⊥
-IsBeforeReading TooLong = ⊥
+-- the words or the image were refused, so that nothing was read from the source; but a word that points outside may be one that a replay left
+abbrev pub IsBeforeReading : Command → Fault → Type 0
+IsBeforeReading command Usage = Unit {0}
+IsBeforeReading command Memory = ⊥
+IsBeforeReading command ReadFault = ⊥
+IsBeforeReading command WriteFault = ⊥
+IsBeforeReading command Absent = Unit {0}
+IsBeforeReading command (Malformed cause) = Unit {0}
+IsBeforeReading command (Outside at value) = ¬ (ReplaysASchedule command)
+IsBeforeReading command (BadShard shard at) = Unit {0}
+IsBeforeReading command (BadLine line) = ⊥
+IsBeforeReading command (BadStep line) = ⊥
+IsBeforeReading command TooLong = ⊥
 
 -- the requests of the trace that the source has left
 pub record IsTraceLeft (left : Option (List ℕ)) (lines : List Line) : Type 0 where
@@ -156,6 +190,7 @@ DeliveryFails name image text old new put_failed print_failed taken taken' (Malf
 DeliveryFails name image text old new put_failed print_failed taken taken' (Outside at value) = ⊥
 DeliveryFails name image text old new put_failed print_failed taken taken' (BadShard shard at) = ⊥
 DeliveryFails name image text old new put_failed print_failed taken taken' (BadLine line) = ⊥
+DeliveryFails name image text old new put_failed print_failed taken taken' (BadStep line) = ⊥
 DeliveryFails name image text old new put_failed print_failed taken taken' TooLong = ⊥
 
 -- a command's result was made, put and printed in full
@@ -204,6 +239,7 @@ PutFails name image old new put_failed (Malformed cause) = ⊥
 PutFails name image old new put_failed (Outside at value) = ⊥
 PutFails name image old new put_failed (BadShard shard at) = ⊥
 PutFails name image old new put_failed (BadLine line) = ⊥
+PutFails name image old new put_failed (BadStep line) = ⊥
 PutFails name image old new put_failed TooLong = ⊥
 
 -- a failed recovery
@@ -227,3 +263,13 @@ fault_of_reading ReadMemory = Memory
 abbrev pub fault_of_trace : TraceError → Fault
 fault_of_trace (BadTraceLine line) = BadLine line
 fault_of_trace TraceMemory = Memory
+
+-- a schedule that can't be read
+abbrev pub fault_of_schedule : TraceError → Fault
+fault_of_schedule (BadTraceLine line) = BadStep line
+fault_of_schedule TraceMemory = Memory
+
+-- a replay that prints nothing
+abbrev pub fault_of_replay : ReplayFault → Fault
+fault_of_replay (OutsideLeft at value) = Outside at value
+fault_of_replay ReplayMemory = Memory

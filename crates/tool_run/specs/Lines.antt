@@ -51,7 +51,11 @@ bad_shard_line shard at = codes "bad shard " ++ decimal shard ++ codes " at " ++
 abbrev pub bad_line_line : ℕ → List ℕ
 bad_line_line line = codes "bad trace line " ++ decimal line ++ line_feed
 
--- the line on a trace of too many bytes
+-- the line on the first line of a schedule that tells no step
+abbrev pub bad_step_line : ℕ → List ℕ
+bad_step_line line = codes "bad schedule line " ++ decimal line ++ line_feed
+
+-- the line on a trace or a schedule of too many bytes
 abbrev pub too_long_line : List ℕ
 too_long_line = codes "bad trace too long" ++ line_feed
 

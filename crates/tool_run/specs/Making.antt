@@ -1,5 +1,5 @@
 -- What a command is to put and to print.
-use Rattle.std.specs.Prelude.{◌≡◌, ℕ, ◌*◌, ◌<◌, ◌≤◌, Bool, false, List, ◌++◌, length, Option, Some, None, IfSome, codes, decimal}
+use Rattle.std.specs.Prelude.{◌≡◌, ◌⊎◌, ℕ, ◌*◌, ◌<◌, ◌≤◌, Bool, false, List, ◌++◌, length, Option, Some, None, IfSome, codes, decimal, slice_index}
 use Rattle.std.specs.List.{flat_map}
 use Rattle.heap_model.specs.declared.header.BadHeader.{BadHeader}
 use Rattle.heap_model.specs.declared.block.Block.{Block}
@@ -13,13 +13,16 @@ use Rattle.heap_model.specs.Sizes.{size_of}
 use Rattle.heap_model.specs.Header.{capacity_of, empty_words}
 pub use Rattle.image_run.specs.Reporting.{fault_of, IsKept, PointsOutside, Recovers, IsEntryOf, shown_text, Reports}
 pub use Rattle.image_rebuild.specs.Rebuilding.{Rebuilds}
+pub use Rattle.image_replay.specs.Replaying.{Replays, LeavesOutside}
 pub use Rattle.image_run.specs.Running.{Options, Runs}
 use Rattle.tool_ports.specs.Contents.{Contents, Holds}
 use Rattle.trace_run.specs.Said.{Line, requests_of}
+use Rattle.trace_text.specs.declared.schedule.Schedule.{Schedule}
 use Rattle.trace_text.specs.Generated.{made_trace}
 use Rattle.trace_text.specs.Report.{line_feed}
+use Rattle.trace_text.specs.Schedule.{IsSchedule, IsFirstBad}
 use Rattle.trace_text.specs.Trace.{lines_of, AreLines, IsFirstOutside}
-use Rattle.tool_run.specs.Command.{Command, format_image, show_image, drain_image, gen_trace, run_image, rebuild_image}
+use Rattle.tool_run.specs.Command.{Command, format_image, show_image, drain_image, gen_trace, run_image, rebuild_image, replay_image}
 
 -- what `format` prints: the capacity, and the length of the image in bytes
 abbrev pub formatted_line : ℕ → List ℕ
@@ -148,6 +151,50 @@ pub record RebuildsNamed (contents : Contents) (name : List ℕ) (budget : ℕ) 
   pub put_is : put ≡ Some image
   pub rebuilds : Rebuilds (image_of_bytes bytes) (image_words (capacity_of (image_of_bytes bytes))) budget image text
 
+-- the store has an image of this name that can be recovered
+pub record HasGood (contents : Contents) (name : List ℕ) : Type 0 where
+  pub bytes : List ℕ
+  pub is_there : Holds contents name bytes
+  pub good : fault_of bytes ≡ None
+  pub inside : (at : ℕ) → PointsOutside (image_of_bytes bytes) at → ⊥
+
+-- these are the words and the held blocks of the heap that recovery makes of it
+pub record HasHeap (contents : Contents) (name words : List ℕ) (held : List Block) : Type 0 where
+  pub image : HasGood contents name
+  pub free : List ℕ
+  pub recovers : Recovers (image_of_bytes image.bytes) held free (slice_index words)
+  pub long : 8 * length words ≡ length image.bytes
+
+-- the schedule that the source has left, of at most the longest length of a trace
+pub record HasSchedule (left : Option (List ℕ)) (schedule : Schedule) : Type 0 where
+  pub text : List ℕ
+  pub has_text : HasTrace left text
+  pub is : IsSchedule text schedule
+
+-- the first line of it that tells no step
+pub record HasBadStep (left : Option (List ℕ)) (line : ℕ) : Type 0 where
+  pub text : List ℕ
+  pub has_text : HasTrace left text
+  pub first : IsFirstBad (lines_of text) line
+
+-- a replay over a named image of the schedule that the source has left
+pub record ReplaysNamed (contents : Contents) (left : Option (List ℕ)) (name text : List ℕ) : Type 0 where
+  pub words : List ℕ
+  pub held : List Block
+  pub heap : HasHeap contents name words held
+  pub schedule : Schedule
+  pub has_schedule : HasSchedule left schedule
+  pub replays : Replays words held schedule.seats schedule.lines.items text
+
+-- such a replay leaves a word that points outside in the image that a crash then leaves
+pub record HasOutsideLeft (contents : Contents) (left : Option (List ℕ)) (name : List ℕ) (at value : ℕ) : Type 0 where
+  pub words : List ℕ
+  pub held : List Block
+  pub heap : HasHeap contents name words held
+  pub schedule : Schedule
+  pub has_schedule : HasSchedule left schedule
+  pub leaves : LeavesOutside words held schedule.seats schedule.lines.items at value
+
 -- where the store holds this and the source has this left, the command is to put these bytes, if any, and to print this text
 abbrev pub Makes : Command → Contents → Option (List ℕ) → Option (List ℕ) → List ℕ → Type 0
 Makes (format_image image capacity) contents left put text = IsFormatted capacity put text
@@ -156,6 +203,7 @@ Makes (drain_image image class) contents left put text = (put ≡ None) × Drain
 Makes (gen_trace requests seed) contents left put text = (put ≡ None) × (text ≡ made_trace requests seed)
 Makes (run_image image options) contents left put text = RunsTrace contents left image options put text
 Makes (rebuild_image image budget seed) contents left put text = RebuildsNamed contents image budget put text
+Makes (replay_image image seed) contents left put text = (put ≡ None) × ReplaysNamed contents left image text
 
 -- the command gets the image that it names
 abbrev pub Gets : Command → Type 0
@@ -165,6 +213,7 @@ Gets (drain_image image class) = Unit {0}
 Gets (gen_trace requests seed) = ⊥
 Gets (run_image image options) = Unit {0}
 Gets (rebuild_image image budget seed) = Unit {0}
+Gets (replay_image image seed) = Unit {0}
 
 -- the command reads the maps of the image that it names
 abbrev pub Reads : Command → Type 0
@@ -174,6 +223,7 @@ Reads (drain_image image class) = ⊥
 Reads (gen_trace requests seed) = ⊥
 Reads (run_image image options) = Unit {0}
 Reads (rebuild_image image budget seed) = ⊥
+Reads (replay_image image seed) = ⊥
 
 -- the command puts an image in the place of the one that it gets
 abbrev pub PutsBack : Command → Type 0
@@ -183,6 +233,7 @@ PutsBack (drain_image image class) = ⊥
 PutsBack (gen_trace requests seed) = ⊥
 PutsBack (run_image image options) = Unit {0}
 PutsBack (rebuild_image image budget seed) = Unit {0}
+PutsBack (replay_image image seed) = ⊥
 
 -- the command runs a trace
 abbrev pub RunsATrace : Command → Type 0
@@ -192,3 +243,18 @@ RunsATrace (drain_image image class) = ⊥
 RunsATrace (gen_trace requests seed) = ⊥
 RunsATrace (run_image image options) = Unit {0}
 RunsATrace (rebuild_image image budget seed) = ⊥
+RunsATrace (replay_image image seed) = ⊥
+
+-- the command replays a schedule
+abbrev pub ReplaysASchedule : Command → Type 0
+ReplaysASchedule (format_image image capacity) = ⊥
+ReplaysASchedule (show_image image with_map) = ⊥
+ReplaysASchedule (drain_image image class) = ⊥
+ReplaysASchedule (gen_trace requests seed) = ⊥
+ReplaysASchedule (run_image image options) = ⊥
+ReplaysASchedule (rebuild_image image budget seed) = ⊥
+ReplaysASchedule (replay_image image seed) = Unit {0}
+
+-- the command reads the source
+abbrev pub ReadsSource : Command → Type 0
+ReadsSource command = RunsATrace command ⊎ ReplaysASchedule command

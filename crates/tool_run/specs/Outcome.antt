@@ -6,10 +6,12 @@ use Rattle.tool_ports.specs.Causes.{Rose}
 use Rattle.tool_ports.specs.Contents.{Contents, Holds, HoldsOldOrNew, KeepsOthers, Lacks, told_of}
 use Rattle.tool_ports.specs.Taken.{taken_with, TakesPart}
 use Rattle.trace_run.specs.Said.{Line}
+use Rattle.trace_text.specs.declared.schedule.Schedule.{Schedule}
+use Rattle.trace_text.specs.Schedule.{IsSchedule, IsFirstBad}
 use Rattle.trace_text.specs.Trace.{lines_of, AreLines, IsFirstOutside}
-use Rattle.tool_run.specs.Command.{Command, format_image, show_image, drain_image, gen_trace, run_image, rebuild_image, image_name, Asks, AsksToRun}
-use Rattle.tool_run.specs.Lines.{Tells, write_line, no_image_line, bad_header_line, outside_line, bad_shard_line, bad_line_line, too_long_line}
-use Rattle.tool_run.specs.Making.{Makes, Gets, Reads, PutsBack, Options, IsMalformed, HasOutside, HasBadShard, HasMapped, HasBadLine, HasTooMuch, PointsOutside, fault_of, longest_trace}
+use Rattle.tool_run.specs.Command.{Command, format_image, show_image, drain_image, gen_trace, run_image, rebuild_image, replay_image, image_name, Asks, AsksToRun, AsksToReplay}
+use Rattle.tool_run.specs.Lines.{Tells, write_line, no_image_line, bad_header_line, outside_line, bad_shard_line, bad_line_line, bad_step_line, too_long_line}
+use Rattle.tool_run.specs.Making.{Makes, Gets, Reads, PutsBack, ReadsSource, Options, IsMalformed, HasOutside, HasBadShard, HasMapped, HasBadLine, HasTooMuch, HasGood, HasBadStep, HasOutsideLeft, PointsOutside, fault_of, longest_trace}
 use Rattle.dict_model.specs.Links.{shards}
 use Rattle.dict_model.specs.Shards.{Map, MapOf, BadShard}
 use Rattle.heap_model.specs.Image.{image_of_bytes}
@@ -84,10 +86,24 @@ pub record AsksForRun (words : List (List ℕ)) (name : List ℕ) : Type 0 where
   pub options : Options
   pub asked : AsksToRun words name options
 
--- the outside failed while something was read: an image, or the trace of a run whose image is good
+-- the words ask for a replay over the image of this name
+pub record AsksForReplay (words : List (List ℕ)) (name : List ℕ) : Type 0 where
+  pub seed : ℕ
+  pub asked : AsksToReplay words name seed
+
+-- the words ask for a command that reads the source, over the image of this name
+pub record AsksForSource (words : List (List ℕ)) (name : List ℕ) : Type 0 where
+  pub command : Command
+  pub asked : Asks words command
+  pub reads : ReadsSource command
+  pub is_named : image_name command ≡ name
+
+-- the outside failed while something was read: an image, or the trace of a run, or the schedule of a replay, whose image is good
 pub data IsReadFault (words : List (List ℕ)) (contents : Contents) (store_failed source_failed : Type 0) : Type 0 where
   at_image : (name : List ℕ) → AsksToGet words name → store_failed → IsReadFault words contents store_failed source_failed
   at_trace : (name : List ℕ) → AsksForRun words name → HasMapped contents name → source_failed
+      → IsReadFault words contents store_failed source_failed
+  at_schedule : (name : List ℕ) → AsksForReplay words name → HasGood contents name → source_failed
       → IsReadFault words contents store_failed source_failed
 
 -- the words name an image that isn't there, where the store tells; `Told` says which line was told
@@ -107,14 +123,12 @@ pub record IsBadHeader (words : List (List ℕ)) (contents : Contents) (Told : L
   pub malformed : IsMalformed contents name cause
   pub told : Told (bad_header_line cause)
 
--- the words name an image in which a word points outside
-pub record IsOutsideAt (words : List (List ℕ)) (contents : Contents) (Told : List ℕ → Type 0) : Type 0 where
-  pub name : List ℕ
-  pub asks : AsksToGet words name
-  pub at : ℕ
-  pub value : ℕ
-  pub has : HasOutside contents name at value
-  pub told : Told (outside_line at value)
+-- a word points outside: in the image that the words name, or in the one that a crash leaves of the replay that they ask for
+pub data IsOutsideAt (words : List (List ℕ)) (contents : Contents) (left : Option (List ℕ)) (Told : List ℕ → Type 0) : Type 0 where
+  in_image : (name : List ℕ) (at value : ℕ) → AsksToGet words name → HasOutside contents name at value
+      → Told (outside_line at value) → IsOutsideAt words contents left Told
+  in_image_left : (name : List ℕ) (at value : ℕ) → AsksForReplay words name → HasOutsideLeft contents left name at value
+      → Told (outside_line at value) → IsOutsideAt words contents left Told
 
 -- the store tells that it has a malformed image of this name
 pub record HoldsMalformed (contents : Contents) (name : List ℕ) : Type 0 where
@@ -170,11 +184,15 @@ pub record HoldsMaps (contents : Contents) (name : List ℕ) : Type 0 where
   pub inside : (at : ℕ) → PointsOutside (image_of_bytes bytes) at → ⊥
   pub maps : (shard : ℕ) → shard < shards → (map : Map) × MapOf (image_of_bytes bytes) shard map
 
--- the words ask for a run over an image that is good, and the trace is refused: a line of it asks for nothing, of which the first is told, or it is too long
+-- the words ask for a run or a replay over an image that is good, and the trace or the schedule is refused: a line of it asks for nothing, of which the first is told, or it is too long
 pub data IsBadTrace (words : List (List ℕ)) (contents : Contents) (left : Option (List ℕ)) (Told : List ℕ → Type 0) : Type 0 where
   at_line : (name : List ℕ) (line : ℕ) → AsksForRun words name → HasMapped contents name → HasBadLine left line
       → Told (bad_line_line line) → IsBadTrace words contents left Told
   too_long : (name : List ℕ) → AsksForRun words name → HasMapped contents name → HasTooMuch left
+      → Told too_long_line → IsBadTrace words contents left Told
+  at_step : (name : List ℕ) (line : ℕ) → AsksForReplay words name → HasGood contents name → HasBadStep left line
+      → Told (bad_step_line line) → IsBadTrace words contents left Told
+  schedule_too_long : (name : List ℕ) → AsksForReplay words name → HasGood contents name → HasTooMuch left
       → Told too_long_line → IsBadTrace words contents left Told
 
 -- the source tells that a line of the trace that it has left asks for nothing
@@ -198,6 +216,27 @@ pub record HoldsTrace (left : Option (List ℕ)) : Type 0 where
   pub lines : List Line
   pub lines_are : AreLines (lines_of trace) lines
 
+-- the source tells that a line of the schedule that it has left tells no step
+pub record HoldsBadStep (left : Option (List ℕ)) (line : ℕ) : Type 0 where
+  pub text : List ℕ
+  pub all : left ≡ Some text
+  pub short : length text ≤ longest_trace
+  pub first : IsFirstBad (lines_of text) line
+
+-- the source tells that it has a schedule left
+pub record HoldsSchedule (left : Option (List ℕ)) : Type 0 where
+  pub text : List ℕ
+  pub all : left ≡ Some text
+  pub short : length text ≤ longest_trace
+  pub schedule : Schedule
+  pub is : IsSchedule text schedule
+
+-- the store and the source tell of an image that can be recovered, and of a schedule whose replay leaves nothing outside
+pub record HoldsReplay (contents : Contents) (name : List ℕ) (left : Option (List ℕ)) : Type 0 where
+  pub image : HoldsGood contents name
+  pub schedule : HoldsSchedule left
+  pub inside : (at value : ℕ) → HasOutsideLeft contents left name at value → ⊥
+
 -- nothing in the store or the source stands against the command
 abbrev pub CanBeDone : Command → Contents → Option (List ℕ) → Type 0
 CanBeDone (format_image image capacity) contents left = Unit {0}
@@ -206,3 +245,4 @@ CanBeDone (drain_image image class) contents left = HoldsGood contents image
 CanBeDone (gen_trace requests seed) contents left = Unit {0}
 CanBeDone (run_image image options) contents left = HoldsMaps contents image × HoldsTrace left
 CanBeDone (rebuild_image image budget seed) contents left = HoldsGood contents image
+CanBeDone (replay_image image seed) contents left = HoldsReplay contents image left

@@ -38,7 +38,7 @@ outside = 8
 abbrev pub bad_shard : ℕ
 bad_shard = 9
 
--- a line of the trace asks for nothing, or the trace is too long
+-- a line of the trace or of the schedule asks for nothing, or it is too long
 abbrev pub bad_trace : ℕ
 bad_trace = 10
 
@@ -50,7 +50,7 @@ pub record LeavesStore (status : ℕ) : Type 0 where
   pub refused : status ≢ done
   pub not_put : status ≢ write_fault
 
--- a status by which the words or the image are refused, so that no trace is read
+-- a status by which the words or the image are refused, so that nothing is read from the source
 pub record IsBeforeTrace (status : ℕ) : Type 0 where
   pub among : Contains (usage ∷ no_image ∷ bad_header ∷ outside ∷ bad_shard ∷ []) status
 

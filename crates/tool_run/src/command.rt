@@ -1,12 +1,12 @@
 //! The command that the words of the command line ask for, as the crate clap takes them.
 ghost use Rattle.std.specs.Prelude.{◌≡◌, ℕ, Bool, List, Some, codes, slice_get, IfOk, IsErrOf};
-ghost use Rattle.tool_run.specs.Command.{Asks, AsksToFormat, AsksToShow, AsksToDrain, AsksToGen, AsksToRun, AsksToRebuild, IsUsage, texts, image_name};
+ghost use Rattle.tool_run.specs.Command.{Asks, AsksToFormat, AsksToShow, AsksToDrain, AsksToGen, AsksToRun, AsksToRebuild, AsksToReplay, IsUsage, texts, image_name};
 ghost use Rattle.image_run.specs.Running.{Options};
 ghost use Rattle.tool_run.specs.Inside.{command_of};
 
 use crate::command_line::{
     Refusal, drain_command, format_command, gen_command, has_flag, match_words, number_of,
-    number_or, rebuild_command, run_command, show_command, text_of,
+    number_or, rebuild_command, replay_command, run_command, show_command, text_of,
 };
 use crate::size_class::SizeClass;
 use crate::trace_plan::{GREATEST_SEED, MOST_REQUESTS, TracePlan};
@@ -41,6 +41,10 @@ pub enum Invocation<'a> {
         budget: u64,
         seed: u64,
     },
+    Replay {
+        image: &'a str,
+        seed: u64,
+    },
 }
 
 impl<'a> Invocation<'a> {
@@ -59,6 +63,7 @@ impl<'a> Invocation<'a> {
                 budget: _,
                 seed: _,
             } => image,
+            Invocation::Replay { image, seed: _ } => image,
         }
     }
 }
@@ -100,6 +105,9 @@ fn parse_command<'a>(
     }
     if command == "rebuild" {
         return parse_rebuild(alloc, words);
+    }
+    if command == "replay" {
+        return parse_replay(alloc, words);
     }
     Err(Refusal::Usage)
 }
@@ -215,4 +223,20 @@ fn parse_rebuild<'a>(alloc: Global, words: &'a [String]) -> Result<Invocation<'a
         budget,
         seed,
     })
+}
+
+fn parse_replay<'a>(alloc: Global, words: &'a [String]) -> Result<Invocation<'a>, Refusal>
+    requires { slice_get (texts words.now) 0 ≡ Some (codes "replay") }
+    ensures ok { IfOk result (λ invocation. Asks (texts words.entry.now) (command_of invocation)) }
+    ensures err { IsErrOf result Refusal.Usage → (image : List ℕ) (seed : ℕ)
+        → AsksToReplay (texts words.entry.now) image seed → ⊥ }
+{
+    let matches = match_words(replay_command(alloc)?, words)?;
+    let Some(image) = text_of(&matches, "IMAGE") else {
+        return Err(Refusal::Usage);
+    };
+    let Some(seed) = number_or(&matches, "seed", 0, 0, u64::MAX) else {
+        return Err(Refusal::Usage);
+    };
+    Ok(Invocation::Replay { image, seed })
 }

@@ -3,7 +3,7 @@ ghost use Rattle.std.specs.Prelude.{◌≡◌, ◌≢◌, ◌≤◌, ℕ, true, 
 ghost use Rattle.clap.specs.Words.{app_of, kind_of, is_simple, is_simple_and_free, fault_of, first_of, rows_of, found_of};
 ghost use Rattle.clap.specs.declared.error.kind.ErrorKind.TheVariants.{OutOfMemory};
 ghost use Rattle.tool_run.specs.Command.{texts};
-ghost use Rattle.tool_run.specs.CommandLine.{format_app, show_app, drain_app, gen_app, plain_run_app, with_limits, run_app, rebuild_app, IsMatchedBy, HasNumber, HasNumberOr, HasFlag};
+ghost use Rattle.tool_run.specs.CommandLine.{format_app, show_app, drain_app, gen_app, plain_run_app, with_limits, run_app, rebuild_app, replay_app, IsMatchedBy, HasNumber, HasNumberOr, HasFlag};
 ghost use Rattle.tool_run.specs.declared.command_line.Refusal.TheVariants.{Usage, Memory};
 
 use crate::trace_plan::{GREATEST_SEED, MOST_REQUESTS};
@@ -135,6 +135,17 @@ pub fn rebuild_command<'a>(alloc: Global) -> Result<Command<'a>, AllocError>
 {
     let image = Arg::new(alloc, "IMAGE").required(true);
     with_limits(alloc, Command::new(alloc, "rebuild").arg(image)?)
+}
+
+/// `replay IMAGE [--seed X]`.
+pub fn replay_command<'a>(alloc: Global) -> Result<Command<'a>, AllocError>
+    ensures { IfOk result (λ command. app_of command ≡ replay_app) }
+{
+    let image = Arg::new(alloc, "IMAGE").required(true);
+    let seed = Arg::new(alloc, "seed")
+        .long("seed")
+        .value_parser(ValueParser::unsigned(0, u64::MAX));
+    Command::new(alloc, "replay").arg(image)?.arg(seed)
 }
 
 /// What clap makes of the words, of which the first is the command's name.

@@ -2,8 +2,8 @@
 ghost use Rattle.std.specs.Prelude.{◌≡◌, ◌++◌, ◌≤◌, List, ℕ, OnOk, OnErr, IsErr};
 ghost use Rattle.tool_ports.specs.Causes.{HasCause};
 ghost use Rattle.tool_ports.specs.Taken.{taken_with, TakesPart};
-ghost use Rattle.tool_run.specs.Inside.{status_of, line_of, IsPlain, fault_of_get, fault_of_put, fault_of_recovery, fault_of_maps, fault_of_reading, fault_of_trace};
-ghost use Rattle.tool_run.specs.Lines.{Tells, cause_name, outside_line, bad_shard_line, bad_line_line};
+ghost use Rattle.tool_run.specs.Inside.{status_of, line_of, IsPlain, fault_of_get, fault_of_put, fault_of_recovery, fault_of_maps, fault_of_reading, fault_of_trace, fault_of_replay};
+ghost use Rattle.tool_run.specs.Lines.{Tells, cause_name, outside_line, bad_shard_line, bad_line_line, bad_step_line};
 ghost use Rattle.tool_run.specs.declared.fault.Fault.TheVariants.{Memory, WriteFault, Malformed};
 ghost use Rattle.trace_text.specs.Report.{line_feed};
 ghost use Rattle.std.specs.Int.{w64, to_be_bytes};
@@ -13,6 +13,7 @@ use crate::status::Status;
 use dictionary::MapFault;
 use heap_model::BadHeader;
 use heap_recover::RecoverFault;
+use image_replay::ReplayFault;
 use itoa::Buffer;
 use std::alloc::AllocError;
 use tool_ports::{Failed, GetFault, PutImageFault, ReadAllFault, Sink, write_all};
@@ -30,6 +31,7 @@ pub enum Fault {
     Outside { at: u64, value: u64 },
     BadShard { shard: usize, at: u64 },
     BadLine { line: u64 },
+    BadStep { line: u64 },
     TooLong,
 }
 
@@ -47,6 +49,7 @@ impl Fault {
             Fault::Outside { at: _, value: _ } => 8,
             Fault::BadShard { shard: _, at: _ } => 9,
             Fault::BadLine { line: _ } => 10,
+            Fault::BadStep { line: _ } => 10,
             Fault::TooLong => 10,
         })
     }
@@ -66,6 +69,7 @@ impl Fault {
             Fault::Outside { at: _, value: _ } => ("", ""),
             Fault::BadShard { shard: _, at: _ } => ("", ""),
             Fault::BadLine { line: _ } => ("", ""),
+            Fault::BadStep { line: _ } => ("", ""),
             Fault::TooLong => ("bad trace too long", ""),
         }
     }
@@ -82,6 +86,7 @@ impl Fault {
             Fault::Outside { at, value } => write_outside(out, at, value),
             Fault::BadShard { shard, at } => write_bad_shard(out, shard, at),
             Fault::BadLine { line } => write_bad_line(out, line),
+            Fault::BadStep { line } => write_bad_step(out, line),
             _ => {
                 let (text, detail) = self.line(image);
                 write_line(out, text, detail)
@@ -162,6 +167,17 @@ fn write_bad_line<O: Sink>(out: &mut O, line: u64) -> Result<(), Failed>
 {
     let mut number = Buffer::new();
     write_line(out, "bad trace line ", number.format(line))
+}
+
+fn write_bad_step<O: Sink>(out: &mut O, line: u64) -> Result<(), Failed>
+    ensures ok { OnOk result
+        (O.taken out.new ≡ taken_with (O.taken out.old) (bad_step_line line)) }
+    ensures err { OnErr result
+        (TakesPart (bad_step_line line) (O.taken out.old) (O.taken out.new)) }
+    ensures cause { HasCause (O.faults out.old) (O.faults out.new) (IsErr result) }
+{
+    let mut number = Buffer::new();
+    write_line(out, "bad schedule line ", number.format(line))
 }
 
 // A word in sixteen hexadecimal digits.
@@ -274,6 +290,17 @@ impl From<TraceError> for Fault {
         match cause {
             TraceError::BadLine { line } => Fault::BadLine { line },
             TraceError::Memory => Fault::Memory,
+        }
+    }
+}
+
+impl From<ReplayFault> for Fault {
+    ghost from_gives = { λ cause fault. fault ≡ fault_of_replay cause };
+
+    fn from(cause: ReplayFault) -> Self {
+        match cause {
+            ReplayFault::Outside { at, value } => Fault::Outside { at, value },
+            ReplayFault::Memory => Fault::Memory,
         }
     }
 }

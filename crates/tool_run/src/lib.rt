@@ -11,6 +11,7 @@ mod generating;
 mod making;
 mod rebuilding;
 mod recovering;
+mod replaying;
 mod run;
 mod size_class;
 mod status;

@@ -6,7 +6,7 @@ ghost use Rattle.tool_run.specs.Calls.{get_limit, with_making};
 ghost use Rattle.tool_run.specs.Inside.{command_of, Refuses, RefusesEither, IsBeforeReading};
 ghost use Rattle.tool_run.specs.Command.{show_image};
 ghost use Rattle.tool_ports.specs.Left.{IsAtEnd};
-ghost use Rattle.tool_run.specs.Making.{Makes, RunsATrace, IsFormatted, Shows};
+ghost use Rattle.tool_run.specs.Making.{Makes, ReadsSource, IsFormatted, Shows};
 
 use crate::command::Invocation;
 use crate::draining::drain_image;
@@ -14,6 +14,7 @@ use crate::fault::Fault;
 use crate::generating::generate;
 use crate::rebuilding::rebuild_named;
 use crate::recovering::recover_image;
+use crate::replaying::replay_named;
 use crate::working::work_named;
 use dictionary::read_maps;
 use image_run::recovered_text;
@@ -44,9 +45,11 @@ pub fn make<R, I: ImageStore, T: Source, G: Gate + Sync, C: Chances>(
     ensures err { IfErr result (RefusesEither (command_of command.entry)
         (I.contents images.old) (T.left trace.old) (Rose (I.faults images.old) (I.faults images.new))
         (Rose (T.faults trace.old) (T.faults trace.new))) }
-    ensures unread { IfErr result (λ fault. IsBeforeReading fault → trace.new ≡ trace.old) }
-    ensures no_run { ¬ (RunsATrace (command_of command.entry)) → trace.new ≡ trace.old }
-    ensures end { OnOk result (RunsATrace (command_of command.entry) → IsAtEnd (T.left trace.new)) }
+    ensures unread { IfErr result (λ fault. IsBeforeReading (command_of command.entry) fault
+        → trace.new ≡ trace.old) }
+    ensures no_source { ¬ (ReadsSource (command_of command.entry)) → trace.new ≡ trace.old }
+    ensures end { OnOk result (ReadsSource (command_of command.entry)
+        → IsAtEnd (T.left trace.new)) }
     ensures unchanged { I.contents images.new ≡ I.contents images.old }
     ensures later { I.faults images.old ≤ I.faults images.new }
     ensures calls { I.calls images.new
@@ -65,6 +68,9 @@ pub fn make<R, I: ImageStore, T: Source, G: Gate + Sync, C: Chances>(
             budget,
             seed,
         } => rebuild_named(alloc, image, budget, seed, images, chances),
+        Invocation::Replay { image, seed } => {
+            replay_named(alloc, image, seed, images, trace, chances)
+        }
     }
 }
 

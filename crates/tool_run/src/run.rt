@@ -7,9 +7,9 @@ ghost use Rattle.tool_ports.specs.Left.{IsAtEnd};
 ghost use Rattle.tool_run.specs.Calls.{get_limit, with_command, with_status};
 ghost use Rattle.tool_run.specs.Command.{Command, Asks, AsksToFormat, AsksToGen, IsUsage, texts};
 ghost use Rattle.tool_run.specs.Inside.{command_of, status_of, IsCarriedOut, IsStopped, IsBeforeReading};
-ghost use Rattle.tool_run.specs.Making.{RunsATrace};
+ghost use Rattle.tool_run.specs.Making.{ReadsSource};
 ghost use Rattle.tool_run.specs.Lines.{Tells, memory_line};
-ghost use Rattle.tool_run.specs.Outcome.{IsDone, IsReadFault, IsWriteFault, AsksToGet, AsksToLook, AsksToPutBack, AsksToRead, AsksForRun, IsAbsent, IsBadHeader, IsOutsideAt, IsBadShardAt, IsBadTrace, HoldsMalformed, HoldsOutside, HoldsBadShard, HoldsMaps, HoldsBadLine, HoldsTooMuch, CanBeDone};
+ghost use Rattle.tool_run.specs.Outcome.{IsDone, IsReadFault, IsWriteFault, AsksToGet, AsksToLook, AsksToPutBack, AsksToRead, AsksForRun, AsksForReplay, AsksForSource, IsAbsent, IsBadHeader, IsOutsideAt, IsBadShardAt, IsBadTrace, HoldsMalformed, HoldsOutside, HoldsBadShard, HoldsGood, HoldsMaps, HoldsBadLine, HoldsBadStep, HoldsTooMuch, CanBeDone};
 ghost use Rattle.tool_run.specs.Status.{done, usage, out_of_memory, read_fault, write_fault, no_image, bad_header, outside, bad_shard, bad_trace, statuses, LeavesStore, IsBeforeTrace, own_line};
 
 use crate::command::{Invocation, parse};
@@ -27,8 +27,10 @@ use tool_ports::{Chances, Gate, ImageStore, Sink, Source};
 /// left over an image, puts the image that is left and prints the replies and a report, with
 /// `--stop K` and `--seed X` as far as step K, with early write-backs by that seed, and with `--sum`
 /// and `--map` other texts; `rebuild IMAGE [--stop K] [--seed X]` recovers an image in place, puts
-/// the image that is left and prints a report; `drain IMAGE CLASS` recovers an image and prints the
-/// offsets of the blocks that the class then gives, and `gen N SEED` prints a trace. Where there is
+/// the image that is left and prints a report; `replay IMAGE [--seed X]` takes the steps of the
+/// schedule that the source has left over a recovered image, and prints what they answer and a
+/// report on what a crash then leaves; `drain IMAGE CLASS` recovers an image and prints the offsets
+/// of the blocks that the class then gives, and `gen N SEED` prints a trace. Where there is
 /// no result, a line tells why; one that the sink refuses is lost. What a heap writes back early
 /// comes from `chances`, with the seed 0 where none is given.
 pub fn run_tool<R, I: ImageStore, T: Source, O: Sink, G: Gate + Sync, C: Chances>(
@@ -61,6 +63,7 @@ pub fn run_tool<R, I: ImageStore, T: Source, O: Sink, G: Gate + Sync, C: Chances
     ensures cause { result ≡ bad_header → IsBadHeader (texts words.now) (I.contents images.old)
         (λ line. Tells line (O.faults out.old) (O.faults out.new) (O.taken out.old) (O.taken out.new)) }
     ensures outside { result ≡ outside → IsOutsideAt (texts words.now) (I.contents images.old)
+        (T.left trace.old)
         (λ line. Tells line (O.faults out.old) (O.faults out.new) (O.taken out.old) (O.taken out.new)) }
     ensures bad_shard { result ≡ bad_shard → IsBadShardAt (texts words.now) (I.contents images.old)
         (λ line. Tells line (O.faults out.old) (O.faults out.new) (O.taken out.old) (O.taken out.new)) }
@@ -72,11 +75,13 @@ pub fn run_tool<R, I: ImageStore, T: Source, O: Sink, G: Gate + Sync, C: Chances
         (O.taken out.old) (O.taken out.new)) }
     ensures unchanged { LeavesStore result → I.contents images.new ≡ I.contents images.old }
 
-    // The trace is read for a run alone, once its image is good, and then to its end.
-    ensures unread { ((name : List ℕ) → ¬ (AsksForRun (texts words.now) name))
+    // The source is read for a run or a replay alone, once its image is good, and then to its end.
+    ensures unread { ((name : List ℕ) → ¬ (AsksForSource (texts words.now) name))
         → trace.new ≡ trace.old }
-    ensures not_yet_read { IsBeforeTrace result → trace.new ≡ trace.old }
-    ensures read_to_the_end { (name : List ℕ) → AsksForRun (texts words.now) name
+    ensures not_yet_read { IsBeforeTrace result
+        → (result ≡ outside → (name : List ℕ) → ¬ (AsksForReplay (texts words.now) name))
+        → trace.new ≡ trace.old }
+    ensures read_to_the_end { (name : List ℕ) → AsksForSource (texts words.now) name
         → result ≡ done → IsAtEnd (T.left trace.new) }
 
     // How often the store is called: not at all, or for one get, for one put, or for both.
@@ -120,10 +125,16 @@ pub fn run_tool<R, I: ImageStore, T: Source, O: Sink, G: Gate + Sync, C: Chances
     ensures always_too_long { (name : List ℕ) → AsksForRun (texts words.now) name
         → HoldsMaps (I.contents images.old) name → HoldsTooMuch (T.left trace.old)
         → (result ≡ bad_trace) ⊎ (result ≡ out_of_memory) ⊎ (result ≡ read_fault) }
+    ensures always_bad_step { (name : List ℕ) (line : ℕ) → AsksForReplay (texts words.now) name
+        → HoldsGood (I.contents images.old) name → HoldsBadStep (T.left trace.old) line
+        → (result ≡ bad_trace) ⊎ (result ≡ out_of_memory) ⊎ (result ≡ read_fault) }
+    ensures always_schedule_too_long { (name : List ℕ) → AsksForReplay (texts words.now) name
+        → HoldsGood (I.contents images.old) name → HoldsTooMuch (T.left trace.old)
+        → (result ≡ bad_trace) ⊎ (result ≡ out_of_memory) ⊎ (result ≡ read_fault) }
     ensures complete { (command : Command) → Asks (texts words.now) command
         → CanBeDone command (I.contents images.old) (T.left trace.old)
         → ¬ (Rose (I.faults images.old) (I.faults images.new))
-        → (RunsATrace command → ¬ (Rose (T.faults trace.old) (T.faults trace.new)))
+        → (ReadsSource command → ¬ (Rose (T.faults trace.old) (T.faults trace.new)))
         → ¬ (Rose (O.faults out.old) (O.faults out.new))
         → (result ≡ done) ⊎ (result ≡ out_of_memory) }
 {
@@ -165,9 +176,11 @@ fn carry_out<R, I: ImageStore, T: Source, O: Sink, G: Gate + Sync, C: Chances>(
         (Rose (I.faults images.old) (I.faults images.new))
         (Rose (T.faults trace.old) (T.faults trace.new))
         (Rose (O.faults out.old) (O.faults out.new)) (O.taken out.old) (O.taken out.new)) }
-    ensures unread { IfErr result (λ fault. IsBeforeReading fault → trace.new ≡ trace.old) }
-    ensures no_run { ¬ (RunsATrace (command_of command.entry)) → trace.new ≡ trace.old }
-    ensures end { OnOk result (RunsATrace (command_of command.entry) → IsAtEnd (T.left trace.new)) }
+    ensures unread { IfErr result (λ fault. IsBeforeReading (command_of command.entry) fault
+        → trace.new ≡ trace.old) }
+    ensures no_source { ¬ (ReadsSource (command_of command.entry)) → trace.new ≡ trace.old }
+    ensures end { OnOk result (ReadsSource (command_of command.entry)
+        → IsAtEnd (T.left trace.new)) }
     ensures later_store { I.faults images.old ≤ I.faults images.new }
     ensures later_sink { O.faults out.old ≤ O.faults out.new }
     ensures calls { OnOk result

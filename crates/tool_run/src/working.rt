@@ -21,8 +21,8 @@ use super_block::Ready;
 use tool_ports::{Chances, Gate, ImageStore, Source, read_all};
 use trace_text::{Request, parse_trace};
 
-/// The most bytes of a trace.
-const LONGEST_TRACE: usize = 1 << 24;
+/// The most bytes of a trace or a schedule.
+pub const LONGEST_TRACE: usize = 1 << 24;
 
 /// Runs the trace that the source has left over the image of this name, and makes the image that is
 /// left and the text on the run.
@@ -42,7 +42,8 @@ pub fn work_named<R, I: ImageStore, T: Source, G: Gate + Sync, C: Chances>(
     ensures err { IfErr result (RefusesEither (run_image name.now (options_of options))
         (I.contents images.old) (T.left trace.old) (Rose (I.faults images.old) (I.faults images.new))
         (Rose (T.faults trace.old) (T.faults trace.new))) }
-    ensures unread { IfErr result (λ fault. IsBeforeReading fault → trace.new ≡ trace.old) }
+    ensures unread { IfErr result (λ fault. IsBeforeReading (run_image name.now (options_of options))
+        fault → trace.new ≡ trace.old) }
     ensures unchanged { I.contents images.new ≡ I.contents images.old }
     ensures later { I.faults images.old ≤ I.faults images.new }
     ensures calls { I.calls images.new ≡ with_get get_limit (I.calls images.old) }

@@ -1,5 +1,5 @@
 use Rattle.std.proofs.Common.{◌≡◌, ◌∙◌, ap, rules, codes, List, ℕ, Some}
-use Rattle.tool_run.proofs.CommandLemmas.{usage_format, usage_show, usage_drain, usage_gen, usage_run, usage_rebuild}
+use Rattle.tool_run.proofs.CommandLemmas.{usage_format, usage_show, usage_drain, usage_gen, usage_run, usage_rebuild, usage_replay}
 use Rattle.tool_run.proofs.command.parse_command.Goals as goal
 
 pub returns-then-eq-clause-err : goal.returns-then-eq-clause-err
@@ -31,3 +31,8 @@ pub returns-then-eq-6-clause-err : goal.returns-then-eq-6-clause-err
 returns-then-eq-6-clause-err c is =
     let word : c.args.command.now ≡ codes "rebuild" = search rules in
     usage_rebuild _ (c.requires ∙ ap (λ (w : List ℕ). Some w) word) (c.parse_rebuild.ensures.err is)
+
+pub returns-then-eq-7-clause-err : goal.returns-then-eq-7-clause-err
+returns-then-eq-7-clause-err c is =
+    let word : c.args.command.now ≡ codes "replay" = search rules in
+    usage_replay _ (c.requires ∙ ap (λ (w : List ℕ). Some w) word) (c.parse_replay.ensures.err is)

@@ -1,15 +1,16 @@
-use Rattle.tool_run.proofs.StatusLemmas.{has_status, is_read_fault, is_write_fault, is_bad_header, is_outside, is_bad_shard, is_absent, is_bad_trace, is_own_line, for_run}
+use Rattle.tool_run.proofs.StatusLemmas.{has_status, is_read_fault, is_write_fault, is_bad_header, is_outside, is_bad_shard, is_absent, is_bad_trace, is_own_line, for_source, before_reading}
 use Rattle.std.proofs.Common.{arith, rules}
 use Rattle.tool_run.proofs.CallLemmas.{rose_since}
-use Rattle.tool_run.proofs.PutBackLemmas.{put_once}
+use Rattle.tool_run.proofs.PutBackLemmas.{put_once, looked_once, got_alone}
 use Rattle.tool_run.proofs.AbsentLemmas.{stops_absent}
 use Rattle.tool_run.proofs.BadTraceLemmas.{stops_bad_line, stops_too_long, done_bad_line, done_too_long}
+use Rattle.tool_run.proofs.BadScheduleLemmas.{stops_bad_step, stops_schedule_too_long, done_bad_step, done_schedule_too_long}
 use Rattle.tool_run.proofs.CompleteLemmas.{stops_complete}
 use Rattle.tool_run.proofs.BadShardLemmas.{stops_bad, not_done_bad}
 use Rattle.tool_run.proofs.OutsideLemmas.{stops_outside, not_done}
-use Rattle.tool_run.proofs.MalformedLemmas.{stops_malformed}
+use Rattle.tool_run.proofs.MalformedLemmas.{stops_malformed, not_done_malformed}
 use Rattle.tool_run.specs.declared.fault.Fault.TheVariants.{Memory}
-use Rattle.tool_run.specs.Command.{format_image, run_image}
+use Rattle.tool_run.specs.Command.{format_image, run_image, replay_image}
 use Rattle.tool_run.proofs.run.run_tool.Goals as goal
 
 pub returns-in-Err-clause-known : goal.returns-in-Err-clause-known
@@ -103,10 +104,10 @@ returns-in-Err-clause-line g c =
     c.in-Err.fault _ c.in-Err.ensures.err c.tell-in-Err.ensures.status c.tell-in-Err.ensures.told
 
 pub returns-in-Err-clause-unread : goal.returns-in-Err-clause-unread
-returns-in-Err-clause-unread g c none = c.carry_out.ensures.no_run (λ runs. none _ (for_run _ _ runs c.in-Ok.ensures.ok))
+returns-in-Err-clause-unread g c none = c.carry_out.ensures.no_source (λ reads. none _ (for_source _ _ reads c.in-Ok.ensures.ok))
 
 pub returns-in-Ok-carry_out-clause-unread : goal.returns-in-Ok-carry_out-clause-unread
-returns-in-Ok-carry_out-clause-unread g c none = c.carry_out.ensures.no_run (λ runs. none _ (for_run _ _ runs c.in-Ok.ensures.ok))
+returns-in-Ok-carry_out-clause-unread g c none = c.carry_out.ensures.no_source (λ reads. none _ (for_source _ _ reads c.in-Ok.ensures.ok))
 
 pub returns-in-Err-Usage-clause-get_alone : goal.returns-in-Err-Usage-clause-get_alone
 returns-in-Err-Usage-clause-get_alone g c name asks = absurd (c.parse.ensures.err (search rules) asks.command asks.asked)
@@ -120,3 +121,37 @@ returns-in-Err-Usage-clause-always_too_long g c name asks = absurd (c.parse.ensu
 pub returns-in-Err-clause-get_and_put : goal.returns-in-Err-clause-get_and_put
 returns-in-Err-clause-get_and_put g c =
     put_once _ _ _ _ _ c.in-Err.fault c.in-Ok.ensures.ok c.in-Err.ensures.calls_err c.tell-in-Err.ensures.status
+
+pub returns-in-Err-clause-always_bad_step : goal.returns-in-Err-clause-always_bad_step
+returns-in-Err-clause-always_bad_step g c =
+    stops_bad_step _ _ _ _ _ _ _ _ c.in-Ok.ensures.ok _ _ _ c.in-Err.fault c.in-Err.ensures.err c.tell-in-Err.ensures.status
+
+pub returns-in-Err-clause-always_schedule_too_long : goal.returns-in-Err-clause-always_schedule_too_long
+returns-in-Err-clause-always_schedule_too_long g c =
+    stops_schedule_too_long _ _ _ _ _ _ _ _ c.in-Ok.ensures.ok _ _ _ c.in-Err.fault c.in-Err.ensures.err c.tell-in-Err.ensures.status
+
+pub returns-in-Ok-carry_out-clause-always_bad_step : goal.returns-in-Ok-carry_out-clause-always_bad_step
+returns-in-Ok-carry_out-clause-always_bad_step g c = done_bad_step _ _ _ _ _ _ _ _ c.in-Ok.ensures.ok c.in-Ok-carry_out.ensures.ok
+
+pub returns-in-Ok-carry_out-clause-always_schedule_too_long : goal.returns-in-Ok-carry_out-clause-always_schedule_too_long
+returns-in-Ok-carry_out-clause-always_schedule_too_long g c = done_schedule_too_long _ _ _ _ _ _ _ _ c.in-Ok.ensures.ok c.in-Ok-carry_out.ensures.ok
+
+pub returns-in-Err-Usage-clause-always_bad_step : goal.returns-in-Err-Usage-clause-always_bad_step
+returns-in-Err-Usage-clause-always_bad_step g c name line asks = absurd (c.parse.ensures.err (search rules) (replay_image name asks.seed) asks.asked)
+
+pub returns-in-Err-Usage-clause-always_schedule_too_long : goal.returns-in-Err-Usage-clause-always_schedule_too_long
+returns-in-Err-Usage-clause-always_schedule_too_long g c name asks = absurd (c.parse.ensures.err (search rules) (replay_image name asks.seed) asks.asked)
+
+pub returns-in-Ok-carry_out-clause-always_cause : goal.returns-in-Ok-carry_out-clause-always_cause
+returns-in-Ok-carry_out-clause-always_cause g c = not_done_malformed _ _ _ _ _ _ _ _ c.in-Ok.ensures.ok c.in-Ok-carry_out.ensures.ok
+
+pub returns-in-Err-clause-not_yet_read : goal.returns-in-Err-clause-not_yet_read
+returns-in-Err-clause-not_yet_read g c before no_replay =
+    c.in-Err.ensures.unread (before_reading _ _ _ c.in-Err.fault c.in-Ok.ensures.ok c.tell-in-Err.ensures.status before no_replay)
+
+pub returns-in-Err-clause-one_get : goal.returns-in-Err-clause-one_get
+returns-in-Err-clause-one_get g c name asks memory = looked_once _ _ _ _ c.in-Err.fault c.in-Ok.ensures.ok c.in-Err.ensures.calls_err name asks
+
+pub returns-in-Err-clause-get_alone : goal.returns-in-Err-clause-get_alone
+returns-in-Err-clause-get_alone g c name asks done whole memory =
+    got_alone _ _ _ _ _ c.in-Err.fault c.in-Ok.ensures.ok c.in-Err.ensures.calls_err c.tell-in-Err.ensures.status name asks whole

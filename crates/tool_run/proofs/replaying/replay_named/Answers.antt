@@ -1,0 +1,55 @@
+use Rattle.std.proofs.Common.{refl, subst}
+use Rattle.tool_run.specs.Inside.{IsBeforeReading}
+use Rattle.tool_run.specs.Command.{replay_image}
+use Rattle.tool_run.proofs.CallLemmas.{refused_by_image}
+use Rattle.tool_run.proofs.DeliveryLemmas.{at_cause}
+use Rattle.tool_run.proofs.ReplayLemmas.{can_be_replayed, heap_of, was_read, refused_later, replay_fault}
+use Rattle.tool_run.proofs.replaying.replay_named.Goals as goal
+
+pub returns-in_err-recovered-clause-err : goal.returns-in_err-recovered-clause-err
+returns-in_err-recovered-clause-err g c =
+    at_cause _ c.from_residual.result c.from_residual.ensures
+    (λ fault is. refused_by_image (replay_image c.args.name.now c.args.seed) _ _ _ _ fault _ is
+    (c.in_err-recovered.ensures.err (replay_image c.args.name.now c.args.seed) tt refl))
+
+pub returns-in_err-schedule-clause-err : goal.returns-in_err-schedule-clause-err
+returns-in_err-schedule-clause-err g c =
+    let contents = g.I.ImageStore.contents c.args.images.now in
+    let both = c.in_ok-recovered in
+    at_cause _ c.from_residual-in_err-schedule.result c.from_residual-in_err-schedule.ensures
+    (λ fault is. refused_later contents c.args.name.now both.field-0-0.items both.recovered both.ensures.ok (g.T.Source.left c.args.source.now) c.args.seed _ _ fault _ is
+    (c.in_err-schedule.ensures.err contents c.args.name.now))
+
+pub returns-in_err-schedule-clause-unread : goal.returns-in_err-schedule-clause-unread
+returns-in_err-schedule-clause-unread g c =
+    let contents = g.I.ImageStore.contents c.args.images.now in
+    let left = g.T.Source.left c.args.source.now in
+    at_cause _ c.from_residual-in_err-schedule.result c.from_residual-in_err-schedule.ensures
+    (λ fault is before. absurd (was_read contents left c.args.name.now c.args.seed _ c.in_err-schedule.field-0.0 (c.in_err-schedule.ensures.err contents c.args.name.now)
+    (subst (IsBeforeReading (replay_image c.args.name.now c.args.seed)) is before)))
+
+pub replay_image-requires-after_bounds : goal.replay_image-requires-after_bounds
+replay_image-requires-after_bounds g c lifetimes live = can_be_replayed _ _ c.in_ok-schedule.ensures.ok
+
+pub returns-in_err-text-clause-err : goal.returns-in_err-text-clause-err
+returns-in_err-text-clause-err g c =
+    let contents = g.I.ImageStore.contents c.args.images.now in
+    let left = g.T.Source.left c.args.source.now in
+    let both = c.in_ok-recovered in
+    at_cause _ c.from_residual-in_err-text.result c.from_residual-in_err-text.ensures
+    (λ fault is. refused_later contents c.args.name.now both.field-0-0.items both.recovered both.ensures.ok left c.args.seed _ _ fault _ is
+    (replay_fault contents c.args.name.now both.field-0-0.items both.recovered both.ensures.ok left _ c.in_ok-schedule.schedule c.in_ok-schedule.ensures.ok _ c.in_err-text.ensures.err))
+
+pub returns-clause-ok : goal.returns-clause-ok
+returns-clause-ok g c =
+    let both = c.in_ok-recovered in (
+      refl,
+      record {
+        words = both.recovered.heap.words;
+        held = both.recovered.heap.held;
+        heap = heap_of (g.I.ImageStore.contents c.args.images.now) c.args.name.now both.field-0-0.items both.recovered both.ensures.ok;
+        schedule = c.in_ok-schedule.schedule;
+        has_schedule = c.in_ok-schedule.ensures.ok;
+        replays = c.in_ok-text.ensures.ok;
+      },
+    )

@@ -1,0 +1,63 @@
+//! Replays the schedule that the source has left over a named image.
+ghost use Rattle.std.specs.Prelude.{◌≡◌, ◌≤◌, ℕ, List, IfOk, IfErr, OnOk};
+ghost use Rattle.tool_ports.specs.Calls.{with_get};
+ghost use Rattle.tool_ports.specs.Causes.{Rose};
+ghost use Rattle.tool_ports.specs.Contents.{Contents};
+ghost use Rattle.tool_ports.specs.Left.{IsAtEnd};
+ghost use Rattle.tool_run.specs.Calls.{get_limit};
+ghost use Rattle.tool_run.specs.Command.{replay_image};
+ghost use Rattle.tool_run.specs.Inside.{RefusesEither, IsReplayFault, IsBeforeReading};
+ghost use Rattle.tool_run.specs.Making.{HasSchedule, ReplaysNamed};
+
+use crate::fault::Fault;
+use crate::making::Product;
+use crate::recovering::recover_words;
+use crate::working::LONGEST_TRACE;
+use image_replay::replay_image;
+use std::alloc::Global;
+use tool_ports::{Chances, ImageStore, Source, read_all};
+use trace_text::{Schedule, TraceError, parse_schedule};
+
+/// Replays the schedule that the source has left over the image of this name, and makes the text on
+/// it. The image stays as it is.
+pub fn replay_named<I: ImageStore, T: Source, C: Chances>(
+    alloc: Global,
+    name: &str,
+    seed: u64,
+    images: &mut I,
+    source: &mut T,
+    chances: &mut C,
+) -> Result<Product, Fault>
+    ensures ok { IfOk result (λ product. (product.image ≡ None)
+        × ReplaysNamed (I.contents images.old) (T.left source.old) name.now product.text) }
+    ensures end { OnOk result (IsAtEnd (T.left source.new)) }
+    ensures err { IfErr result (RefusesEither (replay_image name.now seed)
+        (I.contents images.old) (T.left source.old) (Rose (I.faults images.old) (I.faults images.new))
+        (Rose (T.faults source.old) (T.faults source.new))) }
+    ensures unread { IfErr result (λ fault. IsBeforeReading (replay_image name.now seed) fault
+        → source.new ≡ source.old) }
+    ensures unchanged { I.contents images.new ≡ I.contents images.old }
+    ensures later { I.faults images.old ≤ I.faults images.new }
+    ensures calls { I.calls images.new ≡ with_get get_limit (I.calls images.old) }
+{
+    let (_, recovered) = recover_words(alloc, name, images)?;
+    let schedule = read_schedule(alloc, source)?;
+    let text = replay_image(alloc, &recovered.heap, &schedule, seed, chances)?;
+    Ok(Product { image: None, text })
+}
+
+// The schedule that the source has left.
+fn read_schedule<T: Source>(alloc: Global, source: &mut T) -> Result<Schedule, Fault>
+    ensures ok { IfOk result (HasSchedule (T.left source.old)) }
+    ensures end { OnOk result (IsAtEnd (T.left source.new)) }
+    ensures err { IfErr result (λ fault. (contents : Contents) (name : List ℕ)
+        → IsReplayFault contents (T.left source.old) name
+        (Rose (T.faults source.old) (T.faults source.new)) fault) }
+{
+    let text = read_all(alloc, source, LONGEST_TRACE)?;
+    match parse_schedule(alloc, &text) {
+        Ok(schedule) => Ok(schedule),
+        Err(TraceError::BadLine { line }) => Err(Fault::BadStep { line }),
+        Err(TraceError::Memory) => Err(Fault::Memory),
+    }
+}
