@@ -1,0 +1,92 @@
+-- A step that a seat may do in every sound state is one that the rule of the table allows.
+use Rattle.std.proofs.Common.{◌≡◌, ℕ, List, true, [], ◌∷◌, get_or, set, refl, ap, sym, subst, ◌∙◌, arith}
+use mathlib.Core.Option.{some}
+use lib.ListN.{get_elem?}
+use Rattle.atomic_table.specs.Table.{Allows, keeps}
+use Rattle.core_model.specs.declared.event.Event.{Event}
+use Rattle.core_model.specs.Cells.{is_cell}
+use Rattle.core_model.specs.Memory.{Place, volatile_at, durable_at, tickets, memory_of, read, table_index}
+use Rattle.core_model.specs.View.{View}
+use Rattle.core_model.specs.Effects.{place_of, left_there, view_after}
+use Rattle.core_model.specs.Guards.{MayStep}
+use Rattle.core_model.specs.Sound.{Sound}
+use Rattle.core_model.specs.Steps.{found_by, words_after, seat_after}
+use Rattle.core_model.proofs.SoundLemmas.{in_table, sound_step}
+use Rattle.core_model.proofs.PlaceLemmas.{pick}
+use Rattle.core_model.proofs.TableLemmas.{is_place}
+use Rattle.heap_rule.specs.Joint.{Joint, IsSingle, all_views}
+use Rattle.heap_rule.specs.Rule.{Opening, Keeps, Holds, setup_for}
+use Rattle.heap_rule.specs.Plays.{Has, IsStepAt, Did, DidStore}
+use Rattle.heap_rule.proofs.JointLemmas.{offset, offset_below, at_offset, set_offset, same_seats}
+
+-- the state of the table, as one in which the seat has the view
+abbrev pub state_with : (o : Opening) (words : List ℕ) (joints : List Joint) (id : ℕ) (joint : Joint) (v : View) → v.setup ≡ setup_for o → Keeps o words joints → get_elem? joints id ≡ some joint → IsSingle joint v → Has v
+state_with o words joints id joint v setup holds at single = record {
+  words = words;
+  views = all_views joints;
+  seat = offset id joints;
+  sound = subst (λ k. Sound k words (all_views joints)) (sym setup) holds.sound;
+  below = offset_below joints id joint v at single;
+  at = at_offset joints id joint v at single;
+}
+
+-- a place of the table reads the word there
+pub read_at : (c : ℕ) (words : List ℕ) (p : Place) → is_place c p ≡ true → read (memory_of c words) p ≡ get_or words (table_index c p) 0
+read_at c words (volatile_at cell) is = pick (is_cell c cell) _ _ is
+read_at c words (durable_at cell) is = pick (is_cell c cell) _ _ is
+read_at c words tickets is = refl
+
+pub allowed : (o : Opening) (count id : ℕ) (joint : Joint) (slots : List (ℕ × ℕ)) (v : View) (event : Event) (place : ℕ) (f : ℕ → ℕ) → IsSingle joint v → IsStepAt o v event place f
+    → Allows (Holds o) count id (joint, slots) place f (λ found after. Did event (joint, slots) found after)
+allowed o count id joint slots v event place f single is s holds none at fits =
+    (record joint { views = w ∷ [] }, keeps, tt, kept, did) where
+      has : Has v
+      has = state_with o s.words s.views id joint v is.setup holds at single
+
+      step : MayStep (memory_of v.setup.capacity s.words) v event
+      step = is.may has
+
+      found : ℕ
+      found = get_or s.words place 0
+
+      found_is : found ≡ found_by (memory_of v.setup.capacity s.words) v event
+      found_is = ap (λ n. get_or s.words n 0) is.place_is
+          ∙ sym (read_at v.setup.capacity s.words (place_of v event) (in_table v.setup (memory_of v.setup.capacity s.words) (all_views s.views) has.seat v has.below has.at has.sound.good event step))
+
+      w : View
+      w = view_after (memory_of v.setup.capacity s.words) v event found
+
+      w_is : w ≡ seat_after (memory_of v.setup.capacity s.words) v event
+      w_is = ap (view_after (memory_of v.setup.capacity s.words) v event) found_is
+
+      sound : Sound v.setup (words_after v.setup s.words v event) (set (all_views s.views) has.seat w)
+      sound = subst (λ u. Sound v.setup (words_after v.setup s.words v event) (set (all_views s.views) has.seat u)) (sym w_is)
+          (sound_step v.setup s.words (all_views s.views) has.seat v event has.below has.at has.sound step)
+
+      words_are : words_after v.setup s.words v event ≡ set s.words place (f found)
+      words_are = ap (λ n. set s.words n (left_there (memory_of v.setup.capacity s.words) v event (found_by (memory_of v.setup.capacity s.words) v event))) (sym is.place_is)
+          ∙ ap (λ x. set s.words place x) (ap (left_there (memory_of v.setup.capacity s.words) v event) (sym found_is) ∙ sym (is.leaves s.words s.views holds has refl refl))
+
+      kept : Keeps o (set s.words place (f found)) (set s.views id (record joint { views = w ∷ [] }))
+      kept = record {
+        sound = subst (λ vs. Sound (setup_for o) (set s.words place (f found)) vs) (sym (set_offset s.views id joint v w at single))
+            (subst (λ ws. Sound (setup_for o) ws (set (all_views s.views) has.seat w)) words_are (subst (λ k. Sound k (words_after v.setup s.words v event) (set (all_views s.views) has.seat w)) is.setup sound));
+        few = let same = same_seats s.views id joint v w at single in let few = holds.few in omega arith;
+        low = holds.low;
+      }
+
+      did : Did event (joint, slots) found (record joint { views = w ∷ [] }, slots)
+      did = record {
+        view = v;
+        single = single;
+        left = w;
+        now = refl;
+        event_is = record { before = has; may = step; found_is = found_is; after = refl; kept = sound };
+      }
+
+-- the same of a store, which does not tell what it found
+pub allowed_store : (o : Opening) (count id : ℕ) (joint : Joint) (slots : List (ℕ × ℕ)) (v : View) (event : Event) (place value : ℕ) → IsSingle joint v → IsStepAt o v event place (λ _. value)
+    → Allows (Holds o) count id (joint, slots) place (λ _. value) (λ _ after. DidStore event (joint, slots) after)
+allowed_store o count id joint slots v event place value single is s holds none at fits =
+    let r = allowed o count id joint slots v event place (λ _. value) single is s holds none at fits in
+    (r.0, r.1, r.2, r.3, record { found = get_or s.words place 0; did = r.4 })

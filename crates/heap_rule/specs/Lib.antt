@@ -1,0 +1,3 @@
+pub mod Joint
+pub mod Rule
+pub mod Plays

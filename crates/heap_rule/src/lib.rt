@@ -1,0 +1,5 @@
+//! The shared heap over a table of atomic words: each step of a seat is one event of the core.
+#![tactic(auto)]
+
+mod plays;
+mod rule;

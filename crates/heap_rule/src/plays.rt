@@ -1,0 +1,131 @@
+//! The atomic steps on a word of the shared table, each as the event that it is told to be.
+
+ghost use Rattle.std.specs.Prelude.{◌≡◌, ◌<◌, ◌+◌, ◌%◌, ◌^◌, ◌==◌, max};
+ghost use prog.Atomic.{either};
+ghost use Rattle.core_model.specs.View.{View};
+ghost use Rattle.heap_rule.specs.Joint.{IsSingle};
+ghost use Rattle.heap_rule.specs.Plays.{Did, DidStore, IsStepAt};
+
+use crate::rule::{Bare, Known, Words};
+use atomic_table::Play;
+use core_model::Event;
+use std::marker::{Brand, PhantomData};
+
+/// An event, for the proof alone.
+pub trait Told {
+    ghost use Rattle.core_model.specs.declared.event.Event.{Event};
+
+    ghost event: { Event };
+}
+
+impl Told for Brand {
+    ghost use Rattle.core_model.specs.declared.event.Event.TheVariants.{LookUsed};
+
+    ghost event = { LookUsed };
+}
+
+/// What a step that tells the word that it found tells its caller: that it was this event.
+pub struct Does<J: Told> {
+    marker: PhantomData<J>,
+}
+
+impl<J: Told> Play<u8, Known> for Does<J> {
+    ghost use Rattle.heap_rule.specs.Plays.{Did};
+
+    ghost then = { λ _ me found after. Did J.event me found after };
+}
+
+/// What a store tells its caller: that it was this event.
+pub struct Stores<J: Told> {
+    marker: PhantomData<J>,
+}
+
+impl<J: Told> Play<u8, Known> for Stores<J> {
+    ghost use Rattle.heap_rule.specs.Plays.{DidStore};
+
+    ghost then = { λ _ me _ after. DidStore J.event me after };
+}
+
+/// Loads a word.
+pub(crate) fn load_as<J: Told>(shared: &Words, bare: &mut Bare, place: usize, _event: Event) -> u64
+    requires table { bare.old.table_id ≡ shared.now.table_id }
+    requires told { J.event ≡ _event }
+    requires inside { place < shared.now.table_id.words }
+    requires step { (v : View) × IsSingle bare.old.me.0 v
+        × IsStepAt shared.now.key v _event place (λ n. n) }
+    ensures did { Did _event bare.old.me result bare.new.me }
+    ensures table { bare.new.table_id ≡ bare.old.table_id }
+{
+    shared.load::<Does<J>>(bare, place)
+}
+
+/// Adds 1 to a word.
+pub(crate) fn draw_as<J: Told>(shared: &Words, bare: &mut Bare, place: usize, _event: Event) -> u64
+    requires table { bare.old.table_id ≡ shared.now.table_id }
+    requires told { J.event ≡ _event }
+    requires inside { place < shared.now.table_id.words }
+    requires step { (v : View) × IsSingle bare.old.me.0 v
+        × IsStepAt shared.now.key v _event place (λ n. (n + 1) % 2 ^ 64) }
+    ensures did { Did _event bare.old.me result bare.new.me }
+    ensures table { bare.new.table_id ≡ bare.old.table_id }
+{
+    shared.fetch_add::<Does<J>>(bare, place, 1)
+}
+
+/// Raises a word to a value, where it is less.
+pub(crate) fn raise_as<J: Told>(
+    shared: &Words,
+    bare: &mut Bare,
+    place: usize,
+    value: u64,
+    _event: Event,
+) -> u64
+    requires table { bare.old.table_id ≡ shared.now.table_id }
+    requires told { J.event ≡ _event }
+    requires inside { place < shared.now.table_id.words }
+    requires step { (v : View) × IsSingle bare.old.me.0 v
+        × IsStepAt shared.now.key v _event place (λ n. max n value) }
+    ensures did { Did _event bare.old.me result bare.new.me }
+    ensures table { bare.new.table_id ≡ bare.old.table_id }
+{
+    shared.fetch_max::<Does<J>>(bare, place, value)
+}
+
+/// Exchanges a word that is still as it was seen, and tells what it was.
+pub(crate) fn exchange_as<J: Told>(
+    shared: &Words,
+    bare: &mut Bare,
+    place: usize,
+    seen: u64,
+    new: u64,
+    _event: Event,
+) -> u64
+    requires table { bare.old.table_id ≡ shared.now.table_id }
+    requires told { J.event ≡ _event }
+    requires inside { place < shared.now.table_id.words }
+    requires step { (v : View) × IsSingle bare.old.me.0 v
+        × IsStepAt shared.now.key v _event place (λ n. either (n == seen) new n) }
+    ensures did { Did _event bare.old.me result bare.new.me }
+    ensures table { bare.new.table_id ≡ bare.old.table_id }
+{
+    shared.compare_exchange::<Does<J>>(bare, place, seen, new)
+}
+
+/// Stores to a word.
+pub(crate) fn store_as<J: Told>(
+    shared: &Words,
+    bare: &mut Bare,
+    place: usize,
+    value: u64,
+    _event: Event,
+)
+    requires table { bare.old.table_id ≡ shared.now.table_id }
+    requires told { J.event ≡ _event }
+    requires inside { place < shared.now.table_id.words }
+    requires step { (v : View) × IsSingle bare.old.me.0 v
+        × IsStepAt shared.now.key v _event place (λ _. value) }
+    ensures did { DidStore _event bare.old.me bare.new.me }
+    ensures table { bare.new.table_id ≡ bare.old.table_id }
+{
+    shared.store::<Stores<J>>(bare, place, value);
+}

@@ -1,0 +1,49 @@
+//! What holds of the shared words and of the seats between any two atomic steps.
+
+use atomic_table::TableRule;
+use std::marker::Model;
+use super_block::Block;
+
+/// What is known of a seat. No value of it is made.
+pub struct Known;
+
+impl Model for Known {
+    ghost use Rattle.std.specs.Prelude.{[]};
+    ghost use Rattle.heap_rule.specs.Joint.{Joint};
+
+    ghost Value = { Joint };
+
+    ghost view = { λ _. record { views = []; room = 0 } };
+}
+
+/// A heap at rest that is opened: its words and its held blocks, and the budget of tickets.
+pub struct OpenedHeap {
+    pub words: Vec<u64>,
+    pub held: Vec<Block>,
+    pub budget: u64,
+}
+
+impl Model for OpenedHeap {
+    ghost use Rattle.heap_rule.specs.Rule.{Opening};
+
+    ghost Value = { Opening };
+
+    ghost view = { λ a. record { words = a.words.items; held = a.held.items; budget = a.budget } };
+}
+
+/// The rule of the table: its words and the seats' views are a sound state.
+pub struct SoundHeap;
+
+impl TableRule<u8, Known, OpenedHeap> for SoundHeap {
+    ghost use Rattle.heap_rule.specs.Rule.{Holds, first_joint};
+
+    ghost holds = { Holds };
+
+    ghost first = { first_joint };
+}
+
+/// The words of the heap, as threads share them.
+pub(crate) type Words = atomic_table::Shared<u8, Known, OpenedHeap, SoundHeap>;
+
+/// A seat of the table.
+pub(crate) type Bare = atomic_table::Seat<u8, Known>;
