@@ -1,2 +1,3 @@
 pub mod JointLemmas
 pub mod RuleLemmas
+pub mod ShownLemmas

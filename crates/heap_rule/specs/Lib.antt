@@ -1,3 +1,4 @@
 pub mod Joint
 pub mod Rule
 pub mod Plays
+pub mod Shown
