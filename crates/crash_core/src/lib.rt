@@ -34,3 +34,4 @@ pub use heads::{head_after_pop, head_after_push};
 pub use heap_core::Core;
 pub use laws::a_core_stands_for_a_sound_state;
 pub use opening::{Owners, opened_table};
+pub use owners::{Cache, Group, Seat, Seen};

@@ -1,3 +1,4 @@
 pub mod JointLemmas
 pub mod RuleLemmas
 pub mod ShownLemmas
+pub mod StepLemmas

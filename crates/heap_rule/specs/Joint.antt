@@ -1,6 +1,7 @@
 -- What a seat of the shared table stands for.
-use Rattle.std.specs.Prelude.{◌≡◌, ℕ, ◌+◌, List, [], ◌∷◌, ◌++◌, length}
+use Rattle.std.specs.Prelude.{◌≡◌, ℕ, ◌+◌, List, [], ◌∷◌, ◌++◌, length, get_or}
 use Rattle.core_model.specs.View.{View}
+use Rattle.core_model.specs.Opening.{setup_of, plain_view}
 
 -- the views of the seats that were joined in it: one where none was, and none where it was joined in another; and how many seats may still be split off it
 pub record Joint : Type 0 where
@@ -22,3 +23,11 @@ seats_of joint = length joint.views + joint.room
 -- it stands for a single seat, with this view
 abbrev pub IsSingle : Joint → View → Type 0
 IsSingle joint v = joint.views ≡ v ∷ []
+
+-- the view of a seat that has nothing, of a heap without words
+abbrev pub nobody : View
+nobody = plain_view (setup_of [] 0) [] []
+
+-- the view of a single seat
+abbrev pub view_in : Joint → View
+view_in joint = get_or joint.views 0 nobody

@@ -2,3 +2,4 @@ pub mod Joint
 pub mod Rule
 pub mod Plays
 pub mod Shown
+pub mod Seated

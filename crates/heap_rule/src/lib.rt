@@ -3,3 +3,9 @@
 
 mod plays;
 mod rule;
+mod seat;
+mod shared;
+mod steps;
+
+pub use seat::Seat;
+pub use shared::Shared;

@@ -1,0 +1,28 @@
+//! The words of a heap that its seats share.
+
+use crate::rule::{Known, OpenedHeap, SoundHeap};
+use atomic_table::Table;
+use std::alloc::Global;
+use std::marker::Model;
+
+/// A heap that is shared by its seats. It owns the table of its words.
+pub struct Shared {
+    pub(crate) table: Table<u8, Known, OpenedHeap, SoundHeap, Global>,
+}
+
+impl Model for Shared {
+    ghost use Rattle.std.specs.Prelude.{◌≡◌};
+    ghost use Rattle.core_model.specs.Memory.{table_length};
+    ghost use Rattle.heap_rule.specs.Rule.{setup_for};
+    ghost use Rattle.heap_rule.specs.Seated.{SharedView};
+
+    ghost Value = { SharedView };
+
+    ghost view = { λ a. record {
+      table = a.table.shared.table_id;
+      setup = setup_for a.table.shared.key;
+    } };
+
+    ghost invariant = { λ a. a.table.shared.table_id.words
+        ≡ table_length (setup_for a.table.shared.key).capacity };
+}
