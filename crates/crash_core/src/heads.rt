@@ -36,7 +36,7 @@ pub fn head_after_push(head: u64, d: u64) -> u64
 }
 
 /// The first descriptor's number plus 1, or 0 of an empty list.
-pub(crate) fn head_first(head: u64) -> u64
+pub fn head_first(head: u64) -> u64
     ensures { result ≡ head_first head }
 {
     head % (1 << FIRST_BITS)

@@ -30,7 +30,7 @@ mod words;
 pub use anchors::{anchor_after_give, anchor_after_take_all};
 pub use core_model::{Event, Shift, StepAnswer};
 pub use crash::crash_image;
-pub use heads::{head_after_pop, head_after_push};
+pub use heads::{head_after_pop, head_after_push, head_first};
 pub use heap_core::Core;
 pub use laws::a_core_stands_for_a_sound_state;
 pub use opening::{Owners, opened_table};

@@ -27,14 +27,17 @@ the_view joint v single = ap (λ vs. get_or vs 0 nobody) single
 
 -- after the event some sound state has the new view, of the same heap
 pub has_after : (event : Event) (v : View) (found : ℕ) (w : View) → IsEvent event v found w → Has w × (w.setup ≡ v.setup)
-has_after event v found w e = (record {
-  words = words_after v.setup e.before.words v event;
-  views = set e.before.views e.before.seat w;
-  seat = e.before.seat;
-  sound = subst (λ k. Sound k (words_after v.setup e.before.words v event) (set e.before.views e.before.seat w)) (sym same) e.kept;
-  below = below;
-  at = at;
-}, same) where
+has_after event v found w e = (
+  record {
+    words = words_after v.setup e.before.words v event;
+    views = set e.before.views e.before.seat w;
+    seat = e.before.seat;
+    sound = subst (λ k. Sound k (words_after v.setup e.before.words v event) (set e.before.views e.before.seat w)) (sym same) e.kept;
+    below = below;
+    at = at;
+  },
+  same,
+) where
   below : e.before.seat < length (set e.before.views e.before.seat w)
   below = let l = length-set e.before.views e.before.seat w in let b = e.before.below in omega arith
 

@@ -1,6 +1,7 @@
 //! The shared heap over a table of atomic words: each step of a seat is one event of the core.
 #![tactic(auto)]
 
+mod looks;
 mod plays;
 mod rule;
 mod seat;
