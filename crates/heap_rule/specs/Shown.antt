@@ -1,6 +1,6 @@
 -- When a seat may do a step, as its view shows it: by what it has, what it has seen, and what it knows of its own words.
 use Rattle.std.specs.Prelude.{◌≡◌, ◌≢◌, ◌≤◌, ◌<◌, ◌⊎◌, ◌+◌, ◌*◌, ℕ, true, cond, nat_eq, List, [], ◌∷◌, Option, Some, None, ⊤, length}
-use Rattle.heap_model.specs.Counting.{times, total}
+use Rattle.heap_model.specs.Counting.{times}
 use Rattle.heap_model.specs.Geometry.{lists, start_word}
 use Rattle.heap_model.specs.Sizes.{IsClass, words_of_class}
 use Rattle.heap_model.specs.Words.{head_first, anchor_state, anchor_first, anchor_count, empty_state, full_anchor, large_info}
