@@ -1,4 +1,5 @@
 pub mod JointLemmas
 pub mod RuleLemmas
+pub mod ViewLemmas
 pub mod ShownLemmas
 pub mod StepLemmas
