@@ -1,5 +1,6 @@
 pub mod JointLemmas
 pub mod RuleLemmas
 pub mod ViewLemmas
+pub mod GuardLemmas
 pub mod ShownLemmas
 pub mod StepLemmas
