@@ -39,7 +39,7 @@ read_at c words tickets is = refl
 pub allowed : (o : Opening) (count id : ℕ) (joint : Joint) (slots : List (ℕ × ℕ)) (v : View) (event : Event) (place : ℕ) (f : ℕ → ℕ) → IsSingle joint v → IsStepAt o v event place f
     → Allows (Holds o) count id (joint, slots) place f (λ found after. Did event (joint, slots) found after)
 allowed o count id joint slots v event place f single is s holds none at fits =
-    (record joint { views = w ∷ [] }, keeps, tt, kept, did) where
+    (w ∷ [], keeps, tt, kept, did) where
       has : Has v
       has = state_with o s.words s.views id joint v is.setup holds at single
 
@@ -67,15 +67,16 @@ allowed o count id joint slots v event place f single is s holds none at fits =
       words_are = ap (λ n. set s.words n (left_there (memory_of v.setup.capacity s.words) v event (found_by (memory_of v.setup.capacity s.words) v event))) (sym is.place_is)
           ∙ ap (λ x. set s.words place x) (ap (left_there (memory_of v.setup.capacity s.words) v event) (sym found_is) ∙ sym (is.leaves s.words s.views holds has refl refl))
 
-      kept : Keeps o (set s.words place (f found)) (set s.views id (record joint { views = w ∷ [] }))
+      kept : Keeps o (set s.words place (f found)) (set s.views id (w ∷ []))
       kept = record {
         sound = subst (λ vs. Sound (setup_for o) (set s.words place (f found)) vs) (sym (set_offset s.views id joint v w at single))
             (subst (λ ws. Sound (setup_for o) ws (set (all_views s.views) has.seat w)) words_are (subst (λ k. Sound k (words_after v.setup s.words v event) (set (all_views s.views) has.seat w)) is.setup sound));
-        few = let same = same_seats s.views id joint v w at single in let few = holds.few in omega arith;
+        count = same_seats s.views id joint v w at single ∙ holds.count;
+        few = holds.few;
         low = holds.low;
       }
 
-      did : Did event (joint, slots) found (record joint { views = w ∷ [] }, slots)
+      did : Did event (joint, slots) found (w ∷ [], slots)
       did = record {
         view = v;
         single = single;

@@ -71,7 +71,7 @@ after_did shared table table' event me found me' at same did = record {
   after = has_after event (view_in me.0) found (view_in me'.0) event_is
 
   single : IsSingle me'.0 (view_in me'.0)
-  single = ap (λ (m : Me ℕ Joint). m.0.views) did.now ∙ ap (λ u. u ∷ []) (sym left_is)
+  single = ap (λ (m : Me ℕ Joint). m.0) did.now ∙ ap (λ u. u ∷ []) (sym left_is)
 
 -- a look leaves the word as it is
 pub look_at : (o : Opening) (v : View) (event : Event) (place : ℕ) → v.setup ≡ setup_for o → May v event → place ≡ table_index v.setup.capacity (place_of v event) → IsLook event → IsStepAt o v event place (λ n. n)

@@ -37,7 +37,7 @@ pub record Did (event : Event) (me : Me ℕ Joint) (found : ℕ) (me' : Me ℕ J
   pub view : View
   pub single : IsSingle me.0 view
   pub left : View
-  pub now : me' ≡ (record me.0 { views = left ∷ [] }, me.1)
+  pub now : me' ≡ (left ∷ [], me.1)
   pub event_is : IsEvent event view found left
 
 -- a store tells what it stored, and not what it found

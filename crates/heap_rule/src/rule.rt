@@ -13,13 +13,17 @@ impl Model for Known {
 
     ghost Value = { Joint };
 
-    ghost view = { λ _. record { views = []; room = 0 } };
+    ghost view = { λ _. [] };
 }
 
-/// A heap at rest that is opened: its words and its held blocks, and the budget of tickets.
+/// A heap at rest that is opened for some seats: its words and its held blocks, whose each held
+/// block and each root is, and the budget of tickets.
 pub struct OpenedHeap {
     pub words: Vec<u64>,
     pub held: Vec<Block>,
+    pub block_owners: Vec<u32>,
+    pub root_owners: Vec<u32>,
+    pub seats: usize,
     pub budget: u64,
 }
 
@@ -28,7 +32,14 @@ impl Model for OpenedHeap {
 
     ghost Value = { Opening };
 
-    ghost view = { λ a. record { words = a.words.items; held = a.held.items; budget = a.budget } };
+    ghost view = { λ a. record {
+      words = a.words.items;
+      held = a.held.items;
+      block_owners = a.block_owners.items;
+      root_owners = a.root_owners.items;
+      seats = a.seats;
+      budget = a.budget;
+    } };
 }
 
 /// The rule of the table: its words and the seats' views are a sound state.
