@@ -5,3 +5,4 @@ pub mod GuardLemmas
 pub mod GuardShiftLemmas
 pub mod ShownLemmas
 pub mod StepLemmas
+pub mod SeatLemmas

@@ -1,19 +1,24 @@
 -- What a step at the table leaves a seat with.
-use Rattle.std.proofs.Common.{◌≡◌, ℕ, ◌<◌, List, [], ◌∷◌, get_or, set, length, length-set, refl, ap, sym, subst, ◌∙◌, arith}
+use prog.Atomic.{either}
+use Rattle.std.proofs.Common.{◌≡◌, ℕ, ◌+◌, ◌*◌, ◌%◌, ◌^◌, ◌<◌, ◌≤◌, ◌==◌, max, Option, None, Some, List, [], ◌∷◌, get_or, set, length, length-set, refl, ap, sym, subst, ◌∙◌, arith, inl, inr}
+use Rattle.std.proofs.Math.Nat.{mod-eq_of_lt}
 use Rattle.std.proofs.lemmas.List.{get_or-set_same}
+use Rattle.heap_model.specs.Counting.{total}
+use Rattle.heap_model.specs.Geometry.{image_words}
 use Rattle.atomic_table.specs.Seated.{TableId}
 use Rattle.atomic_table.specs.Table.{Me}
 use Rattle.core_model.specs.declared.event.Event.{Event}
 use Rattle.core_model.specs.Effects.{place_of, left_there}
 use Rattle.core_model.specs.Memory.{memory_of, table_index, table_length}
-use Rattle.core_model.specs.View.{Setup, View}
+use Rattle.core_model.specs.View.{Setup, View, one_if_some}
 use Rattle.core_model.specs.Sound.{Sound}
 use Rattle.core_model.specs.Steps.{words_after}
-use Rattle.core_model.proofs.SoundLemmas.{in_length}
-use Rattle.heap_rule.specs.Joint.{Joint, IsSingle, view_in, nobody}
-use Rattle.heap_rule.specs.Rule.{Opening, setup_for}
+use Rattle.core_model.proofs.SoundLemmas.{in_length, taken, batched}
+use Rattle.core_model.specs.Guards.{MayLookAt}
+use Rattle.heap_rule.specs.Joint.{Joint, IsSingle, all_views, view_in, nobody}
+use Rattle.heap_rule.specs.Rule.{Opening, Keeps, setup_for}
 use Rattle.heap_rule.specs.Plays.{Has, May, IsEvent, IsStepAt, Did}
-use Rattle.heap_rule.specs.Seated.{SharedView, IsAt, IsLook}
+use Rattle.heap_rule.specs.Seated.{SharedView, IsAt, IsLook, IsDraw, IsRaise, IsExchange, IsStore}
 
 -- the place of a step is one of the table
 pub place_below : (v : View) (event : Event) (place : ℕ) → Has v → May v event → place ≡ table_index v.setup.capacity (place_of v event) → place < table_length v.setup.capacity
@@ -80,4 +85,57 @@ look_at o v event place setup may place_is look = record {
   may = may;
   place_is = place_is;
   leaves = λ words joints keeps s same all. sym (look (memory_of v.setup.capacity words) v (get_or words place 0));
+}
+
+-- a superblock that a seat may look at is one of the image
+pub look_below : (v : View) (d : ℕ) → Has v → MayLookAt v d → d < v.setup.capacity
+look_below v d s look = elim look [
+  | inl claimed ↦ taken v.setup (memory_of v.setup.capacity s.words) s.views s.seat v s.below s.at s.sound.good d (let c = claimed.claimed in omega arith)
+  | inr batch ↦ batched v.setup (memory_of v.setup.capacity s.words) s.views s.seat v s.below s.at s.sound.good d batch.0 batch.1
+]
+
+-- a draw does not wrap: fewer tickets are drawn than the budget and the seats
+drawn_below : (o : Opening) (words : List ℕ) (joints : List Joint) → Keeps o words joints → get_or words (2 * image_words (setup_for o).capacity) 0 + 1 < 18446744073709551616
+drawn_below o words joints keeps = let d = keeps.sound.good.adds.stopped in let most = stops_most (all_views joints) in let c = keeps.count in let f = keeps.few in let l = keeps.low in omega arith where
+  stops_most : (views : List View) → total (λ (v : View). one_if_some v.stopped) views ≤ length views
+  stops_most [] = omega arith
+  stops_most (v ∷ views) = let rest = stops_most views in let one = one_some v.stopped in omega arith where
+    one_some : (x : Option ℕ) → one_if_some x ≤ 1
+    one_some None = omega arith
+    one_some (Some n) = omega arith
+
+pub draw_at : (o : Opening) (v : View) (event : Event) (place : ℕ) → v.setup ≡ setup_for o → May v event → place ≡ table_index v.setup.capacity (place_of v event) → IsDraw event → IsStepAt o v event place (λ n. (n + 1) % 2 ^ 64)
+draw_at o v event place setup may place_is draw = record {
+  setup = setup;
+  may = may;
+  place_is = place_is;
+  leaves = λ words joints keeps s same all.
+      let here : place ≡ 2 * image_words (setup_for o).capacity = place_is ∙ ap (table_index v.setup.capacity) (draw v).0 ∙ ap (λ (k : Setup). 2 * image_words k.capacity) setup in
+      let less : get_or words place 0 + 1 < 2 ^ 64 = subst (λ n. get_or words n 0 + 1 < 2 ^ 64) (sym here) (drawn_below o words joints keeps) in
+      mod-eq_of_lt less ∙ sym ((draw v).1 (memory_of v.setup.capacity words) (get_or words place 0));
+}
+
+pub raise_at : (o : Opening) (v : View) (event : Event) (place value : ℕ) → v.setup ≡ setup_for o → May v event → place ≡ table_index v.setup.capacity (place_of v event) → IsRaise event v value → IsStepAt o v event place (λ n. max n value)
+raise_at o v event place value setup may place_is raise = record {
+  setup = setup;
+  may = may;
+  place_is = place_is;
+  leaves = λ words joints keeps s same all. sym (raise (memory_of v.setup.capacity words) (get_or words place 0));
+}
+
+pub exchange_at : (o : Opening) (v : View) (event : Event) (place seen new : ℕ) → v.setup ≡ setup_for o → May v event → place ≡ table_index v.setup.capacity (place_of v event) → IsExchange event v seen new
+    → IsStepAt o v event place (λ n. either (n == seen) new n)
+exchange_at o v event place seen new setup may place_is exchange = record {
+  setup = setup;
+  may = may;
+  place_is = place_is;
+  leaves = λ words joints keeps s same all. sym (exchange (memory_of v.setup.capacity words) (get_or words place 0));
+}
+
+pub store_at : (o : Opening) (v : View) (event : Event) (place value : ℕ) → v.setup ≡ setup_for o → May v event → place ≡ table_index v.setup.capacity (place_of v event) → IsStore event v value → IsStepAt o v event place (λ _. value)
+store_at o v event place value setup may place_is store = record {
+  setup = setup;
+  may = may;
+  place_is = place_is;
+  leaves = λ words joints keeps s same all. subst (λ ws. value ≡ left_there (memory_of v.setup.capacity ws) v event (get_or words place 0)) same (sym (store s (get_or words place 0)));
 }

@@ -1,10 +1,10 @@
 -- What contracts see of the shared heap and of a seat, and what a seat keeps beside its place at the table.
-use Rattle.std.specs.Prelude.{◌≡◌, ℕ, ◌≤◌, [], get_or}
+use Rattle.std.specs.Prelude.{◌≡◌, ℕ, ◌+◌, cond, nat_eq, max}
 use Rattle.atomic_table.specs.Seated.{TableId}
 use Rattle.atomic_table.specs.Table.{Me}
 use Rattle.core_model.specs.declared.event.Event.{Event}
-use Rattle.core_model.specs.Effects.{left_there}
-use Rattle.core_model.specs.Memory.{Memory}
+use Rattle.core_model.specs.Effects.{place_of, left_there}
+use Rattle.core_model.specs.Memory.{Memory, memory_of, tickets}
 use Rattle.core_model.specs.View.{Setup, View}
 use Rattle.crash_core.specs.declared.owners.Seat.{Seat}
 use Rattle.crash_core.specs.Standing.{HasNotes, HasCaches, HasBatch}
@@ -40,6 +40,18 @@ pub record IsAt (shared : SharedView) (table : TableId) (me : Me ℕ Joint) (v :
   pub setup : v.setup ≡ shared.setup
   pub has : Has v
 
--- what the event leaves of the word that it finds
+-- what the event leaves of the word that it finds: the word itself; the next ticket; the greater of it and a value; a new word, where it is the one that was seen; a value, in each state that has the view
 abbrev pub IsLook : Event → Type 0
 IsLook event = (m : Memory) (v : View) (found : ℕ) → left_there m v event found ≡ found
+
+abbrev pub IsDraw : Event → Type 0
+IsDraw event = (v : View) → (place_of v event ≡ tickets) × ((m : Memory) (found : ℕ) → left_there m v event found ≡ found + 1)
+
+abbrev pub IsRaise : Event → View → ℕ → Type 0
+IsRaise event v value = (m : Memory) (found : ℕ) → left_there m v event found ≡ max found value
+
+abbrev pub IsExchange : Event → View → ℕ → ℕ → Type 0
+IsExchange event v seen new = (m : Memory) (found : ℕ) → left_there m v event found ≡ cond (nat_eq found seen) new found
+
+abbrev pub IsStore : Event → View → ℕ → Type 0
+IsStore event v value = (s : Has v) (found : ℕ) → left_there (memory_of v.setup.capacity s.words) v event found ≡ value

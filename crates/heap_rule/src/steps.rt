@@ -1,13 +1,13 @@
 //! The steps of a seat at the table, each of which is one event.
 
-ghost use Rattle.std.specs.Prelude.{◌≡◌};
+ghost use Rattle.std.specs.Prelude.{◌≡◌, ℕ};
 ghost use Rattle.core_model.specs.Effects.{place_of};
 ghost use Rattle.core_model.specs.Memory.{table_index};
 ghost use Rattle.heap_rule.specs.Joint.{view_in};
 ghost use Rattle.heap_rule.specs.Plays.{IsEvent, May};
-ghost use Rattle.heap_rule.specs.Seated.{IsAt, IsLook};
+ghost use Rattle.heap_rule.specs.Seated.{IsAt, IsLook, IsDraw, IsRaise, IsExchange, IsStore};
 
-use crate::plays::load_as;
+use crate::plays::{draw_as, exchange_as, load_as, raise_as, store_as};
 use crate::rule::Bare;
 use crate::shared::Shared;
 use core_model::Event;
@@ -24,4 +24,63 @@ pub(crate) fn look(shared: &Shared, bare: &mut Bare, place: u64, event: Event) -
     ensures event { IsEvent event (view_in bare.old.me.0) result (view_in bare.new.me.0) }
 {
     load_as::<Brand>(&shared.table.shared, bare, place as usize, event)
+}
+
+/// Draws a ticket.
+pub(crate) fn draw(shared: &Shared, bare: &mut Bare, place: u64, event: Event) -> u64
+    requires at { IsAt shared.now bare.old.table_id bare.old.me (view_in bare.old.me.0) }
+    requires may { May (view_in bare.old.me.0) event }
+    requires place { place ≡ table_index (view_in bare.old.me.0).setup.capacity
+        (place_of (view_in bare.old.me.0) event) }
+    requires draw { IsDraw event }
+    ensures at { IsAt shared.now bare.new.table_id bare.new.me (view_in bare.new.me.0) }
+    ensures event { IsEvent event (view_in bare.old.me.0) result (view_in bare.new.me.0) }
+{
+    draw_as::<Brand>(&shared.table.shared, bare, place as usize, event)
+}
+
+/// Raises a word to a value, where it is less.
+pub(crate) fn raise(shared: &Shared, bare: &mut Bare, place: u64, value: u64, event: Event) -> u64
+    requires at { IsAt shared.now bare.old.table_id bare.old.me (view_in bare.old.me.0) }
+    requires may { May (view_in bare.old.me.0) event }
+    requires place { place ≡ table_index (view_in bare.old.me.0).setup.capacity
+        (place_of (view_in bare.old.me.0) event) }
+    requires raise { IsRaise event (view_in bare.old.me.0) value }
+    ensures at { IsAt shared.now bare.new.table_id bare.new.me (view_in bare.new.me.0) }
+    ensures event { IsEvent event (view_in bare.old.me.0) result (view_in bare.new.me.0) }
+{
+    raise_as::<Brand>(&shared.table.shared, bare, place as usize, value, event)
+}
+
+/// Exchanges a word that is still as it was seen, and tells what it was.
+pub(crate) fn exchange(
+    shared: &Shared,
+    bare: &mut Bare,
+    place: u64,
+    seen: u64,
+    new: u64,
+    event: Event,
+) -> u64
+    requires at { IsAt shared.now bare.old.table_id bare.old.me (view_in bare.old.me.0) }
+    requires may { May (view_in bare.old.me.0) event }
+    requires place { place ≡ table_index (view_in bare.old.me.0).setup.capacity
+        (place_of (view_in bare.old.me.0) event) }
+    requires exchange { IsExchange event (view_in bare.old.me.0) seen new }
+    ensures at { IsAt shared.now bare.new.table_id bare.new.me (view_in bare.new.me.0) }
+    ensures event { IsEvent event (view_in bare.old.me.0) result (view_in bare.new.me.0) }
+{
+    exchange_as::<Brand>(&shared.table.shared, bare, place as usize, seen, new, event)
+}
+
+/// Stores to a word.
+pub(crate) fn store(shared: &Shared, bare: &mut Bare, place: u64, value: u64, event: Event)
+    requires at { IsAt shared.now bare.old.table_id bare.old.me (view_in bare.old.me.0) }
+    requires may { May (view_in bare.old.me.0) event }
+    requires place { place ≡ table_index (view_in bare.old.me.0).setup.capacity
+        (place_of (view_in bare.old.me.0) event) }
+    requires store { IsStore event (view_in bare.old.me.0) value }
+    ensures at { IsAt shared.now bare.new.table_id bare.new.me (view_in bare.new.me.0) }
+    ensures event { (found : ℕ) × IsEvent event (view_in bare.old.me.0) found (view_in bare.new.me.0) }
+{
+    store_as::<Brand>(&shared.table.shared, bare, place as usize, value, event);
 }
