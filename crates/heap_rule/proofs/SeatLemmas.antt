@@ -1,13 +1,18 @@
 -- What is kept of a seat after its steps.
-use Rattle.std.proofs.Common.{◌≡◌, ℕ, None, Some, refl, ap, sym, subst, ◌∙◌}
+use Rattle.std.proofs.Common.{◌≡◌, ℕ, ◌<◌, None, Some, refl, ap, sym, subst, ◌∙◌}
 use Rattle.core_model.specs.declared.event.Event.{Event}
-use Rattle.core_model.specs.declared.event.Event.TheVariants.{LookAnchor}
-use Rattle.core_model.specs.View.{View}
+use Rattle.core_model.specs.declared.event.Event.TheVariants.{Load, LookAnchor}
+use Rattle.atomic_table.specs.Seated.{TableId}
+use Rattle.atomic_table.specs.Table.{Me}
+use Rattle.core_model.specs.View.{Setup, View}
 use Rattle.crash_core.specs.declared.owners.Seat.{Seat}
+use Rattle.core_model.specs.Effects.{used_up}
 use Rattle.crash_core.specs.declared.owners.Seen.{Seen}
 use Rattle.crash_core.specs.Standing.{HasNotes, HasCaches, HasBatch}
 use Rattle.heap_rule.specs.Plays.{Has, IsEvent}
-use Rattle.heap_rule.specs.Seated.{IsKeptOf}
+use Rattle.heap_rule.specs.Seated.{SharedView, IsKeptOf, IsSeat, IsAt}
+use Rattle.heap_rule.specs.Joint.{Joint, view_in}
+use Rattle.heap_rule.proofs.StepLemmas.{has_after}
 
 -- notes, caches and batch of a view, whatever state has it
 pub record Fits (notes : Seat) (v : View) : Type 0 where
@@ -29,6 +34,35 @@ looked_anchor notes v w d found kept event has = keep_fits _ _ w event.after has
     seen_link = kept.notes_are.seen_link;
     seen_anchor = refl;
   };
+  caches = kept.caches;
+  batch = kept.batch;
+})
+
+-- a seat after an event, once what is kept of it is that of the new view
+pub seat_after : (me me' : Me ℕ Joint) (notes notes' : Seat) (capacity : ℕ) (event : Event) (found : ℕ) (shared : SharedView) (table : TableId) → IsSeat me notes capacity → IsAt shared table me' (view_in me'.0)
+    → IsEvent event (view_in me.0) found (view_in me'.0) → IsKeptOf notes' (view_in me'.0) → IsSeat me' notes' capacity
+seat_after me me' notes notes' capacity event found shared table old at event_is kept =
+    let same : (view_in me'.0).setup ≡ (view_in me.0).setup = (has_after event (view_in me.0) found (view_in me'.0) event_is).1 in record {
+      single = at.single;
+      kept = kept;
+      capacity_is = old.capacity_is ∙ sym (ap (λ (k : Setup). k.capacity) same);
+      low = subst (λ (k : Setup). k.budget < 1099511627776) (sym same) old.low;
+    }
+
+-- a step that uses the ticket up, and changes nothing else that is kept
+pub used : (notes : Seat) (v : View) → IsKeptOf notes v → HasNotes (record notes { ticket = None }) (used_up v)
+used notes v kept = record {
+  ticket = refl;
+  stopped = kept.notes_are.stopped;
+  seen_used = kept.notes_are.seen_used;
+  seen_head = kept.notes_are.seen_head;
+  seen_link = kept.notes_are.seen_link;
+  seen_anchor = kept.notes_are.seen_anchor;
+}
+
+pub loaded : (notes : Seat) (v w : View) (word found : ℕ) → IsKeptOf notes v → IsEvent (Load word) v found w → Has w → IsKeptOf (record notes { ticket = None }) w
+loaded notes v w word found kept event has = keep_fits _ _ w event.after has (record {
+  notes_are = let u = used notes v kept in record { ticket = refl; stopped = u.stopped; seen_used = u.seen_used; seen_head = u.seen_head; seen_link = u.seen_link; seen_anchor = u.seen_anchor };
   caches = kept.caches;
   batch = kept.batch;
 })

@@ -1,5 +1,5 @@
 -- What contracts see of the shared heap and of a seat, and what a seat keeps beside its place at the table.
-use Rattle.std.specs.Prelude.{◌≡◌, ℕ, ◌+◌, cond, nat_eq, max}
+use Rattle.std.specs.Prelude.{◌≡◌, ◌<◌, ℕ, ◌+◌, ◌≢◌, cond, nat_eq, max, Result, MatchResult, ⊤}
 use Rattle.atomic_table.specs.Seated.{TableId}
 use Rattle.atomic_table.specs.Table.{Me}
 use Rattle.core_model.specs.declared.event.Event.{Event}
@@ -8,7 +8,7 @@ use Rattle.core_model.specs.Memory.{Memory, memory_of, tickets}
 use Rattle.core_model.specs.View.{Setup, View}
 use Rattle.crash_core.specs.declared.owners.Seat.{Seat}
 use Rattle.crash_core.specs.Standing.{HasNotes, HasCaches, HasBatch}
-use Rattle.heap_rule.specs.Joint.{Joint, IsSingle}
+use Rattle.heap_rule.specs.Joint.{Joint, IsSingle, view_in}
 use Rattle.heap_rule.specs.Plays.{Has}
 
 -- which table it is, and what is the same of all its seats
@@ -33,6 +33,13 @@ pub record IsKeptOf (notes : Seat) (v : View) : Type 0 where
   pub caches : HasCaches notes.caches v.caches
   pub batch : HasBatch notes.batch v.batch
 
+-- a single seat at the table, of a heap of the layout's capacity, and what is kept of it
+pub record IsSeat (me : Me ℕ Joint) (notes : Seat) (capacity : ℕ) : Type 0 where
+  pub single : IsSingle me.0 (view_in me.0)
+  pub kept : IsKeptOf notes (view_in me.0)
+  pub capacity_is : capacity ≡ (view_in me.0).setup.capacity
+  pub low : (view_in me.0).setup.budget < 1099511627776
+
 -- the seat stands at the table of this heap for a single seat with the view, which some sound state has
 pub record IsAt (shared : SharedView) (table : TableId) (me : Me ℕ Joint) (v : View) : Type 0 where
   pub table_is : table ≡ shared.table
@@ -55,3 +62,7 @@ IsExchange event v seen new = (m : Memory) (found : ℕ) → left_there m v even
 
 abbrev pub IsStore : Event → View → ℕ → Type 0
 IsStore event v value = (s : Has v) (found : ℕ) → left_there (memory_of v.setup.capacity s.words) v event found ≡ value
+
+-- an exchange tells that it was done exactly where the word was as it was seen, and else the word
+abbrev pub Tells : ℕ → ℕ → Result ⊤ ℕ → Type 0
+Tells seen found result = MatchResult result (λ _. found ≡ seen) (λ word. (word ≡ found) × (found ≢ seen))

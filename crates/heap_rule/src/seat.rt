@@ -13,15 +13,12 @@ pub struct Seat {
 }
 
 impl Model for Seat {
-    ghost use Rattle.std.specs.Prelude.{◌≡◌};
-    ghost use Rattle.heap_rule.specs.Joint.{IsSingle, view_in};
-    ghost use Rattle.heap_rule.specs.Seated.{SeatView, IsKeptOf};
+    ghost use Rattle.heap_rule.specs.Joint.{view_in};
+    ghost use Rattle.heap_rule.specs.Seated.{SeatView, IsSeat};
 
     ghost Value = { SeatView };
 
     ghost view = { λ a. record { table = a.bare.table_id; view = view_in a.bare.me.0 } };
 
-    ghost invariant = { λ a. IsSingle a.bare.me.0 (view_in a.bare.me.0)
-        × IsKeptOf a.notes (view_in a.bare.me.0)
-        × (a.geometry.capacity ≡ (view_in a.bare.me.0).setup.capacity) };
+    ghost invariant = { λ a. IsSeat a.bare.me a.notes a.geometry.capacity };
 }
