@@ -18,7 +18,7 @@ use super_block::HEAD_WORD;
 
 impl Seen {
     /// The snapshot, unless it is of one of `n` numbers from one on.
-    pub(crate) fn cleared(seen: Option<Seen>, from: u64, n: u64) -> Option<Seen>
+    pub fn cleared(seen: Option<Seen>, from: u64, n: u64) -> Option<Seen>
         ensures { snapshot result ≡ cleared from n (snapshot seen) }
     {
         let Some(seen) = seen else {

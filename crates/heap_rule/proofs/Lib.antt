@@ -6,3 +6,4 @@ pub mod GuardShiftLemmas
 pub mod ShownLemmas
 pub mod StepLemmas
 pub mod SeatLemmas
+pub mod FreshLemmas

@@ -1,6 +1,8 @@
 //! The shared heap over a table of atomic words: each step of a seat is one event of the core.
 #![tactic(auto)]
 
+mod fresh;
+mod lists;
 mod looks;
 mod plays;
 mod rule;

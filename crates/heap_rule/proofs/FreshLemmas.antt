@@ -1,0 +1,57 @@
+-- What is kept of a seat after an exchange of the mark.
+use Rattle.std.proofs.Common.{◌≡◌, ◌≢◌, ℕ, ◌+◌, Option, None, Some, cond, nat_eq, refl, ap, sym, subst, ◌∙◌, eq-eqb, ne_eqb, inl, inr, ◌⊎◌}
+use Rattle.std.proofs.lemmas.Bool.{cases_eq}
+use Rattle.core_model.specs.declared.event.Event.TheVariants.{TakeFresh}
+use Rattle.core_model.specs.Memory.{Memory}
+use Rattle.core_model.specs.View.{View}
+use Rattle.core_model.specs.Effects.{seen, cleared, lost, taken_fresh}
+use Rattle.crash_core.specs.declared.owners.Seat.{Seat}
+use Rattle.crash_core.specs.declared.owners.Seen.{Seen}
+use Rattle.crash_core.specs.Standing.{snapshot}
+use Rattle.heap_rule.specs.Plays.{Has, IsEvent}
+use Rattle.heap_rule.specs.Seated.{IsKeptOf, IsExchange}
+use Rattle.heap_rule.proofs.SeatLemmas.{keep_fits}
+
+-- a test that holds, and one that doesn't
+pub hit : {A : Type 0} (found seen : ℕ) (x y : A) → found ≡ seen → cond (nat_eq found seen) x y ≡ x
+hit found seen x y same = ap (λ b. cond b x y) (eq-eqb found seen same)
+
+pub missed : {A : Type 0} (found seen : ℕ) (x y : A) → found ≢ seen → cond (nat_eq found seen) x y ≡ y
+missed found seen x y other = ap (λ b. cond b x y) (ne_eqb found seen other)
+
+-- the exchange of the mark as it was seen
+pub fresh_exchange : (v : View) (n used new : ℕ) → seen v.seen_used ≡ used → new ≡ used + n → IsExchange (TakeFresh n) v used new
+fresh_exchange v n used new is new_is m found = by_case (cases_eq found used) where
+  by_case : (found ≡ used) ⊎ (found ≢ used) → cond (nat_eq found (seen v.seen_used)) (found + n) found ≡ cond (nat_eq found used) new found
+  by_case (inl same) = hit found (seen v.seen_used) (found + n) found (same ∙ sym is) ∙ ap (λ x. x + n) same ∙ sym new_is ∙ sym (hit found used new found same)
+  by_case (inr other) = missed found (seen v.seen_used) (found + n) found (λ e. other (e ∙ is)) ∙ sym (missed found used new found other)
+
+pub fresh_taken : (notes : Seat) (v w : View) (n found used new : ℕ) (anchor : Option Seen) → IsKeptOf notes v → IsEvent (TakeFresh n) v found w → Has w → seen v.seen_used ≡ used → found ≡ used → new ≡ used + n
+    → snapshot anchor ≡ cleared used n (snapshot notes.seen_anchor) → IsKeptOf (record notes { ticket = None; seen_used = Some new; seen_anchor = anchor }) w
+fresh_taken notes v w n found used new anchor kept event has is same new_is cleared_is = keep_fits _ _ w (event.after ∙ hit found (seen v.seen_used) (taken_fresh v n) _ (same ∙ sym is)) has (record {
+  notes_are = record {
+    ticket = refl;
+    stopped = kept.notes_are.stopped;
+    seen_used = ap Some (ap (λ x. x + n) is ∙ sym new_is);
+    seen_head = kept.notes_are.seen_head;
+    seen_link = kept.notes_are.seen_link;
+    seen_anchor = ap (cleared (seen v.seen_used) n) kept.notes_are.seen_anchor ∙ ap (λ u. cleared u n (snapshot notes.seen_anchor)) is ∙ sym cleared_is;
+  };
+  caches = kept.caches;
+  batch = kept.batch;
+})
+
+pub fresh_lost : (notes : Seat) (v w : View) (n found used : ℕ) → IsKeptOf notes v → IsEvent (TakeFresh n) v found w → Has w → seen v.seen_used ≡ used → found ≢ used
+    → IsKeptOf (record notes { ticket = None; seen_used = None }) w
+fresh_lost notes v w n found used kept event has is other = keep_fits _ _ w (event.after ∙ missed found (seen v.seen_used) (taken_fresh v n) _ (λ e. other (e ∙ is))) has (record {
+  notes_are = record {
+    ticket = refl;
+    stopped = kept.notes_are.stopped;
+    seen_used = refl;
+    seen_head = kept.notes_are.seen_head;
+    seen_link = kept.notes_are.seen_link;
+    seen_anchor = kept.notes_are.seen_anchor;
+  };
+  caches = kept.caches;
+  batch = kept.batch;
+})

@@ -1,0 +1,65 @@
+//! The steps of a seat on the mark below which superblocks have been taken.
+
+ghost use Rattle.std.specs.Prelude.{ℕ};
+ghost use Rattle.core_model.specs.declared.event.Event.TheVariants.{TakeFresh, KeepUsed};
+ghost use Rattle.core_model.specs.Effects.{seen};
+ghost use Rattle.heap_rule.specs.Plays.{IsEvent};
+ghost use Rattle.heap_rule.specs.Seated.{IsSeatOf, Tells};
+ghost use Rattle.heap_rule.specs.Shown.{Can};
+
+use crate::seat::Seat;
+use crate::shared::Shared;
+use crate::steps::{exchange, raise};
+use core_model::Event;
+use crash_core::{Seat as Notes, Seen};
+use super_block::USED_WORD;
+
+impl Seat {
+    /// Takes `n` superblocks that were never taken, if the mark is as it was read; else tells it.
+    pub fn try_take_fresh(&mut self, shared: &Shared, n: u64) -> Result<(), u64>
+        requires seat { IsSeatOf shared.now self.old }
+        requires can { Can self.old.view (TakeFresh n) }
+        ensures event { (found : ℕ) × IsEvent (TakeFresh n) self.old.view found self.new.view
+            × Tells (seen self.old.view.seen_used) found result }
+        ensures seat { IsSeatOf shared.now self.new }
+    {
+        let Some(used) = self.notes.seen_used else {
+            unreachable!();
+        };
+        let event = Event::TakeFresh { n };
+        let found = exchange(shared, &mut self.bare, USED_WORD, used, used + n, event);
+        if found != used {
+            self.notes = Notes {
+                ticket: None,
+                seen_used: None,
+                ..self.notes
+            };
+            return Err(found);
+        }
+        self.notes = Notes {
+            ticket: None,
+            seen_used: Some(used + n),
+            seen_anchor: Seen::cleared(self.notes.seen_anchor, used, n),
+            ..self.notes
+        };
+        Ok(())
+    }
+
+    /// Makes the mark durable as far as it was read.
+    pub fn keep_used(&mut self, shared: &Shared)
+        requires seat { IsSeatOf shared.now self.old }
+        requires can { Can self.old.view KeepUsed }
+        ensures event { (found : ℕ) × IsEvent KeepUsed self.old.view found self.new.view }
+        ensures seat { IsSeatOf shared.now self.new }
+    {
+        let Some(used) = self.notes.seen_used else {
+            unreachable!();
+        };
+        let place = self.geometry.length() + USED_WORD;
+        raise(shared, &mut self.bare, place, used, Event::KeepUsed);
+        self.notes = Notes {
+            ticket: None,
+            ..self.notes
+        };
+    }
+}

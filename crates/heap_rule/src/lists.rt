@@ -1,0 +1,87 @@
+//! The steps of a seat that exchange the head of a list.
+
+ghost use Rattle.std.specs.Prelude.{ℕ};
+ghost use Rattle.core_model.specs.declared.event.Event.TheVariants.{Pop, Push};
+ghost use Rattle.core_model.specs.Effects.{seen_word};
+ghost use Rattle.heap_rule.specs.Plays.{IsEvent};
+ghost use Rattle.heap_rule.specs.Seated.{IsSeatOf, Tells};
+ghost use Rattle.heap_rule.specs.Shown.{Can};
+
+use crate::seat::Seat;
+use crate::shared::Shared;
+use crate::steps::exchange;
+use core_model::Event;
+use crash_core::{Seat as Notes, Seen, head_after_pop, head_after_push, head_first};
+use super_block::HEAD_WORD;
+
+impl Seat {
+    /// Claims the first descriptor of the list whose head and link were seen, if the head is as it
+    /// was seen; else tells it.
+    pub fn try_pop(&mut self, shared: &Shared) -> Result<(), u64>
+        requires seat { IsSeatOf shared.now self.old }
+        requires can { Can self.old.view Pop }
+        ensures event { (found : ℕ) × IsEvent Pop self.old.view found self.new.view
+            × Tells (seen_word self.old.view.seen_head) found result }
+        ensures seat { IsSeatOf shared.now self.new }
+    {
+        let Some(head) = self.notes.seen_head else {
+            unreachable!();
+        };
+        let Some(link) = self.notes.seen_link else {
+            unreachable!();
+        };
+        let place = HEAD_WORD + head.of;
+        let new = head_after_pop(head.word, link);
+        let found = exchange(shared, &mut self.bare, place, head.word, new, Event::Pop);
+        if found != head.word {
+            self.notes = Notes {
+                ticket: None,
+                seen_head: None,
+                ..self.notes
+            };
+            return Err(found);
+        }
+        let d = head_first(head.word).saturating_sub(1);
+        self.notes = Notes {
+            ticket: None,
+            seen_head: None,
+            seen_link: None,
+            seen_anchor: Seen::cleared(self.notes.seen_anchor, d, 1),
+            ..self.notes
+        };
+        Ok(())
+    }
+
+    /// Puts a claimed descriptor in front of the list whose head was seen, if the head is as it was
+    /// seen; else tells it.
+    pub fn try_push(&mut self, shared: &Shared, d: u64) -> Result<(), u64>
+        requires seat { IsSeatOf shared.now self.old }
+        requires can { Can self.old.view (Push d) }
+        ensures event { (found : ℕ) × IsEvent (Push d) self.old.view found self.new.view
+            × Tells (seen_word self.old.view.seen_head) found result }
+        ensures seat { IsSeatOf shared.now self.new }
+    {
+        let Some(head) = self.notes.seen_head else {
+            unreachable!();
+        };
+        let place = HEAD_WORD + head.of;
+        let new = head_after_push(head.word, d);
+        let event = Event::Push { d };
+        let found = exchange(shared, &mut self.bare, place, head.word, new, event);
+        if found != head.word {
+            self.notes = Notes {
+                ticket: None,
+                seen_head: None,
+                ..self.notes
+            };
+            return Err(found);
+        }
+        self.notes = Notes {
+            ticket: None,
+            seen_head: None,
+            seen_anchor: Seen::cleared(self.notes.seen_anchor, d, 1),
+            ..self.notes
+        };
+        Ok(())
+    }
+}
