@@ -72,7 +72,7 @@ head_fits c i t head core less at_t some =
       small = omega arith;
     }
 
-total_member : (f : ℕ → ℕ) (n : ℕ) (ns : List ℕ) → 0 < times n ns → f n ≤ total f ns
+pub total_member : (f : ℕ → ℕ) (n : ℕ) (ns : List ℕ) → 0 < times n ns → f n ≤ total f ns
 total_member f n [] some = absurd (omega arith)
 total_member f n (m ∷ ns) some = elim (cases_eq m n) [
   | inl here ↦ let e = ap f here in omega arith

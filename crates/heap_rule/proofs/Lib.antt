@@ -7,3 +7,4 @@ pub mod ShownLemmas
 pub mod StepLemmas
 pub mod SeatLemmas
 pub mod FreshLemmas
+pub mod HeadLemmas

@@ -1,0 +1,30 @@
+use Rattle.std.proofs.Common.{ap, sym, subst, ◌<◌, ◌∙◌}
+use Rattle.heap_model.specs.Words.{head_pops}
+use Rattle.core_model.specs.declared.event.Event.TheVariants.{Pop}
+use Rattle.core_model.specs.Guards.{IsThere}
+use Rattle.core_model.specs.View.{one_if_some}
+use Rattle.core_model.specs.Effects.{seen_word}
+use Rattle.crash_core.specs.Standing.{snapshot}
+use Rattle.heap_rule.specs.Joint.{view_in}
+use Rattle.heap_rule.specs.Seated.{SeatView}
+use Rattle.heap_rule.proofs.SeatLemmas.{seat_after}
+use Rattle.heap_rule.proofs.HeadLemmas.{pops_below, head_popped, pop_lost}
+use Rattle.heap_rule.proofs.seat.Seat.try_pop.Goals as goal
+
+pub head_after_pop-new-requires : goal.head_after_pop-new-requires
+head_after_pop-new-requires c =
+    let is = c.self.invariant.kept.notes_are.seen_head ∙ ap snapshot c.in-Some.is in
+    subst (λ n. head_pops n < 1099511627775) (ap seen_word is)
+    (pops_below (view_in c.self.inside.bare.me.0) c.self.invariant.kept.has c.self.invariant.low (subst (λ (s : SeatView). IsThere s.view.ticket) (sym c.self.view_is) c.requires.can.ticket) (ap one_if_some is))
+
+pub invariant_of-self : goal.invariant_of-self
+invariant_of-self c =
+    let is = ap seen_word (c.self.invariant.kept.notes_are.seen_head ∙ ap snapshot c.in-Some.is) in
+    seat_after c.self.inside.bare.me c.exchange-found.new.bare.me c.self.inside.notes _ c.self.inside.geometry.capacity Pop c.exchange-found.result c.args.shared.now c.exchange-found.new.bare.table_id c.self.invariant c.exchange-found.ensures.at c.exchange-found.ensures.event
+    (pop_lost c.self.inside.notes (view_in c.self.inside.bare.me.0) (view_in c.exchange-found.new.bare.me.0) c.exchange-found.result c.in-Some.head.word c.self.invariant.kept c.exchange-found.ensures.event c.exchange-found.ensures.at.has is c.if-found-head.true)
+
+pub invariant_of-self-2 : goal.invariant_of-self-2
+invariant_of-self-2 c =
+    let is = ap seen_word (c.self.invariant.kept.notes_are.seen_head ∙ ap snapshot c.in-Some.is) in
+    seat_after c.self.inside.bare.me c.exchange-found.new.bare.me c.self.inside.notes _ c.self.inside.geometry.capacity Pop c.exchange-found.result c.args.shared.now c.exchange-found.new.bare.table_id c.self.invariant c.exchange-found.ensures.at c.exchange-found.ensures.event
+    (head_popped c.self.inside.notes (view_in c.self.inside.bare.me.0) (view_in c.exchange-found.new.bare.me.0) c.exchange-found.result c.in-Some.head.word c.head_first.result c.saturating_sub-d.result c.cleared.result c.self.invariant.kept c.exchange-found.ensures.event c.exchange-found.ensures.at.has is c.if-found-head.false c.head_first.ensures c.saturating_sub-d.ensures c.cleared.ensures)
