@@ -159,7 +159,7 @@ fn may_change(core: &CoreState, seat: usize, word: u64) -> bool
 
 impl Group {
     /// The batch after a store to a word: one to the first word of its last block ends that link.
-    fn stored(self, word: u64) -> Group
+    pub fn stored(self, word: u64) -> Group
         ensures { result ≡ record self { linked = cond (nat_eq word self.last) false self.linked } }
     {
         if word == self.last {

@@ -8,3 +8,4 @@ pub mod StepLemmas
 pub mod SeatLemmas
 pub mod FreshLemmas
 pub mod HeadLemmas
+pub mod StoredLemmas

@@ -1,5 +1,7 @@
 -- A step that a seat may do in every sound state is one that the rule of the table allows.
 use Rattle.std.proofs.Common.{◌≡◌, ℕ, List, true, [], ◌∷◌, get_or, set, refl, ap, sym, subst, ◌∙◌, arith}
+use Rattle.std.proofs.lemmas.List.{set-get_or}
+use Rattle.atomic_table.proofs.Lists.{set_again}
 use mathlib.Core.Option.{some}
 use lib.ListN.{get_elem?}
 use Rattle.atomic_table.specs.Table.{Allows, keeps}
@@ -16,7 +18,7 @@ use Rattle.core_model.proofs.PlaceLemmas.{pick}
 use Rattle.core_model.proofs.TableLemmas.{is_place}
 use Rattle.heap_rule.specs.Joint.{Joint, IsSingle, all_views}
 use Rattle.heap_rule.specs.Rule.{Opening, Keeps, Holds, setup_for}
-use Rattle.heap_rule.specs.Plays.{Has, IsStepAt, Did, DidStore}
+use Rattle.heap_rule.specs.Plays.{Has, IsStepAt, Did, DidStore, DidRead}
 use Rattle.heap_rule.proofs.JointLemmas.{offset, offset_below, at_offset, set_offset, same_seats}
 
 -- the state of the table, as one in which the seat has the view
@@ -91,3 +93,14 @@ pub allowed_store : (o : Opening) (count id : ℕ) (joint : Joint) (slots : List
 allowed_store o count id joint slots v event place value single is s holds none at fits =
     let r = allowed o count id joint slots v event place (λ _. value) single is s holds none at fits in
     (r.0, r.1, r.2, r.3, record { found = get_or s.words place 0; did = r.4 })
+
+-- a read that changes nothing
+pub allowed_read : (o : Opening) (count id : ℕ) (joint : Joint) (slots : List (ℕ × ℕ)) (v : View) (place : ℕ) → IsSingle joint v → v.setup ≡ setup_for o
+    → Allows (Holds o) count id (joint, slots) place (λ n. n) (λ found after. DidRead place (joint, slots) found after)
+allowed_read o count id joint slots v place single setup s holds none at fits = (
+  joint,
+  keeps,
+  tt,
+  subst (λ ws. Keeps o ws (set s.views id joint)) (sym (set-get_or s.words place 0)) (subst (λ js. Keeps o s.words js) (sym (set_again s.views id joint at)) holds),
+  record { same = refl; view = v; single = single; has = state_with o s.words s.views id joint v setup holds at single; found_is = refl },
+)

@@ -52,3 +52,11 @@ pub record IsStepAt (o : Opening) (v : View) (event : Event) (place : ℕ) (f : 
   pub place_is : place ≡ table_index v.setup.capacity (place_of v event)
   pub leaves : (words : List ℕ) (joints : List Joint) → Keeps o words joints → (s : Has v) → s.words ≡ words → s.views ≡ all_views joints
       → f (get_or words place 0) ≡ left_there (memory_of v.setup.capacity words) v event (get_or words place 0)
+
+-- a word is read, and nothing changes: it is that word of some sound state in which the seat has its view
+pub record DidRead (place : ℕ) (me : Me ℕ Joint) (found : ℕ) (me' : Me ℕ Joint) : Type 0 where
+  pub same : me' ≡ me
+  pub view : View
+  pub single : IsSingle me.0 view
+  pub has : Has view
+  pub found_is : found ≡ get_or has.words place 0

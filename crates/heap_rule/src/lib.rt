@@ -9,6 +9,7 @@ mod rule;
 mod seat;
 mod shared;
 mod steps;
+mod words;
 
 pub use seat::Seat;
 pub use shared::Shared;

@@ -4,7 +4,8 @@ ghost use Rattle.std.specs.Prelude.{◌≡◌, ◌<◌, ◌+◌, ◌%◌, ◌^�
 ghost use prog.Atomic.{either};
 ghost use Rattle.core_model.specs.View.{View};
 ghost use Rattle.heap_rule.specs.Joint.{IsSingle};
-ghost use Rattle.heap_rule.specs.Plays.{Did, DidStore, IsStepAt};
+ghost use Rattle.heap_rule.specs.Plays.{Did, DidStore, DidRead, IsStepAt};
+ghost use Rattle.heap_rule.specs.Rule.{setup_for};
 
 use crate::rule::{Bare, Known, Words};
 use atomic_table::Play;
@@ -44,6 +45,27 @@ impl<J: Told> Play<u8, Known> for Stores<J> {
     ghost use Rattle.heap_rule.specs.Plays.{DidStore};
 
     ghost then = { λ _ me _ after. DidStore J.event me after };
+}
+
+/// What a read that is no event tells its caller.
+pub struct Reads;
+
+impl Play<u8, Known> for Reads {
+    ghost use Rattle.heap_rule.specs.Plays.{DidRead};
+
+    ghost then = { λ step me found after. DidRead step.word me found after };
+}
+
+/// Reads a word, and changes nothing.
+pub(crate) fn read_as(shared: &Words, bare: &mut Bare, place: usize) -> u64
+    requires table { bare.old.table_id ≡ shared.now.table_id }
+    requires inside { place < shared.now.table_id.words }
+    requires single { (v : View) × IsSingle bare.old.me.0 v
+        × (v.setup ≡ setup_for shared.now.key) }
+    ensures did { DidRead place bare.old.me result bare.new.me }
+    ensures table { bare.new.table_id ≡ bare.old.table_id }
+{
+    shared.load::<Reads>(bare, place)
 }
 
 /// Loads a word.

@@ -1,17 +1,28 @@
 //! The steps of a seat at the table, each of which is one event.
 
-ghost use Rattle.std.specs.Prelude.{◌≡◌, ℕ};
+ghost use Rattle.std.specs.Prelude.{◌≡◌, ◌<◌, ℕ, get_or};
 ghost use Rattle.core_model.specs.Effects.{place_of};
-ghost use Rattle.core_model.specs.Memory.{table_index};
+ghost use Rattle.core_model.specs.Memory.{table_index, table_length};
 ghost use Rattle.heap_rule.specs.Joint.{view_in};
-ghost use Rattle.heap_rule.specs.Plays.{IsEvent, May};
+ghost use Rattle.heap_rule.specs.Plays.{Has, IsEvent, May};
 ghost use Rattle.heap_rule.specs.Seated.{IsAt, IsLook, IsDraw, IsRaise, IsExchange, IsStore};
 
-use crate::plays::{draw_as, exchange_as, load_as, raise_as, store_as};
+use crate::plays::{draw_as, exchange_as, load_as, raise_as, read_as, store_as};
 use crate::rule::Bare;
 use crate::shared::Shared;
 use core_model::Event;
 use std::marker::Brand;
+
+/// Reads a word, and changes nothing.
+pub(crate) fn read(shared: &Shared, bare: &mut Bare, place: u64) -> u64
+    requires at { IsAt shared.now bare.old.table_id bare.old.me (view_in bare.old.me.0) }
+    requires inside { place < table_length (view_in bare.old.me.0).setup.capacity }
+    ensures same { bare.new.me ≡ bare.old.me }
+    ensures table { bare.new.table_id ≡ bare.old.table_id }
+    ensures found { (s : Has (view_in bare.old.me.0)) × (result ≡ get_or s.words place 0) }
+{
+    read_as(&shared.table.shared, bare, place as usize)
+}
 
 /// Loads the word of a look.
 pub(crate) fn look(shared: &Shared, bare: &mut Bare, place: u64, event: Event) -> u64

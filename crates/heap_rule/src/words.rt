@@ -1,0 +1,31 @@
+//! The stores of a seat to words of its own.
+
+ghost use Rattle.std.specs.Prelude.{ℕ};
+ghost use Rattle.core_model.specs.declared.event.Event.TheVariants.{Store};
+ghost use Rattle.heap_rule.specs.Plays.{IsEvent};
+ghost use Rattle.heap_rule.specs.Seated.{IsSeatOf};
+ghost use Rattle.heap_rule.specs.Shown.{Can};
+
+use crate::seat::Seat;
+use crate::shared::Shared;
+use crate::steps::store;
+use core_model::Event;
+use crash_core::Seat as Notes;
+
+impl Seat {
+    /// Stores to a word of its own.
+    pub fn store_word(&mut self, shared: &Shared, word: u64, value: u64)
+        requires seat { IsSeatOf shared.now self.old }
+        requires can { Can self.old.view (Store word value) }
+        ensures event { (found : ℕ) × IsEvent (Store word value) self.old.view found self.new.view }
+        ensures seat { IsSeatOf shared.now self.new }
+    {
+        let event = Event::Store { word, value };
+        store(shared, &mut self.bare, word, value, event);
+        self.notes = Notes {
+            ticket: None,
+            batch: self.notes.batch.stored(word),
+            ..self.notes
+        };
+    }
+}
