@@ -61,6 +61,21 @@ module _ (k : Setup) (m : Memory) (views : List View) (i : ℕ) (v : View) (belo
         w : View
         w = record (used_up v) { volatile = learn v.volatile word (m.volatile cell) }
 
+  -- what a seat may record of an own word at any time
+  pub learns : Good k m (set views i (record v { volatile = learn v.volatile word (m.volatile cell) }))
+  learns = quiet k m views i v w below_i at good refl refl
+      (let s = seat.set_up in record { setup = s.setup; small = s.small; caches = s.caches; looks = s.looks; volatile = length-set v.volatile word (Some (m.volatile cell)) ∙ s.volatile; durable = s.durable })
+      (let s = seat.knows in record { seen_head = s.seen_head; seen_used = s.seen_used; looked = s.looked; seen_anchor = s.seen_anchor; seen_empty = s.seen_empty; floor = s.floor })
+      (record {
+        volatile = λ x value is knows. let r = learned k.capacity word (m.volatile cell) v.volatile m.volatile m.volatile v seat.set_up.volatile own_k (ap m.volatile same_cells) (λ _ _ _. refl) seat.words.volatile x value is knows in
+            (subst (λ n. 0 < n) (sym (own_same v w refl x)) r.0, r.1);
+        durable = λ x value is knows. let r = seat.words.durable x value is knows in (subst (λ n. 0 < n) (sym (own_same v w refl x)) r.0, r.1);
+      })
+      (let t = seat.tickets in record { ticket = t.ticket; last = t.last; used_look = t.used_look; head_looks = t.head_looks; counts = t.counts; state = t.state; looked_then = t.looked_then; gives = t.gives; cuts = t.cuts })
+      (omega arith) (omega arith) where
+        w : View
+        w = record v { volatile = learn v.volatile word (m.volatile cell) }
+
   -- an own cell is none of the shared ones, nor of a superblock that was never taken
   taken_cell : (d : ℕ) → used m ≤ d → (0 < times_claimed d v → ⊥)
   taken_cell d past some =

@@ -9,3 +9,4 @@ pub mod SeatLemmas
 pub mod FreshLemmas
 pub mod HeadLemmas
 pub mod StoredLemmas
+pub mod SettleLemmas

@@ -1,24 +1,25 @@
 -- A step that a seat may do in every sound state is one that the rule of the table allows.
-use Rattle.std.proofs.Common.{◌≡◌, ℕ, List, true, [], ◌∷◌, get_or, set, refl, ap, sym, subst, ◌∙◌, arith}
-use Rattle.std.proofs.lemmas.List.{set-get_or}
+use Rattle.std.proofs.Common.{inl, inr, length-set, ◌≡◌, ℕ, List, true, [], ◌∷◌, get_or, set, refl, ap, sym, subst, ◌∙◌, arith}
+use Rattle.std.proofs.lemmas.List.{set-get_or, get_or-set_same}
 use Rattle.atomic_table.proofs.Lists.{set_again}
 use mathlib.Core.Option.{some}
 use lib.ListN.{get_elem?}
 use Rattle.atomic_table.specs.Table.{Allows, keeps}
 use Rattle.core_model.specs.declared.event.Event.{Event}
-use Rattle.core_model.specs.Cells.{is_cell}
-use Rattle.core_model.specs.Memory.{Place, volatile_at, durable_at, tickets, memory_of, read, table_index}
-use Rattle.core_model.specs.View.{View}
+use Rattle.core_model.specs.Cells.{cell_at, is_cell}
+use Rattle.core_model.specs.Memory.{Memory, Place, volatile_at, durable_at, tickets, memory_of, read, table_index}
+use Rattle.core_model.specs.View.{View, times_own}
 use Rattle.core_model.specs.Effects.{place_of, left_there, view_after}
-use Rattle.core_model.specs.Guards.{MayStep}
-use Rattle.core_model.specs.Sound.{Sound}
+use Rattle.core_model.specs.Guards.{IsOwn, MayStep}
+use Rattle.core_model.specs.Sound.{Good, Sound}
 use Rattle.core_model.specs.Steps.{found_by, words_after, seat_after}
 use Rattle.core_model.proofs.SoundLemmas.{in_table, sound_step}
-use Rattle.core_model.proofs.PlaceLemmas.{pick}
+use Rattle.core_model.proofs.PlaceLemmas.{pick, cell_there, index_at}
+use Rattle.core_model.proofs.OwnStepLemmas.{learns}
 use Rattle.core_model.proofs.TableLemmas.{is_place}
 use Rattle.heap_rule.specs.Joint.{Joint, IsSingle, all_views}
 use Rattle.heap_rule.specs.Rule.{Opening, Keeps, Holds, setup_for}
-use Rattle.heap_rule.specs.Plays.{Has, IsStepAt, Did, DidStore, DidRead}
+use Rattle.heap_rule.specs.Plays.{Has, IsStepAt, Did, DidStore, DidRead, DidLearn, learned}
 use Rattle.heap_rule.proofs.JointLemmas.{offset, offset_below, at_offset, set_offset, same_seats}
 
 -- the state of the table, as one in which the seat has the view
@@ -104,3 +105,56 @@ allowed_read o count id joint slots v place single setup s holds none at fits = 
   subst (λ ws. Keeps o ws (set s.views id joint)) (sym (set-get_or s.words place 0)) (subst (λ js. Keeps o s.words js) (sym (set_again s.views id joint at)) holds),
   record { same = refl; view = v; single = single; has = state_with o s.words s.views id joint v setup holds at single; found_is = refl },
 )
+
+-- a read of an own word that is recorded
+pub allowed_learn : (o : Opening) (count id : ℕ) (joint : Joint) (slots : List (ℕ × ℕ)) (v : View) (word : ℕ) → IsSingle joint v → v.setup ≡ setup_for o → IsOwn v (cell_at v.setup.capacity word)
+    → Allows (Holds o) count id (joint, slots) word (λ n. n) (λ found after. DidLearn word (joint, slots) found after)
+allowed_learn o count id joint slots v word single setup own s holds none at fits =
+    (w ∷ [], keeps, tt, kept, record { view = v; single = single; now = refl; has = has_w }) where
+      has : Has v
+      has = state_with o s.words s.views id joint v setup holds at single
+
+      m : Memory
+      m = memory_of v.setup.capacity s.words
+
+      found : ℕ
+      found = get_or s.words word 0
+
+      -- an own word is one of the image
+      there : is_cell v.setup.capacity (cell_at v.setup.capacity word) ≡ true
+      there = elim (cell_there v.setup.capacity word) [ inl yes_there ↦ yes_there | inr nowhere ↦ absurd (let e = ap (times_own v) nowhere in omega arith) ]
+
+      value_is : found ≡ m.volatile (cell_at v.setup.capacity word)
+      value_is = ap (λ n. get_or s.words n 0) (sym (index_at v.setup.capacity word there)) ∙ sym (pick (is_cell v.setup.capacity (cell_at v.setup.capacity word)) _ _ there)
+
+      w : View
+      w = learned v word found
+
+      sound : Sound v.setup s.words (set (all_views s.views) has.seat w)
+      sound = record {
+        some = has.sound.some;
+        long = has.sound.long;
+        fixed = has.sound.fixed;
+        capacity = has.sound.capacity;
+        used = has.sound.used;
+        good = subst (λ x. Good v.setup m (set (all_views s.views) has.seat (learned v word x))) (sym value_is) (learns v.setup m (all_views s.views) has.seat v has.below has.at has.sound.good word own);
+      }
+
+      kept : Keeps o (set s.words word found) (set s.views id (w ∷ []))
+      kept = record {
+        sound = subst (λ ws. Sound (setup_for o) ws (all_views (set s.views id (w ∷ [])))) (sym (set-get_or s.words word 0))
+            (subst (λ vs. Sound (setup_for o) s.words vs) (sym (set_offset s.views id joint v w at single)) (subst (λ k. Sound k s.words (set (all_views s.views) has.seat w)) setup sound));
+        count = same_seats s.views id joint v w at single ∙ holds.count;
+        few = holds.few;
+        low = holds.low;
+      }
+
+      has_w : Has w
+      has_w = record {
+        words = s.words;
+        views = set (all_views s.views) has.seat w;
+        seat = has.seat;
+        sound = sound;
+        below = let l = length-set (all_views s.views) has.seat w in let b = has.below in omega arith;
+        at = get_or-set_same (all_views s.views) has.seat w w has.below;
+      }

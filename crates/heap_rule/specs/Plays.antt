@@ -4,7 +4,7 @@ use Rattle.atomic_table.specs.Table.{Me}
 use Rattle.core_model.specs.declared.event.Event.{Event}
 use Rattle.core_model.specs.Memory.{memory_of, table_index}
 use Rattle.core_model.specs.View.{View}
-use Rattle.core_model.specs.Effects.{place_of, left_there, view_after}
+use Rattle.core_model.specs.Effects.{place_of, left_there, view_after, learn}
 use Rattle.core_model.specs.Guards.{MayStep}
 use Rattle.core_model.specs.Sound.{Sound}
 use Rattle.core_model.specs.Steps.{found_by, words_after}
@@ -60,3 +60,14 @@ pub record DidRead (place : ℕ) (me : Me ℕ Joint) (found : ℕ) (me' : Me ℕ
   pub single : IsSingle me.0 view
   pub has : Has view
   pub found_is : found ≡ get_or has.words place 0
+
+-- the view of a seat that has recorded what loads see of a word
+abbrev pub learned : View → ℕ → ℕ → View
+learned v word value = record v { volatile = learn v.volatile word value }
+
+-- an own word is read, and recorded in the view
+pub record DidLearn (word : ℕ) (me : Me ℕ Joint) (found : ℕ) (me' : Me ℕ Joint) : Type 0 where
+  pub view : View
+  pub single : IsSingle me.0 view
+  pub now : me' ≡ (learned view word found ∷ [], me.1)
+  pub has : Has (learned view word found)

@@ -5,6 +5,7 @@ mod fresh;
 mod lists;
 mod looks;
 mod plays;
+mod reads;
 mod rule;
 mod seat;
 mod shared;

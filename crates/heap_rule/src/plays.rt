@@ -2,9 +2,11 @@
 
 ghost use Rattle.std.specs.Prelude.{◌≡◌, ◌<◌, ◌+◌, ◌%◌, ◌^◌, ◌==◌, max};
 ghost use prog.Atomic.{either};
+ghost use Rattle.core_model.specs.Cells.{cell_at};
+ghost use Rattle.core_model.specs.Guards.{IsOwn};
 ghost use Rattle.core_model.specs.View.{View};
 ghost use Rattle.heap_rule.specs.Joint.{IsSingle};
-ghost use Rattle.heap_rule.specs.Plays.{Did, DidStore, DidRead, IsStepAt};
+ghost use Rattle.heap_rule.specs.Plays.{Did, DidStore, DidRead, DidLearn, IsStepAt};
 ghost use Rattle.heap_rule.specs.Rule.{setup_for};
 
 use crate::rule::{Bare, Known, Words};
@@ -66,6 +68,27 @@ pub(crate) fn read_as(shared: &Words, bare: &mut Bare, place: usize) -> u64
     ensures table { bare.new.table_id ≡ bare.old.table_id }
 {
     shared.load::<Reads>(bare, place)
+}
+
+/// What a read that is recorded tells its caller.
+pub struct Learns;
+
+impl Play<u8, Known> for Learns {
+    ghost use Rattle.heap_rule.specs.Plays.{DidLearn};
+
+    ghost then = { λ step me found after. DidLearn step.word me found after };
+}
+
+/// Reads a word of the seat's own, and records it in its view.
+pub(crate) fn learn_as(shared: &Words, bare: &mut Bare, word: usize) -> u64
+    requires table { bare.old.table_id ≡ shared.now.table_id }
+    requires inside { word < shared.now.table_id.words }
+    requires own { (v : View) × IsSingle bare.old.me.0 v × (v.setup ≡ setup_for shared.now.key)
+        × IsOwn v (cell_at v.setup.capacity word) }
+    ensures did { DidLearn word bare.old.me result bare.new.me }
+    ensures table { bare.new.table_id ≡ bare.old.table_id }
+{
+    shared.load::<Learns>(bare, word)
 }
 
 /// Loads a word.

@@ -1,13 +1,15 @@
 //! The steps of a seat at the table, each of which is one event.
 
 ghost use Rattle.std.specs.Prelude.{◌≡◌, ◌<◌, ℕ, get_or};
+ghost use Rattle.core_model.specs.Cells.{cell_at};
 ghost use Rattle.core_model.specs.Effects.{place_of};
+ghost use Rattle.core_model.specs.Guards.{IsOwn};
 ghost use Rattle.core_model.specs.Memory.{table_index, table_length};
 ghost use Rattle.heap_rule.specs.Joint.{view_in};
-ghost use Rattle.heap_rule.specs.Plays.{Has, IsEvent, May};
+ghost use Rattle.heap_rule.specs.Plays.{Has, IsEvent, May, learned};
 ghost use Rattle.heap_rule.specs.Seated.{IsAt, IsLook, IsDraw, IsRaise, IsExchange, IsStore};
 
-use crate::plays::{draw_as, exchange_as, load_as, raise_as, read_as, store_as};
+use crate::plays::{draw_as, exchange_as, learn_as, load_as, raise_as, read_as, store_as};
 use crate::rule::Bare;
 use crate::shared::Shared;
 use core_model::Event;
@@ -22,6 +24,17 @@ pub(crate) fn read(shared: &Shared, bare: &mut Bare, place: u64) -> u64
     ensures found { (s : Has (view_in bare.old.me.0)) × (result ≡ get_or s.words place 0) }
 {
     read_as(&shared.table.shared, bare, place as usize)
+}
+
+/// Reads a word of the seat's own, and records it in its view.
+pub(crate) fn learn(shared: &Shared, bare: &mut Bare, word: u64) -> u64
+    requires at { IsAt shared.now bare.old.table_id bare.old.me (view_in bare.old.me.0) }
+    requires own { IsOwn (view_in bare.old.me.0)
+        (cell_at (view_in bare.old.me.0).setup.capacity word) }
+    ensures at { IsAt shared.now bare.new.table_id bare.new.me (view_in bare.new.me.0) }
+    ensures view { view_in bare.new.me.0 ≡ learned (view_in bare.old.me.0) word result }
+{
+    learn_as(&shared.table.shared, bare, word as usize)
 }
 
 /// Loads the word of a look.

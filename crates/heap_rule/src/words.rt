@@ -1,14 +1,14 @@
-//! The stores of a seat to words of its own.
+//! What a seat does to words of its own: stores, and making one durable.
 
 ghost use Rattle.std.specs.Prelude.{ℕ};
-ghost use Rattle.core_model.specs.declared.event.Event.TheVariants.{Store};
-ghost use Rattle.heap_rule.specs.Plays.{IsEvent};
+ghost use Rattle.core_model.specs.declared.event.Event.TheVariants.{Store, Settle};
+ghost use Rattle.heap_rule.specs.Plays.{IsEvent, learned};
 ghost use Rattle.heap_rule.specs.Seated.{IsSeatOf};
 ghost use Rattle.heap_rule.specs.Shown.{Can};
 
 use crate::seat::Seat;
 use crate::shared::Shared;
-use crate::steps::store;
+use crate::steps::{learn, store};
 use core_model::Event;
 use crash_core::Seat as Notes;
 
@@ -27,5 +27,19 @@ impl Seat {
             batch: self.notes.batch.stored(word),
             ..self.notes
         };
+    }
+
+    /// Makes a word of its own durable: it is read, and its durable value becomes what was read.
+    pub fn settle(&mut self, shared: &Shared, word: u64)
+        requires seat { IsSeatOf shared.now self.old }
+        requires can { Can self.old.view (Settle word) }
+        ensures event { (value found : ℕ)
+            × IsEvent (Settle word) (learned self.old.view word value) found self.new.view }
+        ensures seat { IsSeatOf shared.now self.new }
+    {
+        let value = learn(shared, &mut self.bare, word);
+        let place = self.geometry.length() + word;
+        let event = Event::Settle { word };
+        store(shared, &mut self.bare, place, value, event);
     }
 }

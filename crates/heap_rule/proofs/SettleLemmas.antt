@@ -1,0 +1,67 @@
+-- A word of a seat's own that is read, recorded and made durable.
+use Rattle.std.proofs.Common.{◌≡◌, ℕ, ◌+◌, ◌<◌, true, inl, inr, None, Some, get_or, set, length, length-set, refl, ap, sym, subst, ◌∙◌, arith}
+use Rattle.std.proofs.lemmas.List.{get_or-set_same}
+use Rattle.heap_model.specs.Geometry.{image_words}
+use Rattle.core_model.specs.declared.event.Event.TheVariants.{Settle}
+use Rattle.core_model.specs.Cells.{Cell, cell_at, index_of, is_cell}
+use Rattle.core_model.specs.Memory.{memory_of, table_index, table_length}
+use Rattle.core_model.specs.View.{Setup, View, times_own}
+use Rattle.core_model.specs.Effects.{place_of}
+use Rattle.core_model.specs.Guards.{IsOwn}
+use Rattle.core_model.proofs.PlaceLemmas.{cell_there, index_at, index_within}
+use Rattle.core_model.proofs.QuietLemmas.{own_same}
+use Rattle.crash_core.specs.declared.owners.Seat.{Seat}
+use Rattle.heap_rule.specs.Plays.{Has, IsEvent, learned}
+use Rattle.atomic_table.specs.Seated.{TableId}
+use Rattle.atomic_table.specs.Table.{Me}
+use Rattle.heap_rule.specs.Joint.{Joint, view_in}
+use Rattle.heap_rule.specs.Seated.{SharedView, IsKeptOf, IsSeat, IsAt, IsStore}
+use Rattle.heap_rule.specs.Shown.{Can}
+use Rattle.heap_rule.proofs.SeatLemmas.{keep_fits}
+use Rattle.heap_rule.proofs.StepLemmas.{has_after}
+use Rattle.heap_rule.proofs.ViewLemmas.{shown}
+
+-- an own word is one of the image
+pub own_there : (v : View) (word : ℕ) → IsOwn v (cell_at v.setup.capacity word) → is_cell v.setup.capacity (cell_at v.setup.capacity word) ≡ true
+own_there v word own = elim (cell_there v.setup.capacity word) [ inl there ↦ there | inr nowhere ↦ absurd (let e = ap (times_own v) nowhere in omega arith) ]
+
+pub own_index : (v : View) (word : ℕ) → IsOwn v (cell_at v.setup.capacity word) → index_of (cell_at v.setup.capacity word) ≡ word
+own_index v word own = index_at v.setup.capacity word (own_there v word own)
+
+pub own_below : (v : View) (word : ℕ) → IsOwn v (cell_at v.setup.capacity word) → word < image_words v.setup.capacity
+own_below v word own = subst (λ n. n < image_words v.setup.capacity) (own_index v word own) (index_within v.setup.capacity (cell_at v.setup.capacity word) (own_there v word own))
+
+-- what is recorded changes nothing of what is the seat's
+pub own_still : (v : View) (word value : ℕ) → IsOwn v (cell_at v.setup.capacity word) → IsOwn (learned v word value) (cell_at v.setup.capacity word)
+own_still v word value own = subst (λ n. 0 < n) (sym (own_same v (learned v word value) refl (cell_at v.setup.capacity word))) own
+
+pub settle_place : (v : View) (word value : ℕ) → IsOwn v (cell_at v.setup.capacity word) → image_words v.setup.capacity + word ≡ table_index v.setup.capacity (place_of (learned v word value) (Settle word))
+settle_place v word value own = ap (λ n. image_words v.setup.capacity + n) (sym (own_index v word own))
+
+pub settle_can : (v : View) (word value : ℕ) → Can v (Settle word) → Can (learned v word value) (Settle word)
+settle_can v word value can = record { going = can.going; ticket = tt; shown = own_still v word value can.shown }
+
+-- what is recorded is the word in each state that has the view
+pub settle_store : (v : View) (word value : ℕ) → IsOwn v (cell_at v.setup.capacity word) → IsStore (Settle word) (learned v word value) value
+settle_store v word value own s found =
+    shown (learned v word value) s (cell_at v.setup.capacity word) value (own_there v word own)
+    (ap (λ n. get_or (set v.volatile word (Some value)) n None) (own_index v word own) ∙ get_or-set_same v.volatile word (Some value) None less) where
+      less : word < length v.volatile
+      less = let l = (s.sound.good.set_up s.seat (learned v word value) s.below s.at).volatile in let n = length-set v.volatile word (Some value) in let b = own_below v word own in omega arith
+
+pub settled_kept : (notes : Seat) (v w : View) (word value found : ℕ) → IsKeptOf notes v → IsEvent (Settle word) (learned v word value) found w → Has w → IsKeptOf notes w
+settled_kept notes v w word value found kept event has = keep_fits _ _ w event.after has (record {
+  notes_are = let n = kept.notes_are in record { ticket = n.ticket; stopped = n.stopped; seen_used = n.seen_used; seen_head = n.seen_head; seen_link = n.seen_link; seen_anchor = n.seen_anchor };
+  caches = kept.caches;
+  batch = kept.batch;
+})
+
+pub settled_seat : (me me' : Me ℕ Joint) (notes : Seat) (capacity word value found : ℕ) (shared : SharedView) (table : TableId) → IsSeat me notes capacity → IsAt shared table me' (view_in me'.0)
+    → IsEvent (Settle word) (learned (view_in me.0) word value) found (view_in me'.0) → IsSeat me' notes capacity
+settled_seat me me' notes capacity word value found shared table old at event =
+    let same : (view_in me'.0).setup ≡ (view_in me.0).setup = (has_after (Settle word) (learned (view_in me.0) word value) found (view_in me'.0) event).1 in record {
+      single = at.single;
+      kept = settled_kept notes (view_in me.0) (view_in me'.0) word value found old.kept event at.has;
+      capacity_is = old.capacity_is ∙ sym (ap (λ (k : Setup). k.capacity) same);
+      low = subst (λ (k : Setup). k.budget < 1099511627776) (sym same) old.low;
+    }

@@ -1,0 +1,41 @@
+use Rattle.std.proofs.Common.{◌≡◌, ◌+◌, ap, sym, subst, ◌∙◌, arith}
+use Rattle.heap_model.specs.Geometry.{image_words, largest_capacity_fits}
+use Rattle.core_model.specs.declared.event.Event.TheVariants.{Settle}
+use Rattle.core_model.specs.Effects.{place_of}
+use Rattle.core_model.specs.Memory.{table_index}
+use Rattle.core_model.specs.View.{View}
+use Rattle.heap_rule.specs.Joint.{view_in}
+use Rattle.heap_rule.specs.Plays.{May, IsEvent, learned}
+use Rattle.heap_rule.specs.Seated.{SeatView, IsStore}
+use Rattle.heap_rule.specs.Shown.{Can}
+use Rattle.heap_rule.proofs.ShownLemmas.{may_of}
+use Rattle.heap_rule.proofs.SeatLemmas.{seat_after}
+use Rattle.heap_rule.proofs.SettleLemmas.{own_below, settle_place, settle_can, settle_store, settled_seat}
+use Rattle.heap_rule.proofs.seat.Seat.settle.Goals as goal
+
+pub overflow_add-place : goal.overflow_add-place
+overflow_add-place c =
+    let can = subst (λ (s : SeatView). Can s.view (Settle c.args.word)) (sym c.self.view_is) c.requires.can in
+    let below = own_below (view_in c.self.inside.bare.me.0) c.args.word can.shown in
+    let small = c.self.invariant.kept.has.sound.good.small in let fits = largest_capacity_fits in let same = c.self.invariant.capacity_is in let long = c.length.ensures in omega arith
+
+pub store-requires-clause-may : goal.store-requires-clause-may
+store-requires-clause-may c =
+    let can = subst (λ (s : SeatView). Can s.view (Settle c.args.word)) (sym c.self.view_is) c.requires.can in
+    subst (λ v. May v (Settle c.args.word)) (sym c.learn-value.ensures.view)
+    (may_of (learned (view_in c.self.inside.bare.me.0) c.args.word c.learn-value.result) (Settle c.args.word) (settle_can (view_in c.self.inside.bare.me.0) c.args.word c.learn-value.result can))
+
+pub store-requires-clause-place : goal.store-requires-clause-place
+store-requires-clause-place c =
+    let can = subst (λ (s : SeatView). Can s.view (Settle c.args.word)) (sym c.self.view_is) c.requires.can in
+    subst (λ (v : View). c.length.result + c.args.word ≡ table_index v.setup.capacity (place_of v (Settle c.args.word))) (sym c.learn-value.ensures.view)
+    (ap (λ n. n + c.args.word) (c.length.ensures ∙ ap image_words c.self.invariant.capacity_is) ∙ settle_place (view_in c.self.inside.bare.me.0) c.args.word c.learn-value.result can.shown)
+
+pub store-requires-clause-store : goal.store-requires-clause-store
+store-requires-clause-store c =
+    let can = subst (λ (s : SeatView). Can s.view (Settle c.args.word)) (sym c.self.view_is) c.requires.can in
+    subst (λ v. IsStore (Settle c.args.word) v c.learn-value.result) (sym c.learn-value.ensures.view) (settle_store (view_in c.self.inside.bare.me.0) c.args.word c.learn-value.result can.shown)
+
+pub invariant_of-self : goal.invariant_of-self
+invariant_of-self c = settled_seat c.self.inside.bare.me c.store.new.bare.me c.self.inside.notes c.self.inside.geometry.capacity c.args.word c.learn-value.result c.store.ensures.event.0 c.args.shared.now c.store.new.bare.table_id c.self.invariant c.store.ensures.at
+    (subst (λ v. IsEvent (Settle c.args.word) v c.store.ensures.event.0 (view_in c.store.new.bare.me.0)) c.learn-value.ensures.view c.store.ensures.event.1)
