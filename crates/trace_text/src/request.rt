@@ -1,4 +1,4 @@
-//! Requests to a dictionary, and why a trace of them can't be read.
+//! Requests to a dictionary, and why a trace of them, or a schedule, can't be read.
 ghost use Rattle.std.specs.Prelude.{◌≡◌};
 ghost use Rattle.trace_text.specs.declared.request.TraceError.TheVariants.{Memory};
 
@@ -16,10 +16,10 @@ pub enum Request {
     Del(u64),
 }
 
-/// Why a trace can't be read.
+/// Why a trace or a schedule can't be read.
 #[derive(Clone, Copy, PartialEq, Eq, Debug)]
 pub enum TraceError {
-    /// The first line that asks for no request, counted from 1.
+    /// The first line outside the grammar, counted from 1.
     BadLine { line: u64 },
     /// Memory ran out.
     Memory,
