@@ -1,0 +1,94 @@
+//! Cores over recovered images, for the tests, and steps of their seats.
+ghost use Rattle.std.specs.Prelude.{◌≡◌, ◌<◌, ◌≤◌, ℕ, length, Contains, IfOk};
+ghost use Rattle.heap_model.specs.Geometry.{largest_capacity, roots};
+ghost use Rattle.core_model.specs.Opening.{AreOwners};
+
+use crash_core::{Core, Event, Owners, StepAnswer};
+use dictionary::{DictFilter, root_kinds};
+use heap_recover::recover;
+use line_memory::Chance;
+use region_header::format;
+use std::alloc::{AllocError, Global};
+use std::test::Fail;
+use super_block::{ROOTS, Ready};
+
+/// More tickets than any test here draws.
+pub const MANY: u64 = 1_000_000;
+
+/// A draw without a change.
+pub const DRAW: Event = Event::Tick { shift: None };
+
+/// A source that gives this number always.
+#[derive(Drop)]
+pub struct Always(pub u64);
+
+impl Chance for Always {
+    fn draw(&mut self) -> u64 {
+        self.0
+    }
+}
+
+/// Words of an image: at which word index, and what.
+pub type Words<'a> = &'a [(usize, u64)];
+
+/// What recovery makes of an image of so many superblocks with these words.
+pub fn recovered(alloc: Global, capacity: u64, words: Words<'_>) -> Result<Ready, Fail>
+    requires some { 1 ≤ capacity }
+    requires small { capacity ≤ largest_capacity }
+{
+    let mut image = format(alloc, capacity)?;
+    for (at, value) in words {
+        if let Some(word) = image.get_mut(*at) {
+            *word = *value;
+        }
+    }
+    Ok(recover(alloc, &image, &root_kinds(), &DictFilter)?.heap)
+}
+
+/// So many numbers of seats, in turn.
+fn in_turn(alloc: Global, count: usize, seats: usize) -> Result<Vec<u32>, AllocError>
+    requires some { 1 ≤ seats }
+    requires seats { seats ≤ 8 }
+    ensures count { IfOk result (λ owners. length owners.items ≡ count) }
+    ensures below { IfOk result (λ owners. (owner : ℕ) → Contains owners.items owner
+        → owner < seats) }
+{
+    let mut owners = Vec::new(alloc);
+    for i in 0..count {
+        owners.push((i % seats) as u32)?;
+    }
+    Ok(owners)
+}
+
+/// The heap opened for some seats, which own the held blocks and the roots in turn.
+pub fn opened(alloc: Global, heap: &Ready, seats: usize, budget: u64) -> Result<Core, Fail>
+    requires some { 1 ≤ seats }
+    requires seats { seats ≤ 8 }
+    requires budget { budget < 1099511627776 }
+{
+    let held = in_turn(alloc, heap.held().len(), seats)?;
+    let roots = in_turn(alloc, ROOTS as usize, seats)?;
+    Ok(Core::of(alloc, heap, &Owners::new(held, roots), seats, budget)?)
+}
+
+/// Takes a step of the seat.
+pub fn take(core: &mut Core, seat: usize, event: Event) -> Result<StepAnswer, Fail> {
+    if seat >= core.seats() {
+        return Err("no such seat".into());
+    }
+    core.reserve(1)?;
+    Ok(core.step(seat, event))
+}
+
+/// Whether the event uses a ticket up.
+pub fn needs_ticket(event: Event) -> bool {
+    !matches!(event, Event::Tick { .. } | Event::Settle { .. })
+}
+
+/// Takes a step of the seat, for which it draws a ticket where the step uses one up.
+pub fn take_drawn(core: &mut Core, seat: usize, event: Event) -> Result<StepAnswer, Fail> {
+    if needs_ticket(event) {
+        take(core, seat, DRAW)?;
+    }
+    take(core, seat, event)
+}

@@ -1,0 +1,19 @@
+//! Tests of the core of the shared heap: schedules of events over recovered images, with the answer
+//! of each, and what a crash leaves after them. The crate is nothing but these, so that a change of
+//! the core's insides leaves them alone.
+#![tactic(auto, unfolding(heap_model::specs::Geometry::largest_capacity))]
+
+#[cfg(test)]
+mod exchanges;
+#[cfg(test)]
+mod fixtures;
+#[cfg(test)]
+mod own_words;
+#[cfg(test)]
+mod pieces;
+#[cfg(test)]
+mod rows;
+#[cfg(test)]
+mod schedules;
+#[cfg(test)]
+mod shifts;
