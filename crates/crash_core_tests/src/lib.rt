@@ -4,6 +4,12 @@
 #![tactic(auto, unfolding(heap_model::specs::Geometry::largest_capacity))]
 
 #[cfg(test)]
+mod checks;
+#[cfg(test)]
+mod crashes;
+#[cfg(test)]
+mod dice;
+#[cfg(test)]
 mod exchanges;
 #[cfg(test)]
 mod fixtures;
@@ -11,6 +17,14 @@ mod fixtures;
 mod own_words;
 #[cfg(test)]
 mod pieces;
+#[cfg(test)]
+mod plain;
+#[cfg(test)]
+mod plain_guards;
+#[cfg(test)]
+mod plain_steps;
+#[cfg(test)]
+mod random;
 #[cfg(test)]
 mod rows;
 #[cfg(test)]

@@ -1,0 +1,211 @@
+//! When a seat of the plain heap may take a step.
+use crate::plain::{Claim, Hand, Plain, anchor_word, at, info_word, link_word, sizes};
+use crash_core::{Event, Shift};
+
+/// The first descriptor's number plus 1 of a head or a link.
+pub fn first_of(head: u64) -> u64 {
+    head % (1 << 24)
+}
+
+impl Plain {
+    /// Whether the event is done, given a ticket where it needs one.
+    pub fn may(&self, seat: usize, event: Event) -> bool {
+        let Some(hand) = self.hands.get(seat) else {
+            return false;
+        };
+        match event {
+            Event::Tick { shift: None } | Event::LookUsed => true,
+            Event::Tick { shift: Some(shift) } => self.may_shift(hand, shift),
+            Event::Load { word } | Event::Settle { word } => self.is_own(hand, seat, word),
+            Event::Store { word, value } => {
+                self.is_own(hand, seat, word) && self.may_store(hand, word, value)
+            }
+            Event::TakeFresh { n } => {
+                let used = at(&self.words, 8);
+                let room = self.capacity.wrapping_sub(used);
+                hand.used == Some(used) && 1 <= n && n <= room
+            }
+            Event::KeepUsed => hand.used.is_some(),
+            Event::LookHead { list } => list <= 20,
+            Event::LookLink => matches!(hand.head, Some((_, head)) if first_of(head) != 0),
+            Event::Pop => hand.link.is_some() && self.is_seen_head(hand),
+            Event::Push { d } => self.is_seen_head(hand) && self.may_push(hand, d),
+            Event::LookAnchor { d } => hand.has_settled(d) || self.has_batch_of(hand, d),
+            Event::TakeAll { d } => self.is_seen_anchor(hand, d) && self.may_take_all(hand, d),
+            Event::Give { d } => self.is_seen_anchor(hand, d) && self.may_give(hand, d),
+        }
+    }
+
+    /// Whether a head was seen, and is still as it was.
+    fn is_seen_head(&self, hand: &Hand) -> bool {
+        let Some((list, head)) = hand.head else {
+            return false;
+        };
+        at(&self.words, list.wrapping_add(16)) == head
+    }
+
+    /// Whether the superblock's anchor was seen, and is still as it was.
+    fn is_seen_anchor(&self, hand: &Hand, d: u64) -> bool {
+        hand.anchor == Some((d, self.anchor(d)))
+    }
+
+    fn has_batch_of(&self, hand: &Hand, d: u64) -> bool {
+        matches!(hand.batch.first(), Some(block) if self.superblock(*block) == d)
+    }
+
+    /// Whether the word is the seat's own.
+    fn is_own(&self, hand: &Hand, seat: usize, word: u64) -> bool {
+        if word < 1_064 {
+            let root = word.wrapping_sub(40) as usize;
+            return 40 <= word && root.checked_rem(self.hands.len()) == Some(seat);
+        }
+        if word < self.start(0) {
+            let d = word.wrapping_sub(1_064) / 8;
+            return match word % 8 {
+                0 | 1 => hand.has_whole(d),
+                2 => hand.claim(d).is_some(),
+                _ => false,
+            };
+        }
+        word < self.start(self.capacity) && self.is_own_data(hand, word)
+    }
+
+    /// Whether it is in a claimed superblock without a class, or in one of the seat's blocks.
+    fn is_own_data(&self, hand: &Hand, word: u64) -> bool {
+        let d = self.superblock(word);
+        for (first, count) in &hand.large {
+            if *first <= d && d < first.wrapping_add(*count) {
+                return true;
+            }
+        }
+        let (words, _) = sizes(self.info(d));
+        for list in [&hand.held, &hand.cache_19, &hand.cache_20, &hand.batch] {
+            for block in list.iter() {
+                if *block <= word && word < block.wrapping_add(words) {
+                    return true;
+                }
+            }
+        }
+        hand.has_whole(d)
+    }
+
+    /// Whether the own word may get the value.
+    fn may_store(&self, hand: &Hand, word: u64, value: u64) -> bool {
+        if word < 1_064 {
+            return true;
+        }
+        if word < self.start(0) {
+            let claim = hand.claim(word.wrapping_sub(1_064) / 8);
+            return match word % 8 {
+                1 => value == 0 || value == 2 && claim != Some(Claim::Cutting),
+                2 => claim != Some(Claim::Cutting),
+                _ => true,
+            };
+        }
+        let is_last = hand.batch.last() == Some(&word);
+        let is_cached = hand.cache_19.contains(&word) || hand.cache_20.contains(&word);
+        !is_cached && (is_last || !hand.batch.contains(&word))
+    }
+
+    /// Whether the superblock may go to the list whose head was seen.
+    fn may_push(&self, hand: &Hand, d: u64) -> bool {
+        let Some((list, head)) = hand.head else {
+            return false;
+        };
+        let is_linked = at(&self.words, link_word(d)) == first_of(head);
+        if !hand.has_settled(d) || at(&self.durable, 8) <= d || !is_linked {
+            return false;
+        }
+        let state = self.anchor(d) % 4;
+        if list == 0 {
+            return state == 0;
+        }
+        matches!(hand.claim(d), Some(Claim::Classed(_))) && self.info(d) == list && state <= 1
+    }
+
+    /// Whether all free blocks may be taken, of the anchor that was seen.
+    fn may_take_all(&self, hand: &Hand, d: u64) -> bool {
+        let Some(Claim::Classed(class)) = hand.claim(d) else {
+            return false;
+        };
+        self.anchor(d) % 4 == 1 && hand.cache(class).is_empty()
+    }
+
+    /// Whether the batch may be given back, given the anchor that was seen.
+    fn may_give(&self, hand: &Hand, d: u64) -> bool {
+        let anchor = self.anchor(d);
+        let Some(last) = hand.batch.last() else {
+            return false;
+        };
+        let is_linked = at(&self.words, *last) == self.first_free(d, anchor);
+        self.has_batch_of(hand, d) && (anchor >> 33 == 0 || is_linked)
+    }
+
+    fn may_shift(&self, hand: &Hand, shift: Shift) -> bool {
+        match shift {
+            Shift::Cut { d } => self.may_cut(hand, d),
+            Shift::Alloc { class } => !hand.cache(class).is_empty(),
+            Shift::Free { block } => {
+                let first = hand.cache(self.info(self.superblock(block))).first();
+                let leads = matches!(first, Some(first) if at(&self.words, block) != *first);
+                hand.held.contains(&block) && !leads
+            }
+            Shift::Lift { class } => self.may_lift(hand, class),
+            Shift::Large { d, n } => self.may_hold_large(hand, d, n),
+            Shift::Split { block } => {
+                hand.large
+                    .iter()
+                    .any(|(first, _)| self.start(*first) == block)
+            }
+        }
+    }
+
+    fn may_cut(&self, hand: &Hand, d: u64) -> bool {
+        let class = self.info(d);
+        let (_, count) = sizes(class);
+        if hand.claim(d) != Some(Claim::Cutting) || count == 0 || at(&self.durable, 8) <= d {
+            return false;
+        }
+        for i in 1..count {
+            if at(&self.words, self.block(d, i.wrapping_sub(1))) != self.block(d, i) {
+                return false;
+            }
+        }
+        at(&self.durable, info_word(d)) == class && hand.cache(class).is_empty()
+    }
+
+    fn may_lift(&self, hand: &Hand, class: u64) -> bool {
+        let Some(block) = hand.cache(class).first() else {
+            return false;
+        };
+        let Some(last) = hand.batch.last() else {
+            return true;
+        };
+        let is_linked = hand.linked && at(&self.words, *last) == *block;
+        is_linked && self.has_batch_of(hand, self.superblock(*block))
+    }
+
+    fn may_hold_large(&self, hand: &Hand, d: u64, n: u64) -> bool {
+        let until = d.wrapping_add(n);
+        if n == 0 || until > at(&self.durable, 8) {
+            return false;
+        }
+        for e in d..until {
+            let wanted = if e == d {
+                n.wrapping_mul(256).wrapping_add(255)
+            } else {
+                0
+            };
+            let is_empty = match hand.claim(e) {
+                Some(Claim::Raw) => self.anchor(e) % 4 == 0,
+                Some(Claim::Split) => true,
+                _ => false,
+            };
+            let durable = at(&self.durable, info_word(e));
+            if !is_empty || self.info(e) != wanted || durable != wanted {
+                return false;
+            }
+        }
+        true
+    }
+}
