@@ -1,6 +1,6 @@
 //! What must hold after each step, looked at slowly.
 use crate::fixtures::Always;
-use crate::plain::{Claim, Plain, at, info_word, link_word, put, sizes};
+use crate::plain::{Claim, Plain, anchor_word, at, head_word, link_word, put, sizes};
 use crate::plain_guards::first_of;
 use crash_core::Core;
 use region_header::read_header;
@@ -10,10 +10,12 @@ use super_block::{Block, name};
 /// The words that a crash leaves of the plain heap where all that it may scramble becomes 0.
 fn crashed(alloc: Global, plain: &Plain) -> Result<Vec<u64>, AllocError> {
     let mut image = Vec::from_slice(alloc, &plain.durable)?;
-    let descriptors = (0..plain.capacity).map(info_word);
-    let anchors = descriptors.flat_map(|info| info.wrapping_add(1)..info.wrapping_add(3));
-    for word in (16..37).chain(anchors) {
-        put(&mut image, word, 0);
+    for list in 0..21 {
+        put(&mut image, head_word(list), 0);
+    }
+    for d in 0..plain.capacity {
+        put(&mut image, anchor_word(d), 0);
+        put(&mut image, link_word(d), 0);
     }
     put(&mut image, 3, 2);
     Ok(image)
@@ -52,7 +54,7 @@ pub fn keeps_held(alloc: Global, core: &Core, plain: &Plain) -> Result<bool, All
 /// The superblocks that a list leads along.
 fn listed(alloc: Global, plain: &Plain, list: u64) -> Result<Vec<u64>, AllocError> {
     let mut descriptors = Vec::new(alloc);
-    let mut next = first_of(at(&plain.words, list.wrapping_add(16)));
+    let mut next = first_of(at(&plain.words, head_word(list)));
     for _ in 0..plain.capacity {
         if next == 0 {
             break;
@@ -64,43 +66,55 @@ fn listed(alloc: Global, plain: &Plain, list: u64) -> Result<Vec<u64>, AllocErro
     Ok(descriptors)
 }
 
-/// Whether each superblock is in one place, and each block of those that are cut.
-pub fn are_in_one_place(alloc: Global, plain: &Plain) -> Result<bool, AllocError> {
-    let mut blocks = Vec::new(alloc);
-    for hand in &plain.hands {
-        blocks.extend_from_slice(&hand.blocks(alloc)?)?;
-    }
-    let mut free = listed(alloc, plain, 0)?;
+/// The superblocks that are free, claimed without a class or of large blocks, and those that are in
+/// a list of a class or claimed with one.
+fn places(alloc: Global, plain: &Plain) -> Result<(Vec<u64>, Vec<u64>), AllocError> {
+    let mut wholes = listed(alloc, plain, 0)?;
     let mut classed = listed(alloc, plain, 19)?;
     classed.extend_from_slice(&listed(alloc, plain, 20)?)?;
     for hand in &plain.hands {
         for (d, claim) in &hand.claims {
             match claim {
                 Claim::Classed(_) => classed.push(*d)?,
-                _ => free.push(*d)?,
+                _ => wholes.push(*d)?,
             }
         }
         for (first, count) in &hand.large {
             for d in *first..first.wrapping_add(*count) {
-                free.push(d)?;
+                wholes.push(d)?;
             }
         }
     }
-    let used = at(&plain.words, 8);
+    Ok((wholes, classed))
+}
+
+/// How often the number is there.
+fn count(numbers: &[u64], wanted: u64) -> u64 {
+    let mut count = 0u64;
+    for number in numbers {
+        if *number == wanted {
+            count = count.wrapping_add(1);
+        }
+    }
+    count
+}
+
+/// Whether each superblock is in one place, and each block of those that are cut.
+pub fn are_in_one_place(alloc: Global, plain: &Plain) -> Result<bool, AllocError> {
+    let mut blocks = Vec::new(alloc);
+    for hand in &plain.hands {
+        blocks.extend_from_slice(&hand.blocks(alloc)?)?;
+    }
+    let (wholes, classed) = places(alloc, plain)?;
     for d in 0..plain.capacity {
-        let wholes = free.iter().filter(|other| **other == d).count();
-        let claims = classed.iter().filter(|other| **other == d).count();
-        let owned = blocks
-            .iter()
-            .filter(|block| plain.superblock(**block) == d)
-            .count();
-        let is_right = if d >= used {
-            wholes == 0 && claims == 0 && owned == 0
-        } else if wholes == 1 {
-            claims == 0 && owned == 0
-        } else {
+        let (whole, claims) = (count(&wholes, d), count(&classed, d));
+        let owned = plain.among(alloc, &blocks, d)?;
+        let is_cut = d < at(&plain.words, 8) && whole == 0;
+        let is_right = if is_cut {
             let is_full = plain.anchor(d) == 2;
-            wholes == 0 && claims == usize::from(!is_full) && is_cut(alloc, plain, &blocks, d)?
+            claims == u64::from(!is_full) && has_all(alloc, plain, owned, d)?
+        } else {
+            whole <= 1 && claims == 0 && owned.is_empty()
         };
         if !is_right {
             return Ok(false);
@@ -110,18 +124,14 @@ pub fn are_in_one_place(alloc: Global, plain: &Plain) -> Result<bool, AllocError
 }
 
 /// Whether each block of the superblock is once a seat's or free, and there is no other.
-fn is_cut(alloc: Global, plain: &Plain, owned: &[u64], d: u64) -> Result<bool, AllocError> {
-    let (_, count) = sizes(plain.info(d));
-    let mut blocks = plain.free_blocks(alloc, d, plain.anchor(d))?;
-    for block in owned {
-        if plain.superblock(*block) == d {
-            blocks.push(*block)?;
-        }
-    }
-    for i in 0..count {
-        if !blocks.contains(&plain.block(d, i)) {
+fn has_all(alloc: Global, plain: &Plain, owned: Vec<u64>, d: u64) -> Result<bool, AllocError> {
+    let (_, all) = sizes(plain.info(d));
+    let mut blocks = owned;
+    blocks.extend_from_slice(&plain.free_blocks(alloc, d, plain.anchor(d))?)?;
+    for i in 0..all {
+        if count(&blocks, plain.block(d, i)) != 1 {
             return Ok(false);
         }
     }
-    Ok(blocks.len() as u64 == count)
+    Ok(blocks.len() as u64 == all)
 }

@@ -106,7 +106,7 @@ impl Dice {
             0 => (info_word(d), self.one_of(&[0, 19, 20, 511, 767])),
             1 => (anchor_word(d), self.one_of(&[0, 2, 2, 3])),
             2 => {
-                let head = hand.head.map_or(0, |(_, head)| head);
+                let (_, head) = hand.head.unwrap_or((0, 0));
                 (link_word(d), first_of(head))
             }
             3 | 4 => (plain.block(d, i), plain.block(d, i.wrapping_add(1))),

@@ -64,6 +64,30 @@ pub fn sizes(class: u64) -> (u64, u64) {
     }
 }
 
+/// The numbers without the first that is this one.
+pub fn forget(numbers: &mut Vec<u64>, number: u64) {
+    for i in 0..numbers.len() {
+        if numbers[i] == number {
+            numbers.remove(i);
+            return;
+        }
+    }
+}
+
+/// The first of the numbers, without which they go on.
+pub fn take_first(numbers: &mut Vec<u64>) -> Option<u64> {
+    if numbers.is_empty() {
+        None
+    } else {
+        Some(numbers.remove(0))
+    }
+}
+
+/// Where the head of the list stands.
+pub fn head_word(list: u64) -> u64 {
+    list.wrapping_add(16)
+}
+
 /// Where the info of superblock d stands; its anchor and its link follow.
 pub fn info_word(d: u64) -> u64 {
     d.wrapping_mul(8).wrapping_add(1_064)
@@ -78,6 +102,26 @@ pub fn link_word(d: u64) -> u64 {
 }
 
 impl Hand {
+    /// How many superblocks its large block takes that begins with superblock d; 0 where none does.
+    pub fn large_count(&self, d: u64) -> u64 {
+        for (first, count) in &self.large {
+            if *first == d {
+                return *count;
+            }
+        }
+        0
+    }
+
+    /// Has that large block no more.
+    pub fn drop_large(&mut self, d: u64) {
+        for i in 0..self.large.len() {
+            if self.large[i].0 == d {
+                self.large.remove(i);
+                return;
+            }
+        }
+    }
+
     /// A seat with nothing.
     fn new(alloc: Global) -> Hand {
         Hand {
@@ -149,9 +193,15 @@ impl Hand {
         Ok(())
     }
 
+    /// Claims the superblock no more.
     pub fn drop_claim(&mut self, d: u64) {
         self.moves(d, d.wrapping_add(1));
-        self.claims.retain(|(other, _)| *other != d);
+        for i in 0..self.claims.len() {
+            if self.claims[i].0 == d {
+                self.claims.remove(i);
+                return;
+            }
+        }
     }
 
     /// Claims the superblock in another way.
@@ -185,7 +235,10 @@ impl Plain {
         };
         for seat in 0..seats {
             let mut hand = Hand::new(alloc);
-            for block in heap.held().iter().skip(seat).step_by(seats) {
+            for (i, block) in heap.held().iter().enumerate() {
+                if i.checked_rem(seats) != Some(seat) {
+                    continue;
+                }
                 if block.words < 8_192 {
                     hand.held.push(block.first_word)?;
                 } else {
@@ -226,6 +279,17 @@ impl Plain {
     /// The first free block that an anchor of the superblock leads to.
     pub fn first_free(&self, d: u64, anchor: u64) -> u64 {
         self.block(d, anchor / 4 % (1 << 31))
+    }
+
+    /// Those of the blocks that are of superblock d.
+    pub fn among(&self, alloc: Global, blocks: &[u64], d: u64) -> Result<Vec<u64>, AllocError> {
+        let mut among = Vec::new(alloc);
+        for block in blocks {
+            if self.superblock(*block) == d {
+                among.push(*block)?;
+            }
+        }
+        Ok(among)
     }
 
     /// The free blocks that an anchor of the superblock leads along.

@@ -1,5 +1,5 @@
 //! When a seat of the plain heap may take a step.
-use crate::plain::{Claim, Hand, Plain, anchor_word, at, info_word, link_word, sizes};
+use crate::plain::{Claim, Hand, Plain, at, head_word, info_word, link_word, sizes};
 use crash_core::{Event, Shift};
 
 /// The first descriptor's number plus 1 of a head or a link.
@@ -41,7 +41,7 @@ impl Plain {
         let Some((list, head)) = hand.head else {
             return false;
         };
-        at(&self.words, list.wrapping_add(16)) == head
+        at(&self.words, head_word(list)) == head
     }
 
     /// Whether the superblock's anchor was seen, and is still as it was.
@@ -153,9 +153,8 @@ impl Plain {
             Shift::Lift { class } => self.may_lift(hand, class),
             Shift::Large { d, n } => self.may_hold_large(hand, d, n),
             Shift::Split { block } => {
-                hand.large
-                    .iter()
-                    .any(|(first, _)| self.start(*first) == block)
+                let d = self.superblock(block);
+                hand.large_count(d) > 0 && self.start(d) == block
             }
         }
     }

@@ -1,5 +1,7 @@
 //! What becomes of the plain heap by a step that a seat may take.
-use crate::plain::{Claim, Hand, Plain, anchor_word, at, info_word, link_word, put, sizes};
+use crate::plain::{
+    Claim, Hand, Plain, anchor_word, at, forget, head_word, link_word, put, sizes, take_first,
+};
 use crate::plain_guards::first_of;
 use crash_core::{Event, Shift};
 use std::alloc::{AllocError, Global};
@@ -92,14 +94,14 @@ impl Plain {
             return Ok(());
         };
         if let Event::LookHead { list } = event {
-            hand.head = Some((list, at(&self.words, list.wrapping_add(16))));
+            hand.head = Some((list, at(&self.words, head_word(list))));
             hand.link = None;
             return Ok(());
         }
         let Some((list, head)) = hand.head else {
             return Ok(());
         };
-        let place = list.wrapping_add(16);
+        let place = head_word(list);
         let pops = head >> 24;
         match event {
             Event::Pop => {
@@ -192,25 +194,23 @@ impl Plain {
             Shift::Free { block } => {
                 let class = self.info(self.superblock(block));
                 if let Some(hand) = self.hands.get_mut(seat) {
-                    hand.held.retain(|other| *other != block);
+                    forget(&mut hand.held, block);
                     hand.cache_mut(class).insert(0, block)?;
                 }
                 Ok(())
             }
             Shift::Alloc { class } => {
                 if let Some(hand) = self.hands.get_mut(seat)
-                    && !hand.cache(class).is_empty()
+                    && let Some(block) = take_first(hand.cache_mut(class))
                 {
-                    let block = hand.cache_mut(class).remove(0);
                     hand.held.push(block)?;
                 }
                 Ok(())
             }
             Shift::Lift { class } => {
                 if let Some(hand) = self.hands.get_mut(seat)
-                    && !hand.cache(class).is_empty()
+                    && let Some(block) = take_first(hand.cache_mut(class))
                 {
-                    let block = hand.cache_mut(class).remove(0);
                     hand.batch.push(block)?;
                     hand.linked = true;
                 }
@@ -248,9 +248,8 @@ impl Plain {
         let Some(hand) = self.hands.get_mut(seat) else {
             return Ok(());
         };
-        let found = hand.large.iter().find(|(first, _)| *first == d);
-        let count = found.map_or(0, |(_, count)| *count);
-        hand.large.retain(|(first, _)| *first != d);
+        let count = hand.large_count(d);
+        hand.drop_large(d);
         for e in d..d.wrapping_add(count) {
             hand.add_claim(e, Claim::Split)?;
         }

@@ -54,7 +54,7 @@ impl Pair {
         seat: usize,
         event: Event,
     ) -> Result<(), Fail> {
-        let has_ticket = self.plain.hands.get(seat).is_some_and(|hand| hand.ticket);
+        let has_ticket = matches!(self.plain.hands.get(seat), Some(hand) if hand.ticket);
         let may = self.plain.may(seat, event) && (has_ticket || !needs_ticket(event));
         let answer = take(&mut self.core, seat, event)?;
         if may {
@@ -70,6 +70,19 @@ impl Pair {
     }
 }
 
+/// An event at random for the seat, which it may take where it is guided, and whether a ticket is
+/// wanting for it.
+fn chosen(dice: &mut Dice, plain: &Plain, seat: usize, is_guided: bool) -> (Event, bool) {
+    let Some(hand) = plain.hands.get(seat) else {
+        return (DRAW, false);
+    };
+    if !is_guided {
+        return (dice.event(plain, hand), false);
+    }
+    let event = dice.allowed(plain, seat, hand);
+    (event, needs_ticket(event) && !hand.ticket)
+}
+
 /// Takes so many steps at random, of which most are done where they are guided.
 fn roll(
     rt: &(impl Abort + AllocGlobal),
@@ -80,13 +93,8 @@ fn roll(
     let mut dice = Dice::new(seed);
     for step in 0..300 {
         let seat = dice.below(pair.plain.hands.len() as u64) as usize;
-        let hand = pair.plain.hands.get(seat).ok_or("no seat")?;
-        let event = if is_guided {
-            dice.allowed(&pair.plain, seat, hand)
-        } else {
-            dice.event(&pair.plain, hand)
-        };
-        if is_guided && !hand.ticket && needs_ticket(event) {
+        let (event, wants_ticket) = chosen(&mut dice, &pair.plain, seat, is_guided);
+        if wants_ticket {
             pair.take(rt, seat, DRAW)?;
         }
         pair.take(rt, seat, event)?;
