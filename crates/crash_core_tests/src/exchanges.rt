@@ -71,7 +71,7 @@ const POP_CASES: [Case<'static>; 18] = [
 ];
 
 /// The superblock goes to the list of the free ones.
-const PUSH_FREE_CASES: [Case<'static>; 18] = [
+const PUSH_FREE_CASES: [Case<'static>; 19] = [
     (ONE_FREE, &[POP_FREE, "0 head 0"], "0 push 0", true),
     // a head was seen, and is still what was seen
     (ONE_FREE, &[POP_FREE], "0 push 0", false),
@@ -115,6 +115,12 @@ const PUSH_FREE_CASES: [Case<'static>; 18] = [
     // it lies below the durable mark
     (FRESH, &[TAKE_ONE, "0 head 0"], "0 push 0", false),
     (FRESH, &[TAKE_ONE, KEEP, "0 head 0"], "0 push 0", true),
+    (
+        FRESH,
+        &["0 look-used, 1 look-used, 1 take 1, 1 keep, 0 keep, 1 head 0"],
+        "1 push 0",
+        true,
+    ),
     // its anchor is empty: one that is split has a full one until it is stored to
     (
         LARGE,

@@ -13,11 +13,12 @@ use std::test::Fail;
 type Owned<'a> = (Words<'a>, &'a [&'a str], usize, &'a [u64], bool);
 
 /// Each word is loaded, stored to and settled where it is the seat's own, and only there.
-const OWNED: [Owned<'static>; 29] = [
+const OWNED: [Owned<'static>; 30] = [
     // roots, which are owned in turn; the header and words behind the end never are
     (FRESH, &[], 0, &[40, 42, 1_062], true),
     (FRESH, &[], 1, &[41, 1_063], true),
     (FRESH, &[], 0, &[41, 1_063], false),
+    (FRESH, &[], 1, &[40, 1_062], false),
     (
         FRESH,
         &[],
