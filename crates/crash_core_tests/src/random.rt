@@ -137,7 +137,7 @@ fn random_schedules_keep_what_is_held(rt: HostRuntime) -> Result<(), Fail> {
     for seed in 0..200u64 {
         let words = IMAGES.get((seed % 3) as usize).copied().unwrap_or(&[]);
         let heap = recovered(alloc, 3, words)?;
-        let seats = if seed % 4 == 3 { 8 } else { 2 };
+        let seats = if seed % 4 < 2 { 2 } else { 8 };
         let mut pair = Pair {
             core: opened(alloc, &heap, seats, MANY)?,
             plain: Plain::new(alloc, &heap, seats)?,
