@@ -33,4 +33,5 @@ pub mod OpenCountLemmas
 pub mod OpenedLemmas
 pub mod OpenedHeldLemmas
 pub mod SplittingLemmas
+pub mod OrderLemmas
 mod ExampleLemmas
