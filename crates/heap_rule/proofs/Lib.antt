@@ -1,4 +1,5 @@
 pub mod JointLemmas
+pub mod DealLemmas
 pub mod RuleLemmas
 pub mod ViewLemmas
 pub mod GuardLemmas
