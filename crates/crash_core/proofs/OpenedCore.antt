@@ -33,7 +33,7 @@ new_seat = record {
   batch = record { descriptor = 0; class = 0; first = 0; last = 0; count = 0; linked = false };
 }
 
-no_caches : HasCaches (replicate lists empty_cache) (replicate lists [])
+pub no_caches : HasCaches (replicate lists empty_cache) (replicate lists [])
 no_caches = record {
   long = length-replicate lists empty_cache;
   first = λ class c is less some. absurd (let e = none class less in omega arith);

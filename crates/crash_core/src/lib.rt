@@ -33,5 +33,6 @@ pub use crash::crash_image;
 pub use heads::{head_after_pop, head_after_push, head_first};
 pub use heap_core::Core;
 pub use laws::a_core_stands_for_a_sound_state;
+pub use opened::NEW_SEAT;
 pub use opening::{Owners, opened_table};
 pub use owners::{Cache, Group, Seat, Seen};

@@ -27,7 +27,7 @@ const NO_SUPERBLOCK: SuperblockOwner = SuperblockOwner {
 };
 
 /// A seat that has done nothing yet.
-const NEW_SEAT: Seat = Seat {
+pub const NEW_SEAT: Seat = Seat {
     ticket: None,
     stopped: None,
     seen_used: None,

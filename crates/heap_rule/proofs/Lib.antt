@@ -1,5 +1,6 @@
 pub mod JointLemmas
 pub mod DealLemmas
+pub mod OpeningLemmas
 pub mod RuleLemmas
 pub mod ViewLemmas
 pub mod GuardLemmas

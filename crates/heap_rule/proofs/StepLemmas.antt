@@ -60,7 +60,7 @@ pub record IsAfter (shared : SharedView) (table : TableId) (event : Event) (me :
 pub after_did : (shared : SharedView) (table table' : TableId) (event : Event) (me : Me ℕ Joint) (found : ℕ) (me' : Me ℕ Joint) → IsAt shared table me (view_in me.0) → table' ≡ table → Did event me found me'
     → IsAfter shared table' event me found me'
 after_did shared table table' event me found me' at same did = record {
-  at = record { table_is = same ∙ at.table_is; single = single; setup = after.1 ∙ at.setup; has = after.0 };
+  at = record { table_is = same ∙ at.table_is; single = single; no_slots = ap (λ (m : Me ℕ Joint). m.1) did.now ∙ at.no_slots; setup = after.1 ∙ at.setup; has = after.0 };
   event_is = event_is;
 } where
   view_is : view_in me.0 ≡ did.view

@@ -23,3 +23,16 @@ nobody = plain_view (setup_of [] 0) [] []
 -- the view of a single seat
 abbrev pub view_in : Joint → View
 view_in joint = get_or joint 0 nobody
+
+-- what goes to a new seat of the table, and what stays
+abbrev pub first_view : Joint → Joint
+first_view [] = []
+first_view (v ∷ joint) = v ∷ []
+
+abbrev pub other_views : Joint → Joint
+other_views [] = []
+other_views (v ∷ joint) = joint
+
+-- the views of another seat of the table come before its own
+abbrev pub joined_views : Joint → Joint → Joint
+joined_views mine theirs = theirs ++ mine

@@ -1,10 +1,10 @@
 -- What is so of the words of the shared table and of the seats' views between any two atomic steps.
-use Rattle.std.specs.Prelude.{◌≡◌, ℕ, ◌<◌, ◌≤◌, List, length}
+use Rattle.std.specs.Prelude.{◌≡◌, ℕ, ◌<◌, ◌≤◌, List, [], ◌∷◌, length}
 use Rattle.heap_model.specs.declared.block.Block.{Block}
 use Rattle.atomic_table.specs.Table.{State}
-use Rattle.core_model.specs.View.{Setup}
+use Rattle.core_model.specs.View.{Setup, View}
 use Rattle.core_model.specs.Sound.{Sound}
-use Rattle.core_model.specs.Opening.{setup_of, opened_state}
+use Rattle.core_model.specs.Opening.{setup_of, opened_view, opened_state}
 use Rattle.heap_rule.specs.Joint.{Joint, all_views}
 
 -- a heap at rest that is opened for some seats, each held block and each root belonging to one, within a budget of tickets
@@ -37,3 +37,12 @@ Holds o s = Keeps o s.words s.views
 -- the first seat of the table stands for all seats; the others are split off it
 abbrev pub first_joint : Opening → Joint
 first_joint o = (opened_state (setup_for o) o.held o.block_owners o.root_owners o.seats).views
+
+-- the view of a seat at the opening
+abbrev pub first_view_of : Opening → ℕ → View
+first_view_of o = opened_view (setup_for o) o.held o.block_owners o.root_owners
+
+-- some words and the seats at the opening keep the rule
+pub record IsOpened (o : Opening) : Type 0 where
+  pub words : List ℕ
+  pub keeps : Keeps o words (first_joint o ∷ [])

@@ -1,9 +1,11 @@
 //! The shared heap over a table of atomic words: each step of a seat is one event of the core.
 #![tactic(auto)]
 
+mod closing;
 mod fresh;
 mod lists;
 mod looks;
+mod opening;
 mod plays;
 mod reads;
 mod rule;
@@ -12,5 +14,7 @@ mod shared;
 mod steps;
 mod words;
 
+pub use closing::close_shared;
+pub use opening::open_shared;
 pub use seat::Seat;
 pub use shared::Shared;

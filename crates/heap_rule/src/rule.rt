@@ -1,6 +1,7 @@
 //! What holds of the shared words and of the seats between any two atomic steps.
 
-use atomic_table::TableRule;
+use atomic_table::{Table, TableRule};
+use std::alloc::Global;
 use std::marker::Model;
 use super_block::Block;
 
@@ -18,6 +19,7 @@ impl Model for Known {
 
 /// A heap at rest that is opened for some seats: its words and its held blocks, whose each held
 /// block and each root is, and the budget of tickets.
+#[derive(Drop)]
 pub struct OpenedHeap {
     pub words: Vec<u64>,
     pub held: Vec<Block>,
@@ -52,6 +54,9 @@ impl TableRule<u8, Known, OpenedHeap> for SoundHeap {
 
     ghost first = { first_joint };
 }
+
+/// The words of the heap with their memory.
+pub(crate) type HeapTable = Table<u8, Known, OpenedHeap, SoundHeap, Global>;
 
 /// The words of the heap, as threads share them.
 pub(crate) type Words = atomic_table::Shared<u8, Known, OpenedHeap, SoundHeap>;

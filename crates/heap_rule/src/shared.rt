@@ -1,13 +1,11 @@
 //! The words of a heap that its seats share.
 
-use crate::rule::{Known, OpenedHeap, SoundHeap};
-use atomic_table::Table;
-use std::alloc::Global;
+use crate::rule::HeapTable;
 use std::marker::Model;
 
 /// A heap that is shared by its seats. It owns the table of its words.
 pub struct Shared {
-    pub(crate) table: Table<u8, Known, OpenedHeap, SoundHeap, Global>,
+    pub(crate) table: HeapTable,
 }
 
 impl Model for Shared {
@@ -21,6 +19,7 @@ impl Model for Shared {
     ghost view = { λ a. record {
       table = a.table.shared.table_id;
       setup = setup_for a.table.shared.key;
+      seats = a.table.shared.key.seats;
     } };
 
     ghost invariant = { λ a. a.table.shared.table_id.words

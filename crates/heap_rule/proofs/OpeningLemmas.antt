@@ -1,0 +1,91 @@
+-- What the rule says of an opened heap, and how its seats are dealt out.
+use Rattle.std.proofs.Common.{◌≡◌, ℕ, zero, suc, ◌+◌, ◌-◌, ◌<◌, ◌≤◌, List, [], ◌∷◌, ◌++◌, get_or, length, refl, ap, sym, subst, ◌∙◌, arith}
+use Rattle.std.proofs.lemmas.List.{append-nil}
+use Rattle.atomic_table.specs.Seated.{TableId}
+use Rattle.atomic_table.specs.Table.{Me}
+use Rattle.heap_model.specs.Rest.{IsReady}
+use Rattle.core_model.specs.Opening.{AreOwners, tabulate}
+use Rattle.core_model.specs.View.{View}
+use Rattle.core_model.specs.Sound.{Sound}
+use Rattle.core_model.proofs.OpenLemmas.{length_tabulate, tabulate_at}
+use Rattle.core_model.proofs.OpenedLemmas.{opened}
+use Rattle.crash_core.proofs.OpenedCore.{new_seat, no_caches}
+use Rattle.heap_rule.specs.Joint.{Joint, first_view, other_views}
+use Rattle.heap_rule.specs.Rule.{Opening, Keeps, IsOpened, setup_for, most_seats, first_joint, first_view_of}
+use Rattle.heap_rule.specs.Seated.{SharedView, SeatView, IsSeat, IsSeatOf, AreOpenedSeats, dealt_seats}
+
+-- a heap at rest keeps the rule at the opening
+pub opened_keeps : (o : Opening) (words : List ℕ) → IsReady o.words o.held → AreOwners o.held o.seats o.block_owners o.root_owners → o.seats ≤ most_seats → o.budget < 1099511627776
+    → words ≡ o.words ++ (o.words ++ (0 ∷ [])) → Keeps o words (first_joint o ∷ [])
+opened_keeps o words ready owners few low are = record {
+  sound = subst (Sound (setup_for o) words) (sym (append-nil (first_joint o)))
+      (subst (λ ws. Sound (setup_for o) ws (first_joint o)) (sym are) (opened o.words o.held o.budget o.seats o.block_owners o.root_owners ready owners));
+  count = ap length (append-nil (first_joint o)) ∙ length_tabulate (first_view_of o) 0 o.seats;
+  few = few;
+  low = low;
+}
+
+-- what goes and what stays is all
+pub both_parts : (joint : Joint) → first_view joint ++ other_views joint ≡ joint
+both_parts [] = refl
+both_parts (v ∷ joint) = refl
+
+pub first_dealt : (views : ℕ → View) (i n m : ℕ) → n ≡ suc m → first_view (tabulate views i n) ≡ views i ∷ []
+first_dealt views i n m some = ap (λ k. first_view (tabulate views i k)) some
+
+pub others_stay : (views : ℕ → View) (i n m : ℕ) → n ≡ suc m → other_views (tabulate views i n) ≡ tabulate views (i + 1) m
+others_stay views i n m some = ap (λ k. other_views (tabulate views i k)) some
+
+tabulate_last : {A : Type 0} (f : ℕ → A) (from n : ℕ) → tabulate f from (suc n) ≡ tabulate f from n ++ f (from + n) ∷ []
+tabulate_last f from zero = ap (λ i. f i ∷ []) (let e : from ≡ from + 0 = omega arith in e)
+tabulate_last f from (suc n) = ap (λ l. f from ∷ l) (tabulate_last f (from + 1) n ∙ ap (λ i. tabulate f (from + 1) n ++ f i ∷ []) (let e : from + 1 + n ≡ from + suc n = omega arith in e))
+
+-- one more seat
+pub one_more : (table : TableId) (views : ℕ → View) (n : ℕ) (seat : SeatView) → seat.table ≡ table → seat.view ≡ views n → dealt_seats table views n ++ seat ∷ [] ≡ dealt_seats table views (n + 1)
+one_more table views n seat same view_is =
+    ap (λ (s : SeatView). dealt_seats table views n ++ s ∷ []) is ∙ sym (tabulate_last S 0 n) ∙ ap (dealt_seats table views) (let e : suc n ≡ n + 1 = omega arith in e) where
+  S : ℕ → SeatView
+  S i = record { table = table; view = views i }
+
+  view_at : seat.view ≡ views (0 + n)
+  view_at = view_is ∙ ap views (let e : n ≡ 0 + n = omega arith in e)
+
+  is : seat ≡ S (0 + n)
+  is = λ j. record { table = same j; view = view_at j }
+
+-- a seat as it is opened
+pub is_seat : (o : Opening) (i capacity : ℕ) (me : Me ℕ Joint) → IsOpened o → i < o.seats → me ≡ (first_view_of o i ∷ [], []) → capacity ≡ (setup_for o).capacity → IsSeat me new_seat capacity
+is_seat o i capacity me is less me_is capacity_is = subst (λ m. IsSeat m new_seat capacity) (sym me_is) (record {
+  single = refl;
+  no_slots = refl;
+  kept = record {
+    has = record {
+      words = is.words;
+      views = first_joint o;
+      seat = i;
+      sound = subst (Sound (setup_for o) is.words) (append-nil (first_joint o)) is.keeps.sound;
+      below = (let l = length_tabulate (first_view_of o) 0 o.seats in omega arith);
+      at = tabulate_at (first_view_of o) 0 o.seats i (first_view_of o i) less ∙ ap (first_view_of o) (let e : 0 + i ≡ i = omega arith in e);
+    };
+    notes_are = record { ticket = refl; stopped = refl; seen_used = refl; seen_head = refl; seen_link = refl; seen_anchor = refl };
+    caches = no_caches;
+    batch = record { descriptor = refl; class = refl; first = refl; last = refl; count = refl; linked = refl };
+  };
+  capacity_is = capacity_is;
+  low = is.keeps.low;
+})
+
+-- the seats that were dealt out are those of the heap
+pub are_opened : (shared : SharedView) (views : ℕ → View) (seats : List SeatView) → ((i : ℕ) → i < shared.seats → (views i).setup ≡ shared.setup) → seats ≡ dealt_seats shared.table views shared.seats → AreOpenedSeats shared views seats
+are_opened shared views seats setups are = record {
+  count = ap length are ∙ length_tabulate S 0 shared.seats;
+  each = λ i seat below at.
+      let less : i < shared.seats = (let l = ap length are ∙ length_tabulate S 0 shared.seats in omega arith) in
+      let is : S i ≡ seat = ap S (let e : i ≡ 0 + i = omega arith in e) ∙ sym (tabulate_at S 0 shared.seats i seat less) ∙ ap (λ l. get_or l i seat) (sym are) ∙ at in
+      (record {
+        table = ap (λ (s : SeatView). s.table) (sym is);
+        setup = ap (λ (s : SeatView). s.view.setup) (sym is) ∙ setups i less;
+      }, ap (λ (s : SeatView). s.view) (sym is));
+} where
+  S : ℕ → SeatView
+  S i = record { table = shared.table; view = views i }

@@ -1,0 +1,37 @@
+use Rattle.std.proofs.Common.{rules, ◌≡◌, ◌<◌, ◌∙◌, [], ℕ, suc, ◌+◌, ◌-◌, ◌∷◌, ◌++◌, ap, sym, arith}
+use Rattle.atomic_table.specs.Table.{Me}
+use Rattle.heap_rule.specs.Joint.{Joint, first_view, other_views, view_in}
+use Rattle.heap_rule.specs.Rule.{first_view_of}
+use Rattle.heap_rule.specs.Seated.{SeatView}
+use Rattle.heap_rule.proofs.DealLemmas.{dealt}
+use Rattle.heap_rule.proofs.OpeningLemmas.{both_parts, first_dealt, others_stay, one_more, is_seat}
+use Rattle.heap_rule.proofs.opening.deal.Goals as goal
+
+pub split_seat-bare-requires : goal.split_seat-bare-requires
+split_seat-bare-requires c = let joint = c.loop-i.dealer.me.0 in
+    (c.loop-i.invariant.table, c.requires.words, dealt c.args.shared.now.key c.loop-i.dealer.id joint (other_views joint) (first_view joint) (both_parts joint))
+
+pub invariant_of-push_reserved : goal.invariant_of-push_reserved
+invariant_of-push_reserved c =
+    let o = c.args.shared.now.key in
+    let less : c.loop-i._i < o.seats = (let l = c.loop-i-test.true in let s = c.requires.seats in omega arith) in
+    let some : c.args.seats - c.loop-i._i ≡ suc (c.args.seats - (c.loop-i._i + 1)) = (let l = c.loop-i-test.true in omega arith) in
+    is_seat o c.loop-i._i c.args.geometry.capacity c.split_seat-bare.result.me c.requires.opened less
+    (c.split_seat-bare.ensures.4 ∙ ap (λ (m : Me ℕ Joint). (first_view m.0, [])) c.loop-i.invariant.rest ∙ ap (λ (vs : Joint). (vs, [])) (first_dealt (first_view_of o) c.loop-i._i _ _ some))
+    c.requires.geometry
+
+pub loop-i-preserved : goal.loop-i-preserved
+loop-i-preserved c =
+    let V = first_view_of c.args.shared.now.key in
+    let i = c.loop-i._i in
+    let some : c.args.seats - i ≡ suc (c.args.seats - (i + 1)) = (let l = c.loop-i-test.true in omega arith) in
+    let me : c.split_seat-bare.result.me.0 ≡ V i ∷ [] = ap (λ (m : Me ℕ Joint). m.0) c.split_seat-bare.ensures.4 ∙ ap (λ (m : Me ℕ Joint). first_view m.0) c.loop-i.invariant.rest ∙ first_dealt V i _ _ some in
+    let seat : SeatView = record { table = c.split_seat-bare.result.table_id; view = view_in c.split_seat-bare.result.me.0 } in
+    record {
+      table = c.split_seat-bare.ensures.0 ∙ c.loop-i.invariant.table;
+      rest = c.split_seat-bare.ensures.2 ∙ ap (λ (m : Me ℕ Joint). (other_views m.0, m.1)) c.loop-i.invariant.rest ∙ ap (λ (vs : Joint). (vs, [])) (others_stay V i _ _ some);
+      dealt = c.push_reserved.ensures.items ∙ ap (λ l. l ++ seat ∷ []) c.loop-i.invariant.dealt
+          ∙ one_more c.args.shared.now.table_id V i seat (c.split_seat-bare.ensures.3 ∙ c.loop-i.invariant.table) (ap view_in me);
+      count = c.push_reserved.ensures.len ∙ ap (λ n. n + 1) c.loop-i.invariant.count;
+      room = c.push_reserved.ensures.capacity ∙ c.loop-i.invariant.room;
+    }

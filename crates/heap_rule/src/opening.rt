@@ -1,0 +1,90 @@
+//! Opens a heap at rest for several seats.
+
+ghost use Rattle.std.specs.Prelude.{◌≡◌, ◌<◌, ◌≤◌, [], IfOk};
+ghost use Rattle.core_model.specs.Opening.{AreOwners, setup_of, opened_view};
+ghost use Rattle.heap_rule.specs.Rule.{IsOpened, setup_for, first_joint, first_view_of};
+ghost use Rattle.heap_rule.specs.Seated.{AreOpenedSeats, dealt_seats};
+
+use crate::rule::{Bare, HeapTable, Known, OpenedHeap, Words};
+use crate::seat::Seat;
+use crate::shared::Shared;
+use atomic_table::{Split, Table};
+use crash_core::{NEW_SEAT, Owners, opened_table};
+use std::alloc::{AllocError, Global};
+use super_block::{Geometry, Ready};
+
+/// The new seat of the table has the first of the views.
+pub struct First;
+
+impl Split<Known> for First {
+    ghost use Rattle.heap_rule.specs.Joint.{first_view, other_views};
+
+    ghost left = { other_views };
+
+    ghost right = { first_view };
+}
+
+/// Shares a heap at rest between some seats: each held block and each root belongs to one of them.
+/// At most `budget` steps are allowed to all of them together. It fails only where memory runs out.
+pub fn open_shared(
+    alloc: Global,
+    heap: Ready,
+    owners: &Owners,
+    seats: usize,
+    budget: u64,
+) -> Result<(Shared, Vec<Seat>), AllocError>
+    requires owners { AreOwners heap.held seats owners.now.held owners.now.roots }
+    requires some { 1 ≤ seats }
+    requires few { seats ≤ 8 }
+    requires budget { budget < 1099511627776 }
+    ensures shared { IfOk result (λ r. (r.0.setup ≡ setup_of heap.words budget)
+        × (r.0.seats ≡ seats)) }
+    ensures seats { IfOk result (λ r. AreOpenedSeats r.0 (opened_view (setup_of heap.words budget)
+        heap.held owners.now.held owners.now.roots) r.1.items) }
+{
+    let geometry = heap.geometry();
+    let table_words = opened_table(alloc, &heap)?;
+    let block_owners = Vec::from_slice(alloc, owners.held())?;
+    let root_owners = Vec::from_slice(alloc, owners.roots())?;
+    let (words, held) = heap.into_parts();
+    let key = OpenedHeap {
+        words,
+        held,
+        block_owners,
+        root_owners,
+        seats,
+        budget,
+    };
+    let (table, dealer): (HeapTable, Bare) = Table::of_words(alloc, table_words.as_slice(), &key)?;
+    let list = deal(alloc, &table.shared, dealer, geometry, seats)?;
+    Ok((Shared { table }, list))
+}
+
+/// The seats, which are split off the first one of the table, in their order.
+fn deal(
+    alloc: Global,
+    shared: &Words,
+    mut dealer: Bare,
+    geometry: Geometry,
+    seats: usize,
+) -> Result<Vec<Seat>, AllocError>
+    requires opened { IsOpened shared.now.key }
+    requires table { dealer.table_id ≡ shared.now.table_id }
+    requires words { 0 < shared.now.table_id.words }
+    requires first { dealer.me ≡ (first_joint shared.now.key, []) }
+    requires seats { seats ≡ shared.now.key.seats }
+    requires geometry { geometry.capacity ≡ (setup_for shared.now.key).capacity }
+    ensures { IfOk result (λ list. list.items
+        ≡ dealt_seats shared.now.table_id (first_view_of shared.now.key) seats) }
+{
+    let mut list = Vec::with_capacity(alloc, seats)?;
+    for _i in 0..seats {
+        let bare = shared.split_seat::<First>(&mut dealer);
+        list.push_reserved(Seat {
+            bare,
+            notes: NEW_SEAT,
+            geometry,
+        });
+    }
+    Ok(list)
+}
