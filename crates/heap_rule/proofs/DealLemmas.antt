@@ -121,3 +121,10 @@ joined o id mine other theirs s holds at apart at_other = keeps_reordered o s.wo
       | inl both ↦ elim (Contains-append_cases theirs mine v both) [ inl p' ↦ has_theirs v p' | inr p' ↦ in_all s.views id mine v at p' ]
     ]
   ]
+
+-- a new seat of the table that stands for no seat changes nothing
+pub entered : (o : Opening) (words : List ℕ) (joints : List Joint) → Keeps o words joints → Keeps o words (joints ++ [] ∷ [])
+entered o words joints keeps = keeps_reordered o words joints (joints ++ [] ∷ []) record {
+  sums = λ f. let a = total_last f joints [] in omega arith;
+  members = λ v p. elim (of_last joints [] v p) [ inl before ↦ before | inr none ↦ absurd (in_none v none) ];
+} keeps

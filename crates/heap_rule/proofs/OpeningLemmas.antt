@@ -89,3 +89,16 @@ are_opened shared views seats setups are = record {
 } where
   S : ℕ → SeatView
   S i = record { table = shared.table; view = views i }
+
+pub opened_seats : (table : TableId) (key o : Opening) (seats : List SeatView) → key ≡ o → seats ≡ dealt_seats table (first_view_of key) o.seats
+    → AreOpenedSeats (record { table = table; setup = setup_for key; seats = key.seats }) (first_view_of o) seats
+opened_seats table key o seats same are = are_opened (record { table = table; setup = setup_for key; seats = key.seats }) (first_view_of o) seats
+    (λ i less. ap setup_for (sym same))
+    (are ∙ ap (λ k. dealt_seats table (first_view_of k) o.seats) same ∙ ap (λ (k : Opening). dealt_seats table (first_view_of o) k.seats) (sym same))
+
+-- the key of the table, which is made of the same parts, keeps the rule too
+pub key_keeps : (key o : Opening) (words : List ℕ) → key.words ≡ o.words → key.held ≡ o.held → key.block_owners ≡ o.block_owners → key.root_owners ≡ o.root_owners → key.seats ≡ o.seats → key.budget ≡ o.budget
+    → Keeps o words (first_joint o ∷ []) → Keeps key words (first_joint key ∷ [])
+key_keeps key o words words_are held block_owners root_owners seats budget keeps = subst (λ k. Keeps k words (first_joint k ∷ [])) (sym same) keeps where
+  same : key ≡ o
+  same = λ j. record { words = words_are j; held = held j; block_owners = block_owners j; root_owners = root_owners j; seats = seats j; budget = budget j }

@@ -5,6 +5,8 @@ use Rattle.atomic_table.specs.Table.{State}
 use Rattle.core_model.specs.View.{Setup, View}
 use Rattle.core_model.specs.Sound.{Sound}
 use Rattle.core_model.specs.Opening.{setup_of, opened_view, opened_state}
+use Rattle.crash_core.specs.OwnerLists.{OwnerLists}
+use Rattle.super_block.specs.Contents.{Contents}
 use Rattle.heap_rule.specs.Joint.{Joint, all_views}
 
 -- a heap at rest that is opened for some seats, each held block and each root belonging to one, within a budget of tickets
@@ -15,6 +17,16 @@ pub record Opening : Type 0 where
   pub root_owners : List ℕ
   pub seats : ℕ
   pub budget : ℕ
+
+abbrev pub opening_of : Contents → OwnerLists → ℕ → ℕ → Opening
+opening_of heap owners seats budget = record {
+  words = heap.words;
+  held = heap.held;
+  block_owners = owners.held;
+  root_owners = owners.roots;
+  seats = seats;
+  budget = budget;
+}
 
 abbrev pub setup_for : Opening → Setup
 setup_for o = setup_of o.words o.budget

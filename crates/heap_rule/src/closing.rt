@@ -80,9 +80,8 @@ fn parts(
 ) -> Result<Closed, AllocError>
     requires full { IsFull closed.now.words }
     requires long { length + length ≤ slots_len closed.now.words }
-    ensures now { IfOk result (λ c. c.now ≡ take length (slots_items closed.now.words)) }
-    ensures kept { IfOk result (λ c. c.kept
-        ≡ take length (drop length (slots_items closed.now.words))) }
+    ensures { IfOk result (λ c. (c.now ≡ take length (slots_items closed.now.words))
+        × (c.kept ≡ take length (drop length (slots_items closed.now.words)))) }
 {
     Ok(Closed {
         now: part(alloc, closed, 0, length)?,

@@ -2,7 +2,8 @@
 
 ghost use Rattle.std.specs.Prelude.{◌≡◌, ◌<◌, ◌≤◌, [], IfOk};
 ghost use Rattle.core_model.specs.Opening.{AreOwners, setup_of, opened_view};
-ghost use Rattle.heap_rule.specs.Rule.{IsOpened, setup_for, first_joint, first_view_of};
+ghost use Rattle.core_model.specs.Memory.{table_length};
+ghost use Rattle.heap_rule.specs.Rule.{IsOpened, opening_of, setup_for, first_joint, first_view_of};
 ghost use Rattle.heap_rule.specs.Seated.{AreOpenedSeats, dealt_seats};
 
 use crate::rule::{Bare, HeapTable, Known, OpenedHeap, Words};
@@ -43,6 +44,30 @@ pub fn open_shared(
         heap.held owners.now.held owners.now.roots) r.1.items) }
 {
     let geometry = heap.geometry();
+    let (table, dealer) = open_table(alloc, heap, owners, seats, budget)?;
+    let list = deal(alloc, &table.shared, dealer, geometry, seats)?;
+    Ok((Shared { table }, list))
+}
+
+/// The table of a heap at rest, and its first seat, which stands for all seats of the heap.
+fn open_table(
+    alloc: Global,
+    heap: Ready,
+    owners: &Owners,
+    seats: usize,
+    budget: u64,
+) -> Result<(HeapTable, Bare), AllocError>
+    requires owners { AreOwners heap.held seats owners.now.held owners.now.roots }
+    requires few { seats ≤ 8 }
+    requires budget { budget < 1099511627776 }
+    ensures key { IfOk result (λ t. t.0.shared.key ≡ opening_of heap owners.now seats budget) }
+    ensures opened { IfOk result (λ t. IsOpened t.0.shared.key) }
+    ensures words { IfOk result (λ t. t.0.shared.table_id.words
+        ≡ table_length (setup_for t.0.shared.key).capacity) }
+    ensures slots { IfOk result (λ t. t.0.shared.table_id.slots ≡ 0) }
+    ensures table { IfOk result (λ t. t.1.table_id ≡ t.0.shared.table_id) }
+    ensures first { IfOk result (λ t. t.1.me ≡ (first_joint t.0.shared.key, [])) }
+{
     let table_words = opened_table(alloc, &heap)?;
     let block_owners = Vec::from_slice(alloc, owners.held())?;
     let root_owners = Vec::from_slice(alloc, owners.roots())?;
@@ -55,9 +80,7 @@ pub fn open_shared(
         seats,
         budget,
     };
-    let (table, dealer): (HeapTable, Bare) = Table::of_words(alloc, table_words.as_slice(), &key)?;
-    let list = deal(alloc, &table.shared, dealer, geometry, seats)?;
-    Ok((Shared { table }, list))
+    Table::of_words(alloc, table_words.as_slice(), &key)
 }
 
 /// The seats, which are split off the first one of the table, in their order.

@@ -1,11 +1,14 @@
 //! The words of a heap that its seats share.
 
+ghost use Rattle.std.specs.Prelude.{◌≡◌};
+
 use crate::rule::HeapTable;
 use std::marker::Model;
 
 /// A heap that is shared by its seats. It owns the table of its words.
 pub struct Shared {
     pub(crate) table: HeapTable,
+    ghost no_slots: { table.shared.table_id.slots ≡ 0 },
 }
 
 impl Model for Shared {
