@@ -93,3 +93,13 @@ elem_behind (y ∷ xs) (suc from) i x at = elem_behind xs from i x (ap (get_elem
 pub one_word_more : (xs ws ws' : List ℕ) (from i x : ℕ) → get_elem? xs (from + i) ≡ some x → ws ≡ take i (drop from xs) → ws' ≡ ws ++ x ∷ [] → ws' ≡ take (i + 1) (drop from xs)
 one_word_more xs ws ws' from i x at so_far more =
     more ∙ ap (λ l. l ++ x ∷ []) so_far ∙ sym (take_last (drop from xs) i x (elem_behind xs from i x at)) ∙ ap (λ n. take n (drop from xs)) (let e : suc i ≡ i + 1 = omega arith in e)
+
+-- the same said of what was read off the table
+pub closed_as : (k k' : Setup) (now now' kept kept' : List ℕ) (views views' : List View) → k ≡ k' → now' ≡ now → kept' ≡ kept → views ≡ views' → IsClosedSound k now kept views → IsClosedSound k' now' kept' views'
+closed_as k k' now now' kept kept' views views' same_setup same_now same_kept same_views closed = record {
+  drawn = closed.drawn;
+  sound = subst (λ h. Sound h (now' ++ (kept' ++ (closed.drawn ∷ []))) views') same_setup
+      (subst (λ ws. Sound k (ws ++ (kept' ++ (closed.drawn ∷ []))) views') (sym same_now)
+      (subst (λ ws. Sound k (now ++ (ws ++ (closed.drawn ∷ []))) views') (sym same_kept)
+      (subst (Sound k (now ++ (kept ++ (closed.drawn ∷ [])))) same_views closed.sound)));
+}

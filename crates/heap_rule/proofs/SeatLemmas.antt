@@ -44,6 +44,7 @@ pub seat_after : (me me' : Me ℕ Joint) (notes notes' : Seat) (capacity : ℕ) 
 seat_after me me' notes notes' capacity event found shared table old at event_is kept =
     let same : (view_in me'.0).setup ≡ (view_in me.0).setup = (has_after event (view_in me.0) found (view_in me'.0) event_is).1 in record {
       single = at.single;
+      no_slots = at.no_slots;
       kept = kept;
       capacity_is = old.capacity_is ∙ sym (ap (λ (k : Setup). k.capacity) same);
       low = subst (λ (k : Setup). k.budget < 1099511627776) (sym same) old.low;
