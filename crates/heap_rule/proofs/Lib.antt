@@ -2,6 +2,7 @@ pub mod JointLemmas
 pub mod DealLemmas
 pub mod OpeningLemmas
 pub mod ClosingLemmas
+pub mod ImageLemmas
 pub mod RuleLemmas
 pub mod ViewLemmas
 pub mod GuardLemmas

@@ -61,6 +61,7 @@ pub settled_seat : (me me' : Me ℕ Joint) (notes : Seat) (capacity word value f
 settled_seat me me' notes capacity word value found shared table old at event =
     let same : (view_in me'.0).setup ≡ (view_in me.0).setup = (has_after (Settle word) (learned (view_in me.0) word value) found (view_in me'.0) event).1 in record {
       single = at.single;
+      no_slots = at.no_slots;
       kept = settled_kept notes (view_in me.0) (view_in me'.0) word value found old.kept event at.has;
       capacity_is = old.capacity_is ∙ sym (ap (λ (k : Setup). k.capacity) same);
       low = subst (λ (k : Setup). k.budget < 1099511627776) (sym same) old.low;

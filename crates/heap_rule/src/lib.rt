@@ -3,6 +3,7 @@
 
 mod closing;
 mod fresh;
+mod laws;
 mod lists;
 mod looks;
 mod opening;
@@ -15,6 +16,7 @@ mod steps;
 mod words;
 
 pub use closing::close_shared;
+pub use laws::a_closed_heap_names_each_held_block;
 pub use opening::open_shared;
 pub use seat::Seat;
 pub use shared::Shared;
