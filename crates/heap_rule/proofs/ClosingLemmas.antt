@@ -1,6 +1,6 @@
 -- The seats of a closed heap, and its words.
-use Rattle.std.proofs.Common.{◌≡◌, ℕ, zero, suc, ◌+◌, ◌*◌, ◌≤◌, List, [], ◌∷◌, ◌++◌, map, get_or, take, drop, length, length-append, length-drop, append_assoc, refl, ap, sym, subst, ◌∙◌, arith}
-use Rattle.std.proofs.lemmas.List.{append-nil, take-append-drop}
+use Rattle.std.proofs.Common.{◌≡◌, ℕ, zero, suc, ◌+◌, ◌*◌, ◌≤◌, List, [], ◌∷◌, ◌++◌, get_or, take, drop, length, length-append, length-drop, append_assoc, refl, ap, sym, subst, ◌∙◌, arith}
+use Rattle.std.proofs.lemmas.List.{append-nil, take-append-drop, length-take-le}
 use mathlib.Core.Option.{some, some-injective, some-ne-none}
 use lib.ListN.{get_elem?}
 use Rattle.atomic_table.specs.Table.{Final, Seen}
@@ -9,7 +9,8 @@ use Rattle.core_model.specs.View.{Setup, View}
 use Rattle.core_model.specs.Sound.{Sound}
 use Rattle.heap_rule.specs.Joint.{Joint, all_views}
 use Rattle.heap_rule.specs.Rule.{Opening, Keeps, Holds, setup_for}
-use Rattle.heap_rule.specs.Seated.{SeatView, views_of, IsClosedSound}
+use Rattle.heap_rule.specs.Seated.{SeatView}
+use Rattle.heap_rule.specs.Seats.{views_of, IsClosedSound}
 
 views_last : (seats : List SeatView) (seat : SeatView) → views_of (seats ++ seat ∷ []) ≡ views_of seats ++ seat.view ∷ []
 views_last [] seat = refl
@@ -56,13 +57,18 @@ one_left (x ∷ y ∷ xs) one = absurd (omega (arith, one))
 three_parts : (words : List ℕ) (n : ℕ) → length words ≡ 2 * n + 1 → words ≡ take n words ++ (take n (drop n words) ++ (get_or (drop n (drop n words)) 0 0 ∷ []))
 three_parts words n long = sym (take-append-drop n words)
     ∙ ap (λ ws. take n words ++ ws) (sym (take-append-drop n (drop n words)) ∙ ap (λ ws. take n (drop n words) ++ ws) (one_left (drop n (drop n words)) one)) where
-  one : length (drop n (drop n words)) ≡ 1
-  one = let a = length-drop n words in let b = length-drop n (drop n words) in omega arith
+      one : length (drop n (drop n words)) ≡ 1
+      one = let a = length-drop n words in let b = length-drop n (drop n words) in omega arith
 
 -- what the table leaves is sound with the seats that one seat of the table stood for
 pub closed_sound : (o : Opening) (words slots : List ℕ) (id n : ℕ) (joint : Joint) → Final (Seen (Holds o) id joint) words slots → length joint ≡ o.seats → n ≡ image_words (setup_for o).capacity
     → IsClosedSound (setup_for o) (take n words) (take n (drop n words)) joint
-closed_sound o words slots id n joint final count half = record { drawn = get_or (drop n (drop n words)) 0 0; sound = sound } where
+closed_sound o words slots id n joint final count half = record {
+  now_long = length-take-le n words (omega (arith, long)) ∙ half;
+  kept_long = length-take-le n (drop n words) (let l = length-drop n words in omega (arith, long, l)) ∙ half;
+  drawn = get_or (drop n (drop n words)) 0 0;
+  sound = sound;
+} where
   keeps : Keeps o final.0.words final.0.views
   keeps = final.1.0
 
@@ -96,10 +102,8 @@ one_word_more xs ws ws' from i x at so_far more =
 
 -- the same said of what was read off the table
 pub closed_as : (k k' : Setup) (now now' kept kept' : List ℕ) (views views' : List View) → k ≡ k' → now' ≡ now → kept' ≡ kept → views ≡ views' → IsClosedSound k now kept views → IsClosedSound k' now' kept' views'
-closed_as k k' now now' kept kept' views views' same_setup same_now same_kept same_views closed = record {
-  drawn = closed.drawn;
-  sound = subst (λ h. Sound h (now' ++ (kept' ++ (closed.drawn ∷ []))) views') same_setup
-      (subst (λ ws. Sound k (ws ++ (kept' ++ (closed.drawn ∷ []))) views') (sym same_now)
-      (subst (λ ws. Sound k (now ++ (ws ++ (closed.drawn ∷ []))) views') (sym same_kept)
-      (subst (Sound k (now ++ (kept ++ (closed.drawn ∷ [])))) same_views closed.sound)));
-}
+closed_as k k' now now' kept kept' views views' same_setup same_now same_kept same_views closed =
+    subst (λ h. IsClosedSound h now' kept' views') same_setup
+    (subst (λ ws. IsClosedSound k ws kept' views') (sym same_now)
+    (subst (λ ws. IsClosedSound k now ws views') (sym same_kept)
+    (subst (λ vs. IsClosedSound k now kept vs) same_views closed)))

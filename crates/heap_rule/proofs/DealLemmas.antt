@@ -1,5 +1,5 @@
 -- A seat of the table that deals out some of its views, or takes in those of another, leaves the same seats.
-use Rattle.std.proofs.Common.{◌≡◌, ℕ, zero, suc, ◌+◌, ◌<◌, inl, inr, ◌⊎◌, List, [], ◌∷◌, ◌++◌, Contains, length, set, refl, ap, sym, subst, ◌∙◌, arith}
+use Rattle.std.proofs.Common.{◌≡◌, ℕ, zero, suc, ◌+◌, inl, inr, ◌⊎◌, List, [], ◌∷◌, ◌++◌, Contains, length, set, refl, ap, sym, subst, ◌∙◌, arith}
 use Rattle.std.proofs.lemmas.List.Elements.{Contains-append_left, Contains-append_right, Contains-append_cases}
 use mathlib.Core.Option.{some, some-injective, some-ne-none}
 use lib.ListN.{get_elem?}
@@ -8,7 +8,6 @@ use Rattle.atomic_table.proofs.Lists.{at_set, at_snoc}
 use Rattle.heap_model.specs.Counting.{total}
 use Rattle.heap_model.proofs.MemberLemmas.{in_none}
 use Rattle.core_model.specs.View.{View}
-use Rattle.core_model.specs.Sound.{Sound}
 use Rattle.core_model.proofs.OrderLemmas.{AreReordered, reordered}
 use Rattle.heap_rule.specs.Joint.{Joint, all_views}
 use Rattle.heap_rule.specs.Rule.{Opening, Keeps, Holds, setup_for}

@@ -1,5 +1,5 @@
 -- What the rule says of an opened heap, and how its seats are dealt out.
-use Rattle.std.proofs.Common.{◌≡◌, ℕ, zero, suc, ◌+◌, ◌-◌, ◌<◌, ◌≤◌, List, [], ◌∷◌, ◌++◌, get_or, length, refl, ap, sym, subst, ◌∙◌, arith}
+use Rattle.std.proofs.Common.{◌≡◌, ℕ, zero, suc, ◌+◌, ◌<◌, ◌≤◌, List, [], ◌∷◌, ◌++◌, get_or, length, refl, ap, sym, subst, ◌∙◌, arith}
 use Rattle.std.proofs.lemmas.List.{append-nil}
 use Rattle.atomic_table.specs.Seated.{TableId}
 use Rattle.atomic_table.specs.Table.{Me}
@@ -12,7 +12,8 @@ use Rattle.core_model.proofs.OpenedLemmas.{opened}
 use Rattle.crash_core.proofs.OpenedCore.{new_seat, no_caches}
 use Rattle.heap_rule.specs.Joint.{Joint, first_view, other_views}
 use Rattle.heap_rule.specs.Rule.{Opening, Keeps, IsOpened, setup_for, most_seats, first_joint, first_view_of}
-use Rattle.heap_rule.specs.Seated.{SharedView, SeatView, IsSeat, IsSeatOf, AreOpenedSeats, dealt_seats}
+use Rattle.heap_rule.specs.Seated.{SharedView, SeatView, IsSeat}
+use Rattle.heap_rule.specs.Seats.{AreOpenedSeats, dealt_seats}
 
 -- a heap at rest keeps the rule at the opening
 pub opened_keeps : (o : Opening) (words : List ℕ) → IsReady o.words o.held → AreOwners o.held o.seats o.block_owners o.root_owners → o.seats ≤ most_seats → o.budget < 1099511627776
@@ -44,14 +45,14 @@ tabulate_last f from (suc n) = ap (λ l. f from ∷ l) (tabulate_last f (from + 
 pub one_more : (table : TableId) (views : ℕ → View) (n : ℕ) (seat : SeatView) → seat.table ≡ table → seat.view ≡ views n → dealt_seats table views n ++ seat ∷ [] ≡ dealt_seats table views (n + 1)
 one_more table views n seat same view_is =
     ap (λ (s : SeatView). dealt_seats table views n ++ s ∷ []) is ∙ sym (tabulate_last S 0 n) ∙ ap (dealt_seats table views) (let e : suc n ≡ n + 1 = omega arith in e) where
-  S : ℕ → SeatView
-  S i = record { table = table; view = views i }
+      S : ℕ → SeatView
+      S i = record { table = table; view = views i }
 
-  view_at : seat.view ≡ views (0 + n)
-  view_at = view_is ∙ ap views (let e : n ≡ 0 + n = omega arith in e)
+      view_at : seat.view ≡ views (0 + n)
+      view_at = view_is ∙ ap views (let e : n ≡ 0 + n = omega arith in e)
 
-  is : seat ≡ S (0 + n)
-  is = λ j. record { table = same j; view = view_at j }
+      is : seat ≡ S (0 + n)
+      is = λ j. record { table = same j; view = view_at j }
 
 -- a seat as it is opened
 pub is_seat : (o : Opening) (i capacity : ℕ) (me : Me ℕ Joint) → IsOpened o → i < o.seats → me ≡ (first_view_of o i ∷ [], []) → capacity ≡ (setup_for o).capacity → IsSeat me new_seat capacity
@@ -81,11 +82,13 @@ are_opened shared views seats setups are = record {
   count = ap length are ∙ length_tabulate S 0 shared.seats;
   each = λ i seat below at.
       let less : i < shared.seats = (let l = ap length are ∙ length_tabulate S 0 shared.seats in omega arith) in
-      let is : S i ≡ seat = ap S (let e : i ≡ 0 + i = omega arith in e) ∙ sym (tabulate_at S 0 shared.seats i seat less) ∙ ap (λ l. get_or l i seat) (sym are) ∙ at in
-      (record {
-        table = ap (λ (s : SeatView). s.table) (sym is);
-        setup = ap (λ (s : SeatView). s.view.setup) (sym is) ∙ setups i less;
-      }, ap (λ (s : SeatView). s.view) (sym is));
+      let is : S i ≡ seat = ap S (let e : i ≡ 0 + i = omega arith in e) ∙ sym (tabulate_at S 0 shared.seats i seat less) ∙ ap (λ l. get_or l i seat) (sym are) ∙ at in (
+        record {
+          table = ap (λ (s : SeatView). s.table) (sym is);
+          setup = ap (λ (s : SeatView). s.view.setup) (sym is) ∙ setups i less;
+        },
+        ap (λ (s : SeatView). s.view) (sym is),
+      );
 } where
   S : ℕ → SeatView
   S i = record { table = shared.table; view = views i }

@@ -1,5 +1,5 @@
 -- What a seat of the shared table stands for.
-use Rattle.std.specs.Prelude.{◌≡◌, ℕ, List, [], ◌∷◌, ◌++◌, get_or}
+use Rattle.std.specs.Prelude.{◌≡◌, List, [], ◌∷◌, ◌++◌, get_or}
 use Rattle.core_model.specs.View.{View}
 use Rattle.core_model.specs.Opening.{setup_of, plain_view}
 

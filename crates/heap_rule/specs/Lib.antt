@@ -3,3 +3,4 @@ pub mod Rule
 pub mod Plays
 pub mod Shown
 pub mod Seated
+pub mod Seats

@@ -1,13 +1,11 @@
 -- What contracts see of the shared heap and of a seat, and what a seat keeps beside its place at the table.
-use Rattle.std.specs.Prelude.{◌≡◌, ◌<◌, ℕ, ◌+◌, ◌≢◌, cond, nat_eq, max, Result, MatchResult, ⊤, List, [], ◌∷◌, ◌++◌, Contains, length, get_or, map}
+use Rattle.std.specs.Prelude.{◌≡◌, ◌<◌, ℕ, ◌+◌, ◌≢◌, cond, nat_eq, max, Result, MatchResult, ⊤, []}
 use Rattle.atomic_table.specs.Seated.{TableId}
 use Rattle.atomic_table.specs.Table.{Me}
 use Rattle.core_model.specs.declared.event.Event.{Event}
 use Rattle.core_model.specs.Effects.{place_of, left_there}
 use Rattle.core_model.specs.Memory.{Memory, memory_of, tickets}
 use Rattle.core_model.specs.View.{Setup, View}
-use Rattle.core_model.specs.Sound.{Sound}
-use Rattle.core_model.specs.Opening.{tabulate}
 use Rattle.crash_core.specs.declared.owners.Seat.{Seat}
 use Rattle.crash_core.specs.Standing.{HasNotes, HasCaches, HasBatch}
 use Rattle.heap_rule.specs.Joint.{Joint, IsSingle, view_in}
@@ -28,31 +26,6 @@ pub record SeatView : Type 0 where
 pub record IsSeatOf (shared : SharedView) (seat : SeatView) : Type 0 where
   pub table : seat.table ≡ shared.table
   pub setup : seat.view.setup ≡ shared.setup
-
--- the seats that a heap was opened for, in their order, each with its view
-pub record AreOpenedSeats (shared : SharedView) (views : ℕ → View) (seats : List SeatView) : Type 0 where
-  pub count : length seats ≡ shared.seats
-  pub each : (i : ℕ) (seat : SeatView) → i < length seats → get_or seats i seat ≡ seat → IsSeatOf shared seat × (seat.view ≡ views i)
-
--- the first seats of the table, in their order, each with its view
-abbrev pub dealt_seats : TableId → (ℕ → View) → ℕ → List SeatView
-dealt_seats table views count = tabulate (λ i. record { table = table; view = views i }) 0 count
-
--- all the seats of this heap, in any order
-pub record AreSeatsOf (shared : SharedView) (seats : List SeatView) : Type 0 where
-  pub count : length seats ≡ shared.seats
-  pub each : (seat : SeatView) → Contains seats seat → IsSeatOf shared seat
-
-pub record AreAtTable (table : TableId) (seats : List SeatView) : Type 0 where
-  pub each : (seat : SeatView) → Contains seats seat → seat.table ≡ table
-
-abbrev pub views_of : List SeatView → List View
-views_of seats = map (λ (seat : SeatView). seat.view) seats
-
--- the volatile words, the durable ones and the ticket word are sound with these seats
-pub record IsClosedSound (k : Setup) (now kept : List ℕ) (views : List View) : Type 0 where
-  pub drawn : ℕ
-  pub sound : Sound k (now ++ (kept ++ (drawn ∷ []))) views
 
 -- some sound state has the seat's view, and what is kept of it is so
 pub record IsKeptOf (notes : Seat) (v : View) : Type 0 where

@@ -1,10 +1,9 @@
 //! Closes a shared heap.
 
-ghost use Rattle.std.specs.Prelude.{◌≡◌, ◌<◌, ◌≤◌, ◌+◌, ◌*◌, ◌++◌, [], IfOk, length};
+ghost use Rattle.std.specs.Prelude.{◌≡◌, ◌<◌, ◌≤◌, ◌+◌, IfOk};
 ghost use lib.ListN.{take, drop};
 ghost use Rattle.std.specs.Slots.{slots_items, slots_len, IsFull};
-ghost use Rattle.heap_model.specs.Geometry.{image_words};
-ghost use Rattle.heap_rule.specs.Seated.{AreSeatsOf, AreAtTable, IsClosedSound, views_of};
+ghost use Rattle.heap_rule.specs.Seats.{AreSeatsOf, AreAtTable, IsClosedSound, views_of};
 
 use crate::rule::{Bare, Known, Words};
 use crate::seat::Seat;
@@ -37,19 +36,16 @@ impl Join<Known> for Together {
 /// Closes a shared heap, once all its seats are back, in any order and whether they have stopped or
 /// not. It leaves the two values of each word. It fails only where memory runs out.
 pub fn close_shared(alloc: Global, shared: Shared, seats: Vec<Seat>) -> Result<Closed, AllocError>
-    requires seats { AreSeatsOf shared seats.items }
-    ensures now { IfOk result (λ c. length c.now ≡ image_words shared.setup.capacity) }
-    ensures kept { IfOk result (λ c. length c.kept ≡ image_words shared.setup.capacity) }
-    ensures sound { IfOk result (λ c. IsClosedSound shared.setup c.now c.kept
-        (views_of seats.items)) }
+    requires { AreSeatsOf shared seats.items }
+    ensures { IfOk result (λ c. IsClosedSound shared.setup c.now c.kept (views_of seats.items)) }
 {
     let Shared { table } = shared;
     let length = table.word_count() / 2;
     let last = gather(&table.shared, seats);
     let closed = table.close_with(last);
-    let words = parts(alloc, &closed, length);
+    let left = parts(alloc, &closed, length);
     closed.free();
-    words
+    left
 }
 
 /// A seat of the table that stands for all the seats.

@@ -4,7 +4,7 @@ ghost use Rattle.std.specs.Prelude.{◌≡◌, ◌<◌, ◌≤◌, [], IfOk};
 ghost use Rattle.core_model.specs.Opening.{AreOwners, setup_of, opened_view};
 ghost use Rattle.core_model.specs.Memory.{table_length};
 ghost use Rattle.heap_rule.specs.Rule.{IsOpened, opening_of, setup_for, first_joint, first_view_of};
-ghost use Rattle.heap_rule.specs.Seated.{AreOpenedSeats, dealt_seats};
+ghost use Rattle.heap_rule.specs.Seats.{AreOpenedSeats, dealt_seats};
 
 use crate::rule::{Bare, HeapTable, Known, OpenedHeap, Words};
 use crate::seat::Seat;
@@ -14,7 +14,7 @@ use crash_core::{NEW_SEAT, Owners, opened_table};
 use std::alloc::{AllocError, Global};
 use super_block::{Geometry, Ready};
 
-/// The new seat of the table has the first of the views.
+/// A seat of the table is split: the new one has the first of the views.
 pub struct First;
 
 impl Split<Known> for First {
@@ -38,8 +38,8 @@ pub fn open_shared(
     requires some { 1 ≤ seats }
     requires few { seats ≤ 8 }
     requires budget { budget < 1099511627776 }
-    ensures shared { IfOk result (λ r. (r.0.setup ≡ setup_of heap.words budget)
-        × (r.0.seats ≡ seats)) }
+    ensures setup { IfOk result (λ r. r.0.setup ≡ setup_of heap.words budget) }
+    ensures count { IfOk result (λ r. r.0.seats ≡ seats) }
     ensures seats { IfOk result (λ r. AreOpenedSeats r.0 (opened_view (setup_of heap.words budget)
         heap.held owners.now.held owners.now.roots) r.1.items) }
 {

@@ -1,4 +1,4 @@
-use Rattle.std.proofs.Common.{◌≡◌, ◌∙◌, [], ◌∷◌, refl, ap, sym, subst, Contains}
+use Rattle.std.proofs.Common.{◌∙◌, [], ◌∷◌, refl, ap, sym, subst, Contains}
 use Rattle.std.proofs.lemmas.List.Elements.{Contains-append_left, Contains-append_right}
 use Rattle.atomic_table.specs.Table.{Me}
 use Rattle.heap_model.proofs.MemberLemmas.{in_head}

@@ -1,5 +1,5 @@
-use Rattle.std.proofs.Common.{◌≡◌, ◌++◌, []}
-use Rattle.heap_rule.specs.Seated.{AreAtTable, views_of}
+use Rattle.std.proofs.Common.{◌≡◌, ◌++◌}
+use Rattle.heap_rule.specs.Seats.{AreAtTable, views_of}
 use Rattle.heap_rule.proofs.closing.gather.Given as goal
 
 abbrev pub invariant-loop-seat : goal.invariant-loop-seat

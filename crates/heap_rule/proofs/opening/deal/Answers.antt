@@ -1,4 +1,4 @@
-use Rattle.std.proofs.Common.{rules, ◌≡◌, ◌<◌, ◌∙◌, [], ℕ, suc, ◌+◌, ◌-◌, ◌∷◌, ◌++◌, ap, sym, arith}
+use Rattle.std.proofs.Common.{◌≡◌, ◌<◌, ◌∙◌, [], ℕ, suc, ◌+◌, ◌-◌, ◌∷◌, ◌++◌, ap, arith}
 use Rattle.atomic_table.specs.Table.{Me}
 use Rattle.heap_rule.specs.Joint.{Joint, first_view, other_views, view_in}
 use Rattle.heap_rule.specs.Rule.{first_view_of}

@@ -1,7 +1,7 @@
 use Rattle.std.proofs.Common.{◌≡◌, ◌-◌, [], vec_len, vec_capacity}
 use Rattle.core_model.specs.Opening.{tabulate}
 use Rattle.heap_rule.specs.Rule.{first_view_of}
-use Rattle.heap_rule.specs.Seated.{dealt_seats}
+use Rattle.heap_rule.specs.Seats.{dealt_seats}
 use Rattle.heap_rule.proofs.opening.deal.Given as goal
 
 abbrev pub invariant-loop-i : goal.invariant-loop-i

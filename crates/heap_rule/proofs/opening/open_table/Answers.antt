@@ -12,5 +12,5 @@ of_words-requires c = let o = opening_of c.args.heap c.args.owners.now c.args.se
 pub returns-clause-opened : goal.returns-clause-opened
 returns-clause-opened c = let o = opening_of c.args.heap c.args.owners.now c.args.seats c.args.budget in
     let keeps = key_keeps _ o c.as_slice.result.now c.into_parts-words.ensures.words c.into_parts-words.ensures.held (c.in_ok-block_owners.ensures.items ∙ c.held.ensures) (c.in_ok-root_owners.ensures.items ∙ c.roots.ensures) refl refl
-        (opened_keeps o c.as_slice.result.now c.into_parts-words.ensures.ready c.requires.owners c.requires.few c.requires.budget (c.as_slice.ensures.value ∙ c.in_ok-table_words.ensures.ok)) in
+    (opened_keeps o c.as_slice.result.now c.into_parts-words.ensures.ready c.requires.owners c.requires.few c.requires.budget (c.as_slice.ensures.value ∙ c.in_ok-table_words.ensures.ok)) in
     IfOk-weaker _ _ _ (λ t e. subst IsOpened (sym e.5) (record { words = c.as_slice.result.now; keeps = keeps })) c.of_words.ensures

@@ -1,0 +1,36 @@
+-- All the seats of a shared heap, as it is opened and as it is closed.
+use Rattle.std.specs.Prelude.{◌≡◌, ℕ, ◌<◌, List, [], ◌∷◌, ◌++◌, Contains, length, get_or, map}
+use Rattle.atomic_table.specs.Seated.{TableId}
+use Rattle.heap_model.specs.Geometry.{image_words}
+use Rattle.core_model.specs.Opening.{tabulate}
+use Rattle.core_model.specs.Sound.{Sound}
+use Rattle.core_model.specs.View.{Setup, View}
+use Rattle.heap_rule.specs.Seated.{SharedView, SeatView, IsSeatOf}
+
+-- the seats that a heap was opened for, in their order, each with its view
+pub record AreOpenedSeats (shared : SharedView) (views : ℕ → View) (seats : List SeatView) : Type 0 where
+  pub count : length seats ≡ shared.seats
+  pub each : (i : ℕ) (seat : SeatView) → i < length seats → get_or seats i seat ≡ seat → IsSeatOf shared seat × (seat.view ≡ views i)
+
+-- all the seats of a heap, in any order
+pub record AreSeatsOf (shared : SharedView) (seats : List SeatView) : Type 0 where
+  pub count : length seats ≡ shared.seats
+  pub each : (seat : SeatView) → Contains seats seat → IsSeatOf shared seat
+
+abbrev pub views_of : List SeatView → List View
+views_of seats = map (λ (seat : SeatView). seat.view) seats
+
+-- the volatile words of an image and the durable ones, with some ticket word, are sound with these seats
+pub record IsClosedSound (k : Setup) (now kept : List ℕ) (views : List View) : Type 0 where
+  pub now_long : length now ≡ image_words k.capacity
+  pub kept_long : length kept ≡ image_words k.capacity
+  pub drawn : ℕ
+  pub sound : Sound k (now ++ (kept ++ (drawn ∷ []))) views
+
+-- the first seats of a table, in their order, each with its view
+abbrev pub dealt_seats : TableId → (ℕ → View) → ℕ → List SeatView
+dealt_seats table views count = tabulate (λ i. record { table = table; view = views i }) 0 count
+
+-- each seat is at this table
+pub record AreAtTable (table : TableId) (seats : List SeatView) : Type 0 where
+  pub each : (seat : SeatView) → Contains seats seat → seat.table ≡ table
