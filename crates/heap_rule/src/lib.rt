@@ -20,3 +20,6 @@ pub use laws::a_closed_heap_names_each_held_block;
 pub use opening::open_shared;
 pub use seat::Seat;
 pub use shared::Shared;
+
+#[cfg(test)]
+mod tests;
