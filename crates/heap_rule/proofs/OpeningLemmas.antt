@@ -11,7 +11,7 @@ use Rattle.core_model.proofs.OpenLemmas.{length_tabulate, tabulate_at}
 use Rattle.core_model.proofs.OpenedLemmas.{opened}
 use Rattle.crash_core.proofs.OpenedCore.{new_seat, no_caches}
 use Rattle.heap_rule.specs.Joint.{Joint, first_view, other_views}
-use Rattle.heap_rule.specs.Rule.{Opening, Keeps, IsOpened, setup_for, most_seats, first_joint, first_view_of}
+use Rattle.heap_rule.specs.Rule.{Opening, Keeps, IsOpened, setup_for, most_seats, first_joint, opened_view_of}
 use Rattle.heap_rule.specs.Seated.{SharedView, SeatView, IsSeat}
 use Rattle.heap_rule.specs.Seats.{AreOpenedSeats, dealt_seats}
 
@@ -21,7 +21,7 @@ pub opened_keeps : (o : Opening) (words : List ℕ) → IsReady o.words o.held �
 opened_keeps o words ready owners few low are = record {
   sound = subst (Sound (setup_for o) words) (sym (append-nil (first_joint o)))
       (subst (λ ws. Sound (setup_for o) ws (first_joint o)) (sym are) (opened o.words o.held o.budget o.seats o.block_owners o.root_owners ready owners));
-  count = ap length (append-nil (first_joint o)) ∙ length_tabulate (first_view_of o) 0 o.seats;
+  count = ap length (append-nil (first_joint o)) ∙ length_tabulate (opened_view_of o) 0 o.seats;
   few = few;
   low = low;
 }
@@ -55,7 +55,7 @@ one_more table views n seat same view_is =
       is = λ j. record { table = same j; view = view_at j }
 
 -- a seat as it is opened
-pub is_seat : (o : Opening) (i capacity : ℕ) (me : Me ℕ Joint) → IsOpened o → i < o.seats → me ≡ (first_view_of o i ∷ [], []) → capacity ≡ (setup_for o).capacity → IsSeat me new_seat capacity
+pub is_seat : (o : Opening) (i capacity : ℕ) (me : Me ℕ Joint) → IsOpened o → i < o.seats → me ≡ (opened_view_of o i ∷ [], []) → capacity ≡ (setup_for o).capacity → IsSeat me new_seat capacity
 is_seat o i capacity me is less me_is capacity_is = subst (λ m. IsSeat m new_seat capacity) (sym me_is) (record {
   single = refl;
   no_slots = refl;
@@ -65,8 +65,8 @@ is_seat o i capacity me is less me_is capacity_is = subst (λ m. IsSeat m new_se
       views = first_joint o;
       seat = i;
       sound = subst (Sound (setup_for o) is.words) (append-nil (first_joint o)) is.keeps.sound;
-      below = (let l = length_tabulate (first_view_of o) 0 o.seats in omega arith);
-      at = tabulate_at (first_view_of o) 0 o.seats i (first_view_of o i) less ∙ ap (first_view_of o) (let e : 0 + i ≡ i = omega arith in e);
+      below = (let l = length_tabulate (opened_view_of o) 0 o.seats in omega arith);
+      at = tabulate_at (opened_view_of o) 0 o.seats i (opened_view_of o i) less ∙ ap (opened_view_of o) (let e : 0 + i ≡ i = omega arith in e);
     };
     notes_are = record { ticket = refl; stopped = refl; seen_used = refl; seen_head = refl; seen_link = refl; seen_anchor = refl };
     caches = no_caches;
@@ -93,11 +93,11 @@ are_opened shared views seats setups are = record {
   S : ℕ → SeatView
   S i = record { table = shared.table; view = views i }
 
-pub opened_seats : (table : TableId) (key o : Opening) (seats : List SeatView) → key ≡ o → seats ≡ dealt_seats table (first_view_of key) o.seats
-    → AreOpenedSeats (record { table = table; setup = setup_for key; seats = key.seats }) (first_view_of o) seats
-opened_seats table key o seats same are = are_opened (record { table = table; setup = setup_for key; seats = key.seats }) (first_view_of o) seats
+pub opened_seats : (table : TableId) (key o : Opening) (seats : List SeatView) → key ≡ o → seats ≡ dealt_seats table (opened_view_of key) o.seats
+    → AreOpenedSeats (record { table = table; setup = setup_for key; seats = key.seats }) (opened_view_of o) seats
+opened_seats table key o seats same are = are_opened (record { table = table; setup = setup_for key; seats = key.seats }) (opened_view_of o) seats
     (λ i less. ap setup_for (sym same))
-    (are ∙ ap (λ k. dealt_seats table (first_view_of k) o.seats) same ∙ ap (λ (k : Opening). dealt_seats table (first_view_of o) k.seats) (sym same))
+    (are ∙ ap (λ k. dealt_seats table (opened_view_of k) o.seats) same ∙ ap (λ (k : Opening). dealt_seats table (opened_view_of o) k.seats) (sym same))
 
 -- the key of the table, which is made of the same parts, keeps the rule too
 pub key_keeps : (key o : Opening) (words : List ℕ) → key.words ≡ o.words → key.held ≡ o.held → key.block_owners ≡ o.block_owners → key.root_owners ≡ o.root_owners → key.seats ≡ o.seats → key.budget ≡ o.budget

@@ -51,8 +51,8 @@ abbrev pub first_joint : Opening → Joint
 first_joint o = (opened_state (setup_for o) o.held o.block_owners o.root_owners o.seats).views
 
 -- the view of a seat at the opening
-abbrev pub first_view_of : Opening → ℕ → View
-first_view_of o = opened_view (setup_for o) o.held o.block_owners o.root_owners
+abbrev pub opened_view_of : Opening → ℕ → View
+opened_view_of o = opened_view (setup_for o) o.held o.block_owners o.root_owners
 
 -- some words and the seats at the opening keep the rule
 pub record IsOpened (o : Opening) : Type 0 where

@@ -3,7 +3,7 @@
 ghost use Rattle.std.specs.Prelude.{◌≡◌, ◌<◌, ◌≤◌, [], IfOk};
 ghost use Rattle.core_model.specs.Opening.{AreOwners, setup_of, opened_view};
 ghost use Rattle.core_model.specs.Memory.{table_length};
-ghost use Rattle.heap_rule.specs.Rule.{IsOpened, opening_of, setup_for, first_joint, first_view_of};
+ghost use Rattle.heap_rule.specs.Rule.{IsOpened, opening_of, setup_for, first_joint, opened_view_of};
 ghost use Rattle.heap_rule.specs.Seats.{AreOpenedSeats, dealt_seats};
 
 use crate::rule::{Bare, HeapTable, Known, OpenedHeap, Words};
@@ -98,7 +98,7 @@ fn deal(
     requires seats { seats ≡ shared.now.key.seats }
     requires geometry { geometry.capacity ≡ (setup_for shared.now.key).capacity }
     ensures { IfOk result (λ list. list.items
-        ≡ dealt_seats shared.now.table_id (first_view_of shared.now.key) seats) }
+        ≡ dealt_seats shared.now.table_id (opened_view_of shared.now.key) seats) }
 {
     let mut list = Vec::with_capacity(alloc, seats)?;
     for _i in 0..seats {

@@ -1,7 +1,7 @@
 use Rattle.std.proofs.Common.{◌≡◌, ◌<◌, ◌∙◌, [], ℕ, suc, ◌+◌, ◌-◌, ◌∷◌, ◌++◌, ap, arith}
 use Rattle.atomic_table.specs.Table.{Me}
 use Rattle.heap_rule.specs.Joint.{Joint, first_view, other_views, view_in}
-use Rattle.heap_rule.specs.Rule.{first_view_of}
+use Rattle.heap_rule.specs.Rule.{opened_view_of}
 use Rattle.heap_rule.specs.Seated.{SeatView}
 use Rattle.heap_rule.proofs.DealLemmas.{dealt}
 use Rattle.heap_rule.proofs.OpeningLemmas.{both_parts, first_dealt, others_stay, one_more, is_seat}
@@ -17,12 +17,12 @@ invariant_of-push_reserved c =
     let less : c.loop-i._i < o.seats = (let l = c.loop-i-test.true in let s = c.requires.seats in omega arith) in
     let some : c.args.seats - c.loop-i._i ≡ suc (c.args.seats - (c.loop-i._i + 1)) = (let l = c.loop-i-test.true in omega arith) in
     is_seat o c.loop-i._i c.args.geometry.capacity c.split_seat-bare.result.me c.requires.opened less
-    (c.split_seat-bare.ensures.4 ∙ ap (λ (m : Me ℕ Joint). (first_view m.0, [])) c.loop-i.invariant.rest ∙ ap (λ (vs : Joint). (vs, [])) (first_dealt (first_view_of o) c.loop-i._i _ _ some))
+    (c.split_seat-bare.ensures.4 ∙ ap (λ (m : Me ℕ Joint). (first_view m.0, [])) c.loop-i.invariant.rest ∙ ap (λ (vs : Joint). (vs, [])) (first_dealt (opened_view_of o) c.loop-i._i _ _ some))
     c.requires.geometry
 
 pub loop-i-preserved : goal.loop-i-preserved
 loop-i-preserved c =
-    let V = first_view_of c.args.shared.now.key in
+    let V = opened_view_of c.args.shared.now.key in
     let i = c.loop-i._i in
     let some : c.args.seats - i ≡ suc (c.args.seats - (i + 1)) = (let l = c.loop-i-test.true in omega arith) in
     let me : c.split_seat-bare.result.me.0 ≡ V i ∷ [] = ap (λ (m : Me ℕ Joint). m.0) c.split_seat-bare.ensures.4 ∙ ap (λ (m : Me ℕ Joint). first_view m.0) c.loop-i.invariant.rest ∙ first_dealt V i _ _ some in

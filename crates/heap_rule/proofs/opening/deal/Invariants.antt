@@ -1,14 +1,14 @@
 use Rattle.std.proofs.Common.{◌≡◌, ◌-◌, [], vec_len, vec_capacity}
 use Rattle.core_model.specs.Opening.{tabulate}
-use Rattle.heap_rule.specs.Rule.{first_view_of}
+use Rattle.heap_rule.specs.Rule.{opened_view_of}
 use Rattle.heap_rule.specs.Seats.{dealt_seats}
 use Rattle.heap_rule.proofs.opening.deal.Given as goal
 
 abbrev pub invariant-loop-i : goal.invariant-loop-i
 invariant-loop-i l = record {
   table : l.dealer.table_id ≡ l.shared.table_id;
-  rest : l.dealer.me ≡ (tabulate (first_view_of l.shared.key) l._i (l.seats - l._i), []);
-  dealt : l.list.items ≡ dealt_seats l.shared.table_id (first_view_of l.shared.key) l._i;
+  rest : l.dealer.me ≡ (tabulate (opened_view_of l.shared.key) l._i (l.seats - l._i), []);
+  dealt : l.list.items ≡ dealt_seats l.shared.table_id (opened_view_of l.shared.key) l._i;
   count : vec_len l.list ≡ l._i;
   room : vec_capacity l.list ≡ l.seats;
 }
