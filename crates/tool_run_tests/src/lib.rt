@@ -1,7 +1,7 @@
 //! Tests of the tool's runs: traces worked off over stores, inputs and outputs in memory, stopped
-//! at each step, and with each call of the outside failing; and images with words that no run
-//! leaves. The crate is nothing but these, so that a change of the tool's texts or of its other
-//! commands leaves them alone.
+//! at each step, and with each call of the outside failing; schedules replayed; and images with
+//! words that no run leaves. The crate is nothing but these, so that a change of the tool's texts or
+//! of its other commands leaves them alone.
 #![tactic(auto)]
 
 #[cfg(test)]
@@ -12,6 +12,8 @@ mod faults;
 mod harness;
 #[cfg(test)]
 mod rebuilds;
+#[cfg(test)]
+mod replays;
 #[cfg(test)]
 mod rows;
 #[cfg(test)]
