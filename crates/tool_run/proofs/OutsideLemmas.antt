@@ -22,13 +22,13 @@ same_bytes contents n name a b named holds told =
     let same : Some b ≡ Some a = of_told (λ image. image ≡ Some a) contents n name (Some b) named holds told in cc
 
 -- an image that can be run has no such word
-mapped_inside : (contents : Contents) (n name : List ℕ) (at : ℕ) → n ≡ name → HasMapped contents n → HoldsOutside contents name at → ⊥
+pub mapped_inside : (contents : Contents) (n name : List ℕ) (at : ℕ) → n ≡ name → HasMapped contents n → HoldsOutside contents name at → ⊥
 mapped_inside contents n name at named mapped has =
     let same : mapped.bytes ≡ has.bytes = same_bytes contents n name mapped.bytes has.bytes named mapped.is_there has.held in
     mapped.inside at (subst (λ (l : List ℕ). PointsOutside (image_of_bytes l) at) (sym same) has.points)
 
 -- nor has one that can be recovered
-good_inside : (contents : Contents) (n name : List ℕ) (at : ℕ) → n ≡ name → HasGood contents n → HoldsOutside contents name at → ⊥
+pub good_inside : (contents : Contents) (n name : List ℕ) (at : ℕ) → n ≡ name → HasGood contents n → HoldsOutside contents name at → ⊥
 good_inside contents n name at named image has =
     let same : image.bytes ≡ has.bytes = same_bytes contents n name image.bytes has.bytes named image.is_there has.held in
     image.inside at (subst (λ (l : List ℕ). PointsOutside (image_of_bytes l) at) (sym same) has.points)
@@ -104,3 +104,12 @@ stops_outside words command old new left store_failed source_failed sink_failed 
           absurd (good_inside old (image_name command) name at (subst (λ (c : Command). image_name c ≡ name) same asks.is_named) replay.image has)
       | inr (image, text, made, why) ↦ absurd (none_made words command old left image text asked made name at asks has)
     ]
+
+-- what comes where a command gets such an image comes where the words ask for one
+pub where_asked : (P : Type 0) (words : List (List ℕ)) (command : Command) (contents : Contents) → Asks words command
+    → ((at : ℕ) → Gets command → HoldsOutside contents (image_name command) at → P)
+    → (name : List ℕ) (at : ℕ) → AsksToGet words name → HoldsOutside contents name at → P
+where_asked P words command contents asked comes name at asks has =
+    let same : asks.command ≡ command = one_command words asks.command command asks.asked asked in
+    let named : image_name command ≡ name = subst (λ (c : Command). image_name c ≡ name) same asks.is_named in
+    comes at (subst Gets same asks.gets) (subst (λ (n : List ℕ). HoldsOutside contents n at) (sym named) has)

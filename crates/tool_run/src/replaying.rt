@@ -8,6 +8,7 @@ ghost use Rattle.tool_run.specs.Calls.{get_limit};
 ghost use Rattle.tool_run.specs.Command.{replay_image};
 ghost use Rattle.tool_run.specs.Inside.{RefusesEither, IsReplayFault, IsBeforeReading};
 ghost use Rattle.tool_run.specs.Making.{HasSchedule, ReplaysNamed};
+ghost use Rattle.tool_run.specs.Outcome.{HoldsOutside};
 
 use crate::fault::Fault;
 use crate::making::Product;
@@ -36,6 +37,8 @@ pub fn replay_named<I: ImageStore, T: Source, C: Chances>(
         (Rose (T.faults source.old) (T.faults source.new))) }
     ensures unread { IfErr result (λ fault. IsBeforeReading (replay_image name.now seed) fault
         → source.new ≡ source.old) }
+    ensures image_first { (at : ℕ) → HoldsOutside (I.contents images.old) name.now at
+        → source.new ≡ source.old }
     ensures unchanged { I.contents images.new ≡ I.contents images.old }
     ensures later { I.faults images.old ≤ I.faults images.new }
     ensures calls { I.calls images.new ≡ with_get get_limit (I.calls images.old) }

@@ -8,6 +8,7 @@ ghost use Rattle.tool_run.specs.Calls.{get_limit};
 ghost use Rattle.tool_run.specs.Command.{Command, run_image, image_name};
 ghost use Rattle.tool_run.specs.Inside.{Refuses, RefusesEither, IsTraceFault, IsTraceLeft, IsBeforeReading};
 ghost use Rattle.tool_run.specs.Making.{RunsTrace, Reads, longest_trace};
+ghost use Rattle.tool_run.specs.Outcome.{HoldsOutside};
 ghost use Rattle.tool_run.specs.Recovering.{IsMapped};
 
 use crate::fault::Fault;
@@ -44,6 +45,8 @@ pub fn work_named<R, I: ImageStore, T: Source, G: Gate + Sync, C: Chances>(
         (Rose (T.faults trace.old) (T.faults trace.new))) }
     ensures unread { IfErr result (λ fault. IsBeforeReading (run_image name.now (options_of options))
         fault → trace.new ≡ trace.old) }
+    ensures image_first { (at : ℕ) → HoldsOutside (I.contents images.old) name.now at
+        → trace.new ≡ trace.old }
     ensures unchanged { I.contents images.new ≡ I.contents images.old }
     ensures later { I.faults images.old ≤ I.faults images.new }
     ensures calls { I.calls images.new ≡ with_get get_limit (I.calls images.old) }

@@ -3,6 +3,7 @@ use Rattle.tool_run.specs.Inside.{IsBeforeReading}
 use Rattle.tool_run.specs.Command.{replay_image}
 use Rattle.tool_run.proofs.CallLemmas.{refused_by_image}
 use Rattle.tool_run.proofs.DeliveryLemmas.{at_cause}
+use Rattle.tool_run.proofs.OutsideLemmas.{good_inside}
 use Rattle.tool_run.proofs.ReplayLemmas.{can_be_replayed, heap_of, was_read, refused_later, replay_fault}
 use Rattle.tool_run.proofs.replaying.replay_named.Goals as goal
 
@@ -53,3 +54,21 @@ returns-clause-ok g c =
         replays = c.in_ok-text.ensures.ok;
       },
     )
+
+pub returns-in_err-schedule-clause-image_first : goal.returns-in_err-schedule-clause-image_first
+returns-in_err-schedule-clause-image_first g c at has =
+    let both = c.in_ok-recovered in
+    let heap = heap_of (g.I.ImageStore.contents c.args.images.now) c.args.name.now both.field-0-0.items both.recovered both.ensures.ok in
+    absurd (good_inside (g.I.ImageStore.contents c.args.images.now) c.args.name.now c.args.name.now at refl heap.image has)
+
+pub returns-in_err-text-clause-image_first : goal.returns-in_err-text-clause-image_first
+returns-in_err-text-clause-image_first g c at has =
+    let both = c.in_ok-recovered in
+    let heap = heap_of (g.I.ImageStore.contents c.args.images.now) c.args.name.now both.field-0-0.items both.recovered both.ensures.ok in
+    absurd (good_inside (g.I.ImageStore.contents c.args.images.now) c.args.name.now c.args.name.now at refl heap.image has)
+
+pub returns-clause-image_first : goal.returns-clause-image_first
+returns-clause-image_first g c at has =
+    let both = c.in_ok-recovered in
+    let heap = heap_of (g.I.ImageStore.contents c.args.images.now) c.args.name.now both.field-0-0.items both.recovered both.ensures.ok in
+    absurd (good_inside (g.I.ImageStore.contents c.args.images.now) c.args.name.now c.args.name.now at refl heap.image has)

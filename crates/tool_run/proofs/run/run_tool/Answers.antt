@@ -7,7 +7,7 @@ use Rattle.tool_run.proofs.BadTraceLemmas.{stops_bad_line, stops_too_long, done_
 use Rattle.tool_run.proofs.BadScheduleLemmas.{stops_bad_step, stops_schedule_too_long, done_bad_step, done_schedule_too_long}
 use Rattle.tool_run.proofs.CompleteLemmas.{stops_complete}
 use Rattle.tool_run.proofs.BadShardLemmas.{stops_bad, not_done_bad}
-use Rattle.tool_run.proofs.OutsideLemmas.{stops_outside, not_done}
+use Rattle.tool_run.proofs.OutsideLemmas.{stops_outside, not_done, where_asked}
 use Rattle.tool_run.proofs.MalformedLemmas.{stops_malformed, not_done_malformed}
 use Rattle.tool_run.specs.declared.fault.Fault.TheVariants.{Memory}
 use Rattle.tool_run.specs.Command.{format_image, run_image, replay_image}
@@ -155,3 +155,9 @@ returns-in-Err-clause-one_get g c name asks memory = looked_once _ _ _ _ c.in-Er
 pub returns-in-Err-clause-get_alone : goal.returns-in-Err-clause-get_alone
 returns-in-Err-clause-get_alone g c name asks done whole memory =
     got_alone _ _ _ _ _ c.in-Err.fault c.in-Ok.ensures.ok c.in-Err.ensures.calls_err c.tell-in-Err.ensures.status name asks whole
+
+pub returns-in-Ok-carry_out-clause-image_first : goal.returns-in-Ok-carry_out-clause-image_first
+returns-in-Ok-carry_out-clause-image_first g c = where_asked _ _ _ _ c.in-Ok.ensures.ok c.carry_out.ensures.image_first
+
+pub returns-in-Err-clause-image_first : goal.returns-in-Err-clause-image_first
+returns-in-Err-clause-image_first g c = where_asked _ _ _ _ c.in-Ok.ensures.ok c.carry_out.ensures.image_first

@@ -6,6 +6,7 @@ use Rattle.tool_run.specs.Command.{run_image}
 use Rattle.trace_run.specs.Said.{Line, requests_of, AreShort}
 use Rattle.tool_run.proofs.CallLemmas.{refused_by_image}
 use Rattle.tool_run.proofs.DeliveryLemmas.{at_cause}
+use Rattle.tool_run.proofs.OutsideLemmas.{mapped_inside}
 use Rattle.trace_run.proofs.SaidLemmas.{lines_short}
 use Rattle.tool_run.proofs.working.work_named.Goals as goal
 
@@ -37,3 +38,12 @@ returns-clause-ok g c =
           (subst (λ (l : List Line). Runs (slice_index c.in_ok-heap.heap.words) (requests_of l) (options_of c.args.options) c.in_ok-product.product.image c.in_ok-product.product.text)
           c.deref.ensures.value c.in_ok-product.ensures.ok);
     }
+
+pub returns-in_err-requests-clause-image_first : goal.returns-in_err-requests-clause-image_first
+returns-in_err-requests-clause-image_first g c at has = absurd (mapped_inside (g.I.ImageStore.contents c.args.images.now) c.args.name.now c.args.name.now at refl c.in_ok-heap.ensures.ok.image has)
+
+pub returns-in_err-product-clause-image_first : goal.returns-in_err-product-clause-image_first
+returns-in_err-product-clause-image_first g c at has = absurd (mapped_inside (g.I.ImageStore.contents c.args.images.now) c.args.name.now c.args.name.now at refl c.in_ok-heap.ensures.ok.image has)
+
+pub returns-clause-image_first : goal.returns-clause-image_first
+returns-clause-image_first g c at has = absurd (mapped_inside (g.I.ImageStore.contents c.args.images.now) c.args.name.now c.args.name.now at refl c.in_ok-heap.ensures.ok.image has)
