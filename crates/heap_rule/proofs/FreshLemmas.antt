@@ -1,10 +1,9 @@
 -- What is kept of a seat after an exchange of the mark.
-use Rattle.std.proofs.Common.{◌≡◌, ◌≢◌, ℕ, ◌+◌, Option, None, Some, cond, nat_eq, refl, ap, sym, subst, ◌∙◌, eq-eqb, ne_eqb, inl, inr, ◌⊎◌}
+use Rattle.std.proofs.Common.{◌≡◌, ◌≢◌, ℕ, ◌+◌, Option, None, Some, cond, nat_eq, refl, ap, sym, ◌∙◌, eq-eqb, ne_eqb, inl, inr, ◌⊎◌}
 use Rattle.std.proofs.lemmas.Bool.{cases_eq}
 use Rattle.core_model.specs.declared.event.Event.TheVariants.{TakeFresh}
-use Rattle.core_model.specs.Memory.{Memory}
 use Rattle.core_model.specs.View.{View}
-use Rattle.core_model.specs.Effects.{seen, cleared, lost, taken_fresh}
+use Rattle.core_model.specs.Effects.{seen, cleared, taken_fresh}
 use Rattle.crash_core.specs.declared.owners.Seat.{Seat}
 use Rattle.crash_core.specs.declared.owners.Seen.{Seen}
 use Rattle.crash_core.specs.Standing.{snapshot}

@@ -1,5 +1,5 @@
 -- What is kept of a seat after an exchange of a list's head.
-use Rattle.std.proofs.Common.{◌≡◌, ◌≢◌, ℕ, zero, suc, ◌-◌, ◌<◌, Bool, true, false, Option, None, Some, cond, nat_lt, ◌+◌, refl, ap, sym, subst, ◌∙◌, arith}
+use Rattle.std.proofs.Common.{◌≡◌, ◌≢◌, ℕ, zero, suc, ◌-◌, ◌<◌, Bool, true, false, Option, None, cond, nat_lt, ◌+◌, refl, ap, sym, ◌∙◌, arith}
 use Rattle.heap_model.specs.Counting.{times}
 use Rattle.heap_model.specs.Rest.{list_numbers}
 use Rattle.heap_model.specs.Words.{head_first, head_pops}

@@ -7,7 +7,6 @@ use Rattle.atomic_table.specs.Table.{Me}
 use Rattle.core_model.specs.View.{Setup, View}
 use Rattle.crash_core.specs.declared.owners.Seat.{Seat}
 use Rattle.core_model.specs.Effects.{used_up}
-use Rattle.crash_core.specs.declared.owners.Seen.{Seen}
 use Rattle.crash_core.specs.Standing.{HasNotes, HasCaches, HasBatch}
 use Rattle.heap_rule.specs.Plays.{Has, IsEvent}
 use Rattle.heap_rule.specs.Seated.{SharedView, IsKeptOf, IsSeat, IsAt}

@@ -3,8 +3,8 @@ use Rattle.std.proofs.Common.{◌≡◌, ℕ, ◌+◌, ◌<◌, true, inl, inr, 
 use Rattle.std.proofs.lemmas.List.{get_or-set_same}
 use Rattle.heap_model.specs.Geometry.{image_words}
 use Rattle.core_model.specs.declared.event.Event.TheVariants.{Settle}
-use Rattle.core_model.specs.Cells.{Cell, cell_at, index_of, is_cell}
-use Rattle.core_model.specs.Memory.{memory_of, table_index, table_length}
+use Rattle.core_model.specs.Cells.{cell_at, index_of, is_cell}
+use Rattle.core_model.specs.Memory.{table_index}
 use Rattle.core_model.specs.View.{Setup, View, times_own}
 use Rattle.core_model.specs.Effects.{place_of}
 use Rattle.core_model.specs.Guards.{IsOwn}

@@ -1,9 +1,9 @@
 -- What is kept of a seat after a store to a word of its own.
-use Rattle.std.proofs.Common.{◌≡◌, ◌≢◌, ℕ, zero, suc, ◌<◌, ◌≤◌, ◌⊎◌, inl, inr, Bool, true, false, None, cond, nat_eq, List, [], ◌∷◌, length, refl, ap, sym, subst, ◌∙◌, ne_eqb, arith}
-use Rattle.std.proofs.lemmas.Bool.{cases_eq, cases_lt}
+use Rattle.std.proofs.Common.{◌≡◌, ◌≢◌, ℕ, zero, suc, ◌<◌, inl, inr, true, false, None, cond, nat_eq, List, [], ◌∷◌, length, refl, ap, sym, subst, ◌∙◌, ne_eqb, arith}
+use Rattle.std.proofs.lemmas.Bool.{cases_lt}
 use Rattle.core_model.specs.declared.event.Event.TheVariants.{Store}
 use Rattle.core_model.specs.Cells.{Cell, used_cell, head_cell, info_cell, anchor_cell, link_cell, root_cell, data_cell, no_cell, cell_at, index_of, is_cell}
-use Rattle.core_model.specs.View.{View, Batch, known, times_own, times_block}
+use Rattle.core_model.specs.View.{View, times_own}
 use Rattle.core_model.specs.Effects.{last_of, learn, stored, used_up}
 use Rattle.core_model.specs.Guards.{IsOwn}
 use Rattle.core_model.proofs.PlaceLemmas.{cell_at_index, index_at, cell_there}
@@ -12,7 +12,7 @@ use Rattle.crash_core.specs.declared.owners.Seat.{Seat}
 use Rattle.crash_core.specs.Standing.{HasCaches, HasBatch}
 use Rattle.heap_rule.specs.Plays.{Has, IsEvent}
 use Rattle.heap_rule.specs.Seated.{IsKeptOf}
-use Rattle.heap_rule.proofs.SeatLemmas.{Fits, keep_fits, used}
+use Rattle.heap_rule.proofs.SeatLemmas.{Fits, keep_fits}
 use Rattle.heap_rule.proofs.ViewLemmas.{block_cell, last_there}
 
 -- an own word that is no block's first word is not that of the batch's last block

@@ -1,4 +1,4 @@
-use Rattle.std.proofs.Common.{ℕ, ◌<◌, length, sym, subst}
+use Rattle.std.proofs.Common.{◌<◌, length, sym, subst}
 use Rattle.crash_core.specs.Opened.{Opened}
 use Rattle.crash_core.proofs.heap_core.Core.replay.Goals as goal
 

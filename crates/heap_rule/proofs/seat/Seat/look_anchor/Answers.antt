@@ -1,4 +1,4 @@
-use Rattle.std.proofs.Common.{sym, ap, subst, ◌<◌, ◌∙◌}
+use Rattle.std.proofs.Common.{sym, subst, ◌<◌}
 use Rattle.heap_rule.specs.Joint.{view_in}
 use Rattle.heap_rule.specs.Seated.{SeatView}
 use Rattle.core_model.specs.declared.event.Event.TheVariants.{LookAnchor}

@@ -9,7 +9,6 @@ use Rattle.heap_rule.specs.Plays.{May, IsEvent, learned}
 use Rattle.heap_rule.specs.Seated.{SeatView, IsStore}
 use Rattle.heap_rule.specs.Shown.{Can}
 use Rattle.heap_rule.proofs.ShownLemmas.{may_of}
-use Rattle.heap_rule.proofs.SeatLemmas.{seat_after}
 use Rattle.heap_rule.proofs.SettleLemmas.{own_below, settle_place, settle_can, settle_store, settled_seat}
 use Rattle.heap_rule.proofs.seat.Seat.settle.Goals as goal
 

@@ -1,4 +1,4 @@
-use Rattle.std.proofs.Common.{ap, subst, sym, ◌<◌, ◌∙◌, arith}
+use Rattle.std.proofs.Common.{ap, subst, sym, ◌∙◌, arith}
 use Rattle.heap_model.specs.Geometry.{largest_capacity_fits}
 use Rattle.core_model.specs.declared.event.Event.TheVariants.{Push}
 use Rattle.core_model.specs.Effects.{seen_word}
