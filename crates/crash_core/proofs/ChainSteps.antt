@@ -22,6 +22,7 @@ use Rattle.core_model.proofs.TotalLemmas.{total_at}
 use Rattle.core_model.proofs.PlaceLemmas.{and_is}
 use Rattle.core_model.proofs.BlockLemmas.{inside_of, walks_chain, of_class_same, of_class_other, total_lists}
 use Rattle.crash_core.proofs.StandingLemmas.{memory_in}
+use Rattle.crash_core.proofs.CacheLemmas.{cache_set}
 use Rattle.crash_core.proofs.ShareLemmas.{no_place}
 use Rattle.crash_core.proofs.GivenLemmas.{given_mine, given_theirs, walks_other}
 use Rattle.crash_core.proofs.WordLemmas.{read_is}
@@ -65,27 +66,8 @@ module _ (c : CoreState) (k : Setup) (views : List View) (i : ℕ) (v : View) (t
   long_caches : class < length v.caches
   long_caches = let s = (keeps.sound.good.set_up i v below at).caches in let l = less in omega arith
 
-  long_t : class < length t.caches
-  long_t = let l = kept.caches.long in let n = less in omega arith
-
   pub caches_given : (first count : ℕ) → first_of bs ≡ first → length bs ≡ count → HasCaches (set t.caches class (record { first = first; count = count })) (set v.caches class bs)
-  caches_given first count first_is count_is = record {
-    long = length-set t.caches class new ∙ kept.caches.long;
-    first = λ n x at_x less_n some. elim (cases_eq n class) [
-      | inl here ↦ ap first_of (of_class_same v.caches class bs n here long_caches) ∙ first_is ∙ ap (λ (y : Cache). y.first) (new_at n x at_x here)
-      | inr other ↦ let same = of_class_other v.caches class bs n other in
-          ap first_of same ∙ kept.caches.first n x (sym (get_or-set_other t.caches class n new x other) ∙ at_x) less_n (subst (λ l. 1 ≤ length l) same some)
-    ];
-    count = λ n x at_x less_n. elim (cases_eq n class) [
-      | inl here ↦ ap length (of_class_same v.caches class bs n here long_caches) ∙ count_is ∙ ap (λ (y : Cache). y.count) (new_at n x at_x here)
-      | inr other ↦ ap length (of_class_other v.caches class bs n other) ∙ kept.caches.count n x (sym (get_or-set_other t.caches class n new x other) ∙ at_x) less_n
-    ];
-  } where
-    new : Cache
-    new = record { first = first; count = count }
-
-    new_at : (n : ℕ) (x : Cache) → get_or (set t.caches class new) n x ≡ x → n ≡ class → new ≡ x
-    new_at n x at_x here = sym (get_or-set_same t.caches class new x long_t) ∙ subst (λ m. get_or (set t.caches class new) m x ≡ x) here at_x
+  caches_given first count first_is count_is = cache_set t.caches v.caches class bs (record { first = first; count = count }) kept.caches less long_caches (λ some. first_is) count_is
 
   cached_more : (b : ℕ) → total (times b) (set v.caches class bs) ≡ total (times b) v.caches + times b bs
   cached_more b = let l = total_lists b v.caches class bs long_caches in let none = ap (times b) empty in omega arith

@@ -21,6 +21,7 @@ pub mod RangeLemmas
 pub mod FreshSteps
 pub mod LookSteps
 pub mod GivenLemmas
+pub mod CacheLemmas
 pub mod ChainSteps
 pub mod TakeAllSteps
 pub mod CutSteps

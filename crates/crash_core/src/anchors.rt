@@ -39,24 +39,24 @@ pub(crate) const EMPTY: u64 = 0;
 pub(crate) const PARTIAL: u64 = 1;
 
 /// The anchor of a superblock with no free block.
-pub(crate) const FULL_ANCHOR: u64 = 2;
+pub const FULL_ANCHOR: u64 = 2;
 
 /// The state of an anchor, as its number.
-pub(crate) fn anchor_state(anchor: u64) -> u64
+pub fn anchor_state(anchor: u64) -> u64
     ensures { result ≡ anchor_state anchor }
 {
     anchor % 4
 }
 
 /// The index of the first free block.
-pub(crate) fn anchor_first(anchor: u64) -> u64
+pub fn anchor_first(anchor: u64) -> u64
     ensures { result ≡ anchor_first anchor }
 {
     anchor / 4 % (1 << 31)
 }
 
 /// How many blocks are free.
-pub(crate) fn anchor_count(anchor: u64) -> u64
+pub fn anchor_count(anchor: u64) -> u64
     ensures { result ≡ anchor_count anchor }
 {
     anchor >> 33

@@ -44,7 +44,7 @@ pub(crate) fn give_chain(
 }
 
 /// The block that an anchor of superblock `d` leads to first.
-fn first_free(geometry: Geometry, d: u64, class: u64, anchor: u64) -> u64
+pub fn first_free(geometry: Geometry, d: u64, class: u64, anchor: u64) -> u64
     requires d { d < geometry.capacity }
     requires capacity { geometry.capacity ≤ 4096 }
     requires class { IsClass class }
@@ -169,7 +169,7 @@ pub(crate) fn give(core: &mut CoreState, seat: usize, d: u64) -> StepAnswer
 }
 
 /// A batch of no blocks.
-pub(crate) const NO_BATCH: Group = Group {
+pub const NO_BATCH: Group = Group {
     descriptor: 0,
     class: 0,
     first: 0,
