@@ -18,7 +18,7 @@ use Rattle.core_model.proofs.FrameLemmas.{times_append, times_steps, below_is, b
 use Rattle.core_model.proofs.StepLemmas.{IsSeat, seat_at, good_step}
 use Rattle.core_model.proofs.OwnLemmas.{one_at_most, won_tickets, length_only}
 use Rattle.core_model.proofs.QuietLemmas.{not_there}
-use Rattle.core_model.proofs.CountLemmas.{all_home}
+use Rattle.core_model.proofs.CountLemmas.{all_home, chain_short}
 use Rattle.core_model.proofs.ListLemmas.{class_of}
 use Rattle.core_model.proofs.BlockLemmas.{superblock_is, walks_append, after_last, parts_of, at_one, at_other, first_there}
 use Rattle.core_model.proofs.AnchorLemmas as on_anchor
@@ -89,6 +89,25 @@ module _ (k : Setup) (m : Memory) (views : List View) (i : ℕ) (v : View) (belo
 
   pub count_is : length bs + anchor_count word ≡ length chain'
   count_is = let b = length-append bs (good.shape.chains d) in let c = anchored.count in let z = ap anchor_count as_seen in omega arith
+
+  -- the word is an anchor, and no more blocks are free then than the superblock has
+  pub state_fits : anchor_state (anchor m d) < 3
+  state_fits = elim (cases_eq (length (good.shape.chains d)) 0) [
+    | inl none ↦ let e = ap anchor_state (anchored.full.1 none) in let two : anchor_state 2 ≡ 2 = refl in omega arith
+    | inr some_free ↦ elim (cases_eq (length (good.shape.chains d)) (blocks_of class)) [
+      | inl all ↦ let e = anchored.empty.1 all in omega arith
+      | inr part ↦ let e = anchored.partial some_free part in omega arith
+    ]
+  ]
+
+  pub count_fits : length chain' ≤ blocks_of class
+  count_fits = chain_short k.capacity class d chain' is_class
+      (λ b there. let both = times_append b bs (good.shape.chains d) in elim (cases_lt 0 (times b bs)) [
+        | inl mine ↦ in_batch b mine
+        | inr rest ↦ subst (λ n. IsCutBlock k.capacity n d b) info_is (good.shaped.chained.chained d b cut_d (omega arith))
+      ])
+      (λ b is. let both = times_append b bs (good.shape.chains d) in let o = good.shaped.chained.owned d b cut_d (subst (λ n. IsCutBlock k.capacity n d b) (sym info_is) is) in
+      let tot = total_at (times_block b) views i v below_i at in omega arith)
 
   abbrev state' : ℕ
   state' = cond (nat_eq (length bs + anchor_count word) (blocks_of class)) empty_state partial_state

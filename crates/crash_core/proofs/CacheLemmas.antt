@@ -3,7 +3,6 @@ use Rattle.std.proofs.Common.{◌≡◌, ◌<◌, ◌≤◌, ℕ, inl, inr, List
 use Rattle.std.proofs.lemmas.Bool.{cases_eq}
 use Rattle.std.proofs.lemmas.List.{get_or-set_same, get_or-set_other}
 use Rattle.heap_model.specs.Geometry.{lists}
-use Rattle.core_model.specs.View.{of_class}
 use Rattle.core_model.specs.Effects.{first_of}
 use Rattle.core_model.proofs.BlockLemmas.{of_class_same, of_class_other}
 use Rattle.crash_core.specs.declared.owners.Cache.{Cache}

@@ -1,7 +1,5 @@
 -- Chains of blocks as the core reads them, and what it keeps once the blocks of a chain are in a cache.
-use Rattle.std.proofs.Common.{◌≡◌, ◌≢◌, ℕ, ◌+◌, ◌<◌, ◌≤◌, inl, inr, List, [], ◌∷◌, get_or, set, length, refl, ap, sym, subst, ◌∙◌, length-set, le-leb, lt-ltb, arith}
-use Rattle.std.proofs.lemmas.Bool.{cases_eq}
-use Rattle.std.proofs.lemmas.List.{get_or-set_same, get_or-set_other}
+use Rattle.std.proofs.Common.{◌≡◌, ◌≢◌, ℕ, ◌+◌, ◌<◌, ◌≤◌, List, [], ◌∷◌, get_or, set, length, refl, ap, sym, le-leb, lt-ltb, arith}
 use Rattle.heap_model.specs.Chains.{Walks}
 use Rattle.heap_model.specs.Geometry.{lists, start_word, image_words}
 use Rattle.heap_model.specs.Sizes.{IsClass, words_of_class}
@@ -9,7 +7,6 @@ use Rattle.heap_model.specs.Counting.{times, total}
 use Rattle.heap_model.proofs.SizeLemmas.{two_words}
 use Rattle.crash_core.specs.declared.owners.BlockPlace.TheVariants as place
 use Rattle.crash_core.specs.declared.owners.BlockOwner.{BlockOwner}
-use Rattle.crash_core.specs.declared.owners.Cache.{Cache}
 use Rattle.crash_core.specs.declared.owners.Seat.{Seat}
 use Rattle.crash_core.specs.declared.state.CoreState.{CoreState}
 use Rattle.core_model.specs.Cells.{data_cell}
@@ -20,7 +17,7 @@ use Rattle.core_model.specs.Sound.{IsCutBlock}
 use Rattle.crash_core.specs.Standing.{place_for, no_block, IsPlace, HasBlocksOf, HasCaches, IsGiven, IsKept, Keeps}
 use Rattle.core_model.proofs.TotalLemmas.{total_at}
 use Rattle.core_model.proofs.PlaceLemmas.{and_is}
-use Rattle.core_model.proofs.BlockLemmas.{inside_of, walks_chain, of_class_same, of_class_other, total_lists}
+use Rattle.core_model.proofs.BlockLemmas.{inside_of, walks_chain, total_lists}
 use Rattle.crash_core.proofs.StandingLemmas.{memory_in}
 use Rattle.crash_core.proofs.CacheLemmas.{cache_set}
 use Rattle.crash_core.proofs.ShareLemmas.{no_place}

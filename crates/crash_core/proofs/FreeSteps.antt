@@ -1,7 +1,6 @@
 -- The core when a held block goes in front of a cache.
 use Rattle.std.proofs.Common.{◌≡◌, ◌≢◌, ℕ, zero, suc, ◌+◌, ◌<◌, ◌≤◌, ◌↔◌, inl, inr, Bool, true, false, cond, nat_eq, List, [], ◌∷◌, get_or, set, length, refl, ap, sym, subst, ◌∙◌, length-set, eq-eqb, eqb-true, arith}
 use Rattle.std.proofs.lemmas.Bool.{cases_eq, cases_lt}
-use Rattle.std.proofs.lemmas.List.{get_or-set_same, get_or-set_other}
 use Rattle.std.specs.Vec.{with_item}
 use Rattle.heap_model.specs.Geometry.{lists, start_word, image_words}
 use Rattle.heap_model.specs.Sizes.{IsClass}
@@ -19,12 +18,13 @@ use Rattle.core_model.specs.Guards.{MayFree}
 use Rattle.core_model.specs.Sound.{Good}
 use Rattle.crash_core.specs.Standing.{place_for, no_block, held_in, cached_in, batched_in, IsPlace, IsKept, Keeps, IsMoved, memory_at}
 use Rattle.core_model.proofs.TotalLemmas.{total_at, eq-eqb-one, ne-eqb-none}
-use Rattle.core_model.proofs.BlockLemmas.{of_class_same, of_class_other, total_lists}
+use Rattle.core_model.proofs.BlockLemmas.{total_lists}
 use Rattle.core_model.proofs.OwnerLemmas.{in_lists_total, which_class}
 use Rattle.crash_core.proofs.StandingLemmas.{memory_in}
 use Rattle.crash_core.proofs.ClaimLemmas.{without_at, without_off}
 use Rattle.crash_core.proofs.ShareLemmas.{places_mine, places_theirs, place_alone}
 use Rattle.crash_core.proofs.WordLemmas.{entry_is}
+use Rattle.crash_core.proofs.CacheLemmas.{cache_set}
 use Rattle.crash_core.proofs.MoveSteps as moves
 
 -- numbers below a limit, each there once at most, are at most as many
@@ -47,6 +47,12 @@ short (suc n) bs low once = let l = length_without n bs in let rest = short n (w
       | inl here ↦ let z = without_at n bs (once n) in let e = ap (λ x. times x (without n bs)) here in omega arith
       | inr other ↦ let w = without_off b n bs other in let a = once b in omega arith
     ]) in omega arith
+
+-- one of some lists has a number no more often than all of them
+pub list_at_most : (b n : ℕ) (lists : List (List ℕ)) → times b (get_or lists n []) ≤ total (times b) lists
+list_at_most b n [] = omega arith
+list_at_most b zero (bs ∷ lists) = omega arith
+list_at_most b (suc n) (bs ∷ lists) = let rest = list_at_most b n lists in omega arith
 
 held_only : (p : BlockPlace) → 0 < held_in p → (held_in p ≡ 1) × (cached_in p ≡ 0) × (batched_in p ≡ 0)
 held_only place.Nowhere some = absurd (omega arith)
@@ -78,13 +84,9 @@ module _ (c : CoreState) (k : Setup) (views : List View) (i : ℕ) (v : View) (t
   cache_short class = short (image_words c.geometry.capacity) (of_class v.caches class)
       (λ b some. let s = in_lists_total b class v.caches some in (moves.block_range c k views i v t keeps below at at_t b (omega arith)).1)
       (λ b. elim (cases_lt 0 (times b (of_class v.caches class))) [
-        | inl some ↦ let o = once b in let l = at_most b class v.caches in omega arith
+        | inl some ↦ let o = once b in let l = list_at_most b class v.caches in omega arith
         | inr none ↦ omega arith
-      ]) where
-        at_most : (b n : ℕ) (lists : List (List ℕ)) → times b (get_or lists n []) ≤ total (times b) lists
-        at_most b n [] = omega arith
-        at_most b zero (bs ∷ lists) = omega arith
-        at_most b (suc n) (bs ∷ lists) = let rest = at_most b n lists in omega arith
+      ])
 
   module _ (block : ℕ) (held : 0 < held_in (place_for i (get_or c.blocks.items block no_block))) where
     was : (held_in (place_for i (get_or c.blocks.items block no_block)) ≡ 1) × (cached_in (place_for i (get_or c.blocks.items block no_block)) ≡ 0) × (batched_in (place_for i (get_or c.blocks.items block no_block)) ≡ 0)
@@ -177,22 +179,11 @@ module _ (c : CoreState) (k : Setup) (views : List View) (i : ℕ) (v : View) (t
         roots = refl;
         mine = record {
           notes = (let n = kept.notes in record { ticket = n.ticket; stopped = n.stopped; seen_used = n.seen_used; seen_head = n.seen_head; seen_link = n.seen_link; seen_anchor = n.seen_anchor });
-          caches = record {
-            long = length-set t.caches class new ∙ kept.caches.long;
-            first = λ n x at_x less_n some. elim (cases_eq n class) [
-              | inl here ↦ ap first_of (of_class_same v.caches class (block ∷ of_class v.caches class) n here long_caches) ∙ ap (λ (y : Cache). y.first) (new_at n x at_x here)
-              | inr other ↦ let same = of_class_other v.caches class (block ∷ of_class v.caches class) n other in
-                  ap first_of same ∙ kept.caches.first n x (sym (get_or-set_other t.caches class n new x other) ∙ at_x) less_n (subst (λ l. 1 ≤ length l) same some)
-            ];
-            count = λ n x at_x less_n. elim (cases_eq n class) [
-              | inl here ↦ ap length (of_class_same v.caches class (block ∷ of_class v.caches class) n here long_caches) ∙ (let m = count_is in let z : suc (length (of_class v.caches class)) ≡ e.count + 1 = omega arith in z) ∙ ap (λ (y : Cache). y.count) (new_at n x at_x here)
-              | inr other ↦ ap length (of_class_other v.caches class (block ∷ of_class v.caches class) n other) ∙ kept.caches.count n x (sym (get_or-set_other t.caches class n new x other) ∙ at_x) less_n
-            ];
-          };
+          caches = cache_set t.caches v.caches class (block ∷ of_class v.caches class) new kept.caches less long_caches (λ some. refl) (let m = count_is in let z : suc (length (of_class v.caches class)) ≡ e.count + 1 = omega arith in z);
           batch = kept.batch;
           blocks = places_mine c.blocks.items i block place.Cached (λ y p. IsPlace y p (set v.small class (without block (of_class v.small class))) (set v.caches class (block ∷ of_class v.caches class)) v.batch.blocks) block_long
               (let o = kept.blocks block in let w = was in let one = once block in let a = w.0 in let b = w.1 in let f = w.2 in record {
-                held = (let l = total_lists block v.small class (without block (of_class v.small class)) long_small in let h = o.held in let s = in_class in let w0 = without_at block (of_class v.small class) (let l2 = one_of block class v.small in omega arith) in let l3 = one_of block class v.small in omega arith);
+                held = (let l = total_lists block v.small class (without block (of_class v.small class)) long_small in let h = o.held in let s = in_class in let w0 = without_at block (of_class v.small class) (let l2 = list_at_most block class v.small in omega arith) in let l3 = list_at_most block class v.small in omega arith);
                 cached = (let l = total_lists block v.caches class (block ∷ of_class v.caches class) long_caches in let self = eq-eqb-one block block refl in let h = o.cached in omega arith);
                 batched = (let h = o.batched in omega arith);
               })
@@ -212,17 +203,7 @@ module _ (c : CoreState) (k : Setup) (views : List View) (i : ℕ) (v : View) (t
           superblocks = h.superblocks;
           roots = h.roots;
         };
-      } where
-        long_t : class < length t.caches
-        long_t = let l = kept.caches.long in let n = less in omega arith
-
-        new_at : (n : ℕ) (x : Cache) → get_or (set t.caches class new) n x ≡ x → n ≡ class → new ≡ x
-        new_at n x at_x here = sym (get_or-set_same t.caches class new x long_t) ∙ subst (λ m. get_or (set t.caches class new) m x ≡ x) here at_x
-
-        one_of : (b n : ℕ) (lists : List (List ℕ)) → times b (get_or lists n []) ≤ total (times b) lists
-        one_of b n [] = omega arith
-        one_of b zero (bs ∷ lists) = omega arith
-        one_of b (suc n) (bs ∷ lists) = let rest = one_of b n lists in omega arith
+      }
 
       pub free : IsMoved c (record c { blocks = with_item c.blocks block (record { seat = i; place = place.Cached }); seats = with_item c.seats i (record t { caches = set t.caches class new }) }) views i t
           (after_free v (info (memory_in c k) (superblock_at v.setup.capacity block)) block)

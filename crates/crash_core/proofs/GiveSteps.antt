@@ -1,6 +1,6 @@
 -- The core when a batch goes back to its superblock.
 use Rattle.std.proofs.Common.{◌≡◌, ◌≢◌, ℕ, ◌+◌, ◌-◌, ◌*◌, ◌/◌, ◌<◌, ◌≤◌, ◌↔◌, inl, inr, true, false, cond, nat_eq, List, [], ◌++◌, get_or, set, length, None, Some, refl, ap, ap₂, sym, subst, ◌∙◌, length-set, eq-eqb, eqb-true, ne_eqb, arith}
-use Rattle.std.proofs.lemmas.Bool.{cases_eq, cases_lt}
+use Rattle.std.proofs.lemmas.Bool.{cases_lt}
 use Rattle.std.specs.Prelude.{Vec}
 use Rattle.std.specs.declared.alloc.Global.{Global}
 use Rattle.std.specs.Vec.{with_item}
@@ -28,9 +28,7 @@ use Rattle.core_model.specs.Sound.{tally_of, times_cut, IsCutBlock, Good}
 use Rattle.core_model.specs.Steps.{seat_after}
 use Rattle.crash_core.specs.Standing.{share_for, no_superblock, no_block, listed, batched_in, IsPlace, IsShare, HasBlocksOf, IsGiven, IsKept, IsCore, Keeps, Steps, Decides, memory_at}
 use Rattle.core_model.proofs.TotalLemmas.{total_at}
-use Rattle.core_model.proofs.FrameLemmas.{times_append}
 use Rattle.core_model.proofs.SoundLemmas.{batched}
-use Rattle.core_model.proofs.CountLemmas.{chain_short}
 use Rattle.core_model.proofs.PlaceLemmas.{pick}
 use Rattle.core_model.proofs.BlockLemmas.{first_there}
 use Rattle.crash_core.proofs.StandingLemmas.{step_done, step_not, memory_in}
@@ -162,29 +160,11 @@ module _ (c : CoreState) (k : Setup) (views : List View) (i : ℕ) (v : View) (t
           pub inside : (b : ℕ) → 0 < times b (chain (λ n. get_or c.words.items n 0) t.batch.first t.batch.count) → (b < length c.blocks.items) × (b < length c.words.items)
           inside b there = block_fits c k views keeps class d b is_class d_less (in_batch b (subst (λ xs. 0 < times b xs) whole there))
 
-          cs : List ℕ
-          cs = good.shape.chains d
-
           anchored_states : anchor_state (anchor (memory_in c k) d) < 3
-          unfolding cs
-          anchored_states = let a = gives.anchored k (memory_in c k) views i v below at good ticket d may as_seen in
-              elim (cases_eq (length (good.shape.chains d)) 0) [
-                | inl none ↦ let e = ap anchor_state (a.full.1 none) in let two : anchor_state 2 ≡ 2 = refl in omega arith
-                | inr some_free ↦ elim (cases_eq (length (good.shape.chains d)) (blocks_of class)) [
-                  | inl all ↦ let e = a.empty.1 all in omega arith
-                  | inr part ↦ let e = a.partial some_free part in omega arith
-                ]
-              ]
+          anchored_states = gives.state_fits k (memory_in c k) views i v below at good ticket d may as_seen
 
           no_more : length (bs ++ good.shape.chains d) ≤ blocks_of class
-          no_more = let info_is = gives.info_is k (memory_in c k) views i v below at good ticket d may as_seen in
-              chain_short k.capacity class d (bs ++ good.shape.chains d) is_class
-              (λ b there. let both = times_append b bs (good.shape.chains d) in elim (cases_lt 0 (times b bs)) [
-                | inl mine ↦ in_batch b mine
-                | inr rest ↦ subst (λ n. IsCutBlock k.capacity n d b) info_is (good.shaped.chained.chained d b cut_d (omega arith))
-              ])
-              (λ b is. let both = times_append b bs (good.shape.chains d) in let o = good.shaped.chained.owned d b cut_d (subst (λ n. IsCutBlock k.capacity n d b) (sym info_is) is) in
-              let tot = total_at (times_block b) views i v below at in omega arith)
+          no_more = gives.count_fits k (memory_in c k) views i v below at good ticket d may as_seen
 
           first_is : (first : ℕ) → first ≡ start_word c.geometry.capacity d → (first ≡ start_word v.setup.capacity d) × (first ≤ t.batch.first)
           first_is first is = (

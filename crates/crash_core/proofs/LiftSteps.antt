@@ -23,16 +23,16 @@ use Rattle.crash_core.proofs.ShareLemmas.{places_mine, places_theirs, place_alon
 use Rattle.crash_core.proofs.FreeSteps.{short, once}
 use Rattle.crash_core.proofs.MoveSteps as moves
 
-first_append : (bs : List ℕ) (b : ℕ) → first_of (bs ++ b ∷ []) ≡ cond (nat_eq (length bs) 0) b (first_of bs)
+pub first_append : (bs : List ℕ) (b : ℕ) → first_of (bs ++ b ∷ []) ≡ cond (nat_eq (length bs) 0) b (first_of bs)
 first_append [] b = refl
 first_append (a ∷ bs) b = sym (skip (nat_eq (length (a ∷ bs)) 0) b a (not-eq (length (a ∷ bs)) 0 (λ e. omega (arith, e))))
 
-last_append : (bs : List ℕ) (b : ℕ) → last_of (bs ++ b ∷ []) ≡ b
+pub last_append : (bs : List ℕ) (b : ℕ) → last_of (bs ++ b ∷ []) ≡ b
 last_append [] b = refl
 last_append (a ∷ []) b = refl
 last_append (a ∷ n ∷ bs) b = last_append (n ∷ bs) b
 
-length_append : (bs : List ℕ) (b : ℕ) → length (bs ++ b ∷ []) ≡ length bs + 1
+pub length_append : (bs : List ℕ) (b : ℕ) → length (bs ++ b ∷ []) ≡ length bs + 1
 length_append [] b = refl
 length_append (a ∷ bs) b = let rest = length_append bs b in omega arith
 

@@ -1,7 +1,5 @@
 -- The core when a block goes from a cache to what its seat holds.
-use Rattle.std.proofs.Common.{◌≡◌, ◌≢◌, ℕ, ◌+◌, ◌-◌, ◌<◌, ◌≤◌, ◌↔◌, inl, inr, true, nat_eq, nat_lt, List, [], ◌∷◌, get_or, set, length, refl, ap, sym, subst, ◌∙◌, length-set, lt-ltb, ltb-true, arith}
-use Rattle.std.proofs.lemmas.Bool.{cases_eq}
-use Rattle.std.proofs.lemmas.List.{get_or-set_same, get_or-set_other}
+use Rattle.std.proofs.Common.{◌≡◌, ◌≢◌, ℕ, ◌+◌, ◌-◌, ◌<◌, ◌≤◌, ◌↔◌, true, nat_eq, nat_lt, List, [], ◌∷◌, get_or, set, length, refl, ap, sym, subst, ◌∙◌, length-set, lt-ltb, ltb-true, arith}
 use Rattle.std.specs.Vec.{with_item}
 use Rattle.heap_model.specs.Geometry.{lists, start_word, image_words}
 use Rattle.heap_model.specs.Sizes.{words_of_class}
@@ -21,10 +19,11 @@ use Rattle.core_model.specs.Guards.{MayAlloc}
 use Rattle.core_model.specs.Sound.{Good}
 use Rattle.crash_core.specs.Standing.{HasCaches, place_for, no_block, held_in, cached_in, batched_in, IsPlace, IsKept, IsCore, Keeps, IsMoved, Decides, memory_at}
 use Rattle.core_model.proofs.TotalLemmas.{total_at, eq-eqb-one, ne-eqb-none}
-use Rattle.core_model.proofs.BlockLemmas.{inside_of, first_there, of_class_same, of_class_other, total_lists}
+use Rattle.core_model.proofs.BlockLemmas.{inside_of, first_there, total_lists}
 use Rattle.core_model.proofs.OwnerLemmas.{in_lists_total}
 use Rattle.core_model.proofs.ShiftLemmas.{first_rest}
 use Rattle.crash_core.proofs.StandingLemmas.{memory_in}
+use Rattle.crash_core.proofs.CacheLemmas.{cache_set}
 use Rattle.crash_core.proofs.ShareLemmas.{places_mine, places_theirs, place_alone}
 use Rattle.crash_core.proofs.WordLemmas.{entry_is, entry_there}
 
@@ -37,11 +36,11 @@ cached_only place.Held some = absurd (omega arith)
 cached_only place.Cached some = (refl, refl, refl)
 cached_only place.Batched some = absurd (omega arith)
 
-rest_length : (bs : List ℕ) → length (rest_of bs) ≡ length bs - 1
+pub rest_length : (bs : List ℕ) → length (rest_of bs) ≡ length bs - 1
 rest_length [] = refl
 rest_length (b ∷ bs) = omega arith
 
-rest_first : (f : ℕ → ℕ) (bs : List ℕ) → Walks f (first_of bs) bs → 1 ≤ length (rest_of bs) → first_of (rest_of bs) ≡ f (first_of bs)
+pub rest_first : (f : ℕ → ℕ) (bs : List ℕ) → Walks f (first_of bs) bs → 1 ≤ length (rest_of bs) → first_of (rest_of bs) ≡ f (first_of bs)
 rest_first f [] walks some = absurd (omega arith)
 rest_first f (b ∷ []) walks some = absurd (omega arith)
 rest_first f (b ∷ n ∷ bs) walks some = sym walks.1.0
@@ -127,46 +126,11 @@ module _ (c : CoreState) (k : Setup) (views : List View) (i : ℕ) (v : View) (t
 
       -- the cache without its first block
       pub caches_after : (first : ℕ) → first ≡ next (memory_at c) e.first → HasCaches (set t.caches class (record { first = first; count = e.count - 1 })) (set v.caches class (rest_of (of_class v.caches class)))
-      caches_after first next_is = record {
-        long = length-set t.caches class (record { first = first; count = e.count - 1 }) ∙ kept.caches.long;
-        first = first_now;
-        count = count_now;
-      } where
-        cs : List ℕ
-        cs = of_class v.caches class
-
-        b : ℕ
-        b = first_of (of_class v.caches class)
-
-        new : Cache
-        new = record { first = first; count = e.count - 1 }
-
-        long_t : class < length t.caches
-        long_t = let l = kept.caches.long in let n = less in omega arith
-
-        leads : 1 ≤ length (rest_of (of_class v.caches class)) → first_of (rest_of (of_class v.caches class)) ≡ first
-        leads some = rest_first (next (memory_in c k)) (of_class v.caches class) ((good.blocks i v below at).cache_linked class) some
-            ∙ ap (next (memory_in c k)) first_is ∙ ap (λ n. next (memory_of n c.words.items) e.first) keeps.capacity ∙ sym next_is
-
-        first_now : (n : ℕ) (x : Cache) → get_or (set t.caches class new) n x ≡ x → n < lists → 1 ≤ length (of_class (set v.caches class (rest_of cs)) n) → first_of (of_class (set v.caches class (rest_of cs)) n) ≡ x.first
-        first_now n x at_x less_n some = elim (cases_eq n class) [
-          | inl here ↦
-              let same = of_class_same v.caches class (rest_of cs) n here long_caches in
-              let x_is : new ≡ x = sym (get_or-set_same t.caches class new x long_t) ∙ subst (λ m. get_or (set t.caches class new) m x ≡ x) here at_x in
-              ap first_of same ∙ leads (subst (λ l. 1 ≤ length l) same some) ∙ ap (λ (y : Cache). y.first) x_is
-          | inr other ↦
-              let same = of_class_other v.caches class (rest_of cs) n other in
-              ap first_of same ∙ kept.caches.first n x (sym (get_or-set_other t.caches class n new x other) ∙ at_x) less_n (subst (λ l. 1 ≤ length l) same some)
-        ]
-
-        count_now : (n : ℕ) (x : Cache) → get_or (set t.caches class new) n x ≡ x → n < lists → length (of_class (set v.caches class (rest_of cs)) n) ≡ x.count
-        count_now n x at_x less_n = elim (cases_eq n class) [
-          | inl here ↦
-              let same = of_class_same v.caches class (rest_of cs) n here long_caches in
-              let x_is : new ≡ x = sym (get_or-set_same t.caches class new x long_t) ∙ subst (λ m. get_or (set t.caches class new) m x ≡ x) here at_x in
-              ap length same ∙ rest_length (of_class v.caches class) ∙ ap (λ m. m - 1) (count_is less) ∙ ap (λ (y : Cache). y.count) x_is
-          | inr other ↦ ap length (of_class_other v.caches class (rest_of cs) n other) ∙ kept.caches.count n x (sym (get_or-set_other t.caches class n new x other) ∙ at_x) less_n
-        ]
+      caches_after first next_is = cache_set t.caches v.caches class (rest_of (of_class v.caches class)) (record { first = first; count = e.count - 1 }) kept.caches less long_caches leads
+          (rest_length (of_class v.caches class) ∙ ap (λ m. m - 1) (count_is less)) where
+            leads : 1 ≤ length (rest_of (of_class v.caches class)) → first_of (rest_of (of_class v.caches class)) ≡ first
+            leads some = rest_first (next (memory_in c k)) (of_class v.caches class) ((good.blocks i v below at).cache_linked class) some
+                ∙ ap (next (memory_in c k)) first_is ∙ ap (λ n. next (memory_of n c.words.items) e.first) keeps.capacity ∙ sym next_is
 
       pub alloc : (first : ℕ) → first ≡ next (memory_at c) e.first
           → IsMoved c (record c { blocks = with_item c.blocks e.first (record { seat = i; place = place.Held }); seats = with_item c.seats i (record t { caches = set t.caches class (record { first = first; count = e.count - 1 }) }) }) views i t (after_alloc v class)

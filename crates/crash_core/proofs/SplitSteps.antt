@@ -36,7 +36,7 @@ large_only (share.Classed class) some = absurd (omega arith)
 large_only (share.Large count) some = (refl, refl, refl, refl, refl, refl)
 
 -- where no large block takes it, none begins there
-no_span : (e : ℕ) (spans : List Span) → times_large e spans ≡ 0 → span_count e spans ≡ 0
+pub no_span : (e : ℕ) (spans : List Span) → times_large e spans ≡ 0 → span_count e spans ≡ 0
 no_span e spans none = elim (cases_lt 0 (span_count e spans)) [
   | inl some ↦ absurd (let c = span_covers e e spans some (omega arith) (omega arith) in omega arith)
   | inr zero_count ↦ omega arith

@@ -93,7 +93,7 @@ kept_with c c' i t m v shift found ticket blocks superblocks roots is kept = by_
     roots = subst (λ l. HasRoots l i (shifted m (drew v found) (Some (Split block))).roots) (sym roots) h.roots;
   }
 
-going_on : (m : Memory) (v : View) (shift : Shift) (found : ℕ) → (shifted m (drew v found) (Some shift)).stopped ≡ v.stopped
+pub going_on : (m : Memory) (v : View) (shift : Shift) (found : ℕ) → (shifted m (drew v found) (Some shift)).stopped ≡ v.stopped
 going_on m v (Cut d) found = refl
 going_on m v (Alloc class) found = refl
 going_on m v (Free block) found = refl

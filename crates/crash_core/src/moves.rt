@@ -173,7 +173,7 @@ pub(crate) fn lift(core: &mut CoreState, seat: usize, class: u64)
 
 impl Group {
     /// The first block once another is behind the last.
-    fn first_with(self, block: u64) -> u64
+    pub fn first_with(self, block: u64) -> u64
         ensures { result ≡ cond (nat_eq self.count 0) block self.first }
     {
         if self.count == 0 { block } else { self.first }

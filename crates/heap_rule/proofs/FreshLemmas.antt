@@ -1,6 +1,5 @@
 -- What is kept of a seat after an exchange of the mark.
-use Rattle.std.proofs.Common.{◌≡◌, ◌≢◌, ℕ, ◌+◌, Option, None, Some, cond, nat_eq, refl, ap, sym, ◌∙◌, eq-eqb, ne_eqb, inl, inr, ◌⊎◌}
-use Rattle.std.proofs.lemmas.Bool.{cases_eq}
+use Rattle.std.proofs.Common.{◌≡◌, ◌≢◌, ℕ, ◌+◌, Option, None, Some, cond, nat_eq, refl, ap, sym, ◌∙◌, eq-eqb, ne_eqb}
 use Rattle.core_model.specs.declared.event.Event.TheVariants.{TakeFresh}
 use Rattle.core_model.specs.View.{View}
 use Rattle.core_model.specs.Effects.{seen, cleared, taken_fresh}
@@ -8,7 +7,7 @@ use Rattle.crash_core.specs.declared.owners.Seat.{Seat}
 use Rattle.crash_core.specs.declared.owners.Seen.{Seen}
 use Rattle.crash_core.specs.Standing.{snapshot}
 use Rattle.heap_rule.specs.Plays.{Has, IsEvent}
-use Rattle.heap_rule.specs.Seated.{IsKeptOf, IsExchange}
+use Rattle.heap_rule.specs.Seated.{IsKeptOf}
 use Rattle.heap_rule.proofs.SeatLemmas.{keep_fits}
 
 -- a test that holds, and one that doesn't
@@ -18,13 +17,7 @@ hit found seen x y same = ap (λ b. cond b x y) (eq-eqb found seen same)
 pub missed : {A : Type 0} (found seen : ℕ) (x y : A) → found ≢ seen → cond (nat_eq found seen) x y ≡ y
 missed found seen x y other = ap (λ b. cond b x y) (ne_eqb found seen other)
 
--- the exchange of the mark as it was seen
-pub fresh_exchange : (v : View) (n used new : ℕ) → seen v.seen_used ≡ used → new ≡ used + n → IsExchange (TakeFresh n) v used new
-fresh_exchange v n used new is new_is m found = by_case (cases_eq found used) where
-  by_case : (found ≡ used) ⊎ (found ≢ used) → cond (nat_eq found (seen v.seen_used)) (found + n) found ≡ cond (nat_eq found used) new found
-  by_case (inl same) = hit found (seen v.seen_used) (found + n) found (same ∙ sym is) ∙ ap (λ x. x + n) same ∙ sym new_is ∙ sym (hit found used new found same)
-  by_case (inr other) = missed found (seen v.seen_used) (found + n) found (λ e. other (e ∙ is)) ∙ sym (missed found used new found other)
-
+-- after the mark is exchanged
 pub fresh_taken : (notes : Seat) (v w : View) (n found used new : ℕ) (anchor : Option Seen) → IsKeptOf notes v → IsEvent (TakeFresh n) v found w → Has w → seen v.seen_used ≡ used → found ≡ used → new ≡ used + n
     → snapshot anchor ≡ cleared used n (snapshot notes.seen_anchor) → IsKeptOf (record notes { ticket = None; seen_used = Some new; seen_anchor = anchor }) w
 fresh_taken notes v w n found used new anchor kept event has is same new_is cleared_is = keep_fits _ _ w (event.after ∙ hit found (seen v.seen_used) (taken_fresh v n) _ (same ∙ sym is)) has (record {

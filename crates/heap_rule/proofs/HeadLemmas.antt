@@ -15,8 +15,8 @@ use Rattle.crash_core.specs.declared.owners.Seen.{Seen}
 use Rattle.crash_core.specs.Standing.{snapshot}
 use Rattle.crash_core.proofs.KeptFacts.{total_member}
 use Rattle.heap_rule.specs.Plays.{Has, IsEvent}
-use Rattle.heap_rule.specs.Seated.{IsKeptOf}
-use Rattle.heap_rule.proofs.SeatLemmas.{Fits, keep_fits}
+use Rattle.heap_rule.specs.Seated.{Fits, IsKeptOf}
+use Rattle.heap_rule.proofs.SeatLemmas.{keep_fits}
 use Rattle.heap_rule.proofs.FreshLemmas.{hit, missed}
 
 -- a head that was seen may count one pop more
@@ -29,7 +29,7 @@ pops_below v s low ticket some =
     let p = knows.pops in omega arith
 
 -- what is kept of a seat that claims a descriptor
-claims : (notes : Seat) (v : View) (d list : ℕ) → Fits notes v → Fits notes (claimed v d list)
+pub claims : (notes : Seat) (v : View) (d list : ℕ) → Fits notes v → Fits notes (claimed v d list)
 claims notes v d zero f = record { notes_are = record { ticket = f.notes_are.ticket; stopped = f.notes_are.stopped; seen_used = f.notes_are.seen_used; seen_head = f.notes_are.seen_head; seen_link = f.notes_are.seen_link; seen_anchor = f.notes_are.seen_anchor }; caches = f.caches; batch = f.batch }
 claims notes v d (suc class) f = record { notes_are = record { ticket = f.notes_are.ticket; stopped = f.notes_are.stopped; seen_used = f.notes_are.seen_used; seen_head = f.notes_are.seen_head; seen_link = f.notes_are.seen_link; seen_anchor = f.notes_are.seen_anchor }; caches = f.caches; batch = f.batch }
 

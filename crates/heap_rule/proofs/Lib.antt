@@ -15,3 +15,7 @@ pub mod FreshLemmas
 pub mod HeadLemmas
 pub mod StoredLemmas
 pub mod SettleLemmas
+pub mod ChainLemmas
+pub mod BatchLemmas
+pub mod TickLemmas
+pub mod ShiftLemmas

@@ -55,8 +55,8 @@ one_more table views n seat same view_is =
       is = λ j. record { table = same j; view = view_at j }
 
 -- a seat as it is opened
-pub is_seat : (o : Opening) (i capacity : ℕ) (me : Me ℕ Joint) → IsOpened o → i < o.seats → me ≡ (opened_view_of o i ∷ [], []) → capacity ≡ (setup_for o).capacity → IsSeat me new_seat capacity
-is_seat o i capacity me is less me_is capacity_is = subst (λ m. IsSeat m new_seat capacity) (sym me_is) (record {
+pub is_seat : (o : Opening) (i capacity budget : ℕ) (me : Me ℕ Joint) → IsOpened o → i < o.seats → me ≡ (opened_view_of o i ∷ [], []) → capacity ≡ (setup_for o).capacity → budget ≡ (setup_for o).budget → IsSeat me new_seat capacity budget
+is_seat o i capacity budget me is less me_is capacity_is budget_is = subst (λ m. IsSeat m new_seat capacity budget) (sym me_is) (record {
   single = refl;
   no_slots = refl;
   kept = record {
@@ -73,6 +73,7 @@ is_seat o i capacity me is less me_is capacity_is = subst (λ m. IsSeat m new_se
     batch = record { descriptor = refl; class = refl; first = refl; last = refl; count = refl; linked = refl };
   };
   capacity_is = capacity_is;
+  budget_is = budget_is;
   low = is.keeps.low;
 })
 

@@ -7,17 +7,11 @@ use Rattle.atomic_table.specs.Table.{Me}
 use Rattle.core_model.specs.View.{Setup, View}
 use Rattle.crash_core.specs.declared.owners.Seat.{Seat}
 use Rattle.core_model.specs.Effects.{used_up}
-use Rattle.crash_core.specs.Standing.{HasNotes, HasCaches, HasBatch}
+use Rattle.crash_core.specs.Standing.{HasNotes}
 use Rattle.heap_rule.specs.Plays.{Has, IsEvent}
-use Rattle.heap_rule.specs.Seated.{SharedView, IsKeptOf, IsSeat, IsAt}
+use Rattle.heap_rule.specs.Seated.{SharedView, Fits, IsKeptOf, IsSeat, IsAt}
 use Rattle.heap_rule.specs.Joint.{Joint, view_in}
 use Rattle.heap_rule.proofs.StepLemmas.{has_after}
-
--- notes, caches and batch of a view, whatever state has it
-pub record Fits (notes : Seat) (v : View) : Type 0 where
-  pub notes_are : HasNotes notes v
-  pub caches : HasCaches notes.caches v.caches
-  pub batch : HasBatch notes.batch v.batch
 
 pub keep_fits : (notes : Seat) (v w : View) → w ≡ v → Has w → Fits notes v → IsKeptOf notes w
 keep_fits notes v w same has fits = subst (λ u. Has u → IsKeptOf notes u) (sym same) (λ h. record { has = h; notes_are = fits.notes_are; caches = fits.caches; batch = fits.batch }) has
@@ -38,14 +32,15 @@ looked_anchor notes v w d found kept event has = keep_fits _ _ w event.after has
 })
 
 -- a seat after an event, once what is kept of it is that of the new view
-pub seat_after : (me me' : Me ℕ Joint) (notes notes' : Seat) (capacity : ℕ) (event : Event) (found : ℕ) (shared : SharedView) (table : TableId) → IsSeat me notes capacity → IsAt shared table me' (view_in me'.0)
-    → IsEvent event (view_in me.0) found (view_in me'.0) → IsKeptOf notes' (view_in me'.0) → IsSeat me' notes' capacity
+pub seat_after : (me me' : Me ℕ Joint) (notes notes' : Seat) (capacity : ℕ) {budget : ℕ} (event : Event) (found : ℕ) (shared : SharedView) (table : TableId) → IsSeat me notes capacity budget → IsAt shared table me' (view_in me'.0)
+    → IsEvent event (view_in me.0) found (view_in me'.0) → IsKeptOf notes' (view_in me'.0) → IsSeat me' notes' capacity budget
 seat_after me me' notes notes' capacity event found shared table old at event_is kept =
     let same : (view_in me'.0).setup ≡ (view_in me.0).setup = (has_after event (view_in me.0) found (view_in me'.0) event_is).1 in record {
       single = at.single;
       no_slots = at.no_slots;
       kept = kept;
       capacity_is = old.capacity_is ∙ sym (ap (λ (k : Setup). k.capacity) same);
+      budget_is = old.budget_is ∙ sym (ap (λ (k : Setup). k.budget) same);
       low = subst (λ (k : Setup). k.budget < 1099511627776) (sym same) old.low;
     }
 

@@ -56,13 +56,14 @@ settled_kept notes v w word value found kept event has = keep_fits _ _ w event.a
   batch = kept.batch;
 })
 
-pub settled_seat : (me me' : Me ℕ Joint) (notes : Seat) (capacity word value found : ℕ) (shared : SharedView) (table : TableId) → IsSeat me notes capacity → IsAt shared table me' (view_in me'.0)
-    → IsEvent (Settle word) (learned (view_in me.0) word value) found (view_in me'.0) → IsSeat me' notes capacity
+pub settled_seat : (me me' : Me ℕ Joint) (notes : Seat) (capacity : ℕ) {budget : ℕ} (word value found : ℕ) (shared : SharedView) (table : TableId) → IsSeat me notes capacity budget → IsAt shared table me' (view_in me'.0)
+    → IsEvent (Settle word) (learned (view_in me.0) word value) found (view_in me'.0) → IsSeat me' notes capacity budget
 settled_seat me me' notes capacity word value found shared table old at event =
     let same : (view_in me'.0).setup ≡ (view_in me.0).setup = (has_after (Settle word) (learned (view_in me.0) word value) found (view_in me'.0) event).1 in record {
       single = at.single;
       no_slots = at.no_slots;
       kept = settled_kept notes (view_in me.0) (view_in me'.0) word value found old.kept event at.has;
       capacity_is = old.capacity_is ∙ sym (ap (λ (k : Setup). k.capacity) same);
+      budget_is = old.budget_is ∙ sym (ap (λ (k : Setup). k.budget) same);
       low = subst (λ (k : Setup). k.budget < 1099511627776) (sym same) old.low;
     }

@@ -12,12 +12,13 @@ use Rattle.core_model.specs.Effects.{place_of, left_there}
 use Rattle.core_model.specs.Memory.{memory_of, table_index, table_length}
 use Rattle.core_model.specs.View.{Setup, View, one_if_some}
 use Rattle.core_model.specs.Sound.{Sound}
-use Rattle.core_model.specs.Steps.{words_after}
-use Rattle.core_model.proofs.SoundLemmas.{in_length, taken, batched}
+use Rattle.core_model.specs.Steps.{found_by, words_after}
+use Rattle.core_model.proofs.SoundLemmas.{in_length, in_table, taken, batched}
 use Rattle.core_model.specs.Guards.{MayLookAt}
 use Rattle.heap_rule.specs.Joint.{Joint, IsSingle, all_views, view_in, nobody}
 use Rattle.heap_rule.specs.Rule.{Opening, Keeps, setup_for}
 use Rattle.heap_rule.specs.Plays.{Has, May, IsEvent, IsStepAt, Did}
+use Rattle.heap_rule.proofs.RuleLemmas.{read_at}
 use Rattle.heap_rule.specs.Seated.{SharedView, IsAt, IsLook, IsDraw, IsRaise, IsExchange, IsStore}
 
 -- the place of a step is one of the table
@@ -129,7 +130,11 @@ exchange_at o v event place seen new setup may place_is exchange = record {
   setup = setup;
   may = may;
   place_is = place_is;
-  leaves = λ words joints keeps s same all. sym (exchange (memory_of v.setup.capacity words) (get_or words place 0));
+  leaves = λ words joints keeps s same all.
+      let step = may s in
+      let found_is : get_or s.words place 0 ≡ found_by (memory_of v.setup.capacity s.words) v event = ap (λ n. get_or s.words n 0) place_is
+      ∙ sym (read_at v.setup.capacity s.words (place_of v event) (in_table v.setup (memory_of v.setup.capacity s.words) s.views s.seat v s.below s.at s.sound.good event step)) in
+      subst (λ ws. either (get_or ws place 0 == seen) new (get_or ws place 0) ≡ left_there (memory_of v.setup.capacity ws) v event (get_or ws place 0)) same (sym (exchange s (get_or s.words place 0) found_is));
 }
 
 pub store_at : (o : Opening) (v : View) (event : Event) (place value : ℕ) → v.setup ≡ setup_for o → May v event → place ≡ table_index v.setup.capacity (place_of v event) → IsStore event v value → IsStepAt o v event place (λ _. value)

@@ -11,8 +11,8 @@ use Rattle.crash_core.specs.declared.owners.Group.{Group}
 use Rattle.crash_core.specs.declared.owners.Seat.{Seat}
 use Rattle.crash_core.specs.Standing.{HasCaches, HasBatch}
 use Rattle.heap_rule.specs.Plays.{Has, IsEvent}
-use Rattle.heap_rule.specs.Seated.{IsKeptOf}
-use Rattle.heap_rule.proofs.SeatLemmas.{Fits, keep_fits}
+use Rattle.heap_rule.specs.Seated.{Fits, IsKeptOf}
+use Rattle.heap_rule.proofs.SeatLemmas.{keep_fits}
 use Rattle.heap_rule.proofs.ViewLemmas.{block_cell, last_there}
 
 -- an own word that is no block's first word is not that of the batch's last block

@@ -1,5 +1,6 @@
 -- What a view shows of own words is so in every sound state, and what it has lies in the image.
-use Rattle.std.proofs.Common.{◌≡◌, ℕ, suc, zero, ◌+◌, ◌<◌, ◌≤◌, true, nat_lt, nat_le, List, [], ◌∷◌, length, refl, ap, sym, subst, ◌∙◌, lt-ltb, le-leb, arith}
+use Rattle.std.proofs.Common.{◌≡◌, inl, inr, ℕ, suc, zero, ◌+◌, ◌<◌, ◌≤◌, true, nat_lt, nat_le, List, [], ◌∷◌, length, refl, ap, sym, subst, ◌∙◌, lt-ltb, le-leb, arith}
+use Rattle.std.proofs.lemmas.Bool.{cases_lt}
 use Rattle.heap_model.specs.Geometry.{start_word, image_words}
 use Rattle.heap_model.specs.Sizes.{IsClass, words_of_class, blocks_of}
 use Rattle.heap_model.specs.Chains.{Walks}
@@ -8,7 +9,7 @@ use Rattle.heap_model.specs.Counting.{times}
 use Rattle.heap_model.proofs.SizeLemmas.{two_words, four_blocks}
 use Rattle.core_model.specs.Cells.{Cell, anchor_cell, data_cell, is_cell, superblock_at}
 use Rattle.core_model.specs.Memory.{Memory, memory_of, anchor, info, next}
-use Rattle.core_model.specs.View.{View, times_raw, times_classed, times_block}
+use Rattle.core_model.specs.View.{View, of_class, times_raw, times_classed, times_block}
 use Rattle.core_model.specs.Effects.{steps, class_blocks, first_of, last_of}
 use Rattle.core_model.specs.Sound.{Good, IsCutBlock, tally_of, times_cut}
 use Rattle.core_model.proofs.TotalLemmas.{total_at, eq-eqb-one}
@@ -16,6 +17,9 @@ use Rattle.core_model.proofs.PlaceLemmas.{and_is}
 use Rattle.core_model.proofs.BlockLemmas.{inside_of}
 use Rattle.core_model.proofs.SpanLemmas.{block_of}
 use Rattle.core_model.proofs.SoundLemmas.{taken}
+use Rattle.core_model.proofs.OwnerLemmas.{in_lists_total}
+use Rattle.crash_core.proofs.ChainSteps.{cut_range}
+use Rattle.crash_core.proofs.FreeSteps.{short, list_at_most}
 use Rattle.heap_rule.specs.Plays.{Has}
 use Rattle.heap_rule.specs.Shown.{Shows, ShowsDurable, ShowsEmpty, by_anchor, by_look, ShowsLinks}
 
@@ -32,7 +36,7 @@ last_there (b ∷ []) some = let one = eq-eqb-one b b refl in omega arith
 last_there (b ∷ c ∷ bs) some = let rest = last_there (c ∷ bs) (omega arith) in omega arith
 
 -- numbers a step apart begin with the first
-first_step : (from apart n : ℕ) → 1 ≤ n → first_of (steps from apart n) ≡ from
+pub first_step : (from apart n : ℕ) → 1 ≤ n → first_of (steps from apart n) ≡ from
 first_step from apart zero some = absurd (omega arith)
 first_step from apart (suc n) some = refl
 
@@ -54,7 +58,7 @@ module _ (v : View) (s : Has v) where
   below_capacity d low = let f = (good.knows s.seat v s.below s.at).floor in let q = good.shaped.durable.behind in let r = good.shaped.durable.room in omega arith
 
   -- the superblock of an own block is cut, for a class
-  block_cut : (b : ℕ) → 0 < times_block b v → (0 < times_cut good.shape (tally_of s.views) (superblock_at v.setup.capacity b))
+  pub block_cut : (b : ℕ) → 0 < times_block b v → (0 < times_cut good.shape (tally_of s.views) (superblock_at v.setup.capacity b))
       × IsCutBlock v.setup.capacity (info m (superblock_at v.setup.capacity b)) (superblock_at v.setup.capacity b) b
   block_cut b own = good.shaped.chained.inside b (let t = total_at (times_block b) s.views s.seat v s.below s.at in omega arith)
 
@@ -66,6 +70,31 @@ module _ (v : View) (s : Has v) where
       let cut = block_cut b own in let some = cut.0 in
       let low = good.shaped.durable.below (superblock_at v.setup.capacity b) (omega arith) in let q = good.shaped.durable.behind in let r = good.shaped.durable.room in
       cut_cell v.setup.capacity (info m (superblock_at v.setup.capacity b)) (superblock_at v.setup.capacity b) b (block_class b own) cut.1 (omega arith)
+
+  pub block_below : (b : ℕ) → 0 < times_block b v → superblock_at v.setup.capacity b < v.setup.capacity
+  block_below b own = let some = (block_cut b own).0 in
+      let low = good.shaped.durable.below (superblock_at v.setup.capacity b) (omega arith) in let q = good.shaped.durable.behind in let r = good.shaped.durable.room in omega arith
+
+  -- it begins among the words of superblocks
+  pub block_range : (b : ℕ) → 0 < times_block b v → (start_word v.setup.capacity 0 ≤ b) × (b < image_words v.setup.capacity)
+  block_range b own = cut_range v.setup.capacity (info m (superblock_at v.setup.capacity b)) (superblock_at v.setup.capacity b) b (block_class b own) (block_below b own) (block_cut b own).1
+
+  -- the seat has it once
+  pub block_once : (b : ℕ) → times_block b v ≤ 1
+  block_once b = elim (cases_lt 0 (times_block b v)) [
+    | inl some ↦ let t = total_at (times_block b) s.views s.seat v s.below s.at in let cut = block_cut b some in
+        let o = good.shaped.chained.owned (superblock_at v.setup.capacity b) b cut.0 cut.1 in omega arith
+    | inr none ↦ omega arith
+  ]
+
+  -- a cache and the batch are no longer than the image
+  pub cache_short : (class : ℕ) → length (of_class v.caches class) ≤ image_words v.setup.capacity
+  cache_short class = short (image_words v.setup.capacity) (of_class v.caches class)
+      (λ b some. let t = in_lists_total b class v.caches some in (block_range b (omega arith)).1)
+      (λ b. let o = block_once b in let l = list_at_most b class v.caches in omega arith)
+
+  pub batch_short : length v.batch.blocks ≤ image_words v.setup.capacity
+  batch_short = short (image_words v.setup.capacity) v.batch.blocks (λ b some. (block_range b (omega arith)).1) (λ b. let o = block_once b in omega arith)
 
   -- a claimed superblock that is shown to be empty is empty
   pub empty_shown : (d : ℕ) → 0 < times_raw d v + times_classed d v.classed → ShowsEmpty v d → anchor_state (anchor m d) ≡ empty_state

@@ -1,11 +1,14 @@
 -- What contracts see of the shared heap and of a seat, and what a seat keeps beside its place at the table.
-use Rattle.std.specs.Prelude.{◌≡◌, ◌<◌, ℕ, ◌+◌, ◌≢◌, cond, nat_eq, max, Result, MatchResult, ⊤, []}
+use Rattle.std.specs.Prelude.{◌≡◌, ◌<◌, ℕ, ◌+◌, ◌≢◌, cond, nat_eq, max, Result, MatchResult, Option, None, Some, ⊤, []}
 use Rattle.atomic_table.specs.Seated.{TableId}
 use Rattle.atomic_table.specs.Table.{Me}
 use Rattle.core_model.specs.declared.event.Event.{Event}
-use Rattle.core_model.specs.Effects.{place_of, left_there}
+use Rattle.core_model.specs.declared.event.Shift.{Shift}
+use Rattle.line_memory.specs.declared.memory.Stopped.{Stopped}
+use Rattle.core_model.specs.Effects.{place_of, left_there, shifted, drew}
 use Rattle.core_model.specs.Memory.{Memory, memory_of, tickets}
 use Rattle.core_model.specs.View.{Setup, View}
+use Rattle.core_model.specs.Steps.{found_by}
 use Rattle.crash_core.specs.declared.owners.Seat.{Seat}
 use Rattle.crash_core.specs.Standing.{HasNotes, HasCaches, HasBatch}
 use Rattle.heap_rule.specs.Joint.{Joint, IsSingle, view_in}
@@ -27,6 +30,16 @@ pub record IsSeatOf (shared : SharedView) (seat : SeatView) : Type 0 where
   pub table : seat.table ≡ shared.table
   pub setup : seat.view.setup ≡ shared.setup
 
+-- notes, caches and batch of a view, whatever state has it
+pub record Fits (notes : Seat) (v : View) : Type 0 where
+  pub notes_are : HasNotes notes v
+  pub caches : HasCaches notes.caches v.caches
+  pub batch : HasBatch notes.batch v.batch
+
+-- once a ticket is drawn with the shift, this is what is kept, in each state that has the view
+abbrev pub FitsShift : Seat → View → Option Shift → Type 0
+FitsShift notes v shift = (s : Has v) (found : ℕ) → Fits (record notes { ticket = Some found }) (shifted (memory_of v.setup.capacity s.words) (drew v found) shift)
+
 -- some sound state has the seat's view, and what is kept of it is so
 pub record IsKeptOf (notes : Seat) (v : View) : Type 0 where
   pub has : Has v
@@ -34,12 +47,13 @@ pub record IsKeptOf (notes : Seat) (v : View) : Type 0 where
   pub caches : HasCaches notes.caches v.caches
   pub batch : HasBatch notes.batch v.batch
 
--- a single seat at the table, of a heap of the layout's capacity, and what is kept of it
-pub record IsSeat (me : Me ℕ Joint) (notes : Seat) (capacity : ℕ) : Type 0 where
+-- a single seat at the table, of a heap of the layout's capacity and of the budget, and what is kept of it
+pub record IsSeat (me : Me ℕ Joint) (notes : Seat) (capacity budget : ℕ) : Type 0 where
   pub single : IsSingle me.0 (view_in me.0)
   pub no_slots : me.1 ≡ []
   pub kept : IsKeptOf notes (view_in me.0)
   pub capacity_is : capacity ≡ (view_in me.0).setup.capacity
+  pub budget_is : budget ≡ (view_in me.0).setup.budget
   pub low : (view_in me.0).setup.budget < 1099511627776
 
 -- the seat stands at the table of this heap for a single seat with the view, which some sound state has
@@ -50,7 +64,7 @@ pub record IsAt (shared : SharedView) (table : TableId) (me : Me ℕ Joint) (v :
   pub setup : v.setup ≡ shared.setup
   pub has : Has v
 
--- what the event leaves of the word that it finds: the word itself; the next ticket; the greater of it and a value; a new word, where it is the one that was seen; a value, in each state that has the view
+-- what the event leaves of the word that it finds: the word itself; the next ticket; the greater of it and a value; in each state that has the view, a new word, where it is the one that was seen, and a value
 abbrev pub IsLook : Event → Type 0
 IsLook event = (m : Memory) (v : View) (found : ℕ) → left_there m v event found ≡ found
 
@@ -61,7 +75,8 @@ abbrev pub IsRaise : Event → View → ℕ → Type 0
 IsRaise event v value = (m : Memory) (found : ℕ) → left_there m v event found ≡ max found value
 
 abbrev pub IsExchange : Event → View → ℕ → ℕ → Type 0
-IsExchange event v seen new = (m : Memory) (found : ℕ) → left_there m v event found ≡ cond (nat_eq found seen) new found
+IsExchange event v seen new = (s : Has v) (found : ℕ) → found ≡ found_by (memory_of v.setup.capacity s.words) v event
+    → left_there (memory_of v.setup.capacity s.words) v event found ≡ cond (nat_eq found seen) new found
 
 abbrev pub IsStore : Event → View → ℕ → Type 0
 IsStore event v value = (s : Has v) (found : ℕ) → left_there (memory_of v.setup.capacity s.words) v event found ≡ value
@@ -69,3 +84,7 @@ IsStore event v value = (s : Has v) (found : ℕ) → left_there (memory_of v.se
 -- an exchange tells that it was done exactly where the word was as it was seen, and else the word
 abbrev pub Tells : ℕ → ℕ → Result ⊤ ℕ → Type 0
 Tells seen found result = MatchResult result (λ _. found ≡ seen) (λ word. (word ≡ found) × (found ≢ seen))
+
+-- a draw tells that a ticket is in hand, or the step at which the seat stopped
+abbrev pub TellsDraw : View → Result ⊤ Stopped → Type 0
+TellsDraw v result = MatchResult result (λ _. v.stopped ≡ None) (λ e. v.stopped ≡ Some e.step)

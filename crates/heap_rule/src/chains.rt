@@ -1,17 +1,26 @@
 //! The steps of a seat that exchange an anchor.
 
-ghost use Rattle.std.specs.Prelude.{ℕ, ◌≡◌};
+ghost use Rattle.std.specs.Prelude.{◌≡◌, ◌≢◌, ◌<◌, ◌≤◌, ◌+◌, ◌-◌, ◌/◌, ℕ};
+ghost use Rattle.heap_model.specs.Geometry.{start_word};
+ghost use Rattle.heap_model.specs.Sizes.{IsClass, words_of_class, blocks_of};
+ghost use Rattle.heap_model.specs.Words.{anchor_state, anchor_count};
 ghost use Rattle.core_model.specs.declared.event.Event.TheVariants.{TakeAll, Give};
-ghost use Rattle.core_model.specs.Effects.{seen_word, claim_class};
+ghost use Rattle.core_model.specs.Effects.{seen_word, claim_class, given_anchor};
+ghost use Rattle.core_model.specs.Sound.{IsCutBlock};
 ghost use Rattle.heap_rule.specs.Plays.{IsEvent};
 ghost use Rattle.heap_rule.specs.Seated.{IsSeatOf, Tells};
 ghost use Rattle.heap_rule.specs.Shown.{Can};
 
 use crate::seat::Seat;
 use crate::shared::Shared;
-use crate::steps::{exchange, read};
+use crate::steps::exchange;
 use core_model::Event;
-use crash_core::{Cache, NO_BATCH, Seat as Notes, anchor_after_take_all, anchor_count, anchor_first};
+use crash_core::{
+    Cache, Group, NO_BATCH, Seat as Notes, anchor_after_give, anchor_after_take_all, anchor_count,
+    anchor_state, first_free,
+};
+use size_table::{blocks_of, size_of};
+use super_block::Geometry;
 
 impl Seat {
     /// Takes all free blocks of a claimed superblock into the cache of its class, if its anchor is
@@ -23,10 +32,23 @@ impl Seat {
             × Tells (seen_word self.old.view.seen_anchor) found result }
         ensures seat { IsSeatOf shared.now self.new }
     {
+        let class = self.claimed_class(shared, d);
+        self.take_into(shared, d, class)
+    }
+
+    /// Takes them into the cache of the class that the claim has.
+    fn take_into(&mut self, shared: &Shared, d: u64, class: u64) -> Result<(), u64>
+        requires seat { IsSeatOf shared.now self.old }
+        requires can { Can self.old.view (TakeAll d) }
+        requires class { class ≡ claim_class d self.old.view.classed }
+        requires is_class { IsClass class }
+        ensures event { (found : ℕ) × IsEvent (TakeAll d) self.old.view found self.new.view
+            × Tells (seen_word self.old.view.seen_anchor) found result }
+        ensures seat { IsSeatOf shared.now self.new }
+    {
         let Some(anchor) = self.notes.seen_anchor else {
             unreachable!();
         };
-        let class = read(shared, &mut self.bare, self.geometry.info(d));
         let place = self.geometry.anchor(d);
         let event = Event::TakeAll { d };
         let new = anchor_after_take_all();
@@ -41,7 +63,7 @@ impl Seat {
         }
         let mut caches = self.notes.caches;
         caches[class as usize] = Cache {
-            first: first_block(self.geometry, d, class, anchor.word),
+            first: first_free(self.geometry, d, class, anchor.word),
             count: anchor_count(anchor.word),
         };
         self.notes = Notes {
@@ -52,4 +74,63 @@ impl Seat {
         };
         Ok(())
     }
+    /// Gives the batch back to its superblock, if the anchor is as it was seen; else tells it.
+    pub fn try_give(&mut self, shared: &Shared, d: u64) -> Result<(), u64>
+        requires seat { IsSeatOf shared.now self.old }
+        requires can { Can self.old.view (Give d) }
+        ensures event { (found : ℕ) × IsEvent (Give d) self.old.view found self.new.view
+            × Tells (seen_word self.old.view.seen_anchor) found result }
+        ensures seat { IsSeatOf shared.now self.new }
+    {
+        let Some(anchor) = self.notes.seen_anchor else {
+            unreachable!();
+        };
+        let place = self.geometry.anchor(d);
+        let event = Event::Give { d };
+        let new = anchor_with_batch(self.geometry, d, self.notes.batch, anchor.word);
+        let found = exchange(shared, &mut self.bare, place, anchor.word, new, event);
+        if found != anchor.word {
+            self.notes = Notes {
+                ticket: None,
+                seen_anchor: None,
+                ..self.notes
+            };
+            return Err(found);
+        }
+        self.notes = Notes {
+            ticket: None,
+            seen_anchor: None,
+            batch: NO_BATCH,
+            ..self.notes
+        };
+        Ok(())
+    }
+}
+
+/// The anchor of superblock `d` after the batch is given to it. A word that was seen may be stale:
+/// where it is no anchor with room for the batch, its exchange is lost, and any word will do.
+fn anchor_with_batch(geometry: Geometry, d: u64, batch: Group, anchor: u64) -> u64
+    requires d { d < geometry.capacity }
+    requires capacity { geometry.capacity ≤ 4096 }
+    requires class { IsClass batch.class }
+    requires first { IsCutBlock geometry.capacity batch.class d batch.first }
+    ensures { anchor_state anchor ≢ 3 → batch.count + anchor_count anchor ≤ blocks_of batch.class
+        → result ≡ given_anchor anchor
+        ((batch.first - start_word geometry.capacity d) / words_of_class batch.class)
+        batch.count (blocks_of batch.class) }
+{
+    let class = batch.class as u8;
+    let all = blocks_of(class);
+    let free = anchor_count(anchor);
+    if anchor_state(anchor) == 3 {
+        return 0;
+    }
+    if free > all {
+        return 0;
+    }
+    if batch.count > all - free {
+        return 0;
+    }
+    let index = (batch.first - geometry.start(d)) / (size_of(class) / 8);
+    anchor_after_give(anchor, index, batch.count, all)
 }

@@ -61,6 +61,7 @@ fn gather(shared: &Words, mut seats: Vec<Seat>) -> Bare
             bare,
             notes: _,
             geometry: _,
+            budget: _,
         } = seat;
         shared.join_seat::<Together>(&mut last, bare);
     }

@@ -1,6 +1,7 @@
 //! The shared heap over a table of atomic words: each step of a seat is one event of the core.
 #![tactic(auto)]
 
+mod chains;
 mod closing;
 mod fresh;
 mod laws;
@@ -12,7 +13,10 @@ mod reads;
 mod rule;
 mod seat;
 mod shared;
+mod shifts;
 mod steps;
+mod ticks;
+mod told;
 mod words;
 
 pub use closing::close_shared;

@@ -45,7 +45,7 @@ pub fn open_shared(
 {
     let geometry = heap.geometry();
     let (table, dealer) = open_table(alloc, heap, owners, seats, budget)?;
-    let list = deal(alloc, &table.shared, dealer, geometry, seats)?;
+    let list = deal(alloc, &table.shared, dealer, geometry, budget, seats)?;
     Ok((Shared { table }, list))
 }
 
@@ -89,6 +89,7 @@ fn deal(
     shared: &Words,
     mut dealer: Bare,
     geometry: Geometry,
+    budget: u64,
     seats: usize,
 ) -> Result<Vec<Seat>, AllocError>
     requires opened { IsOpened shared.now.key }
@@ -97,6 +98,7 @@ fn deal(
     requires first { dealer.me ≡ (first_joint shared.now.key, []) }
     requires seats { seats ≡ shared.now.key.seats }
     requires geometry { geometry.capacity ≡ (setup_for shared.now.key).capacity }
+    requires budget { budget ≡ (setup_for shared.now.key).budget }
     ensures { IfOk result (λ list. list.items
         ≡ dealt_seats shared.now.table_id (opened_view_of shared.now.key) seats) }
 {
@@ -107,6 +109,7 @@ fn deal(
             bare,
             notes: NEW_SEAT,
             geometry,
+            budget,
         });
     }
     Ok(list)

@@ -1,32 +1,70 @@
-//! What a seat tells of itself: no events, which draw and change nothing.
+//! Reads of what a seat's view does not say, which change nothing.
 
-ghost use Rattle.std.specs.Prelude.{◌≡◌, length, None};
+ghost use Rattle.std.specs.Prelude.{◌≡◌, ◌<◌, ◌≤◌, length};
 ghost use Rattle.heap_model.specs.Sizes.{IsClass};
-ghost use Rattle.core_model.specs.Effects.{first_of};
-ghost use Rattle.core_model.specs.View.{of_class};
+ghost use Rattle.core_model.specs.View.{of_class, times_classed};
+ghost use Rattle.core_model.specs.Effects.{claim_class, span_count, first_of, rest_of};
+ghost use Rattle.core_model.specs.Guards.{MayAlloc};
+ghost use Rattle.heap_rule.specs.Seated.{IsSeatOf};
+ghost use Rattle.heap_rule.specs.Shown.{CanFree, CanCut};
 
 use crate::seat::Seat;
+use crate::shared::Shared;
+use crate::steps::read;
+use super_block::{LARGE_INFO, LARGE_STEP, SUPERBLOCK_WORDS};
 
 impl Seat {
-    /// How many superblocks the heap has.
-    pub fn capacity(&self) -> u64
-        ensures { result ≡ self.now.view.setup.capacity }
+    /// The class of a superblock that is claimed with a class.
+    pub(crate) fn claimed_class(&mut self, shared: &Shared, d: u64) -> u64
+        requires seat { IsSeatOf shared.now self.old }
+        requires claimed { 0 < times_classed d self.old.view.classed }
+        ensures same { self.new ≡ self.old }
+        ensures class { result ≡ claim_class d self.old.view.classed }
+        ensures is_class { IsClass result }
     {
-        self.geometry.capacity()
+        read(shared, &mut self.bare, self.geometry.info(d))
+    }
+    /// The block after the first one of a cache, where there is one.
+    pub(crate) fn next_cached(&mut self, shared: &Shared, class: u64) -> u64
+        requires seat { IsSeatOf shared.now self.old }
+        requires may { MayAlloc self.old.view class }
+        ensures same { self.new ≡ self.old }
+        ensures next { 1 ≤ length (rest_of (of_class self.old.view.caches class))
+            → first_of (rest_of (of_class self.old.view.caches class)) ≡ result }
+    {
+        let first = self.notes.caches[class as usize].first;
+        read(shared, &mut self.bare, first)
+    }
+    /// The class of a held block that may be freed.
+    pub(crate) fn held_class(&mut self, shared: &Shared, block: u64) -> u64
+        requires seat { IsSeatOf shared.now self.old }
+        requires can { CanFree self.old.view block }
+        ensures same { self.new ≡ self.old }
+        ensures class { (can : CanFree self.old.view block) → result ≡ can.class }
+        ensures is_class { IsClass result }
+    {
+        let d = (block - self.geometry.start(0)) / SUPERBLOCK_WORDS;
+        read(shared, &mut self.bare, self.geometry.info(d))
+    }
+    /// How many superblocks a held large block takes.
+    pub(crate) fn span_length(&mut self, shared: &Shared, d: u64) -> u64
+        requires seat { IsSeatOf shared.now self.old }
+        requires held { 1 ≤ span_count d self.old.view.large }
+        ensures same { self.new ≡ self.old }
+        ensures count { result ≡ span_count d self.old.view.large }
+    {
+        let info = read(shared, &mut self.bare, self.geometry.info(d));
+        (info - LARGE_INFO) / LARGE_STEP
     }
 
-    /// The first word of the first block of a class's cache, and how many blocks there are; both 0
-    /// where there is none.
-    pub fn cache(&self, class: u8) -> (u64, u64)
-        requires going { self.now.view.stopped ≡ None }
-        requires class { IsClass class }
-        ensures first { result.0 ≡ first_of (of_class self.now.view.caches class) }
-        ensures count { result.1 ≡ length (of_class self.now.view.caches class) }
+    /// The class of a superblock that was made ready.
+    pub(crate) fn cutting_class(&mut self, shared: &Shared, d: u64) -> u64
+        requires seat { IsSeatOf shared.now self.old }
+        requires can { CanCut self.old.view d }
+        ensures same { self.new ≡ self.old }
+        ensures class { (can : CanCut self.old.view d) → result ≡ can.class }
+        ensures is_class { IsClass result }
     {
-        let cache = self.notes.caches[class as usize];
-        if cache.count == 0 {
-            return (0, 0);
-        }
-        (cache.first, cache.count)
+        read(shared, &mut self.bare, self.geometry.info(d))
     }
 }

@@ -10,6 +10,7 @@ pub struct Seat {
     pub(crate) bare: Bare,
     pub(crate) notes: Notes,
     pub(crate) geometry: Geometry,
+    pub(crate) budget: u64,
 }
 
 impl Model for Seat {
@@ -20,5 +21,5 @@ impl Model for Seat {
 
     ghost view = { λ a. record { table = a.bare.table_id; view = view_in a.bare.me.0 } };
 
-    ghost invariant = { λ a. IsSeat a.bare.me a.notes a.geometry.capacity };
+    ghost invariant = { λ a. IsSeat a.bare.me a.notes a.geometry.capacity a.budget };
 }

@@ -16,9 +16,9 @@ invariant_of-push_reserved c =
     let o = c.args.shared.now.key in
     let less : c.loop-i._i < o.seats = (let l = c.loop-i-test.true in let s = c.requires.seats in omega arith) in
     let some : c.args.seats - c.loop-i._i ≡ suc (c.args.seats - (c.loop-i._i + 1)) = (let l = c.loop-i-test.true in omega arith) in
-    is_seat o c.loop-i._i c.args.geometry.capacity c.split_seat-bare.result.me c.requires.opened less
+    is_seat o c.loop-i._i c.args.geometry.capacity c.args.budget c.split_seat-bare.result.me c.requires.opened less
     (c.split_seat-bare.ensures.4 ∙ ap (λ (m : Me ℕ Joint). (first_view m.0, [])) c.loop-i.invariant.rest ∙ ap (λ (vs : Joint). (vs, [])) (first_dealt (opened_view_of o) c.loop-i._i _ _ some))
-    c.requires.geometry
+    c.requires.geometry c.requires.budget
 
 pub loop-i-preserved : goal.loop-i-preserved
 loop-i-preserved c =

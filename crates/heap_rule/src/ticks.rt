@@ -1,0 +1,95 @@
+//! The draw of a ticket, with the change of a seat's parts that goes with it.
+
+ghost use Rattle.std.specs.Prelude.{◌≡◌, ℕ, Some, None};
+ghost use Rattle.core_model.specs.declared.event.Event.TheVariants.{Tick};
+ghost use Rattle.heap_rule.specs.Plays.{IsEvent};
+ghost use Rattle.heap_rule.specs.Seated.{IsSeatOf, FitsShift, TellsDraw};
+ghost use Rattle.heap_rule.specs.Shown.{Can};
+
+use crate::seat::Seat;
+use crate::shared::Shared;
+use crate::steps::draw;
+use core_model::{Event, Shift};
+use crash_core::Seat as Notes;
+use line_memory::Stopped;
+
+impl Seat {
+    /// Draws a ticket, with a change of the seat's parts where there is one; a seat that has
+    /// stopped, or stops at this draw, tells the step.
+    pub fn tick(&mut self, shared: &Shared, shift: Option<Shift>) -> Result<(), Stopped>
+        requires seat { IsSeatOf shared.now self.old }
+        requires can { self.old.view.stopped ≡ None → Can self.old.view (Tick shift) }
+        ensures event { self.old.view.stopped ≡ None
+            → (found : ℕ) × IsEvent (Tick shift) self.old.view found self.new.view }
+        ensures had_stopped { (step : ℕ) → self.old.view.stopped ≡ Some step
+            → self.new ≡ self.old }
+        ensures told { TellsDraw self.new.view result }
+        ensures seat { IsSeatOf shared.now self.new }
+    {
+        if let Some(step) = self.notes.stopped {
+            return Err(Stopped { step });
+        }
+        match shift {
+            None => self.draw_alone(shared),
+            Some(shift) => self.draw_with(shared, shift),
+        }
+    }
+
+    /// Draws a ticket, with no change.
+    fn draw_alone(&mut self, shared: &Shared) -> Result<(), Stopped>
+        requires seat { IsSeatOf shared.now self.old }
+        requires can { Can self.old.view (Tick None) }
+        ensures event { (found : ℕ) × IsEvent (Tick None) self.old.view found self.new.view }
+        ensures told { TellsDraw self.new.view result }
+        ensures seat { IsSeatOf shared.now self.new }
+    {
+        let notes = self.notes;
+        self.draw_as(shared, None, notes)
+    }
+
+    /// Draws a ticket, with a change.
+    fn draw_with(&mut self, shared: &Shared, shift: Shift) -> Result<(), Stopped>
+        requires seat { IsSeatOf shared.now self.old }
+        requires can { Can self.old.view (Tick (Some shift)) }
+        ensures event { (found : ℕ)
+            × IsEvent (Tick (Some shift)) self.old.view found self.new.view }
+        ensures told { TellsDraw self.new.view result }
+        ensures seat { IsSeatOf shared.now self.new }
+    {
+        let changed = self.after_shift(shared, shift);
+        self.draw_as(shared, Some(shift), changed)
+    }
+
+    /// Draws a ticket, and keeps what the change of the seat's parts leaves, where the ticket is
+    /// below the budget.
+    fn draw_as(
+        &mut self,
+        shared: &Shared,
+        shift: Option<Shift>,
+        changed: Notes,
+    ) -> Result<(), Stopped>
+        requires seat { IsSeatOf shared.now self.old }
+        requires can { Can self.old.view (Tick shift) }
+        requires changed { FitsShift changed self.old.view shift }
+        ensures event { (found : ℕ) × IsEvent (Tick shift) self.old.view found self.new.view }
+        ensures told { TellsDraw self.new.view result }
+        ensures seat { IsSeatOf shared.now self.new }
+    {
+        let place = 2 * self.geometry.length();
+        let event = Event::Tick { shift };
+        let ticket = draw(shared, &mut self.bare, place, event);
+        if ticket >= self.budget {
+            self.notes = Notes {
+                ticket: None,
+                stopped: Some(ticket),
+                ..self.notes
+            };
+            return Err(Stopped { step: ticket });
+        }
+        self.notes = Notes {
+            ticket: Some(ticket),
+            ..changed
+        };
+        Ok(())
+    }
+}

@@ -1,0 +1,32 @@
+//! What a seat tells of itself: no events, which draw and change nothing.
+
+ghost use Rattle.std.specs.Prelude.{◌≡◌, length, None};
+ghost use Rattle.heap_model.specs.Sizes.{IsClass};
+ghost use Rattle.core_model.specs.Effects.{first_of};
+ghost use Rattle.core_model.specs.View.{of_class};
+
+use crate::seat::Seat;
+
+impl Seat {
+    /// How many superblocks the heap has.
+    pub fn capacity(&self) -> u64
+        ensures { result ≡ self.now.view.setup.capacity }
+    {
+        self.geometry.capacity()
+    }
+
+    /// The first word of the first block of a class's cache, and how many blocks there are; both 0
+    /// where there is none.
+    pub fn cache(&self, class: u8) -> (u64, u64)
+        requires going { self.now.view.stopped ≡ None }
+        requires class { IsClass class }
+        ensures first { result.0 ≡ first_of (of_class self.now.view.caches class) }
+        ensures count { result.1 ≡ length (of_class self.now.view.caches class) }
+    {
+        let cache = self.notes.caches[class as usize];
+        if cache.count == 0 {
+            return (0, 0);
+        }
+        (cache.first, cache.count)
+    }
+}
