@@ -1,8 +1,9 @@
 -- Worked examples of steps that a seat may not take.
-use Rattle.std.proofs.Common.{◌≡◌, ◌%◌, [], ◌∷◌, arith}
+use Rattle.std.proofs.Common.{◌≡◌, ◌%◌, [], ◌∷◌, None, Some, inl, inr, arith}
+use Rattle.core_model.specs.declared.event.Event.TheVariants.{LookUsed, KeepUsed, LookHead}
 use Rattle.core_model.specs.Cells.{info_cell}
-use Rattle.core_model.specs.Guards.{IsOwn, IsFreelyClaimed, MayTake, MayPop, MayLink}
-use Rattle.core_model.specs.Examples.{idle, saw_used, saw_head}
+use Rattle.core_model.specs.Guards.{IsOwn, IsFreelyClaimed, MayTake, MayPop, MayLink, MayLookAt, MayPush, MayTakeAll, MayGive, MayCut, MayAlloc, MayFree, MayLift, MayHoldLarge, MaySplit, IsReadyFor, MayStep}
+use Rattle.core_model.specs.Examples.{idle, memory, saw_used, saw_head}
 
 -- more superblocks than there are
 pub takes_too_many : MayTake (saw_used 1) 2 → ⊥
@@ -23,3 +24,57 @@ owns_nothing own = omega (arith, own)
 -- a superblock whose blocks are being made goes nowhere else
 pub cutting_is_not_free : IsFreelyClaimed (record idle { cutting = 0 ∷ [] }) 0 → ⊥
 cutting_is_not_free free = let none = free.not_cutting in omega arith
+
+-- nothing was seen of the mark
+pub keeps_unseen : IsReadyFor memory idle KeepUsed → ⊥
+keeps_unseen seen = omega (arith, seen)
+
+-- there are lists 0 to 20
+pub looks_past_the_lists : IsReadyFor memory idle (LookHead 21) → ⊥
+looks_past_the_lists less = omega (arith, less)
+
+-- the anchor of a superblock that is not claimed
+pub looks_at_no_claim : MayLookAt idle 0 → ⊥
+looks_at_no_claim look = elim look [ inl claimed ↦ let some = claimed.claimed in omega arith | inr batch ↦ let some = batch.1 in omega arith ]
+
+-- a superblock that is not below the durable mark
+pub pushes_above_the_mark : MayPush memory (record (saw_head 33554432) { raw = 1 ∷ [] }) 1 → ⊥
+pushes_above_the_mark may = let less = may.durable in omega arith
+
+-- nothing claimed with a class
+pub takes_all_of_none : MayTakeAll idle 0 → ⊥
+takes_all_of_none may = let some = may.claimed in omega arith
+
+-- no batch
+pub gives_nothing : MayGive memory idle 0 → ⊥
+gives_nothing may = let some = may.some in omega arith
+
+-- no superblock whose blocks are being made
+pub cuts_nothing : MayCut memory idle 0 → ⊥
+cuts_nothing may = let some = may.cutting in omega arith
+
+-- an empty cache
+pub allocates_from_none : MayAlloc idle 20 → ⊥
+allocates_from_none may = let some = may.cached in omega arith
+
+pub lifts_from_none : MayLift memory idle 20 → ⊥
+lifts_from_none may = let some = may.cached in omega arith
+
+-- a block that is not held
+pub frees_nothing : MayFree memory idle 9272 → ⊥
+frees_nothing may = let some = may.held in omega arith
+
+-- a large block of no superblock
+pub holds_none : MayHoldLarge memory idle 0 0 → ⊥
+holds_none may = let some = may.some in omega arith
+
+-- no large block
+pub splits_nothing : MaySplit idle 1080 → ⊥
+splits_nothing may = let some = may.held in omega arith
+
+-- a seat that has stopped, and a step without a ticket
+pub stopped_goes_nowhere : MayStep memory (record idle { stopped = Some 10 }) LookUsed → ⊥
+stopped_goes_nowhere may = let going = may.going in omega arith
+
+pub looks_without_a_ticket : MayStep memory (record idle { ticket = None }) LookUsed → ⊥
+looks_without_a_ticket may = let ticket = may.ticket in omega arith
