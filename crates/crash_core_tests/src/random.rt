@@ -98,12 +98,12 @@ fn roll(
             pair.take(rt, seat, DRAW)?;
         }
         pair.take(rt, seat, event)?;
+        let alloc = rt.alloc();
+        assert!(rt;
+            are_in_one_place(alloc, &pair.plain)?,
+            "seed {seed} step {step}"
+        );
         if step % 20 == 19 {
-            let alloc = rt.alloc();
-            assert!(rt;
-                are_in_one_place(alloc, &pair.plain)?,
-                "seed {seed} step {step}"
-            );
             assert!(rt;
                 keeps_held(alloc, &pair.core, &pair.plain)?,
                 "seed {seed} step {step}"
