@@ -1,6 +1,6 @@
 //! The core: a heap opened for some seats, that takes their steps in any order.
 
-ghost use Rattle.std.specs.Prelude.{◌≡◌, ◌<◌, ◌≤◌, ◌+◌, ℕ, length, slice_index, IfOk, Contains};
+ghost use Rattle.std.specs.Prelude.{◌≡◌, ◌<◌, ◌≤◌, ◌+◌, ℕ, length, slice_index, IfOk, IfErr, Contains};
 ghost use Rattle.heap_model.specs.Geometry.{image_words};
 ghost use Rattle.heap_model.specs.Durability.{IsCrashImage};
 ghost use Rattle.core_model.specs.declared.event.Event.{Event};
@@ -85,7 +85,8 @@ impl Core {
         step(&mut self.state, seat, event)
     }
 
-    /// Tries the events in their order, and gives the answer of each.
+    /// Tries the events in their order, and gives the answer of each. Where memory runs out, none
+    /// has been tried.
     pub fn replay(
         &mut self,
         alloc: Global,
@@ -95,6 +96,7 @@ impl Core {
             → e.0 < length self.old.state.seats.items }
         ensures runs { IfOk result (λ answers.
             RunsOn self.old.state events.now answers.items self.new.state) }
+        ensures refused { IfErr result (λ _. self.new.state ≡ self.old.state) }
         ensures seats { length self.new.state.seats.items ≡ length self.old.state.seats.items }
     {
         run(&mut self.state, alloc, events)
