@@ -63,6 +63,11 @@ told_outside words kinds are fault at value is tells =
     let why = subst (λ (f : RecoverFault). TellsFault (8 * length words) (slice_index words) (slice_index kinds) dict_links f) is tells in
     (subst (λ (ks : ℕ → ℕ). IsOutside (slice_index words) ks dict_links at) (λ i w. are w i) why.1, why.2)
 
+-- where recovery finds nothing outside, nothing is
+pub none_outside : (words kinds : List ℕ) → ((i : ℕ) → slice_index kinds i ≡ root_kind i) → ((at : ℕ) → IsOutside (slice_index words) (slice_index kinds) dict_links at → ⊥)
+    → (at : ℕ) → PointsOutside (slice_index words) at → ⊥
+none_outside words kinds are none = subst (λ (ks : ℕ → ℕ). (at : ℕ) → IsOutside (slice_index words) ks dict_links at → ⊥) (λ i w. are w i) none
+
 -- the image that is left has a good header
 pub left_good : (words : List ℕ) (held : List Block) (seats : ℕ) (lines : List (ℕ × Event)) (answers : List StepAnswer) (tickets : ℕ) (left : List ℕ)
     → IsReady words held → 1 ≤ seats → IsReplayed words held seats lines answers tickets left → header_fault (8 * length left) (slice_index left) ≡ None

@@ -4,6 +4,7 @@ use Rattle.core_model.specs.declared.answer.StepAnswer.TheVariants.{Done, Stoppe
 use Rattle.core_model.specs.declared.event.Event.{Event}
 use Rattle.core_model.specs.declared.event.Event.TheVariants.{Tick, Settle, LookHead, Pop}
 use Rattle.core_model.specs.declared.event.Shift.TheVariants.{Alloc}
+use Rattle.image_run.specs.declared.options.TheConstants.{MOST_BUDGET}
 use Rattle.image_replay.specs.Replaying.{events_of, last_answers}
 
 -- a look, a bare draw, a draw with an allocation, a word made durable, a pop
@@ -25,3 +26,7 @@ tells_a_stop = refl
 -- no line, no event
 nothing_to_do : events_of [] ≡ []
 nothing_to_do = refl
+
+-- the budget of a replay: 2^40 - 1 tickets
+budget_is : MOST_BUDGET ≡ 1099511627775
+budget_is = refl

@@ -62,12 +62,13 @@ pub record IsReplayed (words : List ℕ) (held : List Block) (seats : ℕ) (line
   pub left_is : IsCrashImage (durable_image (capacity_of (slice_index words)) state.words) (slice_index left)
   pub long : length left ≡ image_words (capacity_of (slice_index words))
 
--- an answer for each line is printed, then how many tickets were drawn, and then the report on the image that the crash leaves
+-- an answer for each line is printed, then how many tickets were drawn, and then the report on the image that the crash leaves, in which nothing points outside
 pub record Replays (words : List ℕ) (held : List Block) (seats : ℕ) (lines : List (ℕ × Event)) (text : List ℕ) : Type 0 where
   pub answers : List StepAnswer
   pub tickets : ℕ
   pub left : List ℕ
   pub replayed : IsReplayed words held seats lines answers tickets left
+  pub inside : (at : ℕ) → PointsOutside (slice_index left) at → ⊥
   pub report : List ℕ
   pub tells : TellsHeap (slice_index left) report
   pub text_is : text ≡ answers_text_of (last_answers lines answers) ++ tickets_line_of tickets ++ report

@@ -1,9 +1,9 @@
 //! Replays a schedule over a heap at rest, and makes what is printed.
-ghost use Rattle.std.specs.Prelude.{◌≡◌, ◌*◌, ◌++◌, None, length, replicate, slice_index, IfOk, IfErr};
+ghost use Rattle.std.specs.Prelude.{◌≡◌, ◌*◌, ◌++◌, None, length, replicate, slice_index, IfOk, IfErr, OnOk, ℕ};
 ghost use Rattle.heap_model.specs.Geometry.{roots};
 ghost use Rattle.heap_model.specs.Header.{header_fault};
 ghost use Rattle.trace_text.specs.Answered.{answers_text_of, tickets_line_of};
-ghost use Rattle.image_run.specs.Reporting.{TellsHeap};
+ghost use Rattle.image_run.specs.Reporting.{PointsOutside, TellsHeap};
 ghost use Rattle.image_replay.specs.Replaying.{CanBeReplayed, IsReplayed, Replays, StopsReplay, StopsReport};
 
 use crate::fault::ReplayFault;
@@ -91,6 +91,8 @@ fn owned_by_the_first(alloc: Global, blocks: usize) -> Result<Owners, AllocError
 fn left_text(alloc: Global, words: &[u64]) -> Result<Bytes, ReplayFault>
     requires { header_fault (8 * length words.now) (slice_index words.now) ≡ None }
     ensures ok { IfOk result (TellsHeap (slice_index words.now)) }
+    ensures inside { OnOk result
+        ((at : ℕ) → PointsOutside (slice_index words.now) at → ⊥) }
     ensures err { IfErr result (StopsReport (slice_index words.now)) }
 {
     match recover(alloc, words, &root_kinds(), &DictFilter) {

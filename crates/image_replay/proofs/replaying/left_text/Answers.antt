@@ -1,7 +1,7 @@
 use Rattle.std.proofs.Common.{slice_index}
 use Rattle.image_run.proofs.LeftLemmas.{recovery_of_words}
 use Rattle.image_run.proofs.TextLemmas.{tells_heap}
-use Rattle.image_replay.proofs.CrashLemmas.{told_outside}
+use Rattle.image_replay.proofs.CrashLemmas.{told_outside, none_outside}
 use Rattle.image_replay.proofs.replaying.left_text.Goals as goal
 
 pub returns-in_ok-report_text-in-Ok-clause-ok : goal.returns-in_ok-report_text-in-Ok-clause-ok
@@ -15,3 +15,6 @@ pub returns-in-Err-Outside-clause-err : goal.returns-in-Err-Outside-clause-err
 returns-in-Err-Outside-clause-err c =
     let outside = told_outside c.args.words.now c.root_kinds.result c.root_kinds.ensures.kinds c.in-Err-Outside.field-0 _ _ c.in-Err-Outside.field-0-is c.in-Err-Outside.ensures.cause in
     rw (c.in-Err-Outside.at-is, c.in-Err-Outside.value-is) outside
+
+pub returns-in_ok-report_text-in-Ok-clause-inside : goal.returns-in_ok-report_text-in-Ok-clause-inside
+returns-in_ok-report_text-in-Ok-clause-inside c = none_outside c.args.words.now c.root_kinds.result c.root_kinds.ensures.kinds c.in-Ok.ensures.none
