@@ -13,6 +13,7 @@ use crash_core::{Core, Owners};
 use dictionary::{DictFilter, root_kinds};
 use heap_recover::{RecoverFault, recover};
 use image_run::MOST_BUDGET;
+use line_memory::Chance;
 use region_header::Bytes;
 use std::alloc::{AllocError, Global};
 use super_block::{ROOTS, Ready};
@@ -68,13 +69,25 @@ fn replay_lines<C: Chances>(
     let mut core = Core::of(alloc, heap, &owners, schedule.seats, MOST_BUDGET)?;
     let events = events_of(alloc, &schedule.lines)?;
     let answers = core.replay(alloc, &events)?;
-    let left = core.image(alloc, &mut chances.chance(0))?;
+    let left = core.image(alloc, &mut CrashWords { chances })?;
     let tickets = core.tickets();
     Ok(Replayed {
         answers,
         tickets,
         left,
     })
+}
+
+// The words for what a crash leaves at random.
+#[derive(Drop)]
+struct CrashWords<'a, C: Chances> {
+    chances: &'a mut C,
+}
+
+impl<'a, C: Chances> Chance for CrashWords<'a, C> {
+    fn draw(&mut self) -> u64 {
+        self.chances.word()
+    }
 }
 
 // So many blocks, and all roots, are seat 0's.
