@@ -110,7 +110,7 @@ allowed_read o count id joint slots v place single setup s holds none at fits = 
 pub allowed_learn : (o : Opening) (count id : ℕ) (joint : Joint) (slots : List (ℕ × ℕ)) (v : View) (word : ℕ) → IsSingle joint v → v.setup ≡ setup_for o → IsOwn v (cell_at v.setup.capacity word)
     → Allows (Holds o) count id (joint, slots) word (λ n. n) (λ found after. DidLearn word (joint, slots) found after)
 allowed_learn o count id joint slots v word single setup own s holds none at fits =
-    (w ∷ [], keeps, tt, kept, record { view = v; single = single; now = refl; has = has_w }) where
+    (w ∷ [], keeps, tt, kept, record { view = v; single = single; now = refl; before = has; found_is = refl; has = has_w }) where
       has : Has v
       has = state_with o s.words s.views id joint v setup holds at single
 

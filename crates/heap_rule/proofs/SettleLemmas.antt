@@ -1,14 +1,17 @@
 -- A word of a seat's own that is read, recorded and made durable.
-use Rattle.std.proofs.Common.{◌≡◌, ℕ, ◌+◌, ◌<◌, true, inl, inr, None, Some, get_or, set, length, length-set, refl, ap, sym, subst, ◌∙◌, arith}
+use Rattle.std.proofs.Common.{◌≡◌, ℕ, ◌+◌, ◌<◌, true, inl, inr, None, Some, get_or, set, length, length-set, refl, ap, sym, subst, ◌∙◌, arith, zero, suc, List, [], ◌∷◌, Option}
 use Rattle.std.proofs.lemmas.List.{get_or-set_same}
 use Rattle.heap_model.specs.Geometry.{image_words}
 use Rattle.core_model.specs.declared.event.Event.TheVariants.{Settle}
 use Rattle.core_model.specs.Cells.{cell_at, index_of, is_cell}
-use Rattle.core_model.specs.Memory.{table_index}
+use Rattle.core_model.specs.Memory.{Memory, memory_of, table_index}
 use Rattle.core_model.specs.View.{Setup, View, times_own}
-use Rattle.core_model.specs.Effects.{place_of}
-use Rattle.core_model.specs.Guards.{IsOwn}
-use Rattle.core_model.proofs.PlaceLemmas.{cell_there, index_at, index_within}
+use Rattle.core_model.specs.Effects.{place_of, learn}
+use Rattle.core_model.specs.Sound.{Sound}
+use Rattle.core_model.specs.Steps.{found_by, words_after}
+use Rattle.core_model.proofs.SoundLemmas.{sound_step}
+use Rattle.core_model.specs.Guards.{IsOwn, MayStep}
+use Rattle.core_model.proofs.PlaceLemmas.{pick, cell_there, index_at, index_within}
 use Rattle.core_model.proofs.QuietLemmas.{own_same}
 use Rattle.crash_core.specs.declared.owners.Seat.{Seat}
 use Rattle.heap_rule.specs.Plays.{Has, IsEvent, learned}
@@ -20,6 +23,7 @@ use Rattle.heap_rule.specs.Shown.{Can}
 use Rattle.heap_rule.proofs.SeatLemmas.{keep_fits}
 use Rattle.heap_rule.proofs.StepLemmas.{has_after}
 use Rattle.heap_rule.proofs.ViewLemmas.{shown}
+use Rattle.heap_rule.proofs.ShownLemmas.{may_of}
 
 -- an own word is one of the image
 pub own_there : (v : View) (word : ℕ) → IsOwn v (cell_at v.setup.capacity word) → is_cell v.setup.capacity (cell_at v.setup.capacity word) ≡ true
@@ -67,3 +71,41 @@ settled_seat me me' notes capacity word value found shared table old at event =
       budget_is = old.budget_is ∙ sym (ap (λ (k : Setup). k.budget) same);
       low = subst (λ (k : Setup). k.budget < 1099511627776) (sym same) old.low;
     }
+
+set_again : (values : List (Option ℕ)) (i : ℕ) (a : Option ℕ) → set (set values i a) i a ≡ set values i a
+set_again [] i a = refl
+set_again (x ∷ values) zero a = refl
+set_again (x ∷ values) (suc i) a = ap (λ l. x ∷ l) (set_again values i a)
+
+-- the word that is read, recorded and then stored as the durable one: this is the event of the view before, in the state in which it was read
+pub settled_event : (v w : View) (word value found : ℕ) (s : Has v) → value ≡ get_or s.words word 0 → Can v (Settle word) → IsEvent (Settle word) (learned v word value) found w → (n : ℕ) × IsEvent (Settle word) v n w
+settled_event v w word value found s value_is can event = (
+  found_by m v (Settle word),
+  record {
+    before = s;
+    may = may;
+    found_is = refl;
+    after = w_is;
+    kept = subst (λ u. Sound v.setup (words_after v.setup s.words v (Settle word)) (set s.views s.seat u)) (sym w_is) (sound_step v.setup s.words s.views s.seat v (Settle word) s.below s.at s.sound may);
+  },
+) where
+  m : Memory
+  m = memory_of v.setup.capacity s.words
+
+  may : MayStep m v (Settle word)
+  may = may_of v (Settle word) can s
+
+  settled : ℕ → View
+  settled x = record v { volatile = learn v.volatile word x; durable = learn v.durable word x }
+
+  read : m.volatile (cell_at v.setup.capacity word) ≡ value
+  read = pick (is_cell v.setup.capacity (cell_at v.setup.capacity word)) _ _ (own_there v word can.shown) ∙ ap (λ n. get_or s.words n 0) (own_index v word can.shown) ∙ sym value_is
+
+  later : (memory_of v.setup.capacity event.before.words).volatile (cell_at v.setup.capacity word) ≡ value
+  later = settle_store v word value can.shown event.before found
+
+  w_is : w ≡ settled (m.volatile (cell_at v.setup.capacity word))
+  w_is = event.after
+      ∙ ap (λ x. record v { volatile = learn (learn v.volatile word value) word x; durable = learn v.durable word x }) later
+      ∙ ap (λ l. record v { volatile = l; durable = learn v.durable word value }) (set_again v.volatile word (Some value))
+      ∙ ap settled (sym read)

@@ -21,7 +21,7 @@ use Rattle.core_model.proofs.OwnerLemmas.{in_lists_total}
 use Rattle.crash_core.proofs.ChainSteps.{cut_range}
 use Rattle.crash_core.proofs.FreeSteps.{short, list_at_most}
 use Rattle.heap_rule.specs.Plays.{Has}
-use Rattle.heap_rule.specs.Shown.{Shows, ShowsDurable, ShowsEmpty, by_anchor, by_look, ShowsLinks}
+use Rattle.heap_rule.specs.Shown.{Shows, ShowsDurable, ShowsEmpty, by_claim, by_anchor, by_look, ShowsLinks}
 
 -- a block of a superblock of the image begins in the image
 cut_cell : (c class d b : ℕ) → IsClass class → IsCutBlock c class d b → d < c → is_cell c (data_cell b) ≡ true
@@ -98,6 +98,7 @@ module _ (v : View) (s : Has v) where
 
   -- a claimed superblock that is shown to be empty is empty
   pub empty_shown : (d : ℕ) → 0 < times_raw d v + times_classed d v.classed → ShowsEmpty v d → anchor_state (anchor m d) ≡ empty_state
+  empty_shown d claimed (by_claim raw) = (good.claims s.seat v s.below s.at).is_raw d raw
   empty_shown d claimed (by_anchor word shows empty) =
       ap anchor_state (shown (anchor_cell d) word (lt-ltb d v.setup.capacity (taken v.setup m s.views s.seat v s.below s.at good d claimed)) shows) ∙ empty
   empty_shown d claimed (by_look classed is_seen of empty) = ap (λ e. anchor_state (anchor m e)) (sym of)

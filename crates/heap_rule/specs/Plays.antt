@@ -65,9 +65,11 @@ pub record DidRead (place : ℕ) (me : Me ℕ Joint) (found : ℕ) (me' : Me ℕ
 abbrev pub learned : View → ℕ → ℕ → View
 learned v word value = record v { volatile = learn v.volatile word value }
 
--- an own word is read, and recorded in the view
+-- an own word is read, in some sound state in which the seat has its view, and recorded in it
 pub record DidLearn (word : ℕ) (me : Me ℕ Joint) (found : ℕ) (me' : Me ℕ Joint) : Type 0 where
   pub view : View
   pub single : IsSingle me.0 view
   pub now : me' ≡ (learned view word found ∷ [], me.1)
+  pub before : Has view
+  pub found_is : found ≡ get_or before.words word 0
   pub has : Has (learned view word found)

@@ -33,6 +33,7 @@ pub(crate) fn learn(shared: &Shared, bare: &mut Bare, word: u64) -> u64
         (cell_at (view_in bare.old.me.0).setup.capacity word) }
     ensures at { IsAt shared.now bare.new.table_id bare.new.me (view_in bare.new.me.0) }
     ensures view { view_in bare.new.me.0 ≡ learned (view_in bare.old.me.0) word result }
+    ensures found { (s : Has (view_in bare.old.me.0)) × (result ≡ get_or s.words word 0) }
 {
     learn_as(&shared.table.shared, bare, word as usize)
 }

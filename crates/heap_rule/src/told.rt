@@ -4,12 +4,23 @@ ghost use Rattle.std.specs.Prelude.{◌≡◌, length, None};
 ghost use Rattle.heap_model.specs.Sizes.{IsClass};
 ghost use Rattle.core_model.specs.Effects.{first_of};
 ghost use Rattle.core_model.specs.View.{of_class};
+ghost use Rattle.heap_rule.specs.Plays.{Has};
+ghost use Rattle.heap_rule.specs.Seated.{IsSeatOf};
 
 use crate::seat::Seat;
+use crate::shared::Shared;
 
 impl Seat {
+    /// There is a sound state in which the seat has its view.
+    pub fn has_a_sound_state(&self)
+        ensures { Has self.now.view }
+    {
+        let _opened = self.geometry;
+    }
+
     /// How many superblocks the heap has.
-    pub fn capacity(&self) -> u64
+    pub fn capacity(&self, shared: &Shared) -> u64
+        requires seat { IsSeatOf shared.now self.now }
         ensures { result ≡ self.now.view.setup.capacity }
     {
         self.geometry.capacity()
@@ -17,7 +28,8 @@ impl Seat {
 
     /// The first word of the first block of a class's cache, and how many blocks there are; both 0
     /// where there is none.
-    pub fn cache(&self, class: u8) -> (u64, u64)
+    pub fn cache(&self, shared: &Shared, class: u8) -> (u64, u64)
+        requires seat { IsSeatOf shared.now self.now }
         requires going { self.now.view.stopped ≡ None }
         requires class { IsClass class }
         ensures first { result.0 ≡ first_of (of_class self.now.view.caches class) }

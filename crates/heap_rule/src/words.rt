@@ -2,7 +2,7 @@
 
 ghost use Rattle.std.specs.Prelude.{ℕ};
 ghost use Rattle.core_model.specs.declared.event.Event.TheVariants.{Store, Settle};
-ghost use Rattle.heap_rule.specs.Plays.{IsEvent, learned};
+ghost use Rattle.heap_rule.specs.Plays.{IsEvent};
 ghost use Rattle.heap_rule.specs.Seated.{IsSeatOf};
 ghost use Rattle.heap_rule.specs.Shown.{Can};
 
@@ -33,8 +33,7 @@ impl Seat {
     pub fn settle(&mut self, shared: &Shared, word: u64)
         requires seat { IsSeatOf shared.now self.old }
         requires can { Can self.old.view (Settle word) }
-        ensures event { (value found : ℕ)
-            × IsEvent (Settle word) (learned self.old.view word value) found self.new.view }
+        ensures event { (found : ℕ) × IsEvent (Settle word) self.old.view found self.new.view }
         ensures seat { IsSeatOf shared.now self.new }
     {
         let value = learn(shared, &mut self.bare, word);

@@ -9,7 +9,7 @@ use Rattle.heap_rule.specs.Plays.{May, IsEvent, learned}
 use Rattle.heap_rule.specs.Seated.{SeatView, IsStore}
 use Rattle.heap_rule.specs.Shown.{Can}
 use Rattle.heap_rule.proofs.ShownLemmas.{may_of}
-use Rattle.heap_rule.proofs.SettleLemmas.{own_below, settle_place, settle_can, settle_store, settled_seat}
+use Rattle.heap_rule.proofs.SettleLemmas.{own_below, settle_place, settle_can, settle_store, settled_seat, settled_event}
 use Rattle.heap_rule.proofs.seat.Seat.settle.Goals as goal
 
 pub overflow_add-place : goal.overflow_add-place
@@ -38,3 +38,10 @@ store-requires-clause-store c =
 pub invariant_of-self : goal.invariant_of-self
 invariant_of-self c = settled_seat c.self.inside.bare.me c.store.new.bare.me c.self.inside.notes c.self.inside.geometry.capacity c.args.word c.learn-value.result c.store.ensures.event.0 c.args.shared.now c.store.new.bare.table_id c.self.invariant c.store.ensures.at
     (subst (λ v. IsEvent (Settle c.args.word) v c.store.ensures.event.0 (view_in c.store.new.bare.me.0)) c.learn-value.ensures.view c.store.ensures.event.1)
+
+pub returns-clause-event : goal.returns-clause-event
+returns-clause-event c =
+    let can = subst (λ (s : SeatView). Can s.view (Settle c.args.word)) (sym c.self.view_is) c.requires.can in
+    let done = settled_event (view_in c.self.inside.bare.me.0) (view_in c.store.new.bare.me.0) c.args.word c.learn-value.result c.store.ensures.event.0 c.learn-value.ensures.found.0 c.learn-value.ensures.found.1 can
+    (subst (λ v. IsEvent (Settle c.args.word) v c.store.ensures.event.0 (view_in c.store.new.bare.me.0)) c.learn-value.ensures.view c.store.ensures.event.1) in
+    (done.0, subst (λ (s : SeatView). IsEvent (Settle c.args.word) s.view done.0 (view_in c.store.new.bare.me.0)) c.self.view_is done.1)
