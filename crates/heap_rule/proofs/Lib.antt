@@ -19,3 +19,4 @@ pub mod ChainLemmas
 pub mod BatchLemmas
 pub mod TickLemmas
 pub mod ShiftLemmas
+pub mod ToldLemmas

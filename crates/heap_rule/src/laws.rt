@@ -1,15 +1,38 @@
-//! What follows of a closed heap, as a function with nothing to run: a caller cites its clauses.
+//! What follows of a step of a seat, and of a closed heap, as functions with nothing to run: a
+//! caller cites their clauses.
 
-ghost use Rattle.std.specs.Prelude.{◌≡◌, ◌*◌, ℕ, List, None, length, slice_index};
+ghost use Rattle.std.specs.Prelude.{◌≡◌, ◌<◌, ◌≤◌, ◌+◌, ◌*◌, ℕ, List, Option, None, Some, length, slice_index};
 ghost use Rattle.heap_model.specs.declared.block.Block.{Block};
 ghost use Rattle.heap_model.specs.Blocks.{Names};
 ghost use Rattle.heap_model.specs.Durability.{IsCrashImage, IsClosedImage, NamesAreDurable};
 ghost use Rattle.heap_model.specs.Geometry.{image_words};
 ghost use Rattle.heap_model.specs.Header.{IsWellFormed, header_fault};
 ghost use Rattle.heap_model.specs.Image.{Image};
-ghost use Rattle.core_model.specs.Held.{IsHeldBy};
+ghost use Rattle.core_model.specs.declared.event.Event.{Event};
+ghost use Rattle.core_model.specs.declared.event.Event.TheVariants.{Tick, Load};
+ghost use Rattle.core_model.specs.declared.event.Shift.{Shift};
+ghost use Rattle.core_model.specs.Cells.{cell_at};
+ghost use Rattle.core_model.specs.Held.{IsHeldBy, IsFirm};
 ghost use Rattle.core_model.specs.View.{Setup, View};
+ghost use Rattle.heap_rule.specs.Plays.{IsEvent};
 ghost use Rattle.heap_rule.specs.Seats.{IsClosedSound};
+ghost use Rattle.heap_rule.specs.Shown.{Shows};
+
+/// What a step tells of the heap: in the state in which it was taken, each mixed image names each
+/// held block. A draw that does not stop has its ticket below the budget, and the seat has drawn at
+/// most so many before; what is loaded of an own word is what the view had recorded of it.
+pub fn a_step_tells_of_the_heap()
+    ensures firm { (event : Event) (v w : View) (found : ℕ) (e : IsEvent event v found w)
+        → IsFirm v.setup.capacity e.before.words e.before.views }
+    ensures draw { (shift : Option Shift) (v w : View) (ticket : ℕ) → IsEvent (Tick shift) v ticket w
+        → w.stopped ≡ None → (w.ticket ≡ Some ticket) × (ticket < v.setup.budget)
+        × (v.draws ≤ ticket) × (w.draws ≡ v.draws + 1) }
+    ensures stop { (shift : Option Shift) (v w : View) (ticket step : ℕ)
+        → IsEvent (Tick shift) v ticket w → v.stopped ≡ None → w.stopped ≡ Some step
+        → (step ≡ ticket) × (v.setup.budget ≤ ticket) }
+    ensures load { (v w : View) (word value found : ℕ) → IsEvent (Load word) v found w
+        → Shows v (cell_at v.setup.capacity word) value → found ≡ value }
+{}
 
 /// Each mixture of the volatile and the durable words of a closed heap names each block that its
 /// seats hold, and so does what a crash leaves of it, or a close; what a crash leaves has a good

@@ -20,7 +20,7 @@ mod told;
 mod words;
 
 pub use closing::close_shared;
-pub use laws::a_closed_heap_names_each_held_block;
+pub use laws::{a_closed_heap_names_each_held_block, a_step_tells_of_the_heap};
 pub use opening::open_shared;
 pub use seat::Seat;
 pub use shared::Shared;
