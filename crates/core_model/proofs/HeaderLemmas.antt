@@ -1,13 +1,13 @@
--- What a crash leaves of a sound state has a good header, if the opened image has one.
+-- What a crash leaves of a sound state, or a close, has a good header, if the opened image has one.
 use Rattle.std.proofs.Common.{◌≡◌, ℕ, ◌+◌, ◌*◌, ◌<◌, ◌≤◌, inl, inr, nat_lt, List, length, slice_index, get_or, None, ap, sym, subst, ◌∙◌, lt-ltb, arith}
 use Rattle.heap_model.specs.Geometry.{image_words, largest_capacity}
 use Rattle.heap_model.specs.Image.{Image}
 use Rattle.heap_model.specs.Header.{IsWellFormed, header_fault}
-use Rattle.heap_model.specs.Durability.{IsTransient, is_head, is_anchor, is_link, IsCrashImage}
+use Rattle.heap_model.specs.Durability.{IsTransient, is_head, is_anchor, is_link, IsCrashImage, IsClosedImage}
 use Rattle.heap_model.proofs.HeaderLemmas.{no_fault}
 use Rattle.core_model.specs.View.{Setup, View}
 use Rattle.core_model.specs.Sound.{Sound}
-use Rattle.core_model.specs.Held.{durable_image}
+use Rattle.core_model.specs.Held.{volatile_image, durable_image}
 use Rattle.core_model.proofs.PlaceLemmas.{pick}
 
 module _ (k : Setup) (words : List ℕ) (views : List View) (sound : Sound k words views) (image : Image) (crash : IsCrashImage (durable_image k.capacity words) image) where
@@ -47,3 +47,28 @@ module _ (k : Setup) (words : List ℕ) (views : List View) (sound : Sound k wor
 
   pub crash_header : IsWellFormed (8 * length k.opened) (slice_index k.opened) → header_fault (8 * image_words k.capacity) image ≡ None
   crash_header good = no_fault (8 * image_words k.capacity) image (crash_formed good)
+
+-- the same of what a close leaves
+module _ (k : Setup) (words : List ℕ) (views : List View) (sound : Sound k words views) (image : Image) (closed : IsClosedImage (volatile_image k.capacity words) image) where
+  closed_is : (word : ℕ) → word < 16 → (word ≡ 3 → ⊥) → image word ≡ get_or words word 0
+  closed_is word low other = closed.others word other ∙ pick (nat_lt word (image_words k.capacity)) _ _ (lt-ltb word (image_words k.capacity) (omega arith))
+
+  closed_as_opened : (word : ℕ) → word < 3 → image word ≡ slice_index k.opened word
+  closed_as_opened word low = closed_is word (omega arith) (λ e. omega (arith, e)) ∙ (sound.fixed word (inl (omega arith))).0
+
+  closed_capacity : image 2 ≡ k.capacity
+  closed_capacity = closed_as_opened 2 (omega arith) ∙ sound.capacity
+
+  pub closed_formed : IsWellFormed (8 * length k.opened) (slice_index k.opened) → IsWellFormed (8 * image_words k.capacity) image
+  closed_formed good = record {
+    magic_is = closed_as_opened 0 (omega arith) ∙ good.magic_is;
+    version_is = closed_as_opened 1 (omega arith) ∙ good.version_is;
+    some = let some = sound.some in omega (arith, closed_capacity);
+    small = subst (λ n. n ≤ largest_capacity) (sym closed_capacity) sound.good.small;
+    length_is = ap (λ n. 8 * image_words n) (sym closed_capacity);
+    state = inl closed.state;
+    used = let room = sound.good.shaped.durable.room in let mark = closed_is 8 (omega arith) (λ e. omega (arith, e)) in omega (arith, closed_capacity);
+  }
+
+  pub closed_header : IsWellFormed (8 * length k.opened) (slice_index k.opened) → header_fault (8 * image_words k.capacity) image ≡ None
+  closed_header good = no_fault (8 * image_words k.capacity) image (closed_formed good)

@@ -35,7 +35,7 @@ pub fn a_step_tells_of_the_heap()
 {}
 
 /// Each mixture of the volatile and the durable words of a closed heap names each block that its
-/// seats hold, and so does what a crash leaves of it, or a close; what a crash leaves has a good
+/// seats hold, and so does what a crash leaves of it, or a close; what these leave has a good
 /// header, if the opened image has one.
 pub fn a_closed_heap_names_each_held_block()
     ensures firm { (k : Setup) (now kept : List ℕ) (views : List View)
@@ -53,5 +53,10 @@ pub fn a_closed_heap_names_each_held_block()
         → IsClosedSound k now kept views
         → IsWellFormed (8 * length k.opened) (slice_index k.opened)
         → (image : Image) → IsCrashImage (slice_index kept) image
+        → header_fault (8 * image_words k.capacity) image ≡ None }
+    ensures closed_header { (k : Setup) (now kept : List ℕ) (views : List View)
+        → IsClosedSound k now kept views
+        → IsWellFormed (8 * length k.opened) (slice_index k.opened)
+        → (image : Image) → IsClosedImage (slice_index now) image
         → header_fault (8 * image_words k.capacity) image ≡ None }
 {}

@@ -3,7 +3,7 @@ use Rattle.heap_model.specs.Durability.{IsCrashImage, IsClosedImage, NamesAreDur
 use Rattle.heap_model.specs.Image.{Image}
 use Rattle.core_model.specs.Held.{IsHeldBy, volatile_image}
 use Rattle.core_model.proofs.HeldLemmas.{firm, crash_names, closed_names}
-use Rattle.core_model.proofs.HeaderLemmas.{crash_header}
+use Rattle.core_model.proofs.HeaderLemmas.{crash_header, closed_header}
 use Rattle.heap_rule.proofs.ImageLemmas.{volatile_is, durable_is}
 use Rattle.heap_rule.proofs.laws.a_closed_heap_names_each_held_block.Goals as goal
 
@@ -27,3 +27,8 @@ pub returns-clause-header : goal.returns-clause-header
 returns-clause-header c k now kept views closed good image crash =
     crash_header k (now ++ (kept ++ (closed.drawn ∷ []))) views closed.sound image
     (subst (λ (i : Image). IsCrashImage i image) (sym (durable_is k.capacity now kept closed.drawn closed.now_long closed.kept_long)) crash) good
+
+pub returns-clause-closed_header : goal.returns-clause-closed_header
+returns-clause-closed_header c k now kept views closed good image is =
+    closed_header k (now ++ (kept ++ (closed.drawn ∷ []))) views closed.sound image
+    (subst (λ (i : Image). IsClosedImage i image) (sym (volatile_is k.capacity now kept closed.drawn closed.now_long closed.kept_long)) is) good
