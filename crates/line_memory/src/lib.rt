@@ -13,7 +13,9 @@ mod recent;
 pub use chance::Chance;
 pub use closed::Closed;
 pub use memory::{LineMemory, Stopped, only_stores_add, persist};
+pub use pending::Pending;
 pub use plain::PlainMemory;
+pub use recent::RecentStores;
 
 #[cfg(test)]
 mod tests;

@@ -1,5 +1,5 @@
 //! The pending write-backs of a memory, in room that is taken once.
-ghost use Rattle.std.specs.Prelude.{◌≡◌, ◌≢◌, ℕ, ◌+◌, ◌*◌, ◌/◌, ◌<◌, ◌≤◌, false, true, length, replicate, slice_index, slice_index_or, slice_set, IfOk, vec_len};
+ghost use Rattle.std.specs.Prelude.{◌≡◌, ◌≢◌, ℕ, ◌+◌, ◌*◌, ◌/◌, ◌<◌, ◌≤◌, false, true, length, replicate, slice_index, slice_index_or, slice_set, IfOk, IfSome, IsNone, vec_len};
 ghost use Rattle.line_memory.specs.Marks.{completed_at, mark_at, IsMarked};
 
 use crate::memory;
@@ -66,6 +66,25 @@ impl Pending {
         self.marks[word] = false;
     }
 
+    /// Takes back the mark of one marked word, if there is one, and tells the word.
+    pub fn take_marked(&mut self) -> Option<u64>
+        ensures some { IfSome result (λ word. IsMarked self.old word
+            × (self.new ≡ slice_set self.old word false)) }
+        ensures none { IsNone result
+            → ((word : ℕ) → mark_at self.old word ≡ false) × (self.new ≡ self.old) }
+    {
+        while let Some(line) = self.lines.pop() {
+            let at = line as usize;
+            if let Some(word) = first_marked(&self.marks, at) {
+                self.lines.push_reserved(line);
+                self.marks[word] = false;
+                return Some(word as u64);
+            }
+            self.listed[at] = false;
+        }
+        None
+    }
+
     /// Makes each marked word durable, and takes back all marks.
     pub fn complete(&mut self, volatile: &[u64], durable: &mut [u64])
         requires marks { length self.old ≡ length volatile.now }
@@ -94,6 +113,23 @@ fn mark_words(marks: &mut [bool], line: usize)
     for word in first..first + count {
         marks[word] = true;
     }
+}
+
+/// The first marked word of the line.
+fn first_marked(marks: &[bool], line: usize) -> Option<usize>
+    requires { 8 * line < length marks.now }
+    ensures some { IfSome result (λ word. IsMarked marks.now word × (word / 8 ≡ line)) }
+    ensures none { IsNone result → (k : ℕ) → k / 8 ≡ line → mark_at marks.now k ≡ false }
+{
+    let first = LINE * line;
+    let count = LINE.min(marks.len() - first);
+    for word in first..first + count {
+        let marked = marks[word];
+        if marked {
+            return Some(word);
+        }
+    }
+    None
 }
 
 /// Makes the marked words of the line durable, and takes back their marks.
