@@ -8,15 +8,14 @@ use Rattle.std.proofs.lemmas.List.Sums.{sum_by-le}
 use Rattle.std.proofs.lemmas.List.Elements.{Contains-push_cases}
 use Rattle.std.proofs.lemmas.Nat.{row_fits}
 use Rattle.heap_model.specs.declared.block.Block.{Block}
-use Rattle.heap_model.specs.Geometry.{roots, root_word}
+use Rattle.heap_model.specs.Geometry.{roots, root_word, start_word}
 use Rattle.heap_model.specs.Image.{Image}
-use Rattle.heap_model.specs.Header.{IsWellFormed}
+use Rattle.heap_model.specs.Header.{capacity_of, used_of}
 use Rattle.heap_model.specs.Blocks.{layout_of, IsBlock}
 use Rattle.heap_model.specs.Pointers.{Leads}
 use Rattle.heap_model.specs.Reach.{Links, words_in, by_start, by_link, ReachFrom}
-use Rattle.heap_model.proofs.BlockLemmas.{block_words}
+use Rattle.heap_model.proofs.BlockLemmas.{block_words, block_inside}
 use Rattle.heap_model.proofs.ReachLemmas.{closure_least, closure_included, reached_block, more_roots}
-use Rattle.filter_trace.proofs.StepLemmas.{block_within}
 use Rattle.root_reach.specs.declared.origin.Origin.{Origin}
 use Rattle.root_reach.specs.declared.origin.Origin.TheVariants.{One, Several}
 use Rattle.root_reach.specs.declared.labels.Finding.{Finding}
@@ -35,12 +34,12 @@ small_rank (suc (suc root)) = omega arith
 
 module _ (image : Image) (kinds : ℕ → ℕ) (links : Links) (count : ℕ) where
   -- nothing has been found, and no label tells anything
-  pub nothing_found : (n : ℕ) (labels : List ℕ) → IsWellFormed (8 * n) image → length labels ≡ n * count → All (λ label. label ≡ 0) labels
+  pub nothing_found : (n : ℕ) (labels : List ℕ) → n ≡ start_word (capacity_of image) (used_of image) → length labels ≡ n * count → All (λ label. label ≡ 0) labels
       → IsFound image kinds links count [] labels
-  nothing_found n labels formed long clear =
+  nothing_found n labels end long clear =
       let fits : (b : Block) → IsBlock (layout_of image) b → b.first_word * count + count ≤ length labels =
       λ b is.
-      let within = block_within image n b formed is in
+      let within = block_inside (layout_of image) b is in
       let some = block_words (layout_of image) b is in
       let row = row_fits b.first_word count n count (omega arith) (omega arith) in omega arith
       in record {

@@ -2,8 +2,8 @@
 //! kind changes twice at most, from no root to one, and to several, and is followed each time.
 ghost use Rattle.std.specs.Prelude.{◌≡◌, ◌*◌, ◌<◌, length, slice_index, IfOk};
 ghost use Rattle.std.specs.List.{All};
-ghost use Rattle.heap_model.specs.Geometry.{roots};
-ghost use Rattle.heap_model.specs.Header.{IsWellFormed};
+ghost use Rattle.heap_model.specs.Geometry.{roots, start_word};
+ghost use Rattle.heap_model.specs.Header.{IsWellFormed, capacity_of, used_of};
 ghost use Rattle.heap_model.specs.Blocks.{layout_of};
 ghost use Rattle.super_block.specs.Division.{Describes};
 ghost use Rattle.root_reach.specs.Reaching.{AreOrigins};
@@ -12,10 +12,12 @@ use crate::labels::{Found, Origins};
 use crate::steps::{follow_links, follow_roots};
 use filter_trace::{Filter, Scan};
 use std::alloc::{AllocError, Global};
+use super_block::{CAPACITY_WORD, Geometry, USED_WORD};
 
 /// Which roots reach each block of the image, `kinds` being the kind of what each root leads to.
 /// Words that lead nowhere are passed by. Time grows with the blocks and links that are reached,
-/// room with the words of the image, two bytes for each word and kind.
+/// room with the words up to the end of the superblocks that were taken, two bytes for each word
+/// and kind.
 pub fn trace_origins<F: Filter>(
     alloc: Global,
     scan: &Scan,
@@ -28,7 +30,7 @@ pub fn trace_origins<F: Filter>(
     requires kinds { All (λ kind. kind < F.KINDS) kinds.now }
     ensures ok { IfOk result (AreOrigins (slice_index scan.now.words.now) (slice_index kinds.now) (F.links_of filter.now)) }
 {
-    let mut found = Found::new(alloc, scan.words.len(), F::KINDS)?;
+    let mut found = Found::new(alloc, words_of_taken(scan.words), F::KINDS)?;
     follow_roots(scan, kinds, filter, &mut found)?;
     let mut next = 0;
     while next < found.list.len() {
@@ -38,4 +40,18 @@ pub fn trace_origins<F: Filter>(
     }
     let Found { list: _, origins } = found;
     Ok(origins)
+}
+
+// How many words the image has up to the end of the superblocks that were taken: no block has one
+// behind.
+fn words_of_taken(words: &[u64]) -> usize
+    requires formed { IsWellFormed (8 * length words.now) (slice_index words.now) }
+    ensures { result ≡ start_word (capacity_of (slice_index words.now)) (used_of (slice_index words.now)) }
+{
+    let capacity = words[CAPACITY_WORD as usize];
+    let used = words[USED_WORD as usize];
+    if used == capacity {
+        return words.len();
+    }
+    Geometry::new(capacity).start(used) as usize
 }

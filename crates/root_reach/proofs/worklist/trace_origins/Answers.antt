@@ -7,14 +7,18 @@ use Rattle.root_reach.proofs.TraceLemmas.{nothing_found, work_begins, work_step,
 use Rattle.root_reach.proofs.worklist.trace_origins.Goals as goal
 
 pub new-requires : goal.new-requires
-new-requires g c = let short = image_short (slice_index c.args.scan.now.words.now) (length c.args.scan.now.words.now) c.requires.formed in omega arith
+new-requires g c =
+    let short = image_short (slice_index c.args.scan.now.words.now) (length c.args.scan.now.words.now) c.requires.formed in
+    let long = c.requires.formed.length_is in
+    let used = c.requires.formed.used in
+    omega (arith, c.words_of_taken.ensures)
 
 pub follow_roots-requires-clause-so_far : goal.follow_roots-requires-clause-so_far
 follow_roots-requires-clause-so_far g c =
-    let long : length c.in_ok-found.found.origins.labels.items ≡ length c.args.scan.now.words.now * c.in_ok-found.found.origins.kinds =
-    c.in_ok-found.ensures.long ∙ ap (λ n. length c.args.scan.now.words.now * n) (sym c.in_ok-found.ensures.kinds) in
+    let long : length c.in_ok-found.found.origins.labels.items ≡ c.words_of_taken.result * c.in_ok-found.found.origins.kinds =
+    c.in_ok-found.ensures.long ∙ ap (λ n. c.words_of_taken.result * n) (sym c.in_ok-found.ensures.kinds) in
     rw (c.in_ok-found.ensures.empty) (nothing_found (slice_index c.args.scan.now.words.now) (slice_index c.args.kinds.now) (g.F.Filter.links_of c.args.filter.now) c.in_ok-found.found.origins.kinds
-    (length c.args.scan.now.words.now) c.in_ok-found.found.origins.labels.items c.requires.formed long c.in_ok-found.ensures.clear)
+    c.words_of_taken.result c.in_ok-found.found.origins.labels.items c.words_of_taken.ensures long c.in_ok-found.ensures.clear)
 
 pub follow_links-requires-clause-tells : goal.follow_links-requires-clause-tells
 follow_links-requires-clause-tells g c =
