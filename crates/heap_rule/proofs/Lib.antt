@@ -20,3 +20,4 @@ pub mod BatchLemmas
 pub mod TickLemmas
 pub mod ShiftLemmas
 pub mod ToldLemmas
+pub mod SeatImageLemmas

@@ -4,3 +4,4 @@ pub mod Plays
 pub mod Shown
 pub mod Seated
 pub mod Seats
+pub mod Images

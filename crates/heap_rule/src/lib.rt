@@ -4,6 +4,7 @@
 mod chains;
 mod closing;
 mod fresh;
+mod image_laws;
 mod laws;
 mod lists;
 mod looks;
@@ -20,6 +21,9 @@ mod told;
 mod words;
 
 pub use closing::close_shared;
+pub use image_laws::{
+    an_image_of_a_seat_has_its_blocks_and_words, each_choice_of_words_is_an_image_of_the_seat,
+};
 pub use laws::{a_closed_heap_names_each_held_block, a_step_tells_of_the_heap};
 pub use opening::open_shared;
 pub use seat::Seat;

@@ -1,0 +1,123 @@
+-- The mixed images of a sound state, and what a seat's view tells of them.
+use Rattle.std.proofs.Common.{◌≡◌, ◌⊎◌, ℕ, ◌+◌, ◌*◌, ◌<◌, inl, inr, Bool, true, false, cond, nat_lt, List, length, slice_index, get_or, None, refl, ap, sym, ◌∙◌, lt-ltb, arith}
+use Rattle.heap_model.specs.declared.block.Block.{Block}
+use Rattle.heap_model.specs.Blocks.{Names}
+use Rattle.heap_model.specs.Durability.{Mixes}
+use Rattle.heap_model.specs.Geometry.{image_words, IsFixed, in_header, in_descriptor}
+use Rattle.heap_model.specs.Header.{IsWellFormed, header_fault}
+use Rattle.heap_model.specs.Image.{Image}
+use Rattle.heap_model.proofs.HeaderLemmas.{no_fault}
+use Rattle.core_model.specs.Cells.{cell_at, is_cell}
+use Rattle.core_model.specs.Guards.{IsOwn}
+use Rattle.core_model.specs.Held.{IsHeld, volatile_image, durable_image}
+use Rattle.core_model.specs.Sound.{Sound}
+use Rattle.core_model.specs.View.{Setup, View}
+use Rattle.core_model.proofs.HeldLemmas.{firm}
+use Rattle.core_model.proofs.PlaceLemmas.{pick}
+use Rattle.heap_rule.specs.Images.{Agrees, HasPicked, HasRecorded, IsImageOf, KeepsFixed, MixesRecorded}
+use Rattle.heap_rule.specs.Plays.{Has}
+use Rattle.heap_rule.proofs.SettleLemmas.{own_there, own_index, own_below}
+use Rattle.heap_rule.proofs.ViewLemmas.{shown, shown_durable}
+
+-- the words that no step changes lie in the image
+fixed_below : (c word : ℕ) → IsFixed c word → word < image_words c
+fixed_below c word (inl first) = omega arith
+fixed_below c word (inr (in_header w after before other list)) = omega (arith, before)
+fixed_below c word (inr (in_descriptor d at w less low high is)) = omega (arith, less, high, is)
+
+module _ (k : Setup) (words : List ℕ) (views : List View) (sound : Sound k words views) (image : Image) (mixed : Mixes (volatile_image k.capacity words) (durable_image k.capacity words) image) where
+  -- a word of the image is the volatile or the durable one
+  either : (word : ℕ) → word < image_words k.capacity → (image word ≡ get_or words word 0) ⊎ (image word ≡ get_or words (image_words k.capacity + word) 0)
+  either word inside = elim (mixed.each word) [
+    | inl volatile ↦ inl (volatile ∙ pick (nat_lt word (image_words k.capacity)) _ _ (lt-ltb word (image_words k.capacity) inside))
+    | inr durable ↦ inr (durable ∙ pick (nat_lt word (image_words k.capacity)) _ _ (lt-ltb word (image_words k.capacity) inside))
+  ]
+
+  opened_is : (word : ℕ) → IsFixed k.capacity word → image word ≡ slice_index k.opened word
+  opened_is word fixed = elim (either word (fixed_below k.capacity word fixed)) [
+    | inl volatile ↦ volatile ∙ (sound.fixed word fixed).0
+    | inr durable ↦ durable ∙ (sound.fixed word fixed).1
+  ]
+
+  pub mixed_fixed : KeepsFixed k image
+  mixed_fixed = record { each = opened_is }
+
+  capacity_is : image 2 ≡ k.capacity
+  capacity_is = opened_is 2 (inl (omega arith)) ∙ sound.capacity
+
+  mixed_formed : IsWellFormed (8 * length k.opened) (slice_index k.opened) → IsWellFormed (8 * image_words k.capacity) image
+  mixed_formed good = record {
+    magic_is = opened_is 0 (inl (omega arith)) ∙ good.magic_is;
+    version_is = opened_is 1 (inl (omega arith)) ∙ good.version_is;
+    some = let some = sound.some in omega (arith, capacity_is);
+    small = let small = sound.good.small in omega (arith, capacity_is);
+    length_is = ap (λ n. 8 * image_words n) (sym capacity_is);
+    state = elim good.state [ inl clean ↦ inl (opened_is 3 (inl (omega arith)) ∙ clean) | inr dirty ↦ inr (opened_is 3 (inl (omega arith)) ∙ dirty) ];
+    used = let behind = sound.good.shaped.durable.behind in let room = sound.good.shaped.durable.room in
+        elim (either 8 (omega arith)) [ inl volatile ↦ omega (arith, capacity_is) | inr durable ↦ omega (arith, capacity_is) ];
+  }
+
+  pub mixed_header : IsWellFormed (8 * length k.opened) (slice_index k.opened) → header_fault (8 * image_words k.capacity) image ≡ None
+  mixed_header good = no_fault (8 * image_words k.capacity) image (mixed_formed good)
+
+-- one of the two
+picked : (test : Bool) (a b : ℕ) → (cond test a b ≡ a) ⊎ (cond test a b ≡ b)
+picked true a b = inl refl
+picked false a b = inr refl
+
+module _ (v : View) (s : Has v) where
+  -- each own word has its recorded values
+  pub now_recorded : (word : ℕ) → IsOwn v (cell_at v.setup.capacity word) → Agrees v.volatile (cell_at v.setup.capacity word) (volatile_image v.setup.capacity s.words word)
+  now_recorded word own value shows = let there = own_there v word own in
+      pick (nat_lt word (image_words v.setup.capacity)) _ _ (lt-ltb word (image_words v.setup.capacity) (own_below v word own))
+      ∙ ap (λ n. get_or s.words n 0) (sym (own_index v word own))
+      ∙ sym (pick (is_cell v.setup.capacity (cell_at v.setup.capacity word)) _ _ there)
+      ∙ shown v s (cell_at v.setup.capacity word) value there shows
+
+  pub kept_recorded : (word : ℕ) → IsOwn v (cell_at v.setup.capacity word) → Agrees v.durable (cell_at v.setup.capacity word) (durable_image v.setup.capacity s.words word)
+  kept_recorded word own value shows = let there = own_there v word own in
+      pick (nat_lt word (image_words v.setup.capacity)) _ _ (lt-ltb word (image_words v.setup.capacity) (own_below v word own))
+      ∙ ap (λ n. get_or s.words (image_words v.setup.capacity + n) 0) (sym (own_index v word own))
+      ∙ sym (pick (is_cell v.setup.capacity (cell_at v.setup.capacity word)) _ _ there)
+      ∙ shown_durable v s (cell_at v.setup.capacity word) value there shows
+
+  pub state_recorded : HasRecorded (volatile_image v.setup.capacity s.words) (durable_image v.setup.capacity s.words) v
+  state_recorded = record { volatile = now_recorded; durable = kept_recorded }
+
+  -- the image with the words that are picked
+  picked_words : (ℕ → Bool) → Image
+  picked_words choice word = cond (choice word) (volatile_image v.setup.capacity s.words word) (durable_image v.setup.capacity s.words word)
+
+  pub picked_image : (choice : ℕ → Bool) → (image : Image) × IsImageOf v image × HasPicked v choice image
+  unfolding picked_words
+  picked_image choice = (
+    picked_words choice,
+    record {
+      has = s;
+      mixed = record { each = λ word. picked (choice word) (volatile_image v.setup.capacity s.words word) (durable_image v.setup.capacity s.words word) };
+    },
+    record { each = λ word own. one_of word own (choice word) },
+  ) where
+    one_of : (word : ℕ) → IsOwn v (cell_at v.setup.capacity word) → (test : Bool)
+        → Agrees (cond test v.volatile v.durable) (cell_at v.setup.capacity word) (cond test (volatile_image v.setup.capacity s.words word) (durable_image v.setup.capacity s.words word))
+    one_of word own true = now_recorded word own
+    one_of word own false = kept_recorded word own
+
+module _ (v : View) (image : Image) (is : IsImageOf v image) where
+  pub image_names : (b : Block) → IsHeld v b → Names image (8 * b.first_word) b
+  image_names b held = (firm v.setup is.has.words is.has.views is.has.sound).each image is.mixed b
+      (record { seat = is.has.seat; view = v; below = is.has.below; at = is.has.at; holds = held })
+
+  pub image_mixes : MixesRecorded v image
+  image_mixes = record {
+    each = λ word own. elim (is.mixed.each word) [
+      | inl volatile ↦ inl (λ value shows. volatile ∙ now_recorded v is.has word own value shows)
+      | inr durable ↦ inr (λ value shows. durable ∙ kept_recorded v is.has word own value shows)
+    ];
+  }
+
+  pub image_fixed : KeepsFixed v.setup image
+  image_fixed = mixed_fixed v.setup is.has.words is.has.views is.has.sound image is.mixed
+
+  pub image_header : IsWellFormed (8 * length v.setup.opened) (slice_index v.setup.opened) → header_fault (8 * image_words v.setup.capacity) image ≡ None
+  image_header good = mixed_header v.setup is.has.words is.has.views is.has.sound image is.mixed good
