@@ -21,3 +21,4 @@ pub mod TickLemmas
 pub mod ShiftLemmas
 pub mod ToldLemmas
 pub mod SeatImageLemmas
+pub mod ClosedLemmas

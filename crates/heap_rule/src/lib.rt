@@ -2,6 +2,7 @@
 #![tactic(auto)]
 
 mod chains;
+mod closed_laws;
 mod closing;
 mod fresh;
 mod image_laws;
@@ -20,6 +21,10 @@ mod ticks;
 mod told;
 mod words;
 
+pub use closed_laws::{
+    a_closed_heap_counts_what_its_seats_did, a_closed_heap_has_images_of_its_seats,
+    a_closed_heap_has_the_opened_header, a_closed_heap_has_the_recorded_words,
+};
 pub use closing::close_shared;
 pub use image_laws::{
     an_image_of_a_seat_has_its_blocks_and_words, each_choice_of_words_is_an_image_of_the_seat,

@@ -1,0 +1,73 @@
+-- What a closed heap leaves in its words, from that they are sound with its seats' last views.
+use Rattle.std.proofs.Common.{◌≡◌, ℕ, ◌+◌, ◌*◌, ◌<◌, ◌≤◌, List, [], ◌∷◌, ◌++◌, get_or, length, slice_index, ap, sym, subst, ◌∙◌, get_or-append-add, arith}
+use Rattle.std.proofs.lemmas.List.{get_or_append_left}
+use Rattle.heap_model.specs.Counting.{total}
+use Rattle.heap_model.specs.Durability.{Mixes}
+use Rattle.heap_model.specs.Geometry.{image_words, used_word}
+use Rattle.heap_model.specs.Image.{Image}
+use Rattle.core_model.specs.Held.{volatile_image, durable_image}
+use Rattle.core_model.specs.Sound.{Each, Sound}
+use Rattle.core_model.specs.View.{Setup, View}
+use Rattle.heap_rule.specs.Images.{HasRecorded, IsImageOf}
+use Rattle.heap_rule.specs.Plays.{Has}
+use Rattle.heap_rule.specs.Seats.{IsClosedSound}
+use Rattle.heap_rule.proofs.ImageLemmas.{volatile_is, durable_is}
+use Rattle.heap_rule.proofs.SeatImageLemmas.{state_recorded}
+
+module _ (k : Setup) (now kept : List ℕ) (views : List View) (closed : IsClosedSound k now kept views) where
+  abbrev words : List ℕ
+  words = now ++ (kept ++ (closed.drawn ∷ []))
+
+  now_at : (word : ℕ) → word < image_words k.capacity → get_or words word 0 ≡ slice_index now word
+  now_at word less = let long = closed.now_long in get_or_append_left now (kept ++ (closed.drawn ∷ [])) 0 word (omega arith)
+
+  behind_now : (at : ℕ) → get_or words (image_words k.capacity + at) 0 ≡ get_or (kept ++ (closed.drawn ∷ [])) at 0
+  behind_now at = ap (λ n. get_or words (n + at) 0) (sym closed.now_long) ∙ get_or-append-add now (kept ++ (closed.drawn ∷ [])) at 0
+
+  kept_at : (word : ℕ) → word < image_words k.capacity → get_or words (image_words k.capacity + word) 0 ≡ slice_index kept word
+  kept_at word less = let long = closed.kept_long in behind_now word ∙ get_or_append_left kept (closed.drawn ∷ []) 0 word (omega arith)
+
+  drawn_at : get_or words (2 * image_words k.capacity) 0 ≡ closed.drawn
+  drawn_at = ap (λ n. get_or words n 0) (let twice : 2 * image_words k.capacity ≡ image_words k.capacity + (image_words k.capacity + 0) = omega arith in twice)
+      ∙ behind_now (image_words k.capacity + 0) ∙ ap (λ n. get_or (kept ++ (closed.drawn ∷ [])) (n + 0) 0) (sym closed.kept_long) ∙ get_or-append-add kept (closed.drawn ∷ []) 0 0
+
+  -- the sound state that it is, in which each seat has its last view
+  abbrev pub last_state : (i : ℕ) (v : View) → i < length views → get_or views i v ≡ v → Has v
+  last_state i v below at = record {
+    words = words;
+    views = views;
+    seat = i;
+    sound = subst (λ s. Sound s words views) (sym (closed.sound.good.set_up i v below at).setup) closed.sound;
+    below = below;
+    at = at;
+  }
+
+  pub mixed_is : (image : Image) → Mixes (slice_index now) (slice_index kept) image → Mixes (volatile_image k.capacity words) (durable_image k.capacity words) image
+  mixed_is image mixed =
+      subst (λ (i : Image). Mixes i (durable_image k.capacity words) image) (sym (volatile_is k.capacity now kept closed.drawn closed.now_long closed.kept_long))
+      (subst (λ (i : Image). Mixes (slice_index now) i image) (sym (durable_is k.capacity now kept closed.drawn closed.now_long closed.kept_long)) mixed)
+
+  pub recorded : Each views (HasRecorded (slice_index now) (slice_index kept))
+  recorded i v below at =
+      let capacity = ap (λ (s : Setup). s.capacity) (closed.sound.good.set_up i v below at).setup in
+      subst (λ (image : Image). HasRecorded image (slice_index kept) v) (ap (λ c. volatile_image c words) capacity ∙ volatile_is k.capacity now kept closed.drawn closed.now_long closed.kept_long)
+      (subst (λ (image : Image). HasRecorded (volatile_image v.setup.capacity words) image v) (ap (λ c. durable_image c words) capacity ∙ durable_is k.capacity now kept closed.drawn closed.now_long closed.kept_long)
+      (state_recorded v (last_state i v below at)))
+
+  pub images : (image : Image) → Mixes (slice_index now) (slice_index kept) image → Each views (λ v. IsImageOf v image)
+  images image mixed i v below at = record {
+    has = last_state i v below at;
+    mixed = subst (λ c. Mixes (volatile_image c words) (durable_image c words) image) (sym (ap (λ (s : Setup). s.capacity) (closed.sound.good.set_up i v below at).setup)) (mixed_is image mixed);
+  }
+
+  pub taken_in_all : slice_index now used_word ≡ k.used + total (λ (v : View). v.taken) views
+  taken_in_all = sym (now_at used_word (omega arith)) ∙ closed.sound.good.adds.taken
+
+  pub kept_behind : slice_index kept used_word ≤ slice_index now used_word
+  kept_behind = let behind = closed.sound.good.shaped.durable.behind in let a = now_at used_word (omega arith) in let b = kept_at used_word (omega arith) in omega arith
+
+  pub in_room : slice_index now used_word ≤ k.capacity
+  in_room = let room = closed.sound.good.shaped.durable.room in let a = now_at used_word (omega arith) in omega arith
+
+  pub drawn_in_all : closed.drawn ≡ total (λ (v : View). v.draws) views
+  drawn_in_all = sym drawn_at ∙ closed.sound.good.adds.draws

@@ -1,0 +1,56 @@
+//! What a closed heap leaves in its words, as functions with nothing to run: a caller cites their
+//! clauses.
+
+ghost use Rattle.std.specs.Prelude.{◌≡◌, ◌≤◌, ◌+◌, ◌*◌, ℕ, List, None, length, slice_index};
+ghost use Rattle.heap_model.specs.Counting.{total};
+ghost use Rattle.heap_model.specs.Durability.{Mixes};
+ghost use Rattle.heap_model.specs.Geometry.{image_words, used_word};
+ghost use Rattle.heap_model.specs.Header.{IsWellFormed, header_fault};
+ghost use Rattle.heap_model.specs.Image.{Image};
+ghost use Rattle.core_model.specs.Sound.{Each};
+ghost use Rattle.core_model.specs.View.{Setup, View};
+ghost use Rattle.heap_rule.specs.Images.{HasRecorded, IsImageOf, KeepsFixed};
+ghost use Rattle.heap_rule.specs.Seats.{IsClosedSound};
+
+/// Of each own word a seat has recorded what a close left: the volatile value and the durable one.
+pub fn a_closed_heap_has_the_recorded_words()
+    ensures { (k : Setup) (now kept : List ℕ) (views : List View) → IsClosedSound k now kept views
+        → Each views (HasRecorded (slice_index now) (slice_index kept)) }
+{}
+
+/// The words that no step changes are as they were opened, in every mixture of volatile and durable
+/// words: so each of these has a good header, if the opened image has one.
+pub fn a_closed_heap_has_the_opened_header()
+    ensures fixed { (k : Setup) (now kept : List ℕ) (views : List View)
+        → IsClosedSound k now kept views
+        → (image : Image) → Mixes (slice_index now) (slice_index kept) image → KeepsFixed k image }
+    ensures header { (k : Setup) (now kept : List ℕ) (views : List View)
+        → IsClosedSound k now kept views
+        → IsWellFormed (8 * length k.opened) (slice_index k.opened)
+        → (image : Image) → Mixes (slice_index now) (slice_index kept) image
+        → header_fault (8 * image_words k.capacity) image ≡ None }
+{}
+
+/// The mark has risen by the superblocks that the seats took, within the capacity, and its durable
+/// value is no higher; as many tickets were drawn as the seats drew.
+pub fn a_closed_heap_counts_what_its_seats_did()
+    ensures taken { (k : Setup) (now kept : List ℕ) (views : List View)
+        → IsClosedSound k now kept views
+        → slice_index now used_word ≡ k.used + total (λ (v : View). v.taken) views }
+    ensures durable { (k : Setup) (now kept : List ℕ) (views : List View)
+        → IsClosedSound k now kept views
+        → slice_index kept used_word ≤ slice_index now used_word }
+    ensures room { (k : Setup) (now kept : List ℕ) (views : List View)
+        → IsClosedSound k now kept views → slice_index now used_word ≤ k.capacity }
+    ensures draws { (k : Setup) (now kept : List ℕ) (views : List View)
+        → (closed : IsClosedSound k now kept views)
+        → closed.drawn ≡ total (λ (v : View). v.draws) views }
+{}
+
+/// Each mixture of the volatile and the durable words of a closed heap is an image of each of its
+/// seats.
+pub fn a_closed_heap_has_images_of_its_seats()
+    ensures { (k : Setup) (now kept : List ℕ) (views : List View) → IsClosedSound k now kept views
+        → (image : Image) → Mixes (slice_index now) (slice_index kept) image
+        → Each views (λ v. IsImageOf v image) }
+{}
