@@ -18,7 +18,7 @@ use Rattle.dict_seat.specs.Maps.{Gives}
 use Rattle.dict_seat.specs.Reached.{MayReach, Reaches, ReachesOnlyHeld, ReachesAllHeld}
 use Rattle.dict_seat.specs.Trails.{pointer_to, IsSettled, HasCome}
 use Rattle.dict_seat.specs.Changes.{IsTaken}
-use Rattle.dict_seat.proofs.GrownLemmas.{are_placed, grown_keeps, only_grown}
+use Rattle.dict_seat.proofs.GrownLemmas.{are_placed, stays_held, grown_keeps, only_grown}
 use Rattle.dict_seat.proofs.TrailLemmas.{now_image, settled_stays, leads_held, bucket_own, bucket_below}
 use Rattle.dict_seat.proofs.ComeLemmas.{begins_chain, trail_kept, link_behind_roots, last_not_table}
 use Rattle.dict_seat.proofs.DeleteLemmas.{shard_below, seen_value, node_held, node_reached, come_to, link_kind, link_holds, may_link, unreached}
@@ -57,9 +57,6 @@ come_kept u w key p x table before map seat gives come at may = record {
 
 module _ (u w : View) (seat : IsSeat u) (seat_w : IsSeat w) (key : ℕ) (place : Place) (next : ℕ) (taken : IsTaken IsSettled u key place next) (map : Map) (gives : Gives u (shard_of key) map)
     (only : ReachesOnlyHeld u) where
-  come_u : HasCome IsSettled u (shard_of key) key taken.table taken.before
-  come_u = come_to u seat key place next taken map gives
-
   held_u : Contains u.held place.node
   held_u = node_held u seat key place next taken map gives
 
@@ -85,7 +82,7 @@ module _ (u w : View) (seat : IsSeat u) (seat_w : IsSeat w) (key : ℕ) (place :
       seen_value u place.node.first_word value next (subst (λ q. u.volatile q ≡ Some value) at seen) taken.next_is.seen
 
   pub not_root : (root : ℕ) → Contains u.roots root → root_word root ≢ word_of place.link
-  not_root root owned e = link_behind_roots u key taken.table taken.before root seat owned come_u (e ∙ taken.at_is)
+  not_root root owned e = link_behind_roots u key taken.table taken.before root seat owned (come_to u seat key place next taken map gives) (e ∙ taken.at_is)
 
   -- a node that is taken out and freed
   pub all_removed : (may : MayStore (word_of place.link) next u w) → IsSettled w (word_of place.link) next → (x : View) → MayFree place.node w x → (Contains x.held place.node → ⊥) → ReachesOnlyHeld x
@@ -105,7 +102,7 @@ module _ (u w : View) (seat : IsSeat u) (seat_w : IsSeat w) (key : ℕ) (place :
           | inl reached ↦ (
             r.0,
             r.1,
-            sees_freed w x place.node seat_w freeing (subst (λ (bs : List Block). Contains bs place.node) (sym may.held) held_u)
+            sees_freed w x place.node seat_w freeing (stays_held u w may.held place.node held_u)
                 (unreached u seat key place next taken map gives w may seat_w only settled) r.0 c r.1 reached,
           )
           | inr same ↦ absurd (gone (subst (Contains x.held) same h))
@@ -113,4 +110,4 @@ module _ (u w : View) (seat : IsSeat u) (seat_w : IsSeat w) (key : ℕ) (place :
   } where
     link_w : SeesLink w (shard_of key) (word_of place.link)
     link_w = subst (λ q. SeesLink w (shard_of key) q) (sym taken.at_is)
-        (come_sees w key taken.table taken.before seat_w (come_kept u w key (word_of place.link) next taken.table taken.before map seat gives come_u taken.at_is may))
+        (come_sees w key taken.table taken.before seat_w (come_kept u w key (word_of place.link) next taken.table taken.before map seat gives (come_to u seat key place next taken map gives) taken.at_is may))

@@ -12,16 +12,16 @@ use Rattle.heap_seat.specs.Sound.{IsSeat}
 use Rattle.dict_model.specs.Links.{shards, root_kind, node_kind, IsLink, in_table, in_node}
 use Rattle.dict_model.specs.Nodes.{shard_of, bucket_of}
 use Rattle.dict_model.specs.Shards.{LeadsTo, link_behind}
+use Rattle.dict_model.proofs.LinkLemmas.{at_first}
 use Rattle.dict_model.proofs.SpliceLemmas.{one_holder}
 use Rattle.dict_seat.specs.Quiet.{Grown}
 use Rattle.dict_seat.specs.Reached.{Sees, RootReaches, LinkReaches, MayReach, Reaches, ReachesOnlyHeld}
 use Rattle.dict_seat.specs.Trails.{pointer_to, IsSettled, Trail, HasCome}
-use Rattle.dict_seat.proofs.GrownLemmas.{are_placed, link_own, link_in, link_to}
+use Rattle.dict_seat.proofs.GrownLemmas.{stays_held, are_placed, link_own, link_in, link_to}
 use Rattle.dict_seat.proofs.PublishLemmas.{IsLinkOf, MayPublish, link_at_link}
 use Rattle.dict_seat.proofs.MapPublishLemmas.{seen_read}
 use Rattle.dict_seat.proofs.TrailLemmas.{leads_held, bucket_below}
 use Rattle.dict_seat.proofs.ComeLemmas.{root_is_table}
-use Rattle.dict_seat.proofs.UnreachedLemmas.{at_first}
 use Rattle.dict_seat.proofs.DeleteLemmas.{shard_below, seen_value}
 
 pub root_sees : (v : View) (root : ℕ) (b : Block) (kind value : ℕ) → Contains v.roots root → kind ≡ root_kind root → v.volatile (root_word root) ≡ Some value → LeadsTo (Contains v.held) value b → Reaches v root b kind
@@ -110,9 +110,6 @@ module _ (u w : View) (seat : IsSeat u) (shard p x y : ℕ) (small : shard < sha
     (detour : (c : Block) → LeadsTo (Contains u.held) y c → old c ⊎ Reaches w shard c node_kind)
     (from_old : (a c : Block) (value : ℕ) → old a → u.volatile (a.first_word + 0) ≡ Some value → LeadsTo (Contains u.held) value c → old c ⊎ Reaches w shard c node_kind)
     (old_kind : (root : ℕ) (a : Block) (kind : ℕ) → old a → Reaches u root a kind → (root ≡ shard) × (kind ≡ node_kind)) where
-  on_held : (c : Block) → Contains u.held c → Contains w.held c
-  on_held c h = subst (λ (bs : List Block). Contains bs c) (sym may.held) h
-
   as_root : (root k : ℕ) (c : Block) → root ≡ shard → k ≡ node_kind → old c ⊎ Reaches w shard c node_kind → Reaches w root c k ⊎ old c
   as_root root k c is kind (inl gone) = inr gone
   as_root root k c is kind (inr reached) = inl (subst (λ r. Reaches w r c k) (sym is) (subst (λ j. Reaches w shard c j) (sym kind) reached))
@@ -121,7 +118,7 @@ module _ (u w : View) (seat : IsSeat u) (shard p x y : ℕ) (small : shard < sha
   sees_after root = closure_least (λ c k. Reaches w root c k ⊎ old c) from_root from_link where
     from_root : (c : Block) (k : ℕ) → RootReaches (Sees u) u root c k → Reaches w root c k ⊎ old c
     from_root c k start = inl (root_sees w root c k start.value (subst (λ (rs : List ℕ). Contains rs root) (sym may.roots) start.owned) start.kind_is
-        ((may.others (root_word root) (in_root root (root_word root) start.owned refl) (behind root start.owned)).volatile start.value start.read) (on_held c start.leads.0, start.leads.1))
+        ((may.others (root_word root) (in_root root (root_word root) start.owned refl) (behind root start.owned)).volatile start.value start.read) (stays_held u w may.held c start.leads.0, start.leads.1))
 
     from_link : (a c : Block) (from k : ℕ) → Reaches u root a from → Reaches w root a from ⊎ old a → LinkReaches (Sees u) u a from c k → Reaches w root c k ⊎ old c
     from_link a c from k reached (inl has) l = elim (cases_eq (a.first_word + l.position) p) as (λ _. Reaches w root c k ⊎ old c) [
@@ -130,7 +127,7 @@ module _ (u w : View) (seat : IsSeat u) (shard p x y : ℕ) (small : shard < sha
           let one = seen_value u p l.value y (subst (λ q. u.volatile q ≡ Some l.value) at l.read) was.seen in
           as_root root k c is.0 is.1 (detour c (subst (λ v. LeadsTo (Contains u.held) v c) one l.leads))
       | inr other ↦ inl (link_sees w root a c from l.position k l.value has l.is_link
-          ((may.others (a.first_word + l.position) (link_own u a from l.position k (sees_held u root a from reached) l.is_link) other).volatile l.value l.read) (on_held c l.leads.0, l.leads.1))
+          ((may.others (a.first_word + l.position) (link_own u a from l.position k (sees_held u root a from reached) l.is_link) other).volatile l.value l.read) (stays_held u w may.held c l.leads.0, l.leads.1))
     ]
     from_link a c from k reached (inr gone) l =
         let is = old_kind root a from gone reached in

@@ -26,11 +26,11 @@ use Rattle.dict_seat.specs.Nodes.{MakesNode}
 use Rattle.dict_seat.specs.Changes.{MayChange, Changes}
 use Rattle.dict_seat.specs.Removal.{IsShard}
 use Rattle.dict_seat.specs.Puts.{IsMissing, IsRefused, PutFails}
-use Rattle.dict_seat.proofs.GrownLemmas.{grown_keeps, grown_then, own_grown, gives_grown, only_grown}
+use Rattle.dict_seat.proofs.GrownLemmas.{stays_held, grown_keeps, grown_then, own_grown, new_block_outside, gives_grown, only_grown}
 use Rattle.dict_seat.proofs.TrailLemmas.{settles, come_stays, bucket_own, bucket_below, same_map, leads_held}
 use Rattle.dict_seat.proofs.QuietLemmas.{still_settling}
 use Rattle.dict_seat.proofs.ComeLemmas.{followed_leads, bucket_followed, link_followed, link_behind_roots}
-use Rattle.dict_seat.proofs.PutLemmas.{put_left, put_done, new_key, publish, new_block_outside}
+use Rattle.dict_seat.proofs.PutLemmas.{put_left, put_done, new_key, publish}
 use Rattle.heap_model.specs.Blocks.{IsIn}
 use Rattle.dict_seat.proofs.ExactLemmas.{target_sees, come_sees, node_link, sees_grown, sees_after}
 use Rattle.dict_seat.proofs.ExactCallLemmas.{come_kept}
@@ -143,14 +143,19 @@ module _ (v t u w : View) (seat_t : IsSeat t) (seat : IsSeat u) (key first x : �
 
   -- all that is held is reached still, the new node in front of the bucket's others
   pub all_first : IsSeat w → IsSettled w (table.first_word + bucket_of key) x → ReachesAllHeld v → ReachesAllHeld w
-  all_first seat_w settled all = record { only = first_left.only; all = reached } where
-    on_held : (c : Block) → Contains u.held c → Contains w.held c
-    on_held c h = subst (λ (bs : List Block). Contains bs c) (sym may.held) h
-
+  all_first seat_w settled all = record {
+    only = first_left.only;
+    all = λ c h. elim (makes.only c (subst (λ (bs : List Block). Contains bs c) may.held h)) as (λ _. (root : ℕ) × (kind : ℕ) × Reaches w root c kind) [
+      | inl same ↦ (shard_of key, node_kind, subst (λ (d : Block). Reaches w (shard_of key) d node_kind) (sym same) n_reached)
+      | inr before ↦
+          let r = all.all c (subst (λ (bs : List Block). Contains bs c) keeps.held before) in
+          elim (past r.0 c r.1 (sees_grown v u grown_all r.0 c r.1 r.2)) as (λ _. (root : ℕ) × (kind : ℕ) × Reaches w root c kind) [ inl on ↦ (r.0, r.1, on) | inr none ↦ absurd none ]
+    ];
+  } where
     n_reached : Reaches w (shard_of key) n node_kind
     n_reached = target_sees w (shard_of key) (table.first_word + bucket_of key) x n
         (come_sees w key table [] seat_w (come_kept u w key (table.first_word + bucket_of key) x table [] shard.map seat (gives_grown v u grown_all (shard_of key) shard.map shard.gives) come_u refl may))
-        settled.seen (subst (λ q. LeadsTo (Contains w.held) q n) (sym points) (leads_held w n seat_w (on_held n makes.held)))
+        settled.seen (subst (λ q. LeadsTo (Contains w.held) q n) (sym points) (leads_held w n seat_w (stays_held u w may.held n makes.held)))
 
     n_next : w.volatile n.first_word ≡ Some first
     n_next =
@@ -167,13 +172,5 @@ module _ (v t u w : View) (seat_t : IsSeat t) (seat : IsSeat u) (key first x : �
         (followed_leads u seat (shard_of key) (shard_below key) (table.first_word + bucket_of key) first (bucket_followed u seat key (shard_below key) table [] come_u) was only_u)
         w only_u table [] [] come_u come_u (table.first_word + bucket_of key) x first refl was may points own_t come_t.held_table was (own_grown t u (table.first_word + bucket_of key) grown_u own_t))
         was (λ root owned e. link_behind_roots u key table [] root seat owned come_u e) (λ d. ⊥)
-        (λ d leads. inr (target_sees w (shard_of key) n.first_word first d (node_link w (shard_of key) n seat_w n_reached) n_next (on_held d leads.0, leads.1)))
+        (λ d leads. inr (target_sees w (shard_of key) n.first_word first d (node_link w (shard_of key) n seat_w n_reached) n_next (stays_held u w may.held d leads.0, leads.1)))
         (λ a d read none seen leads. absurd none) (λ root a kind none reached. absurd none)
-
-    reached : (c : Block) → Contains w.held c → (root : ℕ) × (kind : ℕ) × Reaches w root c kind
-    reached c h = elim (makes.only c (subst (λ (bs : List Block). Contains bs c) may.held h)) as (λ _. (root : ℕ) × (kind : ℕ) × Reaches w root c kind) [
-      | inl same ↦ (shard_of key, node_kind, subst (λ (d : Block). Reaches w (shard_of key) d node_kind) (sym same) n_reached)
-      | inr before ↦
-          let r = all.all c (subst (λ (bs : List Block). Contains bs c) keeps.held before) in
-          elim (past r.0 c r.1 (sees_grown v u grown_all r.0 c r.1 r.2)) as (λ _. (root : ℕ) × (kind : ℕ) × Reaches w root c kind) [ inl on ↦ (r.0, r.1, on) | inr none ↦ absurd none ]
-    ]

@@ -13,7 +13,7 @@ use Rattle.heap_seat.specs.Sound.{IsSeat}
 use Rattle.heap_seat.proofs.CallerLemmas.{read_before, keeps_word_then}
 use Rattle.dict_model.specs.Links.{root_kind, node_kind, IsLink, in_table, in_node}
 use Rattle.dict_model.specs.Shards.{Map, LeadsTo}
-use Rattle.dict_model.proofs.SpliceLemmas.{ArePlaced, held_once}
+use Rattle.dict_model.proofs.SpliceLemmas.{ArePlaced, held_once, one_holder}
 use Rattle.dict_model.proofs.MapLemmas.{map_wider}
 use Rattle.dict_seat.specs.Reached.{MayReach, IsNullOrHeld, ReachesOnlyHeld}
 pub use Rattle.dict_seat.specs.Quiet.{Grown}
@@ -22,6 +22,10 @@ use Rattle.dict_seat.specs.Maps.{IsMapIn, Gives, KeepsOthers}
 -- the blocks of a seat are apart, lie behind the roots and have words
 pub are_placed : (v : View) → IsSeat v → ArePlaced (Contains v.held)
 are_placed v seat = record { apart = seat.apart; behind = λ b h. (seat.placed b h).behind; some = λ b h. (seat.placed b h).some }
+
+-- a block that is held stays so where the list of them does
+pub stays_held : (v w : View) → w.held ≡ v.held → (b : Block) → Contains v.held b → Contains w.held b
+stays_held v w same b h = subst (λ (bs : List Block). Contains bs b) (sym same) h
 
 -- a link lies in its block, and leads to a node
 pub link_inside : (from words position to : ℕ) → IsLink from words position to → position < words
@@ -72,7 +76,7 @@ grown_then v u w a b = record {
 }
 
 pub grown_keeps : (v w : View) → KeepsOwn v w → Grown v w
-grown_keeps v w keeps = record { keeps = λ b h. subst (λ (bs : List Block). Contains bs b) (sym keeps.held) h; roots = keeps.roots; words = keeps.words }
+grown_keeps v w keeps = record { keeps = stays_held v w keeps.held; roots = keeps.roots; words = keeps.words }
 
 pub grown_allocates : (bytes : ℕ) (b : Block) (v w : View) → Allocates bytes b v w → Grown v w
 grown_allocates bytes b v w allocates = record { keeps = allocates.blocks.keeps; roots = allocates.blocks.roots; words = allocates.words }
@@ -80,11 +84,20 @@ grown_allocates bytes b v w allocates = record { keeps = allocates.blocks.keeps;
 -- a store to a word that wasn't the seat's
 pub grown_store : (word value : ℕ) (v u w : View) → Grown v u → MayStore word value u w → (IsOwn v.held v.roots word → ⊥) → Grown v w
 grown_store word value v u w a may new = record {
-  keeps = λ c h. subst (λ (bs : List Block). Contains bs c) (sym may.held) (a.keeps c h);
+  keeps = λ c h. stays_held u w may.held c (a.keeps c h);
   roots = may.roots ∙ a.roots;
   words = λ other own. keeps_word_then v u w other (a.words other own)
       (may.others other (own_grown v u other a own) (λ e. new (subst (IsOwn v.held v.roots) e own)));
 }
+
+-- a block that wasn't held has no word that was own
+pub new_block_outside : (v u : View) (b : Block) → IsSeat u → Grown v u → Contains u.held b → (Contains v.held b → ⊥) → (word : ℕ) → IsOwn v.held v.roots word → IsIn b word → ⊥
+new_block_outside v u b seat grown h fresh word (in_block a _ own inside) in_b =
+    fresh (subst (Contains v.held) (one_holder (Contains u.held) (are_placed u seat) a b word (grown.keeps a own) h inside in_b) own)
+new_block_outside v u b seat grown h fresh word (in_root i _ own is) in_b =
+    let behind = (seat.placed b h).behind in
+    let below = seat.roots_are i (subst (λ (rs : List ℕ). Contains rs i) (sym grown.roots) own) in
+    let from = in_b.from in omega arith
 
 module _ (v w : View) (grown : Grown v w) where
   pub read_grown : (word value : ℕ) → IsOwn v.held v.roots word → MayRead w word value → MayRead v word value

@@ -5,7 +5,7 @@ use Rattle.heap_model.specs.Blocks.{IsIn}
 use Rattle.heap_model.specs.Image.{image_of_bytes}
 use Rattle.heap_model.specs.Sizes.{span_of}
 use Rattle.heap_seat.specs.View.{View}
-use Rattle.heap_seat.specs.Words.{IsOwn, in_block, in_root, KeepsOwn, IsDurable}
+use Rattle.heap_seat.specs.Words.{IsOwn, in_block, KeepsOwn, IsDurable}
 use Rattle.heap_seat.specs.Alloc.{Allocates, IsSizeFor, of_class, of_superblocks}
 use Rattle.heap_seat.specs.Calls.{Fences, SameRefusals, IsLargeCall}
 use Rattle.heap_seat.specs.Rows.{IsRow, Settles}
@@ -13,11 +13,10 @@ use Rattle.heap_seat.specs.Sound.{IsSeat}
 use Rattle.heap_seat.proofs.CallerLemmas.{own_same, durable_then, keeps_word_then}
 use Rattle.heap_seat.proofs.RowLemmas.{row_then, row_more, row_large, runs_then, same_refusals_then}
 use Rattle.dict_model.specs.Nodes.{value_words}
-use Rattle.dict_model.proofs.SpliceLemmas.{one_holder}
 use Rattle.dict_seat.specs.Quiet.{Grown}
 use Rattle.dict_seat.specs.Trails.{IsSettled, IsSettling}
 use Rattle.dict_seat.specs.Nodes.{StoresWithin, KeepsPendingBut, WritesNode, MakesNode}
-use Rattle.dict_seat.proofs.GrownLemmas.{are_placed, grown_allocates, own_grown}
+use Rattle.dict_seat.proofs.GrownLemmas.{stays_held, grown_allocates, own_grown, new_block_outside}
 use Rattle.dict_seat.proofs.TrailLemmas.{settles}
 
 -- a block for so many words has them
@@ -27,26 +26,19 @@ room_for bytes words size = by_case (8 * words) size where
   by_case _ (of_class c least) = least.holds
   by_case _ (of_superblocks large) = omega arith
 
--- none of its words was own
-pub new_outside : (bytes : ℕ) (b : Block) (v u : View) → IsSeat u → Allocates bytes b v u → (word : ℕ) → IsOwn v.held v.roots word → IsIn b word → ⊥
-new_outside bytes b v u seat allocates word own inside = by_case word own inside where
-  by_case : (word : ℕ) → IsOwn v.held v.roots word → IsIn b word → ⊥
-  by_case word (in_block a _ h in_a) in_b =
-      allocates.blocks.new (subst (Contains v.held) (one_holder (Contains u.held) (are_placed u seat) a b word (allocates.blocks.keeps a h) allocates.blocks.has in_a in_b) h)
-  by_case word (in_root i _ h is) in_b =
-      let behind = (seat.placed b allocates.blocks.has).behind in
-      let below = seat.roots_are i (subst (λ (rs : List ℕ). Contains rs i) (sym allocates.blocks.roots) h) in
-      let from = in_b.from in omega arith
-
 module _ (bytes : ℕ) (b : Block) (v u t : View) (seat : IsSeat u) (allocates : Allocates bytes b v u) (small : ℕ) (within : StoresWithin b small u t) where
+  grown_first : Grown v u
+  grown_first = grown_allocates bytes b v u allocates
+
+  new_outside : (word : ℕ) → IsOwn v.held v.roots word → IsIn b word → ⊥
+  new_outside = new_block_outside v u b seat grown_first allocates.blocks.has allocates.blocks.new
+
   pub grown_within : Grown v t
-  grown_within =
-      let first = grown_allocates bytes b v u allocates in
-      record {
-        keeps = λ a h. subst (λ (bs : List Block). Contains bs a) (sym within.held) (first.keeps a h);
-        roots = within.roots ∙ first.roots;
-        words = λ word own. keeps_word_then v u t word (first.words word own) (within.outside word (own_grown v u word first own) (new_outside bytes b v u seat allocates word own));
-      }
+  grown_within = record {
+    keeps = λ a h. stays_held u t within.held a (grown_first.keeps a h);
+    roots = within.roots ∙ grown_first.roots;
+    words = λ word own. keeps_word_then v u t word (grown_first.words word own) (within.outside word (own_grown v u word grown_first own) (new_outside word own));
+  }
 
   pub refusals_within : SameRefusals v t
   refusals_within = same_refusals_then v u t allocates.refusals within.refusals
@@ -55,8 +47,8 @@ module _ (bytes : ℕ) (b : Block) (v u t : View) (seat : IsSeat u) (allocates :
   pub settles_all : KeepsPendingBut b u t → (w : View) → KeepsOwn t w → Fences t w → Settles v w
   settles_all keeps w quiet fences = record {
     each = λ word own pending.
-        let own_u = own_grown v u word (grown_allocates bytes b v u allocates) own in
-        let out = new_outside bytes b v u seat allocates word own in
+        let own_u = own_grown v u word grown_first own in
+        let out = new_outside word own in
         let own_t = own_same u t word within.held within.roots own_u in
         elim (allocates.pending word own pending) as (λ _. IsDurable w word) [
           | inl still ↦ fences.durable word own_t (keeps.pending word out still)

@@ -28,12 +28,12 @@ use Rattle.dict_seat.specs.Quiet.{Grown}
 use Rattle.dict_seat.specs.Nodes.{MakesNode}
 use Rattle.dict_seat.specs.Changes.{MayChange, Changes, IsTaken}
 use Rattle.dict_seat.specs.Removal.{IsShard}
-use Rattle.dict_seat.proofs.GrownLemmas.{are_placed, grown_keeps, grown_then, gives_grown, only_grown}
+use Rattle.dict_seat.proofs.GrownLemmas.{are_placed, stays_held, grown_keeps, grown_then, gives_grown, only_grown, new_block_outside}
 use Rattle.dict_seat.proofs.TrailLemmas.{now_image, settled_stays, come_stays, first_own, bucket_own, bucket_below, trail_more, leads_held}
 use Rattle.dict_seat.proofs.MapPublishLemmas.{trail_held}
 use Rattle.dict_seat.proofs.ComeLemmas.{followed_leads, own_link_followed, begins_chain, link_behind_roots, last_not_table, trail_kept}
 use Rattle.dict_seat.proofs.PublishLemmas.{reached_after}
-use Rattle.dict_seat.proofs.PutLemmas.{put_left, put_done, old_key, publish, new_block_outside}
+use Rattle.dict_seat.proofs.PutLemmas.{put_left, put_done, old_key, publish}
 use Rattle.dict_seat.proofs.ExactLemmas.{SeesLink, target_sees, come_sees, node_link, sees_grown, sees_after, sees_freed}
 use Rattle.dict_seat.proofs.ExactCallLemmas.{come_kept, one_kind, leads_to_node, next_value, not_root}
 use Rattle.dict_seat.proofs.ChangeLemmas.{change_after, changes_after, freed}
@@ -118,7 +118,7 @@ module _ (v t u w : View) (seat_t : IsSeat t) (seat : IsSeat u) (key next x : �
   over_left = change_after (shard_of key) (λ map. with_key map key value) v u w grown_all seat shard.only left_here
 
   pub old_still : Contains w.held place.node
-  old_still = subst (λ (bs : List Block). Contains bs place.node) (sym may.held) old_held
+  old_still = stays_held u w may.held place.node old_held
 
   module _ (seat_w : IsSeat w) (settled : IsSettled w (word_of place.link) x) where
     done_here : Changes (shard_of key) (λ map. with_key map key value) u w

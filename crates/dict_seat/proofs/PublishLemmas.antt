@@ -18,7 +18,7 @@ use Rattle.dict_model.proofs.SpliceLemmas.{one_holder, held_once}
 use Rattle.dict_model.proofs.ChainLemmas.{SameBut}
 use Rattle.dict_seat.specs.Reached.{RootReaches, LinkReaches, MayReach, IsNullOrHeld, ReachesOnlyHeld}
 use Rattle.dict_seat.specs.Maps.{KeepsOthers}
-use Rattle.dict_seat.proofs.GrownLemmas.{are_placed, link_to, link_own, link_in, reached_held, root_reach, link_reach}
+use Rattle.dict_seat.proofs.GrownLemmas.{are_placed, stays_held, link_to, link_own, link_in, reached_held, root_reach, link_reach}
 
 -- the word is a link that the root may be followed to, and what it leads to is of the kind
 pub data IsLinkOf (u : View) (shard : ℕ) (p : ℕ) : ℕ → Type 0 where
@@ -67,9 +67,6 @@ module _ (u w : View) (shard p x kind : ℕ) (seat : IsSeat u) (small : shard < 
 
   held_back : (b : Block) → Contains w.held b → Contains u.held b
   held_back b h = subst (λ (bs : List Block). Contains bs b) may.held h
-
-  held_on : (b : Block) → Contains u.held b → Contains w.held b
-  held_on b h = subst (λ (bs : List Block). Contains bs b) (sym may.held) h
 
   -- a root at this word is the shard's, and a link there is one of what it reaches
   root_at_link : (root : ℕ) → Contains u.roots root → root_word root ≡ p → (root ≡ shard) × (root_kind root ≡ kind)
@@ -169,14 +166,14 @@ module _ (u w : View) (shard p x kind : ℕ) (seat : IsSeat u) (small : shard < 
 
   null_or_held_on : (value : ℕ) → IsNullOrHeld u value → IsNullOrHeld w value
   null_or_held_on value (inl null) = inl null
-  null_or_held_on value (inr leads) = inr (leads.0, (held_on leads.0 leads.1.0, leads.1.1))
+  null_or_held_on value (inr leads) = inr (leads.0, (stays_held u w may.held leads.0 leads.1.0, leads.1.1))
 
   published_value : IsNullOrHeld w x
   published_value = by_case publish where
     by_case : MayPublish u shard x kind → IsNullOrHeld w x
     by_case (no_block e) = inl e
-    by_case (old f to_f reached) = inr (f, (held_on f to_f.0, to_f.1))
-    by_case (new n to_n fresh) = inr (n, (held_on n to_n.0, to_n.1))
+    by_case (old f to_f reached) = inr (f, (stays_held u w may.held f to_f.0, to_f.1))
+    by_case (new n to_n fresh) = inr (n, (stays_held u w may.held n to_n.0, to_n.1))
 
   -- what any of the seat's own words holds afterwards, where it held null or a pointer before
   value_after : (word value : ℕ) → IsOwn u.held u.roots word → MayRead w word value → (MayRead u word value → IsNullOrHeld u value) → IsNullOrHeld w value
@@ -203,7 +200,7 @@ module _ (u w : View) (shard p x kind : ℕ) (seat : IsSeat u) (small : shard < 
               (may.others (a.first_word + position) (link_own u a from position to has.1.leads.0 is) (not_new_link a from position to has.1 is)) read in
               elim (has.1.fresh.links position to value is_link was) as (λ _. IsNullOrHeld w value) [
                 | inl null ↦ inl null
-                | inr f ↦ inr (f.0, (held_on f.0 f.1.0, f.1.1))
+                | inr f ↦ inr (f.0, (stays_held u w may.held f.0 f.1.0, f.1.1))
               ]
         ];
     alone = λ one root b k other small_one differs reached_one reached_root.
@@ -224,7 +221,7 @@ module _ (u w : View) (shard p x kind : ℕ) (seat : IsSeat u) (small : shard < 
   others_after = record {
     roots = may.roots;
     root_words = λ root owned differs. may.others (root_word root) (in_root root (root_word root) owned refl) (λ at. differs (root_at_link root owned at).0);
-    blocks = λ b h unreached. (held_on b h, λ word inside. may.others word (in_block b word h inside) (λ at. elsewhere b h unreached word inside at));
+    blocks = λ b h unreached. (stays_held u w may.held b h, λ word inside. may.others word (in_block b word h inside) (λ at. elsewhere b h unreached word inside at));
   } where
     elsewhere : (b : Block) → Contains u.held b → ((k : ℕ) → MayReach u shard b k → ⊥) → (word : ℕ) → IsIn b word → word ≡ p → ⊥
     elsewhere b h unreached word inside at = by_case kind link where

@@ -1,23 +1,22 @@
 -- What publishing a node leaves.
-use Rattle.std.proofs.Common.{◌≡◌, ◌≢◌, ℕ, ◌+◌, ◌<◌, ◌≤◌, ◌⊎◌, inl, inr, List, [], ◌∷◌, ◌++◌, length, get_or, take, Option, None, Some, Contains, refl, ap, subst, sym, ◌∙◌, arith}
+use Rattle.std.proofs.Common.{◌≡◌, ◌≢◌, ℕ, ◌+◌, ◌<◌, ◌≤◌, ◌⊎◌, inl, inr, List, [], ◌∷◌, ◌++◌, length, get_or, take, Option, None, Contains, refl, ap, subst, sym, ◌∙◌, arith}
 use Rattle.heap_model.specs.declared.block.Block.{Block}
 use Rattle.heap_model.specs.Image.{Image, image_of_bytes, words_from, bytes_of_words}
 use Rattle.heap_model.specs.Blocks.{IsIn}
 use Rattle.heap_seat.specs.View.{View}
-use Rattle.heap_seat.specs.Words.{IsOwn, in_root, in_block, MayBe, MayRead, MixesOwn, MayStore}
+use Rattle.heap_seat.specs.Words.{IsOwn, in_block, MayBe, MayRead, MixesOwn, MayStore}
 use Rattle.heap_seat.specs.Sound.{IsSeat}
 use Rattle.dict_model.specs.Links.{node_kind, IsLink, in_node, in_table}
 use Rattle.dict_model.specs.Nodes.{largest_value, shard_of, bucket_of, value_words, key_in, length_in}
 use Rattle.dict_model.specs.Requests.{with_key}
 use Rattle.dict_model.specs.Shards.{Map, LeadsTo, link_behind}
-use Rattle.dict_model.proofs.SpliceLemmas.{one_holder}
 use Rattle.dict_seat.specs.Maps.{IsMapIn, Gives}
 use Rattle.dict_seat.specs.Reached.{MayReach, ReachesOnlyHeld}
 use Rattle.dict_seat.specs.Trails.{pointer_to, IsSettled, HasCome}
 use Rattle.dict_seat.specs.Quiet.{Grown}
 use Rattle.dict_seat.specs.Nodes.{IsWritten}
 use Rattle.dict_seat.specs.Changes.{MayChange, Changes}
-use Rattle.dict_seat.proofs.GrownLemmas.{are_placed, reached_before, reached_held}
+use Rattle.dict_seat.proofs.GrownLemmas.{new_block_outside, reached_before, reached_held}
 use Rattle.dict_seat.proofs.ChangeLemmas.{table_stored}
 use Rattle.dict_seat.proofs.PublishLemmas.{IsLinkOf, MayPublish, new, IsFresh, only_after, others_after}
 use Rattle.dict_seat.proofs.TrailLemmas.{settled_in, leads_held}
@@ -26,24 +25,10 @@ use Rattle.dict_seat.proofs.ComeLemmas.{link_followed, link_behind_roots}
 use Rattle.dict_seat.proofs.ValueLemmas.{value_of_words}
 use Rattle.dict_seat.proofs.DeleteLemmas.{shard_below}
 
-known_read : (known : Option ℕ) (value read : ℕ) → known ≡ Some value → MayBe known read → read ≡ value
-known_read None value read e may = absurd (cc)
-known_read (Some x) value read e may = let s : x ≡ value = cc in may ∙ s
-
 -- a settled word is read as one value
 pub one_reading : (u : View) (word value read : ℕ) → IsSettled u word value → MayRead u word read → read ≡ value
-one_reading u word value read settled (inl may) = known_read (u.volatile word) value read settled.seen may
-one_reading u word value read settled (inr may) = known_read (u.durable word) value read settled.left may
-
--- a block that wasn't held has no word that was own
-pub new_block_outside : (v u : View) (b : Block) → IsSeat u → Grown v u → Contains u.held b → (Contains v.held b → ⊥) → (word : ℕ) → IsOwn v.held v.roots word → IsIn b word → ⊥
-new_block_outside v u b seat grown h fresh word own inside = by_case word own inside where
-  by_case : (word : ℕ) → IsOwn v.held v.roots word → IsIn b word → ⊥
-  by_case word (in_block a _ ha in_a) in_b = fresh (subst (Contains v.held) (one_holder (Contains u.held) (are_placed u seat) a b word (grown.keeps a ha) h in_a in_b) ha)
-  by_case word (in_root i _ hi is) in_b =
-      let behind = (seat.placed b h).behind in
-      let below = seat.roots_are i (subst (λ (rs : List ℕ). Contains rs i) (sym grown.roots) hi) in
-      let from = in_b.from in omega arith
+one_reading u word value read settled (inl may) = subst (λ (known : Option ℕ). MayBe known read) settled.seen may
+one_reading u word value read settled (inr may) = subst (λ (known : Option ℕ). MayBe known read) settled.left may
 
 -- a node that was written is one in every mixture
 pub node_in : (u : View) (image : Image) (n : Block) (key next : ℕ) (value : List ℕ) → MixesOwn u image → Contains u.held n → 3 + value_words (length value) ≤ n.words → length value ≤ largest_value

@@ -18,8 +18,7 @@ use Rattle.dict_model.specs.Nodes.{largest_value, value_words, length_in, value_
 use Rattle.dict_seat.specs.Quiet.{IsQuiet}
 use Rattle.dict_seat.specs.Trails.{Completes}
 use Rattle.dict_seat.specs.Gets.{IsReading, ReadsWords, ReadsValue, IsQuietRead}
-use Rattle.dict_seat.proofs.GrownLemmas.{grown_keeps}
-use Rattle.dict_seat.proofs.RemovalLemmas.{still_held}
+use Rattle.dict_seat.proofs.GrownLemmas.{stays_held, grown_keeps}
 use Rattle.dict_seat.proofs.TrailLemmas.{now_image, now_completes, completes_before}
 use Rattle.dict_seat.proofs.QuietLemmas.{quiet_then}
 use Rattle.dict_seat.proofs.ValueLemmas.{word_from}
@@ -80,7 +79,7 @@ reading_more b count x old out new v u w held inside fits reading loads quiet is
           | inr other ↦
               let less : i < count = omega arith in
               let own : IsOwn u.held u.roots (b.first_word + (3 + i)) =
-              in_block b (b.first_word + (3 + i)) (still_held v u b reading.quiet.unchanged held) (record { from = omega arith; until = omega arith }) in
+              in_block b (b.first_word + (3 + i)) (stays_held v u reading.quiet.unchanged.held b held) (record { from = omega arith; until = omega arith }) in
               let at : get_or (words ++ (x ∷ [])) i 0 ≡ get_or words i 0 = get_or_append_left words (x ∷ []) 0 i (omega arith) in
               (quiet.unchanged.words (b.first_word + (3 + i)) own).volatile (slice_index words i) (reading.read.seen i less) ∙ ap (λ n. Some n) (sym at)
         ];
@@ -148,7 +147,7 @@ answered n c old value mid long least is = elim (cases_lt n (length old)) as (λ
 -- the length of a node's value was loaded
 module _ (b : Block) (n : ℕ) (v u : View) (held : Contains v.held b) (room : 3 ≤ b.words) (keeps : KeepsOwn v u) (loads : Loads (b.first_word + 2) n v u) where
   length_own : IsOwn u.held u.roots (b.first_word + 2)
-  length_own = in_block b (b.first_word + 2) (still_held v u b keeps held) (record { from = omega arith; until = omega arith })
+  length_own = in_block b (b.first_word + 2) (stays_held v u keeps.held b held) (record { from = omega arith; until = omega arith })
 
   pub node_fits : (shard bucket : ℕ) → ((image : Image) → Completes v image → IsNode image shard bucket b) → (3 + value_words n ≤ b.words) × (n ≤ largest_value)
   node_fits shard bucket node =
@@ -186,7 +185,7 @@ module _ (b : Block) (n : ℕ) (v u : View) (held : Contains v.held b) (room : 3
           let front : take c (bytes_of_words words) ≡ take c (value_in image b) = value_front image b words c (omega arith) many
           (λ i less.
           completes.seen (b.first_word + (3 + i)) (slice_index words i)
-          (in_block b (b.first_word + (3 + i)) (still_held u w b keeps' (still_held v u b keeps held)) (record { from = omega arith; until = omega arith }))
+          (in_block b (b.first_word + (3 + i)) (stays_held u w keeps'.held b (stays_held v u keeps.held b held)) (record { from = omega arith; until = omega arith }))
           (reads.read.seen i (omega arith))) in
           let none : drop (8 * value_words (length (take c old))) (take c old) ≡ [] = drop_all (8 * value_words (length (take c old))) (take c old) (omega arith) in
           let mid_is : mid ≡ take c (value_in image b) =

@@ -1,7 +1,6 @@
 -- A key's node on its way from being found to being freed.
 use Rattle.std.proofs.Common.{◌≡◌, ℕ, ◌+◌, ◌<◌, ◌≤◌, inl, List, [], ◌∷◌, ◌++◌, Contains, subst, sym, ◌∙◌, arith}
 use Rattle.std.proofs.lemmas.List.Elements.{Contains-append_right}
-use Rattle.heap_model.specs.declared.block.Block.{Block}
 use Rattle.heap_model.proofs.MemberLemmas.{in_head}
 use Rattle.heap_seat.specs.declared.spot.Spot.{Spot}
 use Rattle.heap_seat.specs.declared.spot.Spot.TheVariants.{InBlock, Root}
@@ -23,7 +22,7 @@ use Rattle.dict_seat.specs.Quiet.{GoesPending, Follows}
 use Rattle.dict_seat.specs.Walks.{IsFound}
 use Rattle.dict_seat.specs.Changes.{MayChange, Changes, IsTaken}
 use Rattle.dict_seat.specs.Removal.{IsShard, Takes}
-use Rattle.dict_seat.proofs.GrownLemmas.{Grown, grown_keeps, gives_grown, only_grown}
+use Rattle.dict_seat.proofs.GrownLemmas.{Grown, stays_held, grown_keeps, gives_grown, only_grown}
 use Rattle.dict_seat.proofs.TrailLemmas.{come_stays, settles}
 use Rattle.dict_seat.proofs.MapPublishLemmas.{trail_held}
 use Rattle.dict_seat.proofs.QuietLemmas.{goes_then, still_settling}
@@ -35,11 +34,8 @@ pub found_held : (v : View) (key : ℕ) (place : Place) → IsFound v key place 
 found_held v key place found = trail_held (IsSettling v) v.held (found.table.first_word + bucket_of key) (found.before ++ (place.node ∷ [])) place.node found.come.trail
     (Contains-append_right found.before (place.node ∷ []) place.node (in_head place.node []))
 
-pub still_held : (v w : View) (b : Block) → KeepsOwn v w → Contains v.held b → Contains w.held b
-still_held v w b keeps h = subst (λ (bs : List Block). Contains bs b) (sym keeps.held) h
-
 pub still_own : (v w : View) (s : Spot) → KeepsOwn v w → IsOwnSpot v s → IsOwnSpot w s
-still_own v w (InBlock b index) keeps h = (still_held v w b keeps h.0, h.1)
+still_own v w (InBlock b index) keeps h = (stays_held v w keeps.held b h.0, h.1)
 still_own v w (Root i) keeps h = subst (λ (rs : List ℕ). Contains rs i) (sym keeps.roots) h
 
 -- its link and its key were followed
@@ -69,7 +65,7 @@ takes v u w key next place seat found keeps follows keeps' writes =
             (still_settling u w (node.first_word + 0) next (own_same v u (node.first_word + 0) keeps.held keeps.roots first_own) keeps' goes follows.settling);
         key_is = record {
           seen = (all.words (node.first_word + 1) key_own).volatile key found.key_seen;
-          coming = inl (writes.line (node.first_word + 1) (spot_written u (InBlock node 1) (still_held v u node keeps held, omega arith)));
+          coming = inl (writes.line (node.first_word + 1) (spot_written u (InBlock node 1) (stays_held v u keeps.held node held, omega arith)));
         };
       };
     }
@@ -110,7 +106,7 @@ module _ (v u : View) (key : ℕ) (place : Place) (next : ℕ) (seat : IsSeat u)
     left_stored = change_after (shard_of key) (λ map. without_key map key) v u w grown seat shard.only left_here
 
     pub node_still : Contains w.held place.node
-    node_still = subst (λ (bs : List Block). Contains bs place.node) (sym may.held) (node_held u seat key place next taken shard.map gives)
+    node_still = stays_held u w may.held place.node (node_held u seat key place next taken shard.map gives)
 
     pub left_freed : (x : View) → IsSeat w → IsSettled w (word_of place.link) next → MayFree place.node w x
         → Changes (shard_of key) (λ map. without_key map key) v x × MayChange (shard_of key) (λ map. without_key map key) v x

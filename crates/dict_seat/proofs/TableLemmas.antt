@@ -22,7 +22,7 @@ use Rattle.dict_seat.specs.Trails.{pointer_to, IsSettled}
 use Rattle.dict_seat.specs.Quiet.{Grown}
 use Rattle.dict_seat.specs.Changes.{MayChange}
 use Rattle.dict_seat.specs.Puts.{IsMissing}
-use Rattle.dict_seat.proofs.GrownLemmas.{are_placed, gives_grown, only_grown, others_grown, reached_before, reached_held, link_inside, link_own}
+use Rattle.dict_seat.proofs.GrownLemmas.{stays_held, are_placed, gives_grown, only_grown, others_grown, reached_before, reached_held, link_inside, link_own}
 use Rattle.dict_seat.proofs.PublishLemmas.{IsLinkOf, is_root, MayPublish, new, IsFresh, only_after, others_after, others_then, reached_after}
 use Rattle.dict_seat.proofs.TrailLemmas.{settled_in, settled_stays, leads_held, same_map}
 use Rattle.heap_model.proofs.ReachLemmas.{closure_included, not_null}
@@ -103,9 +103,6 @@ module _ (v u w : View) (seat : IsSeat u) (seat_w : IsSeat w) (grown : Grown v u
     only = only_after u w shard (root_word shard) x (root_kind shard) seat small may only_u link publish;
     all = reached;
   } where
-    on_held : (c : Block) → Contains u.held c → Contains w.held c
-    on_held c h = subst (λ (bs : List Block). Contains bs c) (sym may.held) h
-
     past : (root : ℕ) (c : Block) (k : ℕ) → Reaches u root c k → Reaches w root c k
     past root = closure_included
         (λ c k start. record {
@@ -115,7 +112,7 @@ module _ (v u w : View) (seat : IsSeat u) (seat_w : IsSeat w) (grown : Grown v u
           read = (may.others (root_word root) (in_root root (root_word root) start.owned refl) (λ e.
               let zero : start.value ≡ 0 = seen_value u (root_word shard) start.value 0 (subst (λ q. u.volatile q ≡ Some start.value) e start.read) null in
               not_null start.value (8 * c.first_word) start.leads.1 zero)).volatile start.value start.read;
-          leads = (on_held c start.leads.0, start.leads.1);
+          leads = (stays_held u w may.held c start.leads.0, start.leads.1);
         })
         (λ a c from k before l.
         let a_held = sees_held u root a from before in
@@ -126,7 +123,7 @@ module _ (v u w : View) (seat : IsSeat u) (seat_w : IsSeat w) (grown : Grown v u
           is_link = l.is_link;
           value = l.value;
           read = (may.others (a.first_word + l.position) (link_own u a from l.position k a_held l.is_link) (λ e. omega arith)).volatile l.value l.read;
-          leads = (on_held c l.leads.0, l.leads.1);
+          leads = (stays_held u w may.held c l.leads.0, l.leads.1);
         })
 
     reached : (c : Block) → Contains w.held c → (root : ℕ) × (kind : ℕ) × Reaches w root c kind
@@ -135,7 +132,7 @@ module _ (v u w : View) (seat : IsSeat u) (seat_w : IsSeat w) (grown : Grown v u
         shard,
         root_kind shard,
         root_sees w shard c (root_kind shard) x (subst (λ (rs : List ℕ). Contains rs shard) (sym may.roots) owned_u) refl seen
-            (subst (λ (d : Block). LeadsTo (Contains w.held) x d) (sym same) (subst (λ q. LeadsTo (Contains w.held) q table) (sym points) (leads_held w table seat_w (on_held table held)))),
+            (subst (λ (d : Block). LeadsTo (Contains w.held) x d) (sym same) (subst (λ q. LeadsTo (Contains w.held) q table) (sym points) (leads_held w table seat_w (stays_held u w may.held table held)))),
       )
       | inr was ↦ let r = all.all c was in (r.0, r.1, past r.0 c r.1 (sees_grown v u grown r.0 c r.1 r.2))
     ]

@@ -11,9 +11,10 @@ use Rattle.heap_model.proofs.MemberLemmas.{in_head}
 use Rattle.heap_seat.specs.View.{View}
 use Rattle.heap_seat.specs.Words.{IsOwn, in_root, MayRead, MixesOwn}
 use Rattle.heap_seat.specs.Sound.{IsSeat}
-use Rattle.dict_model.specs.Links.{node_kind, IsLink, in_table, in_node}
+use Rattle.dict_model.specs.Links.{node_kind}
 use Rattle.dict_model.specs.Nodes.{buckets, shard_of, bucket_of, key_in, value_in, find}
 use Rattle.dict_model.specs.Shards.{Map, Leading, LeadsTo, is_empty, has_table, HasTable, HasChains, IsPath, but, link_behind, map_of}
+use Rattle.dict_model.proofs.LinkLemmas.{at_first}
 use Rattle.dict_model.proofs.ChainLemmas.{Leads_along, extends, path_left, in_path, found_in, own_key}
 use Rattle.dict_model.proofs.SpliceLemmas.{held_once, one_holder, first_in, path_kept}
 use Rattle.dict_seat.specs.Maps.{IsMapIn, Gives}
@@ -22,11 +23,6 @@ use Rattle.dict_seat.specs.Trails.{pointer_to, IsSettled, HasCome}
 use Rattle.dict_seat.proofs.GrownLemmas.{are_placed, link_inside, link_to}
 use Rattle.dict_seat.proofs.PublishLemmas.{put_same, put_other, put_mixes}
 use Rattle.dict_seat.proofs.TrailLemmas.{now_image, now_completes, leads_held, settled_in, is_along, found_at, behind_more}
-
--- a node has one link
-pub at_first : (from words position kind : ℕ) → IsLink from words position kind → from ≡ node_kind → position ≡ 0
-at_first _ _ _ _ (in_node words some) is = refl
-at_first _ _ _ _ (in_table words position inside) is = absurd (omega arith)
 
 -- a path leads along its nodes
 path_along : (table : Block) (leads : Leading) (image : Image) (shard k at : ℕ) (bs : List Block) → IsPath (but table leads) image shard k at bs → Leads_along leads image at bs

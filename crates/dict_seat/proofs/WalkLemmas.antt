@@ -21,7 +21,7 @@ use Rattle.dict_seat.specs.declared.walk.Next.TheVariants.{End, Key, Other}
 use Rattle.heap_seat.specs.declared.spot.Spot.{Spot}
 use Rattle.heap_seat.specs.declared.spot.Spot.TheVariants.{InBlock, Root}
 use Rattle.dict_seat.specs.Walks.{IsWalk, IsNodeAt, IsWalking, Walks, Steps}
-use Rattle.dict_seat.proofs.GrownLemmas.{are_placed, grown_keeps, grown_then, own_grown, gives_grown}
+use Rattle.dict_seat.proofs.GrownLemmas.{are_placed, stays_held, grown_keeps, grown_then, own_grown, gives_grown}
 use Rattle.dict_seat.proofs.TrailLemmas.{now_image, now_completes, completes_before, settling_in, IsAlong, is_along, found_at, come_stays, trail_more, behind_more, bucket_below}
 use Rattle.dict_seat.proofs.MapPublishLemmas.{behind_own}
 use Rattle.dict_seat.proofs.QuietLemmas.{still_settling, goes_then, quiet_then, quiet_none}
@@ -58,13 +58,10 @@ module _ (v : View) (key at : ℕ) (table : Block) (seat : IsSeat v) (walk : IsW
             inr (b, record { held = leads.0; points = leads.1.tagged; room = let fits = path.1.fits in omega arith })
 
   module _ (u : View) (x : ℕ) (keeps : KeepsOwn v u) (follows : Follows at x v u) where
-    held_on : (b : Block) → Contains v.held b → Contains u.held b
-    held_on b h = subst (λ (bs : List Block). Contains bs b) (sym keeps.held) h
-
     pub null_or_node : IsNullOrHeld u x
     null_or_node = elim (linked u x keeps follows.settling.seen) as (λ _. IsNullOrHeld u x) [
       | inl null ↦ inl null
-      | inr b ↦ inr (b.0, (held_on b.0 b.1.held, record { tagged = b.1.points; short = let s = (seat.placed b.0 b.1.held).short in omega arith }))
+      | inr b ↦ inr (b.0, (stays_held v u keeps.held b.0 b.1.held, record { tagged = b.1.points; short = let s = (seat.placed b.0 b.1.held).short in omega arith }))
     ]
 
     pub node_at : IsSeat u → (b : Block) → LeadsTo (Contains u.held) x b → IsNodeAt u at b
@@ -72,7 +69,7 @@ module _ (v : View) (key at : ℕ) (table : Block) (seat : IsSeat v) (walk : IsW
       | inl null ↦ absurd (not_null x (8 * b.first_word) leads.1 null)
       | inr c ↦
           let same : c.0 ≡ b = (held_once (Contains u.held) (are_placed u seat_u)).one x c.0 b
-          (held_on c.0 c.1.held, record { tagged = c.1.points; short = let s = (seat.placed c.0 c.1.held).short in omega arith }) leads in
+          (stays_held v u keeps.held c.0 c.1.held, record { tagged = c.1.points; short = let s = (seat.placed c.0 c.1.held).short in omega arith }) leads in
           record { held = leads.0; room = subst (λ (d : Block). 3 ≤ d.words) same c.1.room; link = subst (IsSettling u at) leads.1.tagged follows.settling }
     ]
 

@@ -1,5 +1,6 @@
 use Rattle.std.proofs.Common.{arith}
-use Rattle.dict_seat.proofs.RemovalLemmas.{found_held, still_held, takes}
+use Rattle.dict_seat.proofs.GrownLemmas.{stays_held}
+use Rattle.dict_seat.proofs.RemovalLemmas.{found_held, takes}
 use Rattle.dict_seat.proofs.removal.take.Goals as goal
 
 pub follow-requires : goal.follow-requires
@@ -11,7 +12,7 @@ pub write_back-requires : goal.write_back-requires
 write_back-requires g c =
     let view = g.H.HeapSeat.view in
     let room = c.requires.room in (
-      still_held (view c.args.seat.now) (view c.follow.new.seat) c.args.place.node c.follow.ensures.quiet.unchanged
+      stays_held (view c.args.seat.now) (view c.follow.new.seat) c.follow.ensures.quiet.unchanged.held c.args.place.node
           (found_held (view c.args.seat.now) c.args.key c.args.place c.requires),
       omega arith,
     )
