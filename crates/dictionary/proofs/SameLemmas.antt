@@ -9,7 +9,7 @@ use Rattle.heap_model.specs.Image.{Image, words_from, bytes_of_words}
 use Rattle.heap_model.specs.Blocks.{layout_of, IsBlock, IsIn}
 use Rattle.heap_model.specs.Pointers.{Leads, LeadsOutside}
 use Rattle.heap_model.specs.Reach.{AnyRoot, words_in, Reach, by_start, by_link, IsTracedFrom, is_root, is_linked, IsTraced, TracesAlike}
-use Rattle.heap_model.proofs.ImageLemmas.{length-words_from}
+use Rattle.heap_model.proofs.ImageLemmas.{length-words_from, words_from-agree}
 use Rattle.heap_model.proofs.DecisionLemmas.{is_block}
 use Rattle.heap_model.proofs.ReachLemmas.{one_block, not_null, more_roots, reach_kept, nothing_more}
 use Rattle.heap_recover.proofs.UnchangedLemmas.{words_unchanged, roots_unchanged}
@@ -118,12 +118,6 @@ module _ (old new : Image) (alike : TracesAlike old new AnyRoot root_kind dict_l
     count : length_in new b ≡ length_in old b
     value : value_in new b ≡ value_in old b
 
-  range_same : (from count : ℕ) → ((w : ℕ) → from ≤ w → w < from + count → new w ≡ old w) → words_from new from count ≡ words_from old from count
-  range_same from zero same = refl
-  range_same from (suc count) same =
-      ap (λ w. w ∷ words_from new (from + 1) count) (same from (omega arith) (omega arith))
-      ∙ ap (λ ws. old from ∷ ws) (range_same (from + 1) count (λ w low high. same w (omega arith) (omega arith)))
-
   same_node : (b : Block) → Reach old root_kind dict_links b 2 → 3 + value_words (length_in new b) ≤ b.words → IsSameNode b
   same_node b reached fits =
       let word : (w : ℕ) → b.first_word ≤ w → w < b.first_word + b.words → new w ≡ old w = λ w low high. words_same b 2 w reached (record { from = low; until = high }) in
@@ -131,7 +125,7 @@ module _ (old new : Image) (alike : TracesAlike old new AnyRoot root_kind dict_l
       record {
         key = word (b.first_word + 1) (omega arith) (omega arith);
         count = count;
-        value = ap (λ ws. take (length_in new b) (bytes_of_words ws)) (range_same (b.first_word + 3) (value_words (length_in new b)) (λ w low high. word w (omega arith) (omega arith)))
+        value = ap (λ ws. take (length_in new b) (bytes_of_words ws)) (words_from-agree new old (b.first_word + 3) (value_words (length_in new b)) (λ w low high. word w (omega arith) (omega arith)))
             ∙ ap (λ n. take n (bytes_of_words (words_from old (b.first_word + 3) (value_words n)))) count;
       }
 
@@ -249,12 +243,6 @@ module _ (old new : Image) (to : RecoversTo old new) where
   reached_words : (b : Block) (kind word : ℕ) → Reach old root_kind dict_links b kind → IsIn b word → new word ≡ old word
   reached_words b kind word reached inside = words_unchanged old new root_kind dict_links to.recovered b word (record { kind = kind; reach = reached }) inside
 
-  all_words : (from count : ℕ) → ((w : ℕ) → from ≤ w → w < from + count → new w ≡ old w) → words_from new from count ≡ words_from old from count
-  all_words from zero same = refl
-  all_words from (suc count) same =
-      ap (λ w. w ∷ words_from new (from + 1) count) (same from (omega arith) (omega arith))
-      ∙ ap (λ ws. old from ∷ ws) (all_words (from + 1) count (λ w low high. same w (omega arith) (omega arith)))
-
   traced_words : (at : ℕ) → IsTraced old root_kind dict_links at → new at ≡ old at
   traced_words _ (is_root root at below chosen is) = subst (λ w. new w ≡ old w) (sym is) (roots_unchanged old new root_kind dict_links to.recovered root below)
   traced_words _ (is_linked a from position kind at reached listed is) =
@@ -266,7 +254,7 @@ module _ (old new : Image) (to : RecoversTo old new) where
   traced_alike = record {
     same_words = traced_words;
     are_blocks = λ b kind reached. to.blocks b (record { kind = kind; reach = reached });
-    same_links = λ b kind reached. ap (λ ws. dict_links kind ws) (all_words b.first_word b.words (λ w low high. reached_words b kind w reached (record { from = low; until = high })));
+    same_links = λ b kind reached. ap (λ ws. dict_links kind ws) (words_from-agree new old b.first_word b.words (λ w low high. reached_words b kind w reached (record { from = low; until = high })));
   }
 
   pub none_outside : (at : ℕ) → IsTraced old root_kind dict_links at → LeadsOutside old (old at) → ⊥

@@ -11,6 +11,7 @@ use Rattle.dict_model.specs.Links.{shards}
 use Rattle.dict_model.specs.Nodes.{buckets, shard_of, bucket_of, key_in, value_in, IsNode, find}
 use Rattle.dict_model.specs.Shards.{Map, Leading, LeadsOnce, LeadsAstray, HasTable, HasChains, IsChain, IsPath, link_behind, but, map_of, IsMap, MapOf, has_table, IsBadAt, at_link, BadShard as IsBadShard}
 use Rattle.dict_model.proofs.ShardLemmas.{find_first, find_behind, not_first, not_behind}
+use Rattle.dict_model.proofs.SpliceLemmas.{chains_with, with_same, with_other}
 use Rattle.dictionary.specs.declared.fault.MapFault.{MapFault}
 use Rattle.dictionary.specs.declared.fault.MapFault.TheVariants.{BadShard, Memory}
 use Rattle.dictionary.specs.Reading.{AddsNode, IsMapUpTo, IsMapBefore, AreMaps, TellsBad, TellsLowest}
@@ -43,16 +44,6 @@ module _ (image : Image) (b : Block) where
     find-push_other (key_in image x) bs (λ e. not_first image (key_in image b) x bs none (sym e)) ∙ path.2,
     path-push leads shard bucket x.first_word bs path.3 to is (not_behind image (key_in image b) x bs none),
   )
-
--- the chains with another one for bucket k
-abbrev with_chain : (ℕ → List Block) → ℕ → List Block → ℕ → List Block
-with_chain nodes k bs j = cond (nat_eq j k) bs (nodes j)
-
-with_this : (nodes : ℕ → List Block) (k : ℕ) (bs : List Block) → with_chain nodes k bs k ≡ bs
-with_this nodes k bs = cond-true (nat_eq k k) bs (nodes k) (eq-eqb k k refl)
-
-with_other : (nodes : ℕ → List Block) (k : ℕ) (bs : List Block) (j : ℕ) → j ≢ k → with_chain nodes k bs j ≡ nodes j
-with_other nodes k bs j other = cond-false (nat_eq j k) bs (nodes j) (ne_eqb j k other)
 
 module _ (leads : Leading) (image : Image) (shard : ℕ) (table : Block) where
   -- nothing has been read yet
@@ -103,13 +94,13 @@ module _ (leads : Leading) (image : Image) (shard : ℕ) (table : Block) where
     -- one more node
     module _ (nodes : ℕ → List Block) (b : Block) where
       further : ℕ → List Block
-      further = with_chain nodes k (nodes k ++ b ∷ [])
+      further = chains_with nodes k (nodes k ++ b ∷ [])
 
       other_key : (key : ℕ) → key_in image b ≢ key → (j : ℕ) → find image key (further j) ≡ find image key (nodes j)
       unfolding further
       other_key key other j = elim (cases_eq j k) as (λ _. find image key (further j) ≡ find image key (nodes j)) [
         | inl is ↦ subst (λ i. find image key (further i) ≡ find image key (nodes i)) (sym is)
-            (ap (λ bs. find image key bs) (with_this nodes k (nodes k ++ b ∷ [])) ∙ find-push_other image b key (nodes k) other)
+            (ap (λ bs. find image key bs) (with_same nodes k (nodes k ++ b ∷ [])) ∙ find-push_other image b key (nodes k) other)
         | inr apart ↦ ap (λ bs. find image key bs) (with_other nodes k (nodes k ++ b ∷ []) j apart)
       ]
 
@@ -121,7 +112,7 @@ module _ (leads : Leading) (image : Image) (shard : ℕ) (table : Block) where
       more_means old new is none means has key = elim (cases_eq (key_in image b) key) as (λ _. get nat_cmp new key ≡ map_of image shard further key) [
         | inl same ↦ subst (λ q. get nat_cmp new q ≡ map_of image shard further q) same
             (has (key_in image b) ∙ cond-true (nat_eq (key_in image b) (key_in image b)) (Some (value_in image b)) (get nat_cmp old (key_in image b)) (eq-eqb (key_in image b) (key_in image b) refl)
-            ∙ sym (find-push_same image b (nodes k) none) ∙ ap (λ bs. find image (key_in image b) bs) (sym (with_this nodes k (nodes k ++ b ∷ []))) ∙ sym (at_key further b is))
+            ∙ sym (find-push_same image b (nodes k) none) ∙ ap (λ bs. find image (key_in image b) bs) (sym (with_same nodes k (nodes k ++ b ∷ []))) ∙ sym (at_key further b is))
         | inr other ↦ has key ∙ cond-false (nat_eq (key_in image b) key) (Some (value_in image b)) (get nat_cmp old key) (ne_eqb (key_in image b) key other)
             ∙ means key ∙ ap (λ found. cond (nat_eq (shard_of key) shard) found None) (sym (other_key key other (bucket_of key)))
       ]
@@ -136,7 +127,7 @@ module _ (leads : Leading) (image : Image) (shard : ℕ) (table : Block) where
     unfolding further
     chain_step at old new b before to is adds =
         let none : find image (key_in image b) (before.nodes k) ≡ None = sym (at_key before.nodes b is) ∙ sym (before.read.means (key_in image b)) ∙ adds.was_new in
-        let this = with_this before.nodes k (before.nodes k ++ b ∷ []) in
+        let this = with_same before.nodes k (before.nodes k ++ b ∷ []) in
         record {
           nodes = further before.nodes b;
           read = record {
