@@ -29,7 +29,8 @@ pub fn read_map(
     i: usize,
 ) -> Result<BTreeMap<u64, Bytes>, MapFault>
     requires { i < 8 }
-    ensures ok { IfOk result (λ map. MapOf (slice_index recovered.now.heap.words) i (get nat_cmp map)) }
+    ensures ok { IfOk result (λ map.
+        MapOf (slice_index recovered.now.heap.words) i (get nat_cmp map)) }
     ensures ordered { IfOk result (λ map. IsOrdered nat_cmp map) }
     ensures err { IfErr result (TellsBad (slice_index recovered.now.heap.words) i) }
 {
@@ -49,7 +50,8 @@ pub fn read_maps(
     alloc: Global,
     recovered: &Recovered,
 ) -> Result<Vec<BTreeMap<u64, Bytes>>, MapFault>
-    ensures ok { IfOk result (λ maps. AreMaps (slice_index recovered.now.heap.words) shards maps.items) }
+    ensures ok { IfOk result (λ maps.
+        AreMaps (slice_index recovered.now.heap.words) shards maps.items) }
     ensures err { IfErr result (TellsLowest (slice_index recovered.now.heap.words)) }
     ensures ready { IsReady recovered.now.heap.words recovered.now.heap.held }
 {
@@ -89,7 +91,8 @@ fn read_shard(
 ) -> Result<BTreeMap<u64, Bytes>, MapFault>
     requires read { IsRead scan.words.now scan.directory.now origins.now }
     requires shard { shard < 8 }
-    ensures ok { IfOk result (λ map. MapOf (slice_index scan.entry.words.now) shard (get nat_cmp map)) }
+    ensures ok { IfOk result (λ map.
+        MapOf (slice_index scan.entry.words.now) shard (get nat_cmp map)) }
     ensures ordered { IfOk result (λ map. IsOrdered nat_cmp map) }
     ensures err { IfErr result (TellsBad (slice_index scan.entry.words.now) shard) }
 {
@@ -120,13 +123,19 @@ fn read_chain(
     bucket: u64,
     map: &mut BTreeMap<u64, Bytes>,
 ) -> Result<(), MapFault>
-    requires read { IsRead walk.now.scan.words.now walk.now.scan.directory.now walk.now.origins.now }
+    requires read { IsRead walk.now.scan.words.now walk.now.scan.directory.now
+        walk.now.origins.now }
     requires shard { walk.now.shard < 8 }
-    requires table { HasTable (LeadsAlone (slice_index walk.now.scan.words.now) walk.now.shard) (slice_index walk.now.scan.words.now) walk.now.shard table }
+    requires table { HasTable (LeadsAlone (slice_index walk.now.scan.words.now) walk.now.shard)
+        (slice_index walk.now.scan.words.now) walk.now.shard table }
     requires bucket { bucket < buckets }
-    requires upto { IsMapUpTo (LeadsAlone (slice_index walk.now.scan.words.now) walk.now.shard) (slice_index walk.now.scan.words.now) walk.now.shard table bucket (get nat_cmp map.old) }
+    requires upto { IsMapUpTo (LeadsAlone (slice_index walk.now.scan.words.now) walk.now.shard)
+        (slice_index walk.now.scan.words.now) walk.now.shard table bucket (get nat_cmp map.old) }
     requires ordered { IsOrdered nat_cmp map.old }
-    ensures ok { OnOk result (IsMapUpTo (LeadsAlone (slice_index walk.now.scan.words.now) walk.now.shard) (slice_index walk.now.scan.words.now) walk.now.shard table (bucket + 1) (get nat_cmp map.new)) }
+    ensures ok { OnOk result (IsMapUpTo
+        (LeadsAlone (slice_index walk.now.scan.words.now) walk.now.shard)
+        (slice_index walk.now.scan.words.now) walk.now.shard table (bucket + 1)
+        (get nat_cmp map.new)) }
     ensures ordered { OnOk result (IsOrdered nat_cmp map.new) }
     ensures err { IfErr result (TellsBad (slice_index walk.now.scan.words.now) walk.now.shard) }
 {

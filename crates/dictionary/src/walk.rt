@@ -59,7 +59,8 @@ impl Walk<'_> {
     /// Where the word leads among the blocks that no other root reaches.
     fn lead(&self, word: u64) -> Lead
         requires { IsRead self.now.scan.words.now self.now.scan.directory.now self.now.origins.now }
-        ensures { IsLead (LeadsAlone (slice_index self.now.scan.words.now) self.now.shard) (λ b. IsBlock (layout_of (slice_index self.now.scan.words.now)) b) word result }
+        ensures { IsLead (LeadsAlone (slice_index self.now.scan.words.now) self.now.shard)
+            (λ b. IsBlock (layout_of (slice_index self.now.scan.words.now)) b) word result }
     {
         match self.scan.target_of(word) {
             Target::Null => Lead::Null,
@@ -76,7 +77,8 @@ impl Walk<'_> {
 
     /// Word `at` of the block.
     fn word(&self, block: Block, at: u64) -> u64
-        requires read { IsRead self.now.scan.words.now self.now.scan.directory.now self.now.origins.now }
+        requires read { IsRead self.now.scan.words.now self.now.scan.directory.now
+            self.now.origins.now }
         requires block { IsBlock (layout_of (slice_index self.now.scan.words.now)) block }
         requires at { at < block.words }
         ensures { result ≡ slice_index self.now.scan.words.now (block.first_word + at) }
@@ -86,10 +88,13 @@ impl Walk<'_> {
 
     /// Whether the block can be a node of the bucket.
     fn is_node(&self, bucket: u64, block: Block) -> bool
-        requires read { IsRead self.now.scan.words.now self.now.scan.directory.now self.now.origins.now }
+        requires read { IsRead self.now.scan.words.now self.now.scan.directory.now
+            self.now.origins.now }
         requires block { IsBlock (layout_of (slice_index self.now.scan.words.now)) block }
-        ensures yes { IsTrue result → IsNode (slice_index self.now.scan.words.now) self.now.shard bucket block }
-        ensures no { result ≡ false → IsNode (slice_index self.now.scan.words.now) self.now.shard bucket block → ⊥ }
+        ensures yes { IsTrue result
+            → IsNode (slice_index self.now.scan.words.now) self.now.shard bucket block }
+        ensures no { result ≡ false
+            → IsNode (slice_index self.now.scan.words.now) self.now.shard bucket block → ⊥ }
     {
         if block.words < NODE_WORDS {
             return false;
@@ -107,7 +112,8 @@ impl Walk<'_> {
     /// The table of the shard, where the root leads.
     pub fn table(&self, word: u64) -> Lead
         requires { IsRead self.now.scan.words.now self.now.scan.directory.now self.now.origins.now }
-        ensures { IsLead (LeadsAlone (slice_index self.now.scan.words.now) self.now.shard) (λ b. b.words ≡ buckets) word result }
+        ensures { IsLead (LeadsAlone (slice_index self.now.scan.words.now) self.now.shard)
+            (λ b. b.words ≡ buckets) word result }
     {
         match self.lead(word) {
             Lead::Null => Lead::Null,
@@ -125,7 +131,9 @@ impl Walk<'_> {
     /// The node of the bucket to which a link leads.
     pub fn node(&self, table: Block, bucket: u64, word: u64) -> Lead
         requires { IsRead self.now.scan.words.now self.now.scan.directory.now self.now.origins.now }
-        ensures { IsLead (but table (LeadsAlone (slice_index self.now.scan.words.now) self.now.shard)) (IsNode (slice_index self.now.scan.words.now) self.now.shard bucket) word result }
+        ensures { IsLead
+            (but table (LeadsAlone (slice_index self.now.scan.words.now) self.now.shard))
+            (IsNode (slice_index self.now.scan.words.now) self.now.shard bucket) word result }
     {
         match self.lead(word) {
             Lead::Null => Lead::Null,
@@ -142,10 +150,13 @@ impl Walk<'_> {
 
     /// The value of a node.
     fn value(&self, alloc: Global, block: Block) -> Result<Bytes, AllocError>
-        requires read { IsRead self.now.scan.words.now self.now.scan.directory.now self.now.origins.now }
+        requires read { IsRead self.now.scan.words.now self.now.scan.directory.now
+            self.now.origins.now }
         requires block { IsBlock (layout_of (slice_index self.now.scan.words.now)) block }
-        requires fits { 3 + value_words (length_in (slice_index self.now.scan.words.now) block) ≤ block.words }
-        ensures ok { IfOk result (λ value. value ≡ value_in (slice_index self.now.scan.words.now) block) }
+        requires fits { 3 + value_words (length_in (slice_index self.now.scan.words.now) block)
+            ≤ block.words }
+        ensures ok { IfOk result (λ value.
+            value ≡ value_in (slice_index self.now.scan.words.now) block) }
     {
         let length = self.word(block, 2);
         let from = (block.first_word + NODE_WORDS) as usize;
@@ -162,12 +173,16 @@ impl Walk<'_> {
         block: Block,
         map: &mut BTreeMap<u64, Bytes>,
     ) -> Result<bool, AllocError>
-        requires read { IsRead self.now.scan.words.now self.now.scan.directory.now self.now.origins.now }
+        requires read { IsRead self.now.scan.words.now self.now.scan.directory.now
+            self.now.origins.now }
         requires block { IsBlock (layout_of (slice_index self.now.scan.words.now)) block }
-        requires fits { 3 + value_words (length_in (slice_index self.now.scan.words.now) block) ≤ block.words }
-        ensures new { IfOk result (λ new. IsTrue new → AddsNode (slice_index self.now.scan.words.now) block map.old map.new) }
+        requires fits { 3 + value_words (length_in (slice_index self.now.scan.words.now) block)
+            ≤ block.words }
+        ensures new { IfOk result (λ new. IsTrue new
+            → AddsNode (slice_index self.now.scan.words.now) block map.old map.new) }
         ensures ordered { OnOk result (IsOrdered nat_cmp map.new) }
-        ensures known { IfOk result (λ new. new ≡ false → IsSome (get nat_cmp map.old (key_in (slice_index self.now.scan.words.now) block))) }
+        ensures known { IfOk result (λ new. new ≡ false
+            → IsSome (get nat_cmp map.old (key_in (slice_index self.now.scan.words.now) block))) }
     {
         let key = self.word(block, 1);
         let keys = map.len();
