@@ -1,7 +1,7 @@
 -- What the texts tell of each held block.
 use Rattle.std.proofs.Common.{◌≡◌, ℕ, ◌+◌, ◌-◌, ◌*◌, ◌/◌, ◌<◌, ◌≤◌, true, false, nat_lt, nat_le, List, length, slice_index, get_or, Option, Some, None, ap, ◌∙◌, arith, inl, inr}
 use Rattle.std.proofs.Math.Nat.{mul-div_cancel}
-use Rattle.std.proofs.lemmas.Bool.{cases_lt, lt-ltb, le-ltb, le-leb}
+use Rattle.std.proofs.lemmas.Bool.{cases_lt, cond-true, lt-ltb, le-ltb, le-leb}
 use Rattle.std.proofs.lemmas.List.{get_or_default}
 use Rattle.std.specs.List.{Contains, find}
 use Rattle.std.specs.Option.{option_map_or}
@@ -16,7 +16,7 @@ use Rattle.heap_model.proofs.SizeLemmas.{two_words}
 use Rattle.super_block.proofs.NamingLemmas.{block_offset}
 use Rattle.trace_text.specs.HeapMap.{AreInOrder, begins_in, index_of, reaches_into, superblock_of, first_of}
 use Rattle.trace_text.specs.Laws.{IsCounted, in_class, as_large as counted_as_large}
-use Rattle.trace_text.proofs.OrderLemmas.{ready_in_order, chosen, both, first_fails, second_fails, find_only}
+use Rattle.trace_text.proofs.OrderLemmas.{ready_in_order, both, first_fails, second_fails, find_only}
 
 -- what a superblock begins is counted
 begun_counted : (l : Layout) (b : Block) (d words count : ℕ) → l.used ≤ l.capacity → b.words ≡ words → Begins l d words count → IsCounted l.capacity b
@@ -60,7 +60,7 @@ reaching_found capacity d at held e order within before ends =
           let words_same = ap (λ (y : Block). y.words) (get_or_default held at x e within) in
           first_fails _ _ (le-ltb _ (start_word capacity d) (omega arith))
     ])
-    ∙ chosen (reaches_into capacity d b) (Some b) None
+    ∙ cond-true (reaches_into capacity d b) (Some b) None
     (both (nat_lt b.first_word (start_word capacity d)) (nat_lt (start_word capacity d) (b.first_word + b.words)) (lt-ltb _ _ before) (lt-ltb _ _ ends))
 
 pub inside_told : (words : List ℕ) (held : List Block) (b : Block) (first superblocks d : ℕ) → IsReady words held → Contains held b

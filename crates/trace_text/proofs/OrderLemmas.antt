@@ -3,7 +3,7 @@ use Rattle.std.proofs.Common.{◌≡◌, ℕ, zero, suc, ◌+◌, ◌-◌, ◌<�
 use Rattle.std.specs.List.{filter, find, AllWithin}
 use Rattle.std.specs.Option.{option_map_or}
 use Rattle.std.specs.List.Sorted.{IsNonDecreasingBy}
-use Rattle.std.proofs.lemmas.Bool.{cases_lt, lt-ltb, le-ltb, le-leb, lt-leb}
+use Rattle.std.proofs.lemmas.Bool.{cond-true, cond-false, cases_lt, lt-ltb, le-ltb, le-leb, lt-leb}
 use Rattle.std.proofs.lemmas.List.Elements.{Contains-get_or}
 use Rattle.heap_model.specs.declared.block.Block.{Block}
 use Rattle.heap_model.specs.Blocks.{AreOneOrApart, layout_of}
@@ -48,13 +48,6 @@ counts_rise held m n i j less within before behind =
       | inr most ↦ most
     ]
 
--- what a test chooses, where it is known
-pub chosen : {A : Type 0} (b : Bool) (x y : A) → b ≡ true → cond b x y ≡ x
-chosen b x y e = rw e refl
-
-pub not_chosen : {A : Type 0} (b : Bool) (x y : A) → b ≡ false → cond b x y ≡ y
-not_chosen b x y e = rw e refl
-
 -- a filter that keeps the elements of one stretch
 pub filter_between : (p : Block → Bool) (xs : List Block) (from count : ℕ) → from + count ≤ length xs
     → ((k : ℕ) (d : Block) → k < from → p (get_or xs k d) ≡ false)
@@ -65,16 +58,16 @@ filter_between p [] zero zero short before within behind = refl
 filter_between p [] zero (suc count) short before within behind = absurd (omega arith)
 filter_between p [] (suc from) count short before within behind = absurd (omega arith)
 filter_between p (x ∷ xs) zero zero short before within behind =
-    not_chosen (p x) (x ∷ filter p xs) (filter p xs) (behind zero x (omega arith) (omega arith))
+    cond-false (p x) (x ∷ filter p xs) (filter p xs) (behind zero x (omega arith) (omega arith))
     ∙ filter_between p xs zero zero (omega arith) (λ k d low. absurd (omega arith)) (λ k d low high. absurd (omega arith))
     (λ k d low high. behind (suc k) d (omega arith) (omega arith))
 filter_between p (x ∷ xs) zero (suc count) short before within behind =
-    chosen (p x) (x ∷ filter p xs) (filter p xs) (within zero x (omega arith) (omega arith))
+    cond-true (p x) (x ∷ filter p xs) (filter p xs) (within zero x (omega arith) (omega arith))
     ∙ ap (λ (l : List Block). x ∷ l) (filter_between p xs zero count (omega arith) (λ k d low. absurd (omega arith))
     (λ k d low high. within (suc k) d (omega arith) (omega arith))
     (λ k d low high. behind (suc k) d (omega arith) (omega arith)))
 filter_between p (x ∷ xs) (suc from) count short before within behind =
-    not_chosen (p x) (x ∷ filter p xs) (filter p xs) (before zero x (omega arith))
+    cond-false (p x) (x ∷ filter p xs) (filter p xs) (before zero x (omega arith))
     ∙ filter_between p xs from count (omega arith) (λ k d low. before (suc k) d (omega arith))
     (λ k d low high. within (suc k) d (omega arith) (omega arith))
     (λ k d low high. behind (suc k) d (omega arith) (omega arith))
@@ -83,7 +76,7 @@ filter_between p (x ∷ xs) (suc from) count short before within behind =
 pub find_none : (p : Block → Bool) (xs : List Block) → ((k : ℕ) (d : Block) → k < length xs → p (get_or xs k d) ≡ false) → find p xs ≡ None
 find_none p [] fails = refl
 find_none p (x ∷ xs) fails =
-    not_chosen (p x) (Some x) (find p xs) (fails zero x (omega arith)) ∙ find_none p xs (λ k d high. fails (suc k) d (omega arith))
+    cond-false (p x) (Some x) (find p xs) (fails zero x (omega arith)) ∙ find_none p xs (λ k d high. fails (suc k) d (omega arith))
 
 pub find_only : (p : Block → Bool) (xs : List Block) (at : ℕ) (d : Block) → at < length xs
     → ((k : ℕ) (e : Block) → k < length xs → k ≢ at → p (get_or xs k e) ≡ false)
@@ -92,7 +85,7 @@ find_only p [] at d within others = absurd (omega arith)
 find_only p (x ∷ xs) zero d within others =
     ap (λ (o : Option Block). cond (p x) (Some x) o) (find_none p xs (λ k e high. others (suc k) e (omega arith) (λ same. omega arith)))
 find_only p (x ∷ xs) (suc at) d within others =
-    not_chosen (p x) (Some x) (find p xs) (others zero x (omega arith) (λ same. omega arith))
+    cond-false (p x) (Some x) (find p xs) (others zero x (omega arith) (λ same. omega arith))
     ∙ find_only p xs at d (omega arith) (λ k e high other. others (suc k) e (omega arith) (λ same. other (omega arith)))
 
 -- tests on one block
@@ -160,7 +153,7 @@ first_of-some capacity d held count e order some within before behind reaches =
     let first = before (count - 1) e (omega arith) (omega arith) in
     let test = both (nat_lt b.first_word (start_word capacity d)) (nat_lt (start_word capacity d) (b.first_word + b.words)) (lt-ltb _ _ first) (lt-ltb _ _ (omega arith)) in
     ap (λ (o : Option Block). option_map_or (superblock_of capacity) o 0)
-    (last_reaches capacity d held count e order some within before behind ∙ chosen (reaches_into capacity d b) (Some b) None test)
+    (last_reaches capacity d held count e order some within before behind ∙ cond-true (reaches_into capacity d b) (Some b) None test)
 
 pub first_of-other : (capacity d : ℕ) (held : List Block) (count : ℕ) (e : Block) → AreInOrder held → 0 < count → count ≤ length held
     → AllWithin (λ (b : Block). b.first_word < start_word capacity d) held 0 count
@@ -172,4 +165,4 @@ first_of-other capacity d held count e order some within before behind short =
     let first = before (count - 1) e (omega arith) (omega arith) in
     let test = second_fails (nat_lt b.first_word (start_word capacity d)) (nat_lt (start_word capacity d) (b.first_word + b.words)) (le-ltb _ _ (omega arith)) in
     ap (λ (o : Option Block). option_map_or (superblock_of capacity) o 0)
-    (last_reaches capacity d held count e order some within before behind ∙ not_chosen (reaches_into capacity d b) (Some b) None test)
+    (last_reaches capacity d held count e order some within before behind ∙ cond-false (reaches_into capacity d b) (Some b) None test)

@@ -1,6 +1,6 @@
 -- The longest runs of a list, found from its front.
 use Rattle.std.proofs.Common.{◌≡◌, ◌≢◌, ℕ, suc, ◌+◌, ◌<◌, Bool, true, false, cond, nat_eq, List, [], ◌∷◌, ◌++◌, length, drop, get_or, refl, sym, ap, ◌∙◌, append_assoc, add-one, drop-cons, eq-eqb}
-use Rattle.std.proofs.lemmas.Bool.{ne_eqb}
+use Rattle.std.proofs.lemmas.Bool.{ne_eqb, cond-true, cond-false}
 use Rattle.std.specs.List.{flat_map}
 use Rattle.trace_text.specs.Ranges.{Run, with_run, longest_runs, run_text}
 
@@ -11,33 +11,26 @@ run first last = record { first = first; last = last }
 abbrev pub runs_text : ℕ → ℕ → List ℕ → List ℕ
 runs_text first last ns = flat_map run_text (with_run (run first last) (longest_runs ns))
 
--- what a test chooses, where it is known
-chosen : {A : Type 0} (b : Bool) (x y : A) → b ≡ true → cond b x y ≡ x
-chosen b x y e = rw e refl
-
-not_chosen : {A : Type 0} (b : Bool) (x y : A) → b ≡ false → cond b x y ≡ y
-not_chosen b x y e = rw e refl
-
 -- a number that goes on from the run makes it longer
 next_by_test : (first last : ℕ) (next : Run) (runs : List Run) (goes_on : Bool) → nat_eq next.first (last + 1 + 1) ≡ goes_on
     → with_run (run first last) (cond goes_on (run (last + 1) next.last ∷ runs) (run (last + 1) (last + 1) ∷ next ∷ runs))
     ≡ cond goes_on (run first next.last ∷ runs) (run first (last + 1) ∷ next ∷ runs)
-next_by_test first last next runs true e = chosen (nat_eq (last + 1) (last + 1)) _ _ (eq-eqb _ _ refl)
-next_by_test first last next runs false e = chosen (nat_eq (last + 1) (last + 1)) _ _ (eq-eqb _ _ refl)
+next_by_test first last next runs true e = cond-true (nat_eq (last + 1) (last + 1)) _ _ (eq-eqb _ _ refl)
+next_by_test first last next runs false e = cond-true (nat_eq (last + 1) (last + 1)) _ _ (eq-eqb _ _ refl)
 
 with_run-next : (first last : ℕ) (runs : List Run) → with_run (run first last) (with_run (run (last + 1) (last + 1)) runs) ≡ with_run (run first (last + 1)) runs
-with_run-next first last [] = chosen (nat_eq (last + 1) (last + 1)) _ _ (eq-eqb _ _ refl)
+with_run-next first last [] = cond-true (nat_eq (last + 1) (last + 1)) _ _ (eq-eqb _ _ refl)
 with_run-next first last (next ∷ runs) = next_by_test first last next runs (nat_eq next.first (last + 1 + 1)) refl
 
 -- another number begins a run of its own
 apart_by_test : (first last n : ℕ) (next : Run) (runs : List Run) (goes_on : Bool) → nat_eq n (last + 1) ≡ false
     → with_run (run first last) (cond goes_on (run n next.last ∷ runs) (run n n ∷ next ∷ runs))
     ≡ run first last ∷ cond goes_on (run n next.last ∷ runs) (run n n ∷ next ∷ runs)
-apart_by_test first last n next runs true apart = not_chosen (nat_eq n (last + 1)) _ _ apart
-apart_by_test first last n next runs false apart = not_chosen (nat_eq n (last + 1)) _ _ apart
+apart_by_test first last n next runs true apart = cond-false (nat_eq n (last + 1)) _ _ apart
+apart_by_test first last n next runs false apart = cond-false (nat_eq n (last + 1)) _ _ apart
 
 with_run-apart : (first last n : ℕ) (runs : List Run) → nat_eq n (last + 1) ≡ false → with_run (run first last) (with_run (run n n) runs) ≡ run first last ∷ with_run (run n n) runs
-with_run-apart first last n [] apart = not_chosen (nat_eq n (last + 1)) _ _ apart
+with_run-apart first last n [] apart = cond-false (nat_eq n (last + 1)) _ _ apart
 with_run-apart first last n (next ∷ runs) apart = apart_by_test first last n next runs (nat_eq next.first (n + 1)) apart
 
 -- the number at the front of a rest
