@@ -54,74 +54,87 @@ fn are_in_order(held: &[Block]) -> bool
     true
 }
 
+/// A heap and what is told of it: its capacity, how many superblocks have been taken, the first
+/// infos, each held block's first word and words, the free superblocks, the report and the map.
+type Told<'a> = (
+    u64,
+    u64,
+    [u64; 4],
+    &'a [(u64, u64)],
+    &'a [u32],
+    &'a str,
+    &'a str,
+);
+
+const TOLD: [Told<'static>; 6] = [
+    (
+        1,
+        0,
+        [0, 0, 0, 0],
+        &[],
+        &[],
+        "heap 1 clean\n",
+        "used 0 free 0 fresh 1\n",
+    ),
+    (
+        4,
+        2,
+        [12, 0, 0, 0],
+        &[(1_096, 128)],
+        &[1],
+        "heap 4 clean\nheld 1024 1\n",
+        "used 2 free 1 fresh 2\nsb 0 class 12 held 0\nsb 1 free\n",
+    ),
+    (
+        4,
+        3,
+        [12, 767, 0, 0],
+        &[(1_096, 128), (9_288, 16_384)],
+        &[],
+        "heap 4 clean\nheld 1024 1\nheld large 2 1\n",
+        "used 3 free 0 fresh 1\nsb 0 class 12 held 0\nsb 1 large 2\nsb 2 inside 1\n",
+    ),
+    (
+        2,
+        2,
+        [12, 2, 0, 0],
+        &[(1_080, 128), (9_272, 4)],
+        &[],
+        "heap 2 clean\nheld 32 1\nheld 1024 1\n",
+        "used 2 free 0 fresh 0\nsb 0 class 12 held 0\nsb 1 class 2 held 0\n",
+    ),
+    (
+        1,
+        1,
+        [12, 0, 0, 0],
+        &[(1_072, 128), (1_328, 128)],
+        &[],
+        "heap 1 clean\nheld 1024 2\n",
+        "used 1 free 0 fresh 0\nsb 0 class 12 held 0 2\n",
+    ),
+    (
+        8,
+        3,
+        [12, 5, 6, 0],
+        &[
+            (1_128, 128),
+            (1_256, 128),
+            (1_384, 128),
+            (1_512, 128),
+            (9_320, 12),
+            (9_332, 12),
+            (17_512, 16),
+            (17_528, 16),
+        ],
+        &[],
+        "heap 8 clean\nheld 96 2\nheld 128 2\nheld 1024 4\n",
+        "used 3 free 0 fresh 5\nsb 0 class 12 held 0-3\nsb 1 class 5 held 0-1\nsb 2 class 6 held 0-1\n",
+    ),
+];
+
 #[test]
 fn a_heap_is_reported_and_mapped(rt: HostRuntime) -> Result<(), Fail> {
-    let rows: [(u64, u64, [u64; 4], &[(u64, u64)], &[u32], &str, &str); 6] = [
-        (
-            1,
-            0,
-            [0, 0, 0, 0],
-            &[],
-            &[],
-            "heap 1 clean\n",
-            "used 0 free 0 fresh 1\n",
-        ),
-        (
-            4,
-            2,
-            [12, 0, 0, 0],
-            &[(1_096, 128)],
-            &[1],
-            "heap 4 clean\nheld 1024 1\n",
-            "used 2 free 1 fresh 2\nsb 0 class 12 held 0\nsb 1 free\n",
-        ),
-        (
-            4,
-            3,
-            [12, 767, 0, 0],
-            &[(1_096, 128), (9_288, 16_384)],
-            &[],
-            "heap 4 clean\nheld 1024 1\nheld large 2 1\n",
-            "used 3 free 0 fresh 1\nsb 0 class 12 held 0\nsb 1 large 2\nsb 2 inside 1\n",
-        ),
-        (
-            2,
-            2,
-            [12, 2, 0, 0],
-            &[(1_080, 128), (9_272, 4)],
-            &[],
-            "heap 2 clean\nheld 32 1\nheld 1024 1\n",
-            "used 2 free 0 fresh 0\nsb 0 class 12 held 0\nsb 1 class 2 held 0\n",
-        ),
-        (
-            1,
-            1,
-            [12, 0, 0, 0],
-            &[(1_072, 128), (1_328, 128)],
-            &[],
-            "heap 1 clean\nheld 1024 2\n",
-            "used 1 free 0 fresh 0\nsb 0 class 12 held 0 2\n",
-        ),
-        (
-            8,
-            3,
-            [12, 5, 6, 0],
-            &[
-                (1_128, 128),
-                (1_256, 128),
-                (1_384, 128),
-                (1_512, 128),
-                (9_320, 12),
-                (9_332, 12),
-                (17_512, 16),
-                (17_528, 16),
-            ],
-            &[],
-            "heap 8 clean\nheld 96 2\nheld 128 2\nheld 1024 4\n",
-            "used 3 free 0 fresh 5\nsb 0 class 12 held 0-3\nsb 1 class 5 held 0-1\nsb 2 class 6 held 0-1\n",
-        ),
-    ];
-    for (capacity, used, infos, places, free, report, map) in rows {
+    for (capacity, used, infos, places, free, report, map) in TOLD {
         assert!(rt; 1 <= capacity && capacity <= 256);
         let words = image(rt.alloc(), capacity, used, infos)?;
         assert!(rt; read_header(&words).is_ok());
