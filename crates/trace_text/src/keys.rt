@@ -16,7 +16,8 @@ pub(crate) fn write_keys(
     maps: &[BTreeMap<u64, Bytes>],
     sum: bool,
 ) -> Result<(), AllocError>
-    ensures ok { OnOk result (WritesKeys (Some maps.now) sum (string_bytes text.old) (string_bytes text.new)) }
+    ensures ok { OnOk result
+        (WritesKeys (Some maps.now) sum (string_bytes text.old) (string_bytes text.new)) }
 {
     let entries = sorted_entries(*text.allocator(), maps)?;
     if sum {
@@ -46,7 +47,8 @@ fn add_entries<'a>(
     entries: &mut Vec<(u64, &'a Bytes)>,
     keys: &'a BTreeMap<u64, Bytes>,
 ) -> Result<(), AllocError>
-    ensures ok { OnOk result (map shown entries.new.items ≡ map shown entries.old.items ++ keys.now.entries) }
+    ensures ok { OnOk result (map shown entries.new.items
+        ≡ map shown entries.old.items ++ keys.now.entries) }
 {
     for (key, value) in keys {
         entries.push((*key, value))?;
@@ -56,7 +58,8 @@ fn add_entries<'a>(
 
 /// Writes the line that counts keys and bytes.
 fn write_sum(text: &mut String, entries: &[(u64, &Bytes)]) -> Result<(), AllocError>
-    ensures ok { OnOk result (string_bytes text.new ≡ string_bytes text.old ++ sum_line (map shown entries.now)) }
+    ensures ok { OnOk result (string_bytes text.new
+        ≡ string_bytes text.old ++ sum_line (map shown entries.now)) }
 {
     let count = entries.len();
     let bytes = count_bytes(entries);
@@ -76,7 +79,8 @@ fn count_bytes(entries: &[(u64, &Bytes)]) -> u128
 
 /// Writes a line for each key.
 fn write_lines(text: &mut String, entries: &[(u64, &Bytes)]) -> Result<(), AllocError>
-    ensures ok { OnOk result (string_bytes text.new ≡ string_bytes text.old ++ flat_map key_line (map shown entries.now)) }
+    ensures ok { OnOk result (string_bytes text.new
+        ≡ string_bytes text.old ++ flat_map key_line (map shown entries.now)) }
 {
     for (key, value) in entries {
         write_line(text, *key, value.as_slice())?;
@@ -86,7 +90,8 @@ fn write_lines(text: &mut String, entries: &[(u64, &Bytes)]) -> Result<(), Alloc
 
 /// Writes the line of a key.
 fn write_line(text: &mut String, key: u64, value: &[u8]) -> Result<(), AllocError>
-    ensures ok { OnOk result (string_bytes text.new ≡ string_bytes text.old ++ key_line (key, value.now)) }
+    ensures ok { OnOk result (string_bytes text.new
+        ≡ string_bytes text.old ++ key_line (key, value.now)) }
 {
     write!(text, "key {key} ")?;
     write_value(text, value)?;

@@ -166,7 +166,8 @@ fn count_before(held: &[Block], word: u64) -> usize
     requires { AreInOrder held.now }
     ensures bound { result ≤ length held.now }
     ensures before { AllWithin (λ (b : Block). b.first_word < word) held.now 0 result }
-    ensures behind { AllWithin (λ (b : Block). word ≤ b.first_word) held.now result (length held.now) }
+    ensures behind { AllWithin (λ (b : Block). word ≤ b.first_word) held.now result
+        (length held.now) }
 {
     held.partition_point(|block| block.first_word < word)
 }

@@ -51,8 +51,8 @@ fn write_maps(
     maps: Option<&[BTreeMap<u64, Bytes>]>,
     sum: bool,
 ) -> Result<(), AllocError>
-    ensures ok { OnOk result
-        (WritesKeys (option_copied maps.entry) sum (string_bytes text.old) (string_bytes text.new)) }
+    ensures ok { OnOk result (WritesKeys (option_copied maps.entry) sum
+        (string_bytes text.old) (string_bytes text.new)) }
 {
     match maps {
         Some(maps) => write_keys(text, maps, sum),

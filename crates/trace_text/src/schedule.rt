@@ -21,11 +21,11 @@ pub struct Schedule {
 /// The schedule that a text writes.
 ///
 /// The first line is `seats N`, from 1 to 8. Each other one is a seat's number below `N`, a space,
-/// and what the seat does: a draw, as `tick`, or `cut D`, `alloc C`, `free W`, `lift C`, `large D N`
-/// or `split W` with its change; or `load W`, `store W V`, `settle W`, `look-used`, `take N`, `keep`,
-/// `head L`, `link`, `pop`, `push D`, `anchor D`, `take-all D` or `give D`. Numbers are decimal, of
-/// 64 bits and without leading zeros. The last line may lack its line feed, and an empty text counts
-/// as an empty line.
+/// and what the seat does: a draw, as `tick`, or `cut D`, `alloc C`, `free W`, `lift C`,
+/// `large D N` or `split W` with its change; or `load W`, `store W V`, `settle W`, `look-used`,
+/// `take N`, `keep`, `head L`, `link`, `pop`, `push D`, `anchor D`, `take-all D` or `give D`.
+/// Numbers are decimal, of 64 bits and without leading zeros. The last line may lack its line feed,
+/// and an empty text counts as an empty line.
 ///
 /// Memory is asked for once.
 pub fn parse_schedule(alloc: Global, text: &[u8]) -> Result<Schedule, TraceError>
@@ -44,7 +44,8 @@ pub fn parse_schedule(alloc: Global, text: &[u8]) -> Result<Schedule, TraceError
 
 /// The steps of the lines behind the first.
 fn parse_steps(alloc: Global, text: &[u8], seats: usize) -> Result<Vec<(usize, Event)>, TraceError>
-    ensures ok { IfOk result (λ steps. AreWritten (IsStepLine seats) (lines_of text.now) steps.items) }
+    ensures ok { IfOk result (λ steps.
+        AreWritten (IsStepLine seats) (lines_of text.now) steps.items) }
     ensures err { IfErr result (IsWhyNoSteps seats (lines_of text.now)) }
 {
     let mut steps = Vec::with_capacity(alloc, count_lines(text))?;
