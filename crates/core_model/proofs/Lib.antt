@@ -26,6 +26,7 @@ pub mod CutLemmas
 pub mod KeptLemmas
 pub mod TableLemmas
 pub mod SoundLemmas
+pub mod OutcomeLemmas
 pub mod HeldLemmas
 pub mod HeaderLemmas
 pub mod OpenLemmas

@@ -47,6 +47,14 @@ pub fn every_list_of_events_keeps_the_heap_sound()
         → IsFirm k.capacity s'.words s'.views }
 {}
 
+/// The same events from the same state have one outcome: the same answers, and the same words and
+/// views.
+pub fn a_list_of_events_has_one_outcome()
+    ensures { (k : Setup) (s one other : State) (events : List (ℕ × Event))
+        (answers answers' : List StepAnswer) → Runs k s events answers one
+        → Runs k s events answers' other → (answers ≡ answers') × (one ≡ other) }
+{}
+
 /// A heap at rest that is opened for some seats, with an owner for each held block and each root,
 /// is sound, and each seat has exactly what it owns; sound is whatever the seats make of it.
 pub fn an_opened_heap_is_sound()
