@@ -29,6 +29,7 @@ pub mod SoundLemmas
 pub mod OutcomeLemmas
 pub mod HeldLemmas
 pub mod HeaderLemmas
+pub mod AlikeLemmas
 pub mod OpenLemmas
 pub mod OpenCountLemmas
 pub mod OpenedLemmas

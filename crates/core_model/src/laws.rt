@@ -19,8 +19,9 @@ ghost use Rattle.core_model.specs.Opening.{AreOwners, IsOwnerOf, setup_of, opene
 ghost use Rattle.core_model.specs.Held.{IsHeld, IsHeldBy, IsFirm, volatile_image, durable_image};
 ghost use Rattle.heap_model.specs.Header.{IsWellFormed, header_fault};
 ghost use Rattle.heap_model.specs.Image.{Image};
-ghost use Rattle.heap_model.specs.Blocks.{Names};
+ghost use Rattle.heap_model.specs.Blocks.{Names, layout_of};
 ghost use Rattle.heap_model.specs.Durability.{IsCrashImage, IsClosedImage};
+ghost use Rattle.heap_model.specs.Reach.{Links, Reach, IsOutside};
 ghost use Rattle.core_model.specs.Effects.{place_of};
 
 /// Each kind of step that a seat may take keeps memory and seats fitting together, whether an
@@ -126,6 +127,21 @@ pub fn a_crash_leaves_a_good_header()
         → (image : Image)
         → IsCrashImage (durable_image (slice_index words capacity_word) s.words) image
         → header_fault (8 * image_words (slice_index words capacity_word)) image ≡ None }
+{}
+
+/// Whatever a crash leaves of the same durable words, it is laid out the same, it reaches the same
+/// blocks, as the same kinds, and the same words of it point outside, with the same values: no trace
+/// looks at a word that a crash leaves at random.
+pub fn whatever_a_crash_leaves_reaches_the_same()
+    ensures layout { (durable image other : Image) → IsCrashImage durable image
+        → IsCrashImage durable other → layout_of other ≡ layout_of image }
+    ensures reach { (durable image other : Image) → IsCrashImage durable image
+        → IsCrashImage durable other → (kinds : ℕ → ℕ) (links : Links) (b : Block) (kind : ℕ)
+        → Reach image kinds links b kind → Reach other kinds links b kind }
+    ensures outside { (durable image other : Image) → IsCrashImage durable image
+        → IsCrashImage durable other → (kinds : ℕ → ℕ) (links : Links) (at : ℕ)
+        → IsOutside image kinds links at
+        → IsOutside other kinds links at × (other at ≡ image at) }
 {}
 
 /// A step that a seat may take works on a word of the shared table.
