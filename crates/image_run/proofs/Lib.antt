@@ -4,3 +4,4 @@ pub mod RecoveredLemmas
 pub mod CarryLemmas
 pub mod LeftLemmas
 pub mod PutLemmas
+pub mod OneRecoveryLemmas

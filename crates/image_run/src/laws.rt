@@ -1,12 +1,13 @@
 //! What follows of runs, as functions with nothing to run.
 ghost use Rattle.std.specs.Prelude.{◌≡◌, ℕ, List, None};
 ghost use Rattle.std.specs.BTreeMap.{BTreeMap};
+ghost use Rattle.heap_model.specs.declared.block.Block.{Block};
 ghost use Rattle.heap_model.specs.Image.{Image, image_of_bytes};
 ghost use Rattle.dict_model.specs.Links.{shards};
 ghost use Rattle.dict_model.specs.Requests.{Request};
 ghost use Rattle.dictionary.specs.Reading.{RecoversTo, AreMaps};
 ghost use Rattle.trace_run.specs.Opened.{HasMaps};
-ghost use Rattle.image_run.specs.Reporting.{fault_of, PointsOutside};
+ghost use Rattle.image_run.specs.Reporting.{fault_of, PointsOutside, Recovers};
 ghost use Rattle.image_run.specs.Running.{Options, Runs};
 
 /// A run over what recovery leaves of an image is one over the image itself.
@@ -29,4 +30,16 @@ pub fn what_a_run_puts_can_be_run_again()
     ensures maps { (image : Image) (requests : List Request) (options : Options)
         (put text : List ℕ) → HasMaps image → Runs image requests options put text
         → HasMaps (image_of_bytes put) }
+{}
+
+/// Recovery of an image leaves one heap: it keeps the same list of blocks, frees the same list of
+/// superblocks, and leaves the same value of each word.
+pub fn an_image_is_recovered_in_one_way()
+    ensures held { (image words other : Image) (held again : List Block) (free freed : List ℕ)
+        → Recovers image held free words → Recovers image again freed other → again ≡ held }
+    ensures free { (image words other : Image) (held again : List Block) (free freed : List ℕ)
+        → Recovers image held free words → Recovers image again freed other → freed ≡ free }
+    ensures words { (image words other : Image) (held again : List Block) (free freed : List ℕ)
+        → Recovers image held free words → Recovers image again freed other
+        → (word : ℕ) → other word ≡ words word }
 {}

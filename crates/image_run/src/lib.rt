@@ -7,7 +7,8 @@ mod reporting;
 mod running;
 
 pub use laws::{
-    a_run_over_what_recovery_leaves_is_one_over_the_image, what_a_run_puts_can_be_run_again,
+    a_run_over_what_recovery_leaves_is_one_over_the_image, an_image_is_recovered_in_one_way,
+    what_a_run_puts_can_be_run_again,
 };
 pub use options::{MOST_BUDGET, MOST_WORKERS, RunOptions};
 pub use reporting::recovered_text;
