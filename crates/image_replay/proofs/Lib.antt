@@ -1,2 +1,3 @@
 mod LineLemmas
 mod CrashLemmas
+pub mod OutcomeLemmas

@@ -2,8 +2,10 @@
 #![tactic(auto)]
 
 mod fault;
+mod laws;
 mod lines;
 mod replaying;
 
 pub use fault::ReplayFault;
+pub use laws::a_replay_has_one_outcome;
 pub use replaying::replay_image;

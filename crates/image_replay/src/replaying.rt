@@ -1,10 +1,10 @@
 //! Replays a schedule over a heap at rest, and makes what is printed.
-ghost use Rattle.std.specs.Prelude.{◌≡◌, ◌*◌, ◌++◌, None, length, replicate, slice_index, IfOk, IfErr, OnOk, ℕ};
+ghost use Rattle.std.specs.Prelude.{◌≡◌, ◌*◌, ◌++◌, None, length, replicate, slice_index, IfOk, IfErr, IsErr, OnOk, ℕ};
 ghost use Rattle.heap_model.specs.Geometry.{roots};
 ghost use Rattle.heap_model.specs.Header.{header_fault};
 ghost use Rattle.trace_text.specs.Answered.{answers_text_of, tickets_line_of};
 ghost use Rattle.image_run.specs.Reporting.{PointsOutside, TellsHeap};
-ghost use Rattle.image_replay.specs.Replaying.{CanBeReplayed, IsReplayed, Replays, StopsReplay, StopsReport};
+ghost use Rattle.image_replay.specs.Replaying.{CanBeReplayed, IsReplayed, LeavesOutside, Replays, StopsReplay, StopsReport};
 
 use crate::fault::ReplayFault;
 use crate::lines::{events_of, last_answers};
@@ -43,6 +43,8 @@ pub fn replay_image<C: Chances>(
         schedule.now.seats schedule.now.lines.items) }
     ensures err { IfErr result (StopsReplay heap.now.words heap.now.held
         schedule.now.seats schedule.now.lines.items) }
+    ensures always_outside { (at value : ℕ) → LeavesOutside heap.now.words heap.now.held
+        schedule.now.seats schedule.now.lines.items at value → IsErr result }
 {
     chances.seed(seed);
     let replayed = replay_lines(alloc, heap, schedule, chances)?;
