@@ -22,3 +22,5 @@ pub mod ShiftLemmas
 pub mod ToldLemmas
 pub mod SeatImageLemmas
 pub mod ClosedLemmas
+pub mod LeftLemmas
+pub mod PartLemmas

@@ -15,12 +15,12 @@ use Rattle.heap_rule.proofs.SettleLemmas.{own_there}
 use Rattle.heap_rule.proofs.ViewLemmas.{shown}
 
 -- a change of the parts leaves ticket, stop and count of draws
-record IsDrawn (u v : View) : Type 0 where
-  ticket : u.ticket ≡ v.ticket
-  stopped_is : u.stopped ≡ v.stopped
-  draws : u.draws ≡ v.draws
+pub record IsDrawn (u v : View) : Type 0 where
+  pub ticket : u.ticket ≡ v.ticket
+  pub stopped_is : u.stopped ≡ v.stopped
+  pub draws : u.draws ≡ v.draws
 
-parts_alone : (m : Memory) (v : View) (shift : Option Shift) → IsDrawn (shifted m v shift) v
+pub parts_alone : (m : Memory) (v : View) (shift : Option Shift) → IsDrawn (shifted m v shift) v
 parts_alone m v None = record { ticket = refl; stopped_is = refl; draws = refl }
 parts_alone m v (Some (Cut d)) = record { ticket = refl; stopped_is = refl; draws = refl }
 parts_alone m v (Some (Alloc class)) = record { ticket = refl; stopped_is = refl; draws = refl }

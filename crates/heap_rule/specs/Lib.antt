@@ -5,3 +5,4 @@ pub mod Shown
 pub mod Seated
 pub mod Seats
 pub mod Images
+pub mod Parts

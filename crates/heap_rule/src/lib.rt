@@ -16,6 +16,7 @@ mod rule;
 mod seat;
 mod shared;
 mod shifts;
+mod step_laws;
 mod steps;
 mod ticks;
 mod told;
@@ -33,6 +34,10 @@ pub use laws::{a_closed_heap_names_each_held_block, a_step_tells_of_the_heap};
 pub use opening::open_shared;
 pub use seat::Seat;
 pub use shared::Shared;
+pub use step_laws::{
+    a_draw_leaves_its_change_or_a_stop, a_mark_is_within_the_capacity,
+    a_step_that_changes_nothing_keeps_the_parts, an_exchange_is_won_or_lost,
+};
 
 #[cfg(test)]
 mod tests;

@@ -1,0 +1,86 @@
+//! What a step leaves of the seat's view, as functions with nothing to run: a caller cites their
+//! clauses.
+
+ghost use Rattle.std.specs.Prelude.{◌≡◌, ◌≢◌, ◌≤◌, ℕ, Option, None, Some};
+ghost use Rattle.core_model.specs.declared.event.Event.TheVariants.{Tick, LookUsed, LookHead, LookLink, LookAnchor, KeepUsed, TakeFresh, Pop, Push, TakeAll, Give};
+ghost use Rattle.core_model.specs.declared.event.Shift.{Shift};
+ghost use Rattle.core_model.specs.declared.event.Shift.TheVariants.{Cut, Free};
+ghost use Rattle.core_model.specs.Effects.{after_free, before, drew, given, lost, popped, pushed, seen, seen_of, seen_word, shifted, stopped, taken_all, taken_fresh};
+ghost use Rattle.core_model.specs.Memory.{memory_of};
+ghost use Rattle.core_model.specs.View.{View};
+ghost use Rattle.heap_model.specs.Words.{head_first};
+ghost use Rattle.heap_rule.specs.Parts.{KeepsParts, cut_for};
+ghost use Rattle.heap_rule.specs.Plays.{IsEvent};
+ghost use Rattle.heap_rule.specs.Shown.{CanCut, CanFree};
+
+/// A draw that goes on leaves the ticket in hand and its change done; one that stops the seat
+/// leaves nothing else changed. What a view shows of a superblock's class is the class that its
+/// blocks are made for, or that a freed block is of.
+pub fn a_draw_leaves_its_change_or_a_stop()
+    ensures done { (shift : Option Shift) (v w : View) (ticket : ℕ)
+        → (e : IsEvent (Tick shift) v ticket w) → w.stopped ≡ None
+        → w ≡ shifted (memory_of v.setup.capacity e.before.words) (drew v ticket) shift }
+    ensures stop { (shift : Option Shift) (v w : View) (ticket step : ℕ)
+        → IsEvent (Tick shift) v ticket w → v.stopped ≡ None → w.stopped ≡ Some step
+        → w ≡ stopped v step }
+    ensures cut { (d : ℕ) (v w : View) (ticket : ℕ) → IsEvent (Tick (Some (Cut d))) v ticket w
+        → w.stopped ≡ None → (can : CanCut v d) → w ≡ cut_for can.class (drew v ticket) d }
+    ensures free { (block : ℕ) (v w : View) (ticket : ℕ)
+        → IsEvent (Tick (Some (Free block))) v ticket w
+        → w.stopped ≡ None → (can : CanFree v block)
+        → w ≡ after_free (drew v ticket) can.class block }
+{}
+
+/// An exchange of a word that is as it was seen is won, and leaves what it does; any other is lost,
+/// and only the snapshot goes.
+pub fn an_exchange_is_won_or_lost()
+    ensures taken { (n : ℕ) (v w : View) (found : ℕ) → IsEvent (TakeFresh n) v found w
+        → found ≡ seen v.seen_used → w ≡ taken_fresh v n }
+    ensures not_taken { (n : ℕ) (v w : View) (found : ℕ) → IsEvent (TakeFresh n) v found w
+        → found ≢ seen v.seen_used → w ≡ record (lost v) { seen_used = None } }
+    ensures popped { (v w : View) (found : ℕ) → IsEvent Pop v found w
+        → found ≡ seen_word v.seen_head
+        → w ≡ popped v (before (head_first (seen_word v.seen_head))) }
+    ensures not_popped { (v w : View) (found : ℕ) → IsEvent Pop v found w
+        → found ≢ seen_word v.seen_head → w ≡ record (lost v) { seen_head = None } }
+    ensures pushed { (d : ℕ) (v w : View) (found : ℕ) → IsEvent (Push d) v found w
+        → found ≡ seen_word v.seen_head → w ≡ pushed v d }
+    ensures not_pushed { (d : ℕ) (v w : View) (found : ℕ) → IsEvent (Push d) v found w
+        → found ≢ seen_word v.seen_head → w ≡ record (lost v) { seen_head = None } }
+    ensures taken_all { (d : ℕ) (v w : View) (found : ℕ) → (e : IsEvent (TakeAll d) v found w)
+        → found ≡ seen_word v.seen_anchor
+        → w ≡ taken_all (memory_of v.setup.capacity e.before.words) v d }
+    ensures not_taken_all { (d : ℕ) (v w : View) (found : ℕ) → IsEvent (TakeAll d) v found w
+        → found ≢ seen_word v.seen_anchor → w ≡ record (lost v) { seen_anchor = None } }
+    ensures given { (d : ℕ) (v w : View) (found : ℕ) → IsEvent (Give d) v found w
+        → found ≡ seen_word v.seen_anchor → w ≡ given v d }
+    ensures not_given { (d : ℕ) (v w : View) (found : ℕ) → IsEvent (Give d) v found w
+        → found ≢ seen_word v.seen_anchor → w ≡ record (lost v) { seen_anchor = None } }
+{}
+
+/// Draws with no change, looks, lost exchanges, and keeping the mark leave the seat its parts.
+pub fn a_step_that_changes_nothing_keeps_the_parts()
+    ensures draw { (v w : View) (ticket : ℕ) → IsEvent (Tick None) v ticket w → KeepsParts v w }
+    ensures look_used { (v w : View) (found : ℕ) → IsEvent LookUsed v found w → KeepsParts v w }
+    ensures keep_used { (v w : View) (found : ℕ) → IsEvent KeepUsed v found w → KeepsParts v w }
+    ensures look_head { (list : ℕ) (v w : View) (found : ℕ) → IsEvent (LookHead list) v found w
+        → KeepsParts v w }
+    ensures look_link { (v w : View) (found : ℕ) → IsEvent LookLink v found w → KeepsParts v w }
+    ensures look_anchor { (d : ℕ) (v w : View) (found : ℕ) → IsEvent (LookAnchor d) v found w
+        → KeepsParts v w }
+    ensures not_taken { (n : ℕ) (v w : View) (found : ℕ) → IsEvent (TakeFresh n) v found w
+        → found ≢ seen v.seen_used → KeepsParts v w }
+    ensures not_popped { (v w : View) (found : ℕ) → IsEvent Pop v found w
+        → found ≢ seen_word v.seen_head → KeepsParts v w }
+    ensures not_pushed { (d : ℕ) (v w : View) (found : ℕ) → IsEvent (Push d) v found w
+        → found ≢ seen_word v.seen_head → KeepsParts v w }
+    ensures not_taken_all { (d : ℕ) (v w : View) (found : ℕ) → IsEvent (TakeAll d) v found w
+        → found ≢ seen_word v.seen_anchor → KeepsParts v w }
+    ensures not_given { (d : ℕ) (v w : View) (found : ℕ) → IsEvent (Give d) v found w
+        → found ≢ seen_word v.seen_anchor → KeepsParts v w }
+{}
+
+/// A mark that is read is within the capacity.
+pub fn a_mark_is_within_the_capacity()
+    ensures { (v w : View) (found : ℕ) → IsEvent LookUsed v found w → found ≤ v.setup.capacity }
+{}
