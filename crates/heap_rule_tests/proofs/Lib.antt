@@ -1,0 +1,3 @@
+pub mod DrawLemmas
+pub mod TakeLemmas
+pub mod SeatListLemmas

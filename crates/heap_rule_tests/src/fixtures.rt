@@ -1,0 +1,82 @@
+//! Shared heaps for the tests, over recovered images.
+
+ghost use Rattle.std.specs.Prelude.{◌≡◌, ◌<◌, ◌≤◌, ℕ, None, IfOk, length, Contains};
+ghost use Rattle.heap_model.specs.Geometry.{largest_capacity};
+ghost use Rattle.heap_rule.specs.Seated.{SeatView};
+ghost use Rattle.heap_rule.specs.Seats.{AreSeatsOf};
+
+use crate::refusal::Refusal;
+use crate::takes::take_one;
+use crash_core::Owners;
+use dictionary::{DictFilter, root_kinds};
+use heap_recover::recover;
+use heap_rule::{Seat, Shared, open_shared};
+use region_header::format;
+use std::alloc::{AllocError, Global};
+use std::test::Fail;
+use super_block::{ROOTS, Ready};
+
+/// More tickets than any test here draws.
+pub const MANY: u64 = 1_000_000;
+
+/// Words of an image: at which word index, and what.
+pub type Words<'a> = &'a [(usize, u64)];
+
+/// What recovery makes of an image of so many superblocks with these words.
+pub fn recovered(alloc: Global, capacity: u64, words: Words<'_>) -> Result<Ready, Fail>
+    requires some { 1 ≤ capacity }
+    requires small { capacity ≤ largest_capacity }
+{
+    let mut image = format(alloc, capacity)?;
+    for (at, value) in words {
+        if let Some(word) = image.get_mut(*at) {
+            *word = *value;
+        }
+    }
+    Ok(recover(alloc, &image, &root_kinds(), &DictFilter)?.heap)
+}
+
+/// So many numbers of seats, in turn.
+fn in_turn(alloc: Global, count: usize, seats: usize) -> Result<Vec<u32>, AllocError>
+    requires some { 1 ≤ seats }
+    requires seats { seats ≤ 8 }
+    ensures count { IfOk result (λ owners. length owners.items ≡ count) }
+    ensures below { IfOk result (λ owners. (owner : ℕ) → Contains owners.items owner
+        → owner < seats) }
+{
+    let mut owners = Vec::new(alloc);
+    for i in 0..count {
+        owners.push((i % seats) as u32)?;
+    }
+    Ok(owners)
+}
+
+/// The heap shared by some seats, which own the held blocks and the roots in turn.
+pub fn shared(
+    alloc: Global,
+    heap: Ready,
+    seats: usize,
+    budget: u64,
+) -> Result<(Shared, Vec<Seat>), Fail>
+    requires some { 1 ≤ seats }
+    requires seats { seats ≤ 8 }
+    requires budget { budget < 1099511627776 }
+    ensures all { IfOk result (λ r. AreSeatsOf r.0 r.1.items) }
+    ensures count { IfOk result (λ r. length r.1.items ≡ seats) }
+    ensures going { IfOk result (λ r. (seat : SeatView) → Contains r.1.items seat
+        → seat.view.stopped ≡ None) }
+{
+    let held = in_turn(alloc, heap.held().len(), seats)?;
+    let roots = in_turn(alloc, ROOTS as usize, seats)?;
+    Ok(open_shared(alloc, heap, &Owners::new(held, roots), seats, budget)?)
+}
+
+/// A seat of the heap takes a superblock that was never taken.
+pub fn take_by(shared: &Shared, seats: &mut Vec<Seat>, who: usize) -> Result<u64, Refusal>
+    requires all { AreSeatsOf shared.now seats.old.items }
+    requires who { who < length seats.old.items }
+    ensures all { AreSeatsOf shared.now seats.new.items }
+    ensures count { length seats.new.items ≡ length seats.old.items }
+{
+    take_one(&mut seats[who], shared)
+}

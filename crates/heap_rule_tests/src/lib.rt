@@ -1,0 +1,16 @@
+//! Users of the seats of a shared heap: rows of calls as a lock-free allocator has them, each with
+//! what it needs to go on, and tests that run them.
+#![tactic(auto, unfolding(heap_model::specs::Geometry::largest_capacity))]
+
+mod draws;
+mod refusal;
+mod takes;
+
+pub use draws::draw;
+pub use refusal::Refusal;
+pub use takes::take_one;
+
+#[cfg(test)]
+mod fixtures;
+#[cfg(test)]
+mod taking;
