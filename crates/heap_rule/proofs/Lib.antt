@@ -24,3 +24,4 @@ pub mod SeatImageLemmas
 pub mod ClosedLemmas
 pub mod LeftLemmas
 pub mod PartLemmas
+pub mod RawLemmas

@@ -20,6 +20,7 @@ mod step_laws;
 mod steps;
 mod ticks;
 mod told;
+mod view_laws;
 mod words;
 
 pub use closed_laws::{
@@ -37,6 +38,9 @@ pub use shared::Shared;
 pub use step_laws::{
     a_draw_leaves_its_change_or_a_stop, a_mark_is_within_the_capacity,
     a_step_that_changes_nothing_keeps_the_parts, an_exchange_is_won_or_lost,
+};
+pub use view_laws::{
+    a_store_is_recorded, a_superblock_without_a_class_is_the_seats_alone, a_view_records_each_word,
 };
 
 #[cfg(test)]
