@@ -28,7 +28,7 @@ module _ (v : View) (s : Has v) where
   pub raw_inside : (d : ℕ) → 0 < times_raw d v → d < v.setup.capacity
   raw_inside d some = taken v.setup m s.views s.seat v s.below s.at s.sound.good d (omega arith)
 
-  no_block : (word : ℕ) → 0 < times_raw (superblock_at v.setup.capacity word) v → times_block word v ≡ 0
+  pub no_block : (word : ℕ) → 0 < times_raw (superblock_at v.setup.capacity word) v → times_block word v ≡ 0
   no_block word raw = elim (cases_lt 0 (times_block word v)) [
     | inl some ↦ absurd (let d = superblock_at v.setup.capacity word in let cut = (block_cut v s word some).0 in
         let mine = total_at (times_raw d) s.views s.seat v s.below s.at in let p = s.sound.good.shaped.placed.one_place d in

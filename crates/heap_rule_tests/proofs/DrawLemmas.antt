@@ -40,3 +40,8 @@ module _ (s t : SeatView) (event : s.view.stopped ≡ None → (found : ℕ) × 
   pub told_stopped : (result : Result ⊤ Stopped) → TellsDraw t.view result → Has s.view → IfErr result (λ e. HasStopped e.step s.view t.view)
   told_stopped (Ok x) told has = tt
   told_stopped (Err e) told has = draw_stopped has e.step told
+
+-- what is so where the seat goes on is so where that is told
+pub told_done : {P : Type 0} (w : View) (result : Result ⊤ Stopped) → TellsDraw w result → (w.stopped ≡ None → P) → OnOk result P
+told_done w (Ok x) told done = done told
+told_done w (Err e) told done = tt

@@ -1,3 +1,4 @@
 pub mod DrawLemmas
 pub mod TakeLemmas
 pub mod SeatListLemmas
+pub mod CutLemmas

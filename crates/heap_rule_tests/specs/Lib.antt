@@ -1,2 +1,3 @@
 pub mod Draws
 pub mod Takes
+pub mod Cuts

@@ -2,10 +2,12 @@
 //! what it needs to go on, and tests that run them.
 #![tactic(auto, unfolding(heap_model::specs::Geometry::largest_capacity))]
 
+mod cuts;
 mod draws;
 mod refusal;
 mod takes;
 
+pub use cuts::make_blocks;
 pub use draws::draw;
 pub use refusal::Refusal;
 pub use takes::take_one;

@@ -1,0 +1,106 @@
+//! The blocks of a claimed superblock are made.
+
+ghost use Rattle.std.specs.Prelude.{◌≡◌, ◌<◌, ◌≤◌, [], Some, OnOk, IfErr};
+ghost use Rattle.heap_model.specs.Counting.{times};
+ghost use Rattle.heap_model.specs.Geometry.{image_words, start_word};
+ghost use Rattle.heap_model.specs.Sizes.{IsClass};
+ghost use Rattle.core_model.specs.Cells.{info_cell, superblock_at};
+ghost use Rattle.core_model.specs.View.{of_class, times_raw};
+ghost use Rattle.heap_rule.specs.Seated.{IsSeatOf};
+ghost use Rattle.heap_rule.specs.Shown.{Shows};
+ghost use Rattle.heap_rule_tests.specs.Cuts.{HasBegun, HasClass, HasLinked, HasLinks, HasMade};
+ghost use Rattle.heap_rule_tests.specs.Draws.{HasStopped};
+
+use crate::draws::draw;
+use core_model::Shift;
+use crash_core::anchor_after_take_all;
+use heap_rule::{Seat, Shared};
+use line_memory::Stopped;
+use size_table::{blocks_of, size_of};
+use super_block::Geometry;
+
+/// The first word of a block leads to another.
+fn link_block(seat: &mut Seat, shared: &Shared, word: u64, value: u64) -> Result<(), Stopped>
+    requires seat { IsSeatOf shared.now seat.old }
+    requires from { start_word seat.old.view.setup.capacity 0 ≤ word }
+    requires until { word < image_words seat.old.view.setup.capacity }
+    requires raw { 0 < times_raw (superblock_at seat.old.view.setup.capacity word) seat.old.view }
+    ensures linked { OnOk result (HasLinked word value seat.old.view seat.new.view) }
+    ensures stopped { IfErr result (λ e. HasStopped e.step seat.old.view seat.new.view) }
+    ensures seat { IsSeatOf shared.now seat.new }
+{
+    seat.has_a_sound_state();
+    draw(seat, shared)?;
+    seat.store_word(shared, word, value);
+    Ok(())
+}
+
+/// The first word of each block of a superblock leads to the next block.
+fn link_blocks(seat: &mut Seat, shared: &Shared, d: u64, class: u8) -> Result<(), Stopped>
+    requires seat { IsSeatOf shared.now seat.old }
+    requires class { IsClass class }
+    requires raw { 0 < times_raw d seat.old.view }
+    requires info { Shows seat.old.view (info_cell d) class }
+    ensures linked { OnOk result (HasLinks d class seat.old.view seat.new.view) }
+    ensures stopped { IfErr result (λ e. HasStopped e.step
+        (record seat.old.view { volatile = seat.new.view.volatile }) seat.new.view) }
+    ensures seat { IsSeatOf shared.now seat.new }
+{
+    seat.has_a_sound_state();
+    let words = size_of(class) / 8;
+    let mut block = Geometry::new(seat.capacity(shared)).start(d);
+    for _i in 1..blocks_of(class) {
+        link_block(seat, shared, block, block + words)?;
+        block += words;
+    }
+    Ok(())
+}
+
+/// The making of a claimed superblock's blocks begins: its anchor is full, so that nobody lists it.
+fn begin(seat: &mut Seat, shared: &Shared, d: u64) -> Result<(), Stopped>
+    requires seat { IsSeatOf shared.now seat.old }
+    requires raw { 0 < times d seat.old.view.raw }
+    ensures begun { OnOk result (HasBegun d seat.old.view seat.new.view) }
+    ensures stopped { IfErr result (λ e. HasStopped e.step seat.old.view seat.new.view) }
+    ensures seat { IsSeatOf shared.now seat.new }
+{
+    seat.has_a_sound_state();
+    let anchor = Geometry::new(seat.capacity(shared)).anchor(d);
+    draw(seat, shared)?;
+    seat.store_word(shared, anchor, anchor_after_take_all());
+    Ok(())
+}
+
+/// The info of a superblock says the class that its blocks are made for, and durably.
+fn set_class(seat: &mut Seat, shared: &Shared, d: u64, class: u8) -> Result<(), Stopped>
+    requires seat { IsSeatOf shared.now seat.old }
+    requires raw { 0 < times_raw d seat.old.view }
+    ensures set { OnOk result (HasClass d class seat.old.view seat.new.view) }
+    ensures stopped { IfErr result (λ e. HasStopped e.step seat.old.view seat.new.view) }
+    ensures seat { IsSeatOf shared.now seat.new }
+{
+    seat.has_a_sound_state();
+    let info = Geometry::new(seat.capacity(shared)).info(d);
+    draw(seat, shared)?;
+    seat.store_word(shared, info, class as u64);
+    seat.settle(shared, info);
+    Ok(())
+}
+
+/// Makes the blocks of a claimed superblock for a class, whose cache is empty: they are all in the
+/// cache then.
+pub fn make_blocks(seat: &mut Seat, shared: &Shared, d: u64, class: u8) -> Result<(), Stopped>
+    requires seat { IsSeatOf shared.now seat.old }
+    requires class { IsClass class }
+    requires raw { 0 < times d seat.old.view.raw }
+    requires durable { d < seat.old.view.floor }
+    requires uncached { of_class seat.old.view.caches class ≡ [] }
+    ensures made { OnOk result (HasMade d class seat.old.view seat.new.view) }
+    ensures stopped { IfErr result (λ e. seat.new.view.stopped ≡ Some e.step) }
+    ensures seat { IsSeatOf shared.now seat.new }
+{
+    begin(seat, shared, d)?;
+    set_class(seat, shared, d, class)?;
+    link_blocks(seat, shared, d, class)?;
+    seat.tick(shared, Some(Shift::Cut { d }))
+}
