@@ -1,0 +1,67 @@
+//! A recovery of an image of two superblocks, in which one block of 64 bytes is held, stopped at
+//! each of its steps: what each stop left is recovered to the same.
+use crate::in_place::{Constant, holds, in_place, torn, write};
+use std::alloc::Global;
+use std::process::Abort;
+use std::test::Fail;
+use super_block::{Block, CLEAN, MAGIC, VERSION};
+
+/// The one block that is held.
+const HELD: [Block; 1] = [Block {
+    first_word: 1_080,
+    words: 8,
+}];
+
+/// Its words: the first two and the last.
+const WORDS: [(usize, u64); 3] = [(1_080, 7), (1_081, 1), (1_087, u64::MAX)];
+
+/// An image of two superblocks of which the first has blocks of 64 bytes; root 8 leads to its first
+/// block.
+fn image(alloc: Global) -> Result<Vec<u64>, Fail> {
+    let mut image = vec![in alloc; 0; 17_464]?;
+    let words = [
+        (0, MAGIC),
+        (1, VERSION),
+        (2, 2),
+        (3, CLEAN),
+        (8, 1),
+        (48, 0x5250_0000_0000_21c0),
+        (1_064, 4),
+    ];
+    write(&mut image, &words);
+    write(&mut image, &WORDS);
+    Ok(image)
+}
+
+/// Stops the recovery at each step until it is done, and makes the recovery of what each stop left.
+fn goes_on_from_each_stop(rt: &(impl Abort + AllocGlobal), chance: Constant) -> Result<(), Fail> {
+    let alloc = rt.alloc();
+    let image = image(alloc)?;
+    for budget in 0..10_000 {
+        let first = in_place(alloc, &image, budget, chance)?;
+        assert!(rt; holds(&first.found, &HELD, &WORDS), "{budget}");
+        let is_done = !first.stopped;
+        let again = in_place(alloc, &torn(first.kept, 2), u64::MAX, chance)?;
+        assert!(rt; holds(&again.found, &HELD, &WORDS), "{budget}");
+        assert!(rt;
+            !again.stopped && again.kept.as_slice() == again.found.heap.words(),
+            "{budget}"
+        );
+        if is_done {
+            assert!(rt; 2_000 < budget, "{budget}");
+            return Ok(());
+        }
+    }
+    assert!(rt; false, "it is never done");
+    Ok(())
+}
+
+#[test]
+fn each_stop_with_nothing_written_back_early(rt: HostRuntime) -> Result<(), Fail> {
+    goes_on_from_each_stop(&rt, Constant(0))
+}
+
+#[test]
+fn each_stop_with_each_store_written_back(rt: HostRuntime) -> Result<(), Fail> {
+    goes_on_from_each_stop(&rt, Constant(1))
+}

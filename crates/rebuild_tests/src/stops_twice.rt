@@ -1,0 +1,88 @@
+//! A recovery of an image of one superblock of the last class, in which two blocks are held, stopped
+//! at each of its steps; the recovery of what each stop left, stopped at each of its steps; and the
+//! recovery of what that left.
+use crate::in_place::{Constant, holds, in_place, torn, write};
+use std::alloc::Global;
+use std::process::Abort;
+use std::test::Fail;
+use super_block::{Block, CLEAN, MAGIC, VERSION};
+
+/// The two blocks that are held, the first and the third.
+const HELD: [Block; 2] = [
+    Block {
+        first_word: 1_072,
+        words: 1_792,
+    },
+    Block {
+        first_word: 4_656,
+        words: 1_792,
+    },
+];
+
+/// Words of theirs.
+const WORDS: [(usize, u64); 4] = [(1_072, 7), (2_000, 11), (4_656, 3), (6_447, 13)];
+
+/// The image: roots 8 and 9 lead to the two blocks, and a block beside them has a word too.
+fn image(alloc: Global) -> Result<Vec<u64>, Fail> {
+    let mut image = vec![in alloc; 0; 9_264]?;
+    let words = [
+        (0, MAGIC),
+        (1, VERSION),
+        (2, 1),
+        (3, CLEAN),
+        (8, 1),
+        (48, 0x5250_0000_0000_2180),
+        (49, 0x5250_0000_0000_9180),
+        (1_064, 20),
+        (1_065, 9),
+        (2_864, 5),
+    ];
+    write(&mut image, &words);
+    write(&mut image, &WORDS);
+    Ok(image)
+}
+
+/// Stops the recovery of what a crash left at each step until it is done, and makes that of what
+/// each stop left.
+fn stops_again(
+    rt: &(impl Abort + AllocGlobal),
+    crashed: &[u64],
+    chance: Constant,
+) -> Result<(), Fail> {
+    for budget in 0..1_000 {
+        let second = in_place(rt.alloc(), crashed, budget, chance)?;
+        assert!(rt; holds(&second.found, &HELD, &WORDS), "{budget}");
+        let is_done = !second.stopped;
+        let third = in_place(rt.alloc(), &torn(second.kept, 1), u64::MAX, chance)?;
+        assert!(rt;
+            holds(&third.found, &HELD, &WORDS) && !third.stopped,
+            "{budget}"
+        );
+        if is_done {
+            assert!(rt; 9 < budget, "{budget}");
+            return Ok(());
+        }
+    }
+    assert!(rt; false, "it is never done");
+    Ok(())
+}
+
+#[test]
+fn what_each_stop_left_may_be_stopped_at_each_step(rt: HostRuntime) -> Result<(), Fail> {
+    let image = image(rt.alloc())?;
+    for number in [0, 1] {
+        let chance = Constant(number);
+        for budget in 0..100 {
+            let first = in_place(rt.alloc(), &image, budget, chance)?;
+            assert!(rt; holds(&first.found, &HELD, &WORDS), "{budget}");
+            // The four words that differ stand in four lines, so it takes nine steps.
+            assert_eq!(rt; first.stopped, budget < 9, "{budget}");
+            let is_done = !first.stopped;
+            stops_again(&rt, &torn(first.kept, 1), chance)?;
+            if is_done {
+                break;
+            }
+        }
+    }
+    Ok(())
+}
