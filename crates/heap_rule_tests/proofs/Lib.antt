@@ -2,3 +2,4 @@ pub mod DrawLemmas
 pub mod TakeLemmas
 pub mod SeatListLemmas
 pub mod CutLemmas
+pub mod CacheLemmas

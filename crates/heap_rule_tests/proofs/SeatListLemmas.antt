@@ -1,9 +1,13 @@
 -- All seats of a heap, of which one goes on.
-use Rattle.std.proofs.Common.{◌≡◌, ℕ, ◌<◌, inl, inr, List, set, length, length-set, get_or, sym, subst, ◌∙◌, arith}
+use Rattle.std.proofs.Common.{◌≡◌, ℕ, zero, suc, ◌<◌, inl, inr, List, [], replicate, refl, ap, set, length, length-set, get_or, sym, subst, ◌∙◌, arith}
 use Rattle.std.proofs.lemmas.Bool.{cases_eq}
 use Rattle.std.proofs.lemmas.List.{get_or-set_other, get_or-set_same}
+use Rattle.heap_model.specs.declared.block.Block.{Block}
+use Rattle.core_model.specs.Opening.{opened_view}
+use Rattle.core_model.specs.View.{Setup, View, of_class}
 use Rattle.heap_rule.specs.Seated.{SharedView, SeatView, IsSeatOf}
-use Rattle.heap_rule.specs.Seats.{AreSeatsOf}
+use Rattle.heap_rule.specs.Seats.{AreOpenedSeats, AreSeatsOf}
+use Rattle.heap_rule_tests.specs.Caches.{AreEmpty}
 
 pub seat_there : (shared : SharedView) (seats : List SeatView) (i : ℕ) (seat : SeatView) → AreSeatsOf shared seats → i < length seats → seat ≡ get_or seats i seat → IsSeatOf shared seat
 seat_there shared seats i seat all less at = all.each seat (i, less, sym at)
@@ -18,3 +22,16 @@ seat_changed shared seats i seat all mine = record {
     | inl same ↦ subst (IsSeatOf shared) (sym (get_or-set_same seats i seat s (omega arith)) ∙ subst (λ n. get_or (set seats i seat) n s ≡ s) same at) mine
     | inr other ↦ all.each s (j, less, sym (get_or-set_other seats i j seat s other) ∙ at)
   ]
+
+-- a list of empty lists has nothing else
+none_among : (n i : ℕ) → get_or (replicate {A = List ℕ} n []) i [] ≡ []
+none_among zero i = refl
+none_among (suc n) zero = refl
+none_among (suc n) (suc i) = none_among n i
+
+-- caches are empty at the opening
+pub opened_empty : (shared : SharedView) (setup : Setup) (held : List Block) (block_owners root_owners : List ℕ) (seats : List SeatView)
+    → AreOpenedSeats shared (opened_view setup held block_owners root_owners) seats → AreEmpty seats
+opened_empty shared setup held block_owners root_owners seats opened = record {
+  each = λ seat p class. ap (λ (v : View). of_class v.caches class) (opened.each p.0 seat p.1 p.2).1 ∙ none_among 21 class;
+}

@@ -1,3 +1,4 @@
 pub mod Draws
 pub mod Takes
 pub mod Cuts
+pub mod Caches

@@ -1,10 +1,12 @@
 //! Shared heaps for the tests, over recovered images.
 
-ghost use Rattle.std.specs.Prelude.{◌≡◌, ◌<◌, ◌≤◌, ℕ, None, IfOk, length, Contains};
+ghost use Rattle.std.specs.Prelude.{◌≡◌, ◌<◌, ◌≤◌, ℕ, IfOk, length, Contains};
 ghost use Rattle.heap_model.specs.Geometry.{largest_capacity};
-ghost use Rattle.heap_rule.specs.Seated.{SeatView};
+ghost use Rattle.heap_model.specs.Sizes.{IsClass};
 ghost use Rattle.heap_rule.specs.Seats.{AreSeatsOf};
+ghost use Rattle.heap_rule_tests.specs.Caches.{AreEmpty};
 
+use crate::caches::fill_cache;
 use crate::refusal::Refusal;
 use crate::takes::take_one;
 use crash_core::Owners;
@@ -63,8 +65,7 @@ pub fn shared(
     requires budget { budget < 1099511627776 }
     ensures all { IfOk result (λ r. AreSeatsOf r.0 r.1.items) }
     ensures count { IfOk result (λ r. length r.1.items ≡ seats) }
-    ensures going { IfOk result (λ r. (seat : SeatView) → Contains r.1.items seat
-        → seat.view.stopped ≡ None) }
+    ensures fresh { IfOk result (λ r. AreEmpty r.1.items) }
 {
     let held = in_turn(alloc, heap.held().len(), seats)?;
     let roots = in_turn(alloc, ROOTS as usize, seats)?;
@@ -79,4 +80,20 @@ pub fn take_by(shared: &Shared, seats: &mut Vec<Seat>, who: usize) -> Result<u64
     ensures count { length seats.new.items ≡ length seats.old.items }
 {
     take_one(&mut seats[who], shared)
+}
+/// A seat of the heap, whose caches are all empty, fills one.
+pub fn fill_by(
+    shared: &Shared,
+    seats: &mut Vec<Seat>,
+    who: usize,
+    class: u8,
+) -> Result<u64, Refusal>
+    requires all { AreSeatsOf shared.now seats.old.items }
+    requires who { who < length seats.old.items }
+    requires class { IsClass class }
+    requires empty { AreEmpty seats.old.items }
+    ensures all { AreSeatsOf shared.now seats.new.items }
+    ensures count { length seats.new.items ≡ length seats.old.items }
+{
+    fill_cache(&mut seats[who], shared, class)
 }

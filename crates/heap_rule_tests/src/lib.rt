@@ -2,16 +2,20 @@
 //! what it needs to go on, and tests that run them.
 #![tactic(auto, unfolding(heap_model::specs::Geometry::largest_capacity))]
 
+mod caches;
 mod cuts;
 mod draws;
 mod refusal;
 mod takes;
 
+pub use caches::{alloc_cached, fill_cache};
 pub use cuts::make_blocks;
 pub use draws::draw;
 pub use refusal::Refusal;
 pub use takes::take_one;
 
+#[cfg(test)]
+mod filling;
 #[cfg(test)]
 mod fixtures;
 #[cfg(test)]

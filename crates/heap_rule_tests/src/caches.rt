@@ -1,0 +1,51 @@
+//! A seat's cache is filled, and gives blocks.
+
+ghost use Rattle.std.specs.Prelude.{◌≡◌, ◌≤◌, [], None, IfOk, IfErr, length};
+ghost use Rattle.heap_model.specs.Sizes.{IsClass};
+ghost use Rattle.core_model.specs.View.{of_class};
+ghost use Rattle.heap_rule.specs.Seated.{IsSeatOf};
+ghost use Rattle.heap_rule_tests.specs.Caches.{HasAllocated, HasFilled, FillsNone};
+ghost use Rattle.heap_rule_tests.specs.Draws.{HasStopped};
+
+use crate::cuts::make_blocks;
+use crate::refusal::Refusal;
+use crate::takes::take_one;
+use core_model::Shift;
+use heap_rule::{Seat, Shared};
+use line_memory::Stopped;
+
+/// Fills an empty cache with the blocks of a superblock that was never taken, which it answers.
+pub fn fill_cache(seat: &mut Seat, shared: &Shared, class: u8) -> Result<u64, Refusal>
+    requires seat { IsSeatOf shared.now seat.old }
+    requires class { IsClass class }
+    requires empty { of_class seat.old.view.caches class ≡ [] }
+    ensures filled { IfOk result (λ d. HasFilled d class seat.old.view seat.new.view) }
+    ensures refused { IfErr result (λ refusal. FillsNone refusal seat.old.view seat.new.view) }
+    ensures seat { IsSeatOf shared.now seat.new }
+{
+    let d = take_one(seat, shared)?;
+    make_blocks(seat, shared, d, class)?;
+    Ok(d)
+}
+
+/// Holds the first block of the cache of a class, and answers its first word.
+pub fn alloc_cached(seat: &mut Seat, shared: &Shared, class: u8) -> Result<u64, Stopped>
+    requires seat { IsSeatOf shared.now seat.old }
+    requires going { seat.old.view.stopped ≡ None }
+    requires class { IsClass class }
+    requires cached { 1 ≤ length (of_class seat.old.view.caches class) }
+    ensures allocated { IfOk result (λ block. HasAllocated block class
+        seat.old.view seat.new.view) }
+    ensures stopped { IfErr result (λ e. HasStopped e.step seat.old.view seat.new.view) }
+    ensures seat { IsSeatOf shared.now seat.new }
+{
+    seat.has_a_sound_state();
+    let (first, _) = seat.cache(shared, class);
+    seat.tick(
+        shared,
+        Some(Shift::Alloc {
+            class: class as u64,
+        }),
+    )?;
+    Ok(first)
+}
