@@ -1,4 +1,5 @@
-//! Recovery made in place, stopped at each step, and recovery of what that leaves, stopped again.
+//! Recovery made in place, stopped at each step, and recovery of what that leaves, stopped again at
+//! a few. (The crate rebuild_tests takes every step of the second too.)
 ghost use Rattle.std.specs.Prelude.{◌≡◌, IfOk};
 
 use super::*;
@@ -97,7 +98,7 @@ fn recover_again(
     number: u64,
 ) -> Result<(), Fail> {
     for budget in 0..60 {
-        if budget % 7 == 0 {
+        if budget % 19 == 0 {
             let second = in_place(rt.alloc(), crashed, budget, number)?;
             assert!(rt; holds_both(&second.found), "{budget}");
             let third = in_place(rt.alloc(), &torn(second.kept), u64::MAX, number)?;
