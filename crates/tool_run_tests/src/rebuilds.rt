@@ -22,8 +22,8 @@ fn one_block(alloc: Global) -> Result<MapStore, Fail> {
     store_with(alloc, &image, NO_CALL, FailedPut::LeavesOld)
 }
 
-/// Stops a recovery at each early step and at some later ones until it is done, and recovers what
-/// each stop left.
+/// Stops a recovery at each early step and at a few later ones until it is done, and recovers what
+/// each stop left. (The crate rebuild_tests takes every step.)
 fn goes_on_from_stops<C: Chances>(
     rt: &(impl Abort + AllocGlobal),
     chances: &mut C,
@@ -31,7 +31,7 @@ fn goes_on_from_stops<C: Chances>(
     let alloc = rt.alloc();
     let done = format!(in alloc; "rebuild done\n{HELD}")?;
     let stopped = format!(in alloc; "rebuild stopped\n{HELD}")?;
-    for budget in (0..64).chain((64..100_000).step_by(61)) {
+    for budget in (0..4).chain((4..100_000).step_by(683)) {
         let mut images = one_block(alloc)?;
         let line = format!(in alloc; "rebuild h --stop {budget}")?;
         let (status, printed) = make(alloc, plain(&line, b""), &mut images, &OpenGate, chances)?;
@@ -54,8 +54,7 @@ fn goes_on_from_stops<C: Chances>(
 #[test]
 fn a_stopped_recovery_is_gone_on_with(rt: HostRuntime) -> Result<(), Fail> {
     goes_on_from_stops(&rt, &mut SeededChances::new())?;
-    goes_on_from_stops(&rt, &mut Constant(0))?;
-    goes_on_from_stops(&rt, &mut Constant(1))
+    goes_on_from_stops(&rt, &mut Constant(0))
 }
 
 #[test]
