@@ -20,3 +20,6 @@ pub mod AbsentLemmas
 pub mod RebuildLemmas
 pub mod ReplayLemmas
 pub mod BadScheduleLemmas
+pub mod WalkingLemmas
+pub mod FormLemmas
+pub mod RunFormLemmas

@@ -1,4 +1,6 @@
 pub mod Command
+pub mod Forms
+pub mod FormExamples
 pub mod CommandLine
 pub mod Calls
 pub mod Status

@@ -8,6 +8,7 @@ mod drained;
 mod draining;
 mod fault;
 mod generating;
+mod laws;
 mod making;
 mod rebuilding;
 mod recovering;
@@ -18,6 +19,7 @@ mod status;
 mod trace_plan;
 mod working;
 
+pub use laws::words_in_a_form_ask_for_its_command;
 pub use run::{run_tool, tell_out_of_memory};
 pub use status::Status;
 

@@ -1,0 +1,14 @@
+//! What follows of the words of the command line, as a function with nothing to run.
+ghost use Rattle.std.specs.Prelude.{ℕ, List};
+ghost use Rattle.tool_run.specs.Command.{Command, Asks, IsUsage};
+ghost use Rattle.tool_run.specs.Forms.{IsForm};
+
+/// Words that are in one of the forms, with numbers in their ranges and an image whose name is not
+/// empty and does not begin with a hyphen, ask for the command of that form: `usage` is no answer
+/// to them.
+pub fn words_in_a_form_ask_for_its_command()
+    ensures asks { (words : List (List ℕ)) (command : Command) → IsForm words command
+        → Asks words command }
+    ensures no_usage { (words : List (List ℕ)) (command : Command) → IsForm words command
+        → ¬ (IsUsage words) }
+{}
