@@ -1,5 +1,5 @@
 -- What a replay comes to over a good image, where the source tells that its schedule is refused.
-use Rattle.std.proofs.Common.{◌≡◌, ℕ, ◌<◌, List, [], length, Option, Some, inl, inr, sym, subst, arith}
+use Rattle.std.proofs.Common.{◌≡◌, ◌⊎◌, ℕ, ◌<◌, List, [], length, Option, Some, inl, inr, sym, subst, arith}
 use Rattle.tool_ports.specs.Contents.{Contents}
 use Rattle.trace_text.specs.declared.schedule.Schedule.{Schedule}
 use Rattle.trace_text.specs.Schedule.{IsSchedule}
@@ -11,6 +11,7 @@ use Rattle.tool_run.specs.Examples.{one_command}
 use Rattle.tool_run.specs.Inside.{Refuses, IsReplayFault, IsCarriedOut, IsStopped, status_of}
 use Rattle.tool_run.specs.Making.{Makes, RunsATrace, HasSchedule, longest_trace}
 use Rattle.tool_run.specs.Outcome.{AsksForReplay, HoldsGood, HoldsBadStep, HoldsTooMuch}
+use Rattle.tool_run.specs.Status.{out_of_memory, read_fault}
 use Rattle.tool_run.proofs.BadTraceLemmas.{IsRefusal}
 use Rattle.tool_run.proofs.CompleteLemmas.{refused}
 use Rattle.tool_run.proofs.TraceLemmas.{of_left}
@@ -19,14 +20,15 @@ use Rattle.tool_run.proofs.TraceLemmas.{of_left}
 record HasNoSchedule (left : Option (List ℕ)) : Type 0 where
   none : (schedule : Schedule) → HasSchedule left schedule → ⊥
 
-by_image : (contents : Contents) (name : List ℕ) (seed : ℕ) (get_failed : Type 0) (status : ℕ) (fault : Fault) → HoldsGood contents name → status ≡ status_of fault
-    → Refuses (replay_image name seed) contents get_failed fault → IsRefusal status
-by_image contents name seed get_failed status Memory has is why = inr (inl is)
-by_image contents name seed get_failed status ReadFault has is why = inr (inr is)
+-- an image that is good is no reason: what is left is want of memory, or a failed get
+pub by_image : (contents : Contents) (name : List ℕ) (seed : ℕ) (get_failed : Type 0) (status : ℕ) (fault : Fault) → HoldsGood contents name → status ≡ status_of fault
+    → Refuses (replay_image name seed) contents get_failed fault → (status ≡ out_of_memory) ⊎ (status ≡ read_fault)
+by_image contents name seed get_failed status Memory has is why = inl is
+by_image contents name seed get_failed status ReadFault has is why = inr is
 by_image contents name seed get_failed status fault has is why =
-    elim (refused (drain_image name 1) contents (Some []) ⊥ status has (λ never. never) fault is why) as (λ _. IsRefusal status) [
+    elim (refused (drain_image name 1) contents (Some []) ⊥ status has (λ never. never) fault is why) as (λ _. (status ≡ out_of_memory) ⊎ (status ≡ read_fault)) [
       | inl e ↦ absurd (omega arith)
-      | inr e ↦ inr (inl e)
+      | inr e ↦ inl e
     ]
 
 by_schedule : (contents : Contents) (left : Option (List ℕ)) (name : List ℕ) (read_failed : Type 0) (status : ℕ) (fault : Fault) → HasNoSchedule left → status ≡ status_of fault
@@ -67,7 +69,7 @@ module _ (words : List (List ℕ)) (command : Command) (old new : Contents) (lef
   stops_unfit store_failed source_failed sink_failed fault stopped is name asks has unfit =
       let same : command ≡ replay_image name asks.seed = one_command words command (replay_image name asks.seed) asked asks.asked in
       elim stopped.cause as (λ _. IsRefusal status) [
-        | inl (inl why, untouched) ↦ by_image old name asks.seed store_failed status fault has is (subst (λ (c : Command). Refuses c old store_failed fault) same why)
+        | inl (inl why, untouched) ↦ inr (by_image old name asks.seed store_failed status fault has is (subst (λ (c : Command). Refuses c old store_failed fault) same why))
         | inl (inr (inl trace), untouched) ↦ absurd (subst RunsATrace same trace.runs)
         | inl (inr (inr replay), untouched) ↦ by_schedule old left _ source_failed status fault unfit is replay.why
         | inr (image, text, made, why) ↦

@@ -9,8 +9,8 @@ use Rattle.tool_run.specs.declared.fault.Fault.{Fault}
 use Rattle.tool_run.specs.declared.fault.Fault.TheVariants.{Usage, Memory, ReadFault, WriteFault, Absent, Malformed, Outside, BadShard, BadLine, BadStep, TooLong}
 use Rattle.tool_run.specs.Examples.{one_command}
 use Rattle.tool_run.specs.Inside.{Refuses, IsTraceFault, IsReplayFault, DeliveryFails, IsStopped, status_of}
-use Rattle.tool_run.specs.Making.{Gets, Reads, RunsATrace, ReplaysASchedule, ReadsSource, PointsOutside, fault_of, longest_trace}
-use Rattle.tool_run.specs.Outcome.{HoldsGood, HoldsMaps, HoldsTrace, HoldsReplay, CanBeDone, IsCutOff, while_putting, while_printing}
+use Rattle.tool_run.specs.Making.{Gets, Reads, RunsATrace, ReplaysASchedule, ReadsSource, PointsOutside, HasBadStep, HasTooMuch, fault_of, longest_trace}
+use Rattle.tool_run.specs.Outcome.{HoldsGood, HoldsMaps, HoldsTrace, HoldsSchedule, HoldsReplay, CanBeDone, IsCutOff, while_putting, while_printing}
 use Rattle.tool_run.specs.Status.{done, out_of_memory}
 use Rattle.trace_text.specs.Trace.{lines_of, AreLines}
 use Rattle.trace_text.specs.Schedule.{IsSchedule}
@@ -76,19 +76,26 @@ trace_good left read_failed status (Outside at value) has reads is why = absurd 
 trace_good left read_failed status (BadShard shard at) has reads is why = absurd why
 trace_good left read_failed status (BadStep line) has reads is why = absurd why
 
--- nor is the schedule, and its replay leaves nothing outside
+-- a schedule has no line that tells no step, nor too many bytes
+pub no_bad_step : (left : Option (List ℕ)) (line : ℕ) → HoldsSchedule left → HasBadStep left line → ⊥
+no_bad_step left line has why =
+    let same : has.text ≡ why.text = of_left (λ all. all ≡ why.text) left has.text has.all why.has_text.all in
+    schedule_or_bad why.text has.schedule line (subst (λ (l : List ℕ). IsSchedule l has.schedule) same has.is) why.first
+
+pub not_too_much : (left : Option (List ℕ)) → HoldsSchedule left → HasTooMuch left → ⊥
+not_too_much left has why =
+    let more = of_left (λ all. longest_trace < length all) left has.text has.all why in
+    let short = has.short in
+    omega arith
+
+-- so it is not refused, and its replay leaves nothing outside
 replay_good : (contents : Contents) (left : Option (List ℕ)) (name : List ℕ) (read_failed : Type 0) (status : ℕ) (fault : Fault) → HoldsReplay contents name left → (read_failed → ⊥) → status ≡ status_of fault
     → IsReplayFault contents left name read_failed fault → (status ≡ done) ⊎ (status ≡ out_of_memory)
 replay_good contents left name read_failed status Memory has reads is why = inr is
 replay_good contents left name read_failed status ReadFault has reads is why = absurd (reads why)
 replay_good contents left name read_failed status (Outside at value) has reads is why = absurd (has.inside at value why)
-replay_good contents left name read_failed status (BadStep line) has reads is why =
-    let same : has.schedule.text ≡ why.text = of_left (λ all. all ≡ why.text) left has.schedule.text has.schedule.all why.has_text.all in
-    absurd (schedule_or_bad why.text has.schedule.schedule line (subst (λ (l : List ℕ). IsSchedule l has.schedule.schedule) same has.schedule.is) why.first)
-replay_good contents left name read_failed status TooLong has reads is why =
-    let more = of_left (λ all. longest_trace < length all) left has.schedule.text has.schedule.all why in
-    let short = has.schedule.short in
-    absurd (omega arith)
+replay_good contents left name read_failed status (BadStep line) has reads is why = absurd (no_bad_step left line has.schedule why)
+replay_good contents left name read_failed status TooLong has reads is why = absurd (not_too_much left has.schedule why)
 replay_good contents left name read_failed status Usage has reads is why = absurd why
 replay_good contents left name read_failed status WriteFault has reads is why = absurd why
 replay_good contents left name read_failed status Absent has reads is why = absurd why

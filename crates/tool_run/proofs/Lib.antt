@@ -23,3 +23,4 @@ pub mod BadScheduleLemmas
 pub mod WalkingLemmas
 pub mod FormLemmas
 pub mod RunFormLemmas
+pub mod OutsideLeftLemmas

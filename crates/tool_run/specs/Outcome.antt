@@ -237,6 +237,13 @@ pub record HoldsReplay (contents : Contents) (name : List ℕ) (left : Option (L
   pub schedule : HoldsSchedule left
   pub inside : (at value : ℕ) → HasOutsideLeft contents left name at value → ⊥
 
+-- the store and the source tell of an image that can be recovered, and of a schedule whose replay leaves the word outside
+pub record HoldsOutsideLeft (contents : Contents) (name : List ℕ) (left : Option (List ℕ)) (at : ℕ) : Type 0 where
+  pub image : HoldsGood contents name
+  pub schedule : HoldsSchedule left
+  pub value : ℕ
+  pub leaves : HasOutsideLeft contents left name at value
+
 -- nothing in the store or the source stands against the command
 abbrev pub CanBeDone : Command → Contents → Option (List ℕ) → Type 0
 CanBeDone (format_image image capacity) contents left = Unit {0}

@@ -9,7 +9,7 @@ ghost use Rattle.tool_run.specs.Command.{Command, Asks, AsksToFormat, AsksToGen,
 ghost use Rattle.tool_run.specs.Inside.{command_of, status_of, IsCarriedOut, IsStopped, IsBeforeReading};
 ghost use Rattle.tool_run.specs.Making.{Gets, ReadsSource};
 ghost use Rattle.tool_run.specs.Lines.{Tells, memory_line};
-ghost use Rattle.tool_run.specs.Outcome.{IsDone, IsReadFault, IsWriteFault, AsksToGet, AsksToLook, AsksToPutBack, AsksToRead, AsksForRun, AsksForReplay, AsksForSource, IsAbsent, IsBadHeader, IsOutsideAt, IsBadShardAt, IsBadTrace, HoldsMalformed, HoldsOutside, HoldsBadShard, HoldsGood, HoldsMaps, HoldsBadLine, HoldsBadStep, HoldsTooMuch, CanBeDone};
+ghost use Rattle.tool_run.specs.Outcome.{IsDone, IsReadFault, IsWriteFault, AsksToGet, AsksToLook, AsksToPutBack, AsksToRead, AsksForRun, AsksForReplay, AsksForSource, IsAbsent, IsBadHeader, IsOutsideAt, IsBadShardAt, IsBadTrace, HoldsMalformed, HoldsOutside, HoldsOutsideLeft, HoldsBadShard, HoldsGood, HoldsMaps, HoldsBadLine, HoldsBadStep, HoldsTooMuch, CanBeDone};
 ghost use Rattle.tool_run.specs.Status.{done, usage, out_of_memory, read_fault, write_fault, no_image, bad_header, outside, bad_shard, bad_trace, statuses, LeavesStore, IsBeforeTrace, own_line};
 
 use crate::command::{Invocation, parse};
@@ -117,6 +117,9 @@ pub fn run_tool<R, I: ImageStore, T: Source, O: Sink, G: Gate + Sync, C: Chances
         → (result ≡ bad_header) ⊎ (result ≡ out_of_memory) ⊎ (result ≡ read_fault) }
     ensures always_outside { (name : List ℕ) (at : ℕ) → AsksToGet (texts words.now) name
         → HoldsOutside (I.contents images.old) name at
+        → (result ≡ outside) ⊎ (result ≡ out_of_memory) ⊎ (result ≡ read_fault) }
+    ensures always_outside_left { (name : List ℕ) (at : ℕ) → AsksForReplay (texts words.now) name
+        → HoldsOutsideLeft (I.contents images.old) name (T.left trace.old) at
         → (result ≡ outside) ⊎ (result ≡ out_of_memory) ⊎ (result ≡ read_fault) }
     ensures always_bad_shard { (name : List ℕ) (shard at : ℕ) → AsksToRead (texts words.now) name
         → HoldsBadShard (I.contents images.old) name shard at

@@ -5,6 +5,7 @@ use Rattle.tool_run.proofs.PutBackLemmas.{put_once, looked_once, got_alone}
 use Rattle.tool_run.proofs.AbsentLemmas.{stops_absent}
 use Rattle.tool_run.proofs.BadTraceLemmas.{stops_bad_line, stops_too_long, done_bad_line, done_too_long}
 use Rattle.tool_run.proofs.BadScheduleLemmas.{stops_bad_step, stops_schedule_too_long, done_bad_step, done_schedule_too_long}
+use Rattle.tool_run.proofs.OutsideLeftLemmas.{stops_outside_left, done_outside_left}
 use Rattle.tool_run.proofs.CompleteLemmas.{stops_complete}
 use Rattle.tool_run.proofs.BadShardLemmas.{stops_bad, not_done_bad}
 use Rattle.tool_run.proofs.OutsideLemmas.{stops_outside, not_done, where_asked}
@@ -57,6 +58,16 @@ pub returns-in-Err-clause-bad_shard : goal.returns-in-Err-clause-bad_shard
 returns-in-Err-clause-bad_shard g c =
     is_bad_shard _ _ _ _ _ _ _ _ _ _ _ _ _ _ c.in-Ok.ensures.ok c.carry_out.ensures.later_sink c.tell-in-Err.ensures.later
     c.in-Err.fault _ c.in-Err.ensures.err c.tell-in-Err.ensures.status c.tell-in-Err.ensures.told
+
+pub returns-in-Err-clause-always_outside_left : goal.returns-in-Err-clause-always_outside_left
+returns-in-Err-clause-always_outside_left g c =
+    stops_outside_left _ _ _ _ _ _ _ _ c.in-Ok.ensures.ok _ _ _ c.in-Err.fault c.in-Err.ensures.err c.tell-in-Err.ensures.status
+
+pub returns-in-Ok-carry_out-clause-always_outside_left : goal.returns-in-Ok-carry_out-clause-always_outside_left
+returns-in-Ok-carry_out-clause-always_outside_left g c = done_outside_left _ _ _ _ _ _ _ _ c.in-Ok.ensures.ok c.in-Ok-carry_out.ensures.ok
+
+pub returns-in-Err-Usage-clause-always_outside_left : goal.returns-in-Err-Usage-clause-always_outside_left
+returns-in-Err-Usage-clause-always_outside_left g c name at asks = absurd (c.parse.ensures.err (search rules) (replay_image name asks.seed) asks.asked)
 
 pub returns-in-Err-clause-always_bad_shard : goal.returns-in-Err-clause-always_bad_shard
 returns-in-Err-clause-always_bad_shard g c =
