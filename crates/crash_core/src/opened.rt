@@ -66,7 +66,11 @@ pub(crate) fn opened_core(
 }
 
 /// Whose each small block is, where the held blocks belong to these seats.
-fn block_owners(alloc: Global, heap: &Ready, owners: &[u32]) -> Result<Vec<BlockOwner>, AllocError>
+pub fn block_owners(
+    alloc: Global,
+    heap: &Ready,
+    owners: &[u32],
+) -> Result<Vec<BlockOwner>, AllocError>
     requires { length owners.now ≡ length heap.now.held }
     ensures ok { IfOk result (λ blocks. AreBlockOwners heap.now.words heap.now.held
         owners.now blocks.items) }
@@ -86,7 +90,7 @@ fn block_owners(alloc: Global, heap: &Ready, owners: &[u32]) -> Result<Vec<Block
 }
 
 /// Whose each superblock is, where the held blocks belong to these seats.
-fn superblock_owners(
+pub fn superblock_owners(
     alloc: Global,
     heap: &Ready,
     owners: &[u32],

@@ -15,7 +15,7 @@ use size_table::size_of;
 use super_block::{FIXED_WORDS, Geometry, LAST_CLASS, ROOT_WORD, SUPERBLOCK_WORDS, WORD_BYTES};
 
 /// The part of the image that a word is.
-pub(crate) fn part_at(geometry: Geometry, word: u64) -> Part
+pub fn part_at(geometry: Geometry, word: u64) -> Part
     ensures { IsPart geometry.capacity word result }
 {
     if word < ROOT_WORD {

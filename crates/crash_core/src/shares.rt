@@ -139,7 +139,7 @@ impl Share {
 
 impl BlockPlace {
     /// Whether the seat holds the block.
-    pub(crate) fn is_held(self) -> bool
+    pub fn is_held(self) -> bool
         ensures { one_if result ≡ held_in self }
     {
         match self {
