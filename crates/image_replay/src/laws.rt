@@ -7,8 +7,9 @@ ghost use Rattle.image_run.specs.Reporting.{PointsOutside};
 ghost use Rattle.image_replay.specs.Replaying.{IsReplayed, Replays, LeavesOutside};
 
 /// A replay of a schedule has one outcome, whatever a crash then leaves at random: each event has
-/// one answer, as many tickets are drawn, and the same words of what the crash leaves point outside,
-/// with the same values. So it prints one text, or leaves a word that points outside, and never both.
+/// one answer, as many tickets are drawn, and the same words of what the crash leaves point
+/// outside, with the same values. So it prints one text, or leaves a word that points outside, and
+/// never both.
 pub fn a_replay_has_one_outcome()
     ensures answers { (words : List ℕ) (held : List Block) (seats : ℕ) (lines : List (ℕ × Event))
         (answers again : List StepAnswer) (tickets drawn : ℕ) (left other : List ℕ)
