@@ -31,11 +31,11 @@ class_read v s d place found claimed place_is found_is =
     (info_read v s d place found less place_is found_is ∙ claim.1, claim.0)
 
 -- blocks that lead along one another are so many, from the first one on
-chain_length : (f : ℕ → ℕ) (from n : ℕ) → length (chain f from n) ≡ n
+pub chain_length : (f : ℕ → ℕ) (from n : ℕ) → length (chain f from n) ≡ n
 chain_length f from zero = refl
 chain_length f from (suc n) = ap suc (chain_length f (f from) n)
 
-chain_first : (f : ℕ → ℕ) (from n : ℕ) → 1 ≤ length (chain f from n) → first_of (chain f from n) ≡ from
+pub chain_first : (f : ℕ → ℕ) (from n : ℕ) → 1 ≤ length (chain f from n) → first_of (chain f from n) ≡ from
 chain_first f from zero some = absurd (omega arith)
 chain_first f from (suc n) some = refl
 

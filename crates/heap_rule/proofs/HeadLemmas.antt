@@ -33,7 +33,7 @@ pub claims : (notes : Seat) (v : View) (d list : ℕ) → Fits notes v → Fits 
 claims notes v d zero f = record { notes_are = record { ticket = f.notes_are.ticket; stopped = f.notes_are.stopped; seen_used = f.notes_are.seen_used; seen_head = f.notes_are.seen_head; seen_link = f.notes_are.seen_link; seen_anchor = f.notes_are.seen_anchor }; caches = f.caches; batch = f.batch }
 claims notes v d (suc class) f = record { notes_are = record { ticket = f.notes_are.ticket; stopped = f.notes_are.stopped; seen_used = f.notes_are.seen_used; seen_head = f.notes_are.seen_head; seen_link = f.notes_are.seen_link; seen_anchor = f.notes_are.seen_anchor }; caches = f.caches; batch = f.batch }
 
-before_is : (n : ℕ) → before n ≡ n - 1
+pub before_is : (n : ℕ) → before n ≡ n - 1
 before_is zero = refl
 before_is (suc n) = let e : n ≡ suc n - 1 = omega arith in e
 

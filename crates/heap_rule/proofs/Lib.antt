@@ -25,3 +25,12 @@ pub mod ClosedLemmas
 pub mod LeftLemmas
 pub mod PartLemmas
 pub mod RawLemmas
+pub mod MarkLemmas
+pub mod OwnedLemmas
+pub mod BlockMarks
+pub mod OwnedSteps
+pub mod OwnedShifts
+pub mod CacheMarks
+pub mod ChangeLemmas
+pub mod OwnedReads
+pub mod OwnedOpening

@@ -1,15 +1,16 @@
 -- What is kept of a seat after its steps.
 use Rattle.std.proofs.Common.{◌≡◌, ℕ, ◌<◌, None, Some, refl, ap, sym, subst, ◌∙◌}
 use Rattle.core_model.specs.declared.event.Event.{Event}
-use Rattle.core_model.specs.declared.event.Event.TheVariants.{Load, LookAnchor}
+use Rattle.core_model.specs.declared.event.Event.TheVariants.{Load, LookLink, LookAnchor}
 use Rattle.atomic_table.specs.Seated.{TableId}
 use Rattle.atomic_table.specs.Table.{Me}
 use Rattle.core_model.specs.View.{Setup, View}
 use Rattle.crash_core.specs.declared.owners.Seat.{Seat}
 use Rattle.core_model.specs.Effects.{used_up}
 use Rattle.crash_core.specs.Standing.{HasNotes}
+use Rattle.heap_rule.specs.declared.owned.Owned.{Owned}
 use Rattle.heap_rule.specs.Plays.{Has, IsEvent}
-use Rattle.heap_rule.specs.Seated.{SharedView, Fits, IsKeptOf, IsSeat, IsAt}
+use Rattle.heap_rule.specs.Seated.{SharedView, Fits, IsKeptOf, IsSeat, IsWhole, IsAt}
 use Rattle.heap_rule.specs.Joint.{Joint, view_in}
 use Rattle.heap_rule.proofs.StepLemmas.{has_after}
 
@@ -26,6 +27,20 @@ looked_anchor notes v w d found kept event has = keep_fits _ _ w event.after has
     seen_head = kept.notes_are.seen_head;
     seen_link = kept.notes_are.seen_link;
     seen_anchor = refl;
+  };
+  caches = kept.caches;
+  batch = kept.batch;
+})
+
+pub looked_link : (notes : Seat) (v w : View) (found : ℕ) → IsKeptOf notes v → IsEvent LookLink v found w → Has w → IsKeptOf (record notes { ticket = None; seen_link = Some found }) w
+looked_link notes v w found kept event has = keep_fits _ _ w event.after has (record {
+  notes_are = record {
+    ticket = refl;
+    stopped = kept.notes_are.stopped;
+    seen_used = kept.notes_are.seen_used;
+    seen_head = kept.notes_are.seen_head;
+    seen_link = refl;
+    seen_anchor = kept.notes_are.seen_anchor;
   };
   caches = kept.caches;
   batch = kept.batch;
@@ -61,3 +76,7 @@ loaded notes v w word found kept event has = keep_fits _ _ w event.after has (re
   caches = kept.caches;
   batch = kept.batch;
 })
+
+-- a seat that stands for the same views
+pub whole_at : (me me' : Me ℕ Joint) (notes : Seat) (owned : Owned) (capacity budget : ℕ) → me' ≡ me → IsWhole me notes owned capacity budget → IsWhole me' notes owned capacity budget
+whole_at me me' notes owned capacity budget same whole = subst (λ m. IsWhole m notes owned capacity budget) (sym same) whole

@@ -18,10 +18,10 @@ goes_on m v None found = refl
 goes_on m v (Some shift) found = going_on m v shift found
 
 module _ (v w : View) (shift : Option Shift) (found : ℕ) (event : IsEvent (Tick shift) v found w) where
-  drawn : found < v.setup.budget → w ≡ shifted (memory_of v.setup.capacity event.before.words) (drew v found) shift
+  pub drawn : found < v.setup.budget → w ≡ shifted (memory_of v.setup.capacity event.before.words) (drew v found) shift
   drawn less = event.after ∙ pick (nat_lt found v.setup.budget) (shifted (memory_of v.setup.capacity event.before.words) (drew v found) shift) (stopped v found) (lt-ltb found v.setup.budget less)
 
-  spent : v.setup.budget ≤ found → w ≡ stopped v found
+  pub spent : v.setup.budget ≤ found → w ≡ stopped v found
   spent past = event.after ∙ skip (nat_lt found v.setup.budget) (shifted (memory_of v.setup.capacity event.before.words) (drew v found) shift) (stopped v found) (not-lt found v.setup.budget past)
 
   pub draw_going : v.stopped ≡ None → found < v.setup.budget → w.stopped ≡ None

@@ -6,3 +6,5 @@ pub mod Seated
 pub mod Seats
 pub mod Images
 pub mod Parts
+pub mod Owned
+pub mod Changed

@@ -11,6 +11,8 @@ use Rattle.core_model.specs.View.{Setup, View}
 use Rattle.core_model.specs.Steps.{found_by}
 use Rattle.crash_core.specs.declared.owners.Seat.{Seat}
 use Rattle.crash_core.specs.Standing.{HasNotes, HasCaches, HasBatch}
+use Rattle.heap_rule.specs.declared.owned.Owned.{Owned}
+use Rattle.heap_rule.specs.Owned.{HasOwned, parts_of}
 use Rattle.heap_rule.specs.Joint.{Joint, IsSingle, view_in}
 use Rattle.heap_rule.specs.Plays.{Has}
 
@@ -55,6 +57,11 @@ pub record IsSeat (me : Me ℕ Joint) (notes : Seat) (capacity budget : ℕ) : T
   pub capacity_is : capacity ≡ (view_in me.0).setup.capacity
   pub budget_is : budget ≡ (view_in me.0).setup.budget
   pub low : (view_in me.0).setup.budget < 1099511627776
+
+-- the same, with what tells which words are its own
+pub record IsWhole (me : Me ℕ Joint) (notes : Seat) (owned : Owned) (capacity budget : ℕ) : Type 0 where
+  pub seat : IsSeat me notes capacity budget
+  pub own : HasOwned owned (parts_of (view_in me.0))
 
 -- the seat stands at the table of this heap for a single seat with the view, which some sound state has
 pub record IsAt (shared : SharedView) (table : TableId) (me : Me ℕ Joint) (v : View) : Type 0 where

@@ -1,19 +1,24 @@
 //! The steps of a seat that exchange an anchor.
 
-ghost use Rattle.std.specs.Prelude.{◌≡◌, ◌≢◌, ◌<◌, ◌≤◌, ◌+◌, ◌-◌, ◌/◌, ℕ};
-ghost use Rattle.heap_model.specs.Geometry.{start_word};
+ghost use Rattle.std.specs.Prelude.{◌≡◌, ◌≢◌, ◌<◌, ◌≤◌, ◌+◌, ◌-◌, ◌/◌, ℕ, length, true};
+ghost use Rattle.heap_model.specs.Geometry.{start_word, image_words};
 ghost use Rattle.heap_model.specs.Sizes.{IsClass, words_of_class, blocks_of};
 ghost use Rattle.heap_model.specs.Words.{anchor_state, anchor_count};
 ghost use Rattle.core_model.specs.declared.event.Event.TheVariants.{TakeAll, Give};
-ghost use Rattle.core_model.specs.Effects.{seen_word, claim_class, given_anchor};
+ghost use Rattle.core_model.specs.Effects.{seen_word, claim_class, given_anchor, first_of};
+ghost use Rattle.core_model.specs.View.{of_class};
 ghost use Rattle.core_model.specs.Sound.{IsCutBlock};
 ghost use Rattle.heap_rule.specs.Plays.{IsEvent};
-ghost use Rattle.heap_rule.specs.Seated.{IsSeatOf, Tells};
+ghost use Rattle.heap_rule.specs.Joint.{view_in};
+ghost use Rattle.heap_rule.specs.Owned.{IsMarking};
+ghost use Rattle.heap_rule.specs.Seated.{IsAt, IsSeatOf, Tells};
 ghost use Rattle.heap_rule.specs.Shown.{Can};
 
+use crate::owned::{Stake, unmark_all};
+use crate::rule::Bare;
 use crate::seat::Seat;
 use crate::shared::Shared;
-use crate::steps::exchange;
+use crate::steps::{exchange, read};
 use core_model::Event;
 use crash_core::{
     Cache, Group, NO_BATCH, Seat as Notes, anchor_after_give, anchor_after_take_all, anchor_count,
@@ -32,7 +37,7 @@ impl Seat {
             × Tells (seen_word self.old.view.seen_anchor) found result }
         ensures seat { IsSeatOf shared.now self.new }
     {
-        let class = self.claimed_class(shared, d);
+        let class = self.claimed_class(d);
         self.take_into(shared, d, class)
     }
 
@@ -61,17 +66,26 @@ impl Seat {
             };
             return Err(found);
         }
+        let first = first_free(self.geometry, d, class, anchor.word);
+        let count = anchor_count(anchor.word);
         let mut caches = self.notes.caches;
-        caches[class as usize] = Cache {
-            first: first_free(self.geometry, d, class, anchor.word),
-            count: anchor_count(anchor.word),
-        };
+        caches[class as usize] = Cache { first, count };
         self.notes = Notes {
             ticket: None,
             seen_anchor: None,
             caches,
             ..self.notes
         };
+        mark_cache(
+            shared,
+            &mut self.bare,
+            &mut self.owned.blocks,
+            class,
+            first,
+            count,
+        );
+        self.owned.classes[d as usize] = class;
+        self.owned.stakes[d as usize] = Stake::Nothing;
         Ok(())
     }
     /// Gives the batch back to its superblock, if the anchor is as it was seen; else tells it.
@@ -85,6 +99,7 @@ impl Seat {
         let Some(anchor) = self.notes.seen_anchor else {
             unreachable!();
         };
+        let class = self.notes.batch.class;
         let place = self.geometry.anchor(d);
         let event = Event::Give { d };
         let new = anchor_with_batch(self.geometry, d, self.notes.batch, anchor.word);
@@ -103,7 +118,40 @@ impl Seat {
             batch: NO_BATCH,
             ..self.notes
         };
+        unmark_all(&mut self.owned.blocks, &self.owned.batch);
+        self.owned.batch.clear();
+        if anchor.word != anchor_after_take_all() {
+            return Ok(());
+        }
+        self.owned.stakes[d as usize] = Stake::listed(class);
         Ok(())
+    }
+}
+
+/// Marks the blocks of a cache, along which their first words lead: they are the seat's own.
+fn mark_cache(
+    shared: &Shared,
+    bare: &mut Bare,
+    blocks: &mut Vec<bool>,
+    class: u64,
+    first: u64,
+    count: u64,
+)
+    requires at { IsAt shared.now bare.old.table_id bare.old.me (view_in bare.old.me.0) }
+    requires count { count ≡ length (of_class (view_in bare.old.me.0).caches class) }
+    requires first { 1 ≤ count → first ≡ first_of (of_class (view_in bare.old.me.0).caches class) }
+    requires long { length blocks.old.items
+        ≡ image_words (view_in bare.old.me.0).setup.capacity }
+    ensures same { bare.new.me ≡ bare.old.me }
+    ensures table { bare.new.table_id ≡ bare.old.table_id }
+    ensures marked { IsMarking blocks.old.items blocks.new.items
+        (of_class (view_in bare.old.me.0).caches class) true }
+{
+    let _class = class;
+    let mut block = first;
+    for _step in 0..count {
+        blocks[block as usize] = true;
+        block = read(shared, bare, block);
     }
 }
 

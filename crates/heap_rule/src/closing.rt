@@ -62,6 +62,7 @@ fn gather(shared: &Words, mut seats: Vec<Seat>) -> Bare
             notes: _,
             geometry: _,
             budget: _,
+            owned: _owned,
         } = seat;
         shared.join_seat::<Together>(&mut last, bare);
     }

@@ -7,6 +7,7 @@ ghost use Rattle.heap_rule.specs.Plays.{IsEvent};
 ghost use Rattle.heap_rule.specs.Seated.{IsSeatOf, Tells};
 ghost use Rattle.heap_rule.specs.Shown.{Can};
 
+use crate::owned::{Stake, stake_range};
 use crate::seat::Seat;
 use crate::shared::Shared;
 use crate::steps::{exchange, raise};
@@ -42,6 +43,7 @@ impl Seat {
             seen_anchor: Seen::cleared(self.notes.seen_anchor, used, n),
             ..self.notes
         };
+        stake_range(&mut self.owned.stakes, used, n, Stake::Unclassed);
         Ok(())
     }
 

@@ -7,6 +7,7 @@ ghost use Rattle.heap_rule.specs.Plays.{IsEvent};
 ghost use Rattle.heap_rule.specs.Seated.{IsSeatOf, Tells};
 ghost use Rattle.heap_rule.specs.Shown.{Can};
 
+use crate::owned::Stake;
 use crate::seat::Seat;
 use crate::shared::Shared;
 use crate::steps::exchange;
@@ -49,6 +50,7 @@ impl Seat {
             seen_anchor: Seen::cleared(self.notes.seen_anchor, d, 1),
             ..self.notes
         };
+        self.owned.stakes[d as usize] = Stake::listed(head.of);
         Ok(())
     }
 
@@ -82,6 +84,7 @@ impl Seat {
             seen_anchor: Seen::cleared(self.notes.seen_anchor, d, 1),
             ..self.notes
         };
+        self.owned.stakes[d as usize] = Stake::Nothing;
         Ok(())
     }
 }

@@ -1,17 +1,22 @@
 //! Opens a heap at rest for several seats.
 
-ghost use Rattle.std.specs.Prelude.{◌≡◌, ◌<◌, ◌≤◌, [], IfOk};
+ghost use Rattle.std.specs.Prelude.{◌≡◌, ◌<◌, ◌≤◌, ℕ, [], get_or, length, IfOk};
 ghost use Rattle.core_model.specs.Opening.{AreOwners, setup_of, opened_view};
 ghost use Rattle.core_model.specs.Memory.{table_length};
+ghost use Rattle.heap_rule.specs.declared.owned.Owned.{Owned};
+ghost use Rattle.heap_rule.specs.Owned.{HasOwned, parts_of};
 ghost use Rattle.heap_rule.specs.Rule.{IsOpened, opening_of, setup_for, first_joint, opened_view_of};
 ghost use Rattle.heap_rule.specs.Seats.{AreOpenedSeats, dealt_seats};
 
+use crate::owned::Owned;
+use crate::owned_opening::opened_owned;
 use crate::rule::{Bare, HeapTable, Known, OpenedHeap, Words};
 use crate::seat::Seat;
 use crate::shared::Shared;
 use atomic_table::{Split, Table};
 use crash_core::{NEW_SEAT, Owners, opened_table};
 use std::alloc::{AllocError, Global};
+use std::collections::VecDeque;
 use super_block::{Geometry, Ready};
 
 /// A seat of the table is split: the new one has the first of the views.
@@ -44,8 +49,9 @@ pub fn open_shared(
         heap.held owners.now.held owners.now.roots) r.1.items) }
 {
     let geometry = heap.geometry();
+    let parts = opened_owned(alloc, &heap, owners, seats)?;
     let (table, dealer) = open_table(alloc, heap, owners, seats, budget)?;
-    let list = deal(alloc, &table.shared, dealer, geometry, budget, seats)?;
+    let list = deal(alloc, &table.shared, dealer, geometry, budget, parts)?;
     Ok((Shared { table }, list))
 }
 
@@ -90,26 +96,33 @@ fn deal(
     mut dealer: Bare,
     geometry: Geometry,
     budget: u64,
-    seats: usize,
+    mut parts: VecDeque<Owned>,
 ) -> Result<Vec<Seat>, AllocError>
     requires opened { IsOpened shared.now.key }
     requires table { dealer.table_id ≡ shared.now.table_id }
     requires words { 0 < shared.now.table_id.words }
     requires first { dealer.me ≡ (first_joint shared.now.key, []) }
-    requires seats { seats ≡ shared.now.key.seats }
+    requires seats { length parts.items ≡ shared.now.key.seats }
+    requires parts { (i : ℕ) (o : Owned) → i < length parts.items → get_or parts.items i o ≡ o
+        → HasOwned o (parts_of (opened_view_of shared.now.key i)) }
     requires geometry { geometry.capacity ≡ (setup_for shared.now.key).capacity }
     requires budget { budget ≡ (setup_for shared.now.key).budget }
     ensures { IfOk result (λ list. list.items
-        ≡ dealt_seats shared.now.table_id (opened_view_of shared.now.key) seats) }
+        ≡ dealt_seats shared.now.table_id (opened_view_of shared.now.key) shared.now.key.seats) }
 {
+    let seats = parts.len();
     let mut list = Vec::with_capacity(alloc, seats)?;
     for _i in 0..seats {
+        let Some(owned) = parts.pop_front() else {
+            unreachable!();
+        };
         let bare = shared.split_seat::<First>(&mut dealer);
         list.push_reserved(Seat {
             bare,
             notes: NEW_SEAT,
             geometry,
             budget,
+            owned,
         });
     }
     Ok(list)

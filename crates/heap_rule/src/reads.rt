@@ -11,19 +11,18 @@ ghost use Rattle.heap_rule.specs.Shown.{CanFree, CanCut};
 use crate::seat::Seat;
 use crate::shared::Shared;
 use crate::steps::read;
-use super_block::{LARGE_INFO, LARGE_STEP, SUPERBLOCK_WORDS};
+use super_block::SUPERBLOCK_WORDS;
 
 impl Seat {
     /// The class of a superblock that is claimed with a class.
-    pub(crate) fn claimed_class(&mut self, shared: &Shared, d: u64) -> u64
-        requires seat { IsSeatOf shared.now self.old }
-        requires claimed { 0 < times_classed d self.old.view.classed }
-        ensures same { self.new ≡ self.old }
-        ensures class { result ≡ claim_class d self.old.view.classed }
+    pub(crate) fn claimed_class(&self, d: u64) -> u64
+        requires claimed { 0 < times_classed d self.now.view.classed }
+        ensures class { result ≡ claim_class d self.now.view.classed }
         ensures is_class { IsClass result }
     {
-        read(shared, &mut self.bare, self.geometry.info(d))
+        self.owned.stakes[d as usize].class()
     }
+
     /// The block after the first one of a cache, where there is one.
     pub(crate) fn next_cached(&mut self, shared: &Shared, class: u64) -> u64
         requires seat { IsSeatOf shared.now self.old }
@@ -35,26 +34,23 @@ impl Seat {
         let first = self.notes.caches[class as usize].first;
         read(shared, &mut self.bare, first)
     }
+
     /// The class of a held block that may be freed.
-    pub(crate) fn held_class(&mut self, shared: &Shared, block: u64) -> u64
-        requires seat { IsSeatOf shared.now self.old }
-        requires can { CanFree self.old.view block }
-        ensures same { self.new ≡ self.old }
-        ensures class { (can : CanFree self.old.view block) → result ≡ can.class }
+    pub(crate) fn held_class(&self, block: u64) -> u64
+        requires can { CanFree self.now.view block }
+        ensures class { (can : CanFree self.now.view block) → result ≡ can.class }
         ensures is_class { IsClass result }
     {
         let d = (block - self.geometry.start(0)) / SUPERBLOCK_WORDS;
-        read(shared, &mut self.bare, self.geometry.info(d))
+        self.owned.classes[d as usize]
     }
+
     /// How many superblocks a held large block takes.
-    pub(crate) fn span_length(&mut self, shared: &Shared, d: u64) -> u64
-        requires seat { IsSeatOf shared.now self.old }
-        requires held { 1 ≤ span_count d self.old.view.large }
-        ensures same { self.new ≡ self.old }
-        ensures count { result ≡ span_count d self.old.view.large }
+    pub(crate) fn span_length(&self, d: u64) -> u64
+        requires held { 1 ≤ span_count d self.now.view.large }
+        ensures { result ≡ span_count d self.now.view.large }
     {
-        let info = read(shared, &mut self.bare, self.geometry.info(d));
-        (info - LARGE_INFO) / LARGE_STEP
+        self.owned.stakes[d as usize].count()
     }
 
     /// The class of a superblock that was made ready.

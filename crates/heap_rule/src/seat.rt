@@ -1,5 +1,6 @@
 //! A seat of a shared heap: one thread's part of it.
 
+use crate::owned::Owned;
 use crate::rule::Bare;
 use crash_core::Seat as Notes;
 use std::marker::Model;
@@ -11,15 +12,16 @@ pub struct Seat {
     pub(crate) notes: Notes,
     pub(crate) geometry: Geometry,
     pub(crate) budget: u64,
+    pub(crate) owned: Owned,
 }
 
 impl Model for Seat {
     ghost use Rattle.heap_rule.specs.Joint.{view_in};
-    ghost use Rattle.heap_rule.specs.Seated.{SeatView, IsSeat};
+    ghost use Rattle.heap_rule.specs.Seated.{SeatView, IsWhole};
 
     ghost Value = { SeatView };
 
     ghost view = { λ a. record { table = a.bare.table_id; view = view_in a.bare.me.0 } };
 
-    ghost invariant = { λ a. IsSeat a.bare.me a.notes a.geometry.capacity a.budget };
+    ghost invariant = { λ a. IsWhole a.bare.me a.notes a.owned a.geometry.capacity a.budget };
 }

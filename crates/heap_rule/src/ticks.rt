@@ -2,10 +2,12 @@
 
 ghost use Rattle.std.specs.Prelude.{◌≡◌, ℕ, Some, None};
 ghost use Rattle.core_model.specs.declared.event.Event.TheVariants.{Tick};
+ghost use Rattle.heap_rule.specs.Changed.{FitsChange};
 ghost use Rattle.heap_rule.specs.Plays.{IsEvent};
 ghost use Rattle.heap_rule.specs.Seated.{IsSeatOf, FitsShift, TellsDraw};
 ghost use Rattle.heap_rule.specs.Shown.{Can};
 
+use crate::owned::Change;
 use crate::seat::Seat;
 use crate::shared::Shared;
 use crate::steps::draw;
@@ -44,7 +46,7 @@ impl Seat {
         ensures seat { IsSeatOf shared.now self.new }
     {
         let notes = self.notes;
-        self.draw_as(shared, None, notes)
+        self.draw_as(shared, None, notes, Change::Nothing)
     }
 
     /// Draws a ticket, with a change.
@@ -56,8 +58,8 @@ impl Seat {
         ensures told { TellsDraw self.new.view result }
         ensures seat { IsSeatOf shared.now self.new }
     {
-        let changed = self.after_shift(shared, shift);
-        self.draw_as(shared, Some(shift), changed)
+        let (notes, change) = self.after_shift(shared, shift);
+        self.draw_as(shared, Some(shift), notes, change)
     }
 
     /// Draws a ticket, and keeps what the change of the seat's parts leaves, where the ticket is
@@ -67,10 +69,12 @@ impl Seat {
         shared: &Shared,
         shift: Option<Shift>,
         changed: Notes,
+        change: Change,
     ) -> Result<(), Stopped>
         requires seat { IsSeatOf shared.now self.old }
         requires can { Can self.old.view (Tick shift) }
         requires changed { FitsShift changed self.old.view shift }
+        requires change { FitsChange change self.old.view shift }
         ensures event { (found : ℕ) × IsEvent (Tick shift) self.old.view found self.new.view }
         ensures told { TellsDraw self.new.view result }
         ensures seat { IsSeatOf shared.now self.new }
@@ -90,6 +94,7 @@ impl Seat {
             ticket: Some(ticket),
             ..changed
         };
+        self.owned.change(self.geometry, change);
         Ok(())
     }
 }

@@ -15,7 +15,7 @@ pub join_seat-requires : goal.join_seat-requires
 join_seat-requires c = let seat = c.in-Some.seat in (
   c.loop-seat.invariant.table,
   ap (λ (s : SeatView). s.table) c.seat.view_is ∙ c.loop-seat.invariant.seats.each seat (subst (λ l. Contains l seat) (sym c.in-Some.ensures.items) (Contains-append_right c.pop.new.self.items (seat ∷ []) seat (in_head seat []))),
-  c.seat.invariant.no_slots,
+  c.seat.invariant.seat.no_slots,
   c.requires.words,
   joined c.args.shared.now.key c.loop-seat.last.id c.loop-seat.last.me.0 c.seat.inside.bare.id c.seat.inside.bare.me.0,
 )
@@ -25,5 +25,5 @@ loop-seat-preserved c = let seat = c.in-Some.seat in record {
   table = c.join_seat.ensures.0 ∙ c.loop-seat.invariant.table;
   seats = record { each = λ s p. c.loop-seat.invariant.seats.each s (subst (λ l. Contains l s) (sym c.in-Some.ensures.items) (Contains-append_left c.pop.new.self.items (seat ∷ []) s p)) };
   views = one_joined c.loop-seat.seats.items c.pop.new.self.items seat c.seat.inside.bare.me.0 c.loop-seat.last.me.0 c.join_seat.new.seat.me.0 _ c.in-Some.ensures.items
-      (c.seat.invariant.single ∙ ap (λ (s : SeatView). s.view ∷ []) c.seat.view_is) (ap (λ (m : Me _ Joint). m.0) c.join_seat.ensures.2) c.loop-seat.invariant.views;
+      (c.seat.invariant.seat.single ∙ ap (λ (s : SeatView). s.view ∷ []) c.seat.view_is) (ap (λ (m : Me _ Joint). m.0) c.join_seat.ensures.2) c.loop-seat.invariant.views;
 }

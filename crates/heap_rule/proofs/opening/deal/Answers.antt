@@ -1,5 +1,9 @@
-use Rattle.std.proofs.Common.{◌≡◌, ◌<◌, ◌∙◌, [], ℕ, suc, ◌+◌, ◌-◌, ◌∷◌, ◌++◌, ap, arith}
+use Rattle.std.proofs.Common.{◌≡◌, ◌<◌, ◌∙◌, [], ℕ, suc, ◌+◌, ◌-◌, ◌∷◌, ◌++◌, ap, sym, subst, arith}
 use Rattle.atomic_table.specs.Table.{Me}
+use Rattle.core_model.specs.Opening.{tabulate}
+use Rattle.heap_rule.specs.declared.owned.Owned.{Owned}
+use Rattle.heap_rule.specs.Owned.{HasOwned, parts_of}
+use Rattle.heap_rule.proofs.OwnedOpening.{each_rest}
 use Rattle.heap_rule.specs.Joint.{Joint, first_view, other_views, view_in}
 use Rattle.heap_rule.specs.Rule.{opened_view_of}
 use Rattle.heap_rule.specs.Seated.{SeatView}
@@ -15,16 +19,18 @@ pub invariant_of-push_reserved : goal.invariant_of-push_reserved
 invariant_of-push_reserved c =
     let o = c.args.shared.now.key in
     let less : c.loop-i._i < o.seats = (let l = c.loop-i-test.true in let s = c.requires.seats in omega arith) in
-    let some : c.args.seats - c.loop-i._i ≡ suc (c.args.seats - (c.loop-i._i + 1)) = (let l = c.loop-i-test.true in omega arith) in
-    is_seat o c.loop-i._i c.args.geometry.capacity c.args.budget c.split_seat-bare.result.me c.requires.opened less
-    (c.split_seat-bare.ensures.4 ∙ ap (λ (m : Me ℕ Joint). (first_view m.0, [])) c.loop-i.invariant.rest ∙ ap (λ (vs : Joint). (vs, [])) (first_dealt (opened_view_of o) c.loop-i._i _ _ some))
-    c.requires.geometry c.requires.budget
+    let more : c.len-seats.result - c.loop-i._i ≡ suc (c.len-seats.result - (c.loop-i._i + 1)) = (let l = c.loop-i-test.true in omega arith) in
+    let me : c.split_seat-bare.result.me ≡ (opened_view_of o c.loop-i._i ∷ [], []) = c.split_seat-bare.ensures.4 ∙ ap (λ (m : Me ℕ Joint). (first_view m.0, [])) c.loop-i.invariant.rest ∙ ap (λ (vs : Joint). (vs, [])) (first_dealt (opened_view_of o) c.loop-i._i _ _ more) in record {
+      seat = is_seat o c.loop-i._i c.args.geometry.capacity c.args.budget c.split_seat-bare.result.me c.requires.opened less me c.requires.geometry c.requires.budget;
+      own = subst (λ (m : Me ℕ Joint). HasOwned c.in-Some.owned (parts_of (view_in m.0))) (sym me)
+          (each_rest (λ n (x : Owned). HasOwned x (parts_of (opened_view_of o n))) c.loop-i.parts.items c.pop_front.new.self.items c.in-Some.owned c.loop-i._i c.in-Some.ensures.items c.loop-i.invariant.parts).0;
+    }
 
 pub loop-i-preserved : goal.loop-i-preserved
 loop-i-preserved c =
     let V = opened_view_of c.args.shared.now.key in
     let i = c.loop-i._i in
-    let some : c.args.seats - i ≡ suc (c.args.seats - (i + 1)) = (let l = c.loop-i-test.true in omega arith) in
+    let some : c.len-seats.result - i ≡ suc (c.len-seats.result - (i + 1)) = (let l = c.loop-i-test.true in omega arith) in
     let me : c.split_seat-bare.result.me.0 ≡ V i ∷ [] = ap (λ (m : Me ℕ Joint). m.0) c.split_seat-bare.ensures.4 ∙ ap (λ (m : Me ℕ Joint). first_view m.0) c.loop-i.invariant.rest ∙ first_dealt V i _ _ some in
     let seat : SeatView = record { table = c.split_seat-bare.result.table_id; view = view_in c.split_seat-bare.result.me.0 } in
     record {
@@ -34,4 +40,17 @@ loop-i-preserved c =
           ∙ one_more c.args.shared.now.table_id V i seat (c.split_seat-bare.ensures.3 ∙ c.loop-i.invariant.table) (ap view_in me);
       count = c.push_reserved.ensures.len ∙ ap (λ n. n + 1) c.loop-i.invariant.count;
       room = c.push_reserved.ensures.capacity ∙ c.loop-i.invariant.room;
+      left = (let l = c.loop-i.invariant.left in let p = c.in-Some.ensures.cases in omega arith);
+      parts = (each_rest (λ n (x : Owned). HasOwned x (parts_of (opened_view_of c.args.shared.now.key n))) c.loop-i.parts.items c.pop_front.new.self.items c.in-Some.owned c.loop-i._i c.in-Some.ensures.items c.loop-i.invariant.parts).1;
     }
+
+pub loop-i-init : goal.loop-i-init
+loop-i-init c = record {
+  table = c.requires.table;
+  rest = c.requires.first ∙ ap (λ n. (tabulate (opened_view_of c.args.shared.now.key) 0 n, [])) (let s = c.requires.seats in let l = c.len-seats.ensures in let e : c.args.shared.now.key.seats ≡ c.len-seats.result - 0 = omega arith in e);
+  dealt = c.in_ok-list.ensures.items;
+  count = c.in_ok-list.ensures.len;
+  room = (let k = c.in_ok-list.ensures.exact in let l = c.in_ok-list.ensures.capacity in omega arith);
+  left = (let l = c.len-seats.ensures in omega arith);
+  parts = λ k o less at. subst (λ n. HasOwned o (parts_of (opened_view_of c.args.shared.now.key n))) (let e : k ≡ 0 + k = omega arith in e) (c.requires.parts k o less at);
+}

@@ -1,5 +1,8 @@
-use Rattle.std.proofs.Common.{◌≡◌, ◌-◌, [], vec_len, vec_capacity}
+use Rattle.std.specs.VecDeque.{deque_len}
+use Rattle.std.proofs.Common.{◌≡◌, ◌-◌, ◌+◌, ◌<◌, ℕ, [], get_or, length, vec_len, vec_capacity}
 use Rattle.core_model.specs.Opening.{tabulate}
+use Rattle.heap_rule.specs.declared.owned.Owned.{Owned}
+use Rattle.heap_rule.specs.Owned.{HasOwned, parts_of}
 use Rattle.heap_rule.specs.Rule.{opened_view_of}
 use Rattle.heap_rule.specs.Seats.{dealt_seats}
 use Rattle.heap_rule.proofs.opening.deal.Given as goal
@@ -11,4 +14,6 @@ invariant-loop-i l = record {
   dealt : l.list.items ≡ dealt_seats l.shared.table_id (opened_view_of l.shared.key) l._i;
   count : vec_len l.list ≡ l._i;
   room : vec_capacity l.list ≡ l.seats;
+  left : deque_len l.parts + l._i ≡ l.seats;
+  parts : (k : ℕ) (o : Owned) → k < length l.parts.items → get_or l.parts.items k o ≡ o → HasOwned o (parts_of (opened_view_of l.shared.key (l._i + k)));
 }

@@ -1,13 +1,21 @@
-use Rattle.std.proofs.Common.{◌<◌, sym, subst}
-use Rattle.heap_model.specs.Sizes.{IsClass}
+use Rattle.std.proofs.Common.{◌<◌, sym, subst, ap, ◌∙◌, arith}
 use Rattle.core_model.specs.View.{times_classed}
+use Rattle.core_model.specs.Effects.{claim_class}
 use Rattle.heap_rule.specs.Joint.{view_in}
 use Rattle.heap_rule.specs.Seated.{SeatView}
-use Rattle.heap_rule.proofs.ChainLemmas.{class_read}
+use Rattle.heap_rule.proofs.OwnedReads.{classed_below, claim_of}
 use Rattle.heap_rule.proofs.seat.Seat.claimed_class.Goals as goal
 
+pub index-requires : goal.index-requires
+index-requires c = let claimed = subst (λ (s : SeatView). 0 < times_classed c.args.d s.view.classed) (sym c.self.view_is) c.requires.claimed in
+    let b = classed_below (view_in c.self.inside.bare.me.0) c.self.invariant.seat.kept.has c.self.inside.owned c.self.invariant.own c.args.d claimed in
+    let l = c.self.invariant.own.stakes_long in omega arith
+
+pub returns-clause-class : goal.returns-clause-class
+returns-clause-class c = let claimed = subst (λ (s : SeatView). 0 < times_classed c.args.d s.view.classed) (sym c.self.view_is) c.requires.claimed in
+    (claim_of (view_in c.self.inside.bare.me.0) c.self.invariant.seat.kept.has c.self.inside.owned c.self.invariant.own c.args.d c.class.result c.index.result.now claimed c.index.ensures c.class.ensures).0
+    ∙ ap (λ (s : SeatView). claim_class c.args.d s.view.classed) c.self.view_is
+
 pub returns-clause-is_class : goal.returns-clause-is_class
-returns-clause-is_class c =
-    let claimed = subst (λ (s : SeatView). 0 < times_classed c.args.d s.view.classed) (sym c.self.view_is) c.requires.claimed in
-    let r = class_read (view_in c.self.inside.bare.me.0) c.read.ensures.found.0 c.args.d c.info.result c.read.result claimed c.info.ensures c.read.ensures.found.1 in
-    subst IsClass (sym r.0) r.1
+returns-clause-is_class c = let claimed = subst (λ (s : SeatView). 0 < times_classed c.args.d s.view.classed) (sym c.self.view_is) c.requires.claimed in
+    (claim_of (view_in c.self.inside.bare.me.0) c.self.invariant.seat.kept.has c.self.inside.owned c.self.invariant.own c.args.d c.class.result c.index.result.now claimed c.index.ensures c.class.ensures).1

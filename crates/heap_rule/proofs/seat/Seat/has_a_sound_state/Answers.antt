@@ -4,4 +4,4 @@ use Rattle.heap_rule.specs.Seated.{SeatView}
 use Rattle.heap_rule.proofs.seat.Seat.has_a_sound_state.Goals as goal
 
 pub returns : goal.returns
-returns c = subst (λ (s : SeatView). Has s.view) c.self.view_is c.self.invariant.kept.has
+returns c = subst (λ (s : SeatView). Has s.view) c.self.view_is c.self.invariant.seat.kept.has

@@ -1,3 +1,5 @@
+use Rattle.heap_rule.proofs.OwnedSteps.{quiet}
+use Rattle.heap_rule.specs.Owned.{parts_of}
 use Rattle.std.proofs.Common.{◌≡◌, ◌+◌, ap, sym, subst, ◌∙◌, arith}
 use Rattle.heap_model.specs.Geometry.{image_words, largest_capacity_fits}
 use Rattle.core_model.specs.declared.event.Event.TheVariants.{Settle}
@@ -16,7 +18,7 @@ pub overflow_add-place : goal.overflow_add-place
 overflow_add-place c =
     let can = subst (λ (s : SeatView). Can s.view (Settle c.args.word)) (sym c.self.view_is) c.requires.can in
     let below = own_below (view_in c.self.inside.bare.me.0) c.args.word can.shown in
-    let small = c.self.invariant.kept.has.sound.good.small in let fits = largest_capacity_fits in let same = c.self.invariant.capacity_is in let long = c.length.ensures in omega arith
+    let small = c.self.invariant.seat.kept.has.sound.good.small in let fits = largest_capacity_fits in let same = c.self.invariant.seat.capacity_is in let long = c.length.ensures in omega arith
 
 pub store-requires-clause-may : goal.store-requires-clause-may
 store-requires-clause-may c =
@@ -28,7 +30,7 @@ pub store-requires-clause-place : goal.store-requires-clause-place
 store-requires-clause-place c =
     let can = subst (λ (s : SeatView). Can s.view (Settle c.args.word)) (sym c.self.view_is) c.requires.can in
     subst (λ (v : View). c.length.result + c.args.word ≡ table_index v.setup.capacity (place_of v (Settle c.args.word))) (sym c.learn-value.ensures.view)
-    (ap (λ n. n + c.args.word) (c.length.ensures ∙ ap image_words c.self.invariant.capacity_is) ∙ settle_place (view_in c.self.inside.bare.me.0) c.args.word c.learn-value.result can.shown)
+    (ap (λ n. n + c.args.word) (c.length.ensures ∙ ap image_words c.self.invariant.seat.capacity_is) ∙ settle_place (view_in c.self.inside.bare.me.0) c.args.word c.learn-value.result can.shown)
 
 pub store-requires-clause-store : goal.store-requires-clause-store
 store-requires-clause-store c =
@@ -36,8 +38,11 @@ store-requires-clause-store c =
     subst (λ v. IsStore (Settle c.args.word) v c.learn-value.result) (sym c.learn-value.ensures.view) (settle_store (view_in c.self.inside.bare.me.0) c.args.word c.learn-value.result can.shown)
 
 pub invariant_of-self : goal.invariant_of-self
-invariant_of-self c = settled_seat c.self.inside.bare.me c.store.new.bare.me c.self.inside.notes c.self.inside.geometry.capacity c.args.word c.learn-value.result c.store.ensures.event.0 c.args.shared.now c.store.new.bare.table_id c.self.invariant c.store.ensures.at
-    (subst (λ v. IsEvent (Settle c.args.word) v c.store.ensures.event.0 (view_in c.store.new.bare.me.0)) c.learn-value.ensures.view c.store.ensures.event.1)
+invariant_of-self c = record {
+  seat = settled_seat c.self.inside.bare.me c.store.new.bare.me c.self.inside.notes c.self.inside.geometry.capacity c.args.word c.learn-value.result c.store.ensures.event.0 c.args.shared.now c.store.new.bare.table_id c.self.invariant.seat c.store.ensures.at
+      (subst (λ v. IsEvent (Settle c.args.word) v c.store.ensures.event.0 (view_in c.store.new.bare.me.0)) c.learn-value.ensures.view c.store.ensures.event.1);
+  own = quiet c.self.inside.owned (view_in c.self.inside.bare.me.0) (view_in c.store.new.bare.me.0) (ap parts_of (subst (λ v. IsEvent (Settle c.args.word) v c.store.ensures.event.0 (view_in c.store.new.bare.me.0)) c.learn-value.ensures.view c.store.ensures.event.1).after) c.self.invariant.own;
+}
 
 pub returns-clause-event : goal.returns-clause-event
 returns-clause-event c =

@@ -4,6 +4,7 @@ use Rattle.heap_rule.specs.Joint.{view_in}
 use Rattle.heap_rule.specs.Seated.{SeatView}
 use Rattle.heap_rule.specs.Shown.{Can}
 use Rattle.heap_rule.proofs.ShownLemmas.{may_of}
+use Rattle.heap_rule.proofs.OwnedSteps.{store_owned}
 use Rattle.heap_rule.proofs.SeatLemmas.{seat_after}
 use Rattle.heap_rule.proofs.StoredLemmas.{word_stored}
 use Rattle.heap_rule.proofs.seat.Seat.store_word.Goals as goal
@@ -14,5 +15,8 @@ store-requires-clause-may c = may_of (view_in c.self.inside.bare.me.0) (Store c.
 pub invariant_of-self : goal.invariant_of-self
 invariant_of-self c =
     let can = subst (λ (s : SeatView). Can s.view (Store c.args.word c.args.value)) (sym c.self.view_is) c.requires.can in
-    seat_after c.self.inside.bare.me c.store.new.bare.me c.self.inside.notes _ c.self.inside.geometry.capacity (Store c.args.word c.args.value) c.store.ensures.event.0 c.args.shared.now c.store.new.bare.table_id c.self.invariant c.store.ensures.at c.store.ensures.event.1
-    (word_stored c.self.inside.notes (view_in c.self.inside.bare.me.0) (view_in c.store.new.bare.me.0) c.args.word c.args.value c.store.ensures.event.0 c.stored.result c.self.invariant.kept c.store.ensures.event.1 c.store.ensures.at.has can.shown.0 c.stored.ensures)
+    record {
+      seat = seat_after c.self.inside.bare.me c.store.new.bare.me c.self.inside.notes _ c.self.inside.geometry.capacity (Store c.args.word c.args.value) c.store.ensures.event.0 c.args.shared.now c.store.new.bare.table_id c.self.invariant.seat c.store.ensures.at c.store.ensures.event.1
+          (word_stored c.self.inside.notes (view_in c.self.inside.bare.me.0) (view_in c.store.new.bare.me.0) c.args.word c.args.value c.store.ensures.event.0 c.stored.result c.self.invariant.seat.kept c.store.ensures.event.1 c.store.ensures.at.has can.shown.0 c.stored.ensures);
+      own = store_owned c.self.inside.owned (view_in c.self.inside.bare.me.0) (view_in c.store.new.bare.me.0) c.args.word c.args.value c.store.ensures.event.0 c.self.invariant.own c.store.ensures.event.1 can.shown.0;
+    }

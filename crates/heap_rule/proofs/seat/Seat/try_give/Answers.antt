@@ -1,4 +1,4 @@
-use Rattle.std.proofs.Common.{◌<◌, ◌-◌, ◌/◌, ap, sym, subst, ◌∙◌, arith}
+use Rattle.std.proofs.Common.{◌<◌, ◌-◌, ◌/◌, false, refl, ap, sym, subst, ◌∙◌, arith}
 use Rattle.heap_model.specs.Geometry.{start_word, largest_capacity_fits}
 use Rattle.heap_model.specs.Sizes.{IsClass, words_of_class, blocks_of}
 use Rattle.core_model.specs.declared.event.Event.TheVariants.{Give}
@@ -9,6 +9,10 @@ use Rattle.heap_rule.specs.Joint.{view_in}
 use Rattle.heap_rule.specs.Seated.{SeatView}
 use Rattle.heap_rule.specs.Shown.{Can}
 use Rattle.heap_rule.proofs.ShownLemmas.{may_of}
+use Rattle.heap_model.specs.Counting.{times}
+use Rattle.heap_rule.specs.Owned.{IsMarking, listed}
+use Rattle.heap_rule.proofs.ViewLemmas.{block_range}
+use Rattle.heap_rule.proofs.OwnedSteps.{give_kept, give_full, give_lost as give_lost_own}
 use Rattle.heap_rule.proofs.SeatLemmas.{seat_after}
 use Rattle.heap_rule.proofs.BatchLemmas.{batch_class, batch_first, batch_below, give_exchange, batch_given, give_lost}
 use Rattle.heap_rule.proofs.seat.Seat.try_give.Goals as goal
@@ -16,28 +20,28 @@ use Rattle.heap_rule.proofs.seat.Seat.try_give.Goals as goal
 pub anchor-place-requires : goal.anchor-place-requires
 anchor-place-requires c =
     let can = subst (λ (s : SeatView). Can s.view (Give c.args.d)) (sym c.self.view_is) c.requires.can in
-    subst (λ n. c.args.d < n) (sym c.self.invariant.capacity_is) (batch_below (view_in c.self.inside.bare.me.0) c.self.invariant.kept.has c.args.d can.shown.batch can.shown.some)
+    subst (λ n. c.args.d < n) (sym c.self.invariant.seat.capacity_is) (batch_below (view_in c.self.inside.bare.me.0) c.self.invariant.seat.kept.has c.args.d can.shown.batch can.shown.some)
 
 pub anchor_with_batch-new-requires-clause-d : goal.anchor_with_batch-new-requires-clause-d
 anchor_with_batch-new-requires-clause-d c =
     let can = subst (λ (s : SeatView). Can s.view (Give c.args.d)) (sym c.self.view_is) c.requires.can in
-    subst (λ n. c.args.d < n) (sym c.self.invariant.capacity_is) (batch_below (view_in c.self.inside.bare.me.0) c.self.invariant.kept.has c.args.d can.shown.batch can.shown.some)
+    subst (λ n. c.args.d < n) (sym c.self.invariant.seat.capacity_is) (batch_below (view_in c.self.inside.bare.me.0) c.self.invariant.seat.kept.has c.args.d can.shown.batch can.shown.some)
 
 pub anchor_with_batch-new-requires-clause-capacity : goal.anchor_with_batch-new-requires-clause-capacity
-anchor_with_batch-new-requires-clause-capacity c = let small = c.self.invariant.kept.has.sound.good.small in let cap = c.self.invariant.capacity_is in let fits = largest_capacity_fits in omega arith
+anchor_with_batch-new-requires-clause-capacity c = let small = c.self.invariant.seat.kept.has.sound.good.small in let cap = c.self.invariant.seat.capacity_is in let fits = largest_capacity_fits in omega arith
 
 pub anchor_with_batch-new-requires-clause-class : goal.anchor_with_batch-new-requires-clause-class
 anchor_with_batch-new-requires-clause-class c =
     let can = subst (λ (s : SeatView). Can s.view (Give c.args.d)) (sym c.self.view_is) c.requires.can in
-    subst IsClass c.self.invariant.kept.batch.class (batch_class (view_in c.self.inside.bare.me.0) c.self.invariant.kept.has c.args.d can.shown.batch can.shown.some)
+    subst IsClass c.self.invariant.seat.kept.batch.class (batch_class (view_in c.self.inside.bare.me.0) c.self.invariant.seat.kept.has c.args.d can.shown.batch can.shown.some)
 
 pub anchor_with_batch-new-requires-clause-first : goal.anchor_with_batch-new-requires-clause-first
 anchor_with_batch-new-requires-clause-first c =
     let can = subst (λ (s : SeatView). Can s.view (Give c.args.d)) (sym c.self.view_is) c.requires.can in
-    subst (λ n. IsCutBlock n c.self.inside.notes.batch.class c.args.d c.self.inside.notes.batch.first) (sym c.self.invariant.capacity_is)
-    (subst (λ n. IsCutBlock (view_in c.self.inside.bare.me.0).setup.capacity n c.args.d c.self.inside.notes.batch.first) c.self.invariant.kept.batch.class
-    (subst (λ n. IsCutBlock (view_in c.self.inside.bare.me.0).setup.capacity (view_in c.self.inside.bare.me.0).batch.class c.args.d n) c.self.invariant.kept.batch.first
-    (batch_first (view_in c.self.inside.bare.me.0) c.self.invariant.kept.has c.args.d can.shown.batch can.shown.some)))
+    subst (λ n. IsCutBlock n c.self.inside.notes.batch.class c.args.d c.self.inside.notes.batch.first) (sym c.self.invariant.seat.capacity_is)
+    (subst (λ n. IsCutBlock (view_in c.self.inside.bare.me.0).setup.capacity n c.args.d c.self.inside.notes.batch.first) c.self.invariant.seat.kept.batch.class
+    (subst (λ n. IsCutBlock (view_in c.self.inside.bare.me.0).setup.capacity (view_in c.self.inside.bare.me.0).batch.class c.args.d n) c.self.invariant.seat.kept.batch.first
+    (batch_first (view_in c.self.inside.bare.me.0) c.self.invariant.seat.kept.has c.args.d can.shown.batch can.shown.some)))
 
 pub exchange-found-requires-clause-may : goal.exchange-found-requires-clause-may
 exchange-found-requires-clause-may c = may_of (view_in c.self.inside.bare.me.0) (Give c.args.d) (subst (λ (s : SeatView). Can s.view (Give c.args.d)) (sym c.self.view_is) c.requires.can)
@@ -45,18 +49,45 @@ exchange-found-requires-clause-may c = may_of (view_in c.self.inside.bare.me.0) 
 pub exchange-found-requires-clause-exchange : goal.exchange-found-requires-clause-exchange
 exchange-found-requires-clause-exchange c =
     let can = subst (λ (s : SeatView). Can s.view (Give c.args.d)) (sym c.self.view_is) c.requires.can in
-    let is = ap seen_word (c.self.invariant.kept.notes_are.seen_anchor ∙ ap snapshot c.in-Some.is) in
-    give_exchange c.self.inside.notes (view_in c.self.inside.bare.me.0) c.args.d c.in-Some.anchor.word c.anchor_with_batch-new.result c.self.invariant.kept can.shown can.ticket is
-    (λ state room. c.anchor_with_batch-new.ensures state room ∙ ap (λ n. given_anchor c.in-Some.anchor.word ((c.self.inside.notes.batch.first - start_word n c.args.d) / words_of_class c.self.inside.notes.batch.class) c.self.inside.notes.batch.count (blocks_of c.self.inside.notes.batch.class)) c.self.invariant.capacity_is)
+    let is = ap seen_word (c.self.invariant.seat.kept.notes_are.seen_anchor ∙ ap snapshot c.in-Some.is) in
+    give_exchange c.self.inside.notes (view_in c.self.inside.bare.me.0) c.args.d c.in-Some.anchor.word c.anchor_with_batch-new.result c.self.invariant.seat.kept can.shown can.ticket is
+    (λ state room. c.anchor_with_batch-new.ensures state room ∙ ap (λ n. given_anchor c.in-Some.anchor.word ((c.self.inside.notes.batch.first - start_word n c.args.d) / words_of_class c.self.inside.notes.batch.class) c.self.inside.notes.batch.count (blocks_of c.self.inside.notes.batch.class)) c.self.invariant.seat.capacity_is)
 
 pub invariant_of-self : goal.invariant_of-self
 invariant_of-self c =
-    let is = ap seen_word (c.self.invariant.kept.notes_are.seen_anchor ∙ ap snapshot c.in-Some.is) in
-    seat_after c.self.inside.bare.me c.exchange-found.new.bare.me c.self.inside.notes _ c.self.inside.geometry.capacity (Give c.args.d) c.exchange-found.result c.args.shared.now c.exchange-found.new.bare.table_id c.self.invariant c.exchange-found.ensures.at c.exchange-found.ensures.event
-    (give_lost c.self.inside.notes (view_in c.self.inside.bare.me.0) (view_in c.exchange-found.new.bare.me.0) c.args.d c.exchange-found.result c.in-Some.anchor.word c.self.invariant.kept c.exchange-found.ensures.event c.exchange-found.ensures.at.has is c.if-found-anchor.true)
+    let is = ap seen_word (c.self.invariant.seat.kept.notes_are.seen_anchor ∙ ap snapshot c.in-Some.is) in
+    record {
+      seat = seat_after c.self.inside.bare.me c.exchange-found.new.bare.me c.self.inside.notes _ c.self.inside.geometry.capacity (Give c.args.d) c.exchange-found.result c.args.shared.now c.exchange-found.new.bare.table_id c.self.invariant.seat c.exchange-found.ensures.at c.exchange-found.ensures.event
+          (give_lost c.self.inside.notes (view_in c.self.inside.bare.me.0) (view_in c.exchange-found.new.bare.me.0) c.args.d c.exchange-found.result c.in-Some.anchor.word c.self.invariant.seat.kept c.exchange-found.ensures.event c.exchange-found.ensures.at.has is c.if-found-anchor.true);
+      own = give_lost_own c.self.inside.owned (view_in c.self.inside.bare.me.0) (view_in c.exchange-found.new.bare.me.0) c.args.d c.exchange-found.result c.in-Some.anchor.word c.self.invariant.own c.exchange-found.ensures.event is c.if-found-anchor.true;
+    }
+
+pub unmark_all-requires : goal.unmark_all-requires
+unmark_all-requires c = λ b some. let there : 0 < times b (view_in c.self.inside.bare.me.0).batch.blocks = subst (λ l. 0 < times b l) (c.deref.ensures.value ∙ c.self.invariant.own.batch) some in
+    let r = block_range (view_in c.self.inside.bare.me.0) c.self.invariant.seat.kept.has b (omega arith) in let l = c.self.invariant.own.words_long in omega arith
+
+pub invariant_of-self-then-anchor-anchor_after_take_all : goal.invariant_of-self-then-anchor-anchor_after_take_all
+invariant_of-self-then-anchor-anchor_after_take_all c =
+    let is = ap seen_word (c.self.invariant.seat.kept.notes_are.seen_anchor ∙ ap snapshot c.in-Some.is) in record {
+      seat = seat_after c.self.inside.bare.me c.exchange-found.new.bare.me c.self.inside.notes _ c.self.inside.geometry.capacity (Give c.args.d) c.exchange-found.result c.args.shared.now c.exchange-found.new.bare.table_id c.self.invariant.seat c.exchange-found.ensures.at c.exchange-found.ensures.event
+          (batch_given c.self.inside.notes (view_in c.self.inside.bare.me.0) (view_in c.exchange-found.new.bare.me.0) c.args.d c.exchange-found.result c.in-Some.anchor.word c.self.invariant.seat.kept c.exchange-found.ensures.event c.exchange-found.ensures.at.has is c.if-found-anchor.false);
+      own = give_kept (view_in c.self.inside.bare.me.0) (view_in c.exchange-found.new.bare.me.0) c.args.d c.exchange-found.result c.exchange-found.ensures.event (c.if-found-anchor.false ∙ sym is) c.self.inside.owned c.unmark_all.new.blocks c.clear.new.self c.self.invariant.own
+          (subst (λ l. IsMarking c.self.inside.owned.blocks.items c.unmark_all.new.blocks.items l false) (c.deref.ensures.value ∙ c.self.invariant.own.batch) c.unmark_all.ensures) c.clear.ensures.items c.clear.ensures.capacity
+          (λ e. c.if-anchor-anchor_after_take_all.true (sym c.if-found-anchor.false ∙ e ∙ sym c.anchor_after_take_all.ensures));
+    }
+
+pub index_mut-requires : goal.index_mut-requires
+index_mut-requires c =
+    let can = subst (λ (s : SeatView). Can s.view (Give c.args.d)) (sym c.self.view_is) c.requires.can in
+    let below = batch_below (view_in c.self.inside.bare.me.0) c.self.invariant.seat.kept.has c.args.d can.shown.batch can.shown.some in
+    let l = c.self.invariant.own.stakes_long in omega arith
 
 pub invariant_of-self-2 : goal.invariant_of-self-2
 invariant_of-self-2 c =
-    let is = ap seen_word (c.self.invariant.kept.notes_are.seen_anchor ∙ ap snapshot c.in-Some.is) in
-    seat_after c.self.inside.bare.me c.exchange-found.new.bare.me c.self.inside.notes _ c.self.inside.geometry.capacity (Give c.args.d) c.exchange-found.result c.args.shared.now c.exchange-found.new.bare.table_id c.self.invariant c.exchange-found.ensures.at c.exchange-found.ensures.event
-    (batch_given c.self.inside.notes (view_in c.self.inside.bare.me.0) (view_in c.exchange-found.new.bare.me.0) c.args.d c.exchange-found.result c.in-Some.anchor.word c.self.invariant.kept c.exchange-found.ensures.event c.exchange-found.ensures.at.has is c.if-found-anchor.false)
+    let is = ap seen_word (c.self.invariant.seat.kept.notes_are.seen_anchor ∙ ap snapshot c.in-Some.is) in record {
+      seat = seat_after c.self.inside.bare.me c.exchange-found.new.bare.me c.self.inside.notes _ c.self.inside.geometry.capacity (Give c.args.d) c.exchange-found.result c.args.shared.now c.exchange-found.new.bare.table_id c.self.invariant.seat c.exchange-found.ensures.at c.exchange-found.ensures.event
+          (batch_given c.self.inside.notes (view_in c.self.inside.bare.me.0) (view_in c.exchange-found.new.bare.me.0) c.args.d c.exchange-found.result c.in-Some.anchor.word c.self.invariant.seat.kept c.exchange-found.ensures.event c.exchange-found.ensures.at.has is c.if-found-anchor.false);
+      own = give_full (view_in c.self.inside.bare.me.0) (view_in c.exchange-found.new.bare.me.0) c.args.d c.exchange-found.result c.exchange-found.ensures.event (c.if-found-anchor.false ∙ sym is) c.self.inside.owned c.unmark_all.new.blocks c.clear.new.self _ c.listed.result c.self.invariant.own
+          (subst (λ l. IsMarking c.self.inside.owned.blocks.items c.unmark_all.new.blocks.items l false) (c.deref.ensures.value ∙ c.self.invariant.own.batch) c.unmark_all.ensures) c.clear.ensures.items c.clear.ensures.capacity
+          (c.if-found-anchor.false ∙ c.if-anchor-anchor_after_take_all.false ∙ c.anchor_after_take_all.ensures) (c.listed.ensures ∙ ap listed (sym c.self.invariant.seat.kept.batch.class)) refl;
+    }

@@ -1,0 +1,258 @@
+-- What a seat keeps to tell its own words, after what is the seat's has changed.
+use Rattle.std.proofs.Common.{◌≡◌, ◌≢◌, ℕ, zero, suc, ◌+◌, ◌<◌, ◌≤◌, inl, inr, nat_eq, List, ◌∷◌, ◌++◌, get_or, set, length, refl, ap, sym, subst, ◌∙◌, eq-eqb, arith}
+use Rattle.std.proofs.lemmas.Bool.{cases_eq}
+use Rattle.std.proofs.lemmas.List.{get_or-set_same, get_or-set_other}
+use Rattle.heap_model.specs.Counting.{times, without}
+use Rattle.core_model.specs.View.{Span, times_classed, times_large}
+use Rattle.core_model.specs.Effects.{steps, without_claim, without_range, without_span, claim_class, span_count}
+use Rattle.core_model.proofs.CountLemmas.{times_without_claim, class_without}
+use Rattle.core_model.proofs.FrameLemmas.{times_append}
+use Rattle.core_model.proofs.LinkFrameLemmas.{span_covers}
+use Rattle.core_model.proofs.PlaceLemmas.{pick, skip, not-eq}
+use Rattle.core_model.proofs.SpanLemmas.{range_is, range_not, times_range, without_range_in, without_range_out, without_span_is, span_other, cases_range, in_range}
+use Rattle.core_model.proofs.TotalLemmas.{eq-eqb-one, ne-eqb-none}
+use Rattle.crash_core.proofs.ClaimLemmas.{without_at, without_off, class_absent}
+use Rattle.crash_core.proofs.SplitSteps.{no_span}
+use Rattle.heap_rule.specs.declared.owned.Stake.{Stake}
+use Rattle.heap_rule.specs.declared.owned.Stake.TheVariants as stake
+use Rattle.heap_rule.specs.Owned.{listed, Parts, IsStake, IsStaking}
+
+-- all stakes, after that in superblock d has become another
+pub stake_at : (stakes : List Stake) (p q : Parts) (d : ℕ) (x : Stake) → d < length stakes → ((e : ℕ) → IsStake e (get_or stakes e stake.Nothing) p) → IsStake d x q
+    → ((e : ℕ) (y : Stake) → e ≢ d → IsStake e y p → IsStake e y q) → (e : ℕ) → IsStake e (get_or (set stakes d x) e stake.Nothing) q
+stake_at stakes p q d x less old here others e = elim (cases_eq e d) as (λ _. IsStake e (get_or (set stakes d x) e stake.Nothing) q) [
+  | inl same ↦ subst (λ n. IsStake n (get_or (set stakes d x) n stake.Nothing) q) (sym same) (subst (λ y. IsStake d y q) (sym (get_or-set_same stakes d x stake.Nothing less)) here)
+  | inr other ↦ subst (λ y. IsStake e y q) (sym (get_or-set_other stakes d e x stake.Nothing other)) (others e (get_or stakes e stake.Nothing) other (old e))
+]
+
+-- the same of a range
+pub stakes_in : (old new : List Stake) (p q : Parts) (from n : ℕ) (x : Stake) → IsStaking old new from n x → ((e : ℕ) → IsStake e (get_or old e stake.Nothing) p)
+    → ((e : ℕ) → from ≤ e → e < from + n → IsStake e x q) → ((e : ℕ) (y : Stake) → (from ≤ e → e < from + n → ⊥) → IsStake e y p → IsStake e y q)
+    → (e : ℕ) → IsStake e (get_or new e stake.Nothing) q
+stakes_in old new p q from n x staking before inside outside e = elim (cases_range from n e) as (λ _. IsStake e (get_or new e stake.Nothing) q) [
+  | inl here ↦ subst (λ y. IsStake e y q) (sym (staking.inside e here.0 here.1)) (inside e here.0 here.1)
+  | inr out ↦ subst (λ y. IsStake e y q) (sym (staking.outside e out)) (outside e (get_or old e stake.Nothing) out (before e))
+]
+
+-- nothing is there
+no_stake : (d : ℕ) (x : Stake) (p : Parts) → IsStake d x p → times d p.raw + times d p.split + times d p.cutting ≡ 0 → times_classed d p.classed ≡ 0 → times_large d p.large ≡ 0 → x ≡ stake.Nothing
+no_stake d stake.Nothing p is a b e = refl
+no_stake d stake.Unclassed p is a b e = absurd (let n = is.unclassed in omega arith)
+no_stake d (stake.Classed class) p is a b e = absurd (let n = is.is_classed in omega arith)
+no_stake d (stake.Large count) p is a b e = absurd (let n = is.is_large in omega arith)
+
+-- a claim without a class has no other part of the superblock
+unclassed_only : (d : ℕ) (x : Stake) (p : Parts) → IsStake d x p → 0 < times d p.raw + times d p.split + times d p.cutting → x ≡ stake.Unclassed
+unclassed_only d stake.Nothing p is some = absurd (let n = is.unclassed in omega arith)
+unclassed_only d stake.Unclassed p is some = refl
+unclassed_only d (stake.Classed class) p is some = absurd (let n = is.unclassed in omega arith)
+unclassed_only d (stake.Large count) p is some = absurd (let n = is.unclassed in omega arith)
+
+-- superblocks that were never taken, and are claimed
+pub fresh_stakes : (old new : List Stake) (p : Parts) (u n : ℕ) → IsStaking old new u n stake.Unclassed → ((e : ℕ) → IsStake e (get_or old e stake.Nothing) p)
+    → ((e : ℕ) → u ≤ e → e < u + n → (times e p.raw + times e p.split + times e p.cutting ≡ 0) × (times_classed e p.classed ≡ 0) × (times_large e p.large ≡ 0))
+    → (e : ℕ) → IsStake e (get_or new e stake.Nothing) (record p { raw = p.raw ++ steps u 1 n })
+fresh_stakes old new p u n staking before none = stakes_in old new p (record p { raw = p.raw ++ steps u 1 n }) u n stake.Unclassed staking before
+    (λ e low high. let z = none e low high in let o = subst (λ y. IsStake e y p) (no_stake e (get_or old e stake.Nothing) p (before e) z.0 z.1 z.2) (before e) in record {
+      unclassed = (let a = times_append e p.raw (steps u 1 n) in let b = times_range e u n in let r = range_is u n e low high in let s = o.unclassed in omega arith);
+      is_classed = o.is_classed;
+      class = o.class;
+      is_large = o.is_large;
+      count = o.count;
+    })
+    (λ e y out o. record {
+      unclassed = (let a = times_append e p.raw (steps u 1 n) in let b = times_range e u n in let r = range_not u n e out in let s = o.unclassed in omega arith);
+      is_classed = o.is_classed;
+      class = o.class;
+      is_large = o.is_large;
+      count = o.count;
+    })
+
+-- what becomes of the parts with a claim of a superblock from a list
+abbrev pub with_claim : Parts → ℕ → ℕ → Parts
+with_claim p d zero = record p { raw = d ∷ p.raw }
+with_claim p d (suc class) = record p { classed = record { descriptor = d; class = suc class } ∷ p.classed }
+
+pub claim_stakes : (stakes : List Stake) (p : Parts) (d list : ℕ) (x : Stake) → x ≡ listed list → d < length stakes → ((e : ℕ) → IsStake e (get_or stakes e stake.Nothing) p)
+    → (times d p.raw + times d p.split + times d p.cutting ≡ 0) × (times_classed d p.classed ≡ 0) × (times_large d p.large ≡ 0)
+    → (e : ℕ) → IsStake e (get_or (set stakes d x) e stake.Nothing) (with_claim p d list)
+claim_stakes stakes p d list x is less before none = by list x is where
+  o : IsStake d stake.Nothing p
+  o = subst (λ y. IsStake d y p) (no_stake d (get_or stakes d stake.Nothing) p (before d) none.0 none.1 none.2) (before d)
+
+  by : (list : ℕ) (x : Stake) → x ≡ listed list → (e : ℕ) → IsStake e (get_or (set stakes d x) e stake.Nothing) (with_claim p d list)
+  by zero x is = stake_at stakes p (record p { raw = d ∷ p.raw }) d x less before
+      (subst (λ y. IsStake d y (record p { raw = d ∷ p.raw })) (sym is) (record {
+        unclassed = (let n = o.unclassed in let one = eq-eqb-one d d refl in omega arith);
+        is_classed = o.is_classed;
+        class = o.class;
+        is_large = o.is_large;
+        count = o.count;
+      }))
+      (λ e y other b. record {
+        unclassed = (let n = b.unclassed in let z = ne-eqb-none d e (λ h. other (sym h)) in omega arith);
+        is_classed = b.is_classed;
+        class = b.class;
+        is_large = b.is_large;
+        count = b.count;
+      })
+  by (suc class) x is = stake_at stakes p (with_claim p d (suc class)) d x less before
+      (subst (λ y. IsStake d y (with_claim p d (suc class))) (sym is) (record {
+        unclassed = o.unclassed;
+        is_classed = (let n = o.is_classed in let one = eq-eqb-one d d refl in omega arith);
+        class = pick (nat_eq d d) (suc class) (claim_class d p.classed) (eq-eqb d d refl);
+        is_large = o.is_large;
+        count = o.count;
+      }))
+      (λ e y other b. record {
+        unclassed = b.unclassed;
+        is_classed = (let n = b.is_classed in let z = ne-eqb-none d e (λ h. other (sym h)) in omega arith);
+        class = skip (nat_eq d e) (suc class) (claim_class e p.classed) (not-eq d e (λ h. other (sym h))) ∙ b.class;
+        is_large = b.is_large;
+        count = b.count;
+      })
+
+-- a claim without a class that is given up
+pub raw_stakes : (stakes : List Stake) (p : Parts) (d : ℕ) → d < length stakes → 0 < times d p.raw + times d p.split → ((e : ℕ) → IsStake e (get_or stakes e stake.Nothing) p)
+    → (e : ℕ) → IsStake e (get_or (set stakes d stake.Nothing) e stake.Nothing) (record p { raw = without d p.raw; split = without d p.split })
+raw_stakes stakes p d less some before =
+    let o = subst (λ y. IsStake d y p) (unclassed_only d (get_or stakes d stake.Nothing) p (before d) (omega arith)) (before d) in
+    stake_at stakes p (record p { raw = without d p.raw; split = without d p.split }) d stake.Nothing less before
+    (record {
+      unclassed = (let n = o.unclassed in let a = without_at d p.raw (omega arith) in let b = without_at d p.split (omega arith) in omega arith);
+      is_classed = o.is_classed;
+      class = o.class;
+      is_large = o.is_large;
+      count = o.count;
+    })
+    (λ e y other b. record {
+      unclassed = (let n = b.unclassed in let r = without_off e d p.raw other in let s = without_off e d p.split other in omega arith);
+      is_classed = b.is_classed;
+      class = b.class;
+      is_large = b.is_large;
+      count = b.count;
+    })
+
+-- a claim whose blocks were made, that is given up
+pub cut_stakes : (stakes : List Stake) (p : Parts) (d : ℕ) → d < length stakes → 0 < times d p.cutting → ((e : ℕ) → IsStake e (get_or stakes e stake.Nothing) p)
+    → (e : ℕ) → IsStake e (get_or (set stakes d stake.Nothing) e stake.Nothing) (record p { cutting = without d p.cutting })
+cut_stakes stakes p d less some before =
+    let o = subst (λ y. IsStake d y p) (unclassed_only d (get_or stakes d stake.Nothing) p (before d) (omega arith)) (before d) in
+    stake_at stakes p (record p { cutting = without d p.cutting }) d stake.Nothing less before
+    (record {
+      unclassed = (let n = o.unclassed in let a = without_at d p.cutting (omega arith) in omega arith);
+      is_classed = o.is_classed;
+      class = o.class;
+      is_large = o.is_large;
+      count = o.count;
+    })
+    (λ e y other b. record {
+      unclassed = (let n = b.unclassed in let r = without_off e d p.cutting other in omega arith);
+      is_classed = b.is_classed;
+      class = b.class;
+      is_large = b.is_large;
+      count = b.count;
+    })
+
+-- a claim with a class that is given up
+pub classed_stakes : (stakes : List Stake) (p : Parts) (d : ℕ) → d < length stakes → 0 < times_classed d p.classed → ((e : ℕ) → IsStake e (get_or stakes e stake.Nothing) p)
+    → (e : ℕ) → IsStake e (get_or (set stakes d stake.Nothing) e stake.Nothing) (record p { classed = without_claim d p.classed })
+classed_stakes stakes p d less some before =
+    stake_at stakes p q d stake.Nothing less before (gone (get_or stakes d stake.Nothing) (before d))
+    (λ e y other b. record {
+      unclassed = b.unclassed;
+      is_classed = (let n = times_without_claim e d p.classed some in let z = ne-eqb-none d e (λ h. other (sym h)) in let a = b.is_classed in omega arith);
+      class = class_without e d p.classed (λ h. other (sym h)) ∙ b.class;
+      is_large = b.is_large;
+      count = b.count;
+    }) where
+      q : Parts
+      q = record p { classed = without_claim d p.classed }
+
+      gone : (x : Stake) → IsStake d x p → IsStake d stake.Nothing q
+      gone stake.Nothing o = absurd (let a = o.is_classed in omega arith)
+      gone stake.Unclassed o = absurd (let a = o.is_classed in omega arith)
+      gone (stake.Large count) o = absurd (let a = o.is_classed in omega arith)
+      gone (stake.Classed class) o = record { unclassed = o.unclassed; is_classed = none; class = class_absent d (without_claim d p.classed) none; is_large = o.is_large; count = o.count } where
+        none : times_classed d (without_claim d p.classed) ≡ 0
+        none = let n = times_without_claim d d p.classed some in let one = eq-eqb-one d d refl in let a = o.is_classed in omega arith
+
+-- claims that become a large block
+pub large_stakes : (old new : List Stake) (p : Parts) (d n : ℕ) → 1 ≤ n → d < length new → IsStaking old new d n (stake.Large 0) → ((e : ℕ) → IsStake e (get_or old e stake.Nothing) p)
+    → ((e : ℕ) → d ≤ e → e < d + n → 0 < times e p.raw + times e p.split)
+    → (e : ℕ) → IsStake e (get_or (set new d (stake.Large n)) e stake.Nothing)
+    (record p { large = record { first = d; count = n } ∷ p.large; raw = without_range d n p.raw; split = without_range d n p.split })
+large_stakes old new p d n some less staking before claimed e = elim (cases_eq e d) as (λ _. IsStake e (get_or (set new d (stake.Large n)) e stake.Nothing) q) [
+  | inl same ↦ subst (λ m. IsStake m (get_or (set new d (stake.Large n)) m stake.Nothing) q) (sym same)
+      (subst (λ y. IsStake d y q) (sym (get_or-set_same new d (stake.Large n) stake.Nothing less)) (inside d n (omega arith) (omega arith) (pick (nat_eq d d) n (span_count d p.large) (eq-eqb d d refl))))
+  | inr other ↦ subst (λ y. IsStake e y q) (sym (get_or-set_other new d e (stake.Large n) stake.Nothing other)) (rest e other)
+] where
+  span : Span
+  span = record { first = d; count = n }
+
+  q : Parts
+  q = record p { large = span ∷ p.large; raw = without_range d n p.raw; split = without_range d n p.split }
+
+  mine : (e : ℕ) → d ≤ e → e < d + n → IsStake e stake.Unclassed p
+  mine e low high = subst (λ y. IsStake e y p) (unclassed_only e (get_or old e stake.Nothing) p (before e) (let c = claimed e low high in omega arith)) (before e)
+
+  inside : (e count : ℕ) → d ≤ e → e < d + n → span_count e (span ∷ p.large) ≡ count → IsStake e (stake.Large count) q
+  inside e count low high is = let o = mine e low high in record {
+    unclassed = (let a = without_range_in e d n p.raw low high in let b = without_range_in e d n p.split low high in let c = claimed e low high in let u = o.unclassed in omega arith);
+    is_classed = o.is_classed;
+    class = o.class;
+    is_large = (let r = range_is d n e low high in let l = o.is_large in omega arith);
+    count = is;
+  }
+
+  apart : (e : ℕ) → e ≢ d → span_count e (span ∷ p.large) ≡ span_count e p.large
+  apart e other = skip (nat_eq d e) n (span_count e p.large) (not-eq d e (λ h. other (sym h)))
+
+  rest : (e : ℕ) → e ≢ d → IsStake e (get_or new e stake.Nothing) q
+  rest e other = elim (cases_range d n e) [
+    | inl here ↦ subst (λ y. IsStake e y q) (sym (staking.inside e here.0 here.1)) (inside e 0 here.0 here.1 (apart e other ∙ (mine e here.0 here.1).count))
+    | inr out ↦ subst (λ y. IsStake e y q) (sym (staking.outside e out)) (let o = before e in record {
+      unclassed = (let a = without_range_out e d n p.raw out in let b = without_range_out e d n p.split out in let u = o.unclassed in omega arith);
+      is_classed = o.is_classed;
+      class = o.class;
+      is_large = (let r = range_not d n e out in let l = o.is_large in omega arith);
+      count = apart e other ∙ o.count;
+    })
+  ]
+
+large_only : (d : ℕ) (x : Stake) (p : Parts) → IsStake d x p → 0 < times_large d p.large → (times d p.raw + times d p.split + times d p.cutting ≡ 0) × (times_classed d p.classed ≡ 0) × (claim_class d p.classed ≡ 0) × (times_large d p.large ≡ 1)
+large_only d stake.Nothing p is some = absurd (let n = is.is_large in omega arith)
+large_only d stake.Unclassed p is some = absurd (let n = is.is_large in omega arith)
+large_only d (stake.Classed class) p is some = absurd (let n = is.is_large in omega arith)
+large_only d (stake.Large count) p is some = (is.unclassed, is.is_classed, is.class, is.is_large)
+
+-- a large block that is split
+pub split_stakes : (old new : List Stake) (p : Parts) (d n : ℕ) → n ≡ span_count d p.large → 1 ≤ n → IsStaking old new d n stake.Unclassed → ((e : ℕ) → IsStake e (get_or old e stake.Nothing) p)
+    → (e : ℕ) → IsStake e (get_or new e stake.Nothing) (record p { large = without_span d p.large; split = p.split ++ steps d 1 n })
+split_stakes old new p d n n_is some staking before = stakes_in old new p (record p { large = without_span d p.large; split = p.split ++ steps d 1 n }) d n stake.Unclassed staking before
+    (λ e low high.
+    let z = large_only e (get_or old e stake.Nothing) p (before e) (span_covers d e p.large (omega arith) low (omega arith)) in
+    let z0 = z.0 in let z3 = z.3 in
+    let w = without_span_is e d p.large (omega arith) in let r = range_is d n e low high in
+    let same : span_count d p.large ≡ n = sym n_is in
+    let w_n : times_large e (without_span d p.large) + in_n (span_count d p.large) e ≡ times_large e p.large = w in
+    let r_n : in_n (span_count d p.large) e ≡ 1 = ap (λ m. in_n m e) same ∙ r in
+    let gone : times_large e (without_span d p.large) ≡ 0 = omega arith in record {
+      unclassed = (let a = times_append e p.split (steps d 1 n) in let b = times_range e d n in omega arith);
+      is_classed = z.1;
+      class = z.2;
+      is_large = gone;
+      count = no_span e (without_span d p.large) gone;
+    })
+    (λ e y out o. let w = without_span_is e d p.large (omega arith) in let r = range_not d n e out in
+    let same : span_count d p.large ≡ n = sym n_is in
+    let w_n : times_large e (without_span d p.large) + in_n (span_count d p.large) e ≡ times_large e p.large = w in
+    let r_n : in_n (span_count d p.large) e ≡ 0 = ap (λ m. in_n m e) same ∙ r in record {
+      unclassed = (let a = times_append e p.split (steps d 1 n) in let b = times_range e d n in let u = o.unclassed in omega arith);
+      is_classed = o.is_classed;
+      class = o.class;
+      is_large = (let l = o.is_large in omega arith);
+      count = span_other e d p.large (λ here. out (omega (arith, here)) (omega (arith, here, some))) ∙ o.count;
+    }) where
+      in_n : ℕ → ℕ → ℕ
+      in_n m e = in_range d m e

@@ -1,0 +1,156 @@
+-- What a seat keeps to tell its own words, as a heap at rest is opened.
+use Rattle.std.specs.Vec.{vec_capacity}
+use Rattle.std.proofs.Common.{◌≡◌, ℕ, zero, suc, ◌+◌, ◌<◌, ◌≤◌, inl, inr, false, nat_eq, List, [], ◌∷◌, ◌++◌, get_or, set, length, replicate, slice_index, refl, ap, sym, subst, ◌∙◌, arith}
+use Rattle.std.proofs.lemmas.Bool.{cases_eq, cases_lt}
+use Rattle.std.proofs.lemmas.List.{get_or-set_same, get_or-set_other, get_or_append_left}
+use Rattle.heap_model.specs.Geometry.{lists, roots, capacity_word, info_word}
+use Rattle.heap_model.specs.Rest.{IsReady}
+use Rattle.heap_model.specs.Counting.{times, total, one_if}
+use Rattle.super_block.specs.Contents.{Contents}
+use Rattle.core_model.specs.Cells.{superblock_at}
+use Rattle.core_model.specs.Opening.{AreOwners, setup_of, opened_view, opened_state, picked, tabulate, small_blocks}
+use Rattle.core_model.specs.View.{View, of_class}
+use Rattle.core_model.proofs.OpenLemmas.{length_tabulate, tabulate_at, small_member}
+use Rattle.core_model.proofs.OpenCountLemmas.{beyond, empty_at}
+use Rattle.core_model.proofs.OpenedLemmas.{opened}
+use Rattle.core_model.proofs.OwnerLemmas.{in_lists_total}
+use Rattle.crash_core.specs.declared.owners.BlockOwner.{BlockOwner}
+use Rattle.crash_core.specs.declared.owners.SuperblockOwner.{SuperblockOwner}
+use Rattle.crash_core.specs.declared.owners.Share.{Share}
+use Rattle.crash_core.specs.declared.owners.Share.TheVariants as share
+use Rattle.crash_core.specs.OwnerLists.{OwnerLists}
+use Rattle.crash_core.specs.OpenedOwners.{AreBlockOwners, AreSuperblockOwners}
+use Rattle.crash_core.specs.Standing.{place_for, share_for, held_in, no_block, no_superblock, IsShare}
+use Rattle.crash_core.proofs.OwnDecision.{one_true}
+use Rattle.crash_core.proofs.PickedLemmas.{roots_of}
+use Rattle.heap_rule.specs.declared.owned.Stake.TheVariants as stake
+use Rattle.heap_rule.specs.declared.owned.Owned.{Owned}
+use Rattle.heap_rule.specs.Owned.{most_blocks, stake_for, opened_parts, parts_of, Parts, IsStake, HasOwned, times_had}
+use Rattle.heap_rule.specs.Rule.{opening_of, opened_view_of}
+use Rattle.heap_rule.specs.Plays.{Has}
+use Rattle.heap_rule.proofs.ViewLemmas.{block_below}
+
+-- the view of a seat of the opened heap is one of a sound state
+opened_has : (heap : Contents) (owners : OwnerLists) (seats seat : ℕ) → IsReady heap.words heap.held → AreOwners heap.held seats owners.held owners.roots → seat < seats
+    → Has (opened_view (setup_of heap.words 0) heap.held owners.held owners.roots seat)
+opened_has heap owners seats seat ready are less = record {
+  words = (opened_state (setup_of heap.words 0) heap.held owners.held owners.roots seats).words;
+  views = tabulate V 0 seats;
+  seat = seat;
+  sound = opened heap.words heap.held 0 seats owners.held owners.roots ready are;
+  below = (let l = length_tabulate V 0 seats in omega arith);
+  at = tabulate_at V 0 seats seat (V seat) less ∙ ap V (let e : 0 + seat ≡ seat = omega arith in e);
+} where
+  V : ℕ → View
+  V = opened_view (setup_of heap.words 0) heap.held owners.held owners.roots
+
+-- the parts that a seat is opened with, by the key of the table
+pub opened_parts_are : (heap : Contents) (owners : OwnerLists) (seats budget i : ℕ) → parts_of (opened_view_of (opening_of heap owners seats budget) i) ≡ opened_parts heap owners i
+opened_parts_are heap owners seats budget i = refl
+
+none_cached : (n b : ℕ) → total (times b) (replicate n []) ≡ 0
+none_cached zero b = refl
+none_cached (suc n) b = let rest = none_cached n b in omega arith
+
+-- a share of a heap at rest as a stake
+stake_of_share : (d : ℕ) (x : Share) (p : Parts) → IsShare d x p.raw p.split p.cutting p.classed p.large → IsStake d (stake_for x) p
+stake_of_share d share.Nothing p is = record { unclassed = (let a = is.is_raw in let b = is.is_split in let c = is.is_cutting in omega arith); is_classed = is.is_classed; class = is.class; is_large = is.is_large; count = is.count }
+stake_of_share d share.Raw p is = record { unclassed = (let a = is.is_raw in let b = is.is_split in let c = is.is_cutting in omega arith); is_classed = is.is_classed; class = is.class; is_large = is.is_large; count = is.count }
+stake_of_share d share.Split p is = record { unclassed = (let a = is.is_raw in let b = is.is_split in let c = is.is_cutting in omega arith); is_classed = is.is_classed; class = is.class; is_large = is.is_large; count = is.count }
+stake_of_share d share.Cutting p is = record { unclassed = (let a = is.is_raw in let b = is.is_split in let c = is.is_cutting in omega arith); is_classed = is.is_classed; class = is.class; is_large = is.is_large; count = is.count }
+stake_of_share d (share.Classed class) p is = record { unclassed = (let a = is.is_raw in let b = is.is_split in let c = is.is_cutting in omega arith); is_classed = is.is_classed; class = is.class; is_large = is.is_large; count = is.count }
+stake_of_share d (share.Large count) p is = record { unclassed = (let a = is.is_raw in let b = is.is_split in let c = is.is_cutting in omega arith); is_classed = is.is_classed; class = is.class; is_large = is.is_large; count = is.count }
+
+-- what was gathered of a seat
+pub record IsGathered (heap : Contents) (owners : OwnerLists) (seat : ℕ) (blocks : List BlockOwner) (superblocks : List SuperblockOwner) (o : Owned) : Type 0 where
+  pub words_long : length o.blocks.items ≡ length blocks
+  pub blocks_are : (n : ℕ) → one_if (get_or o.blocks.items n false) ≡ held_in (place_for seat (get_or blocks n no_block))
+  pub classes_long : length o.classes.items ≡ slice_index heap.words capacity_word
+  pub classes_are : (d : ℕ) → d < length o.classes.items → get_or o.classes.items d 0 ≡ slice_index heap.words (info_word d)
+  pub stakes_long : length o.stakes.items ≡ length superblocks
+  pub stakes_are : (n : ℕ) → get_or o.stakes.items n stake.Nothing ≡ stake_for (share_for seat (get_or superblocks n no_superblock))
+  pub roots_long : length o.roots.items ≡ length owners.roots
+  pub roots_are : (n : ℕ) → one_if (get_or o.roots.items n false) ≡ one_if (nat_eq (get_or owners.roots n (seat + 1)) seat)
+  pub batch : o.batch.items ≡ []
+  pub room : most_blocks ≤ vec_capacity o.batch
+
+pub gathered : (heap : Contents) (owners : OwnerLists) (seats seat : ℕ) (blocks : List BlockOwner) (superblocks : List SuperblockOwner) (o : Owned) → IsReady heap.words heap.held → AreOwners heap.held seats owners.held owners.roots → seat < seats
+    → AreBlockOwners heap.words heap.held owners.held blocks → AreSuperblockOwners heap.words heap.held owners.held superblocks → IsGathered heap owners seat blocks superblocks o → HasOwned o (opened_parts heap owners seat)
+gathered heap owners seats seat blocks superblocks o ready are less are_blocks are_superblocks g = record {
+  words_long = g.words_long ∙ are_blocks.long;
+  classes_long = g.classes_long;
+  stakes_long = g.stakes_long ∙ are_superblocks.long;
+  roots_long = g.roots_long ∙ are.roots_all;
+  blocks = λ n. one_true (get_or o.blocks.items n false) (times_had n p) (g.blocks_are n ∙ (let h = are_blocks.each seat n in let e = h.held in let z = none_cached lists n in omega arith));
+  classes = record {
+    held = λ class b there. elim (cases_lt class lists) [
+      | inl some ↦ class_at class b some there
+      | inr past ↦ absurd (let z = beyond p.small class b (let l = length_tabulate small_at 0 lists in omega arith) in omega arith)
+    ];
+    cached = λ class b there. absurd (let z = empty_at lists class b in omega arith);
+    batched = λ b there. absurd (omega arith);
+  };
+  stakes = λ d. subst (λ x. IsStake d x p) (sym (g.stakes_are d)) (stake_of_share d (share_for seat (get_or superblocks d no_superblock)) p (are_superblocks.each seat d));
+  roots_are = λ n. one_true (get_or o.roots.items n false) (times n p.roots) (g.roots_are n ∙ sym (roots_of seat roots owners.roots are.roots_all n));
+  batch = g.batch;
+  room = g.room;
+} where
+  p : Parts
+  p = opened_parts heap owners seat
+
+  v : View
+  v = opened_view (setup_of heap.words 0) heap.held owners.held owners.roots seat
+
+  info_of : ℕ → ℕ
+  info_of d = slice_index heap.words (info_word d)
+
+  small_at : ℕ → List ℕ
+  small_at class = small_blocks (slice_index heap.words capacity_word) (λ d. slice_index heap.words (info_word d)) class (picked seat heap.held owners.held)
+
+  class_at : (class b : ℕ) → class < lists → 0 < times b (of_class p.small class) → get_or o.classes.items (superblock_at p.capacity b) 0 ≡ class
+  class_at class b some there =
+      let low = block_below v (opened_has heap owners seats seat ready are less) b (let t = in_lists_total b class p.small there in omega arith) in
+      g.classes_are (superblock_at p.capacity b) (let l = g.classes_long in omega arith)
+      ∙ small_member p.capacity (λ d. slice_index heap.words (info_word d)) class b (picked seat heap.held owners.held)
+      (subst (λ xs. 0 < times b xs) (tabulate_at small_at 0 lists class [] some ∙ ap small_at (let e : 0 + class ≡ class = omega arith in e)) there)
+
+-- an entry more
+pub entry_more : {A : Type 0} (P : ℕ → A → Type 0) (xs : List A) (i : ℕ) (x d : A) → i < length xs → ((n : ℕ) → n < i → P n (get_or xs n d)) → P i x → (n : ℕ) → n < i + 1 → P n (get_or (set xs i x) n d)
+entry_more P xs i x d inside before here n less = elim (cases_eq n i) as (λ _. P n (get_or (set xs i x) n d)) [
+  | inl same ↦ subst (λ k. P k (get_or (set xs i x) k d)) (sym same) (subst (P i) (sym (get_or-set_same xs i x d inside)) here)
+  | inr other ↦ subst (P n) (sym (get_or-set_other xs i n x d other)) (before n (omega arith))
+]
+
+past_end : {A : Type 0} (ys : List A) (k : ℕ) (d : A) → length ys ≤ k → get_or ys k d ≡ d
+past_end [] k d past = refl
+past_end (y ∷ ys) zero d past = absurd (omega arith)
+past_end (y ∷ ys) (suc k) d past = past_end ys k d (omega arith)
+
+-- and past the end there is nothing
+pub entry_past : {A : Type 0} (P : ℕ → A → Type 0) (xs : List A) (i : ℕ) (d : A) → length xs ≤ i → ((n : ℕ) → n < i → P n (get_or xs n d)) → ((n : ℕ) → length xs ≤ n → P n d) → (n : ℕ) → P n (get_or xs n d)
+entry_past P xs i d long before past n = elim (cases_lt n i) [
+  | inl less ↦ before n less
+  | inr more ↦ subst (P n) (sym (past_end xs n d (omega arith))) (past n (omega arith))
+]
+
+-- a list with one more entry
+snoc_at : {A : Type 0} (xs : List A) (x o : A) (i : ℕ) → i ≡ length xs → get_or (xs ++ x ∷ []) i o ≡ x
+snoc_at [] x o zero is = refl
+snoc_at [] x o (suc i) is = absurd (omega arith)
+snoc_at (y ∷ ys) x o zero is = absurd (omega arith)
+snoc_at (y ∷ ys) x o (suc i) is = snoc_at ys x o i (omega arith)
+
+pub each_snoc : {A : Type 0} (P : ℕ → A → Type 0) (xs : List A) (x : A) (n : ℕ) → length xs ≡ n → ((i : ℕ) (o : A) → i < n → get_or xs i o ≡ o → P i o) → P n x
+    → (i : ℕ) (o : A) → i < n + 1 → get_or (xs ++ x ∷ []) i o ≡ o → P i o
+each_snoc P xs x n long before here i o less at = elim (cases_lt i n) [
+  | inl early ↦ before i o early (sym (get_or_append_left xs (x ∷ []) o i (omega arith)) ∙ at)
+  | inr late ↦ let last : i ≡ n = omega arith in subst (λ k. P k o) (sym last) (subst (P n) (sym (snoc_at xs x o i (last ∙ sym long)) ∙ at) here)
+]
+
+-- a list without its first entry
+pub each_rest : {A : Type 0} (P : ℕ → A → Type 0) (old rest : List A) (x : A) (n : ℕ) → old ≡ x ∷ rest → ((k : ℕ) (o : A) → k < length old → get_or old k o ≡ o → P (n + k) o)
+    → (P n x) × ((k : ℕ) (o : A) → k < length rest → get_or rest k o ≡ o → P (n + 1 + k) o)
+each_rest P old rest x n is each = (
+  subst (λ k. P k x) (let e : n + 0 ≡ n = omega arith in e) (each 0 x (let l = ap length is in omega arith) (ap (λ l. get_or l 0 x) is)),
+  λ k o less at. subst (λ j. P j o) (let e : n + suc k ≡ n + 1 + k = omega arith in e) (each (suc k) o (let l = ap length is in omega arith) (ap (λ l. get_or l (suc k) o) is ∙ at)),
+)

@@ -1,0 +1,148 @@
+-- What a seat keeps to tell its own words, after each change of its parts.
+use Rattle.std.specs.Vec.{vec_capacity}
+use Rattle.std.proofs.Common.{◌≡◌, ℕ, ◌<◌, ◌≤◌, Bool, true, nat_lt, Some, List, [], ◌∷◌, ◌++◌, get_or, set, length, refl, ap, sym, subst, ◌∙◌, length-set, Vec, Global, arith}
+use Rattle.heap_model.specs.Sizes.{IsClass}
+use Rattle.heap_model.specs.Counting.{times, without}
+use Rattle.core_model.specs.declared.event.Shift.TheVariants.{Cut, Alloc, Free, Lift, Large, Split}
+use Rattle.core_model.specs.Cells.{superblock_at}
+use Rattle.core_model.specs.Memory.{Memory, memory_of, used, info}
+use Rattle.core_model.specs.View.{View, of_class, times_raw}
+use Rattle.core_model.specs.Effects.{steps, drew, shifted, class_blocks, first_of, span_count, without_range, without_span}
+use Rattle.core_model.specs.Guards.{MayAlloc, MaySplit}
+use Rattle.core_model.specs.Sound.{Good}
+use Rattle.core_model.proofs.BlockLemmas.{superblock_is, first_there}
+use Rattle.core_model.proofs.OwnLemmas.{one_at_most}
+use Rattle.core_model.proofs.SpanLemmas.{block_of}
+use Rattle.core_model.proofs.TotalLemmas.{total_at}
+use Rattle.heap_rule.specs.declared.owned.Stake.{Stake}
+use Rattle.heap_rule.specs.declared.owned.Stake.TheVariants as stake
+use Rattle.heap_rule.specs.declared.owned.Owned.{Owned}
+use Rattle.heap_rule.specs.Owned.{Parts, parts_of, IsStake, IsStaking, IsMarking, AreClasses, HasOwned, times_had}
+use Rattle.heap_rule.specs.Plays.{Has}
+use Rattle.heap_rule.specs.Shown.{CanFree, CanLift, CanCut, CanHoldLarge}
+use Rattle.heap_rule.proofs.BlockMarks.{marked_alike, marked_more, alloc_times, alloc_classes, lift_times, lift_classes, free_times, free_classes, cached_times, cached_classes}
+use Rattle.heap_rule.proofs.OwnedLemmas.{cut_stakes, large_stakes, split_stakes}
+use Rattle.heap_rule.proofs.OwnedSteps.{staked, taken_below}
+use Rattle.heap_rule.proofs.ShiftLemmas.{free_info, free_class, cut_info}
+use Rattle.heap_rule.proofs.ViewLemmas.{block_cut}
+
+-- where blocks go from one place to another, and the seat's are the same
+moved : (o : Owned) (batch : Vec ℕ Global) (p : Parts) (small caches : List (List ℕ)) (blocks : List ℕ) (class : ℕ) → HasOwned o p
+    → ((b : ℕ) → times_had b (record p { small = small; caches = caches; batch = blocks; batch_class = class }) ≡ times_had b p)
+    → AreClasses o.classes.items (record p { small = small; caches = caches; batch = blocks; batch_class = class }) → batch.items ≡ blocks → vec_capacity batch ≡ vec_capacity o.batch
+    → HasOwned (record o { batch = batch }) (record p { small = small; caches = caches; batch = blocks; batch_class = class })
+moved o batch p small caches blocks class own same classes batch_is room = record {
+  words_long = own.words_long;
+  classes_long = own.classes_long;
+  stakes_long = own.stakes_long;
+  roots_long = own.roots_long;
+  blocks = marked_alike o.blocks.items (λ b. times_had b p) (λ b. times_had b (record p { small = small; caches = caches; batch = blocks; batch_class = class })) same own.blocks;
+  classes = classes;
+  stakes = λ e. let b = own.stakes e in record { unclassed = b.unclassed; is_classed = b.is_classed; class = b.class; is_large = b.is_large; count = b.count };
+  roots_are = own.roots_are;
+  batch = batch_is;
+  room = (let r = own.room in omega arith);
+}
+
+module _ (v : View) (s : Has v) (o : Owned) (own : HasOwned o (parts_of v)) (found : ℕ) where
+  abbrev m : Memory
+  m = memory_of v.setup.capacity s.words
+
+  abbrev good : Good v.setup m s.views
+  good = s.sound.good
+
+  less_caches : (class : ℕ) → IsClass class → class < length v.caches
+  less_caches class is = let l = (good.set_up s.seat v s.below s.at).caches in let c = is.last in omega arith
+
+  less_small : (class : ℕ) → IsClass class → class < length v.small
+  less_small class is = let l = (good.set_up s.seat v s.below s.at).small in let c = is.last in omega arith
+
+  pub alloc_owned : (class : ℕ) → MayAlloc v class → HasOwned o (parts_of (shifted m (drew v found) (Some (Alloc class))))
+  alloc_owned class may = moved o o.batch (parts_of v) _ _ v.batch.blocks v.batch.class own
+      (alloc_times (parts_of v) class (less_small class may.is_class) (less_caches class may.is_class) may.cached)
+      (alloc_classes (parts_of v) class (less_small class may.is_class) (less_caches class may.is_class) may.cached o.classes.items own.classes) own.batch refl
+
+  pub free_owned : (block : ℕ) → CanFree v block → HasOwned o (parts_of (shifted m (drew v found) (Some (Free block))))
+  free_owned block can = subst (λ n. HasOwned o (record (parts_of v) { small = set v.small n (without block (of_class v.small n)); caches = set v.caches n (block ∷ of_class v.caches n) })) (sym (free_info v s block can))
+      (moved o o.batch (parts_of v) _ _ v.batch.blocks v.batch.class own (free_times (parts_of v) can.class block small caches can.held) (free_classes (parts_of v) can.class block small caches can.held o.classes.items own.classes) own.batch refl) where
+        small : can.class < length v.small
+        small = less_small can.class (free_class v s block can)
+
+        caches : can.class < length v.caches
+        caches = less_caches can.class (free_class v s block can)
+
+  pub lift_owned : (class : ℕ) (batch : Vec ℕ Global) → CanLift v class → batch.items ≡ o.batch.items ++ first_of (of_class v.caches class) ∷ [] → vec_capacity batch ≡ vec_capacity o.batch
+      → HasOwned (record o { batch = batch }) (parts_of (shifted m (drew v found) (Some (Lift class))))
+  lift_owned class batch can batch_is room = moved o batch (parts_of v) v.small _ _ class own (lift_times (parts_of v) class small caches can.cached)
+      (lift_classes (parts_of v) class small caches can.cached o.classes.items same own.classes) (batch_is ∙ ap (λ l. l ++ first_of (of_class v.caches class) ∷ []) own.batch) room where
+        small : class < length v.small
+        small = less_small class can.is_class
+
+        caches : class < length v.caches
+        caches = less_caches class can.is_class
+
+        same : 1 ≤ length v.batch.blocks → v.batch.class ≡ class
+        same some = let h = good.blocks s.seat v s.below s.at in let q = h.batched (first_of v.batch.blocks) (first_there v.batch.blocks some) in
+            sym q.1 ∙ ap (info m) (can.same some) ∙ h.cached class (first_of (of_class v.caches class)) (first_there (of_class v.caches class) can.cached)
+
+  pub cut_owned : (d class : ℕ) (blocks : Vec Bool Global) (classes : Vec ℕ Global) (stakes : Vec Stake Global) (can : CanCut v d) → class ≡ can.class
+      → IsMarking o.blocks.items blocks.items (class_blocks v.setup.capacity class d) true → classes.items ≡ set o.classes.items d class → stakes.items ≡ set o.stakes.items d stake.Nothing
+      → HasOwned (record o { blocks = blocks; classes = classes; stakes = stakes }) (parts_of (shifted m (drew v found) (Some (Cut d))))
+  cut_owned d class blocks classes stakes can class_is marking classes_are stakes_are =
+      subst (λ n. HasOwned (record o { blocks = blocks; classes = classes; stakes = stakes }) (record (parts_of v) { caches = set v.caches n (class_blocks v.setup.capacity n d); cutting = without d v.cutting })) info_is (record {
+        words_long = marking.long ∙ own.words_long;
+        classes_long = ap length classes_are ∙ length-set o.classes.items d class ∙ own.classes_long;
+        stakes_long = ap length stakes_are ∙ length-set o.stakes.items d stake.Nothing ∙ own.stakes_long;
+        roots_long = own.roots_long;
+        blocks = marked_more o.blocks.items blocks.items (λ b. times_had b (parts_of v)) _ cs marking (cached_times (parts_of v) class d cs caches empty) own.blocks;
+        classes = (let a = cached_classes (parts_of v) class d cs caches empty o.classes.items (let l = own.classes_long in let t = less in omega arith) of_d none own.classes in
+            subst (λ l. AreClasses l (record (parts_of v) { caches = set v.caches class cs; cutting = without d v.cutting })) (sym classes_are) (record { held = a.held; cached = a.cached; batched = a.batched }));
+        stakes = (let a = cut_stakes o.stakes.items (parts_of v) d (let l = own.stakes_long in let t = less in omega arith) can.cutting own.stakes in
+            subst (λ l. (e : ℕ) → IsStake e (get_or l e stake.Nothing) (record (parts_of v) { caches = set v.caches class cs; cutting = without d v.cutting })) (sym stakes_are)
+            (λ e. let b = a e in record { unclassed = b.unclassed; is_classed = b.is_classed; class = b.class; is_large = b.is_large; count = b.count }));
+        roots_are = own.roots_are;
+        batch = own.batch;
+        room = own.room;
+      }) where
+        cs : List ℕ
+        cs = class_blocks v.setup.capacity class d
+
+        is : IsClass class
+        is = subst IsClass (sym class_is) can.is_class
+
+        info_is : class ≡ info m d
+        info_is = class_is ∙ sym (cut_info v s d can)
+
+        caches : class < length v.caches
+        caches = less_caches class is
+
+        empty : of_class v.caches class ≡ []
+        empty = ap (of_class v.caches) class_is ∙ can.uncached
+
+        less : d < v.setup.capacity
+        less = taken_below v s d (let c = can.cutting in omega arith)
+
+        of_d : (b : ℕ) → 0 < times b cs → superblock_at v.setup.capacity b ≡ d
+        of_d b some = superblock_is v.setup.capacity class d b is (block_of v.setup.capacity class d b some)
+
+        none : (b : ℕ) → 0 < times_had b (parts_of v) → superblock_at v.setup.capacity b ≡ d → get_or o.classes.items d 0 ≡ class
+        none b had here = absurd (let c = (block_cut v s b had).0 in let p = good.shaped.placed.one_place (superblock_at v.setup.capacity b) in let most = one_at_most (nat_lt (superblock_at v.setup.capacity b) (used m)) in
+            let t = total_at (times_raw (superblock_at v.setup.capacity b)) s.views s.seat v s.below s.at in let c2 = subst (λ n. 0 < times n v.cutting) (sym here) can.cutting in omega arith)
+
+  pub large_owned : (d n : ℕ) (rest : List Stake) (stakes : Vec Stake Global) → CanHoldLarge v d n → IsStaking o.stakes.items rest d n (stake.Large 0) → stakes.items ≡ set rest d (stake.Large n)
+      → HasOwned (record o { stakes = stakes }) (parts_of (shifted m (drew v found) (Some (Large d n))))
+  large_owned d n rest stakes can staking stakes_are = staked o stakes (parts_of v) (without_range d n v.raw) (without_range d n v.split) v.cutting v.classed (record { first = d; count = n } ∷ v.large) own
+      (ap length stakes_are ∙ length-set rest d (stake.Large n) ∙ staking.long)
+      (subst (λ l. (e : ℕ) → IsStake e (get_or l e stake.Nothing) (record (parts_of v) { large = record { first = d; count = n } ∷ v.large; raw = without_range d n v.raw; split = without_range d n v.split })) (sym stakes_are)
+      (large_stakes o.stakes.items rest (parts_of v) d n can.some less staking own.stakes (λ e low high. (can.each e low high).claimed))) where
+        less : d < length rest
+        less = let c = can.some in let g = (can.each d (omega arith) (omega arith)).claimed in let t = taken_below v s d (omega arith) in let l = staking.long in let k = own.stakes_long in omega arith
+
+  pub split_owned : (block d n : ℕ) (stakes : Vec Stake Global) → MaySplit v block → d ≡ superblock_at v.setup.capacity block → n ≡ span_count d v.large → IsStaking o.stakes.items stakes.items d n stake.Unclassed
+      → HasOwned (record o { stakes = stakes }) (parts_of (shifted m (drew v found) (Some (Split block))))
+  split_owned block d n stakes may d_is n_is staking = subst (λ e. HasOwned (record o { stakes = stakes }) (record (parts_of v) { large = without_span e v.large; split = v.split ++ steps e 1 (span_count e v.large) })) d_is
+      (subst (λ c. HasOwned (record o { stakes = stakes }) (record (parts_of v) { large = without_span d v.large; split = v.split ++ steps d 1 c })) n_is
+      (staked o stakes (parts_of v) v.raw (v.split ++ steps d 1 n) v.cutting v.classed (without_span d v.large) own staking.long
+      (split_stakes o.stakes.items stakes.items (parts_of v) d n n_is some staking own.stakes))) where
+        some : 1 ≤ n
+        some = let h = subst (λ e. 1 ≤ span_count e v.large) (sym d_is) may.held in omega (arith, h, n_is)

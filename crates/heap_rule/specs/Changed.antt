@@ -1,0 +1,66 @@
+-- A change of what a seat keeps to tell its own words, which goes with a shift.
+use Rattle.std.specs.Prelude.{◌≡◌, ℕ, ◌+◌, ◌<◌, ◌≤◌, true, List, [], ◌∷◌, ◌++◌, set, length, Option, ⊤}
+use Rattle.std.specs.Vec.{vec_capacity}
+use Rattle.heap_model.specs.Counting.{times}
+use Rattle.heap_model.specs.Sizes.{IsClass}
+use Rattle.core_model.specs.declared.event.Shift.{Shift}
+use Rattle.core_model.specs.Memory.{memory_of}
+use Rattle.core_model.specs.View.{View}
+use Rattle.core_model.specs.Effects.{class_blocks, shifted, drew}
+use Rattle.heap_rule.specs.declared.owned.Stake.{Stake}
+use Rattle.heap_rule.specs.declared.owned.Stake.TheVariants as stake
+use Rattle.heap_rule.specs.declared.owned.Change.{Change}
+use Rattle.heap_rule.specs.declared.owned.Change.TheVariants as change
+use Rattle.heap_rule.specs.declared.owned.Owned.{Owned}
+use Rattle.heap_rule.specs.Owned.{IsMarking, IsStaking, HasOwned, parts_of}
+use Rattle.heap_rule.specs.Plays.{Has}
+
+-- a superblock of the image that may be cut for the class
+pub record CanCutIn (o : Owned) (capacity d class : ℕ) : Type 0 where
+  pub is_class : IsClass class
+  pub below : d < capacity
+  pub small : capacity ≤ 4096
+  pub classes : d < length o.classes.items
+  pub stakes : d < length o.stakes.items
+  pub blocks : (b : ℕ) → 0 < times b (class_blocks capacity class d) → b < length o.blocks.items
+  pub fits : length o.blocks.items < 2147483648
+
+abbrev pub CanChange : Change → ℕ → Owned → Type 0
+CanChange change.Nothing capacity o = ⊤
+CanChange (change.Lifted block) capacity o = length o.batch.items < vec_capacity o.batch
+CanChange (change.Cut d class) capacity o = CanCutIn o capacity d class
+CanChange (change.Large d n) capacity o = (1 ≤ n) × (d + n ≤ length o.stakes.items)
+CanChange (change.Split d n) capacity o = d + n ≤ length o.stakes.items
+
+pub record IsLifted (o o' : Owned) (block : ℕ) : Type 0 where
+  pub others : o' ≡ record o { batch = o'.batch }
+  pub batch : o'.batch.items ≡ o.batch.items ++ block ∷ []
+  pub room : vec_capacity o'.batch ≡ vec_capacity o.batch
+
+pub record IsCutIn (o o' : Owned) (capacity d class : ℕ) : Type 0 where
+  pub others : o' ≡ record o { blocks = o'.blocks; classes = o'.classes; stakes = o'.stakes }
+  pub blocks : IsMarking o.blocks.items o'.blocks.items (class_blocks capacity class d) true
+  pub classes : o'.classes.items ≡ set o.classes.items d class
+  pub stakes : o'.stakes.items ≡ set o.stakes.items d stake.Nothing
+
+pub record IsLargeIn (o o' : Owned) (d n : ℕ) : Type 0 where
+  pub others : o' ≡ record o { stakes = o'.stakes }
+  pub rest : List Stake
+  pub staking : IsStaking o.stakes.items rest d n (stake.Large 0)
+  pub first : o'.stakes.items ≡ set rest d (stake.Large n)
+
+pub record IsSplitIn (o o' : Owned) (d n : ℕ) : Type 0 where
+  pub others : o' ≡ record o { stakes = o'.stakes }
+  pub staking : IsStaking o.stakes.items o'.stakes.items d n stake.Unclassed
+
+abbrev pub IsChanged : Change → ℕ → Owned → Owned → Type 0
+IsChanged change.Nothing capacity o o' = o' ≡ o
+IsChanged (change.Lifted block) capacity o o' = IsLifted o o' block
+IsChanged (change.Cut d class) capacity o o' = IsCutIn o o' capacity d class
+IsChanged (change.Large d n) capacity o o' = IsLargeIn o o' d n
+IsChanged (change.Split d n) capacity o o' = IsSplitIn o o' d n
+
+-- the change may be done, and then what is kept is that of the view after a draw with the shift
+abbrev pub FitsChange : Change → View → Option Shift → Type 0
+FitsChange c v shift = (o : Owned) → HasOwned o (parts_of v) → CanChange c v.setup.capacity o × ((s : Has v) (found : ℕ) (o' : Owned)
+    → IsChanged c v.setup.capacity o o' → HasOwned o' (parts_of (shifted (memory_of v.setup.capacity s.words) (drew v found) shift)))

@@ -1,0 +1,134 @@
+-- What a seat keeps to tell which words are its own: how it fits the view.
+use Rattle.std.specs.Prelude.{◌≡◌, ℕ, zero, suc, ◌+◌, ◌<◌, ◌≤◌, ◌↔◌, Bool, true, false, List, get_or, length}
+use Rattle.std.specs.Vec.{vec_capacity}
+use Rattle.heap_model.specs.Counting.{times, total}
+use Rattle.heap_model.specs.Geometry.{roots, image_words}
+use Rattle.core_model.specs.Cells.{superblock_at}
+use Rattle.core_model.specs.View.{View, Claim, Span, of_class, times_classed, times_large}
+use Rattle.core_model.specs.Effects.{claim_class, span_count}
+use Rattle.core_model.specs.Opening.{setup_of, opened_view}
+use Rattle.super_block.specs.Contents.{Contents}
+use Rattle.crash_core.specs.OwnerLists.{OwnerLists}
+use Rattle.crash_core.specs.declared.owners.Share.{Share}
+use Rattle.crash_core.specs.declared.owners.Share.TheVariants as share
+use Rattle.heap_rule.specs.declared.owned.Stake.{Stake}
+use Rattle.heap_rule.specs.declared.owned.Stake.TheVariants as stake
+use Rattle.heap_rule.specs.declared.owned.Owned.{Owned}
+
+-- how often a superblock with this stake is claimed without a class, and with one, and which; how often a large block takes it, and how many superblocks the one that begins there takes
+abbrev pub unclassed_in : Stake → ℕ
+unclassed_in stake.Unclassed = 1
+unclassed_in x = 0
+
+abbrev pub classed_in : Stake → ℕ
+classed_in (stake.Classed class) = 1
+classed_in x = 0
+
+abbrev pub class_in : Stake → ℕ
+class_in (stake.Classed class) = class
+class_in x = 0
+
+abbrev pub large_in : Stake → ℕ
+large_in (stake.Large count) = 1
+large_in x = 0
+
+abbrev pub count_in : Stake → ℕ
+count_in (stake.Large count) = count
+count_in x = 0
+
+-- the stake in a superblock that comes from a list
+abbrev pub listed : ℕ → Stake
+listed zero = stake.Unclassed
+listed (suc n) = stake.Classed (suc n)
+
+-- of a view, what tells which words are its own
+pub record Parts : Type 0 where
+  pub capacity : ℕ
+  pub small : List (List ℕ)
+  pub caches : List (List ℕ)
+  pub batch : List ℕ
+  pub batch_class : ℕ
+  pub raw : List ℕ
+  pub split : List ℕ
+  pub cutting : List ℕ
+  pub classed : List Claim
+  pub large : List Span
+  pub roots : List ℕ
+
+abbrev pub parts_of : View → Parts
+parts_of v = record {
+  capacity = v.setup.capacity;
+  small = v.small;
+  caches = v.caches;
+  batch = v.batch.blocks;
+  batch_class = v.batch.class;
+  raw = v.raw;
+  split = v.split;
+  cutting = v.cutting;
+  classed = v.classed;
+  large = v.large;
+  roots = v.roots;
+}
+
+-- how often a small block is the seat's
+abbrev pub times_had : ℕ → Parts → ℕ
+times_had b p = total (times b) p.small + total (times b) p.caches + times b p.batch
+
+-- the stake in superblock d is as it is said
+pub record IsStake (d : ℕ) (x : Stake) (p : Parts) : Type 0 where
+  pub unclassed : times d p.raw + times d p.split + times d p.cutting ≡ unclassed_in x
+  pub is_classed : times_classed d p.classed ≡ classed_in x
+  pub class : claim_class d p.classed ≡ class_in x
+  pub is_large : times_large d p.large ≡ large_in x
+  pub count : span_count d p.large ≡ count_in x
+
+-- each block of the seat's is in a superblock of its class
+pub record AreClasses (classes : List ℕ) (p : Parts) : Type 0 where
+  pub held : (class b : ℕ) → 0 < times b (of_class p.small class) → get_or classes (superblock_at p.capacity b) 0 ≡ class
+  pub cached : (class b : ℕ) → 0 < times b (of_class p.caches class) → get_or classes (superblock_at p.capacity b) 0 ≡ class
+  pub batched : (b : ℕ) → 0 < times b p.batch → get_or classes (superblock_at p.capacity b) 0 ≡ p.batch_class
+
+-- a test for each number that counts
+abbrev pub AreMarked : List Bool → (ℕ → ℕ) → Type 0
+AreMarked marks counts = (n : ℕ) → (get_or marks n false ≡ true) ↔ (0 < counts n)
+
+-- the most blocks of a superblock
+abbrev pub most_blocks : ℕ
+most_blocks = 4096
+
+pub record HasOwned (o : Owned) (p : Parts) : Type 0 where
+  pub words_long : length o.blocks.items ≡ image_words p.capacity
+  pub classes_long : length o.classes.items ≡ p.capacity
+  pub stakes_long : length o.stakes.items ≡ p.capacity
+  pub roots_long : length o.roots.items ≡ roots
+  pub blocks : AreMarked o.blocks.items (λ b. times_had b p)
+  pub classes : AreClasses o.classes.items p
+  pub stakes : (d : ℕ) → IsStake d (get_or o.stakes.items d stake.Nothing) p
+  pub roots_are : AreMarked o.roots.items (λ i. times i p.roots)
+  pub batch : o.batch.items ≡ p.batch
+  pub room : most_blocks ≤ vec_capacity o.batch
+
+-- some numbers have this mark, and all others keep theirs
+pub record IsMarking (old new : List Bool) (numbers : List ℕ) (mark : Bool) : Type 0 where
+  pub long : length new ≡ length old
+  pub inside : (n : ℕ) → 0 < times n numbers → get_or new n false ≡ mark
+  pub outside : (n : ℕ) → times n numbers ≡ 0 → get_or new n false ≡ get_or old n false
+
+-- n superblocks from one on have this stake, and all others keep theirs
+pub record IsStaking (old new : List Stake) (from n : ℕ) (x : Stake) : Type 0 where
+  pub long : length new ≡ length old
+  pub inside : (d : ℕ) → from ≤ d → d < from + n → get_or new d stake.Nothing ≡ x
+  pub outside : (d : ℕ) → (from ≤ d → d < from + n → ⊥) → get_or new d stake.Nothing ≡ get_or old d stake.Nothing
+
+-- the stake that a share is, of a heap at rest
+abbrev pub stake_for : Share → Stake
+stake_for share.Nothing = stake.Nothing
+stake_for share.Raw = stake.Unclassed
+stake_for share.Split = stake.Unclassed
+stake_for share.Cutting = stake.Unclassed
+stake_for (share.Classed class) = stake.Classed class
+stake_for (share.Large count) = stake.Large count
+
+-- the parts of a seat as a heap at rest is opened, whatever the budget
+abbrev pub opened_parts : Contents → OwnerLists → ℕ → Parts
+opened_parts heap owners seat = parts_of (opened_view (setup_of heap.words 0) heap.held owners.held owners.roots seat)

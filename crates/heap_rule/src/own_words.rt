@@ -1,0 +1,52 @@
+//! Which words are a seat's own.
+
+ghost use Rattle.std.specs.Prelude.{◌≡◌, ◌<◌, ◌≤◌, ◌↔◌, true};
+ghost use Rattle.heap_model.specs.Geometry.{start_word, image_words};
+ghost use Rattle.core_model.specs.Cells.{cell_at, data_cell};
+ghost use Rattle.core_model.specs.Guards.{IsOwn};
+
+use crate::seat::Seat;
+use crash_core::{Part, part_at};
+use size_table::size_of;
+use super_block::{LAST_CLASS, SUPERBLOCK_WORDS, WORD_BYTES};
+
+impl Seat {
+    /// Whether a word is the seat's own.
+    pub(crate) fn owns(&self, word: u64) -> bool
+        ensures { (result ≡ true)
+            ↔ IsOwn self.now.view (cell_at self.now.view.setup.capacity word) }
+    {
+        match part_at(self.geometry, word) {
+            Part::Shared => false,
+            Part::Root { i } => self.owned.roots[i as usize],
+            Part::Info { d } => self.owned.stakes[d as usize].is_unclassed(),
+            Part::Anchor { d } => self.owned.stakes[d as usize].is_unclassed(),
+            Part::Link { d } => self.owned.stakes[d as usize].is_claimed(),
+            Part::Data { word } => self.owns_data(word),
+        }
+    }
+
+    /// Whether a word of a superblock is: all are of one that is claimed without a class or is part
+    /// of a large block; of others, those of the seat's small blocks.
+    fn owns_data(&self, word: u64) -> bool
+        requires from { start_word self.now.view.setup.capacity 0 ≤ word }
+        requires until { word < image_words self.now.view.setup.capacity }
+        ensures { (result ≡ true) ↔ IsOwn self.now.view (data_cell word) }
+    {
+        let d = (word - self.geometry.start(0)) / SUPERBLOCK_WORDS;
+        if self.owned.stakes[d as usize].has_words() {
+            return true;
+        }
+        let class = self.owned.classes[d as usize];
+        if class == 0 {
+            return false;
+        }
+        if class > LAST_CLASS {
+            return false;
+        }
+        let words = size_of(class as u8) / WORD_BYTES;
+        let start = self.geometry.start(d);
+        let block = start + (word - start) / words * words;
+        self.owned.blocks[block as usize]
+    }
+}
