@@ -16,6 +16,7 @@ use Rattle.core_model.specs.Guards.{IsOwn}
 use Rattle.core_model.specs.Held.{IsHeld, a_small, a_large}
 use Rattle.core_model.specs.Sound.{Good, IsCutBlock}
 use Rattle.core_model.proofs.BlockLemmas.{superblock_is}
+use Rattle.core_model.proofs.LinkFrameLemmas.{span_covers}
 use Rattle.core_model.proofs.OwnLemmas.{one_at_most}
 use Rattle.core_model.proofs.OwnerLemmas.{in_blocks, covered, which_class, in_lists_total}
 use Rattle.core_model.proofs.TotalLemmas.{total_at}
@@ -30,7 +31,7 @@ use Rattle.heap_rule.specs.Owned.{unclassed_in, classed_in, class_in, large_in, 
 use Rattle.heap_rule.specs.Plays.{Has}
 use Rattle.heap_rule.proofs.OwnedSteps.{class_kept, taken_below}
 use Rattle.heap_rule.proofs.ShiftLemmas.{span_below}
-use Rattle.heap_rule.proofs.ViewLemmas.{block_cut, block_class, block_below}
+use Rattle.heap_rule.proofs.ViewLemmas.{block_cut, block_class, block_below, block_range}
 
 module _ (v : View) (s : Has v) (o : Owned) (own : HasOwned o (parts_of v)) where
   abbrev m : Memory
@@ -161,7 +162,9 @@ module _ (v : View) (s : Has v) (o : Owned) (own : HasOwned o (parts_of v)) wher
 
 -- where a large block begins no small one is held, and the other way round; what is kept tells which it is, and how many words it has
 pub record IsBlockAt (v : View) (d count class : ℕ) (b : Block) : Type 0 where
+  pub from : start_word v.setup.capacity 0 ≤ b.first_word
   pub below : d < v.setup.capacity
+  pub few : count ≤ v.setup.capacity
   pub large : 0 < count → b.words ≡ superblock_words * count
   pub small : count ≡ 0 → (b.words ≡ words_of_class class) × IsClass class
 
@@ -171,7 +174,9 @@ block_there v s o own b d count x (a_small class first there) d_is x_is count_is
     let owned : 0 < times_block first v = (let t = in_lists_total first class v.small there in omega arith) in
     let less : d < v.setup.capacity = subst (λ n. n < v.setup.capacity) (sym d_is) (block_below v s first owned) in
     let h = small_held v s o own class first d x there d_is (x_is less) in record {
+      from = (block_range v s first owned).0;
       below = less;
+      few = (let z = h.2 in omega arith);
       large = λ some. absurd (let z = h.2 in omega arith);
       small = λ none. (ap words_of_class (sym h.3), subst IsClass (sym h.3) h.1);
     }
@@ -180,7 +185,9 @@ block_there v s o own b d count x (a_large e n some n_is) d_is x_is count_is =
     let span : span_count d v.large ≡ n = ap (λ k. span_count k v.large) here ∙ n_is in
     let less : d < v.setup.capacity = span_below v s d (omega arith) in
     let same : count ≡ n = span_of v s o own d count x less (x_is less) count_is ∙ span in record {
+      from = omega arith;
       below = less;
+      few = (let l = span_covers d (d + count - 1) v.large (omega arith) (omega arith) (omega arith) in let t = taken_below v s (d + count - 1) (omega arith) in omega arith);
       large = λ more. ap (λ k. superblock_words * k) (sym same);
       small = λ none. absurd (omega arith);
     }

@@ -1,14 +1,18 @@
-//! Which words are a seat's own.
+//! Which words are a seat's own, and which block begins at a word.
 
-ghost use Rattle.std.specs.Prelude.{◌≡◌, ◌<◌, ◌≤◌, ◌↔◌, true};
+ghost use Rattle.std.specs.Prelude.{◌≡◌, ◌<◌, ◌≤◌, ◌↔◌, ◌*◌, true};
+ghost use Rattle.heap_model.specs.declared.block.Block.{Block};
 ghost use Rattle.heap_model.specs.Geometry.{start_word, image_words};
 ghost use Rattle.core_model.specs.Cells.{cell_at, data_cell};
 ghost use Rattle.core_model.specs.Guards.{IsOwn};
+ghost use Rattle.core_model.specs.Held.{IsHeld};
+ghost use Rattle.heap_rule.specs.Seated.{IsSeatOf};
 
 use crate::seat::Seat;
+use crate::shared::Shared;
 use crash_core::{Part, part_at};
 use size_table::size_of;
-use super_block::{LAST_CLASS, SUPERBLOCK_WORDS, WORD_BYTES};
+use super_block::{Block, LAST_CLASS, SUPERBLOCK_WORDS, WORD_BYTES};
 
 impl Seat {
     /// Whether a word is the seat's own.
@@ -48,5 +52,35 @@ impl Seat {
         let start = self.geometry.start(d);
         let block = start + (word - start) / words * words;
         self.owned.blocks[block as usize]
+    }
+
+    /// The held block that begins at a byte offset; asked of a seat that has stopped too.
+    pub fn block(&self, shared: &Shared, offset: u64) -> Block
+        requires seat { IsSeatOf shared.now self.now }
+        requires held { (b : Block) × IsHeld self.now.view b × (8 * b.first_word ≡ offset) }
+        ensures held { IsHeld self.now.view result }
+        ensures at { 8 * result.first_word ≡ offset }
+        ensures only { (b : Block) → IsHeld self.now.view b → 8 * b.first_word ≡ offset
+            → b ≡ result }
+    {
+        let _seats = shared;
+        let first_word = offset / WORD_BYTES;
+        let words = self.block_words(first_word);
+        Block { first_word, words }
+    }
+
+    /// How many words the held block has that begins at a word.
+    fn block_words(&self, first_word: u64) -> u64
+        requires { (b : Block) × IsHeld self.now.view b × (first_word ≡ b.first_word) }
+        ensures { (b : Block) → IsHeld self.now.view b → first_word ≡ b.first_word
+            → b.words ≡ result }
+    {
+        let d = (first_word - self.geometry.start(0)) / SUPERBLOCK_WORDS;
+        let count = self.owned.stakes[d as usize].count();
+        if count > 0 {
+            return SUPERBLOCK_WORDS * count;
+        }
+        let class = self.owned.classes[d as usize];
+        size_of(class as u8) / WORD_BYTES
     }
 }
