@@ -3,3 +3,4 @@ pub mod TakeLemmas
 pub mod SeatListLemmas
 pub mod CutLemmas
 pub mod CacheLemmas
+pub mod PopLemmas

@@ -2,3 +2,4 @@ pub mod Draws
 pub mod Takes
 pub mod Cuts
 pub mod Caches
+pub mod Pops

@@ -5,12 +5,14 @@
 mod caches;
 mod cuts;
 mod draws;
+mod pops;
 mod refusal;
 mod takes;
 
 pub use caches::{alloc_cached, fill_cache};
 pub use cuts::make_blocks;
 pub use draws::draw;
+pub use pops::pop_free;
 pub use refusal::Refusal;
 pub use takes::take_one;
 

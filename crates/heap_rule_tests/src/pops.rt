@@ -1,0 +1,90 @@
+//! A superblock is popped from the list of the free ones.
+
+ghost use Rattle.std.specs.Prelude.{◌≡◌, ◌≢◌, ℕ, IfOk, OnOk, IfErr};
+ghost use Rattle.core_model.specs.Effects.{seen_word};
+ghost use Rattle.core_model.specs.Guards.{MayLink};
+ghost use Rattle.heap_rule.specs.Seated.{IsSeatOf};
+ghost use Rattle.heap_rule_tests.specs.declared.refusal.Refusal.TheVariants.{Lost};
+ghost use Rattle.heap_rule_tests.specs.Draws.{HasStopped};
+ghost use Rattle.heap_rule_tests.specs.Pops.{HasPopped, HasSeenFirst, HasSeenHead, HasSeenLink, IsNotPopped, SeesFirst};
+
+use crate::draws::draw;
+use crate::refusal::Refusal;
+use crash_core::head_first;
+use heap_rule::{Seat, Shared};
+use line_memory::Stopped;
+
+/// The list of the free superblocks.
+const FREE_LIST: u64 = 0;
+
+/// Reads the head of the list of the free superblocks, which it answers.
+pub(crate) fn look_free(seat: &mut Seat, shared: &Shared) -> Result<u64, Stopped>
+    requires { IsSeatOf shared.now seat.old }
+    ensures seen { IfOk result (λ head. HasSeenHead head seat.old.view seat.new.view) }
+    ensures stopped { IfErr result (λ e. HasStopped e.step seat.old.view seat.new.view) }
+    ensures seat { IsSeatOf shared.now seat.new }
+{
+    draw(seat, shared)?;
+    Ok(seat.look_head(shared, FREE_LIST))
+}
+
+/// Reads the link of the first superblock of the list whose head was seen.
+fn look_link(seat: &mut Seat, shared: &Shared) -> Result<(), Stopped>
+    requires seat { IsSeatOf shared.now seat.old }
+    requires some { MayLink seat.old.view }
+    ensures seen { OnOk result (HasSeenLink seat.old.view seat.new.view) }
+    ensures stopped { IfErr result (λ e. HasStopped e.step seat.old.view seat.new.view) }
+    ensures seat { IsSeatOf shared.now seat.new }
+{
+    draw(seat, shared)?;
+    seat.look_link(shared);
+    Ok(())
+}
+
+/// Reads which superblock is the first of the list of the free ones, which it answers, and its
+/// link.
+pub(crate) fn look_first(seat: &mut Seat, shared: &Shared) -> Result<u64, Refusal>
+    requires { IsSeatOf shared.now seat.old }
+    ensures seen { IfOk result (λ d. HasSeenFirst d seat.old.view seat.new.view) }
+    ensures refused { IfErr result (λ refusal. IsNotPopped refusal seat.old.view seat.new.view) }
+    ensures seat { IsSeatOf shared.now seat.new }
+{
+    let head = look_free(seat, shared)?;
+    let first = head_first(head);
+    if first == 0 {
+        return Err(Refusal::Nothing);
+    }
+    look_link(seat, shared)?;
+    Ok(first - 1)
+}
+
+/// Pops the superblock that was seen to be the first of the list of the free ones.
+pub(crate) fn pop_seen(seat: &mut Seat, shared: &Shared) -> Result<(), Refusal>
+    requires seat { IsSeatOf shared.now seat.old }
+    requires seen { (d : ℕ) × SeesFirst d seat.old.view }
+    ensures popped { OnOk result ((d : ℕ) → SeesFirst d seat.old.view
+        → HasPopped d seat.old.view seat.new.view) }
+    ensures refused { IfErr result (λ refusal. IsNotPopped refusal seat.old.view seat.new.view) }
+    ensures found { IfErr result (λ refusal. (found : ℕ) → refusal ≡ Lost found
+        → found ≢ seen_word seat.old.view.seen_head) }
+    ensures seat { IsSeatOf shared.now seat.new }
+{
+    draw(seat, shared)?;
+    match seat.try_pop(shared) {
+        Ok(()) => Ok(()),
+        Err(found) => Err(Refusal::Lost { found }),
+    }
+}
+
+/// Pops the first superblock of the list of the free ones, which is claimed then. One try: where
+/// another seat was faster, that is told.
+pub fn pop_free(seat: &mut Seat, shared: &Shared) -> Result<u64, Refusal>
+    requires { IsSeatOf shared.now seat.old }
+    ensures popped { IfOk result (λ d. HasPopped d seat.old.view seat.new.view) }
+    ensures refused { IfErr result (λ refusal. IsNotPopped refusal seat.old.view seat.new.view) }
+    ensures seat { IsSeatOf shared.now seat.new }
+{
+    let d = look_first(seat, shared)?;
+    pop_seen(seat, shared)?;
+    Ok(d)
+}
