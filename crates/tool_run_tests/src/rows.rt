@@ -215,7 +215,7 @@ fn a_made_trace_is_run(rt: HostRuntime) -> Result<(), Fail> {
     )
 }
 
-/// What two runs of a trace over an empty heap of 16 superblocks print, the second over what the
+/// What two runs of a trace over an empty heap of 256 superblocks print, the second over what the
 /// first left.
 fn run_twice(
     rt: &(impl Abort + AllocGlobal),
@@ -224,7 +224,7 @@ fn run_twice(
 ) -> Result<(Vec<u8>, Vec<u8>), Fail> {
     let alloc = rt.alloc();
     let mut images = store(alloc);
-    make_plain(alloc, &mut images, "format h 16", b"")?;
+    make_plain(alloc, &mut images, "format h 256", b"")?;
     let first = make_plain(alloc, &mut images, line, trace)?;
     let second = make_plain(alloc, &mut images, "run h --workers 1", trace)?;
     assert!(rt; first.0 == 0 && second.0 == 0, "{line}");
@@ -233,11 +233,11 @@ fn run_twice(
 
 #[test]
 fn a_long_trace_gives_the_same_within_its_bound(rt: HostRuntime) -> Result<(), Fail> {
-    let trace = printed(rt.alloc(), "gen 1500 7")?;
+    let trace = printed(rt.alloc(), "gen 20000 7")?;
     let free = run_twice(&rt, "run h --workers 1", &trace)?;
     let bounded = run_twice(&rt, "run h --workers 1 --stop 268435456", &trace)?;
     assert!(rt; free.0 == bounded.0);
     assert!(rt; free.1 == bounded.1);
-    assert!(rt; 7_000 < free.0.len());
+    assert!(rt; 100_000 < free.0.len());
     Ok(())
 }

@@ -1,7 +1,4 @@
-//! Runs stopped at their steps: what is told of the image that is left, and that it is gone on
-//! with.
-ghost use Rattle.std.specs.Prelude.{◌<◌};
-
+//! Runs stopped at each step: what is told of the image that is left, and that it is gone on with.
 use crate::harness::{Constant, image_after, image_in, make, make_plain, plain, runs, store_with};
 use std::alloc::{AllocError, Global};
 use std::process::Abort;
@@ -35,28 +32,25 @@ fn told_of_put(
     heap: &str,
     value: &str,
 ) -> Result<String, AllocError> {
-    format!(in alloc; "{reply}\nrun {run}\nheap 2 {heap}\nkey 0 {value}\nheld 32 1\nheld 1024 1\n")
+    format!(in alloc; "{reply}\nrun {run}\nheap 4 {heap}\nkey 0 {value}\nheld 32 1\nheld 1024 1\n")
 }
 
-/// Stops a put that replaces a value at steps so far apart until it is closed: the old value is
-/// there up to some step, and from there on the new one. Of steps apart none may fall there.
+/// Stops a put that replaces a value at each step until it is closed: the old value is there up to
+/// some step, and from there on the new one.
 fn replaces_at_one_step<C: Chances>(
     rt: &(impl Abort + AllocGlobal),
-    apart: usize,
     chances: &mut C,
-) -> Result<(), Fail>
-    requires { 0 < apart }
-{
+) -> Result<(), Fail> {
     let alloc = rt.alloc();
-    let image = image_after(alloc, "2", "put 0 aa")?;
+    let image = image_after(alloc, "4", "put 0 aa")?;
     let old = told_of_put(alloc, "unanswered", "stopped", "dirty", "aa")?;
     let new = told_of_put(alloc, "unanswered", "stopped", "dirty", "bb")?;
     let closed = told_of_put(alloc, "ok", "closed", "clean", "bb")?;
     let mut is_new = false;
-    for budget in (0..10_000).step_by(apart) {
+    for budget in 0..10_000 {
         let (printed, mut images) = stopped_run(alloc, &image, "put 0 bb", budget, chances)?;
         if printed.as_slice() == closed.as_bytes() {
-            assert!(rt; (is_new || 1 < apart) && 10 < budget, "{budget}");
+            assert!(rt; is_new && 10 < budget, "{budget}");
             return Ok(());
         }
         is_new = is_new || printed.as_slice() == new.as_bytes();
@@ -77,9 +71,9 @@ fn replaces_at_one_step<C: Chances>(
 
 #[test]
 fn a_replaced_value_is_old_or_new_at_each_stop(rt: HostRuntime) -> Result<(), Fail> {
-    replaces_at_one_step(&rt, 1, &mut SeededChances::new())?;
-    replaces_at_one_step(&rt, 3, &mut Constant(0))?;
-    replaces_at_one_step(&rt, 3, &mut Constant(1))
+    replaces_at_one_step(&rt, &mut Constant(0))?;
+    replaces_at_one_step(&rt, &mut Constant(1))?;
+    replaces_at_one_step(&rt, &mut SeededChances::new())
 }
 
 /// How many lines of the text come before the first that begins with `run`, and how many of these
@@ -98,11 +92,11 @@ fn answered(text: &[u8]) -> usize {
 #[test]
 fn requests_left_unanswered_are_run_on_what_a_stop_left(rt: HostRuntime) -> Result<(), Fail> {
     let alloc = rt.alloc();
-    let image = image_after(alloc, "2", "put 0 aa")?;
+    let image = image_after(alloc, "8", "put 0 aa")?;
     let requests = ["put 8 bb\n", "put 0 cc\n", "del 8\n"];
     let trace = requests.concat(alloc)?;
-    let report = "heap 2 clean\nkey 0 cc\nheld 32 1\nheld 1024 1\n";
-    for budget in (0..10_000).step_by(7) {
+    let report = "heap 8 clean\nkey 0 cc\nheld 32 1\nheld 1024 1\n";
+    for budget in 0..10_000 {
         let (printed, mut images) = stopped_run(
             alloc,
             &image,
