@@ -1,11 +1,12 @@
 -- What the rule says of an opened heap, and how its seats are dealt out.
-use Rattle.std.proofs.Common.{◌≡◌, ℕ, zero, suc, ◌+◌, ◌<◌, ◌≤◌, List, [], ◌∷◌, ◌++◌, get_or, length, refl, ap, sym, subst, ◌∙◌, arith}
+use Rattle.std.proofs.Common.{◌≡◌, ℕ, zero, suc, ◌+◌, ◌<◌, ◌≤◌, List, [], ◌∷◌, ◌++◌, Bool, false, replicate, get_or, length, refl, ap, sym, subst, ◌∙◌, arith}
 use Rattle.std.proofs.lemmas.List.{append-nil}
 use Rattle.atomic_table.specs.Seated.{TableId}
 use Rattle.atomic_table.specs.Table.{Me}
 use Rattle.heap_model.specs.Rest.{IsReady}
 use Rattle.core_model.specs.Opening.{AreOwners, tabulate}
 use Rattle.core_model.specs.View.{View}
+use Rattle.line_memory.specs.Marks.{mark_at}
 use Rattle.core_model.specs.Sound.{Sound}
 use Rattle.core_model.proofs.OpenLemmas.{length_tabulate, tabulate_at}
 use Rattle.core_model.proofs.OpenedLemmas.{opened}
@@ -42,17 +43,18 @@ tabulate_last f from zero = ap (λ i. f i ∷ []) (let e : from ≡ from + 0 = o
 tabulate_last f from (suc n) = ap (λ l. f from ∷ l) (tabulate_last f (from + 1) n ∙ ap (λ i. tabulate f (from + 1) n ++ f i ∷ []) (let e : from + 1 + n ≡ from + suc n = omega arith in e))
 
 -- one more seat
-pub one_more : (table : TableId) (views : ℕ → View) (n : ℕ) (seat : SeatView) → seat.table ≡ table → seat.view ≡ views n → dealt_seats table views n ++ seat ∷ [] ≡ dealt_seats table views (n + 1)
-one_more table views n seat same view_is =
-    ap (λ (s : SeatView). dealt_seats table views n ++ s ∷ []) is ∙ sym (tabulate_last S 0 n) ∙ ap (dealt_seats table views) (let e : suc n ≡ n + 1 = omega arith in e) where
+pub one_more : (table : TableId) (views : ℕ → View) (words n : ℕ) (seat : SeatView) → seat.table ≡ table → seat.view ≡ views n → seat.stores ≡ [] → seat.marks ≡ replicate words false
+    → dealt_seats table views words n ++ seat ∷ [] ≡ dealt_seats table views words (n + 1)
+one_more table views words n seat same view_is stores marks =
+    ap (λ (s : SeatView). dealt_seats table views words n ++ s ∷ []) is ∙ sym (tabulate_last S 0 n) ∙ ap (dealt_seats table views words) (let e : suc n ≡ n + 1 = omega arith in e) where
       S : ℕ → SeatView
-      S i = record { table = table; view = views i }
+      S i = record { table = table; view = views i; stores = []; marks = replicate words false }
 
       view_at : seat.view ≡ views (0 + n)
       view_at = view_is ∙ ap views (let e : n ≡ 0 + n = omega arith in e)
 
       is : seat ≡ S (0 + n)
-      is = λ j. record { table = same j; view = view_at j }
+      is = λ j. record { table = same j; view = view_at j; stores = stores j; marks = marks j }
 
 -- a seat as it is opened
 pub is_seat : (o : Opening) (i capacity budget : ℕ) (me : Me ℕ Joint) → IsOpened o → i < o.seats → me ≡ (opened_view_of o i ∷ [], []) → capacity ≡ (setup_for o).capacity → budget ≡ (setup_for o).budget → IsSeat me new_seat capacity budget
@@ -77,9 +79,15 @@ is_seat o i capacity budget me is less me_is capacity_is budget_is = subst (λ m
   low = is.keeps.low;
 })
 
+unmarked : (n k : ℕ) → get_or (replicate n false) k false ≡ false
+unmarked zero k = refl
+unmarked (suc n) zero = refl
+unmarked (suc n) (suc k) = unmarked n k
+
 -- the seats that were dealt out are those of the heap
-pub are_opened : (shared : SharedView) (views : ℕ → View) (seats : List SeatView) → ((i : ℕ) → i < shared.seats → (views i).setup ≡ shared.setup) → seats ≡ dealt_seats shared.table views shared.seats → AreOpenedSeats shared views seats
-are_opened shared views seats setups are = record {
+pub are_opened : (shared : SharedView) (views : ℕ → View) (words : ℕ) (seats : List SeatView) → ((i : ℕ) → i < shared.seats → (views i).setup ≡ shared.setup) → seats ≡ dealt_seats shared.table views words shared.seats
+    → AreOpenedSeats shared views seats
+are_opened shared views words seats setups are = record {
   count = ap length are ∙ length_tabulate S 0 shared.seats;
   each = λ i seat below at.
       let less : i < shared.seats = (let l = ap length are ∙ length_tabulate S 0 shared.seats in omega arith) in
@@ -89,16 +97,20 @@ are_opened shared views seats setups are = record {
           setup = ap (λ (s : SeatView). s.view.setup) (sym is) ∙ setups i less;
         },
         ap (λ (s : SeatView). s.view) (sym is),
+        record {
+          stores = ap (λ (s : SeatView). s.stores) (sym is);
+          marks = λ word. ap (λ (s : SeatView). mark_at s.marks word) (sym is) ∙ unmarked words word;
+        },
       );
 } where
   S : ℕ → SeatView
-  S i = record { table = shared.table; view = views i }
+  S i = record { table = shared.table; view = views i; stores = []; marks = replicate words false }
 
-pub opened_seats : (table : TableId) (key o : Opening) (seats : List SeatView) → key ≡ o → seats ≡ dealt_seats table (opened_view_of key) o.seats
+pub opened_seats : (table : TableId) (key o : Opening) (words : ℕ) (seats : List SeatView) → key ≡ o → seats ≡ dealt_seats table (opened_view_of key) words o.seats
     → AreOpenedSeats (record { table = table; setup = setup_for key; seats = key.seats }) (opened_view_of o) seats
-opened_seats table key o seats same are = are_opened (record { table = table; setup = setup_for key; seats = key.seats }) (opened_view_of o) seats
+opened_seats table key o words seats same are = are_opened (record { table = table; setup = setup_for key; seats = key.seats }) (opened_view_of o) words seats
     (λ i less. ap setup_for (sym same))
-    (are ∙ ap (λ k. dealt_seats table (opened_view_of k) o.seats) same ∙ ap (λ (k : Opening). dealt_seats table (opened_view_of o) k.seats) (sym same))
+    (are ∙ ap (λ k. dealt_seats table (opened_view_of k) words o.seats) same ∙ ap (λ (k : Opening). dealt_seats table (opened_view_of o) words k.seats) (sym same))
 
 -- the key of the table, which is made of the same parts, keeps the rule too
 pub key_keeps : (key o : Opening) (words : List ℕ) → key.words ≡ o.words → key.held ≡ o.held → key.block_owners ≡ o.block_owners → key.root_owners ≡ o.root_owners → key.seats ≡ o.seats → key.budget ≡ o.budget

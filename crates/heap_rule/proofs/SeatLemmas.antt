@@ -1,5 +1,5 @@
 -- What is kept of a seat after its steps.
-use Rattle.std.proofs.Common.{◌≡◌, ℕ, ◌<◌, None, Some, refl, ap, sym, subst, ◌∙◌}
+use Rattle.std.proofs.Common.{◌≡◌, ℕ, ◌<◌, None, Some, Bool, List, refl, ap, sym, subst, ◌∙◌}
 use Rattle.core_model.specs.declared.event.Event.{Event}
 use Rattle.core_model.specs.declared.event.Event.TheVariants.{Load, LookLink, LookAnchor}
 use Rattle.atomic_table.specs.Seated.{TableId}
@@ -78,5 +78,5 @@ loaded notes v w word found kept event has = keep_fits _ _ w event.after has (re
 })
 
 -- a seat that stands for the same views
-pub whole_at : (me me' : Me ℕ Joint) (notes : Seat) (owned : Owned) (capacity budget : ℕ) → me' ≡ me → IsWhole me notes owned capacity budget → IsWhole me' notes owned capacity budget
-whole_at me me' notes owned capacity budget same whole = subst (λ m. IsWhole m notes owned capacity budget) (sym same) whole
+pub whole_at : (me me' : Me ℕ Joint) (notes : Seat) (owned : Owned) (marks : List Bool) (capacity budget : ℕ) → me' ≡ me → IsWhole me notes owned marks capacity budget → IsWhole me' notes owned marks capacity budget
+whole_at me me' notes owned marks capacity budget same whole = subst (λ m. IsWhole m notes owned marks capacity budget) (sym same) whole

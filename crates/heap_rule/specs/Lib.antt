@@ -8,3 +8,4 @@ pub mod Images
 pub mod Parts
 pub mod Owned
 pub mod Changed
+pub mod Rooms

@@ -1,5 +1,6 @@
 -- What contracts see of the shared heap and of a seat, and what a seat keeps beside its place at the table.
-use Rattle.std.specs.Prelude.{◌≡◌, ◌<◌, ℕ, ◌+◌, ◌≢◌, cond, nat_eq, max, Result, MatchResult, Option, None, Some, ⊤, []}
+use Rattle.std.specs.Prelude.{◌≡◌, ◌<◌, ℕ, ◌+◌, ◌≢◌, cond, nat_eq, max, Result, MatchResult, Option, None, Some, ⊤, Bool, false, List, [], ◌∷◌, length, take, slice_set}
+use Rattle.heap_model.specs.Geometry.{image_words}
 use Rattle.atomic_table.specs.Seated.{TableId}
 use Rattle.atomic_table.specs.Table.{Me}
 use Rattle.core_model.specs.declared.event.Event.{Event}
@@ -22,10 +23,22 @@ pub record SharedView : Type 0 where
   pub setup : Setup
   pub seats : ℕ
 
--- which table it is at, and its view
+-- which table it is at, and its view; the words of its last sixteen stores, the latest first; and by word, whether it is marked as written back
 pub record SeatView : Type 0 where
   pub table : TableId
   pub view : View
+  pub stores : List ℕ
+  pub marks : List Bool
+
+-- its last stores and its marks stay
+pub record KeepsStores (v w : SeatView) : Type 0 where
+  pub stores : w.stores ≡ v.stores
+  pub marks : w.marks ≡ v.marks
+
+-- a store comes before the last ones, and its word is marked no more
+pub record IsStored (word : ℕ) (v w : SeatView) : Type 0 where
+  pub stores : w.stores ≡ take 16 (word ∷ v.stores)
+  pub marks : w.marks ≡ slice_set v.marks word false
 
 -- the seat is one of this heap
 pub record IsSeatOf (shared : SharedView) (seat : SeatView) : Type 0 where
@@ -58,9 +71,10 @@ pub record IsSeat (me : Me ℕ Joint) (notes : Seat) (capacity budget : ℕ) : T
   pub budget_is : budget ≡ (view_in me.0).setup.budget
   pub low : (view_in me.0).setup.budget < 1099511627776
 
--- the same, with what tells which words are its own
-pub record IsWhole (me : Me ℕ Joint) (notes : Seat) (owned : Owned) (capacity budget : ℕ) : Type 0 where
+-- the same, with what tells which words are its own, and with a mark for each word
+pub record IsWhole (me : Me ℕ Joint) (notes : Seat) (owned : Owned) (marks : List Bool) (capacity budget : ℕ) : Type 0 where
   pub seat : IsSeat me notes capacity budget
+  pub marks_long : length marks ≡ image_words capacity
   pub own : HasOwned owned (parts_of (view_in me.0))
 
 -- the seat stands at the table of this heap for a single seat with the view, which some sound state has

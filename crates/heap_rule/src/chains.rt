@@ -11,7 +11,7 @@ ghost use Rattle.core_model.specs.Sound.{IsCutBlock};
 ghost use Rattle.heap_rule.specs.Plays.{IsEvent};
 ghost use Rattle.heap_rule.specs.Joint.{view_in};
 ghost use Rattle.heap_rule.specs.Owned.{IsMarking};
-ghost use Rattle.heap_rule.specs.Seated.{IsAt, IsSeatOf, Tells};
+ghost use Rattle.heap_rule.specs.Seated.{IsAt, KeepsStores, IsSeatOf, Tells};
 ghost use Rattle.heap_rule.specs.Shown.{Can};
 
 use crate::owned::{Stake, unmark_all};
@@ -36,6 +36,7 @@ impl Seat {
         ensures event { (found : ℕ) × IsEvent (TakeAll d) self.old.view found self.new.view
             × Tells (seen_word self.old.view.seen_anchor) found result }
         ensures seat { IsSeatOf shared.now self.new }
+        ensures stores { KeepsStores self.old self.new }
     {
         let class = self.claimed_class(d);
         self.take_into(shared, d, class)
@@ -50,6 +51,7 @@ impl Seat {
         ensures event { (found : ℕ) × IsEvent (TakeAll d) self.old.view found self.new.view
             × Tells (seen_word self.old.view.seen_anchor) found result }
         ensures seat { IsSeatOf shared.now self.new }
+        ensures stores { KeepsStores self.old self.new }
     {
         let Some(anchor) = self.notes.seen_anchor else {
             unreachable!();
@@ -95,6 +97,7 @@ impl Seat {
         ensures event { (found : ℕ) × IsEvent (Give d) self.old.view found self.new.view
             × Tells (seen_word self.old.view.seen_anchor) found result }
         ensures seat { IsSeatOf shared.now self.new }
+        ensures stores { KeepsStores self.old self.new }
     {
         let Some(anchor) = self.notes.seen_anchor else {
             unreachable!();

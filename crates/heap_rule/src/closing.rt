@@ -63,6 +63,8 @@ fn gather(shared: &Words, mut seats: Vec<Seat>) -> Bare
             geometry: _,
             budget: _,
             owned: _owned,
+            recent: _recent,
+            pending: _pending,
         } = seat;
         shared.join_seat::<Together>(&mut last, bare);
     }

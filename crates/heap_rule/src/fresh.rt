@@ -4,7 +4,7 @@ ghost use Rattle.std.specs.Prelude.{ℕ};
 ghost use Rattle.core_model.specs.declared.event.Event.TheVariants.{TakeFresh, KeepUsed};
 ghost use Rattle.core_model.specs.Effects.{seen};
 ghost use Rattle.heap_rule.specs.Plays.{IsEvent};
-ghost use Rattle.heap_rule.specs.Seated.{IsSeatOf, Tells};
+ghost use Rattle.heap_rule.specs.Seated.{KeepsStores, IsSeatOf, Tells};
 ghost use Rattle.heap_rule.specs.Shown.{Can};
 
 use crate::owned::{Stake, stake_range};
@@ -23,6 +23,7 @@ impl Seat {
         ensures event { (found : ℕ) × IsEvent (TakeFresh n) self.old.view found self.new.view
             × Tells (seen self.old.view.seen_used) found result }
         ensures seat { IsSeatOf shared.now self.new }
+        ensures stores { KeepsStores self.old self.new }
     {
         let Some(used) = self.notes.seen_used else {
             unreachable!();
@@ -53,6 +54,7 @@ impl Seat {
         requires can { Can self.old.view KeepUsed }
         ensures event { (found : ℕ) × IsEvent KeepUsed self.old.view found self.new.view }
         ensures seat { IsSeatOf shared.now self.new }
+        ensures stores { KeepsStores self.old self.new }
     {
         let Some(used) = self.notes.seen_used else {
             unreachable!();

@@ -21,6 +21,7 @@ mod shared;
 mod shifts;
 mod step_laws;
 mod steps;
+mod stores;
 mod ticks;
 mod told;
 mod view_laws;

@@ -4,7 +4,7 @@ ghost use Rattle.std.specs.Prelude.{ℕ};
 ghost use Rattle.core_model.specs.declared.event.Event.TheVariants.{Pop, Push};
 ghost use Rattle.core_model.specs.Effects.{seen_word};
 ghost use Rattle.heap_rule.specs.Plays.{IsEvent};
-ghost use Rattle.heap_rule.specs.Seated.{IsSeatOf, Tells};
+ghost use Rattle.heap_rule.specs.Seated.{KeepsStores, IsSeatOf, Tells};
 ghost use Rattle.heap_rule.specs.Shown.{Can};
 
 use crate::owned::Stake;
@@ -24,6 +24,7 @@ impl Seat {
         ensures event { (found : ℕ) × IsEvent Pop self.old.view found self.new.view
             × Tells (seen_word self.old.view.seen_head) found result }
         ensures seat { IsSeatOf shared.now self.new }
+        ensures stores { KeepsStores self.old self.new }
     {
         let Some(head) = self.notes.seen_head else {
             unreachable!();
@@ -62,6 +63,7 @@ impl Seat {
         ensures event { (found : ℕ) × IsEvent (Push d) self.old.view found self.new.view
             × Tells (seen_word self.old.view.seen_head) found result }
         ensures seat { IsSeatOf shared.now self.new }
+        ensures stores { KeepsStores self.old self.new }
     {
         let Some(head) = self.notes.seen_head else {
             unreachable!();

@@ -2,7 +2,7 @@
 
 ghost use Rattle.core_model.specs.declared.event.Event.TheVariants.{Load, LookUsed, LookHead, LookLink, LookAnchor};
 ghost use Rattle.heap_rule.specs.Plays.{IsEvent};
-ghost use Rattle.heap_rule.specs.Seated.{IsSeatOf};
+ghost use Rattle.heap_rule.specs.Seated.{KeepsStores, IsSeatOf};
 ghost use Rattle.heap_rule.specs.Shown.{Can};
 
 use crate::seat::Seat;
@@ -19,6 +19,7 @@ impl Seat {
         requires can { Can self.old.view LookUsed }
         ensures event { IsEvent LookUsed self.old.view result self.new.view }
         ensures seat { IsSeatOf shared.now self.new }
+        ensures stores { KeepsStores self.old self.new }
     {
         let found = look(shared, &mut self.bare, USED_WORD, Event::LookUsed);
         self.notes = Notes {
@@ -35,6 +36,7 @@ impl Seat {
         requires can { Can self.old.view (LookHead list) }
         ensures event { IsEvent (LookHead list) self.old.view result self.new.view }
         ensures seat { IsSeatOf shared.now self.new }
+        ensures stores { KeepsStores self.old self.new }
     {
         let event = Event::LookHead { list };
         let found = look(shared, &mut self.bare, HEAD_WORD + list, event);
@@ -56,6 +58,7 @@ impl Seat {
         requires can { Can self.old.view (Load word) }
         ensures event { IsEvent (Load word) self.old.view result self.new.view }
         ensures seat { IsSeatOf shared.now self.new }
+        ensures stores { KeepsStores self.old self.new }
     {
         let found = look(shared, &mut self.bare, word, Event::Load { word });
         self.notes = Notes {
@@ -71,6 +74,7 @@ impl Seat {
         requires can { Can self.old.view LookLink }
         ensures event { IsEvent LookLink self.old.view result self.new.view }
         ensures seat { IsSeatOf shared.now self.new }
+        ensures stores { KeepsStores self.old self.new }
     {
         let Some(head) = self.notes.seen_head else {
             unreachable!();
@@ -91,6 +95,7 @@ impl Seat {
         requires can { Can self.old.view (LookAnchor d) }
         ensures event { IsEvent (LookAnchor d) self.old.view result self.new.view }
         ensures seat { IsSeatOf shared.now self.new }
+        ensures stores { KeepsStores self.old self.new }
     {
         let event = Event::LookAnchor { d };
         let found = look(shared, &mut self.bare, self.geometry.anchor(d), event);

@@ -3,13 +3,14 @@
 ghost use Rattle.std.specs.Prelude.{◌≡◌, ◌<◌, ◌≤◌, ℕ, [], get_or, length, IfOk};
 ghost use Rattle.core_model.specs.Opening.{AreOwners, setup_of, opened_view};
 ghost use Rattle.core_model.specs.Memory.{table_length};
-ghost use Rattle.heap_rule.specs.declared.owned.Owned.{Owned};
-ghost use Rattle.heap_rule.specs.Owned.{HasOwned, parts_of};
+ghost use Rattle.heap_model.specs.Geometry.{image_words};
+ghost use Rattle.heap_rule.specs.declared.owned_opening.Room.{Room};
+ghost use Rattle.heap_rule.specs.Owned.{parts_of};
+ghost use Rattle.heap_rule.specs.Rooms.{IsOpenedRoom};
 ghost use Rattle.heap_rule.specs.Rule.{IsOpened, opening_of, setup_for, first_joint, opened_view_of};
 ghost use Rattle.heap_rule.specs.Seats.{AreOpenedSeats, dealt_seats};
 
-use crate::owned::Owned;
-use crate::owned_opening::opened_owned;
+use crate::owned_opening::{Room, opened_rooms};
 use crate::rule::{Bare, HeapTable, Known, OpenedHeap, Words};
 use crate::seat::Seat;
 use crate::shared::Shared;
@@ -49,9 +50,9 @@ pub fn open_shared(
         heap.held owners.now.held owners.now.roots) r.1.items) }
 {
     let geometry = heap.geometry();
-    let parts = opened_owned(alloc, &heap, owners, seats)?;
+    let rooms = opened_rooms(alloc, &heap, owners, seats)?;
     let (table, dealer) = open_table(alloc, heap, owners, seats, budget)?;
-    let list = deal(alloc, &table.shared, dealer, geometry, budget, parts)?;
+    let list = deal(alloc, &table.shared, dealer, geometry, budget, rooms)?;
     Ok((Shared { table }, list))
 }
 
@@ -96,24 +97,26 @@ fn deal(
     mut dealer: Bare,
     geometry: Geometry,
     budget: u64,
-    mut parts: VecDeque<Owned>,
+    mut rooms: VecDeque<Room>,
 ) -> Result<Vec<Seat>, AllocError>
     requires opened { IsOpened shared.now.key }
     requires table { dealer.table_id ≡ shared.now.table_id }
     requires words { 0 < shared.now.table_id.words }
     requires first { dealer.me ≡ (first_joint shared.now.key, []) }
-    requires seats { length parts.items ≡ shared.now.key.seats }
-    requires parts { (i : ℕ) (o : Owned) → i < length parts.items → get_or parts.items i o ≡ o
-        → HasOwned o (parts_of (opened_view_of shared.now.key i)) }
+    requires seats { length rooms.items ≡ shared.now.key.seats }
+    requires rooms { (i : ℕ) (room : Room) → i < length rooms.items
+        → get_or rooms.items i room ≡ room
+        → IsOpenedRoom room (parts_of (opened_view_of shared.now.key i)) }
     requires geometry { geometry.capacity ≡ (setup_for shared.now.key).capacity }
     requires budget { budget ≡ (setup_for shared.now.key).budget }
     ensures { IfOk result (λ list. list.items
-        ≡ dealt_seats shared.now.table_id (opened_view_of shared.now.key) shared.now.key.seats) }
+        ≡ dealt_seats shared.now.table_id (opened_view_of shared.now.key)
+        (image_words geometry.capacity) shared.now.key.seats) }
 {
-    let seats = parts.len();
+    let seats = rooms.len();
     let mut list = Vec::with_capacity(alloc, seats)?;
     for _i in 0..seats {
-        let Some(owned) = parts.pop_front() else {
+        let Some(room) = rooms.pop_front() else {
             unreachable!();
         };
         let bare = shared.split_seat::<First>(&mut dealer);
@@ -122,7 +125,9 @@ fn deal(
             notes: NEW_SEAT,
             geometry,
             budget,
-            owned,
+            owned: room.owned,
+            recent: room.recent,
+            pending: room.pending,
         });
     }
     Ok(list)

@@ -9,33 +9,49 @@ ghost use Rattle.crash_core.specs.OpenedOwners.{AreBlockOwners, AreSuperblockOwn
 ghost use Rattle.crash_core.specs.Standing.{place_for, held_in, share_for, no_block, no_superblock};
 ghost use Rattle.heap_rule.specs.Owned.{HasOwned, stake_for, opened_parts};
 ghost use Rattle.heap_rule.specs.declared.owned.Stake.TheVariants.{Nothing};
-ghost use Rattle.heap_rule.specs.declared.owned.Owned.{Owned};
+ghost use Rattle.heap_rule.specs.Rooms.{IsOpenedRoom};
+ghost use Rattle.heap_rule.specs.declared.owned_opening.Room.{Room};
 
 use crate::owned::{MOST_BLOCKS, Owned, Stake};
 use crash_core::{BlockOwner, Owners, Share, SuperblockOwner, block_owners, superblock_owners};
+use line_memory::{Pending, RecentStores};
 use std::alloc::{AllocError, Global};
 use std::collections::VecDeque;
 use super_block::Ready;
 
-/// What each seat keeps, in their order.
-pub(crate) fn opened_owned(
+/// What a seat takes room for.
+#[derive(Drop)]
+pub struct Room {
+    pub owned: Owned,
+    pub recent: RecentStores,
+    pub pending: Pending,
+}
+
+/// What each seat takes room for, in their order.
+pub(crate) fn opened_rooms(
     alloc: Global,
     heap: &Ready,
     owners: &Owners,
     seats: usize,
-) -> Result<VecDeque<Owned>, AllocError>
+) -> Result<VecDeque<Room>, AllocError>
     requires { AreOwners heap.now.held seats owners.now.held owners.now.roots }
     ensures count { IfOk result (λ list. length list.items ≡ seats) }
-    ensures each { IfOk result (λ list. (i : ℕ) (o : Owned) → i < length list.items
-        → get_or list.items i o ≡ o
-        → HasOwned o (opened_parts heap.now owners.now i)) }
+    ensures each { IfOk result (λ list. (i : ℕ) (room : Room) → i < length list.items
+        → get_or list.items i room ≡ room
+        → IsOpenedRoom room (opened_parts heap.now owners.now i)) }
 {
     let blocks = block_owners(alloc, heap, owners.held())?;
     let superblocks = superblock_owners(alloc, heap, owners.held())?;
+    let geometry = heap.geometry();
+    let length = geometry.length();
     let mut list = VecDeque::with_capacity(alloc, seats)?;
     for seat in 0..seats {
-        let owned = owned_by(alloc, heap, owners, &blocks, &superblocks, seat)?;
-        list.push_back_reserved(owned);
+        let room = Room {
+            owned: owned_by(alloc, heap, owners, &blocks, &superblocks, seat)?,
+            recent: RecentStores::new(alloc)?,
+            pending: Pending::new(alloc, length as usize)?,
+        };
+        list.push_back_reserved(room);
     }
     Ok(list)
 }

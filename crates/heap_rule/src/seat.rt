@@ -3,6 +3,7 @@
 use crate::owned::Owned;
 use crate::rule::Bare;
 use crash_core::Seat as Notes;
+use line_memory::{Pending, RecentStores};
 use std::marker::Model;
 use super_block::Geometry;
 
@@ -13,6 +14,8 @@ pub struct Seat {
     pub(crate) geometry: Geometry,
     pub(crate) budget: u64,
     pub(crate) owned: Owned,
+    pub(crate) recent: RecentStores,
+    pub(crate) pending: Pending,
 }
 
 impl Model for Seat {
@@ -21,7 +24,12 @@ impl Model for Seat {
 
     ghost Value = { SeatView };
 
-    ghost view = { λ a. record { table = a.bare.table_id; view = view_in a.bare.me.0 } };
+    ghost view = { λ a. record {
+      table = a.bare.table_id;
+      view = view_in a.bare.me.0;
+      stores = a.recent;
+      marks = a.pending;
+    } };
 
-    ghost invariant = { λ a. IsWhole a.bare.me a.notes a.owned a.geometry.capacity a.budget };
+    ghost invariant = { λ a. IsWhole a.bare.me a.notes a.owned a.pending a.geometry.capacity a.budget };
 }

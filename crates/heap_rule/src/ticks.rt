@@ -4,7 +4,7 @@ ghost use Rattle.std.specs.Prelude.{◌≡◌, ℕ, Some, None};
 ghost use Rattle.core_model.specs.declared.event.Event.TheVariants.{Tick};
 ghost use Rattle.heap_rule.specs.Changed.{FitsChange};
 ghost use Rattle.heap_rule.specs.Plays.{IsEvent};
-ghost use Rattle.heap_rule.specs.Seated.{IsSeatOf, FitsShift, TellsDraw};
+ghost use Rattle.heap_rule.specs.Seated.{KeepsStores, IsSeatOf, FitsShift, TellsDraw};
 ghost use Rattle.heap_rule.specs.Shown.{Can};
 
 use crate::owned::Change;
@@ -27,6 +27,7 @@ impl Seat {
             → self.new ≡ self.old }
         ensures told { TellsDraw self.new.view result }
         ensures seat { IsSeatOf shared.now self.new }
+        ensures stores { KeepsStores self.old self.new }
     {
         if let Some(step) = self.notes.stopped {
             return Err(Stopped { step });
@@ -44,6 +45,7 @@ impl Seat {
         ensures event { (found : ℕ) × IsEvent (Tick None) self.old.view found self.new.view }
         ensures told { TellsDraw self.new.view result }
         ensures seat { IsSeatOf shared.now self.new }
+        ensures stores { KeepsStores self.old self.new }
     {
         let notes = self.notes;
         self.draw_as(shared, None, notes, Change::Nothing)
@@ -57,6 +59,7 @@ impl Seat {
             × IsEvent (Tick (Some shift)) self.old.view found self.new.view }
         ensures told { TellsDraw self.new.view result }
         ensures seat { IsSeatOf shared.now self.new }
+        ensures stores { KeepsStores self.old self.new }
     {
         let (notes, change) = self.after_shift(shared, shift);
         self.draw_as(shared, Some(shift), notes, change)
@@ -78,6 +81,7 @@ impl Seat {
         ensures event { (found : ℕ) × IsEvent (Tick shift) self.old.view found self.new.view }
         ensures told { TellsDraw self.new.view result }
         ensures seat { IsSeatOf shared.now self.new }
+        ensures stores { KeepsStores self.old self.new }
     {
         let place = 2 * self.geometry.length();
         let event = Event::Tick { shift };

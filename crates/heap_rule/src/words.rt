@@ -3,7 +3,7 @@
 ghost use Rattle.std.specs.Prelude.{ℕ};
 ghost use Rattle.core_model.specs.declared.event.Event.TheVariants.{Store, Settle};
 ghost use Rattle.heap_rule.specs.Plays.{IsEvent};
-ghost use Rattle.heap_rule.specs.Seated.{IsSeatOf};
+ghost use Rattle.heap_rule.specs.Seated.{KeepsStores, IsSeatOf, IsStored};
 ghost use Rattle.heap_rule.specs.Shown.{Can};
 
 use crate::seat::Seat;
@@ -19,6 +19,7 @@ impl Seat {
         requires can { Can self.old.view (Store word value) }
         ensures event { (found : ℕ) × IsEvent (Store word value) self.old.view found self.new.view }
         ensures seat { IsSeatOf shared.now self.new }
+        ensures stores { IsStored word self.old self.new }
     {
         let event = Event::Store { word, value };
         store(shared, &mut self.bare, word, value, event);
@@ -27,6 +28,8 @@ impl Seat {
             batch: self.notes.batch.stored(word),
             ..self.notes
         };
+        self.recent.push(word);
+        self.pending.unmark(word as usize);
     }
 
     /// Makes a word of its own durable: it is read, and its durable value becomes what was read.
@@ -35,6 +38,7 @@ impl Seat {
         requires can { Can self.old.view (Settle word) }
         ensures event { (found : ℕ) × IsEvent (Settle word) self.old.view found self.new.view }
         ensures seat { IsSeatOf shared.now self.new }
+        ensures stores { KeepsStores self.old self.new }
     {
         let value = learn(shared, &mut self.bare, word);
         let place = self.geometry.length() + word;

@@ -1,7 +1,10 @@
-use Rattle.std.proofs.Common.{◌≡◌, ◌<◌, ◌∙◌, [], ℕ, suc, ◌+◌, ◌-◌, ◌∷◌, ◌++◌, ap, sym, subst, arith}
+use Rattle.std.proofs.Common.{◌≡◌, ◌<◌, ◌∙◌, [], ℕ, suc, ◌+◌, ◌-◌, ◌∷◌, ◌++◌, ap, sym, subst, Bool, false, replicate, length, arith}
 use Rattle.atomic_table.specs.Table.{Me}
 use Rattle.core_model.specs.Opening.{tabulate}
-use Rattle.heap_rule.specs.declared.owned.Owned.{Owned}
+use Rattle.heap_model.specs.Geometry.{image_words}
+use Rattle.std.proofs.lemmas.List.{length-replicate}
+use Rattle.heap_rule.specs.declared.owned_opening.Room.{Room}
+use Rattle.heap_rule.specs.Rooms.{IsOpenedRoom}
 use Rattle.heap_rule.specs.Owned.{HasOwned, parts_of}
 use Rattle.heap_rule.proofs.OwnedOpening.{each_rest}
 use Rattle.heap_rule.specs.Joint.{Joint, first_view, other_views, view_in}
@@ -20,10 +23,11 @@ invariant_of-push_reserved c =
     let o = c.args.shared.now.key in
     let less : c.loop-i._i < o.seats = (let l = c.loop-i-test.true in let s = c.requires.seats in omega arith) in
     let more : c.len-seats.result - c.loop-i._i ≡ suc (c.len-seats.result - (c.loop-i._i + 1)) = (let l = c.loop-i-test.true in omega arith) in
-    let me : c.split_seat-bare.result.me ≡ (opened_view_of o c.loop-i._i ∷ [], []) = c.split_seat-bare.ensures.4 ∙ ap (λ (m : Me ℕ Joint). (first_view m.0, [])) c.loop-i.invariant.rest ∙ ap (λ (vs : Joint). (vs, [])) (first_dealt (opened_view_of o) c.loop-i._i _ _ more) in record {
+    let me : c.split_seat-bare.result.me ≡ (opened_view_of o c.loop-i._i ∷ [], []) = c.split_seat-bare.ensures.4 ∙ ap (λ (m : Me ℕ Joint). (first_view m.0, [])) c.loop-i.invariant.rest ∙ ap (λ (vs : Joint). (vs, [])) (first_dealt (opened_view_of o) c.loop-i._i _ _ more) in
+    let opened = (each_rest (λ n (x : Room). IsOpenedRoom x (parts_of (opened_view_of o n))) c.loop-i.rooms.items c.pop_front.new.self.items c.in-Some.room c.loop-i._i c.in-Some.ensures.items c.loop-i.invariant.rooms).0 in record {
       seat = is_seat o c.loop-i._i c.args.geometry.capacity c.args.budget c.split_seat-bare.result.me c.requires.opened less me c.requires.geometry c.requires.budget;
-      own = subst (λ (m : Me ℕ Joint). HasOwned c.in-Some.owned (parts_of (view_in m.0))) (sym me)
-          (each_rest (λ n (x : Owned). HasOwned x (parts_of (opened_view_of o n))) c.loop-i.parts.items c.pop_front.new.self.items c.in-Some.owned c.loop-i._i c.in-Some.ensures.items c.loop-i.invariant.parts).0;
+      marks_long = ap length opened.marks ∙ length-replicate {A = Bool} (image_words (opened_view_of o c.loop-i._i).setup.capacity) false ∙ ap image_words (sym c.requires.geometry);
+      own = subst (λ (m : Me ℕ Joint). HasOwned c.in-Some.room.owned (parts_of (view_in m.0))) (sym me) opened.owned;
     }
 
 pub loop-i-preserved : goal.loop-i-preserved
@@ -32,16 +36,18 @@ loop-i-preserved c =
     let i = c.loop-i._i in
     let some : c.len-seats.result - i ≡ suc (c.len-seats.result - (i + 1)) = (let l = c.loop-i-test.true in omega arith) in
     let me : c.split_seat-bare.result.me.0 ≡ V i ∷ [] = ap (λ (m : Me ℕ Joint). m.0) c.split_seat-bare.ensures.4 ∙ ap (λ (m : Me ℕ Joint). first_view m.0) c.loop-i.invariant.rest ∙ first_dealt V i _ _ some in
-    let seat : SeatView = record { table = c.split_seat-bare.result.table_id; view = view_in c.split_seat-bare.result.me.0 } in
+    let opened = (each_rest (λ n (x : Room). IsOpenedRoom x (parts_of (opened_view_of c.args.shared.now.key n))) c.loop-i.rooms.items c.pop_front.new.self.items c.in-Some.room c.loop-i._i c.in-Some.ensures.items c.loop-i.invariant.rooms).0 in
+    let seat : SeatView = record { table = c.split_seat-bare.result.table_id; view = view_in c.split_seat-bare.result.me.0; stores = c.in-Some.room.recent; marks = c.in-Some.room.pending } in
     record {
       table = c.split_seat-bare.ensures.0 ∙ c.loop-i.invariant.table;
       rest = c.split_seat-bare.ensures.2 ∙ ap (λ (m : Me ℕ Joint). (other_views m.0, m.1)) c.loop-i.invariant.rest ∙ ap (λ (vs : Joint). (vs, [])) (others_stay V i _ _ some);
       dealt = c.push_reserved.ensures.items ∙ ap (λ l. l ++ seat ∷ []) c.loop-i.invariant.dealt
-          ∙ one_more c.args.shared.now.table_id V i seat (c.split_seat-bare.ensures.3 ∙ c.loop-i.invariant.table) (ap view_in me);
+          ∙ one_more c.args.shared.now.table_id V (image_words c.args.geometry.capacity) i seat (c.split_seat-bare.ensures.3 ∙ c.loop-i.invariant.table) (ap view_in me) opened.stores
+          (opened.marks ∙ ap (λ n. replicate (image_words n) false) (sym c.requires.geometry));
       count = c.push_reserved.ensures.len ∙ ap (λ n. n + 1) c.loop-i.invariant.count;
       room = c.push_reserved.ensures.capacity ∙ c.loop-i.invariant.room;
       left = (let l = c.loop-i.invariant.left in let p = c.in-Some.ensures.cases in omega arith);
-      parts = (each_rest (λ n (x : Owned). HasOwned x (parts_of (opened_view_of c.args.shared.now.key n))) c.loop-i.parts.items c.pop_front.new.self.items c.in-Some.owned c.loop-i._i c.in-Some.ensures.items c.loop-i.invariant.parts).1;
+      rooms = (each_rest (λ n (x : Room). IsOpenedRoom x (parts_of (opened_view_of c.args.shared.now.key n))) c.loop-i.rooms.items c.pop_front.new.self.items c.in-Some.room c.loop-i._i c.in-Some.ensures.items c.loop-i.invariant.rooms).1;
     }
 
 pub loop-i-init : goal.loop-i-init
@@ -52,5 +58,5 @@ loop-i-init c = record {
   count = c.in_ok-list.ensures.len;
   room = (let k = c.in_ok-list.ensures.exact in let l = c.in_ok-list.ensures.capacity in omega arith);
   left = (let l = c.len-seats.ensures in omega arith);
-  parts = λ k o less at. subst (λ n. HasOwned o (parts_of (opened_view_of c.args.shared.now.key n))) (let e : k ≡ 0 + k = omega arith in e) (c.requires.parts k o less at);
+  rooms = λ k o less at. subst (λ n. IsOpenedRoom o (parts_of (opened_view_of c.args.shared.now.key n))) (let e : k ≡ 0 + k = omega arith in e) (c.requires.rooms k o less at);
 }

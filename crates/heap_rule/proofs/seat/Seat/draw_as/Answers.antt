@@ -23,6 +23,7 @@ invariant_of-self c =
     record {
       seat = seat_after c.self.inside.bare.me c.draw-ticket.new.bare.me c.self.inside.notes _ c.self.inside.geometry.capacity (Tick c.args.shift) c.draw-ticket.result c.args.shared.now c.draw-ticket.new.bare.table_id c.self.invariant.seat c.draw-ticket.ensures.at c.draw-ticket.ensures.event
           (stop_kept (view_in c.self.inside.bare.me.0) (view_in c.draw-ticket.new.bare.me.0) c.args.shift c.draw-ticket.result c.draw-ticket.ensures.event c.self.inside.notes c.self.invariant.seat.kept c.draw-ticket.ensures.at.has past);
+      marks_long = c.self.invariant.marks_long;
       own = draw_stays c.self.inside.owned (view_in c.self.inside.bare.me.0) (view_in c.draw-ticket.new.bare.me.0) c.args.shift c.draw-ticket.result c.draw-ticket.ensures.event c.self.invariant.own past;
     }
 
@@ -38,6 +39,7 @@ invariant_of-self-2 c =
       seat = seat_after c.self.inside.bare.me c.draw-ticket.new.bare.me c.self.inside.notes _ c.self.inside.geometry.capacity (Tick c.args.shift) c.draw-ticket.result c.args.shared.now c.draw-ticket.new.bare.table_id c.self.invariant.seat c.draw-ticket.ensures.at c.draw-ticket.ensures.event
           (draw_kept (view_in c.self.inside.bare.me.0) (view_in c.draw-ticket.new.bare.me.0) c.args.shift c.draw-ticket.result c.draw-ticket.ensures.event c.args.changed
           (subst (λ (s : SeatView). FitsShift c.args.changed s.view c.args.shift) (sym c.self.view_is) c.requires.changed) c.draw-ticket.ensures.at.has less);
+      marks_long = c.self.invariant.marks_long;
       own = draw_owned c.self.inside.owned (view_in c.self.inside.bare.me.0) (view_in c.draw-ticket.new.bare.me.0) c.args.shift c.draw-ticket.result c.draw-ticket.ensures.event c.self.invariant.own c.change.new.self c.args.change c.self.inside.geometry.capacity
           (subst (λ (s : SeatView). FitsChange c.args.change s.view c.args.shift) (sym c.self.view_is) c.requires.change) c.self.invariant.seat.capacity_is c.change.ensures less;
     }

@@ -41,6 +41,7 @@ pub invariant_of-self : goal.invariant_of-self
 invariant_of-self c = record {
   seat = settled_seat c.self.inside.bare.me c.store.new.bare.me c.self.inside.notes c.self.inside.geometry.capacity c.args.word c.learn-value.result c.store.ensures.event.0 c.args.shared.now c.store.new.bare.table_id c.self.invariant.seat c.store.ensures.at
       (subst (λ v. IsEvent (Settle c.args.word) v c.store.ensures.event.0 (view_in c.store.new.bare.me.0)) c.learn-value.ensures.view c.store.ensures.event.1);
+  marks_long = c.self.invariant.marks_long;
   own = quiet c.self.inside.owned (view_in c.self.inside.bare.me.0) (view_in c.store.new.bare.me.0) (ap parts_of (subst (λ v. IsEvent (Settle c.args.word) v c.store.ensures.event.0 (view_in c.store.new.bare.me.0)) c.learn-value.ensures.view c.store.ensures.event.1).after) c.self.invariant.own;
 }
 

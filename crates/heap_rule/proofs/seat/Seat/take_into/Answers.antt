@@ -26,6 +26,7 @@ invariant_of-self c =
     record {
       seat = seat_after c.self.inside.bare.me c.exchange-found.new.bare.me c.self.inside.notes _ c.self.inside.geometry.capacity (TakeAll c.args.d) c.exchange-found.result c.args.shared.now c.exchange-found.new.bare.table_id c.self.invariant.seat c.exchange-found.ensures.at c.exchange-found.ensures.event
           (take_all_lost c.self.inside.notes (view_in c.self.inside.bare.me.0) (view_in c.exchange-found.new.bare.me.0) c.args.d c.exchange-found.result c.in-Some.anchor.word c.self.invariant.seat.kept c.exchange-found.ensures.event c.exchange-found.ensures.at.has is c.if-found-anchor.true);
+      marks_long = c.self.invariant.marks_long;
       own = take_lost c.self.inside.owned (view_in c.self.inside.bare.me.0) (view_in c.exchange-found.new.bare.me.0) c.args.d c.exchange-found.result c.in-Some.anchor.word c.self.invariant.own c.exchange-found.ensures.event is c.if-found-anchor.true;
     }
 
@@ -50,11 +51,12 @@ pub invariant_of-self-2 : goal.invariant_of-self-2
 invariant_of-self-2 c =
     let is = ap seen_word (c.self.invariant.seat.kept.notes_are.seen_anchor ∙ ap snapshot c.in-Some.is) in
     let class_is = c.requires.class ∙ ap (λ (s : SeatView). claim_class c.args.d s.view.classed) (sym c.self.view_is) in
-    whole_at c.exchange-found.new.bare.me c.mark_cache.new.bare.me _ _ _ _ c.mark_cache.ensures.same (record {
+    whole_at c.exchange-found.new.bare.me c.mark_cache.new.bare.me _ _ _ _ _ c.mark_cache.ensures.same (record {
       seat = seat_after c.self.inside.bare.me c.exchange-found.new.bare.me c.self.inside.notes _ c.self.inside.geometry.capacity (TakeAll c.args.d) c.exchange-found.result c.args.shared.now c.exchange-found.new.bare.table_id c.self.invariant.seat c.exchange-found.ensures.at c.exchange-found.ensures.event
           (all_taken c.self.inside.notes (view_in c.self.inside.bare.me.0) (view_in c.exchange-found.new.bare.me.0) c.args.d c.exchange-found.result c.in-Some.anchor.word c.args.class (record { first = c.first_free-first.result; count = c.anchor_count-count.result })
           c.self.invariant.seat.kept c.exchange-found.ensures.event c.exchange-found.ensures.at.has is c.if-found-anchor.false class_is c.requires.is_class
           (c.first_free-first.ensures ∙ ap (λ n. start_word n c.args.d + anchor_first c.in-Some.anchor.word * words_of_class c.args.class) c.self.invariant.seat.capacity_is) c.anchor_count-count.ensures);
+      marks_long = c.self.invariant.marks_long;
       own = taken_owned (view_in c.self.inside.bare.me.0) (view_in c.exchange-found.new.bare.me.0) c.args.d c.exchange-found.result c.exchange-found.ensures.event (c.if-found-anchor.false ∙ sym is) c.self.inside.owned c.mark_cache.new.blocks _ _ c.self.invariant.own
           (subst (λ l. IsMarking c.self.inside.owned.blocks.items c.mark_cache.new.blocks.items l true) (ap (of_class (view_in c.exchange-found.new.bare.me.0).caches) class_is
           ∙ cache_taken (view_in c.self.inside.bare.me.0) (view_in c.exchange-found.new.bare.me.0) c.args.d c.exchange-found.result c.exchange-found.ensures.event (c.if-found-anchor.false ∙ sym is)) c.mark_cache.ensures.marked)

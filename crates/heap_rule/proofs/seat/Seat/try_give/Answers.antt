@@ -59,6 +59,7 @@ invariant_of-self c =
     record {
       seat = seat_after c.self.inside.bare.me c.exchange-found.new.bare.me c.self.inside.notes _ c.self.inside.geometry.capacity (Give c.args.d) c.exchange-found.result c.args.shared.now c.exchange-found.new.bare.table_id c.self.invariant.seat c.exchange-found.ensures.at c.exchange-found.ensures.event
           (give_lost c.self.inside.notes (view_in c.self.inside.bare.me.0) (view_in c.exchange-found.new.bare.me.0) c.args.d c.exchange-found.result c.in-Some.anchor.word c.self.invariant.seat.kept c.exchange-found.ensures.event c.exchange-found.ensures.at.has is c.if-found-anchor.true);
+      marks_long = c.self.invariant.marks_long;
       own = give_lost_own c.self.inside.owned (view_in c.self.inside.bare.me.0) (view_in c.exchange-found.new.bare.me.0) c.args.d c.exchange-found.result c.in-Some.anchor.word c.self.invariant.own c.exchange-found.ensures.event is c.if-found-anchor.true;
     }
 
@@ -71,6 +72,7 @@ invariant_of-self-then-anchor-anchor_after_take_all c =
     let is = ap seen_word (c.self.invariant.seat.kept.notes_are.seen_anchor ∙ ap snapshot c.in-Some.is) in record {
       seat = seat_after c.self.inside.bare.me c.exchange-found.new.bare.me c.self.inside.notes _ c.self.inside.geometry.capacity (Give c.args.d) c.exchange-found.result c.args.shared.now c.exchange-found.new.bare.table_id c.self.invariant.seat c.exchange-found.ensures.at c.exchange-found.ensures.event
           (batch_given c.self.inside.notes (view_in c.self.inside.bare.me.0) (view_in c.exchange-found.new.bare.me.0) c.args.d c.exchange-found.result c.in-Some.anchor.word c.self.invariant.seat.kept c.exchange-found.ensures.event c.exchange-found.ensures.at.has is c.if-found-anchor.false);
+      marks_long = c.self.invariant.marks_long;
       own = give_kept (view_in c.self.inside.bare.me.0) (view_in c.exchange-found.new.bare.me.0) c.args.d c.exchange-found.result c.exchange-found.ensures.event (c.if-found-anchor.false ∙ sym is) c.self.inside.owned c.unmark_all.new.blocks c.clear.new.self c.self.invariant.own
           (subst (λ l. IsMarking c.self.inside.owned.blocks.items c.unmark_all.new.blocks.items l false) (c.deref.ensures.value ∙ c.self.invariant.own.batch) c.unmark_all.ensures) c.clear.ensures.items c.clear.ensures.capacity
           (λ e. c.if-anchor-anchor_after_take_all.true (sym c.if-found-anchor.false ∙ e ∙ sym c.anchor_after_take_all.ensures));
@@ -87,6 +89,7 @@ invariant_of-self-2 c =
     let is = ap seen_word (c.self.invariant.seat.kept.notes_are.seen_anchor ∙ ap snapshot c.in-Some.is) in record {
       seat = seat_after c.self.inside.bare.me c.exchange-found.new.bare.me c.self.inside.notes _ c.self.inside.geometry.capacity (Give c.args.d) c.exchange-found.result c.args.shared.now c.exchange-found.new.bare.table_id c.self.invariant.seat c.exchange-found.ensures.at c.exchange-found.ensures.event
           (batch_given c.self.inside.notes (view_in c.self.inside.bare.me.0) (view_in c.exchange-found.new.bare.me.0) c.args.d c.exchange-found.result c.in-Some.anchor.word c.self.invariant.seat.kept c.exchange-found.ensures.event c.exchange-found.ensures.at.has is c.if-found-anchor.false);
+      marks_long = c.self.invariant.marks_long;
       own = give_full (view_in c.self.inside.bare.me.0) (view_in c.exchange-found.new.bare.me.0) c.args.d c.exchange-found.result c.exchange-found.ensures.event (c.if-found-anchor.false ∙ sym is) c.self.inside.owned c.unmark_all.new.blocks c.clear.new.self _ c.listed.result c.self.invariant.own
           (subst (λ l. IsMarking c.self.inside.owned.blocks.items c.unmark_all.new.blocks.items l false) (c.deref.ensures.value ∙ c.self.invariant.own.batch) c.unmark_all.ensures) c.clear.ensures.items c.clear.ensures.capacity
           (c.if-found-anchor.false ∙ c.if-anchor-anchor_after_take_all.false ∙ c.anchor_after_take_all.ensures) (c.listed.ensures ∙ ap listed (sym c.self.invariant.seat.kept.batch.class)) refl;

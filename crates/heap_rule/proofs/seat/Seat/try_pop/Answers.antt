@@ -28,6 +28,7 @@ invariant_of-self c =
     record {
       seat = seat_after c.self.inside.bare.me c.exchange-found.new.bare.me c.self.inside.notes _ c.self.inside.geometry.capacity Pop c.exchange-found.result c.args.shared.now c.exchange-found.new.bare.table_id c.self.invariant.seat c.exchange-found.ensures.at c.exchange-found.ensures.event
           (pop_lost c.self.inside.notes (view_in c.self.inside.bare.me.0) (view_in c.exchange-found.new.bare.me.0) c.exchange-found.result c.in-Some.head.word c.self.invariant.seat.kept c.exchange-found.ensures.event c.exchange-found.ensures.at.has is c.if-found-head.true);
+      marks_long = c.self.invariant.marks_long;
       own = pop_lost_own c.self.inside.owned (view_in c.self.inside.bare.me.0) (view_in c.exchange-found.new.bare.me.0) c.exchange-found.result c.in-Some.head.word c.self.invariant.own c.exchange-found.ensures.event is c.if-found-head.true;
     }
 
@@ -37,6 +38,7 @@ invariant_of-self-2 c =
     record {
       seat = seat_after c.self.inside.bare.me c.exchange-found.new.bare.me c.self.inside.notes _ c.self.inside.geometry.capacity Pop c.exchange-found.result c.args.shared.now c.exchange-found.new.bare.table_id c.self.invariant.seat c.exchange-found.ensures.at c.exchange-found.ensures.event
           (head_popped c.self.inside.notes (view_in c.self.inside.bare.me.0) (view_in c.exchange-found.new.bare.me.0) c.exchange-found.result c.in-Some.head.word c.head_first.result c.saturating_sub-d.result c.cleared.result c.self.invariant.seat.kept c.exchange-found.ensures.event c.exchange-found.ensures.at.has is c.if-found-head.false c.head_first.ensures c.saturating_sub-d.ensures c.cleared.ensures);
+      marks_long = c.self.invariant.marks_long;
       own = popped_owned c.self.inside.owned (with_item c.self.inside.owned.stakes c.saturating_sub-d.result c.listed.result) (view_in c.self.inside.bare.me.0) (view_in c.exchange-found.new.bare.me.0) c.exchange-found.result c.in-Some.head.word c.in-Some.head.of c.head_first.result c.saturating_sub-d.result c.listed.result c.self.invariant.own c.exchange-found.ensures.event is (ap seen_of (c.self.invariant.seat.kept.notes_are.seen_head ∙ ap snapshot c.in-Some.is)) c.if-found-head.false c.head_first.ensures c.saturating_sub-d.ensures c.listed.ensures refl;
     }
 
