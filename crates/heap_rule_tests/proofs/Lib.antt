@@ -4,3 +4,4 @@ pub mod SeatListLemmas
 pub mod CutLemmas
 pub mod CacheLemmas
 pub mod PopLemmas
+pub mod PushLemmas

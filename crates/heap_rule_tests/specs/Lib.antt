@@ -3,3 +3,4 @@ pub mod Takes
 pub mod Cuts
 pub mod Caches
 pub mod Pops
+pub mod Pushes

@@ -6,6 +6,7 @@ mod caches;
 mod cuts;
 mod draws;
 mod pops;
+mod pushes;
 mod refusal;
 mod takes;
 
@@ -13,6 +14,7 @@ pub use caches::{alloc_cached, fill_cache};
 pub use cuts::make_blocks;
 pub use draws::draw;
 pub use pops::pop_free;
+pub use pushes::push_free;
 pub use refusal::Refusal;
 pub use takes::take_one;
 

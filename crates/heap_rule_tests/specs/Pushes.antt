@@ -1,0 +1,57 @@
+-- What a push on the list of the free superblocks leaves of a seat.
+use Rattle.std.specs.Prelude.{◌≡◌, ◌<◌, ◌⊎◌, ℕ, None}
+use Rattle.heap_model.specs.Counting.{times, without}
+use Rattle.heap_model.specs.Geometry.{link_word}
+use Rattle.heap_model.specs.Words.{anchor_state, empty_state, head_first}
+use Rattle.core_model.specs.Cells.{anchor_cell, link_cell}
+use Rattle.core_model.specs.Effects.{learn, trimmed}
+use Rattle.core_model.specs.View.{View}
+use Rattle.heap_rule.specs.Parts.{KeepsParts}
+use Rattle.heap_rule.specs.Shown.{Shows}
+use Rattle.heap_rule_tests.specs.declared.refusal.Refusal.{Refusal}
+use Rattle.heap_rule_tests.specs.declared.refusal.Refusal.TheVariants.{Nothing, Lost, Stopped}
+use Rattle.heap_rule_tests.specs.Draws.{HasStopped}
+use Rattle.heap_rule_tests.specs.Pops.{HasLostHead, free_head}
+
+-- all blocks of the superblock, which is claimed without a class, are free: since it is raw, or was split and its own anchor says so
+pub data IsEmptyClaim (v : View) (d : ℕ) : Type 0 where
+  as_raw : 0 < times d v.raw → IsEmptyClaim v d
+  as_split : 0 < times d v.split → (anchor : ℕ) → Shows v (anchor_cell d) anchor → anchor_state anchor ≡ empty_state → IsEmptyClaim v d
+
+-- its link leads to another of the list
+abbrev pub with_link : View → ℕ → ℕ → View
+with_link v d first = record v { volatile = learn v.volatile (link_word d) first }
+
+pub record HasSetLink (d first : ℕ) (v w : View) : Type 0 where
+  pub parts : KeepsParts (with_link v d first) w
+  pub going : w.stopped ≡ None
+  pub losses : w.losses ≡ v.losses
+  pub head : w.seen_head ≡ v.seen_head
+  pub link : Shows w (link_cell d) first
+
+-- the head of the list of the free superblocks was seen, and the superblock leads to its first one
+pub record SeesLinked (d : ℕ) (v : View) : Type 0 where
+  pub head : ℕ
+  pub is_seen : v.seen_head ≡ free_head head
+  pub link : Shows v (link_cell d) (head_first head)
+
+-- the superblock is not claimed any more
+abbrev pub unclaimed : View → ℕ → View
+unclaimed v d = record v { raw = without d v.raw; split = without d v.split }
+
+-- and of words that are not its own any more the seat knows nothing
+pub record HasPushed (d : ℕ) (v w : View) : Type 0 where
+  pub parts : KeepsParts (trimmed (unclaimed v d)) w
+  pub going : w.stopped ≡ None
+
+-- why it was not pushed: the seat has its parts in each case
+abbrev pub IsNotPushed : Refusal → View → View → Type 0
+IsNotPushed Nothing v w = ⊥
+IsNotPushed (Lost found) v w = HasLostHead v w
+IsNotPushed (Stopped e) v w = HasStopped e.step v w
+
+-- the same of the whole row, whose superblock may lead to the first of the list already
+abbrev pub PushesNone : ℕ → Refusal → View → View → Type 0
+PushesNone d Nothing v w = ⊥
+PushesNone d (Lost found) v w = (first : ℕ) × HasLostHead (with_link v d first) w
+PushesNone d (Stopped e) v w = HasStopped e.step v w ⊎ ((first : ℕ) × HasStopped e.step (with_link v d first) w)
