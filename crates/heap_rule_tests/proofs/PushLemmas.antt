@@ -1,5 +1,5 @@
 -- What a push on the list of the free superblocks leaves.
-use Rattle.std.proofs.Common.{◌≡◌, ◌≢◌, ◌≤◌, ◌<◌, ℕ, zero, suc, ◌+◌, inl, inr, nat_lt, cond, List, [], ◌∷◌, get_or, set, Option, None, Some, Result, Ok, Err, OnOk, IfErr, refl, ap, ap₂, sym, subst, ◌∙◌, lt-ltb, arith}
+use Rattle.std.proofs.Common.{◌≡◌, ◌≢◌, ◌≤◌, ◌<◌, ℕ, zero, suc, ◌+◌, inl, inr, nat_lt, cond, List, [], ◌∷◌, get_or, set, Option, None, Some, Result, Ok, Err, OnOk, IfOk, IfErr, refl, ap, ap₂, sym, subst, ◌∙◌, lt-ltb, arith}
 use Rattle.std.specs.Bool.{⊤}
 use Rattle.std.proofs.lemmas.Bool.{cases_lt}
 use Rattle.std.proofs.lemmas.List.{get_or-set_other}
@@ -27,7 +27,7 @@ use Rattle.heap_rule.proofs.RawLemmas.{raw_inside, raw_once, store_shown}
 use Rattle.heap_rule_tests.specs.declared.refusal.Refusal.{Refusal}
 use Rattle.heap_rule_tests.specs.declared.refusal.Refusal.TheVariants.{Nothing, Lost, Stopped}
 use Rattle.heap_rule_tests.specs.Draws.{HasDrawn}
-use Rattle.heap_rule_tests.specs.Pops.{HasLostHead, HasSeenHead}
+use Rattle.heap_rule_tests.specs.Pops.{HasLostHead, HasPopped, HasSeenHead}
 use Rattle.heap_rule_tests.specs.Pushes.{HasPushed, HasSetLink, IsEmptyClaim, as_raw, as_split, IsNotPushed, PushesNone, SeesLinked, unclaimed, with_link}
 use Rattle.heap_rule_tests.proofs.PopLemmas.{stopped_later}
 
@@ -267,3 +267,11 @@ ok_later (Err e) later p = tt
 pub err_later : {P Q : Refusal → Type 0} (result : Result ⊤ Refusal) → ((refusal : Refusal) → P refusal → Q refusal) → IfErr result P → IfErr result Q
 err_later (Ok x) later p = tt
 err_later (Err e) later p = later e p
+
+pub if_ok_later : {A : Type 0} {P Q : A → Type 0} (result : Result A Refusal) → ((x : A) → P x → Q x) → IfOk result P → IfOk result Q
+if_ok_later (Ok x) later p = later x p
+if_ok_later (Err e) later p = tt
+
+-- a popped superblock may be pushed
+pub popped_empty : (v w : View) (d : ℕ) → HasPopped d v w → IsEmptyClaim w d
+popped_empty v w d popped = as_raw (subst (λ l. 0 < times d l) (sym popped.parts.raw) (let one = eq-eqb-one d d refl in omega arith))

@@ -1,7 +1,9 @@
 -- All seats of a heap, of which one goes on.
-use Rattle.std.proofs.Common.{◌≡◌, ℕ, zero, suc, ◌<◌, inl, inr, List, [], replicate, refl, ap, set, length, length-set, get_or, sym, subst, ◌∙◌, arith}
+use Rattle.std.proofs.Common.{◌≡◌, ℕ, zero, suc, ◌<◌, inl, inr, List, [], ◌∷◌, ◌++◌, Contains, replicate, refl, ap, set, length, length-set, get_or, sym, subst, ◌∙◌, arith}
 use Rattle.std.proofs.lemmas.Bool.{cases_eq}
 use Rattle.std.proofs.lemmas.List.{get_or-set_other, get_or-set_same}
+use Rattle.std.proofs.lemmas.List.Elements.{Contains-append_left, Contains-append_right}
+use Rattle.heap_model.proofs.MemberLemmas.{in_head}
 use Rattle.heap_model.specs.declared.block.Block.{Block}
 use Rattle.core_model.specs.Opening.{opened_view}
 use Rattle.core_model.specs.View.{Setup, View, of_class}
@@ -35,3 +37,20 @@ pub opened_empty : (shared : SharedView) (setup : Setup) (held : List Block) (bl
 opened_empty shared setup held block_owners root_owners seats opened = record {
   each = λ seat p class. ap (λ (v : View). of_class v.caches class) (opened.each p.0 seat p.1 p.2).1 ∙ none_among 21 class;
 }
+
+-- two seats are all seats of a heap of two
+pub pair_of : (shared : SharedView) (first second : SeatView) → shared.seats ≡ 2 → IsSeatOf shared first → IsSeatOf shared second → AreSeatsOf shared (first ∷ second ∷ [])
+pair_of shared first second two one other = record { count = sym two; each = λ s p. by_index s p.0 p.1 p.2 } where
+  by_index : (s : SeatView) (j : ℕ) → j < 2 → get_or (first ∷ second ∷ []) j s ≡ s → IsSeatOf shared s
+  by_index s zero less at = subst (IsSeatOf shared) at one
+  by_index s (suc zero) less at = subst (IsSeatOf shared) at other
+  by_index s (suc (suc j)) less at = absurd (omega (arith, less))
+
+-- the last of all seats
+pub last_seat : (shared : SharedView) (all rest : List SeatView) (last : SeatView) → AreSeatsOf shared all → all ≡ rest ++ last ∷ [] → IsSeatOf shared last
+last_seat shared all rest last are split = are.each last (subst (λ l. Contains l last) (sym split) (Contains-append_right rest (last ∷ []) last (in_head last [])))
+
+-- the last but one
+pub other_seat : (shared : SharedView) (all rest fewer : List SeatView) (last other : SeatView) → AreSeatsOf shared all → all ≡ rest ++ last ∷ [] → rest ≡ fewer ++ other ∷ [] → IsSeatOf shared other
+other_seat shared all rest fewer last other are split again = are.each other (subst (λ l. Contains l other) (sym split) (Contains-append_left rest (last ∷ []) other
+    (subst (λ l. Contains l other) (sym again) (Contains-append_right fewer (other ∷ []) other (in_head other [])))))

@@ -1,18 +1,24 @@
 //! Shared heaps for the tests, over recovered images.
 
-ghost use Rattle.std.specs.Prelude.{◌≡◌, ◌<◌, ◌≤◌, ℕ, IfOk, length, Contains};
+ghost use Rattle.std.specs.Prelude.{◌≡◌, ◌<◌, ◌≤◌, ℕ, [], IfOk, length, Contains, vec_len, vec_capacity};
 ghost use Rattle.heap_model.specs.Geometry.{largest_capacity};
 ghost use Rattle.heap_model.specs.Sizes.{IsClass};
+ghost use Rattle.heap_rule.specs.Seated.{IsSeatOf};
 ghost use Rattle.heap_rule.specs.Seats.{AreSeatsOf};
 ghost use Rattle.heap_rule_tests.specs.Caches.{AreEmpty};
+ghost use Rattle.heap_rule_tests.specs.Pops.{SeesFirst};
+ghost use Rattle.heap_rule_tests.specs.Pushes.{IsEmptyClaim};
 
 use crate::caches::fill_cache;
+use crate::pops::{pop_free, pop_seen};
+use crate::pushes::push_free;
 use crate::refusal::Refusal;
 use crate::takes::take_one;
 use crash_core::Owners;
 use dictionary::{DictFilter, root_kinds};
 use heap_recover::recover;
-use heap_rule::{Seat, Shared, open_shared};
+use heap_rule::{Seat, Shared, close_shared, open_shared};
+use line_memory::Closed;
 use region_header::format;
 use std::alloc::{AllocError, Global};
 use std::test::Fail;
@@ -81,6 +87,7 @@ pub fn take_by(shared: &Shared, seats: &mut Vec<Seat>, who: usize) -> Result<u64
 {
     take_one(&mut seats[who], shared)
 }
+
 /// A seat of the heap, whose caches are all empty, fills one.
 pub fn fill_by(
     shared: &Shared,
@@ -96,4 +103,87 @@ pub fn fill_by(
     ensures count { length seats.new.items ≡ length seats.old.items }
 {
     fill_cache(&mut seats[who], shared, class)
+}
+
+/// The heap shared by two seats, and the list that they stood in, which has room for both.
+pub fn pair(
+    alloc: Global,
+    heap: Ready,
+    budget: u64,
+) -> Result<(Shared, Seat, Seat, Vec<Seat>), Fail>
+    requires budget { budget < 1099511627776 }
+    ensures count { IfOk result (λ r. r.0.seats ≡ 2) }
+    ensures first { IfOk result (λ r. IsSeatOf r.0 r.1) }
+    ensures second { IfOk result (λ r. IsSeatOf r.0 r.2) }
+    ensures none { IfOk result (λ r. r.3.items ≡ []) }
+    ensures empty { IfOk result (λ r. vec_len r.3 ≡ 0) }
+    ensures room { IfOk result (λ r. 2 ≤ vec_capacity r.3) }
+{
+    let (table, mut seats) = shared(alloc, heap, 2, budget)?;
+    let Some(second) = seats.pop() else {
+        unreachable!();
+    };
+    let Some(first) = seats.pop() else {
+        unreachable!();
+    };
+    Ok((table, first, second, seats))
+}
+
+/// Closes a heap that two seats shared.
+pub fn close_pair(
+    alloc: Global,
+    shared: Shared,
+    first: Seat,
+    second: Seat,
+    mut seats: Vec<Seat>,
+) -> Result<Closed, AllocError>
+    requires count { shared.seats ≡ 2 }
+    requires first { IsSeatOf shared first }
+    requires second { IsSeatOf shared second }
+    requires none { seats.items ≡ [] }
+    requires empty { vec_len seats ≡ 0 }
+    requires room { 2 ≤ vec_capacity seats }
+{
+    seats.push_reserved(first);
+    seats.push_reserved(second);
+    close_shared(alloc, shared, seats)
+}
+
+/// Pops the superblock that was looked at, if one was.
+pub fn pop_looked(
+    seat: &mut Seat,
+    shared: &Shared,
+    looked: Result<u64, Refusal>,
+) -> Result<(), Refusal>
+    requires seat { IsSeatOf shared.now seat.old }
+    requires seen { IfOk looked (λ d. SeesFirst d seat.old.view) }
+    ensures seat { IsSeatOf shared.now seat.new }
+{
+    let _first = looked?;
+    pop_seen(seat, shared)
+}
+
+/// A seat pops a superblock, which it may push again.
+pub fn pop_by(seat: &mut Seat, shared: &Shared) -> Result<u64, Refusal>
+    requires seat { IsSeatOf shared.now seat.old }
+    ensures empty { IfOk result (λ d. IsEmptyClaim seat.new.view d) }
+    ensures durable { IfOk result (λ d. d < seat.new.view.floor) }
+    ensures seat { IsSeatOf shared.now seat.new }
+{
+    pop_free(seat, shared)
+}
+
+/// Pushes the superblock that was popped, if one was.
+pub fn push_popped(
+    seat: &mut Seat,
+    shared: &Shared,
+    popped: Result<u64, Refusal>,
+) -> Result<(), Refusal>
+    requires seat { IsSeatOf shared.now seat.old }
+    requires empty { IfOk popped (λ d. IsEmptyClaim seat.old.view d) }
+    requires durable { IfOk popped (λ d. d < seat.old.view.floor) }
+    ensures seat { IsSeatOf shared.now seat.new }
+{
+    let d = popped?;
+    push_free(seat, shared, d)
 }

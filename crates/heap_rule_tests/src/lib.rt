@@ -23,4 +23,6 @@ mod filling;
 #[cfg(test)]
 mod fixtures;
 #[cfg(test)]
+mod listing;
+#[cfg(test)]
 mod taking;

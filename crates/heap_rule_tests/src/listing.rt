@@ -1,0 +1,76 @@
+//! The list of the free superblocks is popped from and pushed to, by one thread with two seats.
+
+use crate::fixtures::{MANY, Words, close_pair, pair, pop_by, pop_looked, push_popped, recovered};
+use crate::pops::{look_first, look_free, pop_free};
+use crate::refusal::Refusal;
+use line_memory::Stopped;
+use std::test::Fail;
+use super_block::HEAD_WORD;
+
+/// The mark behind two superblocks of no class, which are both free.
+const BOTH_FREE: Words<'_> = &[(8, 2)];
+
+/// The word that links superblock 0 to the next one of its list.
+const LINK_OF_0: usize = 1_066;
+
+#[test]
+fn superblocks_are_popped_and_pushed_in_turn(rt: HostRuntime) -> Result<(), Fail> {
+    let alloc = rt.alloc();
+    let (table, mut a, mut b, seats) = pair(alloc, recovered(alloc, 2, BOTH_FREE)?, MANY)?;
+    let popped = pop_by(&mut a, &table);
+    assert_eq!(rt; popped, Ok(0));
+    assert_eq!(rt; pop_free(&mut b, &table), Ok(1));
+    assert_eq!(rt; pop_free(&mut b, &table), Err(Refusal::Nothing));
+    assert_eq!(rt; look_free(&mut b, &table), Ok(33_554_432));
+    assert_eq!(rt; push_popped(&mut a, &table, popped), Ok(()));
+    assert_eq!(rt; look_free(&mut b, &table), Ok(33_554_433));
+    assert_eq!(rt; pop_free(&mut b, &table), Ok(0));
+    assert_eq!(rt; look_free(&mut a, &table), Ok(50_331_648));
+    let left = close_pair(alloc, table, a, b, seats)?;
+    assert_eq!(rt; left.now.get(HEAD_WORD as usize).copied(), Some(50_331_648));
+    assert_eq!(rt; left.now.get(LINK_OF_0).copied(), Some(0));
+    Ok(())
+}
+
+#[test]
+fn a_pop_is_lost_where_another_seat_popped(rt: HostRuntime) -> Result<(), Fail> {
+    let alloc = rt.alloc();
+    let (table, mut a, mut b, seats) = pair(alloc, recovered(alloc, 2, BOTH_FREE)?, MANY)?;
+    let looked = look_first(&mut a, &table);
+    assert_eq!(rt; looked, Ok(0));
+    assert_eq!(rt; pop_free(&mut b, &table), Ok(0));
+    let lost = Err(Refusal::Lost { found: 16_777_218 });
+    assert_eq!(rt; pop_looked(&mut a, &table, looked), lost);
+    assert_eq!(rt; pop_free(&mut a, &table), Ok(1));
+    let left = close_pair(alloc, table, a, b, seats)?;
+    assert_eq!(rt; left.now.get(HEAD_WORD as usize).copied(), Some(33_554_432));
+    Ok(())
+}
+
+/// The budget, and the head that is left where a seat stops at each of the three draws of a pop,
+/// then of the push behind it, and where it does not.
+const HEADS: [(u64, u64); 7] = [
+    (0, 1),
+    (1, 1),
+    (2, 1),
+    (3, 16_777_218),
+    (4, 16_777_218),
+    (5, 16_777_218),
+    (6, 16_777_217),
+];
+
+#[test]
+fn a_seat_stops_at_each_draw_of_a_pop_and_a_push(rt: HostRuntime) -> Result<(), Fail> {
+    let alloc = rt.alloc();
+    for (step, head) in HEADS {
+        let stop = Refusal::Stopped(Stopped { step });
+        let (table, mut a, b, seats) = pair(alloc, recovered(alloc, 2, BOTH_FREE)?, step)?;
+        let popped = pop_by(&mut a, &table);
+        assert_eq!(rt; popped, if step < 3 { Err(stop) } else { Ok(0) });
+        let pushed = push_popped(&mut a, &table, popped);
+        assert_eq!(rt; pushed, if step < 6 { Err(stop) } else { Ok(()) });
+        let left = close_pair(alloc, table, a, b, seats)?;
+        assert_eq!(rt; left.now.get(HEAD_WORD as usize).copied(), Some(head));
+    }
+    Ok(())
+}
