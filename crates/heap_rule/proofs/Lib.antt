@@ -34,3 +34,4 @@ pub mod CacheMarks
 pub mod ChangeLemmas
 pub mod OwnedReads
 pub mod OwnedOpening
+pub mod FenceLemmas

@@ -9,3 +9,4 @@ pub mod Parts
 pub mod Owned
 pub mod Changed
 pub mod Rooms
+pub mod Fences

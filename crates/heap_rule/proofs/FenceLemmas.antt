@@ -1,0 +1,159 @@
+-- A row of words that are settled one after the other.
+use Rattle.std.proofs.Common.{◌≡◌, ◌≢◌, ℕ, zero, suc, ◌+◌, ◌<◌, ◌↔◌, ◌⊎◌, inl, inr, Bool, true, false, Option, Some, None, List, [], ◌∷◌, ◌++◌, get_or, set, length, refl, ap, sym, subst, ◌∙◌, true≢false, arith}
+use Rattle.std.proofs.lemmas.Bool.{cases_eq, cases_lt}
+use Rattle.std.proofs.lemmas.List.{get_or-set_same, get_or-set_other}
+use Rattle.heap_model.specs.Counting.{times}
+use Rattle.line_memory.specs.Marks.{mark_at, mark_count, IsMarked}
+use Rattle.core_model.specs.declared.event.Event.TheVariants.{Settle}
+use Rattle.core_model.specs.Cells.{cell_at, index_of}
+use Rattle.core_model.specs.Effects.{learn}
+use Rattle.core_model.specs.Guards.{IsOwn}
+use Rattle.core_model.specs.Memory.{Memory, memory_of}
+use Rattle.core_model.specs.View.{Setup, View, known}
+use Rattle.core_model.proofs.FrameLemmas.{times_append}
+use Rattle.core_model.proofs.QuietLemmas.{own_same}
+use Rattle.core_model.proofs.TotalLemmas.{eq-eqb-one, ne-eqb-none}
+use Rattle.heap_rule.specs.Fences.{Owns, Settles, IsSettled, IsFence, SettlesOwn, is_own, not_own}
+use Rattle.heap_rule.specs.Plays.{Has, IsEvent}
+use Rattle.heap_rule.specs.Seated.{SeatView}
+use Rattle.heap_rule.proofs.SettleLemmas.{own_index, own_below}
+
+module _ (v w : View) (word found : ℕ) (event : IsEvent (Settle word) v found w) where
+  abbrev x : ℕ
+  x = (memory_of v.setup.capacity event.before.words).volatile (cell_at v.setup.capacity word)
+
+  abbrev made : View
+  made = record v { volatile = learn v.volatile word x; durable = learn v.durable word x }
+
+  pub settle_setup : w.setup ≡ v.setup
+  settle_setup = ap (λ (u : View). u.setup) event.after
+
+  pub settle_going : w.stopped ≡ v.stopped
+  settle_going = ap (λ (u : View). u.stopped) event.after
+
+  pub owns_after : (k : ℕ) → Owns w k ↔ Owns v k
+  owns_after k = subst (λ u. Owns u k ↔ Owns v k) (sym event.after) (
+    λ own. subst (λ n. 0 < n) (own_same v made refl (cell_at v.setup.capacity k)) own,
+    λ own. subst (λ n. 0 < n) (sym (own_same v made refl (cell_at v.setup.capacity k))) own,
+  )
+
+  long_volatile : word < length v.volatile
+  long_volatile = let s = event.before in let l = (s.sound.good.set_up s.seat v s.below s.at).volatile in let b = own_below v word event.may.ready in omega arith
+
+  long_durable : word < length v.durable
+  long_durable = let s = event.before in let l = (s.sound.good.set_up s.seat v s.below s.at).durable in let b = own_below v word event.may.ready in omega arith
+
+  pub is_settled : IsSettled w word
+  is_settled = subst (λ u. IsSettled u word) (sym event.after) (
+      ap (λ n. get_or (set v.durable word (Some x)) n None) (own_index v word event.may.ready) ∙ get_or-set_same v.durable word (Some x) None long_durable
+      ∙ sym (ap (λ n. get_or (set v.volatile word (Some x)) n None) (own_index v word event.may.ready) ∙ get_or-set_same v.volatile word (Some x) None long_volatile))
+
+  pub stays_settled : (k : ℕ) → Owns v k → IsSettled v k → IsSettled w k
+  stays_settled k own before = elim (cases_eq k word) as (λ _. IsSettled w k) [
+    | inl same ↦ subst (IsSettled w) (sym same) is_settled
+    | inr other ↦ subst (λ u. IsSettled u k) (sym event.after) (
+        ap (λ n. get_or (set v.durable word (Some x)) n None) (own_index v k own) ∙ get_or-set_other v.durable word k (Some x) None other ∙ sym (ap (λ n. get_or v.durable n None) (own_index v k own)) ∙ before
+        ∙ ap (λ n. get_or v.volatile n None) (own_index v k own) ∙ sym (get_or-set_other v.volatile word k (Some x) None other) ∙ sym (ap (λ n. get_or (set v.volatile word (Some x)) n None) (own_index v k own)))
+  ]
+
+settles_one_more : (v u w : View) (words : List ℕ) (word found : ℕ) → Settles v words u → IsEvent (Settle word) u found w → Settles v (words ++ word ∷ []) w
+settles_one_more v u w [] word found is event = (w, (found, subst (λ z. IsEvent (Settle word) z found w) is event), refl)
+settles_one_more v u w (y ∷ words) word found is event = (is.0, is.1, settles_one_more is.0 u w words word found is.2 event)
+
+-- what a word's settling says speaks of the view alone
+pub settles_at : (word : ℕ) (u v w : SeatView) → u.view ≡ v.view → SettlesOwn word u w → SettlesOwn word v w
+settles_at word u v w same (is_own own found event) = is_own (subst (λ z. Owns z word) same own) found (subst (λ z. IsEvent (Settle word) z found w.view) same event)
+settles_at word u v w same (not_own not kept) = not_own (λ own. not (subst (λ z. Owns z word) (sym same) own)) (kept ∙ same)
+
+-- how far a fence has come
+pub record IsRow (v w : SeatView) (words : List ℕ) : Type 0 where
+  pub settles : Settles v.view words w.view
+  pub own : (k : ℕ) → Owns w.view k ↔ Owns v.view k
+  pub in_row : (k : ℕ) → 0 < times k words → IsMarked v.marks k × Owns v.view k × IsSettled w.view k
+  pub all : (k : ℕ) → IsMarked v.marks k → Owns v.view k → (0 < times k words) ⊎ IsMarked w.marks k
+  pub left : (k : ℕ) → IsMarked w.marks k → IsMarked v.marks k
+  pub going : w.view.stopped ≡ v.view.stopped
+  pub stores : w.stores ≡ v.stores
+
+pub row_start : (v : SeatView) → IsRow v v []
+row_start v = record { settles = refl; own = λ k. (λ o. o, λ o. o); in_row = λ k some. absurd (omega arith); all = λ k marked own. inr marked; left = λ k marked. marked; going = refl; stores = refl }
+
+module _ (v u w : SeatView) (words : List ℕ) (word : ℕ) (row : IsRow v u words) (marked : IsMarked u.marks word) (stores : w.stores ≡ u.stores) (marks : w.marks ≡ set u.marks word false) where
+  other_mark : (k : ℕ) → k ≢ word → mark_at w.marks k ≡ mark_at u.marks k
+  other_mark k other = ap (λ l. get_or l k false) marks ∙ get_or-set_other u.marks word k false false other
+
+  still_marked : (k : ℕ) → IsMarked w.marks k → IsMarked u.marks k
+  still_marked k is = elim (cases_eq k word) as (λ _. IsMarked u.marks k) [
+    | inl same ↦ subst (IsMarked u.marks) (sym same) marked
+    | inr other ↦ sym (other_mark k other) ∙ is
+  ]
+
+  pub row_step : SettlesOwn word u w → (next : List ℕ) × IsRow v w next
+  row_step (is_own own found event) = (
+    words ++ word ∷ [],
+    record {
+      settles = settles_one_more v.view u.view w.view words word found row.settles event;
+      own = λ k. let a = owns_after u.view w.view word found event k in let b = row.own k in (λ o. b.0 (a.0 o), λ o. a.1 (b.1 o));
+      in_row = λ k some. elim (cases_lt 0 (times k words)) [
+        | inl old ↦ let r = row.in_row k old in (r.0, r.1, stays_settled u.view w.view word found event k ((row.own k).1 r.1) r.2)
+        | inr none ↦ let here = is_word k (let a = times_append k words (word ∷ []) in omega arith) in
+            (subst (IsMarked v.marks) here (row.left word marked), subst (Owns v.view) here ((row.own word).0 own), subst (IsSettled w.view) here (is_settled u.view w.view word found event))
+      ];
+      all = λ k m o. elim (cases_eq k word) as (λ _. (0 < times k (words ++ word ∷ [])) ⊎ IsMarked w.marks k) [
+        | inl same ↦ inl (let a = times_append k words (word ∷ []) in let one = eq-eqb-one word k (sym same) in omega arith)
+        | inr other ↦ elim (row.all k m o) as (λ _. (0 < times k (words ++ word ∷ [])) ⊎ IsMarked w.marks k) [
+          | inl old ↦ inl (let a = times_append k words (word ∷ []) in omega arith)
+          | inr left ↦ inr (other_mark k other ∙ left)
+        ]
+      ];
+      left = λ k m. row.left k (still_marked k m);
+      going = settle_going u.view w.view word found event ∙ row.going;
+      stores = stores ∙ row.stores;
+    },
+  ) where
+    is_word : (k : ℕ) → 0 < times k (word ∷ []) → word ≡ k
+    is_word k there = elim (cases_eq word k) as (λ _. word ≡ k) [
+      | inl same ↦ same
+      | inr other ↦ absurd (let z = ne-eqb-none word k other in omega arith)
+    ]
+  row_step (not_own not same) = (
+    words,
+    record {
+      settles = subst (λ z. Settles v.view words z) (sym same) row.settles;
+      own = λ k. subst (λ z. Owns z k ↔ Owns v.view k) (sym same) (row.own k);
+      in_row = λ k some. let r = row.in_row k some in (r.0, r.1, subst (λ z. IsSettled z k) (sym same) r.2);
+      all = λ k m o. elim (cases_eq k word) as (λ _. (0 < times k words) ⊎ IsMarked w.marks k) [
+        | inl here ↦ absurd (not (subst (Owns u.view) here ((row.own k).1 o)))
+        | inr other ↦ elim (row.all k m o) as (λ _. (0 < times k words) ⊎ IsMarked w.marks k) [
+          | inl old ↦ inl old
+          | inr left ↦ inr (other_mark k other ∙ left)
+        ]
+      ];
+      left = λ k m. row.left k (still_marked k m);
+      going = ap (λ (z : View). z.stopped) same ∙ row.going;
+      stores = stores ∙ row.stores;
+    },
+  )
+
+pub row_whole : (v w : SeatView) (words : List ℕ) → IsRow v w words → ((k : ℕ) → mark_at w.marks k ≡ false) → IsFence v w
+row_whole v w words row clear = record {
+  words = words;
+  settles = row.settles;
+  exactly = λ k. (λ some. let r = row.in_row k some in (r.0, r.1), λ is. in_words k is.0 is.1);
+  settled = λ k m o. (row.in_row k (in_words k m o)).2;
+  clear = clear;
+  stores = row.stores;
+} where
+  in_words : (k : ℕ) → IsMarked v.marks k → Owns v.view k → 0 < times k words
+  in_words k m o = elim (row.all k m o) as (λ _. 0 < times k words) [
+    | inl some ↦ some
+    | inr left ↦ absurd (true≢false (sym left ∙ clear k))
+  ]
+
+-- one mark less
+pub fewer_marks : (marks : List Bool) (k : ℕ) → get_or marks k false ≡ true → mark_count (set marks k false) < mark_count marks
+fewer_marks [] k is = absurd (true≢false (sym is))
+fewer_marks (true ∷ marks) zero is = omega arith
+fewer_marks (false ∷ marks) zero is = absurd (true≢false (sym is))
+fewer_marks (true ∷ marks) (suc k) is = let rest = fewer_marks marks k is in omega arith
+fewer_marks (false ∷ marks) (suc k) is = fewer_marks marks k is

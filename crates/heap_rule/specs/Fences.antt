@@ -1,0 +1,51 @@
+-- Marks of write-backs, the fence that settles the marked words, and a draw that may settle one.
+use Rattle.std.specs.Prelude.{◌≡◌, ◌≢◌, ◌⊎◌, ◌↔◌, ℕ, ◌+◌, ◌/◌, ◌%◌, ◌<◌, false, List, [], ◌∷◌, Some, None}
+use Rattle.heap_model.specs.Counting.{times}
+use Rattle.heap_model.specs.Geometry.{image_words}
+use Rattle.line_memory.specs.Marks.{mark_at, IsMarked}
+use Rattle.line_memory.specs.Steps.{early_word}
+use Rattle.core_model.specs.declared.event.Event.TheVariants.{Settle}
+use Rattle.core_model.specs.Cells.{cell_at}
+use Rattle.core_model.specs.Guards.{IsOwn}
+use Rattle.core_model.specs.View.{View, known}
+use Rattle.heap_rule.specs.Plays.{IsEvent}
+use Rattle.heap_rule.specs.Seated.{SeatView, KeepsStores}
+
+-- the words of the word's line are marked, and no other mark has changed
+pub record IsLineMarked (word : ℕ) (v w : SeatView) : Type 0 where
+  pub view : w.view ≡ v.view
+  pub stores : w.stores ≡ v.stores
+  pub in_line : (k : ℕ) → k < image_words v.view.setup.capacity → k / 8 ≡ word / 8 → IsMarked w.marks k
+  pub others : (k : ℕ) → k / 8 ≢ word / 8 → mark_at w.marks k ≡ mark_at v.marks k
+
+-- the word is own to the seat
+abbrev pub Owns : View → ℕ → Type 0
+Owns v word = IsOwn v (cell_at v.setup.capacity word)
+
+-- these words are settled, one after the other
+abbrev pub Settles : View → List ℕ → View → Type 0
+Settles v [] w = w ≡ v
+Settles v (word ∷ words) w = (u : View) × ((found : ℕ) × IsEvent (Settle word) v found u) × Settles u words w
+
+-- what a crash leaves of the word is what loads see, as far as the seat has recorded it
+abbrev pub IsSettled : View → ℕ → Type 0
+IsSettled v word = known v.durable (cell_at v.setup.capacity word) ≡ known v.volatile (cell_at v.setup.capacity word)
+
+-- the words that are marked and own are settled, and none is marked any more
+pub record IsFence (v w : SeatView) : Type 0 where
+  pub words : List ℕ
+  pub settles : Settles v.view words w.view
+  pub exactly : (word : ℕ) → (0 < times word words) ↔ (IsMarked v.marks word × Owns v.view word)
+  pub settled : (word : ℕ) → IsMarked v.marks word → Owns v.view word → IsSettled w.view word
+  pub clear : (word : ℕ) → mark_at w.marks word ≡ false
+  pub stores : w.stores ≡ v.stores
+
+-- the word is settled where it is own
+pub data SettlesOwn (word : ℕ) (v w : SeatView) : Type 0 where
+  is_own : Owns v.view word → (found : ℕ) → IsEvent (Settle word) v.view found w.view → SettlesOwn word v w
+  not_own : (Owns v.view word → ⊥) → w.view ≡ v.view → SettlesOwn word v w
+
+-- with the number r that chance gives, the word of one of the last stores is settled, where it is own
+pub data SettlesEarly (r : ℕ) (v w : SeatView) : Type 0 where
+  no_store : early_word r v.stores ≡ None → w ≡ v → SettlesEarly r v w
+  a_store : (word : ℕ) → early_word r v.stores ≡ Some word → SettlesOwn word v w → KeepsStores v w → SettlesEarly r v w

@@ -1,0 +1,52 @@
+//! Write-backs of a seat: marks, and the fence that makes the marked words durable.
+
+ghost use Rattle.std.specs.Prelude.{◌≡◌, None};
+ghost use Rattle.core_model.specs.declared.event.Event.TheVariants.{Settle};
+ghost use Rattle.heap_rule.specs.Fences.{IsLineMarked, IsFence, SettlesOwn};
+ghost use Rattle.heap_rule.specs.Seated.{KeepsStores, IsSeatOf};
+ghost use Rattle.heap_rule.specs.Shown.{Can};
+
+use crate::seat::Seat;
+use crate::shared::Shared;
+
+/// How many words a line has.
+const LINE: u64 = 8;
+
+impl Seat {
+    /// Marks the words of an own word's line as written back.
+    pub fn mark(&mut self, shared: &Shared, word: u64)
+        requires seat { IsSeatOf shared.now self.old }
+        requires can { Can self.old.view (Settle word) }
+        ensures marked { IsLineMarked word self.old self.new }
+        ensures seat { IsSeatOf shared.now self.new }
+    {
+        let _seats = shared;
+        self.pending.mark_line(word / LINE);
+    }
+
+    /// Makes the words durable that are marked and own, and takes back all marks: a fence.
+    pub fn settle_marked(&mut self, shared: &Shared)
+        requires seat { IsSeatOf shared.now self.old }
+        requires going { self.old.view.stopped ≡ None }
+        ensures fence { IsFence self.old self.new }
+        ensures seat { IsSeatOf shared.now self.new }
+    {
+        while let Some(word) = self.pending.take_marked() {
+            self.settle_own(shared, word);
+        }
+    }
+
+    /// Makes a word durable where it is own.
+    pub(crate) fn settle_own(&mut self, shared: &Shared, word: u64)
+        requires seat { IsSeatOf shared.now self.old }
+        requires going { self.old.view.stopped ≡ None }
+        ensures done { SettlesOwn word self.old self.new }
+        ensures stores { KeepsStores self.old self.new }
+        ensures seat { IsSeatOf shared.now self.new }
+    {
+        if !self.owns(word) {
+            return;
+        }
+        self.settle(shared, word);
+    }
+}
