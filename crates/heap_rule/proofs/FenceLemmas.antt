@@ -1,20 +1,19 @@
 -- A row of words that are settled one after the other.
-use Rattle.std.proofs.Common.{◌≡◌, ◌≢◌, ℕ, zero, suc, ◌+◌, ◌<◌, ◌↔◌, ◌⊎◌, inl, inr, Bool, true, false, Option, Some, None, List, [], ◌∷◌, ◌++◌, get_or, set, length, refl, ap, sym, subst, ◌∙◌, true≢false, arith}
+use Rattle.std.proofs.Common.{◌≡◌, ◌≢◌, ℕ, zero, suc, ◌<◌, ◌↔◌, ◌⊎◌, inl, inr, Bool, true, false, Some, None, List, [], ◌∷◌, ◌++◌, get_or, set, length, refl, ap, sym, subst, ◌∙◌, true≢false, arith}
 use Rattle.std.proofs.lemmas.Bool.{cases_eq, cases_lt}
 use Rattle.std.proofs.lemmas.List.{get_or-set_same, get_or-set_other}
 use Rattle.heap_model.specs.Counting.{times}
 use Rattle.line_memory.specs.Marks.{mark_at, mark_count, IsMarked}
 use Rattle.core_model.specs.declared.event.Event.TheVariants.{Settle}
-use Rattle.core_model.specs.Cells.{cell_at, index_of}
+use Rattle.core_model.specs.Cells.{cell_at}
 use Rattle.core_model.specs.Effects.{learn}
-use Rattle.core_model.specs.Guards.{IsOwn}
-use Rattle.core_model.specs.Memory.{Memory, memory_of}
-use Rattle.core_model.specs.View.{Setup, View, known}
+use Rattle.core_model.specs.Memory.{memory_of}
+use Rattle.core_model.specs.View.{View}
 use Rattle.core_model.proofs.FrameLemmas.{times_append}
 use Rattle.core_model.proofs.QuietLemmas.{own_same}
 use Rattle.core_model.proofs.TotalLemmas.{eq-eqb-one, ne-eqb-none}
 use Rattle.heap_rule.specs.Fences.{Owns, Settles, IsSettled, IsFence, SettlesOwn, is_own, not_own}
-use Rattle.heap_rule.specs.Plays.{Has, IsEvent}
+use Rattle.heap_rule.specs.Plays.{IsEvent}
 use Rattle.heap_rule.specs.Seated.{SeatView}
 use Rattle.heap_rule.proofs.SettleLemmas.{own_index, own_below}
 

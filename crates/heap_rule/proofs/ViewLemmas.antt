@@ -24,7 +24,7 @@ use Rattle.heap_rule.specs.Plays.{Has}
 use Rattle.heap_rule.specs.Shown.{Shows, ShowsDurable, ShowsEmpty, by_claim, by_anchor, by_look, ShowsLinks}
 
 -- a block of a superblock of the image begins in the image
-cut_cell : (c class d b : ℕ) → IsClass class → IsCutBlock c class d b → d < c → is_cell c (data_cell b) ≡ true
+pub cut_cell : (c class d b : ℕ) → IsClass class → IsCutBlock c class d b → d < c → is_cell c (data_cell b) ≡ true
 cut_cell c class d b is at less =
     let place = inside_of c class d b is at in let low = place.0 in let high = place.1 in let two = two_words class is in
     and_is (nat_le (start_word c 0) b) (nat_lt b (image_words c)) (le-leb (start_word c 0) b (omega arith)) (lt-ltb b (image_words c) (omega arith))

@@ -1,5 +1,5 @@
 -- Marks of write-backs, the fence that settles the marked words, and a draw that may settle one.
-use Rattle.std.specs.Prelude.{◌≡◌, ◌≢◌, ◌⊎◌, ◌↔◌, ℕ, ◌+◌, ◌/◌, ◌%◌, ◌<◌, false, List, [], ◌∷◌, Some, None}
+use Rattle.std.specs.Prelude.{◌≡◌, ◌≢◌, ◌↔◌, ℕ, ◌/◌, ◌<◌, false, List, [], ◌∷◌, Some, None}
 use Rattle.heap_model.specs.Counting.{times}
 use Rattle.heap_model.specs.Geometry.{image_words}
 use Rattle.line_memory.specs.Marks.{mark_at, IsMarked}

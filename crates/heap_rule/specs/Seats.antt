@@ -1,5 +1,5 @@
 -- All the seats of a shared heap, as it is opened and as it is closed.
-use Rattle.std.specs.Prelude.{◌≡◌, ℕ, ◌<◌, Bool, false, replicate, List, [], ◌∷◌, ◌++◌, Contains, length, get_or, map}
+use Rattle.std.specs.Prelude.{◌≡◌, ℕ, ◌<◌, false, replicate, List, [], ◌∷◌, ◌++◌, Contains, length, get_or, map}
 use Rattle.atomic_table.specs.Seated.{TableId}
 use Rattle.heap_model.specs.Geometry.{image_words}
 use Rattle.line_memory.specs.Marks.{mark_at}

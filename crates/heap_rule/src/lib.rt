@@ -4,6 +4,7 @@
 mod chains;
 mod closed_laws;
 mod closing;
+mod draws;
 mod fences;
 mod fresh;
 mod image_laws;

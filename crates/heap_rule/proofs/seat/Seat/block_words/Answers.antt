@@ -1,5 +1,4 @@
-use Rattle.std.proofs.Common.{◌≡◌, ◌-◌, ◌*◌, ◌/◌, ◌<◌, get_or, refl, ap, sym, subst, ◌∙◌, arith}
-use Rattle.heap_model.specs.declared.block.Block.{Block}
+use Rattle.std.proofs.Common.{◌≡◌, ◌-◌, ◌*◌, ◌/◌, get_or, refl, ap, sym, subst, ◌∙◌, arith}
 use Rattle.heap_model.specs.Geometry.{start_word, largest_capacity_fits}
 use Rattle.heap_model.specs.Sizes.{IsClass, words_of_class, size_of}
 use Rattle.core_model.specs.Held.{IsHeld}

@@ -3,7 +3,7 @@ use Rattle.line_memory.specs.Marks.{mark_count}
 use Rattle.heap_rule.specs.Fences.{IsFence}
 use Rattle.heap_rule.specs.Joint.{view_in}
 use Rattle.heap_rule.specs.Seated.{SeatView}
-use Rattle.heap_rule.proofs.FenceLemmas.{IsRow, row_start, row_step, row_whole, settles_at, fewer_marks}
+use Rattle.heap_rule.proofs.FenceLemmas.{IsRow, row_step, row_whole, settles_at, fewer_marks}
 use Rattle.heap_rule.proofs.seat.Seat.settle_marked.Goals as goal
 
 pub loop-word-smaller : goal.loop-word-smaller
