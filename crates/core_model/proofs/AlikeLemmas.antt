@@ -1,12 +1,11 @@
 -- Whatever a crash leaves of the same durable words reaches the same: no trace looks at what it leaves at random.
-use Rattle.std.proofs.Common.{◌≡◌, ◌≢◌, ℕ, ◌+◌, ◌*◌, ◌<◌, ◌≤◌, ◌⊎◌, inl, inr, List, Contains, refl, ap, sym, subst, ◌∙◌, arith}
+use Rattle.std.proofs.Common.{◌≡◌, ◌≢◌, ℕ, ◌+◌, ◌<◌, ◌≤◌, ◌⊎◌, inl, inr, List, Contains, refl, ap, sym, subst, ◌∙◌, arith}
 use Rattle.heap_model.specs.declared.block.Block.{Block}
 use Rattle.heap_model.specs.Geometry.{capacity_word, used_word, state_word, info_word, root_word, start_word, roots}
-use Rattle.heap_model.specs.Image.{Image, words_from}
+use Rattle.heap_model.specs.Image.{Image}
 use Rattle.heap_model.specs.Header.{capacity_of, used_of}
 use Rattle.heap_model.specs.Blocks.{Layout, IsBlock, layout_of}
-use Rattle.heap_model.specs.Pointers.{Leads, LeadsOutside}
-use Rattle.heap_model.specs.Reach.{Links, AnyRoot, Reach, IsTraced, is_root, is_linked, IsOutside, TracesAlike, words_in}
+use Rattle.heap_model.specs.Reach.{Links, AnyRoot, Reach, IsTraced, is_root, is_linked, IsOutside, TracesAlike}
 use Rattle.heap_model.specs.Durability.{IsCrashImage, IsTransient, is_head, is_anchor, is_link}
 use Rattle.heap_model.proofs.BlockLemmas.{block_inside}
 use Rattle.heap_model.proofs.ImageLemmas.{words_from-agree}

@@ -4,15 +4,15 @@ use Rattle.std.proofs.lemmas.Bool.{cases_eq, cases_lt}
 use Rattle.heap_model.specs.Words.{anchor_state, empty_state, partial_state, full_state, full_anchor}
 use Rattle.heap_model.specs.Counting.{times, total}
 use Rattle.core_model.specs.Cells.{anchor_cell}
-use Rattle.core_model.specs.Memory.{Memory, volatile_at, used, head, anchor, info, link, write}
-use Rattle.core_model.specs.View.{Setup, View, Claim, Span, one_if_some, known, times_raw, times_classed, times_large}
+use Rattle.core_model.specs.Memory.{Memory, volatile_at, used, head, anchor, info, link, next, write}
+use Rattle.core_model.specs.View.{Setup, View, Claim, Span, one_if_some, times_raw, times_classed, times_large}
 use Rattle.core_model.specs.Effects.{seen_word, seen_of, trimmed}
 use Rattle.core_model.specs.Guards.{IsThere}
-use Rattle.core_model.specs.Sound.{Shape, tally_of, AreUntaken, AreListed, HasClaims, KnowsHead, KnowsWords, Adds, stale, class_numbers, times_cut, Good}
+use Rattle.core_model.specs.Sound.{Shape, tally_of, AreUntaken, AreListed, HasClaims, IsAnchoredBy, KnowsHead, KnowsWords, Adds, stale, class_numbers, times_cut, Good}
 use Rattle.core_model.proofs.TotalLemmas.{total_at}
 use Rattle.core_model.proofs.FrameLemmas.{untouched, words_frame, below_not}
 use Rattle.core_model.proofs.StepLemmas.{IsSeat, seat_at, adds_step}
-use Rattle.core_model.proofs.OwnLemmas.{one_at_most, words_trimmed, stale_anchor_most}
+use Rattle.core_model.proofs.OwnLemmas.{one_at_most, words_left, stale_anchor_most}
 use Rattle.core_model.proofs.ListLemmas.{in_lists_at}
 use Rattle.core_model.proofs.BlockLemmas.{at_one, at_other}
 
@@ -91,10 +91,12 @@ module _ (k : Setup) (m : Memory) (views : List View) (i : ℕ) (v : View) (belo
 
   -- what is known of the own words that are left
   pub words_after : (y : View) → y.setup ≡ v.setup → y.volatile ≡ v.volatile → y.durable ≡ v.durable → KnowsWords k.capacity m' (trimmed y)
-  words_after y setup volatile durable = let s = seat_at k m views good i v below_i at in let none = not_here i v below_i at in
-      words_trimmed k.capacity m' y (ap (λ (z : Setup). z.capacity) (setup ∙ s.set_up.setup))
-      (λ cell value is own knows. let old = s.words.volatile cell value is (ap (λ values. known values cell) (sym volatile) ∙ knows) in untouched v m.volatile (anchor_cell d) x cell none.0 old.0 ∙ old.1)
-      (λ cell value is own knows. (s.words.durable cell value is (ap (λ values. known values cell) (sym durable) ∙ knows)).1)
+  words_after y = let s = seat_at k m views good i v below_i at in let none = not_here i v below_i at in
+      words_left k m m' v y s.set_up.setup s.words (λ cell own. untouched v m.volatile (anchor_cell d) x cell none.0 own) (λ cell own. refl)
+
+  -- its anchor tells its chain
+  pub anchored : (class : ℕ) → info m d ≡ class → IsAnchoredBy (next m) k.capacity class d (anchor m d) (good.shape.chains d)
+  anchored class is = subst (λ c. IsAnchoredBy (next m) k.capacity c d (anchor m d) (good.shape.chains d)) is (good.shaped.chained.anchored d cut_d)
 
   -- lists and infos fit, where the new state fits its place
   pub listed : (full : ℕ → ℕ) → (0 < total (λ n. times d (good.shape.lists n)) class_numbers → anchor_state x < full_state) → ((e : ℕ) → e ≢ d → 0 < full e → 0 < good.shape.full e) → (0 < full d → x ≡ full_anchor)

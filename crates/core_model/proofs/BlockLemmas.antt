@@ -66,10 +66,10 @@ full_anchored next c class d is = let four = four_blocks class is in record {
   two_not_none e = omega (arith, e)
 
 -- the function with another value at one number
-pub at_one : (f : ℕ → ℕ) (d x e : ℕ) → e ≡ d → cond (nat_eq e d) x (f e) ≡ x
+pub at_one : {A : Type 0} (f : ℕ → A) (d : ℕ) (x : A) (e : ℕ) → e ≡ d → cond (nat_eq e d) x (f e) ≡ x
 at_one f d x e same = ap (λ t. cond t x (f e)) (eq-eqb e d same)
 
-pub at_other : (f : ℕ → ℕ) (d x e : ℕ) → e ≢ d → cond (nat_eq e d) x (f e) ≡ f e
+pub at_other : {A : Type 0} (f : ℕ → A) (d : ℕ) (x : A) (e : ℕ) → e ≢ d → cond (nat_eq e d) x (f e) ≡ f e
 at_other f d x e other = ap (λ t. cond t x (f e)) (ne_eqb e d other)
 
 -- the blocks by class, where one list changes

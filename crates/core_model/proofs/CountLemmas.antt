@@ -1,14 +1,15 @@
 -- Counting: claims and numbers taken out, and a chain that has as many blocks as the superblock.
-use Rattle.std.proofs.Common.{◌≡◌, ◌≢◌, ℕ, zero, suc, ◌+◌, ◌*◌, ◌<◌, ◌≤◌, inl, inr, Bool, true, false, cond, nat_eq, List, [], ◌∷◌, length, refl, ap, sym, subst, ◌∙◌, eq-eqb, ne_eqb, arith}
+use Rattle.std.proofs.Common.{◌≡◌, ◌≢◌, ℕ, zero, suc, ◌+◌, ◌*◌, ◌<◌, ◌≤◌, inl, inr, Bool, true, false, cond, nat_eq, List, [], ◌∷◌, get_or, set, length, refl, ap, sym, subst, ◌∙◌, eq-eqb, ne_eqb, arith}
 use Rattle.std.proofs.lemmas.Bool.{cases_eq, cases_lt}
 use Rattle.heap_model.specs.Counting.{times, total, one_if, without}
 use Rattle.heap_model.specs.Sizes.{IsClass, words_of_class, blocks_of}
 use Rattle.heap_model.proofs.SizeLemmas.{two_words}
 use Rattle.heap_model.specs.Geometry.{start_word}
-use Rattle.core_model.specs.View.{Claim, times_classed}
+use Rattle.heap_model.specs.Words.{anchor_state, full_state}
+use Rattle.core_model.specs.View.{View, Claim, Span, times_classed}
 use Rattle.core_model.specs.Effects.{steps, claim_class, without_claim, class_blocks}
-use Rattle.core_model.specs.Sound.{IsCutBlock}
-use Rattle.core_model.proofs.TotalLemmas.{eq-eqb-one, ne-eqb-none}
+use Rattle.core_model.specs.Sound.{Shape, tally_of, times_cut, IsCutBlock, HasClaims}
+use Rattle.core_model.proofs.TotalLemmas.{total_set, total_at, eq-eqb-one, ne-eqb-none}
 
 -- one claim is taken out
 pub times_without_claim : (e d : ℕ) (claims : List Claim) → 0 < times_classed d claims → times_classed e (without_claim d claims) + one_if (nat_eq d e) ≡ times_classed e claims
@@ -29,6 +30,35 @@ class_without e d (claim ∷ claims) other = elim (cases_eq claim.descriptor d) 
   | inr apart ↦ subst (λ (t : Bool). claim_class e (cond t claims (claim ∷ without_claim d claims)) ≡ cond (nat_eq claim.descriptor e) claim.class (claim_class e claims)) (sym (ne_eqb claim.descriptor d apart))
       (ap (λ n. cond (nat_eq claim.descriptor e) claim.class n) (class_without e d claims other))
 ]
+
+-- and what a seat says of the others
+pub claims_without : (infos anchors : ℕ → ℕ) (raw split cutting : List ℕ) (classed : List Claim) (large : List Span) (d : ℕ) → times_classed d classed ≡ 1
+    → HasClaims infos anchors raw split cutting classed large → HasClaims infos anchors raw split cutting (without_claim d classed) large
+claims_without infos anchors raw split cutting classed large d once c = record {
+  is_raw = c.is_raw;
+  is_split = c.is_split;
+  is_cutting = c.is_cutting;
+  is_classed = λ e some. let less = times_without_claim e d classed (omega arith) in elim (cases_eq d e) [
+    | inl same ↦ absurd (let one = eq-eqb-one d e same in let here = ap (λ x. times_classed x classed) same in omega arith)
+    | inr other ↦ subst (λ n. IsClass n × (infos e ≡ n) × (anchor_state (anchors e) < full_state)) (sym (class_without e d classed other))
+        (c.is_classed e (let none = ne-eqb-none d e other in omega arith))
+  ];
+  is_large = c.is_large;
+  is_part = c.is_part;
+  some = c.some;
+}
+
+-- of all seats together too there is one claim less
+pub all_without_claim : (e d : ℕ) (views : List View) (i : ℕ) (v w : View) → i < length views → get_or views i v ≡ v → 0 < times_classed d v.classed → w.classed ≡ without_claim d v.classed
+    → total (λ (x : View). times_classed e x.classed) (set views i w) + one_if (nat_eq d e) ≡ total (λ (x : View). times_classed e x.classed) views
+all_without_claim e d views i v w below at some without =
+    let all = total_set (λ (x : View). times_classed e x.classed) views i v w below at in
+    let less = times_without_claim e d v.classed some in
+    let same = ap (times_classed e) without in omega arith
+
+-- and its superblock is cut
+pub claimed_is_cut : (g : Shape) (views : List View) (i : ℕ) (v : View) (d : ℕ) → i < length views → get_or views i v ≡ v → 0 < times_classed d v.classed → 0 < times_cut g (tally_of views) d
+claimed_is_cut g views i v d below at some = let all = total_at (λ (x : View). times_classed d x.classed) views i v below at in omega arith
 
 -- never more than before
 pub without_less : (e d : ℕ) (xs : List ℕ) → times e (without d xs) ≤ times e xs

@@ -1,5 +1,5 @@
 -- A superblock is cut: all its blocks are in the cache of its class.
-use Rattle.std.proofs.Common.{◌≡◌, ◌≢◌, ℕ, ◌+◌, ◌<◌, ◌≤◌, inl, inr, cond, nat_eq, nat_lt, List, [], get_or, set, length, refl, ap, sym, subst, ◌∙◌, length-set, eq-eqb, ne_eqb, arith}
+use Rattle.std.proofs.Common.{◌≡◌, ◌≢◌, ℕ, ◌+◌, ◌<◌, ◌≤◌, inl, inr, cond, nat_eq, nat_lt, List, [], get_or, set, length, refl, ap, sym, subst, ◌∙◌, length-set, arith}
 use Rattle.std.proofs.lemmas.Bool.{cases_eq, cases_lt}
 use Rattle.heap_model.specs.Geometry.{start_word}
 use Rattle.heap_model.specs.Sizes.{IsClass}
@@ -17,7 +17,7 @@ use Rattle.core_model.proofs.FrameLemmas.{times_without}
 use Rattle.core_model.proofs.StepLemmas.{IsSeat, seat_at}
 use Rattle.core_model.proofs.OwnLemmas.{one_at_most, length_only}
 use Rattle.core_model.proofs.CountLemmas.{without_less, block_once}
-use Rattle.core_model.proofs.BlockLemmas.{superblock_is, walks_first, full_anchored, of_class_same, of_class_other, total_lists}
+use Rattle.core_model.proofs.BlockLemmas.{superblock_is, walks_first, full_anchored, of_class_same, of_class_other, total_lists, at_one, at_other}
 use Rattle.core_model.proofs.ShiftLemmas.{shift_step}
 use Rattle.core_model.proofs.SpanLemmas as spans
 
@@ -93,12 +93,6 @@ module _ (k : Setup) (m : Memory) (views : List View) (i : ℕ) (v : View) (belo
     blocks = blocks';
   }
 
-  chain_at : (e : ℕ) → e ≡ d → cond (nat_eq e d) [] (good.shape.chains e) ≡ []
-  chain_at e same = ap (λ t. cond t [] (good.shape.chains e)) (eq-eqb e d same)
-
-  chain_other : (e : ℕ) → e ≢ d → cond (nat_eq e d) [] (good.shape.chains e) ≡ good.shape.chains e
-  chain_other e other = ap (λ t. cond t [] (good.shape.chains e)) (ne_eqb e d other)
-
   old_cut : (e : ℕ) → e ≢ d → 0 < times_cut g' t' e → 0 < times_cut good.shape (tally_of views) e
   old_cut e other some = let n = ne-eqb-none d e (λ z. other (sym z)) in omega arith
 
@@ -114,22 +108,22 @@ module _ (k : Setup) (m : Memory) (views : List View) (i : ℕ) (v : View) (belo
     is_class = λ e some. elim (cases_eq e d) [ inl same ↦ subst (λ x. IsClass (info m x)) (sym same) may.class | inr other ↦ c.is_class e (old_cut e other some) ];
     anchored = λ e some. elim (cases_eq e d) as (λ _. IsAnchoredBy (next m) k.capacity (info m e) e (anchor m e) (g'.chains e)) [
       | inl same ↦ subst (λ x. IsAnchoredBy (next m) k.capacity (info m x) x (anchor m x) (g'.chains x)) (sym same)
-          (subst (λ x. IsAnchoredBy (next m) k.capacity class d x (g'.chains d)) (sym is_full) (subst (IsAnchoredBy (next m) k.capacity class d full_anchor) (sym (chain_at d refl)) (full_anchored (next m) k.capacity class d may.class)))
-      | inr other ↦ subst (IsAnchoredBy (next m) k.capacity (info m e) e (anchor m e)) (sym (chain_other e other)) (c.anchored e (old_cut e other some))
+          (subst (λ x. IsAnchoredBy (next m) k.capacity class d x (g'.chains d)) (sym is_full) (subst (IsAnchoredBy (next m) k.capacity class d full_anchor) (sym (at_one good.shape.chains d [] d refl)) (full_anchored (next m) k.capacity class d may.class)))
+      | inr other ↦ subst (IsAnchoredBy (next m) k.capacity (info m e) e (anchor m e)) (sym (at_other good.shape.chains d [] e other)) (c.anchored e (old_cut e other some))
     ];
     owned = λ e b some is. let all = blocks_are b in elim (cases_eq e d) as (λ _. times b (g'.chains e) + blocks' b ≡ 1) [
       | inl same ↦ let block : IsCutBlock k.capacity class d b = subst (λ x. IsCutBlock k.capacity (info m x) x b) same is in
-          let none = ap (times b) (chain_at e same) in let one = block_once k.capacity class d b may.class block in let z = ap (times b) same_blocks in
+          let none = ap (times b) (at_one good.shape.chains d [] e same) in let one = block_once k.capacity class d b may.class block in let z = ap (times b) same_blocks in
           let before_it = none_yet b (superblock_is k.capacity class d b may.class block) in omega arith
-      | inr other ↦ let cut_e = old_cut e other some in let old = c.owned e b cut_e is in let same_chain = ap (times b) (chain_other e other) in
+      | inr other ↦ let cut_e = old_cut e other some in let old = c.owned e b cut_e is in let same_chain = ap (times b) (at_other good.shape.chains d [] e other) in
           let none : times b bs ≡ 0 = elim (cases_lt 0 (times b bs)) [
             | inl there ↦ absurd (other (sym (superblock_is k.capacity (info m e) e b (c.is_class e cut_e) is) ∙ (in_block b there).1))
             | inr gone ↦ omega arith
           ] in omega arith
     ];
     chained = λ e b some there. elim (cases_eq e d) as (λ _. IsCutBlock k.capacity (info m e) e b) [
-      | inl same ↦ absurd (let none = ap (times b) (chain_at e same) in omega arith)
-      | inr other ↦ c.chained e b (old_cut e other some) (let z = ap (times b) (chain_other e other) in omega arith)
+      | inl same ↦ absurd (let none = ap (times b) (at_one good.shape.chains d [] e same) in omega arith)
+      | inr other ↦ c.chained e b (old_cut e other some) (let z = ap (times b) (at_other good.shape.chains d [] e other) in omega arith)
     ];
     inside = λ b some. elim (cases_lt 0 (total (times_block b) views)) [
       | inl old ↦ let o = c.inside b old in (let y = o.0 in omega arith, o.1)

@@ -12,10 +12,10 @@ use Rattle.core_model.specs.Memory.{Memory, volatile_at, anchor, info, next, wri
 use Rattle.core_model.specs.View.{Setup, View, Batch, no_batch, times_raw, times_classed, times_large, times_block}
 use Rattle.core_model.specs.Effects.{seen_word, steps, first_of, last_of, trimmed, claim_class, claimed, won, given, batch_anchor}
 use Rattle.core_model.specs.Guards.{IsThere, MayGive}
-use Rattle.core_model.specs.Sound.{Shape, Tally, tally_of, IsInShape, IsSetUp, IsCutBlock, IsAnchoredBy, AreChained, ClaimsOf, HasBlocks, class_numbers, times_in_lists, times_parked, times_cut, empties, Good}
+use Rattle.core_model.specs.Sound.{Shape, Tally, tally_of, IsInShape, IsCutBlock, IsAnchoredBy, AreChained, ClaimsOf, HasBlocks, class_numbers, times_in_lists, times_parked, times_cut, empties, Good}
 use Rattle.core_model.proofs.TotalLemmas.{total_set, total_same, total_at, total_change, total_where, eq-eqb-one, ne-eqb-none}
 use Rattle.core_model.proofs.FrameLemmas.{times_append, times_steps, below_is, below_not}
-use Rattle.core_model.proofs.StepLemmas.{IsSeat, seat_at, good_step}
+use Rattle.core_model.proofs.StepLemmas.{IsSeat, seat_at, good_step, set_up_kept}
 use Rattle.core_model.proofs.OwnLemmas.{one_at_most, won_tickets, length_only}
 use Rattle.core_model.proofs.QuietLemmas.{not_there}
 use Rattle.core_model.proofs.CountLemmas.{all_home, chain_short}
@@ -72,7 +72,7 @@ module _ (k : Setup) (m : Memory) (views : List View) (i : ℕ) (v : View) (belo
   is_class = subst IsClass info_is (good.shaped.chained.is_class d cut_d)
 
   pub anchored : IsAnchoredBy (next m) k.capacity class d (anchor m d) (good.shape.chains d)
-  anchored = subst (λ c. IsAnchoredBy (next m) k.capacity c d (anchor m d) (good.shape.chains d)) info_is (good.shaped.chained.anchored d cut_d)
+  anchored = on_anchor.anchored k m views i v below_i at good d x cut_d class info_is
 
   abbrev chain' : List ℕ
   chain' = bs ++ good.shape.chains d
@@ -228,9 +228,6 @@ module _ (k : Setup) (m : Memory) (views : List View) (i : ℕ) (v : View) (belo
   others : (g : Shape) → g.lists ≡ good.shape.lists → (j : ℕ) (u : View) → j < length views → get_or views j u ≡ u → IsSeat k m good.shape u → IsSeat k m' g u
   others g same_lists j u b a h = on_anchor.others k m views i v below_i at good d x cut_d g same_lists j u b a (λ some. (state_x, λ empty. absurd (was_not_empty empty))) h
 
-  set_up_now : (w : View) → w.setup ≡ v.setup → w.small ≡ v.small → w.caches ≡ v.caches → w.head_looks ≡ v.head_looks → length w.volatile ≡ length v.volatile → length w.durable ≡ length v.durable → IsSetUp k w
-  set_up_now w a b c looks e f = let s = seat.set_up in record { setup = a ∙ s.setup; small = ap length b ∙ s.small; caches = ap length c ∙ s.caches; looks = ap length looks ∙ s.looks; volatile = e ∙ s.volatile; durable = f ∙ s.durable }
-
   -- at most one superblock more is empty
   empties_most : (parked' : ℕ → ℕ) → ((e : ℕ) → e ≢ d → parked' e ≡ times_parked good.shape (tally_of views) e)
       → empties k.capacity (anchor m') parked' ≤ empties k.capacity (anchor m) (times_parked good.shape (tally_of views)) + 1
@@ -259,7 +256,7 @@ module _ (k : Setup) (m : Memory) (views : List View) (i : ℕ) (v : View) (belo
         durable = s.durable;
       }))
       (record {
-        set_up = set_up_now w refl refl refl refl (length_only w0 0 v.volatile) (length_only w0 0 v.durable);
+        set_up = set_up_kept k v w seat.set_up refl refl refl refl (length_only w0 0 v.volatile) (length_only w0 0 v.durable);
         claims = claims_now;
         blocks = blocks_now;
         knows = (let n = seat.knows in record { seen_head = n.seen_head; seen_used = n.seen_used; looked = n.looked; seen_anchor = λ e. absurd (not_there e); seen_empty = λ e. absurd (not_there e); floor = n.floor });
@@ -310,7 +307,7 @@ module _ (k : Setup) (m : Memory) (views : List View) (i : ℕ) (v : View) (belo
         durable = (let y = s.durable in record { behind = y.behind; room = y.room; below = λ e some. y.below e (let z = cut_same e in omega arith); infos = λ e some. y.infos e (let z = cut_same e in omega arith) });
       }))
       (record {
-        set_up = set_up_now w refl refl refl refl (length_only w1 0 v.volatile) (length_only w1 0 v.durable);
+        set_up = set_up_kept k v w seat.set_up refl refl refl refl (length_only w1 0 v.volatile) (length_only w1 0 v.durable);
         claims = (let c = claims_now in record { is_raw = c.is_raw; is_split = c.is_split; is_cutting = c.is_cutting; is_classed = is_classed; is_large = c.is_large; is_part = c.is_part; some = c.some });
         blocks = blocks_now;
         knows = (let n = seat.knows in record {

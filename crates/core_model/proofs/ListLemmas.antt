@@ -1,5 +1,5 @@
 -- Lists of descriptors when one loses or gets its first descriptor.
-use Rattle.std.proofs.Common.{◌≡◌, ◌≢◌, ℕ, suc, ◌+◌, ◌<◌, ◌≤◌, inl, inr, true, cond, nat_eq, List, [], ◌∷◌, get_or, Option, refl, ap, sym, subst, ◌∙◌, eq-eqb, eqb-true, ne_eqb, arith}
+use Rattle.std.proofs.Common.{◌≡◌, ◌≢◌, ℕ, suc, ◌+◌, ◌<◌, ◌≤◌, inl, inr, true, cond, nat_eq, List, [], ◌∷◌, get_or, set, length, Option, None, refl, ap, sym, subst, ◌∙◌, eq-eqb, eqb-true, ne_eqb, arith}
 use Rattle.std.proofs.lemmas.Bool.{cases_eq, agree_below_at}
 use Rattle.std.proofs.lemmas.List.{get_or_default}
 use Rattle.heap_model.specs.Geometry.{lists}
@@ -9,10 +9,15 @@ use Rattle.heap_model.specs.Chains.{Follows}
 use Rattle.heap_model.specs.Counting.{times, total}
 use Rattle.heap_model.specs.Rest.{list_numbers}
 use Rattle.heap_model.proofs.CountingLemmas.{times_once, is_number, numbers_ascend}
-use Rattle.core_model.specs.Effects.{before, seen, seen_word}
+use Rattle.core_model.specs.Cells.{head_cell}
+use Rattle.core_model.specs.Memory.{Memory, volatile_at, head, link, write}
+use Rattle.core_model.specs.View.{Setup, View, one_if_some}
+use Rattle.core_model.specs.Effects.{before, seen, seen_word, seen_of}
 use Rattle.core_model.specs.Guards.{IsThere}
-use Rattle.core_model.specs.Sound.{AreLists, KnowsHead, class_numbers}
+use Rattle.core_model.specs.Sound.{Shape, AreLists, KnowsHead, Adds, class_numbers}
 use Rattle.core_model.proofs.TotalLemmas.{total_change, ne-eqb-none}
+use Rattle.core_model.proofs.FrameLemmas.{untouched, words_frame}
+use Rattle.core_model.proofs.StepLemmas.{IsSeat, adds_step}
 
 -- the lists, but another one at one number
 abbrev pub relist : (ℕ → List ℕ) → ℕ → List ℕ → ℕ → List ℕ
@@ -93,10 +98,10 @@ pub in_lists_at : (d : ℕ) (descriptors : ℕ → List ℕ) (class : ℕ) → c
 in_lists_at d descriptors class is some = let step = in_lists_set d descriptors class [] is some in omega arith
 
 -- a pop makes what others saw of the list's head out of date, and leaves the rest
-pub knows_pop : (capacity : ℕ) (heads links : ℕ → ℕ) (descriptors : ℕ → List ℕ) (at word : ℕ) (ds : List ℕ) (list seen_word : ℕ) (next : Option ℕ)
-    → head_pops (heads at) < head_pops word → KnowsHead capacity heads links descriptors list seen_word next
+pub knows_pop : (capacity : ℕ) (heads links : ℕ → ℕ) (descriptors : ℕ → List ℕ) (at word : ℕ) (ds : List ℕ) → head_pops (heads at) < head_pops word → (list seen_word : ℕ) (next : Option ℕ)
+    → KnowsHead capacity heads links descriptors list seen_word next
     → KnowsHead capacity (λ n. cond (nat_eq n at) word (heads n)) links (relist descriptors at ds) list seen_word next
-knows_pop capacity heads links descriptors at word ds list seen_word next more h = elim (cases_eq list at) [
+knows_pop capacity heads links descriptors at word ds more list seen_word next h = elim (cases_eq list at) [
   | inl same ↦
       let now : head_pops (cond (nat_eq list at) word (heads list)) ≡ head_pops word = ap (λ t. head_pops (cond t word (heads list))) (eq-eqb list at same) in
       let before_it = h.pops in let was = ap (λ n. head_pops (heads n)) same in
@@ -119,6 +124,35 @@ knows_pop capacity heads links descriptors at word ds list seen_word next more h
         linked = subst (λ x. IsThere next → (head_first seen_word ≢ 0) × (head_pops seen_word ≡ head_pops x → links (before (head_first seen_word)) ≡ seen next)) (sym now) h.linked;
       }
 ]
+
+-- any seat, where one head changes with its list
+pub others_at_head : (k : Setup) (m : Memory) (g : Shape) (at word : ℕ) (ds : List ℕ)
+    → ((list seen_word : ℕ) (next : Option ℕ) → KnowsHead k.capacity (head m) (link m) g.lists list seen_word next
+    → KnowsHead k.capacity (λ n. cond (nat_eq n at) word (head m n)) (link m) (relist g.lists at ds) list seen_word next)
+    → (x : View) → IsSeat k m g x → IsSeat k (write m (volatile_at (head_cell at)) word) (record g { lists = relist g.lists at ds }) x
+others_at_head k m g at word ds knows x h = record {
+  set_up = h.set_up;
+  claims = h.claims;
+  blocks = h.blocks;
+  knows = (let s = h.knows in record {
+    seen_head = λ t. knows (seen_of x.seen_head) (seen_word x.seen_head) x.seen_link (s.seen_head t);
+    seen_used = s.seen_used;
+    looked = s.looked;
+    seen_anchor = s.seen_anchor;
+    seen_empty = s.seen_empty;
+    floor = s.floor;
+  });
+  words = words_frame k.capacity m (write m (volatile_at (head_cell at)) word) x (λ cell own. untouched x m.volatile (head_cell at) word cell refl own) (λ cell own. refl) h.words;
+  tickets = h.tickets;
+}
+
+-- a seat that wins an exchange on a head gives its ticket up
+pub adds_at_head : (k : Setup) (m : Memory) (views : List View) (i : ℕ) (v w : View) → i < length views → get_or views i v ≡ v → Adds k m views → (list word : ℕ) → list < lists
+    → head_pops word ≤ head_pops (head m list) + one_if_some v.ticket → w.ticket ≡ None → w.draws ≡ v.draws → w.stopped ≡ v.stopped → w.roots ≡ v.roots → w.taken ≡ v.taken
+    → Adds k (write m (volatile_at (head_cell list)) word) (set views i w)
+adds_at_head k m views i v w below at adds list word is pops none draws stopped roots taken =
+    adds_step k m (write m (volatile_at (head_cell list)) word) views i v w below at adds refl draws stopped roots
+    (let p = pops_set (head m) list word is in let n = ap one_if_some none in omega arith) (omega arith)
 
 -- the numbers of classes are classes
 pub class_of : (i n : ℕ) → i < 20 → get_or class_numbers i n ≡ n → IsClass n

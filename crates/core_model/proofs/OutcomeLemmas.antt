@@ -2,7 +2,7 @@
 use Rattle.std.proofs.Common.{◌≡◌, ℕ, ◌<◌, List, [], ◌∷◌, Option, Some, None, get_or, length, refl, ap, sym, subst, ◌∙◌, arith}
 use Rattle.std.proofs.lemmas.List.{get_or_default}
 use Rattle.core_model.specs.declared.answer.StepAnswer.{StepAnswer}
-use Rattle.core_model.specs.declared.answer.StepAnswer.TheVariants.{Done, Stopped, NotNow}
+use Rattle.core_model.specs.declared.answer.StepAnswer.TheVariants.{Stopped}
 use Rattle.core_model.specs.declared.event.Event.{Event}
 use Rattle.core_model.specs.Memory.{Memory, memory_of}
 use Rattle.core_model.specs.View.{Setup, View, one_if_some}

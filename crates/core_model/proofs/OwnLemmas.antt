@@ -141,6 +141,14 @@ words_trimmed c m x setup volatile durable = record {
   durable = λ cell value is knows. let own = known_only c x x.durable cell value setup is knows in (subst (λ n. 0 < n) (sym (own_same x (trimmed x) refl cell)) own.0, durable cell value is own.0 own.1);
 }
 
+-- the same of a seat's view that keeps what was known, in a memory that keeps the seat's own words
+pub words_left : (k : Setup) (m m' : Memory) (v x : View) → v.setup ≡ k → KnowsWords k.capacity m v
+    → ((cell : Cell) → IsOwn v cell → m'.volatile cell ≡ m.volatile cell) → ((cell : Cell) → IsOwn v cell → m'.durable cell ≡ m.durable cell)
+    → x.setup ≡ v.setup → x.volatile ≡ v.volatile → x.durable ≡ v.durable → KnowsWords k.capacity m' (trimmed x)
+words_left k m m' v x set_up words same_volatile same_durable setup volatile durable = words_trimmed k.capacity m' x (ap (λ (s : Setup). s.capacity) (setup ∙ set_up))
+    (λ cell value is own knows. let old = words.volatile cell value is (ap (λ values. known values cell) (sym volatile) ∙ knows) in same_volatile cell old.0 ∙ old.1)
+    (λ cell value is own knows. let old = words.durable cell value is (ap (λ values. known values cell) (sym durable) ∙ knows) in same_durable cell old.0 ∙ old.1)
+
 -- own words depend on these alone
 pub own_equal : (v w : View) → holdings w ≡ holdings v → ((d : ℕ) → times_raw d w ≡ times_raw d v) → ((d : ℕ) → times_classed d w.classed ≡ times_classed d v.classed) → ((d : ℕ) → times_large d w.large ≡ times_large d v.large)
     → (cell : Cell) → times_own w cell ≡ times_own v cell

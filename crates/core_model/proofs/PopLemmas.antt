@@ -11,13 +11,13 @@ use Rattle.core_model.specs.Memory.{Memory, volatile_at, used, durable_used, hea
 use Rattle.core_model.specs.View.{Setup, View, Batch, Snapshot, Look, one_if_some, times_raw, times_classed, times_claimed, times_large, times_block}
 use Rattle.core_model.specs.Effects.{before, seen, seen_word, seen_of, cleared, claim_class, won, claimed, popped_head}
 use Rattle.core_model.specs.Guards.{IsThere, MayPop}
-use Rattle.core_model.specs.Sound.{Shape, Tally, tally_of, IsInShape, AreChained, Knows, KnowsHead, Adds, stale, stale_anchor, stale_head, differs, class_numbers, times_in_lists, times_parked, times_cut, empties, Good}
+use Rattle.core_model.specs.Sound.{Shape, Tally, tally_of, IsInShape, AreChained, Knows, KnowsHead, stale, stale_anchor, stale_head, differs, class_numbers, times_in_lists, times_parked, times_cut, empties, Good}
 use Rattle.core_model.proofs.TotalLemmas.{total_set, total_same, total_unchanged, eq-eqb-one, ne-eqb-none}
 use Rattle.core_model.proofs.FrameLemmas.{untouched, words_frame}
-use Rattle.core_model.proofs.StepLemmas.{IsSeat, seat_at, good_step, adds_step}
+use Rattle.core_model.proofs.StepLemmas.{IsSeat, seat_at, good_step}
 use Rattle.core_model.proofs.OwnLemmas.{own_grows, words_grow, stale_cleared, stale_head_most, cleared_other, won_tickets}
 use Rattle.core_model.proofs.FreshLemmas.{cleared_same}
-use Rattle.core_model.proofs.ListLemmas.{relist, relist_same, relist_other, IsFirst, first_is, follows_small, head_parts, lists_set, pops_set, in_lists_set, in_lists_at, knows_pop}
+use Rattle.core_model.proofs.ListLemmas.{relist, relist_same, relist_other, IsFirst, first_is, follows_small, head_parts, lists_set, in_lists_set, in_lists_at, knows_pop, others_at_head, adds_at_head}
 
 module _ (k : Setup) (m : Memory) (views : List View) (i : ℕ) (v : View) (below_i : i < length views) (at : get_or views i v ≡ v) (good : Good k m views)
     (ticket : IsThere v.ticket) (may : MayPop v) (as_seen : head m (seen_of v.seen_head) ≡ seen_word v.seen_head) where
@@ -78,24 +78,6 @@ module _ (k : Setup) (m : Memory) (views : List View) (i : ℕ) (v : View) (belo
   there : 0 < times d (good.shape.lists l)
   there = let e = at_list d in let one = eq-eqb-one d d refl in omega arith
 
-  others : (j : ℕ) (x : View) → IsSeat k m good.shape x → IsSeat k m' g' x
-  others j x h = record {
-    set_up = h.set_up;
-    claims = h.claims;
-    blocks = h.blocks;
-    knows = (let s = h.knows in record {
-      seen_head = λ t. knows_pop k.capacity (head m) (link m) good.shape.lists l (popped_head v) first.rest (seen_of x.seen_head) (seen_word x.seen_head) x.seen_link
-          (let p = parts_of_head.1 in let q = same_pops in omega arith) (s.seen_head t);
-      seen_used = s.seen_used;
-      looked = s.looked;
-      seen_anchor = s.seen_anchor;
-      seen_empty = s.seen_empty;
-      floor = s.floor;
-    });
-    words = words_frame k.capacity m m' x (λ cell own. untouched x m.volatile (head_cell l) (popped_head v) cell refl own) (λ cell own. refl) h.words;
-    tickets = h.tickets;
-  }
-
   durable_d : d < durable_used m
   durable_d = elim (cases_eq l 0) [
     | inl free ↦ good.shaped.durable.below d (let t = there in let e = ap (λ x. times d (good.shape.lists x)) free in omega arith)
@@ -126,12 +108,8 @@ module _ (k : Setup) (m : Memory) (views : List View) (i : ℕ) (v : View) (belo
       let e = stale_cleared m v w d 1 v.seen_anchor (λ e out. more e) in
       let a = ap (stale_anchor m w) anchor_same in let b = ap (λ x. differs x (used m)) used_same in let c = ap (stale_head m') none in omega arith
 
-  adds_after : (w : View) → w.ticket ≡ None → w.draws ≡ v.draws → w.stopped ≡ v.stopped → w.roots ≡ v.roots → w.taken ≡ v.taken → Adds k m' (set views i w)
-  adds_after w none draws stopped roots taken = adds_step k m m' views i v w below_i at good.adds refl draws stopped roots
-      (let p = pops_set (head m) l (popped_head v) known_head.is_list in let q = parts_of_head.1 in let r = same_pops in let n = ap one_if_some none in omega arith) (omega arith)
-
-  theirs : (x : View) → stale m' x + v.wins ≤ stale m x + (v.wins + 1)
-  theirs x = let e = stale_head_most m' x.seen_head in omega arith
+  one_pop : head_pops (popped_head v) ≡ head_pops (head m l) + 1
+  one_pop = parts_of_head.1 ∙ ap (λ n. n + 1) same_pops
 
   -- from the list of the free ones it is claimed without a class
   pop_free : l ≡ 0 → Good k m' (set views i (claimed base d 0))
@@ -169,10 +147,10 @@ module _ (k : Setup) (m : Memory) (views : List View) (i : ℕ) (v : View) (belo
             (words_grow k.capacity m v w refl refl (own_grows v w refl (λ e. omega arith) (λ e. omega arith) (λ e. omega arith)) seat.words);
         tickets = won_tickets k.budget m.drawn v w seat.tickets ticket refl refl (omega arith) refl refl refl refl refl refl refl (omega arith);
       })
-      (λ j x other b a h. others j x h)
-      (adds_after w refl refl refl refl refl)
+      (λ j x other b a. others_at_head k m good.shape l (popped_head v) first.rest (knows_pop k.capacity (head m) (link m) good.shape.lists l (popped_head v) first.rest (let p = one_pop in omega arith)) x)
+      (adds_at_head k m views i v w below_i at good.adds l (popped_head v) known_head.is_list (let p = one_pop in omega arith) refl refl refl refl refl)
       (record { mine = stale_less w refl refl refl refl (λ e. omega arith); more = omega arith })
-      (λ j x other b a. theirs x)
+      (λ j x other b a. let e = stale_head_most m' x.seen_head in omega arith)
       (let old = good.moves in let gives = total_same (λ (x : View). x.gives) views i v w below_i at refl in let moves = total_same (λ (x : View). x.moves) views i v w below_i at refl in
       let empty = ap (λ (t : Tally). empties k.capacity (anchor m) (times_parked g' t)) tally in let same = ap (empties k.capacity (anchor m)) parked_same in omega arith) where
         w : View
@@ -226,10 +204,10 @@ module _ (k : Setup) (m : Memory) (views : List View) (i : ℕ) (v : View) (belo
             (words_grow k.capacity m v w refl refl (own_grows v w refl (λ e. omega arith) (λ e. omega arith) (λ e. omega arith)) seat.words);
         tickets = won_tickets k.budget m.drawn v w seat.tickets ticket refl refl (omega arith) refl refl refl refl refl refl refl (omega arith);
       })
-      (λ j x other b a h. others j x h)
-      (adds_after w refl refl refl refl refl)
+      (λ j x other b a. others_at_head k m good.shape l (popped_head v) first.rest (knows_pop k.capacity (head m) (link m) good.shape.lists l (popped_head v) first.rest (let p = one_pop in omega arith)) x)
+      (adds_at_head k m views i v w below_i at good.adds l (popped_head v) known_head.is_list (let p = one_pop in omega arith) refl refl refl refl refl)
       (record { mine = stale_less w refl refl refl refl (λ e. omega arith); more = omega arith })
-      (λ j x other b a. theirs x)
+      (λ j x other b a. let e = stale_head_most m' x.seen_head in omega arith)
       (let old = good.moves in let gives = total_same (λ (x : View). x.gives) views i v w below_i at refl in let moves = total_same (λ (x : View). x.moves) views i v w below_i at refl in
       let empty = ap (λ (t : Tally). empties k.capacity (anchor m) (times_parked g' t)) tally in let same = ap (empties k.capacity (anchor m)) parked_same in omega arith) where
         w : View

@@ -9,25 +9,25 @@ use Rattle.heap_model.specs.Rest.{list_numbers}
 use Rattle.heap_model.specs.Counting.{times, total, one_if, below, without}
 use Rattle.core_model.specs.Cells.{head_cell, superblock_at}
 use Rattle.core_model.specs.Memory.{Memory, volatile_at, used, durable_used, head, anchor, info, link, next, write}
-use Rattle.core_model.specs.View.{Setup, View, Batch, Snapshot, Look, one_if_some, known, times_raw, times_classed, times_claimed, times_large, times_block}
-use Rattle.core_model.specs.Effects.{before, seen, seen_word, seen_of, cleared, claim_class, without_claim, steps, won, pushed, pushed_raw, pushed_classed, pushed_head, trimmed}
+use Rattle.core_model.specs.View.{Setup, View, Batch, Snapshot, Look, one_if_some, times_raw, times_classed, times_claimed, times_large, times_block}
+use Rattle.core_model.specs.Effects.{before, seen, seen_word, seen_of, cleared, without_claim, steps, won, pushed, pushed_raw, pushed_classed, pushed_head}
 use Rattle.core_model.specs.Guards.{IsThere, MayPush, MayList, as_free, of_its_class}
-use Rattle.core_model.specs.Sound.{Shape, Tally, tally_of, IsInShape, IsSetUp, AreChained, IsCutBlock, Knows, KnowsHead, KnowsWords, Adds, stale, stale_anchor, stale_head, differs, class_numbers, times_in_lists, times_parked, times_cut, empties, Good}
+use Rattle.core_model.specs.Sound.{Shape, Tally, tally_of, IsInShape, AreChained, IsCutBlock, Knows, KnowsHead, stale, stale_anchor, stale_head, differs, class_numbers, times_in_lists, times_parked, times_cut, empties, Good}
 use Rattle.core_model.proofs.TotalLemmas.{total_set, total_same, total_at, total_change, total_unchanged, eq-eqb-one, ne-eqb-none}
-use Rattle.core_model.proofs.FrameLemmas.{untouched, words_frame, times_without, without_none, times_steps, below_is, below_not}
-use Rattle.core_model.proofs.StepLemmas.{IsSeat, seat_at, good_step, adds_step}
-use Rattle.core_model.proofs.OwnLemmas.{one_at_most, words_trimmed, stale_cleared, stale_head_most, cleared_other, won_tickets, length_only}
+use Rattle.core_model.proofs.FrameLemmas.{untouched, times_without, without_none, times_steps, below_is, below_not}
+use Rattle.core_model.proofs.StepLemmas.{IsSeat, seat_at, good_step, set_up_kept}
+use Rattle.core_model.proofs.OwnLemmas.{one_at_most, words_left, stale_cleared, stale_head_most, cleared_other, won_tickets, length_only}
 use Rattle.core_model.proofs.FreshLemmas.{cleared_same}
-use Rattle.core_model.proofs.CountLemmas.{times_without_claim, class_without, without_less, all_home}
+use Rattle.core_model.proofs.CountLemmas.{times_without_claim, claims_without, claimed_is_cut, all_without_claim, without_less, all_home}
 use Rattle.heap_model.proofs.CountingLemmas.{one_if_true}
 use Rattle.core_model.proofs.PlaceLemmas.{and_is, not-lt}
-use Rattle.core_model.proofs.ListLemmas.{relist, relist_same, relist_other, head_parts, lists_set, pops_set, in_lists_set}
+use Rattle.core_model.proofs.ListLemmas.{relist, relist_same, relist_other, head_parts, lists_set, in_lists_set, others_at_head, adds_at_head}
 
 -- a push leaves what others saw of the list's head: its pops, and that the descriptor is in the list
-pub knows_push : (capacity : ℕ) (heads links : ℕ → ℕ) (descriptors : ℕ → List ℕ) (at word d : ℕ) (list seen_word : ℕ) (next : Option ℕ)
-    → head_pops word ≡ head_pops (heads at) → KnowsHead capacity heads links descriptors list seen_word next
+pub knows_push : (capacity : ℕ) (heads links : ℕ → ℕ) (descriptors : ℕ → List ℕ) (at word d : ℕ) → head_pops word ≡ head_pops (heads at) → (list seen_word : ℕ) (next : Option ℕ)
+    → KnowsHead capacity heads links descriptors list seen_word next
     → KnowsHead capacity (λ n. cond (nat_eq n at) word (heads n)) links (relist descriptors at (d ∷ descriptors at)) list seen_word next
-knows_push capacity heads links descriptors at word d list seen_word next same_pops h =
+knows_push capacity heads links descriptors at word d same_pops list seen_word next h =
     let pops = pops_are list in
     record {
       is_list = h.is_list;
@@ -84,22 +84,8 @@ module _ (k : Setup) (m : Memory) (views : List View) (i : ℕ) (v : View) (belo
   off_list : (n e : ℕ) → n ≢ l → times e (relist good.shape.lists l (d ∷ good.shape.lists l) n) ≡ times e (good.shape.lists n)
   off_list n e other = ap (times e) (relist_other good.shape.lists l (d ∷ good.shape.lists l) n other)
 
-  others : (j : ℕ) (x : View) → IsSeat k m good.shape x → IsSeat k m' g' x
-  others j x h = record {
-    set_up = h.set_up;
-    claims = h.claims;
-    blocks = h.blocks;
-    knows = (let s = h.knows in record {
-      seen_head = λ t. knows_push k.capacity (head m) (link m) good.shape.lists l (pushed_head v d) d (seen_of x.seen_head) (seen_word x.seen_head) x.seen_link parts_of_head.1 (s.seen_head t);
-      seen_used = s.seen_used;
-      looked = s.looked;
-      seen_anchor = s.seen_anchor;
-      seen_empty = s.seen_empty;
-      floor = s.floor;
-    });
-    words = words_frame k.capacity m m' x (λ cell own. untouched x m.volatile (head_cell l) (pushed_head v d) cell refl own) (λ cell own. refl) h.words;
-    tickets = h.tickets;
-  }
+  others : (x : View) → IsSeat k m good.shape x → IsSeat k m' g' x
+  others = others_at_head k m good.shape l (pushed_head v d) (d ∷ good.shape.lists l) (knows_push k.capacity (head m) (link m) good.shape.lists l (pushed_head v d) d parts_of_head.1)
 
   -- the seat's snapshots; `w` has the descriptor no more
   knows_after : (w : View) → w.seen_head ≡ None → w.seen_used ≡ v.seen_used → w.used_look ≡ v.used_look → w.taken ≡ v.taken → w.batch ≡ v.batch → w.seen_anchor ≡ cleared d 1 v.seen_anchor
@@ -124,22 +110,6 @@ module _ (k : Setup) (m : Memory) (views : List View) (i : ℕ) (v : View) (belo
   stale_less w losses none used_same anchor_same more =
       let e = stale_cleared m v w d 1 v.seen_anchor (λ e out. more e (λ same. out (omega (arith, same)) (omega (arith, same)))) in
       let a = ap (stale_anchor m w) anchor_same in let b = ap (λ x. differs x (used m)) used_same in let c = ap (stale_head m') none in omega arith
-
-  adds_after : (w : View) → w.ticket ≡ None → w.draws ≡ v.draws → w.stopped ≡ v.stopped → w.roots ≡ v.roots → w.taken ≡ v.taken → Adds k m' (set views i w)
-  adds_after w none draws stopped roots taken = adds_step k m m' views i v w below_i at good.adds refl draws stopped roots
-      (let p = pops_set (head m) l (pushed_head v d) is_list in let q = parts_of_head.1 in let n = ap one_if_some none in omega arith) (omega arith)
-
-  theirs : (x : View) → stale m' x + v.wins ≤ stale m x + (v.wins + 1)
-  theirs x = let e = stale_head_most m' x.seen_head in omega arith
-
-  set_up_after : (w : View) → w.setup ≡ v.setup → w.small ≡ v.small → w.caches ≡ v.caches → w.head_looks ≡ v.head_looks → length w.volatile ≡ length v.volatile → length w.durable ≡ length v.durable → IsSetUp k w
-  set_up_after w a b c looks e f = let s = seat.set_up in record { setup = a ∙ s.setup; small = ap length b ∙ s.small; caches = ap length c ∙ s.caches; looks = ap length looks ∙ s.looks; volatile = e ∙ s.volatile; durable = f ∙ s.durable }
-
-  -- what is known of the own words that are left
-  words_after : (x : View) → x.setup ≡ v.setup → x.volatile ≡ v.volatile → x.durable ≡ v.durable → KnowsWords k.capacity m' (trimmed x)
-  words_after x setup volatile durable = words_trimmed k.capacity m' x (ap (λ (s : Setup). s.capacity) (setup ∙ seat.set_up.setup))
-      (λ cell value is own knows. let old = seat.words.volatile cell value is (ap (λ values. known values cell) (sym volatile) ∙ knows) in untouched v m.volatile (head_cell l) (pushed_head v d) cell refl old.0 ∙ old.1)
-      (λ cell value is own knows. (seat.words.durable cell value is (ap (λ values. known values cell) (sym durable) ∙ knows)).1)
 
   -- the claims together are at most one
   one_claim : (e : ℕ) → times_raw e v + times_classed e v.classed + total (λ n. times e (good.shape.lists n)) list_numbers ≤ 1
@@ -175,7 +145,7 @@ module _ (k : Setup) (m : Memory) (views : List View) (i : ℕ) (v : View) (belo
         });
       }))
       (record {
-        set_up = set_up_after w refl refl refl refl (length_only base 0 v.volatile) (length_only base 0 v.durable);
+        set_up = set_up_kept k v w seat.set_up refl refl refl refl (length_only base 0 v.volatile) (length_only base 0 v.durable);
         claims = (let c = seat.claims in record {
           is_raw = λ e here. c.is_raw e (let z = without_less e d v.raw in omega arith);
           is_split = λ e here. c.is_split e (let z = without_less e d v.split in omega arith);
@@ -187,13 +157,13 @@ module _ (k : Setup) (m : Memory) (views : List View) (i : ℕ) (v : View) (belo
         });
         blocks = seat.blocks;
         knows = knows_after w refl refl refl refl refl refl (λ e other. let z = raw_is e in let n = ne-eqb-none d e other in omega arith) (λ e other. refl) refl;
-        words = words_after base refl refl refl;
+        words = words_left k m m' v base seat.set_up.setup seat.words (λ cell own. untouched v m.volatile (head_cell l) (pushed_head v d) cell refl own) (λ cell own. refl) refl refl refl;
         tickets = won_tickets k.budget m.drawn v w seat.tickets ticket refl refl (omega arith) refl refl refl refl refl refl refl (omega arith);
       })
-      (λ j x other b a h. others j x h)
-      (adds_after w refl refl refl refl refl)
+      (λ j x other b a. others x)
+      (adds_at_head k m views i v w below_i at good.adds l (pushed_head v d) is_list (let p = parts_of_head.1 in omega arith) refl refl refl refl refl)
       (record { mine = stale_less w refl refl refl refl (λ e other. let z = raw_is e in let n = ne-eqb-none d e other in omega arith); more = omega arith })
-      (λ j x other b a. theirs x)
+      (λ j x other b a. let e = stale_head_most m' x.seen_head in omega arith)
       (let old = good.moves in let gives = total_same (λ (x : View). x.gives) views i v w below_i at refl in let moves = total_same (λ (x : View). x.moves) views i v w below_i at refl in
       let empty_now = ap (λ (t : Tally). empties k.capacity (anchor m) (times_parked g' t)) tally in let same = ap (empties k.capacity (anchor m)) parked_same in omega arith) where
         base : View
@@ -242,9 +212,6 @@ module _ (k : Setup) (m : Memory) (views : List View) (i : ℕ) (v : View) (belo
     abbrev w : View
     w = pushed_classed v d
 
-    classed_is : (e : ℕ) → times_classed e w.classed + one_if (nat_eq d e) ≡ times_classed e v.classed
-    classed_is e = times_without_claim e d v.classed claimed
-
     abbrev classed' : ℕ → ℕ
     classed' e = total (λ (x : View). times_classed e x.classed) (set views i w)
 
@@ -252,7 +219,7 @@ module _ (k : Setup) (m : Memory) (views : List View) (i : ℕ) (v : View) (belo
     t' = record (tally_of views) { classed = classed' }
 
     classed_are : (e : ℕ) → classed' e + one_if (nat_eq d e) ≡ total (λ (x : View). times_classed e x.classed) views
-    classed_are e = let s = total_set (λ (x : View). times_classed e x.classed) views i v w below_i at in let z = classed_is e in omega arith
+    classed_are e = all_without_claim e d views i v w below_i at claimed refl
 
     tally : tally_of (set views i w) ≡ t'
     tally = λ j. record {
@@ -262,23 +229,16 @@ module _ (k : Setup) (m : Memory) (views : List View) (i : ℕ) (v : View) (belo
       blocks = λ b. (total_same (times_block b) views i v w below_i at refl) j;
     }
 
-    cut_d : 0 < times_cut good.shape (tally_of views) d
-    cut_d = let c = total_at (λ (x : View). times_classed d x.classed) views i v below_i at in omega arith
-
-    is_classed : (e : ℕ) → 0 < times_classed e w.classed → IsClass (claim_class e w.classed) × (info m e ≡ claim_class e w.classed) × (anchor_state (anchor m e) < full_state)
-    is_classed e some = elim (cases_eq d e) [
-      | inl same ↦ absurd (let z = classed_is e in let n = eq-eqb-one d e same in let most = one_claim e in omega arith)
-      | inr other ↦ subst (λ n. IsClass n × (info m e ≡ n) × (anchor_state (anchor m e) < full_state)) (sym (class_without e d v.classed other))
-          (seat.claims.is_classed e (let z = classed_is e in let n = ne-eqb-none d e other in omega arith))
-    ]
+    once : times_classed d v.classed ≡ 1
+    once = let most = one_claim d in omega arith
 
     mine : IsSeat k m' g' w
     mine = record {
-      set_up = set_up_after w refl refl refl refl (length_only base 0 v.volatile) (length_only base 0 v.durable);
-      claims = (let c = seat.claims in record { is_raw = c.is_raw; is_split = c.is_split; is_cutting = c.is_cutting; is_classed = is_classed; is_large = c.is_large; is_part = c.is_part; some = c.some });
+      set_up = set_up_kept k v w seat.set_up refl refl refl refl (length_only base 0 v.volatile) (length_only base 0 v.durable);
+      claims = claims_without (info m) (anchor m) v.raw v.split v.cutting v.classed v.large d once seat.claims;
       blocks = seat.blocks;
-      knows = knows_after w refl refl refl refl refl refl (λ e other. let z = classed_is e in let n = ne-eqb-none d e other in omega arith) (λ e other. let z = classed_is e in let n = ne-eqb-none d e other in omega arith) refl;
-      words = words_after base refl refl refl;
+      knows = knows_after w refl refl refl refl refl refl (λ e other. let z = times_without_claim e d v.classed claimed in let n = ne-eqb-none d e other in omega arith) (λ e other. let z = times_without_claim e d v.classed claimed in let n = ne-eqb-none d e other in omega arith) refl;
+      words = words_left k m m' v base seat.set_up.setup seat.words (λ cell own. untouched v m.volatile (head_cell l) (pushed_head v d) cell refl own) (λ cell own. refl) refl refl refl;
       tickets = won_tickets k.budget m.drawn v w seat.tickets ticket refl refl (omega arith) refl refl refl refl refl refl refl (moved (nat_eq l 0));
     } where
       moved : (test : Bool) → v.gives + cond test (v.moves + 1) v.moves ≤ v.gives + v.moves + 1
@@ -301,9 +261,9 @@ module _ (k : Setup) (m : Memory) (views : List View) (i : ℕ) (v : View) (belo
             infos = λ e here. x.infos e (let b = lists_are e in let c = classed_are e in omega arith);
           });
         }))
-        mine (λ j x other b a h. others j x h) (adds_after w refl refl refl refl refl)
+        mine (λ j x other b a. others x) (adds_at_head k m views i v w below_i at good.adds l (pushed_head v d) is_list (let p = parts_of_head.1 in omega arith) refl refl refl refl refl)
         (record { mine = stale_less w refl refl refl refl (λ e other. omega arith); more = omega arith })
-        (λ j x other b a. theirs x)
+        (λ j x other b a. let e = stale_head_most m' x.seen_head in omega arith)
         (let old = good.moves in let gives = total_same (λ (x : View). x.gives) views i v w below_i at refl in
         let moves = total_same (λ (x : View). x.moves) views i v w below_i at (ap (λ t. cond t (v.moves + 1) v.moves) (ne_eqb l 0 some)) in
         let empty = ap (λ (t : Tally). empties k.capacity (anchor m) (times_parked g' t)) tally in let same = ap (empties k.capacity (anchor m)) parked_same in omega arith) where
@@ -329,6 +289,7 @@ module _ (k : Setup) (m : Memory) (views : List View) (i : ℕ) (v : View) (belo
     empty_home : anchor_state (anchor m d) ≡ empty_state → (b : ℕ) → IsCutBlock k.capacity (info m d) d b → (tally_of views).blocks b ≡ 0
     empty_home empty b at_b =
         let c = good.shaped.chained in
+        let cut_d = claimed_is_cut good.shape views i v d below_i at claimed in
         let anchored = c.anchored d cut_d in
         let one = all_home k.capacity (info m d) d (good.shape.chains d) (c.is_class d cut_d) (anchored.empty.0 empty) (λ x some. c.chained d x cut_d some)
         (λ x at_x. let o = c.owned d x cut_d at_x in omega arith) b at_b in
@@ -372,9 +333,9 @@ module _ (k : Setup) (m : Memory) (views : List View) (i : ℕ) (v : View) (belo
             infos = λ e here. x.infos e (let b = cut_are e in omega arith);
           });
         }))
-        mine (λ j x other b a h. others j x h) (adds_after w refl refl refl refl refl)
+        mine (λ j x other b a. others x) (adds_at_head k m views i v w below_i at good.adds l (pushed_head v d) is_list (let p = parts_of_head.1 in omega arith) refl refl refl refl refl)
         (record { mine = stale_less w refl refl refl refl (λ e other. omega arith); more = omega arith })
-        (λ j x other b a. theirs x)
+        (λ j x other b a. let e = stale_head_most m' x.seen_head in omega arith)
         (let old = good.moves in let gives = total_same (λ (x : View). x.gives) views i v w below_i at refl in
         let moves = total_set (λ (x : View). x.moves) views i v w below_i at in let one_more = ap (λ t. cond t (v.moves + 1) v.moves) (eq-eqb l 0 is) in
         let now = ap (λ (t : Tally). empties k.capacity (anchor m) (times_parked g' t)) tally in let less = empties_less in omega arith) where

@@ -9,7 +9,7 @@ use Rattle.heap_model.proofs.CountingLemmas.{one_if_true, one_if_false}
 use Rattle.heap_model.proofs.MemberLemmas.{head_or_rest, in_head, in_rest}
 use Rattle.core_model.specs.Cells.{superblock_at}
 use Rattle.core_model.specs.Memory.{Memory, used, durable_used, head, anchor, info, link}
-use Rattle.core_model.specs.View.{Setup, View, Batch, Span, Snapshot, Look, known, takes, times_raw, times_classed, times_claimed, times_large, times_block}
+use Rattle.core_model.specs.View.{Setup, View, Batch, Span, Snapshot, Look, takes, times_raw, times_classed, times_claimed, times_large, times_block}
 use Rattle.core_model.specs.Effects.{seen, seen_word, seen_of, steps, class_blocks, cleared, without_range, span_count, without_span, trimmed, after_large, after_split}
 use Rattle.core_model.specs.Guards.{IsThere, MayHoldLarge, MaySplit}
 use Rattle.core_model.specs.Sound.{Shape, tally_of, IsInShape, IsCutBlock, Knows, KnowsHead, KnowsWords, stale, stale_anchor, stale_head, differs, times_parked, empties, Good}
@@ -17,7 +17,7 @@ use Rattle.core_model.proofs.TotalLemmas.{total_set, total_same, total_at, ne-eq
 use Rattle.core_model.proofs.PlaceLemmas.{and_both, and_is}
 use Rattle.core_model.proofs.FrameLemmas.{times_append, times_steps, below_is, below_not}
 use Rattle.core_model.proofs.StepLemmas.{IsSeat, seat_at}
-use Rattle.core_model.proofs.OwnLemmas.{one_at_most, own_grows, words_grow, words_trimmed, stale_cleared, cleared_other, length_only}
+use Rattle.core_model.proofs.OwnLemmas.{one_at_most, own_grows, words_grow, words_left, stale_cleared, cleared_other, length_only}
 use Rattle.core_model.proofs.FreshLemmas.{cleared_same}
 use Rattle.core_model.proofs.LinkFrameLemmas.{span_covers}
 use Rattle.core_model.proofs.ShiftLemmas.{shift_step}
@@ -113,9 +113,7 @@ module _ (k : Setup) (m : Memory) (views : List View) (i : ℕ) (v : View) (belo
 
   -- what is known of own words that are left
   pub words_after : (y : View) → y.setup ≡ v.setup → y.volatile ≡ v.volatile → y.durable ≡ v.durable → KnowsWords k.capacity m (trimmed y)
-  words_after y setup volatile durable = words_trimmed k.capacity m y (ap (λ (z : Setup). z.capacity) (setup ∙ seat.set_up.setup))
-      (λ cell value is own knows. (seat.words.volatile cell value is (ap (λ values. known values cell) (sym volatile) ∙ knows)).1)
-      (λ cell value is own knows. (seat.words.durable cell value is (ap (λ values. known values cell) (sym durable) ∙ knows)).1)
+  words_after y = words_left k m m v y seat.set_up.setup seat.words (λ cell own. refl) (λ cell own. refl)
 
   -- the snapshots, where descriptors of a range enter or leave the hand
   pub knows_after : (from n : ℕ) (w : View) (g : Shape) → g.lists ≡ good.shape.lists → w.seen_head ≡ v.seen_head → w.seen_link ≡ v.seen_link → w.seen_used ≡ v.seen_used → w.used_look ≡ v.used_look → w.taken ≡ v.taken → w.batch ≡ v.batch

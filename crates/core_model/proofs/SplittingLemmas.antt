@@ -7,16 +7,17 @@ use Rattle.heap_model.specs.Counting.{times, total, one_if}
 use Rattle.heap_model.proofs.MemberLemmas.{in_head, in_rest, head_or_rest}
 use Rattle.core_model.specs.Cells.{superblock_at}
 use Rattle.core_model.specs.Memory.{Memory, memory_of, anchor, info, next}
-use Rattle.core_model.specs.View.{Setup, View, Span, Look, no_batch, one_if_some, of_class, known, takes, times_raw, times_classed, times_large, times_block}
-use Rattle.core_model.specs.Effects.{span_count, trimmed}
+use Rattle.core_model.specs.View.{Setup, View, Span, Look, no_batch, one_if_some, of_class, takes, times_raw, times_classed, times_large, times_block}
+use Rattle.core_model.specs.Effects.{span_count}
 use Rattle.core_model.specs.Opening.{unlooked}
 use Rattle.core_model.specs.Splitting.{Choice, others, chosen, chosen_spans, chosen_lists, remaining, new_seat, given_off}
 use Rattle.core_model.specs.Sound.{Tally, tally_of, IsInShape, Each, IsSetUp, ClaimsOf, HasClaims, BlocksOf, HasBlocks, Knows, KnowsWords, IsDrawn, HasTickets, HasLost, times_parked, empties, Good, Sound}
 use Rattle.core_model.proofs.TotalLemmas.{total_set, each_set}
 use Rattle.core_model.proofs.StepLemmas.{IsSeat, seat_at}
-use Rattle.core_model.proofs.OwnLemmas.{words_trimmed, length_only}
+use Rattle.core_model.proofs.OwnLemmas.{length_only}
 use Rattle.core_model.proofs.QuietLemmas.{not_there, none_drawn}
 use Rattle.core_model.proofs.OpenCountLemmas.{empty_at, no_walk}
+use Rattle.core_model.proofs.SpanLemmas as spans
 
 -- what goes and what stays is all
 chosen_both : (test : ℕ → Bool) (n : ℕ) (xs : List ℕ) → times n (chosen (λ x. not (test x)) xs) + times n (chosen test xs) ≡ times n xs
@@ -168,11 +169,6 @@ module _ (k : Setup) (m : Memory) (views : List View) (i : ℕ) (v : View) (belo
     batch_linked = tt;
   }
 
-  words_of : (y : View) → y.setup ≡ v.setup → y.volatile ≡ v.volatile → y.durable ≡ v.durable → KnowsWords k.capacity m (trimmed y)
-  words_of y setup volatile durable = words_trimmed k.capacity m y (ap (λ (z : Setup). z.capacity) (setup ∙ seat.set_up.setup))
-      (λ cell value is own knows. (seat.words.volatile cell value is (ap (λ values. known values cell) (sym volatile) ∙ knows)).1)
-      (λ cell value is own knows. (seat.words.durable cell value is (ap (λ values. known values cell) (sym durable) ∙ knows)).1)
-
   set_up_rest : IsSetUp k a
   set_up_rest = let s = seat.set_up in record {
     setup = s.setup;
@@ -235,7 +231,7 @@ module _ (k : Setup) (m : Memory) (views : List View) (i : ℕ) (v : View) (belo
     blocks = each_behind (set views i a) b (BlocksOf m) (each_set views i a (BlocksOf m) below_i (λ j u other l e. good.blocks j u l e) blocks_rest) blocks_new;
     knows = each_behind (set views i a) b (Knows k.capacity m good.shape) (each_set views i a (Knows k.capacity m good.shape) below_i (λ j u other l e. good.knows j u l e) knows_rest) knows_new;
     words = each_behind (set views i a) b (KnowsWords k.capacity m) (each_set views i a (KnowsWords k.capacity m) below_i (λ j u other l e. good.words j u l e)
-        (words_of (record v { small = chosen_lists (others c).blocks v.small; large = chosen_spans (others c).spans v.large; roots = chosen (others c).roots v.roots }) refl refl refl)) (words_of (new_seat c v) refl refl refl);
+        (spans.words_after k m views i v below_i at good (record v { small = chosen_lists (others c).blocks v.small; large = chosen_spans (others c).spans v.large; roots = chosen (others c).roots v.roots }) refl refl refl)) (spans.words_after k m views i v below_i at good (new_seat c v) refl refl refl);
     tickets = each_behind (set views i a) b (HasTickets k.budget m.drawn) (each_set views i a (HasTickets k.budget m.drawn) below_i (λ j u other l e. good.tickets j u l e) tickets_rest) tickets_new;
     adds = (let x = good.adds in let drawn = dealt (λ (y : View). y.draws) (omega arith) in let tickets = dealt (λ (y : View). one_if_some y.ticket) (omega arith) in
         let stopped = dealt (λ (y : View). one_if_some y.stopped) (omega arith) in let taken = dealt (λ (y : View). y.taken) (omega arith) in

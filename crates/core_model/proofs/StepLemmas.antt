@@ -1,5 +1,5 @@
 -- What a step of one seat owes, and that memory and seats then fit together again.
-use Rattle.std.proofs.Common.{◌≡◌, ◌≢◌, ℕ, ◌+◌, ◌<◌, ◌≤◌, List, get_or, set, length, ap, arith}
+use Rattle.std.proofs.Common.{◌≡◌, ◌≢◌, ℕ, ◌+◌, ◌<◌, ◌≤◌, List, get_or, set, length, ap, ◌∙◌, arith}
 use Rattle.heap_model.specs.Counting.{times, total}
 use Rattle.heap_model.specs.Rest.{list_numbers}
 use Rattle.heap_model.specs.Words.{head_pops}
@@ -25,6 +25,18 @@ seat_at k m views good i v below at = record {
   knows = good.knows i v below at;
   words = good.words i v below at;
   tickets = good.tickets i v below at;
+}
+
+-- a seat is set up the same where its lists are as long
+pub set_up_kept : (k : Setup) (v w : View) → IsSetUp k v → w.setup ≡ v.setup → w.small ≡ v.small → w.caches ≡ v.caches → w.head_looks ≡ v.head_looks
+    → length w.volatile ≡ length v.volatile → length w.durable ≡ length v.durable → IsSetUp k w
+set_up_kept k v w s setup small caches looks volatile durable = record {
+  setup = setup ∙ s.setup;
+  small = ap length small ∙ s.small;
+  caches = ap length caches ∙ s.caches;
+  looks = ap length looks ∙ s.looks;
+  volatile = volatile ∙ s.volatile;
+  durable = durable ∙ s.durable;
 }
 
 -- what a step owes on the lost exchanges: of its own seat, and of each other

@@ -29,22 +29,16 @@ module _ (k : Setup) (m : Memory) (views : List View) (i : ℕ) (v : View) (belo
   abbrev base : View
   base = others.base k m views i v below_i at good ticket word value
 
-  claimed_alone : (d : ℕ) → 0 < times_claimed d v → (times d (good.shape.lists 0) ≡ 0) × (times_in_lists good.shape d ≡ 0) × (good.shape.full d ≡ 0) × ((tally_of views).large d ≡ 0) × (d < used m)
-  claimed_alone = others.claimed_alone k m views i v below_i at good ticket word value
-
-  raw_alone : (d : ℕ) → 0 < times_raw d v → (times_cut good.shape (tally_of views) d ≡ 0) × ((tally_of views).raw d ≡ 1)
-  raw_alone = others.raw_alone k m views i v below_i at good ticket word value
-
   -- to the anchor of a superblock without a class
   module _ (d : ℕ) (is : cell_at v.setup.capacity word ≡ anchor_cell d) (own : IsOwn v (anchor_cell d)) where
     abbrev ma : Memory
     ma = write m (volatile_at (anchor_cell d)) value
 
     alone_a : (times d (good.shape.lists 0) ≡ 0) × (times_in_lists good.shape d ≡ 0) × (good.shape.full d ≡ 0) × ((tally_of views).large d ≡ 0) × (d < used m)
-    alone_a = claimed_alone d (omega arith)
+    alone_a = others.claimed_alone k m views i v below_i at good ticket word value d (omega arith)
 
     not_cut : (e : ℕ) → 0 < times_cut good.shape (tally_of views) e → e ≢ d
-    not_cut e some same = let none = (raw_alone d own).0 in let p = ap (times_cut good.shape (tally_of views)) same in omega (arith, none, p, some)
+    not_cut e some same = let none = (others.raw_alone k m views i v below_i at good ticket word value d own).0 in let p = ap (times_cut good.shape (tally_of views)) same in omega (arith, none, p, some)
 
     same_anchor : (e : ℕ) → e ≢ d → cond (nat_eq e d) value (anchor m e) ≡ anchor m e
     same_anchor e other = at_other (anchor m) d value e other
@@ -175,7 +169,7 @@ module _ (k : Setup) (m : Memory) (views : List View) (i : ℕ) (v : View) (belo
               ])
 
     one_raw : times_raw d v ≡ 1
-    one_raw = let raw = total_at (times_raw d) views i v below_i at in let one = (raw_alone d own).1 in omega arith
+    one_raw = let raw = total_at (times_raw d) views i v below_i at in let one = (others.raw_alone k m views i v below_i at good ticket word value d own).1 in omega arith
 
     -- without the descriptor there is one less
     taken_out : (e : ℕ) → times e (without d v.raw) + times e (without d v.split) + times e (without d v.cutting) + one_if (nat_eq d e) ≡ times_raw e v

@@ -77,34 +77,35 @@ memory_set c words tickets x long is = λ j. record {
 }
 
 -- a word that no step changes is no cell's
+no_cell_at : (c word : ℕ) → IsFixed c word → (x : Cell) → is_cell c x ≡ true → index_of x ≢ word
+no_cell_at c word (inl first) used_cell e z = omega (arith, z, first)
+no_cell_at c word (inl first) (head_cell list) e z = omega (arith, z, first)
+no_cell_at c word (inl first) (info_cell d) e z = omega (arith, z, first)
+no_cell_at c word (inl first) (anchor_cell d) e z = omega (arith, z, first)
+no_cell_at c word (inl first) (link_cell d) e z = omega (arith, z, first)
+no_cell_at c word (inl first) (root_cell n) e z = omega (arith, z, first)
+no_cell_at c word (inl first) (data_cell n) e z = let low : start_word c 0 ≤ n = leb-true (start_word c 0) n (and_both (nat_le (start_word c 0) n) (nat_lt n (image_words c)) e).0 in omega (arith, z, first, low)
+no_cell_at c word (inl first) no_cell e z = true≢false (sym e)
+no_cell_at c word (inr (in_header w past before_roots not_used around)) used_cell e z = not_used (sym z)
+no_cell_at c word (inr (in_header w past before_roots not_used around)) (head_cell list) e z = let less : list < 21 = ltb-true list 21 e in elim around as (λ _. ⊥) [ inl low ↦ omega (arith, z, less, low) | inr high ↦ omega (arith, z, less, high) ]
+no_cell_at c word (inr (in_header w past before_roots not_used around)) (info_cell d) e z = omega (arith, z, before_roots)
+no_cell_at c word (inr (in_header w past before_roots not_used around)) (anchor_cell d) e z = omega (arith, z, before_roots)
+no_cell_at c word (inr (in_header w past before_roots not_used around)) (link_cell d) e z = omega (arith, z, before_roots)
+no_cell_at c word (inr (in_header w past before_roots not_used around)) (root_cell n) e z = omega (arith, z, before_roots)
+no_cell_at c word (inr (in_header w past before_roots not_used around)) (data_cell n) e z = let low : start_word c 0 ≤ n = leb-true (start_word c 0) n (and_both (nat_le (start_word c 0) n) (nat_lt n (image_words c)) e).0 in omega (arith, z, before_roots, low)
+no_cell_at c word (inr (in_header w past before_roots not_used around)) no_cell e z = true≢false (sym e)
+no_cell_at c word (inr (in_descriptor d at w less low high same)) used_cell e z = omega (arith, z, same)
+no_cell_at c word (inr (in_descriptor d at w less low high same)) (head_cell list) e z = let l : list < 21 = ltb-true list 21 e in omega (arith, z, same, l)
+no_cell_at c word (inr (in_descriptor d at w less low high same)) (info_cell f) e z = omega (arith, z, same, low, high)
+no_cell_at c word (inr (in_descriptor d at w less low high same)) (anchor_cell f) e z = omega (arith, z, same, low, high)
+no_cell_at c word (inr (in_descriptor d at w less low high same)) (link_cell f) e z = omega (arith, z, same, low, high)
+no_cell_at c word (inr (in_descriptor d at w less low high same)) (root_cell n) e z = let l : n < 1024 = ltb-true n 1024 e in omega (arith, z, same, l)
+no_cell_at c word (inr (in_descriptor d at w less low high same)) (data_cell n) e z = let l : start_word c 0 ≤ n = leb-true (start_word c 0) n (and_both (nat_le (start_word c 0) n) (nat_lt n (image_words c)) e).0 in omega (arith, z, same, l, less, high)
+no_cell_at c word (inr (in_descriptor d at w less low high same)) no_cell e z = true≢false (sym e)
+
 pub fixed_apart : (c word : ℕ) (cell : Cell) → IsFixed c word → is_cell c cell ≡ true → (index_of cell ≢ word) × (word < image_words c)
-fixed_apart c word cell (inl first) is = (below_four cell is, omega arith) where
-  below_four : (x : Cell) → is_cell c x ≡ true → index_of x ≢ word
-  below_four used_cell e z = omega (arith, z, first)
-  below_four (head_cell list) e z = omega (arith, z, first)
-  below_four (info_cell d) e z = omega (arith, z, first)
-  below_four (anchor_cell d) e z = omega (arith, z, first)
-  below_four (link_cell d) e z = omega (arith, z, first)
-  below_four (root_cell n) e z = omega (arith, z, first)
-  below_four (data_cell n) e z = let low : start_word c 0 ≤ n = leb-true (start_word c 0) n (and_both (nat_le (start_word c 0) n) (nat_lt n (image_words c)) e).0 in omega (arith, z, first, low)
-  below_four no_cell e z = true≢false (sym e)
-fixed_apart c word cell (inr (in_header w past before_roots not_used around)) is = (in_the_header cell is, omega arith) where
-  in_the_header : (x : Cell) → is_cell c x ≡ true → index_of x ≢ w
-  in_the_header used_cell e z = not_used (sym z)
-  in_the_header (head_cell list) e z = let less : list < 21 = ltb-true list 21 e in elim around as (λ _. ⊥) [ inl low ↦ omega (arith, z, less, low) | inr high ↦ omega (arith, z, less, high) ]
-  in_the_header (info_cell d) e z = omega (arith, z, before_roots)
-  in_the_header (anchor_cell d) e z = omega (arith, z, before_roots)
-  in_the_header (link_cell d) e z = omega (arith, z, before_roots)
-  in_the_header (root_cell n) e z = omega (arith, z, before_roots)
-  in_the_header (data_cell n) e z = let low : start_word c 0 ≤ n = leb-true (start_word c 0) n (and_both (nat_le (start_word c 0) n) (nat_lt n (image_words c)) e).0 in omega (arith, z, before_roots, low)
-  in_the_header no_cell e z = true≢false (sym e)
-fixed_apart c word cell (inr (in_descriptor d at w less low high same)) is = (in_a_line cell is, omega arith) where
-  in_a_line : (x : Cell) → is_cell c x ≡ true → index_of x ≢ w
-  in_a_line used_cell e z = omega (arith, z, same)
-  in_a_line (head_cell list) e z = let l : list < 21 = ltb-true list 21 e in omega (arith, z, same, l)
-  in_a_line (info_cell f) e z = omega (arith, z, same, low, high)
-  in_a_line (anchor_cell f) e z = omega (arith, z, same, low, high)
-  in_a_line (link_cell f) e z = omega (arith, z, same, low, high)
-  in_a_line (root_cell n) e z = let l : n < 1024 = ltb-true n 1024 e in omega (arith, z, same, l)
-  in_a_line (data_cell n) e z = let l : start_word c 0 ≤ n = leb-true (start_word c 0) n (and_both (nat_le (start_word c 0) n) (nat_lt n (image_words c)) e).0 in omega (arith, z, same, l, less, high)
-  in_a_line no_cell e z = true≢false (sym e)
+fixed_apart c word cell fixed is = (no_cell_at c word fixed cell is, inside fixed) where
+  inside : IsFixed c word → word < image_words c
+  inside (inl first) = omega arith
+  inside (inr (in_header w past before_roots not_used around)) = omega arith
+  inside (inr (in_descriptor d at w less low high same)) = omega arith
