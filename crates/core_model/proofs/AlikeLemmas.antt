@@ -10,6 +10,7 @@ use Rattle.heap_model.specs.Durability.{IsCrashImage, IsTransient, is_head, is_a
 use Rattle.heap_model.proofs.BlockLemmas.{block_inside}
 use Rattle.heap_model.proofs.ImageLemmas.{words_from-agree}
 use Rattle.heap_model.proofs.ReachLemmas.{reached_block, reach_kept}
+use Rattle.heap_model.proofs.HeaderLemmas.{header_lasts}
 
 -- where a crash leaves words at random: in the line of the heads, or behind the info of a descriptor
 at_random : (capacity word : ℕ) → IsTransient capacity word
@@ -18,10 +19,7 @@ at_random capacity _ (is_head list word few at) = inl (omega arith, omega arith)
 at_random capacity _ (is_anchor d word less at) = inr (d, less, omega arith, omega arith)
 at_random capacity _ (is_link d word less at) = inr (d, less, omega arith, omega arith)
 
--- so not in the header before them, nor in a root, an info or a superblock
-head_lasts : (capacity word : ℕ) → word < 16 → IsTransient capacity word → ⊥
-head_lasts capacity word low lost = elim (at_random capacity word lost) as (λ _. ⊥) [ inl heads ↦ (let from = heads.0 in omega arith) | inr line ↦ (let from = line.2 in omega arith) ]
-
+-- so not in a root, an info or a superblock
 root_lasts : (capacity root : ℕ) → root < roots → IsTransient capacity (root_word root) → ⊥
 root_lasts capacity root below lost = elim (at_random capacity (root_word root) lost) as (λ _. ⊥) [ inl heads ↦ (let until = heads.1 in omega arith) | inr line ↦ (let from = line.2 in omega arith) ]
 
@@ -42,10 +40,10 @@ module _ (durable image other : Image) (crash : IsCrashImage durable image) (cra
   same_word word no_state lasts = crash'.others word no_state lasts ∙ sym (crash.others word no_state lasts)
 
   same_capacity : capacity_of other ≡ capacity_of image
-  same_capacity = same_word capacity_word (λ e. omega (arith, e)) (head_lasts (capacity_of durable) capacity_word (omega arith))
+  same_capacity = same_word capacity_word (λ e. omega (arith, e)) (header_lasts (capacity_of durable) capacity_word (omega arith))
 
   same_used : used_of other ≡ used_of image
-  same_used = same_word used_word (λ e. omega (arith, e)) (head_lasts (capacity_of durable) used_word (omega arith))
+  same_used = same_word used_word (λ e. omega (arith, e)) (header_lasts (capacity_of durable) used_word (omega arith))
 
   same_info : (d : ℕ) → other (info_word d) ≡ image (info_word d)
   same_info d = same_word (info_word d) (λ e. omega (arith, e)) (info_lasts (capacity_of durable) d)
@@ -57,7 +55,7 @@ module _ (durable image other : Image) (crash : IsCrashImage durable image) (cra
   -- a word of a superblock
   same_inside : (word : ℕ) → start_word (capacity_of image) 0 ≤ word → other word ≡ image word
   same_inside word low =
-      let capacity : capacity_of image ≡ capacity_of durable = crash.others capacity_word (λ e. omega (arith, e)) (head_lasts (capacity_of durable) capacity_word (omega arith)) in
+      let capacity : capacity_of image ≡ capacity_of durable = crash.others capacity_word (λ e. omega (arith, e)) (header_lasts (capacity_of durable) capacity_word (omega arith)) in
       same_word word (λ e. omega (arith, e, low)) (inside_lasts (capacity_of durable) word (omega arith))
 
   module _ (kinds : ℕ → ℕ) (links : Links) where

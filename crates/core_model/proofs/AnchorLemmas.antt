@@ -12,7 +12,8 @@ use Rattle.core_model.specs.Sound.{Shape, tally_of, AreUntaken, AreListed, HasCl
 use Rattle.core_model.proofs.TotalLemmas.{total_at}
 use Rattle.core_model.proofs.FrameLemmas.{untouched, words_frame, below_not}
 use Rattle.core_model.proofs.StepLemmas.{IsSeat, seat_at, adds_step}
-use Rattle.core_model.proofs.OwnLemmas.{one_at_most, words_left, stale_anchor_most}
+use Rattle.core_model.proofs.OwnLemmas.{words_left, stale_anchor_most}
+use Rattle.heap_model.proofs.ListLemmas.{one_at_most}
 use Rattle.core_model.proofs.ListLemmas.{in_lists_at}
 use Rattle.core_model.proofs.BlockLemmas.{at_one, at_other}
 

@@ -3,7 +3,7 @@ use Rattle.std.proofs.Common.{◌≡◌, ◌≢◌, ℕ, ◌+◌, ◌%◌, ◌<�
 use Rattle.std.proofs.lemmas.List.{get_or-set_same, get_or-set_other, get_or_default}
 use Rattle.heap_model.specs.Geometry.{start_word}
 use Rattle.heap_model.specs.Sizes.{IsClass, words_of_class, blocks_of}
-use Rattle.heap_model.specs.Words.{anchor_of, anchor_state, anchor_first, anchor_count, full_anchor}
+use Rattle.heap_model.specs.Words.{full_anchor}
 use Rattle.heap_model.specs.Counting.{times, total}
 use Rattle.heap_model.specs.Chains.{Walks, after}
 use Rattle.heap_model.proofs.BlockLemmas.{block_step}
@@ -47,11 +47,6 @@ after_last next from b (c ∷ bs) w = after_last next (next b) c bs w.1
 pub first_there : (xs : List ℕ) → 1 ≤ length xs → 0 < times (first_of xs) xs
 first_there [] some = absurd (omega arith)
 first_there (b ∷ xs) some = let one = eq-eqb-one b b refl in omega arith
-
--- the parts of an anchor
-pub parts_of : (state first count : ℕ) → state < 4 → first < 2147483648
-    → (anchor_state (anchor_of state first count) ≡ state) × (anchor_first (anchor_of state first count) ≡ first) × (anchor_count (anchor_of state first count) ≡ count)
-parts_of state first count small short = (omega arith, omega arith, omega arith)
 
 -- a full anchor has no blocks
 pub full_anchored : (next : ℕ → ℕ) (c class d : ℕ) → IsClass class → IsAnchoredBy next c class d full_anchor []

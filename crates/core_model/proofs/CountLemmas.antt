@@ -1,5 +1,5 @@
 -- Counting: claims and numbers taken out, and a chain that has as many blocks as the superblock.
-use Rattle.std.proofs.Common.{◌≡◌, ◌≢◌, ℕ, zero, suc, ◌+◌, ◌*◌, ◌<◌, ◌≤◌, inl, inr, Bool, true, false, cond, nat_eq, List, [], ◌∷◌, get_or, set, length, refl, ap, sym, subst, ◌∙◌, eq-eqb, ne_eqb, arith}
+use Rattle.std.proofs.Common.{◌≡◌, ◌≢◌, ℕ, zero, suc, ◌+◌, ◌*◌, ◌<◌, ◌≤◌, inl, inr, Bool, cond, nat_eq, List, [], ◌∷◌, get_or, set, length, refl, ap, sym, subst, ◌∙◌, eq-eqb, ne_eqb, arith}
 use Rattle.std.proofs.lemmas.Bool.{cases_eq, cases_lt}
 use Rattle.heap_model.specs.Counting.{times, total, one_if, without}
 use Rattle.heap_model.specs.Sizes.{IsClass, words_of_class, blocks_of}
@@ -59,14 +59,6 @@ all_without_claim e d views i v w below at some without =
 -- and its superblock is cut
 pub claimed_is_cut : (g : Shape) (views : List View) (i : ℕ) (v : View) (d : ℕ) → i < length views → get_or views i v ≡ v → 0 < times_classed d v.classed → 0 < times_cut g (tally_of views) d
 claimed_is_cut g views i v d below at some = let all = total_at (λ (x : View). times_classed d x.classed) views i v below at in omega arith
-
--- never more than before
-pub without_less : (e d : ℕ) (xs : List ℕ) → times e (without d xs) ≤ times e xs
-without_less e d [] = omega arith
-without_less e d (x ∷ xs) = by_test (nat_eq x d) (without_less e d xs) where
-  by_test : (test : Bool) → times e (without d xs) ≤ times e xs → times e (cond test xs (x ∷ without d xs)) ≤ one_if (nat_eq x e) + times e xs
-  by_test true rest = omega arith
-  by_test false rest = omega arith
 
 -- numbers a step apart: how many, and each once
 pub length_steps : (from apart n : ℕ) → length (steps from apart n) ≡ n

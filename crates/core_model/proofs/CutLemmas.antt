@@ -15,8 +15,9 @@ use Rattle.core_model.specs.Sound.{Shape, Tally, tally_of, IsInShape, IsCutBlock
 use Rattle.core_model.proofs.TotalLemmas.{total_set, total_same, total_at, eq-eqb-one, ne-eqb-none}
 use Rattle.core_model.proofs.FrameLemmas.{times_without}
 use Rattle.core_model.proofs.StepLemmas.{IsSeat, seat_at}
-use Rattle.core_model.proofs.OwnLemmas.{one_at_most, length_only}
-use Rattle.core_model.proofs.CountLemmas.{without_less, block_once}
+use Rattle.core_model.proofs.OwnLemmas.{length_only}
+use Rattle.core_model.proofs.CountLemmas.{block_once}
+use Rattle.heap_model.proofs.ListLemmas.{without_less, one_at_most}
 use Rattle.core_model.proofs.BlockLemmas.{superblock_is, walks_first, full_anchored, of_class_same, of_class_other, total_lists, at_one, at_other}
 use Rattle.core_model.proofs.ShiftLemmas.{shift_step}
 use Rattle.core_model.proofs.SpanLemmas as spans

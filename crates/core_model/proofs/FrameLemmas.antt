@@ -1,8 +1,9 @@
 -- What a change of words leaves: what is known of own words where another word changes, and the sums of one part.
-use Rattle.std.proofs.Common.{◌≡◌, ℕ, zero, suc, ◌+◌, ◌<◌, ◌≤◌, inl, inr, Bool, true, false, cond, nat_eq, nat_lt, List, [], ◌∷◌, ◌++◌, refl, ap, sym, subst, ◌∙◌, eq-eqb, ltb-true, lt-ltb, ne_eqb, arith}
+use Rattle.std.proofs.Common.{◌≡◌, ℕ, zero, suc, ◌+◌, ◌<◌, ◌≤◌, inl, inr, Bool, true, false, cond, nat_eq, nat_lt, List, [], ◌∷◌, refl, ap, sym, subst, ◌∙◌, eq-eqb, ltb-true, lt-ltb, ne_eqb, arith}
 use Rattle.std.proofs.lemmas.Bool.{cases_eq, cases_lt}
 use Rattle.heap_model.specs.Counting.{times, one_if, below, without}
 use Rattle.heap_model.proofs.CountingLemmas.{one_if_true, one_if_false}
+pub use Rattle.heap_model.proofs.ListLemmas.{times_append}
 use Rattle.core_model.specs.Cells.{Cell, same_cell}
 use Rattle.core_model.specs.Memory.{Memory, with_cell}
 use Rattle.core_model.specs.View.{View, times_own}
@@ -37,10 +38,6 @@ below_is n limit less = one_if_true (nat_lt n limit) (lt-ltb n limit less)
 
 pub below_not : (n limit : ℕ) → limit ≤ n → below n limit ≡ 0
 below_not n limit less = one_if_false (nat_lt n limit) (λ e. let l : n < limit = ltb-true n limit e in omega arith)
-
-pub times_append : (d : ℕ) (xs ys : List ℕ) → times d (xs ++ ys) ≡ times d xs + times d ys
-times_append d [] ys = omega arith
-times_append d (x ∷ xs) ys = let rest = times_append d xs ys in omega arith
 
 -- numbers side by side, each once
 pub times_steps : (d u n : ℕ) → times d (steps u 1 n) + below d u ≡ below d (u + n)

@@ -14,13 +14,15 @@ use Rattle.core_model.specs.Effects.{seen_word, steps, first_of, last_of, trimme
 use Rattle.core_model.specs.Guards.{IsThere, MayGive}
 use Rattle.core_model.specs.Sound.{Shape, Tally, tally_of, IsInShape, IsCutBlock, IsAnchoredBy, AreChained, ClaimsOf, HasBlocks, class_numbers, times_in_lists, times_parked, times_cut, empties, Good}
 use Rattle.core_model.proofs.TotalLemmas.{total_set, total_same, total_at, total_change, total_where, eq-eqb-one, ne-eqb-none}
-use Rattle.core_model.proofs.FrameLemmas.{times_append, times_steps, below_is, below_not}
+use Rattle.core_model.proofs.FrameLemmas.{times_steps, below_is, below_not}
+use Rattle.heap_model.proofs.ListLemmas.{times_append, one_at_most}
 use Rattle.core_model.proofs.StepLemmas.{IsSeat, seat_at, good_step, set_up_kept}
-use Rattle.core_model.proofs.OwnLemmas.{one_at_most, won_tickets, length_only}
+use Rattle.core_model.proofs.OwnLemmas.{won_tickets, length_only}
 use Rattle.core_model.proofs.QuietLemmas.{not_there}
 use Rattle.core_model.proofs.CountLemmas.{all_home, chain_short}
 use Rattle.core_model.proofs.ListLemmas.{class_of}
-use Rattle.core_model.proofs.BlockLemmas.{superblock_is, walks_append, after_last, parts_of, at_one, at_other, first_there}
+use Rattle.core_model.proofs.BlockLemmas.{superblock_is, walks_append, after_last, at_one, at_other, first_there}
+use Rattle.heap_model.proofs.ChainLemmas.{anchor_parts}
 use Rattle.core_model.proofs.AnchorLemmas as on_anchor
 
 module _ (k : Setup) (m : Memory) (views : List View) (i : ℕ) (v : View) (below_i : i < length views) (at : get_or views i v ≡ v) (good : Good k m views)
@@ -120,7 +122,7 @@ module _ (k : Setup) (m : Memory) (views : List View) (i : ℕ) (v : View) (belo
 
   parts : (anchor_state x ≡ state') × (anchor_first x ≡ first_block.index) × (anchor_count x ≡ length chain')
   parts = let few = few_blocks class is_class in let below = first_block.below in let small = state_small in
-      let p = parts_of state' ((first_of bs - start_word v.setup.capacity d) / words_of_class class) (length bs + anchor_count word) (omega arith) (let e = index_is in omega arith) in
+      let p = anchor_parts state' ((first_of bs - start_word v.setup.capacity d) / words_of_class class) (length bs + anchor_count word) (omega arith) (let e = index_is in omega arith) in
       (p.0, p.1 ∙ index_is, p.2 ∙ count_is)
 
   state_x : anchor_state x < full_state

@@ -3,8 +3,8 @@ use Rattle.std.proofs.Common.{◌≡◌, ℕ, ◌+◌, ◌*◌, ◌<◌, ◌≤�
 use Rattle.heap_model.specs.Geometry.{image_words, largest_capacity, clean, dirty}
 use Rattle.heap_model.specs.Image.{Image}
 use Rattle.heap_model.specs.Header.{IsWellFormed, header_fault, state_of, used_of}
-use Rattle.heap_model.specs.Durability.{IsTransient, is_head, is_anchor, is_link, IsCrashImage, IsClosedImage}
-use Rattle.heap_model.proofs.HeaderLemmas.{no_fault}
+use Rattle.heap_model.specs.Durability.{IsCrashImage, IsClosedImage}
+use Rattle.heap_model.proofs.HeaderLemmas.{no_fault, header_lasts}
 use Rattle.core_model.specs.View.{Setup, View}
 use Rattle.core_model.specs.Sound.{Sound}
 use Rattle.core_model.specs.Held.{volatile_image, durable_image}
@@ -33,14 +33,9 @@ module _ (k : Setup) (words : List ℕ) (views : List View) (sound : Sound k wor
   durable_capacity : durable_image k.capacity words 2 ≡ k.capacity
   durable_capacity = durable_is 2 (omega arith) ∙ (sound.fixed 2 (inl (omega arith))).1 ∙ sound.capacity
 
-  not_transient : (word : ℕ) → word < 16 → IsTransient (durable_image k.capacity words 2) word → ⊥
-  not_transient word low (is_head list w less same) = omega (arith, same, low)
-  not_transient word low (is_anchor d w less same) = omega (arith, same, low)
-  not_transient word low (is_link d w less same) = omega (arith, same, low)
-
   -- a word of the header but the state is the durable one
   left_is : (word : ℕ) → word < 16 → (word ≡ 3 → ⊥) → image word ≡ get_or words (image_words k.capacity + word) 0
-  left_is word low other = crash.others word other (not_transient word low) ∙ durable_is word low
+  left_is word low other = crash.others word other (header_lasts (durable_image k.capacity words 2) word low) ∙ durable_is word low
 
   -- and magic, version and capacity are those of the opened image
   opened_is : (word : ℕ) → word < 3 → image word ≡ slice_index k.opened word

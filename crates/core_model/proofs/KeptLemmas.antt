@@ -29,7 +29,7 @@ use Rattle.core_model.proofs.DrawLemmas as draws
 use Rattle.core_model.proofs.ShiftLemmas as shifts
 use Rattle.core_model.proofs.SpanLemmas as spans
 use Rattle.core_model.proofs.CutLemmas as cuts
-use Rattle.core_model.proofs.OwnLemmas.{one_at_most}
+use Rattle.heap_model.proofs.ListLemmas.{one_at_most}
 use Rattle.core_model.proofs.TotalLemmas.{total_at}
 
 -- by whether the word is as it was seen

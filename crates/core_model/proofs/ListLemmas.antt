@@ -1,5 +1,5 @@
 -- Lists of descriptors when one loses or gets its first descriptor.
-use Rattle.std.proofs.Common.{◌≡◌, ◌≢◌, ℕ, suc, ◌+◌, ◌<◌, ◌≤◌, inl, inr, true, cond, nat_eq, List, [], ◌∷◌, get_or, set, length, Option, None, refl, ap, sym, subst, ◌∙◌, eq-eqb, eqb-true, ne_eqb, arith}
+use Rattle.std.proofs.Common.{◌≡◌, ◌≢◌, ℕ, zero, suc, ◌+◌, ◌-◌, ◌<◌, ◌≤◌, inl, inr, true, cond, nat_eq, List, [], ◌∷◌, get_or, set, length, Option, None, refl, ap, sym, subst, ◌∙◌, eq-eqb, eqb-true, ne_eqb, arith}
 use Rattle.std.proofs.lemmas.Bool.{cases_eq, agree_below_at}
 use Rattle.std.proofs.lemmas.List.{get_or_default}
 use Rattle.heap_model.specs.Geometry.{lists}
@@ -29,6 +29,11 @@ relist_same descriptors list ds n same = ap (λ t. cond t ds (descriptors n)) (e
 pub relist_other : (descriptors : ℕ → List ℕ) (list : ℕ) (ds : List ℕ) (n : ℕ) → n ≢ list → relist descriptors list ds n ≡ descriptors n
 relist_other descriptors list ds n other = ap (λ t. cond t ds (descriptors n)) (ne_eqb n list other)
 
+-- a descriptor is one less than what leads to it
+pub before_is : (n : ℕ) → n ≢ 0 → before n ≡ n - 1
+before_is zero some = absurd (some refl)
+before_is (suc n) some = omega arith
+
 -- the rest of a list that is not empty
 pub record IsFirst (links : ℕ → ℕ) (capacity from : ℕ) (ds : List ℕ) : Type 0 where
   pub rest : List ℕ
@@ -48,10 +53,6 @@ first_is links capacity from (d ∷ ds) f some = record {
 } where
   here : before from ≡ d
   here = ap before (f.0 ∙ (let e : d + 1 ≡ suc d = omega arith in e))
-
-pub follows_small : (links : ℕ → ℕ) (capacity from : ℕ) (ds : List ℕ) → Follows links capacity from ds → from ≤ capacity
-follows_small links capacity from [] f = let e : from ≡ 0 = f in omega arith
-follows_small links capacity from (d ∷ ds) f = let e : from ≡ d + 1 = f.0 in let l : d < capacity = f.1 in omega arith
 
 -- the parts of a head
 pub head_parts : (first pops : ℕ) → first < 16777216 → (head_first (head_of first pops) ≡ first) × (head_pops (head_of first pops) ≡ pops)

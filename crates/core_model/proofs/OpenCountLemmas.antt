@@ -13,7 +13,7 @@ use Rattle.core_model.specs.Effects.{steps, first_of}
 use Rattle.core_model.specs.Opening.{picked}
 use Rattle.core_model.proofs.TotalLemmas.{eq-eqb-one}
 use Rattle.core_model.proofs.FrameLemmas.{times_steps}
-use Rattle.core_model.proofs.OwnLemmas.{one_at_most}
+use Rattle.heap_model.proofs.ListLemmas.{one_at_most}
 use Rattle.core_model.proofs.CountLemmas.{length_steps}
 use Rattle.core_model.proofs.OpenLemmas.{picked_sum, total_in}
 

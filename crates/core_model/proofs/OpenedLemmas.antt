@@ -22,10 +22,11 @@ use Rattle.core_model.specs.Opening.{picked, tabulate, is_small, small_blocks, l
 use Rattle.core_model.proofs.TotalLemmas.{total_where, ne-eqb-none}
 use Rattle.core_model.proofs.FrameLemmas.{below_is, below_not}
 use Rattle.core_model.proofs.PlaceLemmas.{pick, index_within, and_both, and_is, not-lt}
-use Rattle.core_model.proofs.OwnLemmas.{one_at_most, words_trimmed, length_only}
+use Rattle.core_model.proofs.OwnLemmas.{words_trimmed, length_only}
 use Rattle.core_model.proofs.QuietLemmas.{not_there, none_drawn}
 use Rattle.core_model.proofs.CountLemmas.{length_steps}
-use Rattle.core_model.proofs.ListLemmas.{follows_small, in_lists_at, class_of}
+use Rattle.core_model.proofs.ListLemmas.{in_lists_at, class_of}
+use Rattle.heap_model.proofs.ListLemmas.{follows_small, one_at_most}
 use Rattle.core_model.proofs.BlockLemmas.{superblock_is, inside_of, full_anchored}
 use Rattle.core_model.proofs.TableLemmas.{fixed_apart}
 use Rattle.core_model.proofs.OpenLemmas.{picked_sum, picked_in, tabulate_sum, length_tabulate, tabulate_at, total_in, total_zero, small_at, small_sum, small_member, large_sum, span_of_block, small_from, span_from, each_tabulate}

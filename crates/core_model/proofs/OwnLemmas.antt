@@ -9,6 +9,7 @@ use Rattle.core_model.specs.Effects.{seen, seen_of, cleared, only_own, trimmed}
 use Rattle.core_model.specs.Guards.{IsThere, IsOwn}
 use Rattle.core_model.specs.Sound.{KnowsWords, IsDrawn, HasTickets, differs, stale_head, stale_anchor}
 use Rattle.core_model.proofs.PlaceLemmas.{cell_at_index, and_is}
+pub use Rattle.heap_model.proofs.ListLemmas.{one_at_most}
 use Rattle.core_model.proofs.QuietLemmas.{none_drawn, not_there, own_same, ticket_given_up}
 
 -- the parts that are not superblocks
@@ -82,11 +83,7 @@ stale_cleared m v w from n (Some s) more = by_test (nat_le from s.of && nat_lt s
   by_test false e = less (times_raw s.of v) (times_raw s.of w) (not (nat_eq s.word (anchor m s.of)))
       (more s.of (λ low high. true≢false (sym (and_is (nat_le from s.of) (nat_lt s.of (from + n)) (le-leb from s.of low) (lt-ltb s.of (from + n) high)) ∙ e)))
 
--- a snapshot is one
-pub one_at_most : (test : Bool) → one_if test ≤ 1
-one_at_most true = omega arith
-one_at_most false = omega arith
-
+-- a snapshot is out of date once at most
 pub differs_most : (s : Option ℕ) (word : ℕ) → differs s word ≤ 1
 differs_most None word = omega arith
 differs_most (Some seen) word = one_at_most (not (nat_eq seen word))

@@ -14,7 +14,7 @@ use Rattle.core_model.specs.Guards.{IsOwn}
 use Rattle.core_model.specs.Sound.{tally_of, IsCutBlock, times_cut, Good}
 use Rattle.core_model.proofs.TotalLemmas.{total_at, total_two, eq-eqb-one, ne-eqb-none}
 use Rattle.core_model.proofs.PlaceLemmas.{and_both, and_is}
-use Rattle.core_model.proofs.OwnLemmas.{one_at_most}
+use Rattle.heap_model.proofs.ListLemmas.{one_at_most}
 use Rattle.core_model.proofs.BlockLemmas.{inside_of}
 
 -- the word is one of the block's

@@ -17,7 +17,8 @@ use Rattle.core_model.proofs.FrameLemmas.{untouched, words_frame}
 use Rattle.core_model.proofs.StepLemmas.{IsSeat, seat_at, good_step}
 use Rattle.core_model.proofs.OwnLemmas.{own_grows, words_grow, stale_cleared, stale_head_most, cleared_other, won_tickets}
 use Rattle.core_model.proofs.FreshLemmas.{cleared_same}
-use Rattle.core_model.proofs.ListLemmas.{relist, relist_same, relist_other, IsFirst, first_is, follows_small, head_parts, lists_set, in_lists_set, in_lists_at, knows_pop, others_at_head, adds_at_head}
+use Rattle.core_model.proofs.ListLemmas.{relist, relist_same, relist_other, IsFirst, first_is, head_parts, lists_set, in_lists_set, in_lists_at, knows_pop, others_at_head, adds_at_head}
+use Rattle.heap_model.proofs.ListLemmas.{follows_small}
 
 module _ (k : Setup) (m : Memory) (views : List View) (i : ℕ) (v : View) (below_i : i < length views) (at : get_or views i v ≡ v) (good : Good k m views)
     (ticket : IsThere v.ticket) (may : MayPop v) (as_seen : head m (seen_of v.seen_head) ≡ seen_word v.seen_head) where

@@ -16,9 +16,10 @@ use Rattle.core_model.specs.Sound.{Shape, Tally, tally_of, IsInShape, AreChained
 use Rattle.core_model.proofs.TotalLemmas.{total_set, total_same, total_at, total_change, total_unchanged, eq-eqb-one, ne-eqb-none}
 use Rattle.core_model.proofs.FrameLemmas.{untouched, times_without, without_none, times_steps, below_is, below_not}
 use Rattle.core_model.proofs.StepLemmas.{IsSeat, seat_at, good_step, set_up_kept}
-use Rattle.core_model.proofs.OwnLemmas.{one_at_most, words_left, stale_cleared, stale_head_most, cleared_other, won_tickets, length_only}
+use Rattle.core_model.proofs.OwnLemmas.{words_left, stale_cleared, stale_head_most, cleared_other, won_tickets, length_only}
 use Rattle.core_model.proofs.FreshLemmas.{cleared_same}
-use Rattle.core_model.proofs.CountLemmas.{times_without_claim, claims_without, claimed_is_cut, all_without_claim, without_less, all_home}
+use Rattle.core_model.proofs.CountLemmas.{times_without_claim, claims_without, claimed_is_cut, all_without_claim, all_home}
+use Rattle.heap_model.proofs.ListLemmas.{without_less, one_at_most}
 use Rattle.heap_model.proofs.CountingLemmas.{one_if_true}
 use Rattle.core_model.proofs.PlaceLemmas.{and_is, not-lt}
 use Rattle.core_model.proofs.ListLemmas.{relist, relist_same, relist_other, head_parts, lists_set, in_lists_set, others_at_head, adds_at_head}

@@ -12,7 +12,8 @@ use Rattle.core_model.specs.Effects.{seen_word, seen_of, first_of, last_of, rest
 use Rattle.core_model.specs.Guards.{IsThere, MayAlloc, MayFree, MayLift}
 use Rattle.core_model.specs.Sound.{Shape, tally_of, IsInShape, HasBlocks, KnowsHead, stale, times_parked, empties, Good}
 use Rattle.core_model.proofs.TotalLemmas.{total_same, eq-eqb-one, ne-eqb-none}
-use Rattle.core_model.proofs.FrameLemmas.{times_append, times_without}
+use Rattle.core_model.proofs.FrameLemmas.{times_without}
+use Rattle.heap_model.proofs.ListLemmas.{times_append}
 use Rattle.core_model.proofs.StepLemmas.{IsSeat, seat_at, good_step, adds_step}
 use Rattle.core_model.proofs.QuietLemmas.{Counts, counts}
 use Rattle.core_model.proofs.OwnLemmas.{words_grow}

@@ -26,7 +26,7 @@ module _ (k : Setup) (m : Memory) (views : List View) (i : ℕ) (v : View) (belo
   cap = ap (λ (s : Setup). s.capacity) (good.set_up i v below_i at).setup
 
   -- a word that is the seat's own is a cell
-  own_cell : (word : ℕ) → IsOwn v (cell_at v.setup.capacity word) → is_cell k.capacity (cell_at v.setup.capacity word) ≡ true
+  pub own_cell : (word : ℕ) → IsOwn v (cell_at v.setup.capacity word) → is_cell k.capacity (cell_at v.setup.capacity word) ≡ true
   own_cell word own = elim (cell_there v.setup.capacity word) [
     | inl there ↦ subst (λ c. is_cell c (cell_at v.setup.capacity word) ≡ true) cap there
     | inr none ↦ absurd (let e = ap (times_own v) none in omega arith)

@@ -15,7 +15,7 @@ use Rattle.core_model.proofs.FrameLemmas.{times_without, without_none}
 use Rattle.core_model.proofs.StepLemmas.{IsSeat, seat_at, good_step, adds_step}
 use Rattle.core_model.proofs.QuietLemmas.{Counts, counts, done_tickets}
 use Rattle.core_model.proofs.OwnLemmas.{Holdings, holdings, own_equal}
-use Rattle.core_model.proofs.CountLemmas.{without_less}
+use Rattle.heap_model.proofs.ListLemmas.{without_less}
 use Rattle.core_model.proofs.ListLemmas.{in_lists_at}
 use Rattle.core_model.proofs.BlockLemmas.{at_one, at_other, first_there}
 use Rattle.core_model.proofs.OwnerLemmas.{one_owner}

@@ -16,7 +16,8 @@ use Rattle.core_model.proofs.TotalLemmas.{total_same, total_at}
 use Rattle.core_model.proofs.FrameLemmas.{with_other, untouched, words_frame, below_not}
 use Rattle.core_model.proofs.StepLemmas.{IsSeat, seat_at, good_step, adds_step, tally_same}
 use Rattle.core_model.proofs.QuietLemmas.{done_tickets}
-use Rattle.core_model.proofs.OwnLemmas.{own_equal, one_at_most}
+use Rattle.core_model.proofs.OwnLemmas.{own_equal}
+use Rattle.heap_model.proofs.ListLemmas.{one_at_most}
 use Rattle.core_model.proofs.ListLemmas.{in_lists_at}
 use Rattle.core_model.proofs.BlockLemmas.{at_other, superblock_is}
 use Rattle.core_model.proofs.OwnerLemmas.{in_lists_total, one_owner, covered, same_block, own_first, in_blocks}

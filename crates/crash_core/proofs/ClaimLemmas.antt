@@ -1,5 +1,5 @@
 -- The superblocks that the core keeps for a seat after it claims one, or gives one up.
-use Rattle.std.proofs.Common.{◌≡◌, ◌≢◌, ℕ, zero, suc, ◌+◌, ◌<◌, ◌≤◌, inl, inr, nat_eq, List, [], ◌∷◌, get_or, set, length, refl, sym, subst, ◌∙◌, eq-eqb, arith}
+use Rattle.std.proofs.Common.{◌≡◌, ◌≢◌, ℕ, zero, suc, ◌+◌, ◌<◌, inl, inr, nat_eq, List, [], ◌∷◌, get_or, set, length, refl, sym, subst, ◌∙◌, eq-eqb, arith}
 use Rattle.std.proofs.lemmas.Bool.{cases_eq, cases_lt}
 use Rattle.heap_model.specs.Counting.{times, without}
 use Rattle.crash_core.specs.declared.owners.Share.{Share}
@@ -15,14 +15,9 @@ use Rattle.core_model.proofs.FrameLemmas.{times_without, without_none}
 use Rattle.core_model.proofs.CountLemmas.{times_without_claim, class_without}
 use Rattle.core_model.proofs.PlaceLemmas.{pick, skip, not-eq}
 use Rattle.crash_core.proofs.ShareLemmas.{shares_mine}
+pub use Rattle.heap_model.proofs.ListLemmas.{without_at}
 
--- a number that was there once is gone; the others stay
-pub without_at : (d : ℕ) (xs : List ℕ) → times d xs ≤ 1 → times d (without d xs) ≡ 0
-without_at d xs most = elim (cases_lt 0 (times d xs)) [
-  | inl some ↦ let t = times_without d d xs some in let one = eq-eqb-one d d refl in omega arith
-  | inr none ↦ let t = without_none d d xs (omega arith) in omega arith
-]
-
+-- a number that is taken out leaves the others
 pub without_off : (e d : ℕ) (xs : List ℕ) → e ≢ d → times e (without d xs) ≡ times e xs
 without_off e d xs other = elim (cases_lt 0 (times d xs)) [
   | inl some ↦ let t = times_without e d xs some in let none = ne-eqb-none d e (λ h. other (sym h)) in omega arith

@@ -24,13 +24,13 @@ use Rattle.core_model.specs.Guards.{MayCut}
 use Rattle.core_model.specs.Sound.{tally_of, times_cut, IsCutBlock, Good}
 use Rattle.crash_core.specs.Standing.{share_for, no_superblock, cutting_in, IsShare, HasSuperblocks, HasCaches, HasBlocksOf, IsGiven, IsKept, IsCore, Keeps, IsMoved, Decides, memory_at, snapshot}
 use Rattle.core_model.proofs.TotalLemmas.{total_at}
-use Rattle.core_model.proofs.OwnLemmas.{one_at_most}
+use Rattle.heap_model.proofs.ListLemmas.{one_at_most, without_at}
 use Rattle.core_model.proofs.CountLemmas.{length_steps, block_once}
 use Rattle.core_model.proofs.BlockLemmas.{superblock_is}
 use Rattle.core_model.proofs.SpanLemmas.{block_of}
 use Rattle.crash_core.proofs.StandingLemmas.{memory_in}
 use Rattle.crash_core.proofs.ShareLemmas.{shares_mine, shares_theirs, share_alone}
-use Rattle.crash_core.proofs.ClaimLemmas.{without_at, without_off}
+use Rattle.crash_core.proofs.ClaimLemmas.{without_off}
 use Rattle.crash_core.proofs.MoveSteps.{no_cache}
 use Rattle.crash_core.proofs.ChainSteps.{chain_is, block_fits, none_of, caches_given, blocks_given, blocks_theirs}
 use Rattle.crash_core.proofs.WordLemmas.{entry_is, entry_there}

@@ -1,5 +1,5 @@
 -- The core when a held block goes in front of a cache.
-use Rattle.std.proofs.Common.{◌≡◌, ◌≢◌, ℕ, zero, suc, ◌+◌, ◌<◌, ◌≤◌, ◌↔◌, inl, inr, Bool, true, false, cond, nat_eq, List, [], ◌∷◌, get_or, set, length, refl, ap, sym, subst, ◌∙◌, length-set, eq-eqb, eqb-true, arith}
+use Rattle.std.proofs.Common.{◌≡◌, ◌≢◌, ℕ, zero, suc, ◌+◌, ◌<◌, ◌≤◌, ◌↔◌, inl, inr, true, nat_eq, List, [], ◌∷◌, get_or, set, length, refl, ap, sym, subst, ◌∙◌, length-set, eq-eqb, eqb-true, arith}
 use Rattle.std.proofs.lemmas.Bool.{cases_eq, cases_lt}
 use Rattle.std.specs.Vec.{with_item}
 use Rattle.heap_model.specs.Geometry.{lists, start_word, image_words}
@@ -20,21 +20,15 @@ use Rattle.crash_core.specs.Standing.{place_for, no_block, held_in, cached_in, b
 use Rattle.core_model.proofs.TotalLemmas.{total_at, eq-eqb-one, ne-eqb-none}
 use Rattle.core_model.proofs.BlockLemmas.{total_lists}
 use Rattle.core_model.proofs.OwnerLemmas.{in_lists_total, which_class}
-use Rattle.crash_core.proofs.StandingLemmas.{memory_in}
-use Rattle.crash_core.proofs.ClaimLemmas.{without_at, without_off}
+use Rattle.crash_core.proofs.StandingLemmas.{memory_in, seat_capacity}
+use Rattle.crash_core.proofs.ClaimLemmas.{without_off}
 use Rattle.crash_core.proofs.ShareLemmas.{places_mine, places_theirs, place_alone}
 use Rattle.crash_core.proofs.WordLemmas.{entry_is}
 use Rattle.crash_core.proofs.CacheLemmas.{cache_set}
 use Rattle.crash_core.proofs.MoveSteps as moves
+use Rattle.heap_model.proofs.ListLemmas.{length_without, without_at}
 
 -- numbers below a limit, each there once at most, are at most as many
-length_without : (n : ℕ) (bs : List ℕ) → length bs ≤ length (without n bs) + 1
-length_without n [] = omega arith
-length_without n (b ∷ bs) = either (nat_eq b n) (length_without n bs) where
-  either : (test : Bool) → length bs ≤ length (without n bs) + 1 → length (b ∷ bs) ≤ length (cond test bs (b ∷ without n bs)) + 1
-  either true rest = omega arith
-  either false rest = omega arith
-
 pub short : (limit : ℕ) (bs : List ℕ) → ((b : ℕ) → 0 < times b bs → b < limit) → ((b : ℕ) → times b bs ≤ 1) → length bs ≤ limit
 short zero [] low once = omega arith
 short zero (b ∷ bs) low once = absurd (let l = low b (let one = eq-eqb-one b b refl in omega arith) in omega arith)
@@ -67,9 +61,6 @@ module _ (c : CoreState) (k : Setup) (views : List View) (i : ℕ) (v : View) (t
 
   good : Good k (memory_in c k) views
   good = keeps.sound.good
-
-  cap : v.setup.capacity ≡ c.geometry.capacity
-  cap = ap (λ (s : Setup). s.capacity) (good.set_up i v below at).setup ∙ keeps.capacity
 
   -- a seat has a block once at most
   pub once : (b : ℕ) → times_block b v ≤ 1
@@ -106,7 +97,7 @@ module _ (c : CoreState) (k : Setup) (views : List View) (i : ℕ) (v : View) (t
         subst (λ n. IsClass (info (memory_of n c.words.items) (superblock_at n block))) keeps.capacity (good.shaped.chained.is_class (superblock_at k.capacity block) inside.0)
 
     info_v : info (memory_in c k) (superblock_at v.setup.capacity block) ≡ info (memory_at c) (superblock_at c.geometry.capacity block)
-    info_v = ap (λ n. info (memory_in c k) (superblock_at n block)) cap ∙ ap (λ n. info (memory_of n c.words.items) (superblock_at c.geometry.capacity block)) keeps.capacity
+    info_v = ap (λ n. info (memory_in c k) (superblock_at n block)) (seat_capacity c k views i v keeps below at) ∙ ap (λ n. info (memory_of n c.words.items) (superblock_at c.geometry.capacity block)) keeps.capacity
 
     module _ (class : ℕ) (class_is : class ≡ info (memory_at c) (superblock_at c.geometry.capacity block)) where
       is_class : IsClass class

@@ -20,7 +20,8 @@ use Rattle.core_model.specs.Sound.{Good}
 use Rattle.core_model.specs.Steps.{seat_after}
 use Rattle.crash_core.specs.Standing.{share_for, no_superblock, IsShare, IsKept, IsRange, Keeps, Steps, snapshot}
 use Rattle.core_model.proofs.TotalLemmas.{total_at}
-use Rattle.core_model.proofs.FrameLemmas.{below_is, below_not, times_append, times_steps}
+use Rattle.core_model.proofs.FrameLemmas.{below_is, below_not, times_steps}
+use Rattle.heap_model.proofs.ListLemmas.{times_append}
 use Rattle.core_model.proofs.PlaceLemmas.{pick}
 use Rattle.crash_core.proofs.StandingLemmas.{step_done, step_not, memory_in}
 use Rattle.crash_core.proofs.ShareLemmas.{no_share}

@@ -15,10 +15,10 @@ use Rattle.core_model.specs.Guards.{MayHoldLarge}
 use Rattle.core_model.specs.Sound.{Good}
 use Rattle.crash_core.specs.Standing.{share_for, no_superblock, raw_in, split_in, cutting_in, classed_in, class_in, large_in, count_in, IsShare, IsRange, IsKept, IsCore, Keeps, IsMoved, Decides, snapshot}
 use Rattle.core_model.proofs.PlaceLemmas.{pick, skip, not-eq}
-use Rattle.core_model.proofs.SpanLemmas.{range_is, range_not, without_range_in, without_range_out}
+use Rattle.core_model.proofs.SpanLemmas.{range_is, range_not, without_range_in, without_range_out, cases_range}
 use Rattle.crash_core.proofs.StandingLemmas.{memory_in}
 use Rattle.crash_core.proofs.ShareLemmas.{share_own, share_theirs, share_alone, shares_mine, shares_theirs}
-use Rattle.crash_core.proofs.RangeLemmas.{in_or_out, range_theirs}
+use Rattle.crash_core.proofs.RangeLemmas.{range_theirs}
 use Rattle.crash_core.proofs.WordLemmas.{entry_there}
 
 claimed_only : (x : Share) → 0 < raw_in x + split_in x → (cutting_in x ≡ 0) × (classed_in x ≡ 0) × (class_in x ≡ 0) × (large_in x ≡ 0) × (count_in x ≡ 0)
@@ -100,7 +100,7 @@ module _ (c : CoreState) (k : Setup) (views : List View) (i : ℕ) (v : View) (t
     apart e other = skip (nat_eq d e) n (span_count e v.large) (not-eq d e (λ h. other (sym h)))
 
     rest : (e : ℕ) → e ≢ d → IsShare e (share_for i (get_or owners.items e no_superblock)) (without_range d n v.raw) (without_range d n v.split) v.cutting v.classed (span ∷ v.large)
-    rest e other = elim (in_or_out d n e) [
+    rest e other = elim (cases_range d n e) [
       | inl here ↦ subst (λ y. IsShare e y (without_range d n v.raw) (without_range d n v.split) v.cutting v.classed (span ∷ v.large)) (sym (ap (share_for i) (range.inside e here.0 here.1) ∙ share_own i (share.Large 0)))
           (inside e 0 here.0 here.1 (apart e other ∙ (kept.superblocks e).count ∙ (claimed_only (share_for i (get_or c.superblocks.items e no_superblock)) (mine_before e here.0 here.1)).4))
       | inr out ↦ subst (λ y. IsShare e y (without_range d n v.raw) (without_range d n v.split) v.cutting v.classed (span ∷ v.large)) (sym (ap (share_for i) (range.outside e out)))

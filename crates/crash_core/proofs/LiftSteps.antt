@@ -15,10 +15,10 @@ use Rattle.core_model.specs.Guards.{MayAlloc, MayLift}
 use Rattle.core_model.specs.Sound.{Good}
 use Rattle.crash_core.specs.Standing.{no_block, IsPlace, IsKept, Keeps, IsMoved, Decides, memory_at}
 use Rattle.core_model.proofs.TotalLemmas.{eq-eqb-one, ne-eqb-none}
-use Rattle.core_model.proofs.FrameLemmas.{times_append}
+use Rattle.heap_model.proofs.ListLemmas.{times_append}
 use Rattle.core_model.proofs.BlockLemmas.{total_lists}
 use Rattle.core_model.proofs.PlaceLemmas.{skip, not-eq}
-use Rattle.crash_core.proofs.StandingLemmas.{memory_in}
+use Rattle.crash_core.proofs.StandingLemmas.{memory_in, seat_capacity}
 use Rattle.crash_core.proofs.ShareLemmas.{places_mine, places_theirs, place_alone}
 use Rattle.crash_core.proofs.FreeSteps.{short, once}
 use Rattle.crash_core.proofs.MoveSteps as moves
@@ -36,7 +36,8 @@ pub length_append : (bs : List ℕ) (b : ℕ) → length (bs ++ b ∷ []) ≡ le
 length_append [] b = refl
 length_append (a ∷ bs) b = let rest = length_append bs b in omega arith
 
-last_there : (bs : List ℕ) → 1 ≤ length bs → 0 < times (last_of bs) bs
+-- the last of some blocks is one of them
+pub last_there : (bs : List ℕ) → 1 ≤ length bs → 0 < times (last_of bs) bs
 last_there [] some = absurd (omega arith)
 last_there (a ∷ []) some = let one = eq-eqb-one a a refl in omega arith
 last_there (a ∷ n ∷ bs) some = let rest = last_there (n ∷ bs) (omega arith) in omega arith
@@ -48,9 +49,6 @@ module _ (c : CoreState) (k : Setup) (views : List View) (i : ℕ) (v : View) (t
 
   good : Good k (memory_in c k) views
   good = keeps.sound.good
-
-  cap : v.setup.capacity ≡ c.geometry.capacity
-  cap = ap (λ (s : Setup). s.capacity) (good.set_up i v below at).setup ∙ keeps.capacity
 
   pub last_range : t.batch.count ≢ 0 → (start_word c.geometry.capacity 0 ≤ t.batch.last) × (t.batch.last < image_words c.geometry.capacity)
   last_range some = subst (λ b. (start_word c.geometry.capacity 0 ≤ b) × (b < image_words c.geometry.capacity)) kept.batch.last
@@ -78,7 +76,7 @@ module _ (c : CoreState) (k : Setup) (views : List View) (i : ℕ) (v : View) (t
     lift_unlinked some not lifts = true≢false (sym (lifts.behind (let n = kept.batch.count in omega arith)).unchanged ∙ kept.batch.linked ∙ not)
 
     pub lift_apart : t.batch.count ≢ 0 → (d : ℕ) → d ≡ superblock_at c.geometry.capacity e.first → t.batch.descriptor ≢ d → MayLift (memory_in c k) v class → ⊥
-    lift_apart some d d_is apart lifts = apart (sym kept.batch.descriptor ∙ (lifts.behind (let n = kept.batch.count in omega arith)).same ∙ ap₂ superblock_at cap first_is ∙ sym d_is)
+    lift_apart some d d_is apart lifts = apart (sym kept.batch.descriptor ∙ (lifts.behind (let n = kept.batch.count in omega arith)).same ∙ ap₂ superblock_at (seat_capacity c k views i v keeps below at) first_is ∙ sym d_is)
 
     pub lift_behind : t.batch.count ≢ 0 → t.batch.linked ≡ true → (d : ℕ) → d ≡ superblock_at c.geometry.capacity e.first → t.batch.descriptor ≡ d → (to : ℕ) → to ≡ next (memory_at c) t.batch.last → (nat_eq to e.first ≡ true) ↔ MayLift (memory_in c k) v class
     lift_behind some linked d d_is same to to_is = (
@@ -86,7 +84,7 @@ module _ (c : CoreState) (k : Setup) (views : List View) (i : ℕ) (v : View) (t
         is_class = may.is_class;
         cached = may.cached;
         behind = λ more. record {
-          same = kept.batch.descriptor ∙ same ∙ d_is ∙ sym (ap₂ superblock_at cap first_is);
+          same = kept.batch.descriptor ∙ same ∙ d_is ∙ sym (ap₂ superblock_at (seat_capacity c k views i v keeps below at) first_is);
           unchanged = kept.batch.linked ∙ linked;
           linked = now ∙ eqb-true to e.first h ∙ sym first_is;
         };
@@ -116,7 +114,7 @@ module _ (c : CoreState) (k : Setup) (views : List View) (i : ℕ) (v : View) (t
         notes = (let n = kept.notes in record { ticket = n.ticket; stopped = n.stopped; seen_used = n.seen_used; seen_head = n.seen_head; seen_link = n.seen_link; seen_anchor = n.seen_anchor });
         caches = moves.caches_after c k views i v t keeps below at at_t class may first next_is;
         batch = record {
-          descriptor = ap₂ superblock_at cap first_is ∙ sym d_is;
+          descriptor = ap₂ superblock_at (seat_capacity c k views i v keeps below at) first_is ∙ sym d_is;
           class = refl;
           first = first_append v.batch.blocks b ∙ ap₂ (λ n x. cond (nat_eq n 0) x (first_of v.batch.blocks)) kept.batch.count first_is ∙ ap (λ x. cond (nat_eq t.batch.count 0) e.first x) kept.batch.first ∙ sym head_is;
           last = last_append v.batch.blocks b ∙ first_is;

@@ -21,8 +21,8 @@ use Rattle.core_model.specs.Sound.{Good, KnowsHead}
 use Rattle.core_model.specs.Steps.{seat_after}
 use Rattle.crash_core.specs.Standing.{share_for, no_superblock, listed, IsShare, IsKept, Keeps, Steps, snapshot}
 use Rattle.core_model.proofs.TotalLemmas.{total_at}
-use Rattle.core_model.proofs.OwnLemmas.{one_at_most}
-use Rattle.core_model.proofs.ListLemmas.{in_lists_at}
+use Rattle.heap_model.proofs.ListLemmas.{one_at_most}
+use Rattle.core_model.proofs.ListLemmas.{in_lists_at, before_is}
 use Rattle.core_model.proofs.PlaceLemmas.{pick, skip}
 use Rattle.crash_core.proofs.StandingLemmas.{step_done, step_not, memory_in}
 use Rattle.crash_core.proofs.KeptFacts as facts
@@ -33,10 +33,6 @@ use Rattle.crash_core.proofs.WordLemmas.{entry_is, read_is}
 pub claimed_going : (base : View) (d list : ℕ) → (claimed base d list).stopped ≡ base.stopped
 claimed_going base d zero = refl
 claimed_going base d (suc n) = refl
-
-before_is : (n : ℕ) → n ≢ 0 → before n ≡ n - 1
-before_is zero some = absurd (some refl)
-before_is (suc n) some = omega arith
 
 module _ (c : CoreState) (k : Setup) (views : List View) (i : ℕ) (v : View) (t : Seat) (keeps : Keeps c k views) (below : i < length views) (at : get_or views i v ≡ v)
     (at_t : get_or c.seats.items i t ≡ t) where

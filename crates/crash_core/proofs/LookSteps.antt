@@ -1,5 +1,5 @@
 -- The steps of the core that read a shared word.
-use Rattle.std.proofs.Common.{◌≡◌, ◌≢◌, ℕ, zero, suc, ◌+◌, ◌-◌, max, ap₂, ◌<◌, true, List, get_or, set, length, None, Some, refl, ap, sym, subst, ◌∙◌, lt-ltb, arith}
+use Rattle.std.proofs.Common.{◌≡◌, ◌≢◌, ℕ, ◌+◌, ◌-◌, max, ap₂, ◌<◌, true, List, get_or, set, length, None, Some, refl, ap, sym, subst, ◌∙◌, lt-ltb, arith}
 use Rattle.std.specs.Vec.{with_item}
 use Rattle.heap_model.specs.Geometry.{lists, image_words, link_word}
 use Rattle.heap_model.specs.Words.{head_first}
@@ -18,17 +18,12 @@ use Rattle.core_model.proofs.QuietLemmas.{not_there}
 use Rattle.crash_core.proofs.StandingLemmas.{step_noted, step_not, memory_in}
 use Rattle.crash_core.proofs.KeptFacts as facts
 use Rattle.crash_core.proofs.WordLemmas.{entry_is, read_is, put_back}
+use Rattle.core_model.proofs.ListLemmas.{before_is}
 
 module _ (c : CoreState) (k : Setup) (views : List View) (i : ℕ) (v : View) (t : Seat) (keeps : Keeps c k views) (below : i < length views) (at : get_or views i v ≡ v)
     (at_t : get_or c.seats.items i t ≡ t) (going : v.stopped ≡ None) where
   kept : IsKept c i t v
   kept = keeps.each i t v below at_t at
-
-  saw : (head : Seen) → t.seen_head ≡ Some head → v.seen_head ≡ Some (record { of = head.of; word = head.word })
-  saw = facts.saw c k views i v t keeps below at at_t
-
-  first_below : (head : Seen) → t.seen_head ≡ Some head → head_first head.word ≢ 0 → head_first head.word - 1 < c.geometry.capacity
-  first_below = facts.first_below c k views i v t keeps below at at_t
 
   pub look_used : IsThere v.ticket → (word : ℕ) → word ≡ get_or c.words.items 8 word
       → Steps c (record c { seats = with_item c.seats i (record t { ticket = None; seen_used = Some word }) }) k views i v LookUsed Done
@@ -69,14 +64,10 @@ module _ (c : CoreState) (k : Setup) (views : List View) (i : ℕ) (v : View) (t
   pub empty_list : (head : Seen) → t.seen_head ≡ Some head → head_first head.word ≡ 0 → Steps c c k views i v LookLink NotNow
   empty_list head some none = step_not c k views i v LookLink (λ may _. may.some (ap (λ x. head_first (seen_word x)) (kept.notes.seen_head ∙ ap snapshot some) ∙ none))
 
-  before_is : (n : ℕ) → n ≢ 0 → before n ≡ n - 1
-  before_is zero some = absurd (some refl)
-  before_is (suc n) some = omega arith
-
   pub look_link : IsThere v.ticket → (head : Seen) → t.seen_head ≡ Some head → head_first head.word ≢ 0 → (word : ℕ) → word ≡ get_or c.words.items (link_word (head_first head.word - 1)) word
       → Steps c (record c { seats = with_item c.seats i (record t { ticket = None; seen_link = Some word }) }) k views i v LookLink Done
   look_link ticket head some more word is = step_noted c k views i v t (record t { ticket = None; seen_link = Some word }) c.words LookLink keeps below at at_t going ticket
-      (record { is_seen = ap one_if_some (saw head some); some = subst (λ x. head_first (seen_word x) ≢ 0) (sym (saw head some)) more }) tt going
+      (record { is_seen = ap one_if_some (facts.saw c k views i v t keeps below at at_t head some); some = subst (λ x. head_first (seen_word x) ≢ 0) (sym (facts.saw c k views i v t keeps below at at_t head some)) more }) tt going
       (sym (put_back k.capacity c.words.items (volatile_at (link_cell d)) there))
       (let n = kept.notes in record {
         ticket = refl;
@@ -90,10 +81,10 @@ module _ (c : CoreState) (k : Setup) (views : List View) (i : ℕ) (v : View) (t
         d = before (head_first (seen_word v.seen_head))
 
         d_is : d ≡ head_first head.word - 1
-        d_is = ap (λ x. before (head_first (seen_word x))) (saw head some) ∙ before_is (head_first head.word) more
+        d_is = ap (λ x. before (head_first (seen_word x))) (facts.saw c k views i v t keeps below at at_t head some) ∙ before_is (head_first head.word) more
 
         less : d < k.capacity
-        less = let f = first_below head some more in let cap = keeps.capacity in let e = d_is in omega arith
+        less = let f = facts.first_below c k views i v t keeps below at at_t head some more in let cap = keeps.capacity in let e = d_is in omega arith
 
         there : is_cell k.capacity (link_cell d) ≡ true
         there = lt-ltb d k.capacity less

@@ -24,6 +24,11 @@ use Rattle.crash_core.specs.Standing.{place_for, held_in, cached_in, batched_in,
 use Rattle.crash_core.proofs.PickedLemmas.{picked_more, total_append, none_before, small_once}
 use Rattle.crash_core.proofs.ShareLemmas.{places_mine, places_theirs}
 
+-- empty caches have no blocks
+pub none_cached : (n b : ℕ) → total (times b) (replicate n []) ≡ 0
+none_cached zero b = refl
+none_cached (suc n) b = let rest = none_cached n b in omega arith
+
 -- a seat holds the block so often, and has it nowhere else
 pub record IsHeldOnly (n : ℕ) (x : BlockPlace) : Type 0 where
   pub held : n ≡ held_in x
@@ -147,7 +152,3 @@ module _ (words : List ℕ) (held : List Block) (owners : List ℕ) (ready : IsR
   } where
     is_class : (j : ℕ) (p : Block) → Contains (picked j held owners) p → is_small p ≡ true → slice_index words (info_word (superblock_at c p.first_word)) < lists
     is_class j p m small = let s = small_of p (picked_in j held owners p m) small in let e = ap (λ d. slice_index words (info_word d)) s.here in let f = s.info_at in let l = s.is_class.last in omega arith
-
-    none_cached : (n b : ℕ) → total (times b) (replicate n []) ≡ 0
-    none_cached zero b = refl
-    none_cached (suc n) b = let rest = none_cached n b in omega arith

@@ -11,9 +11,9 @@ use Rattle.core_model.specs.Cells.{superblock_at}
 use Rattle.core_model.specs.Effects.{span_count}
 use Rattle.core_model.specs.Opening.{picked, is_small, large_blocks}
 use Rattle.core_model.specs.View.{Span, takes, times_large}
-use Rattle.core_model.proofs.OwnLemmas.{one_at_most}
+use Rattle.heap_model.proofs.ListLemmas.{one_at_most}
 use Rattle.core_model.proofs.PlaceLemmas.{pick, skip, not-eq}
-use Rattle.core_model.proofs.SpanLemmas.{range_is, range_not}
+use Rattle.core_model.proofs.SpanLemmas.{range_is, range_not, cases_range}
 use Rattle.core_model.proofs.OpenLemmas.{picked_in, large_sum, span_from}
 use Rattle.core_model.proofs.OpenedLemmas as opened
 use Rattle.crash_core.specs.declared.owners.Share.{Share}
@@ -23,7 +23,7 @@ use Rattle.crash_core.specs.OpenedOwners.{AreSuperblockOwners, IsLargeGiven}
 use Rattle.crash_core.specs.Standing.{share_for, no_superblock, count_in, IsShare, HasSuperblocks, IsRange}
 use Rattle.crash_core.proofs.OpenedBlocks.{alone, for_one, block_there}
 use Rattle.crash_core.proofs.PickedLemmas.{picked_more, total_append, none_before, in_taken}
-use Rattle.crash_core.proofs.RangeLemmas.{in_or_out, range_theirs}
+use Rattle.crash_core.proofs.RangeLemmas.{range_theirs}
 use Rattle.crash_core.proofs.ShareLemmas.{share_own, share_theirs, shares_mine, shares_theirs, no_share}
 
 -- the count of large blocks where one is added
@@ -81,16 +81,13 @@ module _ (words : List ℕ) (held : List Block) (owners : List ℕ) (ready : IsR
   abbrev IsLarge : Block → Type 0
   IsLarge p = opened.IsLarge words held 0 1 (alone words held owners ready long) (replicate roots 0) ready (for_one words held owners ready long) p
 
-  large_of : (p : Block) → Contains held p → is_small p ≡ false → IsLarge p
-  large_of p there large = opened.large_of words held 0 1 (alone words held owners ready long) (replicate roots 0) ready (for_one words held owners ready long) p there large
-
   -- where a large block lies, as its superblocks are counted
   pub large_at : (p : Block) → Contains held p → is_small p ≡ false → (start_word c 0 ≤ p.first_word) × (1 ≤ p.words / superblock_words) × (superblock_at c p.first_word + p.words / superblock_words ≤ c)
-  large_at p there large = let l = large_of p there large in let f = l.first in let s = l.size in let o = l.some in let h = l.here in let t = l.fits in let u = ready.formed.used in
+  large_at p there large = let l = opened.large_of words held 0 1 (alone words held owners ready long) (replicate roots 0) ready (for_one words held owners ready long) p there large in let f = l.first in let s = l.size in let o = l.some in let h = l.here in let t = l.fits in let u = ready.formed.used in
       (omega arith, omega arith, omega arith)
 
   part_takes : (e : ℕ) (p : Block) → Contains held p → is_small p ≡ false → one_if (takes e (record { first = superblock_at c p.first_word; count = p.words / superblock_words })) ≡ large_part c e p
-  part_takes e p there large = opened.part_takes words held 0 1 (alone words held owners ready long) (replicate roots 0) ready (for_one words held owners ready long) e p (large_of p there large)
+  part_takes e p there large = opened.part_takes words held 0 1 (alone words held owners ready long) (replicate roots 0) ready (for_one words held owners ready long) e p (opened.large_of words held 0 1 (alone words held owners ready long) (replicate roots 0) ready (for_one words held owners ready long) p there large)
 
   part_once : (e : ℕ) → total (large_part c e) held ≤ 1
   part_once e = let p = ready.shaped.one_place e in let most = one_at_most (nat_lt e (slice_index words 8)) in omega arith
@@ -174,7 +171,7 @@ module _ (words : List ℕ) (held : List Block) (owners : List ℕ) (ready : IsR
           apart e other = ap (span_count e) mine ∙ span_apart e (large_so_far c held owners i o) span (λ h. other (sym h))
 
           rest_mine : (e : ℕ) → e ≢ d → IsMine e (share_for o (get_or rest e no_superblock))
-          rest_mine e other = elim (in_or_out d n e) [
+          rest_mine e other = elim (cases_range d n e) [
             | inl here ↦ subst (IsMine e) (sym (ap (share_for o) (range.inside e here.0 here.1) ∙ share_own o (share.Large 0)))
                 (is_large e 0 (large_so_far c held owners (suc i) o)
                 (let m = mine_times e in let z = none_yet e o here.0 here.1 in let r = range_is d n e here.0 here.1 in omega arith)

@@ -21,7 +21,7 @@ use Rattle.crash_core.specs.Standing.{share_for, place_for, no_superblock, no_bl
 use Rattle.core_model.proofs.PlaceLemmas.{and_is}
 use Rattle.core_model.proofs.TotalLemmas.{ne-eqb-none}
 use Rattle.core_model.proofs.OwnerLemmas.{in_blocks, covered, which_class}
-use Rattle.crash_core.proofs.StandingLemmas.{memory_in}
+use Rattle.crash_core.proofs.StandingLemmas.{memory_in, seat_capacity}
 use Rattle.crash_core.proofs.WordLemmas.{entry_is}
 use Rattle.crash_core.proofs.PushDecision.{refused}
 
@@ -53,11 +53,8 @@ module _ (c : CoreState) (k : Setup) (views : List View) (i : ℕ) (v : View) (t
   cap : v.setup.capacity ≡ k.capacity
   cap = ap (λ (s : Setup). s.capacity) (good.set_up i v below at).setup
 
-  cap_at : v.setup.capacity ≡ c.geometry.capacity
-  cap_at = cap ∙ keeps.capacity
-
   pub own_is : (word : ℕ) (cell : Cell) → cell_at c.geometry.capacity word ≡ cell → (b : Bool) → ((b ≡ true) ↔ (0 < times_own v cell)) → (b ≡ true) ↔ IsOwn v (cell_at v.setup.capacity word)
-  own_is word cell is b decides = subst (λ x. (b ≡ true) ↔ IsOwn v x) (sym (ap (λ n. cell_at n word) cap_at ∙ is)) decides
+  own_is word cell is b decides = subst (λ x. (b ≡ true) ↔ IsOwn v x) (sym (ap (λ n. cell_at n word) (seat_capacity c k views i v keeps below at) ∙ is)) decides
 
   pub own_shared : (word : ℕ) → ((u : View) → times_own u (cell_at c.geometry.capacity word) ≡ 0) → (false ≡ true) ↔ IsOwn v (cell_at v.setup.capacity word)
   own_shared word none = own_is word (cell_at c.geometry.capacity word) refl false (refused (λ some. let n = none v in omega arith))
@@ -84,7 +81,7 @@ module _ (c : CoreState) (k : Setup) (views : List View) (i : ℕ) (v : View) (t
   module _ (word : ℕ) (from : start_word c.geometry.capacity 0 ≤ word) (until : word < image_words c.geometry.capacity) (d : ℕ) (d_is : d ≡ superblock_at c.geometry.capacity word) (x : Share)
       (x_is : x ≡ share_for i (get_or c.superblocks.items d no_superblock)) where
     d_v : superblock_at v.setup.capacity word ≡ d
-    d_v = ap (λ n. superblock_at n word) cap_at ∙ sym d_is
+    d_v = ap (λ n. superblock_at n word) (seat_capacity c k views i v keeps below at) ∙ sym d_is
 
     parts_of : times_large (superblock_at v.setup.capacity word) v.large + times_raw (superblock_at v.setup.capacity word) v ≡ raw_in x + split_in x + cutting_in x + large_in x
     parts_of = ap (λ n. times_large n v.large + times_raw n v) d_v ∙ (let s = share_is d in let p = s.is_raw in let q = s.is_split in let r = s.is_cutting in let l = s.is_large in

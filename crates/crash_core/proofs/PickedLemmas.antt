@@ -15,7 +15,7 @@ use Rattle.core_model.proofs.PlaceLemmas.{and_both, and_is}
 use Rattle.core_model.proofs.OpenLemmas.{small_at}
 use Rattle.core_model.proofs.OpenCountLemmas.{times_total}
 use Rattle.core_model.proofs.OpenedHeldLemmas.{owns_root}
-use Rattle.core_model.proofs.OwnLemmas.{one_at_most}
+use Rattle.heap_model.proofs.ListLemmas.{one_at_most}
 use Rattle.crash_core.proofs.WordLemmas.{entry_is}
 
 pub picked_more : {A : Type 0} (j : ℕ) (xs : List A) (os : List ℕ) (i : ℕ) (x : A) (o : ℕ) → i < length xs → get_or xs i x ≡ x → i < length os → get_or os i o ≡ o

@@ -12,7 +12,7 @@ use Rattle.core_model.specs.Memory.{Memory, info, anchor, link, durable_used, me
 use Rattle.core_model.specs.View.{Setup, View, one_if_some, times_classed}
 use Rattle.core_model.specs.Effects.{seen_word, seen_of}
 use Rattle.core_model.specs.Guards.{MayList, as_free, of_its_class, MayPush}
-use Rattle.crash_core.specs.Standing.{share_for, no_superblock, raw_in, split_in, cutting_in, classed_in, IsShare, IsKept, Keeps, memory_at}
+use Rattle.crash_core.specs.Standing.{share_for, no_superblock, raw_in, split_in, cutting_in, classed_in, IsKept, Keeps, memory_at}
 use Rattle.crash_core.proofs.StandingLemmas.{memory_in}
 use Rattle.crash_core.proofs.KeptFacts as facts
 
@@ -54,12 +54,9 @@ module _ (c : CoreState) (k : Setup) (views : List View) (i : ℕ) (v : View) (t
   abbrev x : Share
   x = share_for i (get_or c.superblocks.items d no_superblock)
 
-  s : IsShare d x v.raw v.split v.cutting v.classed v.large
-  s = kept.superblocks d
-
   settled_of : (list : ℕ) → MayList m v d list → 0 < raw_in x + split_in x + classed_in x
-  settled_of list (as_free l is_zero claimed empty) = let a = s.is_raw in let b = s.is_split in let e = s.is_cutting in let f = s.is_classed in let g = claimed.claimed in let h = claimed.not_cutting in omega arith
-  settled_of list (of_its_class l some classed is state) = let f = s.is_classed in omega arith
+  settled_of list (as_free l is_zero claimed empty) = let a = (kept.superblocks d).is_raw in let b = (kept.superblocks d).is_split in let e = (kept.superblocks d).is_cutting in let f = (kept.superblocks d).is_classed in let g = claimed.claimed in let h = claimed.not_cutting in omega arith
+  settled_of list (of_its_class l some classed is state) = let f = (kept.superblocks d).is_classed in omega arith
 
   pub unsettled : (y : Share) → y ≡ x → raw_in y + split_in y + classed_in y ≡ 0 → MayPush m v d → ⊥
   unsettled y is none may = let some = settled_of (seen_of v.seen_head) may.listed in let e = ap (λ z. raw_in z + split_in z + classed_in z) is in omega arith
@@ -71,14 +68,11 @@ module _ (c : CoreState) (k : Setup) (views : List View) (i : ℕ) (v : View) (t
   undurable mark is past may = let less = may.durable in let e : durable_used m ≡ mark = ap durable_used (sym same) ∙ sym is in omega arith
 
   module _ (head : Seen) (some : t.seen_head ≡ Some head) where
-    word_is : seen_word v.seen_head ≡ head.word
-    word_is = ap seen_word (facts.saw c k views i v t keeps below at at_t head some)
-
     of_is : seen_of v.seen_head ≡ head.of
     of_is = ap seen_of (facts.saw c k views i v t keeps below at at_t head some)
 
     pub unlinked : (to first : ℕ) → to ≡ link (memory_at c) d → first ≡ head_first head.word → to ≢ first → MayPush m v d → ⊥
-    unlinked to first to_is first_is differs may = differs (to_is ∙ ap (λ n. link n d) same ∙ may.linked ∙ ap head_first word_is ∙ sym first_is)
+    unlinked to first to_is first_is differs may = differs (to_is ∙ ap (λ n. link n d) same ∙ may.linked ∙ ap head_first (ap seen_word (facts.saw c k views i v t keeps below at at_t head some)) ∙ sym first_is)
 
     module _ (settled : 0 < raw_in x + split_in x + classed_in x) (mark : ℕ) (mark_is : mark ≡ durable_used (memory_at c)) (less : d < mark)
         (to first : ℕ) (to_is : to ≡ link (memory_at c) d) (first_is : first ≡ head_first head.word) (linked : to ≡ first) (state word : ℕ) (state_is : state ≡ anchor_state word) (anchor_is : word ≡ anchor (memory_at c) d) where
@@ -89,7 +83,7 @@ module _ (c : CoreState) (k : Setup) (views : List View) (i : ℕ) (v : View) (t
       may_push listed = record {
         is_seen = ap one_if_some (facts.saw c k views i v t keeps below at at_t head some);
         durable = (let e : durable_used m ≡ mark = ap durable_used (sym same) ∙ sym mark_is in omega arith);
-        linked = ap (λ n. link n d) (sym same) ∙ sym to_is ∙ linked ∙ first_is ∙ ap head_first (sym word_is);
+        linked = ap (λ n. link n d) (sym same) ∙ sym to_is ∙ linked ∙ first_is ∙ ap head_first (sym (ap seen_word (facts.saw c k views i v t keeps below at at_t head some)));
         listed = listed;
       }
 
@@ -100,7 +94,7 @@ module _ (c : CoreState) (k : Setup) (views : List View) (i : ℕ) (v : View) (t
       pub as_free_one : head.of ≡ 0 → (nat_eq state 0 ≡ true) ↔ MayPush m v d
       as_free_one zero_list = (
         λ e. may_push (as_free (seen_of v.seen_head) (of_is ∙ zero_list)
-            (record { claimed = (let a = s.is_raw in let b = s.is_split in let f = s.is_classed in omega arith); not_cutting = s.is_cutting ∙ settled_cut x settled })
+            (record { claimed = (let a = (kept.superblocks d).is_raw in let b = (kept.superblocks d).is_split in let f = (kept.superblocks d).is_classed in omega arith); not_cutting = (kept.superblocks d).is_cutting ∙ settled_cut x settled })
             (now ∙ eqb-true state 0 e)),
         λ may. eq-eqb state 0 (sym now ∙ empty_of (seen_of v.seen_head) (of_is ∙ zero_list) may.listed),
       )
@@ -110,14 +104,14 @@ module _ (c : CoreState) (k : Setup) (views : List View) (i : ℕ) (v : View) (t
       class_of list some_list (of_its_class l apart classed is state_now) = (classed, is, elim state_now [ inl partial ↦ omega arith | inr empty ↦ omega arith ])
 
       pub unclassed : head.of ≢ 0 → classed_in x ≡ 0 → MayPush m v d → ⊥
-      unclassed some_list none may = let g = (class_of (seen_of v.seen_head) (λ e. some_list (sym of_is ∙ e)) may.listed).0 in let f = s.is_classed in omega arith
+      unclassed some_list none may = let g = (class_of (seen_of v.seen_head) (λ e. some_list (sym of_is ∙ e)) may.listed).0 in let f = (kept.superblocks d).is_classed in omega arith
 
       pub full_one : head.of ≢ 0 → 1 < state → MayPush m v d → ⊥
       full_one some_list full may = let g = (class_of (seen_of v.seen_head) (λ e. some_list (sym of_is ∙ e)) may.listed).2 in let n = now in omega arith
 
       pub of_class_one : head.of ≢ 0 → 0 < classed_in x → state ≤ 1 → (holds : ℕ) → holds ≡ info (memory_at c) d → (nat_eq holds head.of ≡ true) ↔ MayPush m v d
       of_class_one some_list classed low holds holds_is = (
-        λ e. may_push (of_its_class (seen_of v.seen_head) (λ z. some_list (sym of_is ∙ z)) (let f = s.is_classed in omega arith)
+        λ e. may_push (of_its_class (seen_of v.seen_head) (λ z. some_list (sym of_is ∙ z)) (let f = (kept.superblocks d).is_classed in omega arith)
             (ap (λ n. info n d) (sym same) ∙ sym holds_is ∙ eqb-true holds head.of e ∙ sym of_is)
             (elim (cases_eq state 0) [ inl none ↦ inr (now ∙ none) | inr more ↦ inl (now ∙ (let z : state ≡ 1 = omega arith in z)) ])),
         λ may. eq-eqb holds head.of (holds_is ∙ ap (λ n. info n d) same ∙ (class_of (seen_of v.seen_head) (λ z. some_list (sym of_is ∙ z)) may.listed).1 ∙ of_is),

@@ -1,25 +1,16 @@
 -- Whose each superblock is, after those of a range change hands.
-use Rattle.std.proofs.Common.{◌≡◌, ◌≢◌, ℕ, ◌+◌, ◌<◌, ◌≤◌, ◌⊎◌, inl, inr, List, get_or, ap, sym, subst, ◌∙◌, arith}
-use Rattle.std.proofs.lemmas.Bool.{cases_lt}
+use Rattle.std.proofs.Common.{◌≡◌, ◌≢◌, ℕ, ◌+◌, ◌<◌, ◌≤◌, inl, inr, List, get_or, ap, sym, subst, ◌∙◌}
 use Rattle.crash_core.specs.declared.owners.Share.{Share}
 use Rattle.crash_core.specs.declared.owners.Share.TheVariants as share
 use Rattle.crash_core.specs.declared.owners.SuperblockOwner.{SuperblockOwner}
 use Rattle.crash_core.specs.Standing.{share_for, no_superblock, IsRange}
 use Rattle.crash_core.proofs.ShareLemmas.{share_own, share_theirs}
-
-pub in_or_out : (from n d : ℕ) → ((from ≤ d) × (d < from + n)) ⊎ (from ≤ d → d < from + n → ⊥)
-in_or_out from n d = elim (cases_lt d from) [
-  | inl low ↦ inr (λ a b. absurd (omega arith))
-  | inr some ↦ elim (cases_lt d (from + n)) [
-    | inl high ↦ inl (some, high)
-    | inr past ↦ inr (λ a b. absurd (omega arith))
-  ]
-]
+use Rattle.core_model.proofs.SpanLemmas.{cases_range}
 
 pub range_mine : (old new : List SuperblockOwner) (i from n : ℕ) (x : Share) (P : ℕ → Share → Type 0) → IsRange old new from n (record { seat = i; share = x })
     → ((d : ℕ) → from ≤ d → d < from + n → P d x) → ((d : ℕ) → (from ≤ d → d < from + n → ⊥) → P d (share_for i (get_or old d no_superblock)))
     → (d : ℕ) → P d (share_for i (get_or new d no_superblock))
-range_mine old new i from n x P range inside outside d = elim (in_or_out from n d) [
+range_mine old new i from n x P range inside outside d = elim (cases_range from n d) [
   | inl here ↦ subst (P d) (sym (ap (share_for i) (range.inside d here.0 here.1) ∙ share_own i x)) (inside d here.0 here.1)
   | inr other ↦ subst (P d) (sym (ap (share_for i) (range.outside d other))) (outside d other)
 ]
@@ -28,7 +19,7 @@ pub range_theirs : (old new : List SuperblockOwner) (i j from n : ℕ) (x : Shar
     → ((d : ℕ) → from ≤ d → d < from + n → share_for j (get_or old d no_superblock) ≡ share.Nothing)
     → ((d : ℕ) → P d (share_for j (get_or old d no_superblock)))
     → (d : ℕ) → P d (share_for j (get_or new d no_superblock))
-range_theirs old new i j from n x P apart range none before d = elim (in_or_out from n d) [
+range_theirs old new i j from n x P apart range none before d = elim (cases_range from n d) [
   | inl here ↦ subst (P d) (none d here.0 here.1 ∙ sym (ap (share_for j) (range.inside d here.0 here.1) ∙ share_theirs i j x apart)) (before d)
   | inr other ↦ subst (P d) (sym (ap (share_for j) (range.outside d other))) (before d)
 ]

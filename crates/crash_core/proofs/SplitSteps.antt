@@ -19,10 +19,11 @@ use Rattle.core_model.specs.Guards.{MaySplit}
 use Rattle.core_model.specs.Sound.{Good}
 use Rattle.crash_core.specs.Standing.{share_for, no_superblock, raw_in, split_in, cutting_in, classed_in, class_in, large_in, count_in, IsShare, IsRange, IsKept, IsCore, Keeps, IsMoved, Decides, snapshot}
 use Rattle.core_model.proofs.TotalLemmas.{total_at}
-use Rattle.core_model.proofs.FrameLemmas.{times_append, below_not}
+use Rattle.core_model.proofs.FrameLemmas.{below_not}
+use Rattle.heap_model.proofs.ListLemmas.{times_append}
 use Rattle.core_model.proofs.LinkFrameLemmas.{span_covers}
 use Rattle.core_model.proofs.SpanLemmas.{range_is, range_not, times_range, without_span_is, span_other}
-use Rattle.crash_core.proofs.StandingLemmas.{memory_in}
+use Rattle.crash_core.proofs.StandingLemmas.{memory_in, seat_capacity}
 use Rattle.crash_core.proofs.ShareLemmas.{share_alone}
 use Rattle.crash_core.proofs.RangeLemmas.{range_mine, range_theirs}
 use Rattle.crash_core.proofs.WordLemmas.{entry_there}
@@ -50,17 +51,14 @@ module _ (c : CoreState) (k : Setup) (views : List View) (i : ℕ) (v : View) (t
   good : Good k (memory_in c k) views
   good = keeps.sound.good
 
-  cap : v.setup.capacity ≡ c.geometry.capacity
-  cap = ap (λ (s : Setup). s.capacity) (good.set_up i v below_i at).setup ∙ keeps.capacity
-
   abbrev d : ℕ
   d = superblock_at c.geometry.capacity block
 
   d_v : superblock_at v.setup.capacity block ≡ d
-  d_v = ap (λ n. superblock_at n block) cap
+  d_v = ap (λ n. superblock_at n block) (seat_capacity c k views i v keeps below_i at)
 
   pub split_first : MaySplit v block → block ≡ start_word c.geometry.capacity d
-  split_first may = subst (λ n. block ≡ start_word n (superblock_at n block)) cap may.first
+  split_first may = subst (λ n. block ≡ start_word n (superblock_at n block)) (seat_capacity c k views i v keeps below_i at) may.first
 
   count_is : span_count d v.large ≡ count_in (share_for i (get_or c.superblocks.items d no_superblock))
   count_is = (kept.superblocks d).count
@@ -78,7 +76,7 @@ module _ (c : CoreState) (k : Setup) (views : List View) (i : ℕ) (v : View) (t
   split_there from whole x n x_is n_is = (
     λ h. record {
       held = subst (λ m. 1 ≤ span_count m v.large) (sym d_v) (let e = count_is in let f = ap count_in x_is in let more = ltb-true 0 n h in omega arith);
-      first = subst (λ m. block ≡ start_word m (superblock_at m block)) (sym cap) (omega arith);
+      first = subst (λ m. block ≡ start_word m (superblock_at m block)) (sym (seat_capacity c k views i v keeps below_i at)) (omega arith);
     },
     λ may. lt-ltb 0 n (let h = subst (λ m. 1 ≤ span_count m v.large) d_v may.held in let e = count_is in let f = ap count_in x_is in omega arith),
   )

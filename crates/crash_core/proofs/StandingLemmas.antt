@@ -101,3 +101,7 @@ step_noted c k views i v t t' words event keeps below at at_t going ticket ready
       roots = subst (λ (p : Parts). HasRoots c.roots.items i p.roots) (sym same) old.roots;
     })
     (λ j s u other less at_u h. record { notes = h.notes; caches = h.caches; batch = h.batch; blocks = h.blocks; superblocks = h.superblocks; roots = h.roots })
+
+-- the capacity of a seat is the core's
+pub seat_capacity : (c : CoreState) (k : Setup) (views : List View) (i : ℕ) (v : View) → Keeps c k views → i < length views → get_or views i v ≡ v → v.setup.capacity ≡ c.geometry.capacity
+seat_capacity c k views i v keeps below at = ap (λ (s : Setup). s.capacity) (keeps.sound.good.set_up i v below at).setup ∙ keeps.capacity

@@ -26,7 +26,8 @@ use Rattle.core_model.proofs.PlaceLemmas.{index_at}
 use Rattle.core_model.proofs.TotalLemmas.{eq-eqb-one, ne-eqb-none}
 use Rattle.crash_core.proofs.StandingLemmas.{step_done, step_not, may_step, memory_in, IsSameHeap}
 use Rattle.crash_core.proofs.ShareLemmas.{shares_mine, shares_theirs, share_alone}
-use Rattle.crash_core.proofs.ClaimLemmas.{without_at, without_off}
+use Rattle.crash_core.proofs.ClaimLemmas.{without_off}
+use Rattle.heap_model.proofs.ListLemmas.{without_at}
 
 -- the superblocks of a seat after a store to the anchor of one
 anchored_kept : (owners : List SuperblockOwner) (i d value : ℕ) (raw split cutting : List ℕ) (classed : List Claim) (large : List Span) (base : View) → base.raw ≡ raw → base.split ≡ split → base.cutting ≡ cutting → base.classed ≡ classed → base.large ≡ large

@@ -45,17 +45,14 @@ module _ (c : CoreState) (k : Setup) (views : List View) (i : ℕ) (v : View) (t
   same : memory_at c ≡ memory_in c k
   same = ap (λ n. memory_of n c.words.items) (sym keeps.capacity)
 
-  s : IsShare d (share_for i (get_or c.superblocks.items d no_superblock)) v.raw v.split v.cutting v.classed v.large
-  s = kept.superblocks d
-
   pub take_beyond : c.geometry.capacity ≤ d → MayTakeAll v d → ⊥
   take_beyond past may = let l = taken k (memory_in c k) views i v below at good d (let g = may.claimed in omega arith) in let cap = keeps.capacity in omega arith
 
   pub take_unclaimed : classed_in (share_for i (get_or c.superblocks.items d no_superblock)) ≡ 0 → MayTakeAll v d → ⊥
-  take_unclaimed none may = let g = may.claimed in let f = s.is_classed in omega arith
+  take_unclaimed none may = let g = may.claimed in let f = (kept.superblocks d).is_classed in omega arith
 
   class_at : 0 < classed_in (share_for i (get_or c.superblocks.items d no_superblock)) → (class : ℕ) → class ≡ info (memory_at c) d → IsClass class × (class ≡ claim_class d v.classed)
-  class_at some class class_is = let claim = (good.claims i v below at).is_classed d (let f = s.is_classed in omega arith) in
+  class_at some class class_is = let claim = (good.claims i v below at).is_classed d (let f = (kept.superblocks d).is_classed in omega arith) in
       let is : class ≡ claim_class d v.classed = class_is ∙ ap (λ m. info m d) same ∙ claim.1 in (subst IsClass (sym is) claim.0, is)
 
   pub take_class : 0 < classed_in (share_for i (get_or c.superblocks.items d no_superblock)) → (class : ℕ) → class ≡ info (memory_at c) d → class < 21
@@ -75,7 +72,7 @@ module _ (c : CoreState) (k : Setup) (views : List View) (i : ℕ) (v : View) (t
         → (nat_eq (get_or t.caches class no_cache).count 0 ≡ true) ↔ MayTakeAll v d
     take_decided of partial claimed class class_is = (
       λ e. record {
-        claimed = (let f = s.is_classed in omega arith);
+        claimed = (let f = (kept.superblocks d).is_classed in omega arith);
         is_seen = ap one_if_some saw;
         of = ap seen_of saw ∙ of;
         partial = ap (λ x. anchor_state (seen_word x)) saw ∙ partial;
@@ -107,7 +104,7 @@ module _ (c : CoreState) (k : Setup) (views : List View) (i : ℕ) (v : View) (t
         d_less = taken k (memory_in c k) views i v below at good d (let g = may.claimed in omega arith)
 
         is : IsClass class × (class ≡ claim_class d v.classed)
-        is = class_at (let g = may.claimed in let f = s.is_classed in omega arith) class class_is
+        is = class_at (let g = may.claimed in let f = (kept.superblocks d).is_classed in omega arith) class class_is
 
         pub class_fits : IsClass class
         class_fits = is.0
@@ -213,7 +210,7 @@ module _ (c : CoreState) (k : Setup) (views : List View) (i : ℕ) (v : View) (t
             long = let l = d_less in let n = keeps.superblocks in omega arith
 
             mine : share_for i (get_or c.superblocks.items d no_superblock) ≡ share.Nothing → ⊥
-            mine none = let g = may.claimed in let f = s.is_classed in let z = ap classed_in none in omega arith
+            mine none = let g = may.claimed in let f = (kept.superblocks d).is_classed in let z = ap classed_in none in omega arith
 
             test : nat_eq (anchor (memory_in c k) d) (seen_word v.seen_anchor) ≡ true
             test = eq-eqb (anchor (memory_in c k) d) (seen_word v.seen_anchor) as_seen

@@ -1,5 +1,5 @@
 -- The core when a draw goes with a change of a seat's parts.
-use Rattle.std.proofs.Common.{◌≡◌, ℕ, zero, suc, ◌+◌, ◌*◌, ◌<◌, ◌≤◌, true, nat_lt, List, [], ◌∷◌, get_or, set, length, None, Some, refl, ap, ap₂, sym, subst, ◌∙◌, length-set, lt-ltb, arith}
+use Rattle.std.proofs.Common.{◌≡◌, ℕ, zero, suc, ◌+◌, ◌*◌, ◌<◌, ◌≤◌, true, nat_lt, List, [], ◌∷◌, get_or, set, length, None, Some, refl, ap, sym, subst, ◌∙◌, length-set, lt-ltb, arith}
 use Rattle.std.proofs.lemmas.List.{get_or-set_same}
 use Rattle.std.specs.Prelude.{Vec}
 use Rattle.std.specs.declared.alloc.Global.{Global}
@@ -22,7 +22,8 @@ use Rattle.crash_core.specs.Standing.{held_in, place_for, no_block, HasBlocksOf,
 use Rattle.core_model.proofs.PlaceLemmas.{pick, skip, not-lt}
 use Rattle.core_model.proofs.OwnerLemmas.{in_lists_total}
 use Rattle.crash_core.proofs.StandingLemmas.{step_done, may_step, memory_in, stands_after}
-use Rattle.crash_core.proofs.WordLemmas.{entry_is, entry_there}
+use Rattle.crash_core.proofs.WordLemmas.{entry_there}
+use Rattle.crash_core.proofs.WordSteps.{drawn_is, drawn_more}
 
 set_twice : {A : Type 0} (xs : List A) (i : ℕ) (a b : A) → set (set xs i a) i b ≡ set xs i b
 set_twice [] i a b = refl
@@ -106,23 +107,17 @@ module _ (c : CoreState) (k : Setup) (views : List View) (i : ℕ) (v : View) (t
   kept : IsKept c i t v
   kept = keeps.each i t v below at_t at
 
-  index : 2 * image_words k.capacity ≡ at_word
-  index = let g = keeps.capacity in omega arith
-
   found : (memory_in c k).drawn ≡ ticket
-  found = ap (λ n. get_or c.words.items n 0) index ∙ entry_is c.words.items at_word 0 ticket (let l = keeps.sound.long in let g = keeps.capacity in omega arith) ∙ sym is
+  found = drawn_is c k views keeps at_word ticket here is
 
   budget_is : v.setup.budget ≡ c.budget
   budget_is = ap (λ (s : Setup). s.budget) (keeps.sound.good.set_up i v below at).setup ∙ keeps.budget
-
-  words_are : set c.words.items at_word (ticket + 1) ≡ set c.words.items (2 * image_words k.capacity) ((memory_in c k).drawn + 1)
-  words_are = ap₂ (λ n x. set c.words.items n (x + 1)) (sym index) (sym found)
 
   pub stop_with : v.stopped ≡ None → c.budget ≤ ticket
       → Steps c (record c { words = with_item c.words at_word (ticket + 1); seats = with_item c.seats i (record t { ticket = None; stopped = Some ticket }) }) k views i v (Tick (Some shift)) (Stopped ticket)
   stop_with going past = steps_stopped ticket (record { may = may_step (memory_in c k) v (Tick (Some shift)) going tt may; as_seen = tt })
       (ap (λ (y : View). y.stopped) at_end ∙ ap Some found)
-      (stands_after c c' k views i v t t' (Tick (Some shift)) keeps below at at_t (may_step (memory_in c k) v (Tick (Some shift)) going tt may) words_are refl
+      (stands_after c c' k views i v t t' (Tick (Some shift)) keeps below at at_t (may_step (memory_in c k) v (Tick (Some shift)) going tt may) (drawn_more c k views keeps at_word ticket here is) refl
       (record { capacity = refl; budget = refl; blocks = refl; superblocks = refl; roots = refl })
       (subst (IsKept c' i t') (sym at_end) (record {
         notes = (let n = kept.notes in record { ticket = refl; stopped = ap Some found; seen_used = n.seen_used; seen_head = n.seen_head; seen_link = n.seen_link; seen_anchor = n.seen_anchor });
@@ -146,7 +141,7 @@ module _ (c : CoreState) (k : Setup) (views : List View) (i : ℕ) (v : View) (t
       → Steps c (record new { words = with_item new.words at_word (ticket + 1); seats = with_item new.seats i (record changed { ticket = Some ticket }) }) k views i v (Tick (Some shift)) Done
   draw_with going less new moved changed changed_is = step_done c c' k views i v t t' (Tick (Some shift)) keeps below at at_t going tt may tt
       (ap (λ (y : View). y.stopped) drawn ∙ going_on (memory_in c k) v shift (memory_in c k).drawn ∙ going)
-      (ap (λ (ws : Vec ℕ Global). set ws.items at_word (ticket + 1)) moved.words ∙ words_are)
+      (ap (λ (ws : Vec ℕ Global). set ws.items at_word (ticket + 1)) moved.words ∙ (drawn_more c k views keeps at_word ticket here is))
       (ap (λ l. set l i t') moved.seats ∙ set_twice c.seats.items i moved.after t')
       (record { capacity = ap (λ (g : Geometry). g.capacity) moved.geometry; budget = moved.budget; blocks = moved.blocks; superblocks = moved.superblocks; roots = moved.roots })
       (subst (IsKept c' i t') (sym drawn) (kept_with new c' i changed (memory_in c k) v shift (memory_in c k).drawn ticket refl refl refl found (subst (λ s. IsKept new i s (shifted (memory_in c k) v (Some shift))) (sym is_after) moved.mine)))

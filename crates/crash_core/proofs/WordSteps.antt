@@ -17,12 +17,12 @@ use Rattle.core_model.specs.Sound.{Good}
 use Rattle.core_model.specs.Steps.{seat_after}
 use Rattle.crash_core.specs.Standing.{IsKept, IsCore, Keeps, Steps, steps_stopped, HasNotes}
 use Rattle.core_model.proofs.StepLemmas.{parts}
-use Rattle.core_model.proofs.SoundLemmas.{in_table}
+use Rattle.core_model.proofs.SoundLemmas.{in_table, own_cell}
 use Rattle.core_model.proofs.PlaceLemmas.{pick, skip, not-lt, index_at, index_within}
 use Rattle.crash_core.proofs.StandingLemmas.{step_done, step_noted, may_step, memory_in, stands_after}
 use Rattle.crash_core.proofs.WordLemmas.{entry_is, read_is, put_back}
 
-stopped_most : (views : List View) → total (λ (v : View). one_if_some v.stopped) views ≤ length views
+pub stopped_most : (views : List View) → total (λ (v : View). one_if_some v.stopped) views ≤ length views
 stopped_most [] = omega arith
 stopped_most (v ∷ views) = let rest = stopped_most views in let one = most v.stopped in omega arith where
   most : {A : Type 0} (x : Option A) → one_if_some x ≤ 1
@@ -35,6 +35,17 @@ ticket_fits c at_word ticket core here is =
     let k = core.keeps in let cap = k.capacity in let l = k.sound.long in
     let now : get_or c.words.items (2 * image_words core.setup.capacity) 0 ≡ ticket = ap (λ n. get_or c.words.items n 0) (let e : 2 * image_words core.setup.capacity ≡ at_word = omega arith in e) ∙ entry_is c.words.items at_word 0 ticket (omega arith) ∙ sym is in
     let s = k.sound.good.adds.stopped in let m = stopped_most core.views in let few = k.few in let low = k.low in omega arith
+
+-- the ticket word has the count of draws, and a draw writes the next
+module _ (c : CoreState) (k : Setup) (views : List View) (keeps : Keeps c k views) (at_word ticket : ℕ) (here : at_word ≡ 2 * image_words c.geometry.capacity) (is : ticket ≡ get_or c.words.items at_word ticket) where
+  index : 2 * image_words k.capacity ≡ at_word
+  index = let g = keeps.capacity in omega arith
+
+  pub drawn_is : (memory_in c k).drawn ≡ ticket
+  drawn_is = ap (λ n. get_or c.words.items n 0) index ∙ entry_is c.words.items at_word 0 ticket (let l = keeps.sound.long in let g = keeps.capacity in omega arith) ∙ sym is
+
+  pub drawn_more : set c.words.items at_word (ticket + 1) ≡ set c.words.items (2 * image_words k.capacity) ((memory_in c k).drawn + 1)
+  drawn_more = ap₂ (λ n x. set c.words.items n (x + 1)) (sym index) (sym drawn_is)
 
 module _ (c : CoreState) (k : Setup) (views : List View) (i : ℕ) (v : View) (t : Seat) (keeps : Keeps c k views) (below : i < length views) (at : get_or views i v ≡ v)
     (at_t : get_or c.seats.items i t ≡ t) (going : v.stopped ≡ None) where
@@ -55,14 +66,11 @@ module _ (c : CoreState) (k : Setup) (views : List View) (i : ℕ) (v : View) (t
       (sym (put_back k.capacity c.words.items (volatile_at (cell_at v.setup.capacity word)) (in_table k (memory_in c k) views i v below at good (Load word) (may_step (memory_in c k) v (Load word) going ticket own))))
       (let n = kept.notes in record { ticket = refl; stopped = n.stopped; seen_used = n.seen_used; seen_head = n.seen_head; seen_link = n.seen_link; seen_anchor = n.seen_anchor }) refl refl refl
 
-  own_there : (word : ℕ) → IsOwn v (cell_at v.setup.capacity word) → is_cell k.capacity (cell_at v.setup.capacity word) ≡ true
-  own_there word own = in_table k (memory_in c k) views i v below at good (Settle word) (may_step (memory_in c k) v (Settle word) going tt own)
-
   own_index : (word : ℕ) → IsOwn v (cell_at v.setup.capacity word) → index_of (cell_at v.setup.capacity word) ≡ word
-  own_index word own = index_at v.setup.capacity word (subst (λ n. is_cell n (cell_at v.setup.capacity word) ≡ true) (sym cap) (own_there word own))
+  own_index word own = index_at v.setup.capacity word (subst (λ n. is_cell n (cell_at v.setup.capacity word) ≡ true) (sym cap) (own_cell k (memory_in c k) views i v below at good word own))
 
   pub own_below : (word : ℕ) → IsOwn v (cell_at v.setup.capacity word) → word < image_words c.geometry.capacity
-  own_below word own = let w = index_within k.capacity (cell_at v.setup.capacity word) (own_there word own) in let e = own_index word own in let g = keeps.capacity in omega arith
+  own_below word own = let w = index_within k.capacity (cell_at v.setup.capacity word) (own_cell k (memory_in c k) views i v below at good word own) in let e = own_index word own in let g = keeps.capacity in omega arith
 
   pub settle : (word at_word found : ℕ) → IsOwn v (cell_at v.setup.capacity word) → at_word ≡ image_words c.geometry.capacity + word → found ≡ get_or c.words.items word found
       → Steps c (record c { words = with_item c.words at_word found }) k views i v (Settle word) Done
@@ -81,24 +89,18 @@ module _ (c : CoreState) (k : Setup) (views : List View) (i : ℕ) (v : View) (t
       (λ j s u other less at_u h. record { notes = h.notes; caches = h.caches; batch = h.batch; blocks = h.blocks; superblocks = h.superblocks; roots = h.roots }) where
         found_is : found ≡ (memory_in c k).volatile (cell_at v.setup.capacity word)
         found_is = is ∙ entry_is c.words.items word found 0 (let l = keeps.sound.long in let b = own_below word own in let g = keeps.capacity in omega arith)
-            ∙ ap (λ n. get_or c.words.items n 0) (sym (own_index word own)) ∙ sym (read_is k.capacity c.words.items (volatile_at (cell_at v.setup.capacity word)) (own_there word own))
+            ∙ ap (λ n. get_or c.words.items n 0) (sym (own_index word own)) ∙ sym (read_is k.capacity c.words.items (volatile_at (cell_at v.setup.capacity word)) (own_cell k (memory_in c k) views i v below at good word own))
 
   module _ (at_word ticket : ℕ) (here : at_word ≡ 2 * image_words c.geometry.capacity) (is : ticket ≡ get_or c.words.items at_word ticket) where
-    index : 2 * image_words k.capacity ≡ at_word
-    index = let g = keeps.capacity in omega arith
-
     found : (memory_in c k).drawn ≡ ticket
-    found = ap (λ n. get_or c.words.items n 0) index ∙ entry_is c.words.items at_word 0 ticket (let l = keeps.sound.long in let g = keeps.capacity in omega arith) ∙ sym is
+    found = drawn_is c k views keeps at_word ticket here is
 
     budget_is : v.setup.budget ≡ c.budget
     budget_is = ap (λ (s : Setup). s.budget) (good.set_up i v below at).setup ∙ keeps.budget
 
-    words_are : set c.words.items at_word (ticket + 1) ≡ set c.words.items (2 * image_words k.capacity) ((memory_in c k).drawn + 1)
-    words_are = ap₂ (λ n x. set c.words.items n (x + 1)) (sym index) (sym found)
-
     pub draw : ticket < c.budget → Steps c (record c { words = with_item c.words at_word (ticket + 1); seats = with_item c.seats i (record t { ticket = Some ticket }) }) k views i v (Tick None) Done
     draw less = step_noted c k views i v t (record t { ticket = Some ticket }) (with_item c.words at_word (ticket + 1)) (Tick None) keeps below at at_t going tt tt tt
-        (ap (λ (y : View). y.stopped) drawn ∙ going) words_are
+        (ap (λ (y : View). y.stopped) drawn ∙ going) (drawn_more c k views keeps at_word ticket here is)
         (subst (HasNotes (record t { ticket = Some ticket })) (sym drawn) (let n = kept.notes in record { ticket = ap Some found; stopped = n.stopped; seen_used = n.seen_used; seen_head = n.seen_head; seen_link = n.seen_link; seen_anchor = n.seen_anchor }))
         refl refl (ap parts drawn) where
           drawn : seat_after (memory_in c k) v (Tick None) ≡ drew v (memory_in c k).drawn
@@ -107,7 +109,7 @@ module _ (c : CoreState) (k : Setup) (views : List View) (i : ℕ) (v : View) (t
     pub stop : c.budget ≤ ticket → Steps c (record c { words = with_item c.words at_word (ticket + 1); seats = with_item c.seats i (record t { ticket = None; stopped = Some ticket }) }) k views i v (Tick None) (Stopped ticket)
     stop past = steps_stopped ticket (record { may = may_step (memory_in c k) v (Tick None) going tt tt; as_seen = tt })
         (ap (λ (y : View). y.stopped) at_end ∙ ap Some found)
-        (stands_after c c' k views i v t t' (Tick None) keeps below at at_t (may_step (memory_in c k) v (Tick None) going tt tt) words_are refl
+        (stands_after c c' k views i v t t' (Tick None) keeps below at at_t (may_step (memory_in c k) v (Tick None) going tt tt) (drawn_more c k views keeps at_word ticket here is) refl
         (record { capacity = refl; budget = refl; blocks = refl; superblocks = refl; roots = refl })
         (subst (IsKept c' i t') (sym at_end) (record {
           notes = (let n = kept.notes in record { ticket = refl; stopped = ap Some found; seen_used = n.seen_used; seen_head = n.seen_head; seen_link = n.seen_link; seen_anchor = n.seen_anchor });

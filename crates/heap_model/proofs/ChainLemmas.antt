@@ -6,7 +6,7 @@ use Rattle.std.proofs.lemmas.Bool.{cases_lt, cases_order}
 use Rattle.heap_model.specs.declared.block.Block.{Block}
 use Rattle.heap_model.specs.Geometry.{start_word}
 use Rattle.heap_model.specs.Sizes.{IsClass, words_of_class, blocks_of}
-use Rattle.heap_model.specs.Words.{anchor_of, anchor_state, anchor_first, anchor_count, partial_state}
+use Rattle.heap_model.specs.Words.{anchor_of, anchor_state, anchor_first, anchor_count}
 use Rattle.heap_model.specs.Blocks.{Layout, IsBlock}
 use Rattle.heap_model.specs.Recovered.{IsBlockOfClass, AreAscending}
 use Rattle.heap_model.specs.Chains.{Walks}
@@ -16,10 +16,10 @@ use Rattle.heap_model.proofs.BlockLemmas.{block_step}
 use Rattle.heap_model.proofs.MemberLemmas.{in_head, in_rest, order_head, order_rest}
 use Rattle.heap_model.proofs.PartLemmas.{cases_of_part, same_start}
 
--- the parts of a partial anchor
-pub partial_parts : (first count : ℕ) → first < 2147483648
-    → (anchor_state (anchor_of partial_state first count) ≡ 1) × (anchor_first (anchor_of partial_state first count) ≡ first) × (anchor_count (anchor_of partial_state first count) ≡ count)
-partial_parts first count short = (omega arith, omega arith, omega arith)
+-- the parts of an anchor
+pub anchor_parts : (state first count : ℕ) → state < 4 → first < 2147483648
+    → (anchor_state (anchor_of state first count) ≡ state) × (anchor_first (anchor_of state first count) ≡ first) × (anchor_count (anchor_of state first count) ≡ count)
+anchor_parts state first count few short = (omega arith, omega arith, omega arith)
 
 -- the number is `start` and so many steps, of those from `low` to below `n`
 record IsStep (start words low n x : ℕ) : Type 0 where

@@ -1,10 +1,11 @@
 -- A header is well formed exactly where no cause holds.
-use Rattle.std.proofs.Common.{◌≡◌, ◌≢◌, ◌⊎◌, inl, inr, ℕ, ◌*◌, Bool, true, false, not, ◌||◌, cond, nat_eq, nat_lt, Option, Some, None, refl, arith}
+use Rattle.std.proofs.Common.{◌≡◌, ◌≢◌, ◌⊎◌, inl, inr, ℕ, ◌<◌, ◌*◌, Bool, true, false, not, ◌||◌, cond, nat_eq, nat_lt, Option, Some, None, refl, arith}
 use Rattle.std.proofs.lemmas.Bool.{ltb-false, eqb-true, eqb-false, eq-eqb, ne_eqb, le-ltb, not-false, not_from_true, or_parts, or_cases, or_left, or_right}
 use Rattle.heap_model.specs.declared.header.BadHeader.TheVariants.{Short, Magic, Version, Capacity, Length, State, Used}
 use Rattle.heap_model.specs.Geometry.{magic, version, largest_capacity, clean, dirty, image_words}
 use Rattle.heap_model.specs.Image.{Image}
 use Rattle.heap_model.specs.Header.{IsWellFormed, has_fault, header_fault}
+use Rattle.heap_model.specs.Durability.{IsTransient, is_head, is_anchor, is_link}
 
 -- where a choice between something and the rest is nothing, the test is false and the rest is nothing
 none_parts : {A : Type 0} (test : Bool) (x : A) (rest : Option A) → cond test (Some x) rest ≡ None → (test ≡ false) × (rest ≡ None)
@@ -57,3 +58,9 @@ no_fault bytes image good =
     ]) in
     let used : nat_lt (image 2) (image 8) ≡ false = le-ltb (image 2) (image 8) good.used in
     rw (long, magic_is, version_is, some, small, length_is, state, used) refl
+
+-- what a crash leaves at random is no word of the header before the heads
+pub header_lasts : (capacity word : ℕ) → word < 16 → IsTransient capacity word → ⊥
+header_lasts capacity _ low (is_head list word few at) = omega arith
+header_lasts capacity _ low (is_anchor d word less at) = omega arith
+header_lasts capacity _ low (is_link d word less at) = omega arith

@@ -5,6 +5,7 @@ pub mod ReachLemmas
 pub mod HeaderLemmas
 pub mod MemberLemmas
 pub mod CountingLemmas
+pub mod ListLemmas
 pub mod PartLemmas
 pub mod DecisionLemmas
 pub mod StandingLemmas

@@ -1,5 +1,5 @@
 -- After recovery each superblock is in one place, and each block is held or in a chain.
-use Rattle.std.proofs.Common.{◌≡◌, ℕ, zero, suc, ◌+◌, ◌*◌, ◌<◌, inl, inr, List, [], map, refl, sym, subst, ◌∙◌, arith}
+use Rattle.std.proofs.Common.{◌≡◌, ℕ, zero, suc, ◌+◌, ◌*◌, ◌<◌, ◌≤◌, inl, inr, List, [], map, refl, sym, subst, ◌∙◌, arith}
 use Rattle.std.proofs.lemmas.Bool.{lt-ltb, ltb-true}
 use Rattle.heap_model.specs.declared.block.Block.{Block}
 use Rattle.heap_model.specs.Geometry.{lists, start_word}
@@ -50,9 +50,9 @@ class_block l class d index b taken info is of = record {
   is_of = record { taken = taken; begins = of_class class info is; below = of.below; at = of.at; size = of.size };
 }
 
--- a block that has its infos in another layout too is a block there
-pub same_there : (l m : Layout) (b : Block) → m.capacity ≡ l.capacity → m.used ≡ l.used → ((d : ℕ) → HasPartIn l.capacity b d → m.info d ≡ l.info d) → IsBlock l b → IsBlock m b
-same_there l m b capacity used infos is = record {
+-- a block that has its infos in another layout too is a block there, also where more superblocks are taken
+pub block_more : (l m : Layout) (b : Block) → m.capacity ≡ l.capacity → l.used ≤ m.used → ((d : ℕ) → HasPartIn l.capacity b d → m.info d ≡ l.info d) → IsBlock l b → IsBlock m b
+block_more l m b capacity more infos is = record {
   superblock = is.superblock;
   index = is.index;
   words = is.words;
@@ -74,6 +74,9 @@ same_there l m b capacity used infos is = record {
       let in_d = block_begins l b is.superblock is.index is.words is.count is.is_of in
       as_large k some (infos is.superblock here ∙ info) (omega arith) (λ i low high.
       infos i (record { begins = omega arith; ends = omega arith }) ∙ zeros i low high)
+
+pub same_there : (l m : Layout) (b : Block) → m.capacity ≡ l.capacity → m.used ≡ l.used → ((d : ℕ) → HasPartIn l.capacity b d → m.info d ≡ l.info d) → IsBlock l b → IsBlock m b
+same_there l m b capacity used infos is = block_more l m b capacity (omega arith) infos is
 
 module _ (old new : Image) (kept : Block → Type 0) (held : List Block) (left : IsLeft old new kept held) where
   -- each taken superblock is in one place

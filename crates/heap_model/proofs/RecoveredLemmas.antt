@@ -5,7 +5,7 @@ use Rattle.heap_model.specs.Geometry.{info_word, anchor_word, start_word, magic_
 use Rattle.heap_model.specs.Image.{Image}
 use Rattle.heap_model.specs.Header.{IsWellFormed, capacity_of, used_of}
 use Rattle.heap_model.specs.Sizes.{IsClass, words_of_class}
-use Rattle.heap_model.specs.Words.{anchor_state, anchor_first, anchor_count}
+use Rattle.heap_model.specs.Words.{anchor_state, anchor_first, anchor_count, partial_state}
 use Rattle.heap_model.specs.Blocks.{layout_of}
 use Rattle.heap_model.specs.Recovered.{HasPartIn}
 use Rattle.heap_model.specs.Chains.{IsChain}
@@ -13,7 +13,7 @@ use Rattle.heap_model.specs.Recovery.{IsPartial, in_header}
 use Rattle.heap_model.specs.Rest.{IsAnchored}
 use Rattle.heap_model.proofs.PartLemmas.{part_taken}
 use Rattle.heap_model.proofs.StandingLemmas.{Standing, is_untaken, is_free, is_partial, is_fully_kept, is_in_large, cases_superblock}
-use Rattle.heap_model.proofs.ChainLemmas.{partial_parts, some_spare, not_all_spare, first_short}
+use Rattle.heap_model.proofs.ChainLemmas.{anchor_parts, some_spare, not_all_spare, first_short}
 use Rattle.heap_model.proofs.LeftLemmas.{IsLeft}
 
 module _ (old new : Image) (kept : Block → Type 0) (held : List Block) (left : IsLeft old new kept held) where
@@ -56,7 +56,7 @@ module _ (old new : Image) (kept : Block → Type 0) (held : List Block) (left :
       let rechained = left.recovered.partial class d is part in
       let ws = left.recovered.chains d in
       let short = first_short (layout_of old) kept class d ws is part chained new rechained.first rechained.walks in
-      let parts = partial_parts rechained.first (length ws) short in
+      let parts = anchor_parts partial_state rechained.first (length ws) (omega arith) short in
       let anchor = rechained.words.anchor_is in
       let some = some_spare (layout_of old) kept class d ws is part chained in
       let fewer = not_all_spare (layout_of old) kept class d ws is part chained left.named in

@@ -1,5 +1,5 @@
 -- What follows at once from the shape of a heap, and how lists and walks stay.
-use Rattle.std.proofs.Common.{◌≡◌, ◌≢◌, ℕ, zero, suc, ◌+◌, ◌<◌, ◌≤◌, inl, inr, Bool, true, false, nat_eq, List, [], ◌∷◌, ◌++◌, Contains, refl, ap, sym, subst, arith}
+use Rattle.std.proofs.Common.{◌≡◌, ◌≢◌, ℕ, zero, suc, ◌+◌, ◌<◌, ◌≤◌, inl, inr, nat_eq, List, [], ◌∷◌, Contains, refl, ap, sym, subst, arith}
 use Rattle.std.proofs.lemmas.Bool.{cases_eq, cases_order, eqb-true, eq-eqb, ne_eqb, cond-true, cond-false}
 use Rattle.heap_model.specs.declared.block.Block.{Block}
 use Rattle.heap_model.specs.Geometry.{lists, head_word, link_word}
@@ -16,6 +16,7 @@ use Rattle.heap_shape.specs.Shape.{Place, in_list, is_full, in_large, is_new, Sh
 use Rattle.heap_shape.specs.Standing.{first_of, IsFirstOf, IsOfClass, IsListed, IsFull, IsFree, IsAs}
 use Rattle.heap_shape.specs.Whole.{IsShape}
 use Rattle.heap_shape.specs.Effects.{IsInSuperblock}
+use Rattle.heap_model.proofs.ListLemmas.{one_at_most, times_of}
 
 -- a function with another value at one number
 pub with_at_same : {A : Type 0} (f : ℕ → A) (at : ℕ) (value : A) → with_at f at value at ≡ value
@@ -30,15 +31,6 @@ walks_same image new from [] same walks = tt
 walks_same image new from (w ∷ ws) same walks =
     (walks.0, subst (λ x. Walks new x ws) (sym (same w (in_head w ws))) (walks_same image new (image w) ws (λ v p. same v (in_rest w v ws p)) walks.1))
 
--- a list reads the links of its members alone
-pub follows_same : (link new : ℕ → ℕ) (capacity from : ℕ) (ds : List ℕ) → ((d : ℕ) → Contains ds d → new d ≡ link d) → Follows link capacity from ds → Follows new capacity from ds
-follows_same link new capacity from [] same follows = follows
-follows_same link new capacity from (d ∷ ds) same follows = (
-  follows.0,
-  follows.1,
-  subst (λ x. Follows new capacity x ds) (sym (same d (in_head d ds))) (follows_same link new capacity (link d) ds (λ e p. same e (in_rest d e ds p)) follows.2),
-)
-
 -- the members of a list are superblocks
 pub follows_below : (link : ℕ → ℕ) (capacity from : ℕ) (ds : List ℕ) (d : ℕ) → Follows link capacity from ds → Contains ds d → d < capacity
 follows_below link capacity from [] d follows p = absurd (in_none d p)
@@ -46,11 +38,6 @@ follows_below link capacity from (e ∷ ds) d follows p = elim (head_or_rest e d
   | inl same ↦ subst (λ x. x < capacity) same follows.1
   | inr later ↦ follows_below link capacity (link e) ds d follows.2 later
 ]
-
--- what leads to a list is no more than the count of superblocks
-pub follows_from : (link : ℕ → ℕ) (capacity from : ℕ) (ds : List ℕ) → Follows link capacity from ds → from ≤ capacity
-follows_from link capacity from [] follows = let last : from ≡ 0 = follows in omega arith
-follows_from link capacity from (d ∷ ds) follows = let first : from ≡ d + 1 = follows.0 in let within = follows.1 in omega arith
 
 -- a place that is a list
 pub place_is : (p : Place) (list : ℕ) → 0 < stands_in p list → p ≡ in_list list
@@ -61,10 +48,7 @@ place_is is_new list stands = absurd (omega arith)
 
 -- no place is a list twice
 pub stands_once : (p : Place) (list : ℕ) → stands_in p list ≤ 1
-stands_once (in_list at) list = by_test (nat_eq at list) where
-  by_test : (test : Bool) → one_if test ≤ 1
-  by_test true = omega arith
-  by_test false = omega arith
+stands_once (in_list at) list = one_at_most (nat_eq at list)
 stands_once is_full list = omega arith
 stands_once in_large list = omega arith
 stands_once is_new list = omega arith
@@ -83,25 +67,12 @@ one_list at list same = elim (cases_eq at list) as (λ _. at ≡ list) [
       absurd (omega arith)
 ]
 
--- how often a number stands in two lists together
-pub times_append : (n : ℕ) (xs ys : List ℕ) → times n (xs ++ ys) ≡ times n xs + times n ys
-times_append n [] ys = omega arith
-times_append n (x ∷ xs) ys = let rest = times_append n xs ys in omega arith
-
 -- how often a number stands in a list behind itself, or behind another
 pub times_here : (n : ℕ) (xs : List ℕ) → times n (n ∷ xs) ≡ 1 + times n xs
 times_here n xs = let here = one_if_true (nat_eq n n) (eq-eqb n n refl) in omega arith
 
 pub times_past : (x n : ℕ) (xs : List ℕ) → x ≢ n → times n (x ∷ xs) ≡ times n xs
 times_past x n xs other = let here = one_if_false (nat_eq x n) (λ e. other (eqb-true x n e)) in omega arith
-
--- a member stands in the list
-pub times_of : (n : ℕ) (xs : List ℕ) → Contains xs n → 0 < times n xs
-times_of n [] p = absurd (in_none n p)
-times_of n (x ∷ xs) p = elim (head_or_rest x n xs p) as (λ _. 0 < times n (x ∷ xs)) [
-  | inl same ↦ let here = one_if_true (nat_eq x n) (eq-eqb x n same) in omega arith
-  | inr later ↦ let rest = times_of n xs later in omega arith
-]
 
 -- a first word is a word of its superblock, and of no other
 pub first_inside : (capacity class d word : ℕ) → IsClass class → IsFirstOf capacity class d word → IsInSuperblock capacity d word

@@ -1,5 +1,5 @@
 -- Lists of blocks have no more members than there are blocks, and as many only if they have all.
-use Rattle.std.proofs.Common.{◌≡◌, ℕ, zero, suc, ◌+◌, ◌<◌, ◌≤◌, inl, inr, Bool, true, false, cond, nat_eq, List, [], ◌∷◌, ◌++◌, length, Contains, refl, ap, sym, subst, ◌∙◌, arith, length-append}
+use Rattle.std.proofs.Common.{◌≡◌, ℕ, zero, suc, ◌+◌, ◌<◌, ◌≤◌, inl, inr, List, [], ◌∷◌, ◌++◌, length, Contains, refl, ap, sym, subst, ◌∙◌, arith, length-append}
 use Rattle.std.proofs.lemmas.Bool.{cases_eq, cases_lt}
 use Rattle.std.proofs.lemmas.List.Elements.{Contains-append_cases}
 use Rattle.heap_model.specs.declared.block.Block.{Block}
@@ -7,39 +7,16 @@ use Rattle.heap_model.specs.Geometry.{lists, head_word, link_word}
 use Rattle.heap_model.specs.Image.{Image}
 use Rattle.heap_model.specs.Sizes.{IsClass, blocks_of}
 use Rattle.heap_model.specs.Words.{head_first}
-use Rattle.heap_model.specs.Counting.{times, one_if, without}
+use Rattle.heap_model.specs.Counting.{times, without}
 use Rattle.heap_model.specs.Recovered.{IsBlockOfClass}
 use Rattle.heap_model.proofs.MemberLemmas.{in_head, head_or_rest}
-use Rattle.heap_model.proofs.CountingLemmas.{times_some, one_if_true}
+use Rattle.heap_model.proofs.CountingLemmas.{times_some}
 use Rattle.heap_model.proofs.PartLemmas.{cases_of_part}
 use Rattle.heap_shape.specs.Shape.{Shape}
 use Rattle.heap_shape.specs.Standing.{first_of, IsFirstOf, HoldsAt, IsOfClass, HasNoHeld, times_free, a_free, a_held}
 use Rattle.heap_shape.specs.Whole.{layout_at, IsShape}
-use Rattle.heap_shape.proofs.BasicLemmas.{times_append, times_here, times_past, times_of, stands_once, follows_below, first_injective}
-
--- a list without one of a number is shorter by one at most
-length_without : (n : ℕ) (xs : List ℕ) → length xs ≤ length (without n xs) + 1
-length_without n [] = omega arith
-length_without n (x ∷ xs) = by_test (nat_eq x n) (length_without n xs) where
-  by_test : (test : Bool) → length xs ≤ length (without n xs) + 1 → length (x ∷ xs) ≤ length (cond test xs (x ∷ without n xs)) + 1
-  by_test true rest = omega arith
-  by_test false rest = omega arith
-
--- no number stands more often in it
-times_without : (m n : ℕ) (xs : List ℕ) → times m (without n xs) ≤ times m xs
-times_without m n [] = omega arith
-times_without m n (x ∷ xs) = by_test (nat_eq x n) (times_without m n xs) where
-  by_test : (test : Bool) → times m (without n xs) ≤ times m xs → times m (cond test xs (x ∷ without n xs)) ≤ times m (x ∷ xs)
-  by_test true rest = omega arith
-  by_test false rest = omega arith
-
--- a number that stood once stands there no more
-gone_without : (n : ℕ) (xs : List ℕ) → times n xs ≤ 1 → times n (without n xs) ≡ 0
-gone_without n [] once = refl
-gone_without n (x ∷ xs) once = by_test (nat_eq x n) refl (gone_without n xs (omega arith)) where
-  by_test : (test : Bool) → nat_eq x n ≡ test → times n (without n xs) ≡ 0 → times n (cond test xs (x ∷ without n xs)) ≡ 0
-  by_test true is rest = let here = one_if_true (nat_eq x n) is in omega arith
-  by_test false is rest = let here : one_if (nat_eq x n) ≡ 0 = ap one_if is in omega arith
+use Rattle.heap_shape.proofs.BasicLemmas.{times_here, times_past, stands_once, follows_below, first_injective}
+use Rattle.heap_model.proofs.ListLemmas.{times_append, times_of, length_without, without_less, without_at}
 
 -- a list of values of f below n, none of them twice
 pub few_members : (f : ℕ → ℕ) (n : ℕ) (xs : List ℕ) → ((x : ℕ) → Contains xs x → (i : ℕ) × (i < n) × (x ≡ f i)) → ((i : ℕ) → i < n → times (f i) xs ≤ 1) → length xs ≤ n
@@ -47,20 +24,20 @@ few_members f zero [] are once = omega arith
 few_members f zero (x ∷ xs) are once = absurd (let first = are x (in_head x xs) in let below = first.1 in omega arith)
 few_members f (suc n) xs are once =
     let shorter = length_without (f n) xs in
-    let rest = few_members f n (without (f n) xs) still (λ i below. let at_most = once i (omega arith) in let fewer = times_without (f i) (f n) xs in omega arith) in
+    let rest = few_members f n (without (f n) xs) still (λ i below. let at_most = once i (omega arith) in let fewer = without_less (f i) (f n) xs in omega arith) in
     omega arith
   where
     still : (x : ℕ) → Contains (without (f n) xs) x → (i : ℕ) × (i < n) × (x ≡ f i)
     still x p =
         let some = times_of x (without (f n) xs) p in
-        let fewer = times_without x (f n) xs in
+        let fewer = without_less x (f n) xs in
         let is = are x (times_some x xs (omega arith)) in
         let below = is.1 in
         elim (cases_lt is.0 n) as (λ _. (i : ℕ) × (i < n) × (x ≡ f i)) [
           | inl less ↦ (is.0, less, is.2)
           | inr last ↦
               let same : is.0 ≡ n = omega arith in
-              let gone = gone_without (f n) xs (once n (omega arith)) in
+              let gone = without_at (f n) xs (once n (omega arith)) in
               let stands : 0 < times (f n) (without (f n) xs) = subst (λ y. 0 < times y (without (f n) xs)) (is.2 ∙ ap f same) some in
               absurd (omega arith)
         ]

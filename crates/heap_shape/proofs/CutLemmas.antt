@@ -6,48 +6,28 @@ use Rattle.heap_model.specs.Geometry.{lists, head_word, info_word, anchor_word, 
 use Rattle.heap_model.specs.Image.{Image}
 use Rattle.heap_model.specs.Sizes.{IsClass, blocks_of}
 use Rattle.heap_model.specs.Words.{anchor_first, anchor_count, full_anchor, head_first}
-use Rattle.heap_model.specs.Blocks.{Layout, Begins, of_class, as_large, IsBlock}
+use Rattle.heap_model.specs.Blocks.{IsBlock}
 use Rattle.heap_model.specs.Recovered.{HasPartIn}
 use Rattle.heap_model.specs.Chains.{Follows, Walks}
 use Rattle.heap_model.specs.Counting.{times, one_if}
 use Rattle.heap_model.proofs.CountingLemmas.{times_none, one_if_true, one_if_false}
 use Rattle.heap_model.proofs.MemberLemmas.{in_none, head_or_rest}
 use Rattle.heap_model.proofs.PartLemmas.{part_taken}
-use Rattle.heap_model.proofs.PlaceLemmas.{same_there}
+use Rattle.heap_model.proofs.PlaceLemmas.{block_more}
 use Rattle.heap_shape.specs.Shape.{Place, in_list, is_full, in_large, is_new, Shape, stands_in, with_at}
 use Rattle.heap_shape.specs.Standing.{first_of, IsFirstOf, HoldsAt, HasOneOwner, a_free, a_held, IsOfClass, IsFull, IsAs}
 use Rattle.heap_shape.specs.Whole.{layout_at, IsCachedIn, IsShape}
 use Rattle.heap_shape.specs.Effects.{IsPoppedOf, IsInSuperblock, firsts_from}
-use Rattle.heap_shape.proofs.BasicLemmas.{with_at_same, with_at_other, walks_same, follows_same, follows_below, first_inside, inside_one, first_injective, first_place}
+use Rattle.heap_shape.proofs.BasicLemmas.{with_at_same, with_at_other, walks_same, follows_below, first_inside, inside_one, first_injective, first_place}
+use Rattle.heap_model.proofs.ListLemmas.{follows_same, follows_small}
 use Rattle.heap_shape.proofs.FrameLemmas.{frame}
 
--- a block stays one where more superblocks are taken
-begins_raised : (l : Layout) (used d w n : ℕ) → l.used ≤ used → Begins l d w n → Begins (record { capacity = l.capacity; used = used; info = l.info }) d w n
-begins_raised l used d w n raised (of_class c info is) = of_class c info is
-begins_raised l used d w n raised (as_large k some info end zeros) = as_large k some info (omega arith) zeros
-
-block_raised : (l : Layout) (used : ℕ) (b : Block) → l.used ≤ used → IsBlock l b → IsBlock (record { capacity = l.capacity; used = used; info = l.info }) b
-block_raised l used b raised is = record {
-  superblock = is.superblock;
-  index = is.index;
-  words = is.words;
-  count = is.count;
-  is_of = record {
-    taken = let taken = is.is_of.taken in omega arith;
-    begins = begins_raised l used is.superblock is.words is.count raised is.is_of.begins;
-    below = is.is_of.below;
-    at = is.is_of.at;
-    size = is.is_of.size;
-  };
-}
-
--- and where the infos of its superblocks stay
+-- a block stays one where more superblocks are taken, and the infos of its own stay
 pub block_same : (capacity : ℕ) (image new : Image) (b : Block) → image used_word ≤ new used_word
     → ((e : ℕ) → HasPartIn capacity b e → new (info_word e) ≡ image (info_word e))
     → IsBlock (layout_at capacity image) b → IsBlock (layout_at capacity new) b
 block_same capacity image new b raised infos is =
-    same_there (record { capacity = capacity; used = new used_word; info = λ d. image (info_word d) }) (layout_at capacity new) b refl refl infos
-    (block_raised (layout_at capacity image) (new used_word) b raised is)
+    block_more (layout_at capacity image) (layout_at capacity new) b refl raised infos is
 
 -- a superblock that was never taken has that place
 pub past_is_new : (capacity : ℕ) (image : Image) (s : Shape) (held : List Block) (d : ℕ) (p : Place) → image used_word ≤ d → IsAs capacity image s held d p
@@ -57,11 +37,6 @@ past_is_new capacity image s held d (in_list (suc c)) past is = absurd (let take
 past_is_new capacity image s held d is_full past is = absurd (let taken = is.of_class.taken in omega arith)
 past_is_new capacity image s held d in_large past is = absurd (let taken = is.taken in omega arith)
 past_is_new capacity image s held d is_new past is = refl
-
--- a list leads from a small number
-follows_small : (link : ℕ → ℕ) (capacity from : ℕ) (ds : List ℕ) → Follows link capacity from ds → from ≤ capacity
-follows_small link capacity from [] follows = omega (arith, follows)
-follows_small link capacity from (d ∷ ds) follows = omega (arith, follows.0, follows.1)
 
 module _ (capacity : ℕ) (image : Image) (held : List Block) (s : Shape) (shape : IsShape capacity image held s) where
   -- the lists where the first of one was taken off

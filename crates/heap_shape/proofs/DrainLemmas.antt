@@ -11,7 +11,7 @@ use Rattle.heap_model.specs.Recovered.{HasPartIn, IsBlockOfClass, beside, freed,
 use Rattle.heap_model.specs.Chains.{Follows}
 use Rattle.heap_model.specs.Counting.{times, one_if}
 use Rattle.heap_model.proofs.MemberLemmas.{in_none, in_head, in_rest, head_or_rest}
-use Rattle.heap_model.proofs.SizeLemmas.{two_words, blocks_fit}
+use Rattle.heap_model.proofs.SizeLemmas.{blocks_fit}
 use Rattle.heap_model.proofs.BlockLemmas.{block_step, block_words, same_first}
 use Rattle.heap_model.proofs.CountingLemmas.{one_if_true}
 use Rattle.heap_model.proofs.PartLemmas.{cases_held, cases_parts, part_taken}
@@ -21,10 +21,12 @@ use Rattle.heap_shape.specs.Whole.{layout_at, IsShape}
 use Rattle.heap_shape.specs.Effects.{IsSet, IsPoppedOf, IsPushedOn, IsCut}
 use Rattle.heap_shape.specs.Moves.{with_cache, AddsTo}
 use Rattle.heap_shape.specs.Draining.{IsInFreeList, HasUse, for_class, for_held, for_later, IsDrainable, IsAccounted, IsToDrain, DrainsSame, DrainsOne}
-use Rattle.heap_shape.proofs.BasicLemmas.{follows_same, one_list, first_place, member_place, in_free_list, cached_of_class}
+use Rattle.heap_shape.proofs.BasicLemmas.{one_list, first_place, member_place, in_free_list, cached_of_class}
+use Rattle.heap_model.proofs.ListLemmas.{follows_same}
 use Rattle.heap_shape.proofs.CutLemmas.{follows_popped}
 use Rattle.heap_shape.proofs.HandLemmas.{hand_out}
 use Rattle.heap_shape.proofs.OwnLemmas.{one_following, none_past}
+use Rattle.heap_model.proofs.CutLemmas.{class_part}
 
 -- superblock e gets the class, or keeps its info and stays in the free list
 abbrev Stays : ℕ → Image → Image → List ℕ → List ℕ → ℕ → Type 0
@@ -241,16 +243,7 @@ cut_fresh_drains capacity class d image middle new held s is shape past within s
         | inr apart ↦ let raised = used in let below : e < d = omega arith in inr (omega arith, info e below, λ p. p)
       ]
 
--- a block of a class has a part in its superblock, and in no other
-part_of_class : (capacity class d index : ℕ) (b : Block) → IsClass class → IsBlockOfClass capacity class d index b → HasPartIn capacity b d
-part_of_class capacity class d index b is of =
-    let step = block_step index (blocks_of class) (words_of_class class) of.below in
-    let fit = blocks_fit class is in
-    let two = two_words class is in
-    let at = of.at in
-    let size = of.size in
-    record { begins = omega arith; ends = omega arith }
-
+-- a block of a class has a part in no other superblock
 part_in_one : (capacity class d index e : ℕ) (b : Block) → IsClass class → IsBlockOfClass capacity class d index b → HasPartIn capacity b e → e ≡ d
 part_in_one capacity class d index e b is of part =
     let step = block_step index (blocks_of class) (words_of_class class) of.below in
@@ -310,10 +303,10 @@ hand_out_drains capacity class w image held now s ws is shape cached adds = reco
         (λ free. not_free (record { taken = taken; empty = λ h p part. free.empty h (adds.keeps h p) part })))
   ]
   rest a (freed _ e i is_class free of) = elim (cases_eq e d) as (λ _. (a ≡ b) ⊎ IsToDrain capacity image now class a) [
-    | inl one ↦ elim (unheld a (λ p. free.empty a p (part_of_class capacity class e i a is of))) as (λ _. (a ≡ b) ⊎ IsToDrain capacity image now class a) [
+    | inl one ↦ elim (unheld a (λ p. free.empty a p (class_part capacity class e i a is of))) as (λ _. (a ≡ b) ⊎ IsToDrain capacity image now class a) [
       | inl same ↦ inl same
       | inr none ↦ inr (beside a e i is_class free.taken (subst (λ x. image (info_word x) ≡ class) (sym one) of_class.info) of none
-          (λ still. still.empty b adds.has (subst (HasPartIn capacity b) (sym one) (part_of_class capacity class d index b is is_of))))
+          (λ still. still.empty b adds.has (subst (HasPartIn capacity b) (sym one) (class_part capacity class d index b is is_of))))
     ]
     | inr apart ↦ inr (freed a e i is_class (record {
       taken = free.taken;
@@ -336,9 +329,9 @@ hand_out_drains capacity class w image held now s ws is shape cached adds = reco
   -- a held block is not to be given
   not_held : (a : Block) → Contains now a → IsToDrain capacity image now class a → ⊥
   not_held a holds (beside _ e i is_class taken info of unkept not_free) = unkept holds
-  not_held a holds (freed _ e i is_class free of) = free.empty a holds (part_of_class capacity class e i a is of)
+  not_held a holds (freed _ e i is_class free of) = free.empty a holds (class_part capacity class e i a is of)
   not_held a holds (fresh _ e i is_class past within of) =
-      let taken = part_taken (layout_at capacity image) a e (handed.0.named a holds) (part_of_class capacity class e i a is of) in omega arith
+      let taken = part_taken (layout_at capacity image) a e (handed.0.named a holds) (class_part capacity class e i a is of) in omega arith
 
   gone : IsToDrain capacity image now class b → ⊥
   gone = not_held b adds.has
@@ -406,7 +399,7 @@ drained_none capacity class image held s is shape cached listed free past draina
         let at = holds d none.taken info index of.below in
         let first : at.block.first_word ≡ a.first_word = at.at ∙ sym of.at in
         let some = block_words (layout_at capacity image) at.block (shape.named at.block at.holds) in
-        let part = part_of_class capacity class d index a is of in
+        let part = class_part capacity class d index a is of in
         let begins = part.begins in
         let from : start_word capacity d ≤ a.first_word = omega (arith, of.at) in
         none.empty at.block at.holds (record { begins = omega arith; ends = omega arith })

@@ -20,20 +20,17 @@ use Rattle.heap_shape.specs.Standing.{first_of, IsFirstOf, HasOneOwner, times_fr
 use Rattle.heap_shape.specs.Whole.{layout_at, IsShape}
 use Rattle.heap_shape.specs.Effects.{IsPushedOn, IsInSuperblock, IsGivenBack}
 use Rattle.heap_shape.specs.Moves.{after_give, after_give_full, after_give_all}
-use Rattle.heap_shape.proofs.BasicLemmas.{with_at_same, with_at_other, walks_same, follows_same, follows_below, first_inside, inside_one, first_injective, cached_of_class, in_class_list, in_full, times_append, times_of, times_here, times_past}
+use Rattle.heap_shape.proofs.BasicLemmas.{with_at_same, with_at_other, walks_same, follows_below, first_inside, inside_one, first_injective, cached_of_class, in_class_list, in_full, times_here, times_past}
+use Rattle.heap_model.proofs.ListLemmas.{follows_same, times_append, times_of, walk_behind}
 use Rattle.heap_shape.proofs.FrameLemmas.{SameThere, frame}
 use Rattle.heap_shape.proofs.CountLemmas.{few_given, all_given}
 use Rattle.heap_shape.proofs.HandLemmas.{at_or_other, at_or_other_two, free_once, owner_stays}
+use Rattle.heap_model.proofs.ChainLemmas.{anchor_parts}
 
 -- a walk along the given blocks and then others begins at a given block
 walk_begins : (next : ℕ → ℕ) (from : ℕ) (before : List ℕ) (last : ℕ) (rest : List ℕ) → Walks next from ((before ++ last ∷ []) ++ rest) → Contains (before ++ last ∷ []) from
 walk_begins next from [] last rest walks = subst (λ x. Contains (last ∷ []) x) (sym walks.0) (in_head last [])
 walk_begins next from (x ∷ before) last rest walks = subst (λ y. Contains (x ∷ (before ++ last ∷ [])) y) (sym walks.0) (in_head x (before ++ last ∷ []))
-
--- it goes on from where the last of them leads
-walk_behind : (next : ℕ → ℕ) (from : ℕ) (before : List ℕ) (last : ℕ) (rest : List ℕ) → Walks next from ((before ++ last ∷ []) ++ rest) → Walks next (next last) rest
-walk_behind next from [] last rest walks = walks.1
-walk_behind next from (x ∷ before) last rest walks = walk_behind next (next x) before last rest walks.1
 
 -- and leads along a chain where the last is linked to that
 walk_joined : (image new : ℕ → ℕ) (from : ℕ) (before : List ℕ) (last : ℕ) (rest chain : List ℕ) → ((w : ℕ) → Contains before w → new w ≡ image w)
@@ -44,11 +41,6 @@ walk_joined image new from (x ∷ before) last rest chain same walks tail = (
   subst (λ y. Walks new y ((before ++ last ∷ []) ++ chain)) (sym (same x (in_head x before)))
       (walk_joined image new (image x) before last rest chain (λ w p. same w (in_rest x w before p)) walks.1 tail),
 )
-
--- the parts of an anchor
-anchor_parts : (state first count : ℕ) → state < 4 → first < 2147483648
-    → (anchor_state (anchor_of state first count) ≡ state) × (anchor_first (anchor_of state first count) ≡ first) × (anchor_count (anchor_of state first count) ≡ count)
-anchor_parts state first count few short = (omega arith, omega arith, omega arith)
 
 -- a superblock with free blocks of a class is as the list of that class says
 listed_as : (capacity : ℕ) (image : Image) (s : Shape) (held : List Block) (class d : ℕ) → IsClass class → IsListed capacity image s held class d → IsAs capacity image s held d (in_list class)

@@ -20,7 +20,8 @@ use Rattle.heap_shape.specs.Standing.{first_of, IsFirstOf, HoldsAt, HasOneOwner,
 use Rattle.heap_shape.specs.Whole.{layout_at, IsCachedIn, IsShape}
 use Rattle.heap_shape.specs.Effects.{IsSet, IsInSuperblock}
 use Rattle.heap_shape.specs.Moves.{with_cache, AddsTo, TakesFrom}
-use Rattle.heap_shape.proofs.BasicLemmas.{with_at_same, with_at_other, walks_same, follows_same, follows_below, first_inside, inside_one, cached_of_class, times_of, times_here, times_past}
+use Rattle.heap_shape.proofs.BasicLemmas.{with_at_same, with_at_other, walks_same, follows_below, first_inside, inside_one, cached_of_class, times_here, times_past}
+use Rattle.heap_model.proofs.ListLemmas.{follows_same, times_of}
 use Rattle.heap_shape.proofs.FrameLemmas.{SameThere, frame}
 
 -- what holds of a function with another value at one number, and of two such functions

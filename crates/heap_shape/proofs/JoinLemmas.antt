@@ -17,7 +17,8 @@ use Rattle.heap_shape.specs.Standing.{HoldsAt, IsInLarge, IsNew, IsAs}
 use Rattle.heap_shape.specs.Whole.{layout_at, IsCachedIn, IsShape}
 use Rattle.heap_shape.specs.Effects.{IsSet, IsInSuperblock}
 use Rattle.heap_shape.specs.Moves.{after_join, AddsTo}
-use Rattle.heap_shape.proofs.BasicLemmas.{walks_same, follows_same, first_inside}
+use Rattle.heap_shape.proofs.BasicLemmas.{walks_same, first_inside}
+use Rattle.heap_model.proofs.ListLemmas.{follows_same}
 use Rattle.heap_shape.proofs.FrameLemmas.{frame}
 use Rattle.heap_shape.proofs.CutLemmas.{block_same, past_is_new}
 

@@ -19,9 +19,9 @@ use Rattle.heap_shape.specs.Standing.{HasNoHeld, IsFree, IsInLarge, IsAs}
 use Rattle.heap_shape.specs.Whole.{layout_at, IsCachedIn, IsShape}
 use Rattle.heap_shape.specs.Effects.{IsSet, IsPushedOn, IsInSuperblock}
 use Rattle.heap_shape.specs.Moves.{after_split, TakesFrom}
-use Rattle.heap_shape.proofs.BasicLemmas.{with_at_same, with_at_other, walks_same, follows_same, first_inside}
+use Rattle.heap_shape.proofs.BasicLemmas.{with_at_same, with_at_other, walks_same, first_inside}
+use Rattle.heap_model.proofs.ListLemmas.{follows_same, times_of}
 use Rattle.heap_shape.proofs.FrameLemmas.{SameThere, frame}
-use Rattle.heap_shape.proofs.OpenLemmas.{times_in}
 
 -- each superblock of a held large block has that place
 pub large_places : (capacity d : ℕ) (image : Image) (held : List Block) (s : Shape) (b : Block) → IsShape capacity image held s → Contains held b → superblock_words ≤ b.words
@@ -155,7 +155,7 @@ module _ (capacity d : ℕ) (image middle new : Image) (held : List Block) (s : 
   links_same : (list from : ℕ) → list < lists → Leads image capacity from (s.listed list) → Leads new capacity from (s.listed list)
   links_same list from less follows = follows_same (λ e. image (link_word e)) (λ e. new (link_word e)) capacity from (s.listed list) (λ e p.
       same_link e (λ same.
-      let some = times_in e (s.listed list) p in
+      let some = times_of e (s.listed list) p in
       let none = not_listed list less in
       let moved : times e (s.listed list) ≡ times d (s.listed list) = ap (λ x. times x (s.listed list)) same in
       omega arith)) follows

@@ -21,6 +21,7 @@ use Rattle.heap_shape.specs.Whole.{IsShape}
 use Rattle.heap_shape.specs.Draining.{HasUse, for_class, for_held, for_later, IsAccounted}
 use Rattle.heap_shape.proofs.CountLemmas.{few_members}
 use Rattle.heap_shape.proofs.AccountLemmas.{free_follows}
+use Rattle.heap_model.proofs.ListLemmas.{times_of}
 
 -- a member counts in a sum
 total_member : {X : Type 0} (of : X → ℕ) (xs : List X) (x : X) → Contains xs x → of x ≤ total of xs
@@ -42,14 +43,6 @@ total_two of (y ∷ xs) a b in_a in_b differ = elim (head_or_rest y a xs in_a) a
     | inl is_b ↦ let here : of y ≡ of b = ap of is_b in let rest = total_member of xs a later_a in omega arith
     | inr later_b ↦ let rest = total_two of xs a b later_a later_b differ in omega arith
   ]
-]
-
--- a member stands somewhere
-pub times_in : (n : ℕ) (xs : List ℕ) → Contains xs n → 0 < times n xs
-times_in n [] p = absurd (in_none n p)
-times_in n (x ∷ xs) p = elim (head_or_rest x n xs p) as (λ _. 0 < one_if (nat_eq x n) + times n xs) [
-  | inl same ↦ let here : one_if (nat_eq x n) ≡ 1 = one_if_true (nat_eq x n) (eq-eqb x n same) in omega arith
-  | inr later ↦ let rest = times_in n xs later in omega arith
 ]
 
 -- a head that was never popped is the number of its list's first descriptor
@@ -180,7 +173,7 @@ module _ (image : Image) (held : List Block) (shaped : IsShaped image held) (nam
         | inr none ↦ a_free (omega arith) (λ at.
             let within : Contains (firsts_of held) word =
             subst (λ w. Contains (firsts_of held) w) at.at (map_in (λ (h : Block). h.first_word) held at.block at.holds) in
-            let counts = times_in word (firsts_of held) within in omega arith)
+            let counts = times_of word (firsts_of held) within in omega arith)
       ]
 
   -- a superblock in the list of a class

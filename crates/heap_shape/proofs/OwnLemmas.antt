@@ -18,7 +18,8 @@ use Rattle.heap_shape.specs.Shape.{Place, in_list, is_full, in_large, is_new, Sh
 use Rattle.heap_shape.specs.Standing.{first_of, a_free, a_held, IsOfClass, HasNoHeld, IsAs}
 use Rattle.heap_shape.specs.Whole.{layout_at, IsCachedIn, IsShape}
 use Rattle.heap_shape.specs.Effects.{IsSet, IsInSuperblock}
-use Rattle.heap_shape.proofs.BasicLemmas.{walks_same, follows_same, times_of, first_inside, member_place}
+use Rattle.heap_shape.proofs.BasicLemmas.{walks_same, first_inside, member_place}
+use Rattle.heap_model.proofs.ListLemmas.{follows_same, times_of}
 use Rattle.heap_shape.proofs.FrameLemmas.{SameThere, frame}
 use Rattle.heap_shape.proofs.HandLemmas.{cached_apart}
 

@@ -15,7 +15,8 @@ use Rattle.heap_shape.specs.Standing.{IsFirstOf, IsListed, HasNoHeld, IsNew, IsA
 use Rattle.heap_shape.specs.Whole.{layout_at, IsCachedIn, IsShape}
 use Rattle.heap_shape.specs.Effects.{IsPoppedOf, IsPushedOn, IsInSuperblock}
 use Rattle.heap_shape.specs.Moves.{after_recycle}
-use Rattle.heap_shape.proofs.BasicLemmas.{with_at_same, with_at_other, walks_same, follows_same, follows_from, stands_not, one_list, times_here, times_past, times_of, first_inside, first_place, member_place, in_class_list, cached_of_class}
+use Rattle.heap_shape.proofs.BasicLemmas.{with_at_same, with_at_other, walks_same, stands_not, one_list, times_here, times_past, first_inside, first_place, member_place, in_class_list, cached_of_class}
+use Rattle.heap_model.proofs.ListLemmas.{follows_same, times_of, follows_small}
 use Rattle.heap_shape.proofs.FrameLemmas.{SameThere, frame}
 use Rattle.heap_shape.proofs.CountLemmas.{all_given}
 
@@ -124,7 +125,7 @@ recycle capacity class d image middle new held s ds is shape list state popped p
       let gone = at.2 in
       let before : Follows (λ e. image (link_word e)) capacity (head_first (image (head_word class))) (d ∷ ds) =
       subst (λ xs. Follows (λ e. image (link_word e)) capacity (head_first (image (head_word class))) xs) list (shape.follows class below) in
-      let few = follows_from (λ e. image (link_word e)) capacity (image (link_word d)) ds before.2 in
+      let few = follows_small (λ e. image (link_word e)) capacity (image (link_word d)) ds before.2 in
       let set : new (head_word class) ≡ head_of (head_first (image (link_word d))) popped.pops =
       pushed.head.others (head_word class) (λ q. not_free (omega arith)) ∙ pushed.link.others (head_word class) (λ q. omega arith) ∙ popped.set.at in
       let first : head_first (new (head_word class)) ≡ image (link_word d) = omega (arith, largest_capacity_fits) in
