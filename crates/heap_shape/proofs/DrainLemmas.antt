@@ -27,6 +27,7 @@ use Rattle.heap_shape.proofs.CutLemmas.{follows_popped}
 use Rattle.heap_shape.proofs.HandLemmas.{hand_out}
 use Rattle.heap_shape.proofs.OwnLemmas.{one_following, none_past}
 use Rattle.heap_model.proofs.CutLemmas.{class_part}
+use Rattle.heap_shape.proofs.RefillLemmas.{cut_before}
 
 -- superblock e gets the class, or keeps its info and stays in the free list
 abbrev Stays : ℕ → Image → Image → List ℕ → List ℕ → ℕ → Type 0
@@ -164,21 +165,17 @@ recycle_drains capacity class d image middle new held s ds is shape list popped 
           )
 
 -- the words outside superblocks but two are as before the cut
-cut_keeps : (capacity class d : ℕ) (middle new : Image) (word : ℕ) → IsCut capacity middle new class d
-    → word < start_word capacity 0 → word ≢ info_word d → word ≢ anchor_word d → new word ≡ middle word
-cut_keeps capacity class d middle new word cut less not_info not_anchor = cut.others word (λ inside. let from = inside.from in omega arith) not_info not_anchor
-
 -- a superblock was cut
 pub cut_free_drains : (capacity class d : ℕ) (image middle new : Image) (held : List Block) (s : Shape) (ds : List ℕ) → IsClass class → IsShape capacity image held s → s.listed 0 ≡ d ∷ ds
     → IsPoppedOf image middle 0 d → IsCut capacity middle new class d → DrainsSame capacity class held image new
 cut_free_drains capacity class d image middle new held s ds is shape list popped cut =
     drains_same capacity class image new held s shape (omega (arith, used)) (omega (arith, used, shape.used)) held_info ds
     (follows_popped capacity image held s shape middle new 0 d ds (omega arith) list popped
-    (λ other less. cut_keeps capacity class d middle new (head_word other) cut (omega arith) (λ e. omega arith) (λ e. omega arith))
+    (λ other less. cut_before capacity class d middle new (head_word other) cut (omega arith) (λ e. omega arith) (λ e. omega arith))
     (λ e within. same (link_word e) (omega arith) (λ at. omega arith) (λ at. omega arith) (λ at. omega arith)) 0 (omega arith)) each is where
       -- the words outside superblocks but three are as before
       same : (word : ℕ) → word < start_word capacity 0 → word ≢ info_word d → word ≢ anchor_word d → word ≢ head_word 0 → new word ≡ image word
-      same word less not_info not_anchor not_head = cut_keeps capacity class d middle new word cut less not_info not_anchor ∙ popped.set.others word not_head
+      same word less not_info not_anchor not_head = cut_before capacity class d middle new word cut less not_info not_anchor ∙ popped.set.others word not_head
 
       first : (s.place d ≡ in_list 0) × (d < capacity) × (times d ds ≡ 0)
       first = first_place capacity image held s shape 0 d ds (omega arith) list
@@ -218,10 +215,10 @@ cut_fresh_drains capacity class d image middle new held s is shape past within s
     drains_same capacity class image new held s shape (omega (arith, used)) (omega (arith, used)) held_info (s.listed 0) leads each is where
       -- the words outside superblocks but three are as before
       same : (word : ℕ) → word < start_word capacity 0 → word ≢ info_word d → word ≢ anchor_word d → word ≢ used_word → new word ≡ image word
-      same word less not_info not_anchor not_used = cut_keeps capacity class d middle new word cut less not_info not_anchor ∙ set.others word not_used
+      same word less not_info not_anchor not_used = cut_before capacity class d middle new word cut less not_info not_anchor ∙ set.others word not_used
 
       used : new used_word ≡ d + 1
-      used = cut_keeps capacity class d middle new used_word cut (omega arith) (λ e. omega arith) (λ e. omega arith) ∙ set.at
+      used = cut_before capacity class d middle new used_word cut (omega arith) (λ e. omega arith) (λ e. omega arith) ∙ set.at
 
       info : (e : ℕ) → e < d → new (info_word e) ≡ image (info_word e)
       info e below = same (info_word e) (omega arith) (λ at. omega arith) (λ at. omega arith) (λ at. omega arith)
@@ -271,9 +268,6 @@ hand_out_drains capacity class w image held now s ws is shape cached adds = reco
   d : ℕ
   d = (shape.cached class w is in_cache).superblock
 
-  of_class : IsOfClass capacity image s held class d
-  of_class = cached_of_class capacity image held s shape class w is in_cache
-
   index : ℕ
   index = (shape.cached class w is in_cache).is_first.index
 
@@ -282,8 +276,8 @@ hand_out_drains capacity class w image held now s ws is shape cached adds = reco
 
   was : IsToDrain capacity image held class b
   was = elim (cases_parts capacity held d) as (λ _. IsToDrain capacity image held class b) [
-    | inl some ↦ beside b d index is of_class.taken of_class.info is_of handed.1 (λ free. free.empty some.0 some.1 some.2)
-    | inr none ↦ freed b d index is (record { taken = of_class.taken; empty = none }) is_of
+    | inl some ↦ let of_class = cached_of_class capacity image held s shape class w is in_cache in beside b d index is of_class.taken of_class.info is_of handed.1 (λ free. free.empty some.0 some.1 some.2)
+    | inr none ↦ freed b d index is (record { taken = (cached_of_class capacity image held s shape class w is in_cache).taken; empty = none }) is_of
   ]
 
   -- a block that was not held is that one, or is not held now
@@ -305,7 +299,7 @@ hand_out_drains capacity class w image held now s ws is shape cached adds = reco
   rest a (freed _ e i is_class free of) = elim (cases_eq e d) as (λ _. (a ≡ b) ⊎ IsToDrain capacity image now class a) [
     | inl one ↦ elim (unheld a (λ p. free.empty a p (class_part capacity class e i a is of))) as (λ _. (a ≡ b) ⊎ IsToDrain capacity image now class a) [
       | inl same ↦ inl same
-      | inr none ↦ inr (beside a e i is_class free.taken (subst (λ x. image (info_word x) ≡ class) (sym one) of_class.info) of none
+      | inr none ↦ inr (beside a e i is_class free.taken (subst (λ x. image (info_word x) ≡ class) (sym one) (cached_of_class capacity image held s shape class w is in_cache).info) of none
           (λ still. still.empty b adds.has (subst (HasPartIn capacity b) (sym one) (class_part capacity class d index b is is_of))))
     ]
     | inr apart ↦ inr (freed a e i is_class (record {

@@ -1,5 +1,5 @@
 -- A superblock that a row of steps leaves alone stays as its place says.
-use Rattle.std.proofs.Common.{◌≡◌, ℕ, zero, suc, ◌<◌, ◌≤◌, ◌⊎◌, inl, inr, List, length, Contains, refl, ap, sym, subst, ◌∙◌, arith}
+use Rattle.std.proofs.Common.{◌≡◌, ◌≢◌, ℕ, zero, suc, ◌<◌, ◌≤◌, ◌⊎◌, inl, inr, List, length, Contains, refl, ap, sym, subst, ◌∙◌, arith}
 use Rattle.heap_model.specs.declared.block.Block.{Block}
 use Rattle.heap_model.specs.Geometry.{info_word, anchor_word, link_word, used_word}
 use Rattle.heap_model.specs.Image.{Image}
@@ -11,6 +11,13 @@ use Rattle.heap_shape.specs.Shape.{Place, in_list, is_full, in_large, is_new, Sh
 use Rattle.heap_shape.specs.Standing.{first_of, HoldsAt, HasOneOwner, a_free, a_held, times_free, IsOfClass, HasNoHeld, IsAs}
 use Rattle.heap_shape.specs.Effects.{IsInSuperblock}
 use Rattle.heap_shape.proofs.BasicLemmas.{walks_same, first_inside}
+
+-- what steps on list heads and one superblock's descriptor leave: `used`, infos, the links of others, and superblocks
+pub record KeepsBut (capacity d : ℕ) (image new : Image) : Type 0 where
+  pub used : new used_word ≡ image used_word
+  pub info : (e : ℕ) → new (info_word e) ≡ image (info_word e)
+  pub link : (e : ℕ) → e ≢ d → new (link_word e) ≡ image (link_word e)
+  pub inside : (e word : ℕ) → IsInSuperblock capacity e word → new word ≡ image word
 
 -- superblock d has the same words, the same chain, and the same held and cached blocks
 pub record SameThere (capacity d : ℕ) (image new : Image) (s t : Shape) (held now : List Block) : Type 0 where

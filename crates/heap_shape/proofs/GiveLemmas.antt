@@ -22,9 +22,9 @@ use Rattle.heap_shape.specs.Effects.{IsPushedOn, IsInSuperblock, IsGivenBack}
 use Rattle.heap_shape.specs.Moves.{after_give, after_give_full, after_give_all}
 use Rattle.heap_shape.proofs.BasicLemmas.{with_at_same, with_at_other, walks_same, follows_below, first_inside, inside_one, first_injective, cached_of_class, in_class_list, in_full, times_here, times_past}
 use Rattle.heap_model.proofs.ListLemmas.{follows_same, times_append, times_of, walk_behind}
-use Rattle.heap_shape.proofs.FrameLemmas.{SameThere, frame}
+use Rattle.heap_shape.proofs.FrameLemmas.{SameThere, frame, owner_same}
 use Rattle.heap_shape.proofs.CountLemmas.{few_given, all_given}
-use Rattle.heap_shape.proofs.HandLemmas.{at_or_other, at_or_other_two, free_once, owner_stays}
+use Rattle.heap_shape.proofs.HandLemmas.{at_or_other, at_or_other_two, free_once}
 use Rattle.heap_model.proofs.ChainLemmas.{anchor_parts}
 
 -- a walk along the given blocks and then others begins at a given block
@@ -170,7 +170,7 @@ module _ (capacity class d : ℕ) (image new : Image) (held : List Block) (s : S
         is_class = is;
         taken = let same = same_used in let taken = of.taken in omega arith;
         info = same_info d within ∙ of.info;
-        owned = λ index in_count. owner_stays s after held held class d (first_of capacity class d index) (free_after (first_of capacity class d index)) (λ h. h) (λ h. h) (of.owned index in_count);
+        owned = λ index in_count. owner_same s after held held class d (first_of capacity class d index) (free_after (first_of capacity class d index)) (λ h. h) (λ h. h) (of.owned index in_count);
         blocks = λ w p. elim (Contains-append_cases blocks (s.chain d) w (subst (λ xs. Contains xs w) chain_at p)) [ inl given ↦ firsts w given | inr in_chain ↦ of.blocks w in_chain ];
         walks = subst (λ xs. Walks new (first_of capacity class d (anchor_first (new (anchor_word d)))) xs) (sym chain_at)
             (subst (λ from. Walks new from (blocks ++ s.chain d)) (gives.begins ∙ sym (ap (first_of capacity class d) parts.1)) chain_walks);
@@ -281,13 +281,10 @@ module _ (capacity class d : ℕ) (image new : Image) (held : List Block) (s : S
 module _ (capacity d list : ℕ) (image new : Image) (held : List Block) (s : Shape) (shape : IsShape capacity image held s) (within : d < capacity) (below : list < lists) (full : s.place d ≡ is_full)
     (head : head_first (new (head_word list)) ≡ d + 1) (link : new (link_word d) ≡ head_first (image (head_word list)))
     (heads : (l : ℕ) → l < lists → l ≢ list → new (head_word l) ≡ image (head_word l)) (links : (e : ℕ) → e < capacity → e ≢ d → new (link_word e) ≡ image (link_word e)) where
-  nowhere : (l : ℕ) → l < lists → times d (s.listed l) ≡ 0
-  nowhere l l_below = shape.listed l d l_below ∙ ap (λ p. stands_in p l) full
-
   linked_still : (l : ℕ) → l < lists → Follows (λ e. new (link_word e)) capacity (head_first (image (head_word l))) (s.listed l)
   linked_still l l_below = follows_same (λ e. image (link_word e)) (λ e. new (link_word e)) capacity (head_first (image (head_word l))) (s.listed l)
       (λ e p. links e (follows_below (λ k. image (link_word k)) capacity (head_first (image (head_word l))) (s.listed l) e (shape.follows l l_below) p)
-      (λ same. let some = times_of d (s.listed l) (subst (λ x. Contains (s.listed l) x) same p) in let none = nowhere l l_below in omega arith))
+      (λ same. let some = times_of d (s.listed l) (subst (λ x. Contains (s.listed l) x) same p) in let none = (shape.listed l d l_below ∙ ap (λ p. stands_in p l) full) in omega arith))
       (shape.follows l l_below)
 
   pushed_follows : (l : ℕ) → l < lists → Follows (λ e. new (link_word e)) capacity (head_first (new (head_word l))) (with_at s.listed list (d ∷ s.listed list) l)
@@ -299,13 +296,13 @@ module _ (capacity d list : ℕ) (image new : Image) (held : List Block) (s : Sh
   pushed_listed l e l_below = at_or_other (λ k ds. k < lists → times e ds ≡ stands_in (with_at s.place d (in_list list) e) k) s.listed list (d ∷ s.listed list) l
       (λ _. at_or_other (λ x p. times x (d ∷ s.listed list) ≡ stands_in p list) s.place d (in_list list) e here
       (λ apart. times_past d e (s.listed list) (λ same. apart (sym same)) ∙ shape.listed list e below))
-      (λ other k_below. at_or_other (λ x p. times x (s.listed l) ≡ stands_in p l) s.place d (in_list list) e (nowhere l k_below ∙ sym (elsewhere other))
+      (λ other k_below. at_or_other (λ x p. times x (s.listed l) ≡ stands_in p l) s.place d (in_list list) e (shape.listed l d k_below ∙ ap (λ p. stands_in p l) full ∙ sym (elsewhere other))
       (λ apart. shape.listed l e k_below)) l_below
     where
       here : times d (d ∷ s.listed list) ≡ stands_in (in_list list) list
       here =
           let one = times_here d (s.listed list) in
-          let none = nowhere list below in
+          let none = shape.listed list d below ∙ ap (λ p. stands_in p list) full in
           let stands : one_if (nat_eq list list) ≡ 1 = one_if_true (nat_eq list list) (eq-eqb list list refl) in
           omega arith
 

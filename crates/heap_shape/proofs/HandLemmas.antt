@@ -22,7 +22,7 @@ use Rattle.heap_shape.specs.Effects.{IsSet, IsInSuperblock}
 use Rattle.heap_shape.specs.Moves.{with_cache, AddsTo, TakesFrom}
 use Rattle.heap_shape.proofs.BasicLemmas.{with_at_same, with_at_other, walks_same, follows_below, first_inside, inside_one, cached_of_class, times_here, times_past}
 use Rattle.heap_model.proofs.ListLemmas.{follows_same, times_of}
-use Rattle.heap_shape.proofs.FrameLemmas.{SameThere, frame}
+use Rattle.heap_shape.proofs.FrameLemmas.{SameThere, frame, owner_same}
 
 -- what holds of a function with another value at one number, and of two such functions
 pub at_or_other : {A : Type 0} (P : ℕ → A → Type 0) (f : ℕ → A) (at : ℕ) (value : A) (n : ℕ) → P at value → (n ≢ at → P n (f n)) → P n (with_at f at value n)
@@ -48,11 +48,6 @@ held_not_free s held class d word holds (a_free once out) = absurd (out holds)
 held_not_free s held class d word holds (a_held none in_hand) = none
 
 -- a block that is free as often, and is held or not as before, has one owner still
-pub owner_stays : (s t : Shape) (held now : List Block) (class d word : ℕ) → times_free t class d word ≡ times_free s class d word
-    → (HoldsAt held word → HoldsAt now word) → (HoldsAt now word → HoldsAt held word) → HasOneOwner s held class d word → HasOneOwner t now class d word
-owner_stays s t held now class d word same after before (a_free once out) = a_free (same ∙ once) (λ holds. out (before holds))
-owner_stays s t held now class d word same after before (a_held none in_hand) = a_held (same ∙ none) (after in_hand)
-
 -- a block of a class has a part in its superblock alone
 part_one : (capacity class d e index : ℕ) (b : Block) → IsClass class → IsBlockOfClass capacity class e index b → HasPartIn capacity b d → d ≡ e
 part_one capacity class d e index b is of part =
@@ -220,7 +215,7 @@ module _ (capacity class w : ℕ) (image : Image) (held now : List Block) (s : S
     | inr other ↦
         let before = cached_before word other in
         let after : times word (with_at s.cached class ws class) ≡ times word ws = ap (times word) (with_at_same s.cached class ws) in
-        owner_stays s left held now class standing.superblock word (omega arith) (held_after word) (held_before word other) owner
+        owner_same s left held now class standing.superblock word (omega arith) (held_after word) (held_before word other) owner
   ]
 
   place_after : (d : ℕ) → d < capacity → IsAs capacity image left now d (s.place d)
@@ -292,9 +287,6 @@ module _ (capacity class d : ℕ) (image new : Image) (held now : List Block) (s
   place_here : (s.place d ≡ in_list class) ⊎ ((s.place d ≡ is_full) × (image (info_word d) ≡ class))
   place_here = cut_place capacity image s held class d (s.place d) is info taken_here (λ none. none b holds part_here) (shape.places d within)
 
-  class_here : IsOfClass capacity image s held class d
-  class_here = cut_class capacity image s held class d (s.place d) is place_here (shape.places d within)
-
   -- only words of a superblock change
   low_word : (word : ℕ) → word < start_word capacity 0 → new word ≡ image word
   low_word word low = let from = inside.from in set.others word (omega arith)
@@ -313,7 +305,7 @@ module _ (capacity class d : ℕ) (image new : Image) (held now : List Block) (s
 
   free_here : times_free s class d b.first_word ≡ 0
   free_here = held_not_free s held class d b.first_word holds_here
-      (subst (λ x. HasOneOwner s held class d x) (sym first_here.at) (class_here.owned first_here.index first_here.below))
+      (subst (λ x. HasOneOwner s held class d x) (sym first_here.at) ((cut_class capacity image s held class d (s.place d) is place_here (shape.places d within)).owned first_here.index first_here.below))
 
   not_chained : (word : ℕ) → Contains (s.chain d) word → word ≢ b.first_word
   not_chained word p same =
@@ -354,7 +346,7 @@ module _ (capacity class d : ℕ) (image new : Image) (held now : List Block) (s
         | inl same ↦ subst (λ x. HasOneOwner freed now class d x) (sym same) freed_owner
         | inr other ↦
             let past = times_past b.first_word word (s.cached class) (λ same. other (sym same)) in
-            owner_stays s freed held now class d word (omega arith) (held_still word other) (held_once word) owner
+            owner_same s freed held now class d word (omega arith) (held_still word other) (held_once word) owner
       ]
     where
       freed_owner : HasOneOwner freed now class d b.first_word
@@ -369,7 +361,7 @@ module _ (capacity class d : ℕ) (image new : Image) (held now : List Block) (s
     | inl same ↦ subst (λ x. IsAs capacity new freed now x (s.place x)) (sym same)
         (replaced capacity image new s freed held now class d (s.place d) place_here is same_info same_anchor refl
         (reowned capacity image new s freed held now class d same_used same_info same_anchor refl (λ w p. other_word w (not_chained w p))
-        (λ index in_count. owner_now (first_of capacity class d index) (class_here.owned index in_count)) class_here)
+        (λ index in_count. owner_now (first_of capacity class d index) ((cut_class capacity image s held class d (s.place d) is place_here (shape.places d within)).owned index in_count)) (cut_class capacity image s held class d (s.place d) is place_here (shape.places d within)))
         (shape.places d within))
     | inr other ↦ frame capacity e image new s freed held now (s.place e) (there e below other) same_used
         (λ fresh. (past (s.place e) fresh (shape.places e below), low_word (link_word e) (omega arith))) (shape.places e below)
@@ -393,7 +385,10 @@ module _ (capacity class d : ℕ) (image new : Image) (held now : List Block) (s
   freed_shape = record {
     small = shape.small;
     used = let same = low_word used_word (omega arith) in let used = shape.used in omega arith;
-    named = λ a p. named_still a (takes.only a p);
+    named = λ a now_held. let p = takes.only a now_held in same_there (layout_at capacity image) (layout_at capacity new) a refl (low_word used_word (omega arith)) (λ e part.
+        let taken = part_taken (layout_at capacity image) a e (shape.named a p) part in
+        let used = shape.used in
+        low_word (info_word e) (omega arith)) (shape.named a p);
     follows = λ list below. subst (λ from. Follows (λ e. new (link_word e)) capacity from (s.listed list)) (ap head_first (sym (low_word (head_word list) (omega arith))))
         (follows_same (λ e. image (link_word e)) (λ e. new (link_word e)) capacity (head_first (image (head_word list))) (s.listed list)
         (λ e p. let e_within = follows_below (λ k. image (link_word k)) capacity (head_first (image (head_word list))) (s.listed list) e (shape.follows list below) p in low_word (link_word e) (omega arith))
@@ -413,12 +408,6 @@ module _ (capacity class d : ℕ) (image new : Image) (held now : List Block) (s
     walks = λ c is_c. at_or_other_two (λ k first words. IsClass k → Walks new first words) s.start s.cached class b.first_word (b.first_word ∷ s.cached class) c
         (λ _. (refl, subst (λ x. Walks new x (s.cached class)) (sym set.at) (walk_still class is))) (λ _. walk_still c) is_c;
   } where
-    named_still : (a : Block) → Contains held a → IsBlock (layout_at capacity new) a
-    named_still a p = same_there (layout_at capacity image) (layout_at capacity new) a refl (low_word used_word (omega arith)) (λ e part.
-        let taken = part_taken (layout_at capacity image) a e (shape.named a p) part in
-        let used = shape.used in
-        low_word (info_word e) (omega arith)) (shape.named a p)
-
     cached_still : (c word : ℕ) → IsClass c → Contains (s.cached c) word → IsCachedIn capacity new freed c word
     cached_still c word is_c p =
         let found = shape.cached c word is_c p in

@@ -17,11 +17,11 @@ use Rattle.heap_model.proofs.PlaceLemmas.{same_there}
 use Rattle.heap_shape.specs.Shape.{Place, in_list, is_full, in_large, is_new, Shape, stands_in, with_at}
 use Rattle.heap_shape.specs.Standing.{HasNoHeld, IsFree, IsInLarge, IsAs}
 use Rattle.heap_shape.specs.Whole.{layout_at, IsCachedIn, IsShape}
-use Rattle.heap_shape.specs.Effects.{IsSet, IsPushedOn, IsInSuperblock}
+use Rattle.heap_shape.specs.Effects.{IsSet, IsPushedOn}
 use Rattle.heap_shape.specs.Moves.{after_split, TakesFrom}
 use Rattle.heap_shape.proofs.BasicLemmas.{with_at_same, with_at_other, walks_same, first_inside}
 use Rattle.heap_model.proofs.ListLemmas.{follows_same, times_of}
-use Rattle.heap_shape.proofs.FrameLemmas.{SameThere, frame}
+use Rattle.heap_shape.proofs.FrameLemmas.{SameThere, frame, KeepsBut}
 
 -- each superblock of a held large block has that place
 pub large_places : (capacity d : ℕ) (image : Image) (held : List Block) (s : Shape) (b : Block) → IsShape capacity image held s → Contains held b → superblock_words ≤ b.words
@@ -135,17 +135,13 @@ module _ (capacity d : ℕ) (image middle new : Image) (held : List Block) (s : 
   same_word word no_anchor no_link no_head = pushed.head.others word no_head ∙ pushed.link.others word no_link ∙ set.others word no_anchor
 
   -- so `used`, infos, the links and anchors of others, and superblocks stay
-  same_used : new used_word ≡ image used_word
-  same_used = same_word used_word (λ e. omega arith) (λ e. omega arith) (λ e. omega arith)
-
-  same_info : (e : ℕ) → new (info_word e) ≡ image (info_word e)
-  same_info e = same_word (info_word e) (λ q. omega arith) (λ q. omega arith) (λ q. omega arith)
-
-  same_link : (e : ℕ) → e ≢ d → new (link_word e) ≡ image (link_word e)
-  same_link e other = same_word (link_word e) (λ q. omega arith) (λ q. other (omega arith)) (λ q. omega arith)
-
-  same_inside : (e word : ℕ) → IsInSuperblock capacity e word → new word ≡ image word
-  same_inside e word inside = let from = inside.from in same_word word (λ q. omega arith) (λ q. omega arith) (λ q. omega arith)
+  kept : KeepsBut capacity d image new
+  kept = record {
+    used = same_word used_word (λ e. omega arith) (λ e. omega arith) (λ e. omega arith);
+    info = λ e. same_word (info_word e) (λ q. omega arith) (λ q. omega arith) (λ q. omega arith);
+    link = λ e other. same_word (link_word e) (λ q. omega arith) (λ q. other (omega arith)) (λ q. omega arith);
+    inside = λ e word inside. let from = inside.from in same_word word (λ q. omega arith) (λ q. omega arith) (λ q. omega arith);
+  }
 
   -- it was in no list
   not_listed : (list : ℕ) → list < lists → times d (s.listed list) ≡ 0
@@ -154,7 +150,7 @@ module _ (capacity d : ℕ) (image middle new : Image) (held : List Block) (s : 
   -- so lists lead as they did
   links_same : (list from : ℕ) → list < lists → Leads image capacity from (s.listed list) → Leads new capacity from (s.listed list)
   links_same list from less follows = follows_same (λ e. image (link_word e)) (λ e. new (link_word e)) capacity from (s.listed list) (λ e p.
-      same_link e (λ same.
+      kept.link e (λ same.
       let some = times_of e (s.listed list) p in
       let none = not_listed list less in
       let moved : times e (s.listed list) ≡ times d (s.listed list) = ap (λ x. times x (s.listed list)) same in
@@ -206,9 +202,9 @@ module _ (capacity d : ℕ) (image middle new : Image) (held : List Block) (s : 
   -- the others stay as they are
   same_other : (e : ℕ) → e ≢ d → SameThere capacity e image new s (after_split s d) held held
   same_other e other = record {
-    info = same_info e;
+    info = kept.info e;
     anchor = same_word (anchor_word e) (λ q. other (omega arith)) (λ q. omega arith) (λ q. omega arith);
-    inside = λ word inside. same_inside e word inside;
+    inside = λ word inside. kept.inside e word inside;
     chain = refl;
     cached = λ class word is inside. refl;
     holds = λ word inside at. at;
@@ -218,9 +214,9 @@ module _ (capacity d : ℕ) (image middle new : Image) (held : List Block) (s : 
 
   place_other : (e : ℕ) → e < capacity → e ≢ d → IsAs capacity new (after_split s d) held e (s.place e)
   place_other e below other =
-      let same = same_used in
+      let same = kept.used in
       frame capacity e image new s (after_split s d) held held (s.place e) (same_other e other) (omega arith)
-      (λ is. let fresh = subst (λ p. IsAs capacity image s held e p) is (shape.places e below) in let past = fresh.past in (omega arith, same_link e other))
+      (λ is. let fresh = subst (λ p. IsAs capacity image s held e p) is (shape.places e below) in let past = fresh.past in (omega arith, kept.link e other))
       (shape.places e below)
 
   -- a cached block is in none that was in a large block
@@ -236,7 +232,7 @@ module _ (capacity d : ℕ) (image middle new : Image) (held : List Block) (s : 
         is_first = cached.is_first;
         place = elim cached.place [
           | inl listed ↦ inl (with_at_other s.place d (in_list 0) cached.superblock other ∙ listed)
-          | inr full ↦ inr (with_at_other s.place d (in_list 0) cached.superblock other ∙ full.0, same_info cached.superblock ∙ full.1)
+          | inr full ↦ inr (with_at_other s.place d (in_list 0) cached.superblock other ∙ full.0, kept.info cached.superblock ∙ full.1)
         ];
       }
 
@@ -259,7 +255,7 @@ module _ (capacity d : ℕ) (image middle new : Image) (held : List Block) (s : 
   free_now : HasNoHeld capacity held d → IsFree capacity new held d
   free_now none =
       let taken = large.taken in
-      let same = same_used in
+      let same = kept.used in
       let anchor = pushed.head.others (anchor_word d) (λ q. omega arith) ∙ pushed.link.others (anchor_word d) (λ q. omega arith) ∙ set.at in
       record { taken = omega arith; state = ap anchor_state anchor; none = none }
 
@@ -276,15 +272,15 @@ module _ (capacity d : ℕ) (image middle new : Image) (held : List Block) (s : 
   split_kept : HasNoHeld capacity held d → IsShape capacity new held (after_split s d)
   split_kept none = record {
     small = shape.small;
-    used = let used = shape.used in let same = same_used in omega arith;
-    named = λ b holds. same_there (layout_at capacity image) (layout_at capacity new) b refl same_used (λ e part. same_info e) (shape.named b holds);
+    used = let used = shape.used in let same = kept.used in omega arith;
+    named = λ b holds. same_there (layout_at capacity image) (layout_at capacity new) b refl kept.used (λ e part. kept.info e) (shape.named b holds);
     follows = follows_now;
     listed = listed_now;
     places = place_now none;
     cached = cached_other;
     walks = λ class is. walks_same image new (s.start class) (s.cached class) (λ w p.
         let cached = shape.cached class w is p in
-        same_inside cached.superblock w (first_inside capacity class cached.superblock w is cached.is_first)) (shape.walks class is);
+        kept.inside cached.superblock w (first_inside capacity class cached.superblock w is cached.is_first)) (shape.walks class is);
   }
 
 -- one of them goes to the free list

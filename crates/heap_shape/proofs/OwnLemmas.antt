@@ -146,11 +146,9 @@ store_root capacity i value image new held s shape below set = kept_shape capaci
   info = λ d within. set.others (info_word d) (λ q. omega arith);
   anchor = λ d within. set.others (anchor_word d) (λ q. omega arith);
   link = λ d within. set.others (link_word d) (λ q. omega arith);
-  chained = λ class d w within is p. no_root d w (first_inside capacity class d w is.is_class (is.blocks w p));
-  cached = λ class w is p. let at = shape.cached class w is p in no_root at.superblock w (first_inside capacity class at.superblock w is at.is_first);
-}) where
-  no_root : (d w : ℕ) → IsInSuperblock capacity d w → new w ≡ image w
-  no_root d w inside = let from = inside.from in set.others w (λ q. omega arith)
+  chained = λ class d w within is p. let from = (first_inside capacity class d w is.is_class (is.blocks w p)).from in set.others w (λ q. omega arith);
+  cached = λ class w is p. let at = shape.cached class w is p in let from = (first_inside capacity class at.superblock w is at.is_first).from in set.others w (λ q. omega arith);
+})
 
 -- the same held blocks
 pub same_held : (capacity : ℕ) (image : Image) (held now : List Block) (s : Shape) → ((b : Block) → Contains held b → Contains now b) → ((b : Block) → Contains now b → Contains held b)
@@ -206,12 +204,9 @@ one_size c class is_c is same = eqb-true c class (sym (cond-true (nat_eq (words_
 -- a held block of a superblock of a class: its size, and that its superblock is cut for it
 pub class_block : (capacity class : ℕ) (image : Image) (held : List Block) (s : Shape) (b : Block) → IsShape capacity image held s → IsClass class → Contains held b → b.words ≡ words_of_class class
     → (d : ℕ) × (d < capacity) × (image (info_word d) ≡ class) × IsInSuperblock capacity d b.first_word
-class_block capacity class image held s b shape is holds size = by_begins named.superblock named.words named.count named.is_of.begins named.is_of.taken named.is_of.size
+class_block capacity class image held s b shape is holds size = let named = shape.named b holds in by_begins named.superblock named.words named.count named.is_of.begins named.is_of.taken named.is_of.size
     (block_begins (layout_at capacity image) b named.superblock named.index named.words named.count named.is_of)
   where
-    named : IsBlock (layout_at capacity image) b
-    named = shape.named b holds
-
     by_begins : (d w n : ℕ) → Begins (layout_at capacity image) d w n → d < image used_word → b.words ≡ w → (start_word capacity d ≤ b.first_word) × (b.first_word < start_word capacity (d + 1))
         → (d : ℕ) × (d < capacity) × (image (info_word d) ≡ class) × IsInSuperblock capacity d b.first_word
     by_begins d w n (of_class c info is_class) taken words begins =
@@ -224,10 +219,7 @@ class_block capacity class image held s b shape is holds size = by_begins named.
 -- the blocks of a held large block's size: it begins where a superblock does, and takes whole ones
 pub large_block : (capacity : ℕ) (image : Image) (held : List Block) (s : Shape) (b : Block) → IsShape capacity image held s → Contains held b → ((class : ℕ) → IsClass class → b.words ≢ words_of_class class)
     → (d n : ℕ) × (1 ≤ n) × (d + n ≤ capacity) × (b.first_word ≡ start_word capacity d) × (b.words ≡ superblock_words * n)
-large_block capacity image held s b shape holds size = by_begins named.superblock named.index named.words named.count named.is_of.begins named.is_of.below named.is_of.at named.is_of.size where
-  named : IsBlock (layout_at capacity image) b
-  named = shape.named b holds
-
+large_block capacity image held s b shape holds size = let named = shape.named b holds in by_begins named.superblock named.index named.words named.count named.is_of.begins named.is_of.below named.is_of.at named.is_of.size where
   by_begins : (d index w n : ℕ) → Begins (layout_at capacity image) d w n → index < n → b.first_word ≡ start_word capacity d + index * w → b.words ≡ w
       → (d n : ℕ) × (1 ≤ n) × (d + n ≤ capacity) × (b.first_word ≡ start_word capacity d) × (b.words ≡ superblock_words * n)
   by_begins d index w n (of_class c info is) below at words = absurd (size c is words)

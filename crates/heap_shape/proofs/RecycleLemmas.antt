@@ -13,11 +13,11 @@ use Rattle.heap_model.proofs.PlaceLemmas.{same_there}
 use Rattle.heap_shape.specs.Shape.{in_list, Shape, stands_in, with_at}
 use Rattle.heap_shape.specs.Standing.{IsFirstOf, IsListed, HasNoHeld, IsNew, IsAs}
 use Rattle.heap_shape.specs.Whole.{layout_at, IsCachedIn, IsShape}
-use Rattle.heap_shape.specs.Effects.{IsPoppedOf, IsPushedOn, IsInSuperblock}
+use Rattle.heap_shape.specs.Effects.{IsPoppedOf, IsPushedOn}
 use Rattle.heap_shape.specs.Moves.{after_recycle}
 use Rattle.heap_shape.proofs.BasicLemmas.{with_at_same, with_at_other, walks_same, stands_not, one_list, times_here, times_past, first_inside, first_place, member_place, in_class_list, cached_of_class}
 use Rattle.heap_model.proofs.ListLemmas.{follows_same, times_of, follows_small}
-use Rattle.heap_shape.proofs.FrameLemmas.{SameThere, frame}
+use Rattle.heap_shape.proofs.FrameLemmas.{SameThere, frame, KeepsBut}
 use Rattle.heap_shape.proofs.CountLemmas.{all_given}
 
 -- it is taken off its class list and put in front of the free list: the heap keeps a shape
@@ -25,13 +25,13 @@ pub recycle : (capacity class d : ℕ) (image middle new : Image) (held : List B
     → anchor_state (image (anchor_word d)) ≢ partial_state → IsPoppedOf image middle class d → IsPushedOn middle new 0 d → IsShape capacity new held (after_recycle s class d ds)
 recycle capacity class d image middle new held s ds is shape list state popped pushed = record {
   small = shape.small;
-  used = subst (λ n. n ≤ capacity) (sym used_same) shape.used;
-  named = λ b holds. same_there (layout_at capacity image) (layout_at capacity new) b refl used_same (λ e part. info_same e) (shape.named b holds);
+  used = subst (λ n. n ≤ capacity) (sym stays.used) shape.used;
+  named = λ b holds. same_there (layout_at capacity image) (layout_at capacity new) b refl stays.used (λ e part. stays.info e) (shape.named b holds);
   follows = follows;
   listed = listed;
   places = places;
   cached = cached;
-  walks = λ c is_class. walks_same image new (s.start c) (s.cached c) (λ w p. cached_same c w is_class p) (shape.walks c is_class);
+  walks = λ c is_class. walks_same image new (s.start c) (s.cached c) (λ w p. let cached = shape.cached c w is_class p in stays.inside cached.superblock w (first_inside capacity c cached.superblock w is_class cached.is_first)) (shape.walks c is_class);
 } where
   below : class < lists
   below = let last = is.last in omega arith
@@ -68,27 +68,16 @@ recycle capacity class d image middle new held s ds is shape list state popped p
   same : (word : ℕ) → word ≢ head_word class → word ≢ link_word d → word ≢ head_word 0 → new word ≡ image word
   same word no_class_head no_link no_head = pushed.head.others word no_head ∙ pushed.link.others word no_link ∙ popped.set.others word no_class_head
 
-  used_same : new used_word ≡ image used_word
-  used_same = same used_word (λ q. omega arith) (λ q. omega arith) (λ q. omega arith)
-
-  info_same : (e : ℕ) → new (info_word e) ≡ image (info_word e)
-  info_same e = let last = is.last in same (info_word e) (λ q. omega arith) (λ q. omega arith) (λ q. omega arith)
+  stays : KeepsBut capacity d image new
+  stays = let last = is.last in record {
+    used = same used_word (λ q. omega arith) (λ q. omega arith) (λ q. omega arith);
+    info = λ e. same (info_word e) (λ q. omega arith) (λ q. omega arith) (λ q. omega arith);
+    link = λ e other. same (link_word e) (λ q. omega arith) (λ q. other (omega arith)) (λ q. omega arith);
+    inside = λ e word inside. let from = inside.from in let within = at.1 in same word (λ q. omega arith) (λ q. omega arith) (λ q. omega arith);
+  }
 
   anchor_same : (e : ℕ) → new (anchor_word e) ≡ image (anchor_word e)
   anchor_same e = let last = is.last in same (anchor_word e) (λ q. omega arith) (λ q. omega arith) (λ q. omega arith)
-
-  link_same : (e : ℕ) → e ≢ d → new (link_word e) ≡ image (link_word e)
-  link_same e other = let last = is.last in same (link_word e) (λ q. omega arith) (λ q. other (omega arith)) (λ q. omega arith)
-
-  inside_same : (e word : ℕ) → IsInSuperblock capacity e word → new word ≡ image word
-  inside_same e word inside =
-      let last = is.last in
-      let from = inside.from in
-      let within = at.1 in
-      same word (λ q. omega arith) (λ q. omega arith) (λ q. omega arith)
-
-  cached_same : (c w : ℕ) → IsClass c → Contains (s.cached c) w → new w ≡ image w
-  cached_same c w is_class p = let cached = shape.cached c w is_class p in inside_same cached.superblock w (first_inside capacity c cached.superblock w is_class cached.is_first)
 
   -- the lists after it
   class_list : (after_recycle s class d ds).listed class ≡ ds
@@ -99,7 +88,7 @@ recycle capacity class d image middle new held s ds is shape list state popped p
 
   -- the links of another list
   other_links : (l : ℕ) → l < lists → l ≢ class → (e : ℕ) → Contains (s.listed l) e → new (link_word e) ≡ image (link_word e)
-  other_links l less other e p = link_same e (λ one.
+  other_links l less other e p = stays.link e (λ one.
       let place : s.place d ≡ in_list l = subst (λ x. s.place x ≡ in_list l) one (member_place capacity image held s shape l e less p).0 in
       other (one_list l class (sym place ∙ at.0)))
 
@@ -131,7 +120,7 @@ recycle capacity class d image middle new held s ds is shape list state popped p
       let first : head_first (new (head_word class)) ≡ image (link_word d) = omega (arith, largest_capacity_fits) in
       subst (λ x. Follows (λ e. new (link_word e)) capacity x ds) (sym first)
       (follows_same (λ e. image (link_word e)) (λ e. new (link_word e)) capacity (image (link_word d)) ds
-      (λ e p. link_same e (λ one. let some = times_of e ds p in let none : times e ds ≡ 0 = subst (λ x. times x ds ≡ 0) (sym one) gone in omega arith)) before.2)
+      (λ e p. stays.link e (λ one. let some = times_of e ds p in let none : times e ds ≡ 0 = subst (λ x. times x ds ≡ 0) (sym one) gone in omega arith)) before.2)
 
   follows : (l : ℕ) → l < lists → Follows (λ e. new (link_word e)) capacity (head_first (new (head_word l))) ((after_recycle s class d ds).listed l)
   follows l less = elim (cases_eq l 0) as (λ _. Follows (λ e. new (link_word e)) capacity (head_first (new (head_word l))) ((after_recycle s class d ds).listed l)) [
@@ -181,9 +170,9 @@ recycle capacity class d image middle new held s ds is shape list state popped p
 
   untouched : (e : ℕ) → e ≢ d → SameThere capacity e image new s (after_recycle s class d ds) held held
   untouched e other = record {
-    info = info_same e;
+    info = stays.info e;
     anchor = anchor_same e;
-    inside = inside_same e;
+    inside = stays.inside e;
     chain = with_at_other s.chain d [] e other;
     cached = λ c w is_class inside. refl;
     holds = λ w inside h. h;
@@ -195,13 +184,13 @@ recycle capacity class d image middle new held s ds is shape list state popped p
   places e within = elim (cases_eq e d) as (λ _. IsAs capacity new (after_recycle s class d ds) held e ((after_recycle s class d ds).place e)) [
     | inl one ↦ subst (λ e. IsAs capacity new (after_recycle s class d ds) held e ((after_recycle s class d ds).place e)) (sym one)
         (subst (IsAs capacity new (after_recycle s class d ds) held d) (sym (with_at_same s.place d (in_list 0))) (record {
-          taken = subst (λ n. d < n) (sym used_same) there.of_class.taken;
+          taken = subst (λ n. d < n) (sym stays.used) there.of_class.taken;
           state = ap anchor_state (anchor_same d) ∙ all.0;
           none = unused.0;
         }))
     | inr other ↦ subst (IsAs capacity new (after_recycle s class d ds) held e) (sym (with_at_other s.place d (in_list 0) e other))
-        (frame capacity e image new s (after_recycle s class d ds) held held (s.place e) (untouched e other) (let used = used_same in omega arith)
-        (λ untaken. let free : IsNew image e = subst (IsAs capacity image s held e) untaken (shape.places e within) in (subst (λ n. n ≤ e) (sym used_same) free.past, link_same e other))
+        (frame capacity e image new s (after_recycle s class d ds) held held (s.place e) (untouched e other) (let used = stays.used in omega arith)
+        (λ untaken. let free : IsNew image e = subst (IsAs capacity image s held e) untaken (shape.places e within) in (subst (λ n. n ≤ e) (sym stays.used) free.past, stays.link e other))
         (shape.places e within))
   ]
 
@@ -215,6 +204,6 @@ recycle capacity class d image middle new held s ds is shape list state popped p
         is_first = was.is_first;
         place = elim was.place [
           | inl in_class ↦ inl (place ∙ in_class)
-          | inr full ↦ inr (place ∙ full.0, info_same was.superblock ∙ full.1)
+          | inr full ↦ inr (place ∙ full.0, stays.info was.superblock ∙ full.1)
         ];
       }

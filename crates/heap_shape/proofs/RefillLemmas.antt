@@ -97,7 +97,7 @@ record IsCuttable (capacity class d : ℕ) (image middle new : Image) (held : Li
   pub in_lists : (list e : ℕ) → list < lists → times e (listed list) ≡ stands_in (with_at s.place d is_full e) list
 
 -- the words outside superblocks but two are as before
-cut_before : (capacity class d : ℕ) (middle new : Image) (word : ℕ) → IsCut capacity middle new class d → word < start_word capacity 0 → word ≢ info_word d
+pub cut_before : (capacity class d : ℕ) (middle new : Image) (word : ℕ) → IsCut capacity middle new class d → word < start_word capacity 0 → word ≢ info_word d
     → word ≢ anchor_word d → new word ≡ middle word
 cut_before capacity class d middle new word cut less not_info not_anchor = cut.others word (λ inside. let from = inside.from in omega arith) not_info not_anchor
 
