@@ -1,11 +1,11 @@
 -- Which requests a class serves, what the answer to a request is, and which free a held block gets.
-use Rattle.std.proofs.Common.{◌≡◌, ◌≢◌, ℕ, ◌+◌, ◌*◌, ◌<◌, ◌≤◌, inl, inr, true, cond, nat_le, Option, None, Some, Result, Ok, Err, IfOk, OnOk, List, [], ◌∷◌, length, get_or, Contains, refl, ap, sym, subst, ◌∙◌, arith}
+use Rattle.std.proofs.Common.{◌≡◌, ◌≢◌, ℕ, ◌+◌, ◌*◌, ◌<◌, ◌≤◌, inl, inr, true, cond, nat_le, Option, None, Some, Result, Ok, Err, IfOk, OnOk, List, [], ◌∷◌, get_or, Contains, refl, ap, sym, subst, ◌∙◌, arith}
 use Rattle.std.proofs.lemmas.Bool.{agree_below, cases_eq, cond-true, le-leb, leb-true}
 use Rattle.heap_model.specs.declared.block.Block.{Block}
 use Rattle.heap_model.specs.Geometry.{link_word, superblock_words, largest_capacity}
 use Rattle.heap_model.specs.Sizes.{IsClass, IsLeastClassFor, class_sizes, size_of, words_of_class, blocks_of, largest_small, span_of}
 use Rattle.heap_model.specs.Words.{head_first}
-use Rattle.heap_model.specs.Blocks.{Begins, of_class, as_large, IsBlock}
+use Rattle.heap_model.specs.Blocks.{Begins, of_class, as_large}
 use Rattle.heap_model.specs.Chains.{Follows}
 use Rattle.heap_model.proofs.BlockLemmas.{block_inside}
 use Rattle.heap_model.proofs.SizeLemmas.{at_class, few_words, size_of-words}
@@ -18,12 +18,12 @@ use Rattle.block_heap.specs.Accounts.{AreAccounted}
 use Rattle.heap_seat.specs.Alloc.{IsSizeFor, of_class as size_of_class, of_superblocks}
 use Rattle.block_heap.specs.Parts.{Parts, image_of, held_in, cache_at}
 use Rattle.block_heap.specs.Returns.{FreesSmall, FreesLarge, ComesBack}
-use Rattle.block_heap.specs.Running.{IsRunning, AreShort, Serves}
+use Rattle.block_heap.specs.Running.{IsRunning, AreShort}
 use Rattle.block_heap.specs.Lists.{head_at}
 use Rattle.block_heap.specs.Steps.{Fills, HandsOut}
 use Rattle.block_heap.specs.Large.{JoinsAs}
-use Rattle.block_heap.proofs.SplitLemmas.{serves_then}
 use Rattle.block_heap.specs.Serving.{HasRoom, in_cache, in_class_list, in_free_list, in_fresh, HasRoomFor, for_class, for_large, LookedInClass, FindsNone, GetsInClass, AnswersInClass, Answers, DrainsTo, DrainsNone}
+use Rattle.std.proofs.lemmas.List.{nil_from_length}
 
 -- a request that a class serves is small
 pub least_small : (bytes class : ℕ) → IsLeastClassFor bytes class → bytes ≤ largest_small
@@ -77,10 +77,6 @@ leads_nowhere : (link : ℕ → ℕ) (capacity from : ℕ) (ds : List ℕ) → f
 leads_nowhere link capacity from [] none leads = refl
 leads_nowhere link capacity from (d ∷ ds) none leads = absurd (let first = leads.0 in omega arith)
 
-none_of : (ws : List ℕ) → length ws ≡ 0 → ws ≡ []
-none_of [] none = refl
-none_of (w ∷ ws) none = absurd (omega arith)
-
 -- where a request of a class found nothing there was nothing to drain
 pub drains_nothing : (class : ℕ) (p q : Parts) → IsClass class → q.capacity ≡ p.capacity → Fills class p q → FindsNone class p q → DrainsNone class p
 drains_nothing class p q is capacity fills finds drainable b drained =
@@ -91,7 +87,7 @@ drains_nothing class p q is capacity fills finds drainable b drained =
     let shape : IsShape p.capacity (image_of q) (held_in p) run.shape =
     subst (λ held. IsShape p.capacity (image_of q) held run.shape) fills.held (subst (λ k. IsShape k (image_of q) (held_in q) run.shape) capacity run.is) in
     let count = (run.caches class is).count in
-    let cached : run.shape.cached class ≡ [] = none_of (run.shape.cached class) (omega arith) in
+    let cached : run.shape.cached class ≡ [] = nil_from_length (run.shape.cached class) (omega arith) in
     let listed : run.shape.listed class ≡ [] =
     leads_nowhere (λ d. image_of q (link_word d)) q.capacity (head_first (head_at q class)) (run.shape.listed class) looked.class_empty (run.is.follows class (omega arith)) in
     let free : run.shape.listed 0 ≡ [] =
@@ -141,10 +137,6 @@ drains_block class b p q r capacity fills hands drainable =
       (λ a drained. one.rest a (before.has a drained)),
       (λ a drained. before.only a (one.only a drained)),
     )
-
--- the parts serve all along
-pub serves_all : (p q r : Parts) → held_in q ≡ held_in p → Serves (held_in p) p q → Serves (held_in q) q r → Serves (held_in p) p r
-serves_all p q r same a b = serves_then (held_in p) p q r a (subst (λ held. Serves held q r) same b)
 
 -- the answer to a request that a class serves
 pub answers_small : (bytes class : ℕ) (answer : Option Block) (p q : Parts) → IsLeastClassFor bytes class → AnswersInClass class answer p q → Answers bytes answer p q
@@ -205,10 +197,7 @@ answers_large bytes (Some b) p q large short joins running accounted caches capa
 
 -- a held block of a class has the size of that class
 pub size_of_held : (p : Parts) (b : Block) (class : ℕ) → IsRunning p → Contains (held_in p) b → IsLeastClassFor (8 * b.words) class → b.words ≡ words_of_class class
-size_of_held p b class run holds least = by_begins named.superblock named.words named.count named.is_of.begins named.is_of.size where
-  named : IsBlock (layout_at p.capacity (image_of p)) b
-  named = run.is.named b holds
-
+size_of_held p b class run holds least = let named = run.is.named b holds in by_begins named.superblock named.words named.count named.is_of.begins named.is_of.size where
   by_begins : (d w n : ℕ) → Begins (layout_at p.capacity (image_of p)) d w n → b.words ≡ w → b.words ≡ words_of_class class
   by_begins d w n (of_class c info is) words =
       let bytes : 8 * b.words ≡ size_of c = ap (λ x. 8 * x) words ∙ sym (size_of-words c is) in

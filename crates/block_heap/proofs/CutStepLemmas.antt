@@ -165,15 +165,9 @@ module _ (p : Parts) (class d : ℕ) (popped : Popped) (w : View) (look : Look) 
   pub free_within : d < p.capacity
   free_within = (popped_place p 0 popped w run zero_list pop pop_stores d some).1
 
-  free_none : HasNoHeld p.capacity (held_in p) d
+  pub free_none : HasNoHeld p.capacity (held_in p) d
   free_none = (in_free_list p.capacity (image_of p) (held_in p) run.shape run.is d free_within
       (popped_place p 0 popped w run zero_list pop pop_stores d some).0).none
-
-  pub free_unmarked : (mark : ℕ) → IsMarked p.blocks.marks.items mark → mark / 4096 ≢ d
-  free_unmarked = unmarked p d run free_none
-
-  moved : StoresOnly (IsMoved p.capacity) p.words w
-  moved = head_moved p.capacity 0 p.words w zero_list pop_stores
 
   module _ (q : Parts) (stores : StoresOnly (IsDivideWord p.capacity d) w q.words)
       (same : SameBut (record p { words = w; head_looks = set p.head_looks 0 look }) q) where
@@ -182,7 +176,7 @@ module _ (p : Parts) (class d : ℕ) (popped : Popped) (w : View) (look : Look) 
 
     free_stores : StoresOnly IsFreeWord p.words q.words
     free_stores = stores_then IsFreeWord p.words w q.words
-        (stores_more (IsMoved p.capacity) IsFreeWord p.words w (λ word m. inl m) moved)
+        (stores_more (IsMoved p.capacity) IsFreeWord p.words w (λ word m. inl m) (head_moved p.capacity 0 p.words w zero_list pop_stores))
         (stores_more (IsDivideWord p.capacity d) IsFreeWord w q.words (λ word t. inr t) stores)
 
     free_not_used : IsFreeWord used_word → ⊥
@@ -207,9 +201,9 @@ module _ (p : Parts) (class d : ℕ) (popped : Popped) (w : View) (look : Look) 
       free_running : IsRunning q
       free_running = cut_running p class d w (set p.head_looks 0 look) p.used_look p.taken q run is free_within stores same cuts
           (after_cut run.shape p.capacity class d rest) pop_stores.words pop_stores.budget (length-set p.head_looks 0 look ∙ run.looks_long)
-          (settled_kept p.capacity (IsMoved p.capacity) p.words w moved (λ e within m. moved_info p.capacity e (info_word e) m refl)
+          (settled_kept p.capacity (IsMoved p.capacity) p.words w (head_moved p.capacity 0 p.words w zero_list pop_stores) (λ e within m. moved_info p.capacity e (info_word e) m refl)
           (λ m. moved_used p.capacity used_word m refl) run.settled)
-          (λ e within. moved.volatile (info_word e) (λ m. moved_info p.capacity e (info_word e) m refl))
+          (λ e within. (head_moved p.capacity 0 p.words w zero_list pop_stores).volatile (info_word e) (λ m. moved_info p.capacity e (info_word e) m refl))
           free_shape
           refl refl refl
           (λ list less.
@@ -217,9 +211,9 @@ module _ (p : Parts) (class d : ℕ) (popped : Popped) (w : View) (look : Look) 
           let once = popped_pops p 0 popped w run zero_list pop pop_stores d some list less in
           let drew = pop.goes.drew in
           omega arith)
-          (let kept : volatile_at w used_word ≡ image_of p used_word = moved.volatile used_word (λ m. moved_used p.capacity used_word m refl) in let knew =
+          (let kept : volatile_at w used_word ≡ image_of p used_word = (head_moved p.capacity 0 p.words w zero_list pop_stores).volatile used_word (λ m. moved_used p.capacity used_word m refl) in let knew =
           run.knows in omega arith)
-          (let kept : volatile_at w used_word ≡ image_of p used_word = moved.volatile used_word (λ m. moved_used p.capacity used_word m refl) in let least =
+          (let kept : volatile_at w used_word ≡ image_of p used_word = (head_moved p.capacity 0 p.words w zero_list pop_stores).volatile used_word (λ m. moved_used p.capacity used_word m refl) in let least =
           run.few in omega arith)
 
       head_kept : (c : ℕ) → IsClass c → head_at q c ≡ head_at p c

@@ -82,14 +82,14 @@ module _ (capacity class d count : ℕ) (v u w : View) (before next : ℕ) (is :
   few_there : (count - 1) + 1 < blocks_of class
   few_there = omega arith
 
-  pub more_stores : StoresOnly (IsInSuperblock capacity d) v w
-  more_stores = step_stores capacity class d (count - 1) v u w before next is below few_there at next_there chained_before stores
-
-  pub chain_more : IsStored before next u w → IsChained capacity class d (count + 1) v w
-  chain_more stored =
-      let e : (count - 1) + 2 ≡ count + 1 = omega arith in
-      subst (λ (k : ℕ). IsChained capacity class d k v w) e
-      (chain_step capacity class d (count - 1) v u w before next is below few_there at next_there chained_before stores stored)
+  -- with one block more in the chain, steps still store to its superblock alone
+  pub chain_more : StoresOnly (IsInSuperblock capacity d) v w × (IsStored before next u w → IsChained capacity class d (count + 1) v w)
+  chain_more = (
+    step_stores capacity class d (count - 1) v u w before next is below few_there at next_there chained_before stores,
+    λ stored. let e : (count - 1) + 2 ≡ count + 1 = omega arith in
+        subst (λ (k : ℕ). IsChained capacity class d k v w) e
+        (chain_step capacity class d (count - 1) v u w before next is below few_there at next_there chained_before stores stored),
+  )
 
 -- the three parts of a division
 module _ (capacity class d : ℕ) (v u t w : View) (info anchor value : ℕ) (is : IsClass class) (below : d < capacity) (was_open : IsOpen capacity v)

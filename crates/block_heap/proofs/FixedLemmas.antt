@@ -1,5 +1,5 @@
 -- The words that every call of a heap for one thread leaves as they are.
-use Rattle.std.proofs.Common.{◌≡◌, ℕ, ◌+◌, ◌*◌, ◌≤◌, inl, inr, List, length, refl, ap, sym, subst, ◌∙◌, get_or, arith}
+use Rattle.std.proofs.Common.{◌≡◌, ℕ, ◌+◌, ◌*◌, ◌≤◌, inl, inr, List, length, ap, sym, subst, ◌∙◌, get_or, arith}
 use Rattle.std.specs.Prelude.{slice_index}
 use Rattle.heap_model.specs.declared.block.Block.{Block}
 use Rattle.heap_model.specs.Header.{capacity_of, used_of}
@@ -17,23 +17,7 @@ use Rattle.heap_seat.specs.Rows.{IsRow}
 use Rattle.heap_model.specs.Geometry.{used_word}
 use Rattle.block_heap.proofs.StableLemmas.{not_fixed, own_not_fixed, stable_fewer}
 
--- no call at all, and two rows of calls
-pub fixed_same : (s : SeqState) → KeepsFixed s s
-fixed_same s = record { capacity = refl; long = refl; volatile = λ word is. refl; durable = λ word is same. same; looks = refl; draws = omega arith }
-
-pub fixed_then : (s t u : SeqState) → KeepsFixed s t → KeepsFixed t u → KeepsFixed s u
-fixed_then s t u a b = record {
-  capacity = b.capacity ∙ a.capacity;
-  long = b.long ∙ a.long;
-  volatile = λ word is. b.volatile word (then word is) ∙ a.volatile word is;
-  durable = λ word is same. b.durable word (then word is) (a.durable word is same);
-  looks = let p = a.looks in let q = b.looks in omega arith;
-  draws = let p = a.draws in let q = b.draws in omega arith;
-} where
-  then : (word : ℕ) → IsFixed s.parts.capacity word → IsFixed t.parts.capacity word
-  then word is = subst (λ n. IsFixed n word) (sym a.capacity) is
-
--- they are those of the image that was opened
+-- the fixed words are those of the image that was opened
 pub fixed_opened : (words : List ℕ) (held : List Block) (budget : ℕ) (s t : SeqState) → IsOpened words held budget s → KeepsFixed s t
     → (word : ℕ) → IsFixed (capacity_of (slice_index words)) word
     → (volatile_at t.parts.words word ≡ slice_index words word) × (durable_at t.parts.words word ≡ slice_index words word)

@@ -36,6 +36,7 @@ use Rattle.block_heap.proofs.MediumLemmas.{stores_then, stores_more}
 use Rattle.block_heap.proofs.RunningLemmas.{set_is}
 use Rattle.block_heap.proofs.LookLemmas.{looks_of}
 use Rattle.block_heap.proofs.SmallLemmas.{changed, KeepsFixed, keeps_fixed, running_after, caches_set, serves_of}
+use Rattle.std.proofs.lemmas.List.{nil_from_length}
 
 -- a walk along fewer blocks from where a longer one begins goes along its front
 pub walk_front : (next : ℕ → ℕ) (from : ℕ) (xs ys : List ℕ) → Walks next from xs → Walks next from ys → length xs ≤ length ys
@@ -51,10 +52,6 @@ walk_front next from (x ∷ xs) (y ∷ ys) walks all few =
 walk_first : (next : ℕ → ℕ) (from : ℕ) (before : List ℕ) (last : ℕ) → Walks next from (before ++ last ∷ []) → Contains (before ++ last ∷ []) from
 walk_first next from [] last walks = subst (λ x. Contains (last ∷ []) x) (sym walks.0) (in_head last [])
 walk_first next from (x ∷ before) last walks = subst (λ y. Contains (x ∷ (before ++ last ∷ [])) y) (sym walks.0) (in_head x (before ++ last ∷ []))
-
-pub none_of_zero : (xs : List ℕ) → length xs ≡ 0 → xs ≡ []
-none_of_zero [] e = refl
-none_of_zero (x ∷ xs) e = absurd (omega arith)
 
 -- the states by their numbers
 full_number : (state : State) → state_number state ≡ 2 → state ≡ Full
@@ -282,7 +279,7 @@ module _ (p : Parts) (class : ℕ) (is : IsClass class) (run : IsRunning p) (fro
             let first = given.parts.first in
             elim linked_is as (λ _. (s.chain front.d ≡ []) ⊎ (volatile_at w front.batch.last ≡ first_of p.capacity class front.d
             (anchor_first (image_of p (anchor_word front.d))))) [
-              | inl none ↦ inl (none_of_zero (s.chain front.d) (sym chain_count ∙ none.0))
+              | inl none ↦ inl (nil_from_length (s.chain front.d) (sym chain_count ∙ none.0))
               | inr some ↦ inr (seen ∙ ap (λ (xs : List ℕ). get_or xs front.batch.last 0) some ∙ get_or-set_same p.words.volatile front.batch.last next_word 0
                   (omega arith)
                   ∙ ap (λ n. first_of p.capacity class front.d n) first)

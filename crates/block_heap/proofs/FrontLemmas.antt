@@ -22,7 +22,8 @@ use Rattle.block_heap.proofs.SmallLemmas.{first_cached, first_of_d, serves_of, s
 use Rattle.block_heap.proofs.LookLemmas.{looks_of}
 use Rattle.block_heap.specs.Returns.{IsLongest, GivesTo}
 use Rattle.block_heap.proofs.FlushLemmas.{walk_front}
-use Rattle.block_heap.proofs.ReturnLemmas.{walk_behind, walk_begin, FlushesSoFar, flushes_none, flushes_more}
+use Rattle.block_heap.proofs.ReturnLemmas.{walk_begin, FlushesSoFar, flushes_none, flushes_more}
+use Rattle.heap_model.proofs.ListLemmas.{walk_behind}
 
 -- the cache leads along so many blocks of superblock d, up to the last one, which leads to the next
 pub record IsWalked (class d last next count : ℕ) (cache : Cache) (p : Parts) : Type 0 where
@@ -123,9 +124,6 @@ pub record IsPlacedAt (p : Parts) (class word : ℕ) : Type 0 where
 module _ (p : Parts) (class : ℕ) (is : IsClass class) (run : IsRunning p) (cache : Cache) (cache_is : cache ≡ cache_at p.caches class) where
   -- the first block of the cache
   module _ (some : 1 ≤ (cache_at p.caches class).count) where
-    cache_count : cache.count ≡ (cache_at p.caches class).count
-    cache_count = ap (λ (x : Cache). x.count) cache_is
-
     pub cache_first : IsPlacedAt p class cache.first
     cache_first = let found = first_cached p class is run cache cache_is some in record { d = found.d; within = found.within; first = found.is_first }
 
@@ -144,7 +142,7 @@ module _ (p : Parts) (class : ℕ) (is : IsClass class) (run : IsRunning p) (cac
           ];
           count_is = refl;
           next_is = e;
-          few = let count = cache_count in omega arith;
+          few = let count = ap (λ (x : Cache). x.count) cache_is in omega arith;
         }
 
   module _ (d last next count : ℕ) (walked : IsWalked class d last next count cache p) where

@@ -1,17 +1,15 @@
 -- How a heap at rest is opened: the size of blocks by superblock, and held blocks by marks.
-use Rattle.std.proofs.Common.{◌≡◌, ℕ, zero, suc, ◌+◌, ◌-◌, ◌*◌, ◌/◌, ◌%◌, ◌<◌, ◌≤◌, inl, inr, nat_eq, List, [], length, length-set, get_or, set, Contains, refl, ap, sym, subst, ◌∙◌, arith, get_or-set_same, get_or-set_other}
+use Rattle.std.proofs.Common.{◌≡◌, ℕ, ◌+◌, ◌-◌, ◌*◌, ◌/◌, ◌%◌, ◌<◌, ◌≤◌, inl, inr, List, [], length, length-set, get_or, set, Contains, refl, ap, sym, subst, ◌∙◌, arith, get_or-set_same, get_or-set_other}
 use Rattle.std.specs.Prelude.{slice_index}
-use Rattle.std.proofs.Math.Nat.{zero-mul}
 use Rattle.std.proofs.lemmas.List.{get_or_default}
-use Rattle.std.proofs.lemmas.Bool.{cases_eq, eqb-true}
+use Rattle.std.proofs.lemmas.Bool.{cases_eq}
 use Rattle.heap_model.specs.declared.block.Block.{Block}
 use Rattle.heap_model.specs.Geometry.{info_word, start_word, superblock_words, largest_capacity}
 use Rattle.heap_model.specs.Header.{capacity_of, used_of}
-use Rattle.heap_model.specs.Sizes.{IsClass, class_sizes, size_of, words_of_class}
+use Rattle.heap_model.specs.Sizes.{IsClass, size_of, words_of_class}
 use Rattle.heap_model.specs.Words.{large_info}
 use Rattle.heap_model.specs.Blocks.{Begins, of_class, as_large, IsBlock, layout_of}
 use Rattle.heap_model.specs.Rest.{IsReady}
-use Rattle.heap_model.proofs.SizeLemmas.{at_class}
 use Rattle.heap_model.proofs.PartLemmas.{same_fields}
 use Rattle.heap_model.proofs.BlockLemmas.{block_begins}
 use Rattle.line_memory.specs.Marks.{IsMarked}
@@ -24,6 +22,7 @@ use Rattle.block_heap.specs.Opening.{IsHeldOf}
 use Rattle.block_heap.proofs.AnchorLemmas.{words_by_bytes}
 use Rattle.block_heap.proofs.HeldLemmas.{has_map}
 use Rattle.heap_model.proofs.MemberLemmas.{in_none}
+use Rattle.block_heap.proofs.SmallLemmas.{even_words, even_product}
 
 -- an info that is a class tells its size
 pub begun_class : (info class bytes : ℕ) → info ≡ class → IsClass class → bytes ≡ size_of class → IsBegun info (bytes / 8)
@@ -35,16 +34,6 @@ begun_class info class bytes same is size = record {
 -- one that is neither a class nor that of a large block tells nothing
 pub begun_none : (info : ℕ) → (IsClass info → ⊥) × ((n : ℕ) → 1 ≤ n → info ≡ large_info n → ⊥) → IsBegun info 0
 begun_none info none = record { of_class = λ is. absurd (none.0 is); as_large = λ n some few large. absurd (none.1 n some large) }
-
--- a block of a class has an even number of words
-even_words : (class : ℕ) → IsClass class → words_of_class class % 2 ≡ 0
-unfolding words_of_class class_sizes
-even_words class is = eqb-true (words_of_class class % 2) 0 (at_class (λ c. nat_eq (words_of_class c % 2) 0) refl class is)
-
--- and so has a row of them
-even_product : (k w : ℕ) → w % 2 ≡ 0 → (k * w) % 2 ≡ 0
-even_product zero w even = let none : 0 * w ≡ 0 = zero-mul w in omega arith
-even_product (suc k) w even = let rest = even_product k w even in omega arith
 
 -- no mark is set where no block is held
 pub no_mark : (h : HeldBlocks) → held_of h ≡ [] → (mark : ℕ) → IsMarked h.marks.items mark → ⊥

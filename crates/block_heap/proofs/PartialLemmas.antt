@@ -22,7 +22,7 @@ use Rattle.block_heap.specs.Order.{CutsAll, FillsFrom, from_fresh, MovesEmpty, O
 use Rattle.block_heap.proofs.OrderLemmas.{moves_none, moves_then, moves_same, takes_after, cuts_after, nothing_in_empty}
 use Rattle.block_heap.proofs.SpendLemmas.{spends_none, spends_then}
 use Rattle.std.proofs.lemmas.Bool.{cases_eq}
-use Rattle.block_heap.proofs.RefillLemmas.{serves_same, serves_then, drains_none, drains_then}
+use Rattle.block_heap.proofs.RefillLemmas.{serves_same, drains_none, drains_then, serves_all}
 
 -- nothing done yet, and two rows of steps
 pub fills_none : (class : ℕ) (p : Parts) → IsRunning p → Fills class p p
@@ -104,7 +104,7 @@ module _ (class : ℕ) (p q r : Parts) (is : IsClass class) (walked : Walked cla
   was_some some none = elim walked.way as (λ _. ⊥) [ inl same ↦ some (empty_same p q class same none) | inr way ↦ way.1 none ]
 
   pub walk_serves : Serves (held_in p) p r
-  walk_serves = serves_then p q r walked.fills.held walked.serves serves
+  walk_serves = serves_all p q r walked.fills.held walked.serves serves
 
   pub walk_halts : (ticket : ℕ) → Halts ticket 8 q.words r.words → Halts ticket (8 * largest_capacity + 8) p.words r.words
   walk_halts ticket halts =

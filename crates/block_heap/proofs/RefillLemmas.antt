@@ -25,11 +25,12 @@ use Rattle.block_heap.specs.Parts.{Parts, image_of, held_in, cache_at}
 use Rattle.block_heap.specs.Running.{IsRunning, IsCacheOf, KnowsSizes, IsSettled, Serves, MakesLooks}
 use Rattle.block_heap.specs.Steps.{Fills}
 use Rattle.block_heap.specs.Lists.{head_at, IsEmptyList}
-use Rattle.block_heap.specs.Works.{Works, IsAllocatorWord, is_head, is_anchor, is_link}
+use Rattle.block_heap.specs.Works.{IsAllocatorWord, is_head, is_anchor, is_link}
 use Rattle.block_heap.proofs.MediumLemmas.{stores_more}
 use Rattle.block_heap.proofs.RunningLemmas.{set_is, running_words}
-use Rattle.block_heap.proofs.LookLemmas.{looks_kept, looks_then, IsNextLook, looked_at_head}
-use Rattle.block_heap.proofs.StableLemmas.{works_of, works_then, works_none}
+use Rattle.block_heap.proofs.LookLemmas.{looks_kept, IsNextLook, looked_at_head}
+use Rattle.block_heap.proofs.StableLemmas.{works_of, works_none}
+use Rattle.block_heap.proofs.SmallLemmas.{serves_then}
 
 -- a cache with these numbers
 pub cache_set : (caches : List Cache) (class first count f n : ℕ) → first ≡ f → count ≡ n
@@ -92,21 +93,8 @@ serves_moved p q run stores capacity look taken looks =
 pub serves_same : (p : Parts) → Serves (held_in p) p p
 serves_same p = record { capacity = refl; works = works_none p.capacity (held_in p) p.words; knows = refl; taken = omega arith; looks = looks_kept p p refl }
 
-pub serves_then : (p u q : Parts) → held_in u ≡ held_in p → Serves (held_in p) p u → Serves (held_in u) u q → Serves (held_in p) p q
-serves_then p u q held a b =
-    let first = a.knows in
-    let second = b.knows in
-    let less = a.taken in
-    let more = b.taken in
-    record {
-      capacity = b.capacity ∙ a.capacity;
-      works = works_then p.capacity (held_in p) p.words u.words q.words a.works
-          (subst (λ c. Works c (held_in p) u.words q.words) a.capacity
-          (subst (λ (h : List Block). Works u.capacity h u.words q.words) held b.works));
-      knows = omega arith;
-      taken = omega arith;
-      looks = looks_then p u q a.works.stores.drawn b.works.stores.drawn a.taken b.taken a.looks b.looks;
-    }
+pub serves_all : (p u q : Parts) → held_in u ≡ held_in p → Serves (held_in p) p u → Serves (held_in u) u q → Serves (held_in p) p q
+serves_all p u q held a b = serves_then p u q (held_in p) a (subst (λ (h : List Block). Serves h u q) held b)
 
 -- what is to be drained where nothing changes, and over two rows of steps
 pub drains_none : (capacity class : ℕ) (held : List Block) (image : Image) → DrainsSame capacity class held image image
@@ -297,19 +285,16 @@ module _ (p : Parts) (class list : ℕ) (popped : Popped) (w : View) (look : Loo
   abbrev pub emptied : Parts
   emptied = record p { words = w; head_looks = set p.head_looks list look }
 
-  moved : StoresOnly (IsMoved p.capacity) p.words w
-  moved = pop_moved p list popped w run below pop stores
-
   same_words : w.volatile ≡ p.words.volatile
   same_words = (popped_none p list popped w run below pop stores none).1
 
   pub emptied_running : IsRunning emptied
   emptied_running = running_looks (record p { words = w }) (set p.head_looks list look) (length-set p.head_looks list look ∙ run.looks_long)
-      (running_words p w (IsMoved p.capacity) run pop.goes.running same_words moved (λ d less m. moved_info p.capacity d (info_word d) m refl)
+      (running_words p w (IsMoved p.capacity) run pop.goes.running same_words (pop_moved p list popped w run below pop stores) (λ d less m. moved_info p.capacity d (info_word d) m refl)
       (λ m. moved_used p.capacity used_word m refl) pop.goes.below)
 
   pub emptied_serves : IsNextLook p look → Serves (held_in p) p emptied
-  emptied_serves next = serves_moved p emptied run moved refl refl refl
+  emptied_serves next = serves_moved p emptied run (pop_moved p list popped w run below pop stores) refl refl refl
       (looked_at_head p emptied list look (let long = run.looks_long in omega arith) next pop.goes.drew (omega arith) refl refl)
 
   pub emptied_fills : Fills class p emptied

@@ -20,7 +20,7 @@ use Rattle.block_heap.specs.SeqState.{SeqState}
 module _ (bytes : ℕ) (old : Image) (kinds : ℕ → ℕ) (links : Links) (words : List ℕ) (held : List Block) (budget : ℕ) (s : SeqState)
     (is : IsReopened bytes old kinds links words held budget s) where
   -- loads see the words that it was opened with
-  image_is : image_of s.parts ≡ slice_index words
+  pub image_is : image_of s.parts ≡ slice_index words
   image_is = ap (λ (v : View). λ word. volatile_at v word) is.opened.opens.words_are
 
   capacity_is : s.parts.capacity ≡ capacity_of old

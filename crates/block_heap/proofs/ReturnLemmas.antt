@@ -14,7 +14,8 @@ use Rattle.heap_shape.specs.Shape.{Shape, Place, in_list, is_full, in_large, is_
 use Rattle.heap_shape.specs.Standing.{first_of, IsFirstOf, HoldsAt, HasOneOwner, a_free, a_held, IsAs}
 use Rattle.heap_shape.specs.Whole.{IsShape}
 use Rattle.heap_shape.specs.Effects.{IsInSuperblock}
-use Rattle.heap_shape.proofs.BasicLemmas.{with_at_same, with_at_other, first_inside, inside_one, in_class_list, cached_of_class, times_of}
+use Rattle.heap_shape.proofs.BasicLemmas.{with_at_same, with_at_other, first_inside, inside_one, in_class_list, cached_of_class}
+use Rattle.heap_model.proofs.ListLemmas.{times_of, walk_behind}
 use Rattle.line_memory.specs.View.{View, volatile_at}
 use Rattle.anchor_word.specs.declared.anchor.Anchor.{Anchor}
 use Rattle.anchor_word.specs.declared.anchor.State.TheVariants.{Full}
@@ -28,16 +29,12 @@ use Rattle.block_heap.specs.Medium.{StoresOnly}
 use Rattle.block_heap.specs.Parts.{Parts, image_of, held_in, cache_at}
 use Rattle.block_heap.specs.Returns.{CachesAlong, CachesAllOf, Flushes, IsLongest, GivesTo}
 use Rattle.block_heap.specs.Running.{IsRunning}
-use Rattle.block_heap.proofs.FlushLemmas.{give_low, split, rest_long, none_of_zero, front_fits, gave_listed, gave_shape, gave_fixed, listed_fixed, all_shape, some_shape}
+use Rattle.block_heap.proofs.FlushLemmas.{give_low, split, rest_long, front_fits, gave_listed, gave_shape, gave_fixed, listed_fixed, all_shape, some_shape}
+use Rattle.std.proofs.lemmas.List.{nil_from_length}
 use Rattle.block_heap.proofs.OrderLemmas.{in_list_along, in_list_has, list_kept, list_same}
 use Rattle.block_heap.proofs.SmallLemmas.{changed}
 
--- what is behind the front of a walk, and where a walk begins
-pub walk_behind : (next : ℕ → ℕ) (from : ℕ) (before : List ℕ) (last : ℕ) (rest : List ℕ) → Walks next from ((before ++ last ∷ []) ++ rest)
-    → Walks next (next last) rest
-walk_behind next from [] last rest walks = walks.1
-walk_behind next from (b ∷ before) last rest walks = walk_behind next (next b) before last rest walks.1
-
+-- where a walk begins
 pub walk_begin : (next : ℕ → ℕ) (from : ℕ) (words : List ℕ) → Walks next from words → 1 ≤ length words → Contains words from
 walk_begin next from [] walks some = absurd (omega arith)
 walk_begin next from (w ∷ ws) walks some = subst (λ x. Contains (w ∷ ws) x) (sym walks.0) (in_head w ws)
@@ -174,40 +171,38 @@ module _ (p : Parts) (class : ℕ) (is : IsClass class) (run : IsRunning p) (fro
     infos_kept : (d : ℕ) → d < p.capacity → volatile_at x (info_word d) ≡ image_of p (info_word d)
     infos_kept = (listed_fixed p class is run front is_front w anchor given stores full list x pushed push_stores list_below).infos
 
-    listed_all : front.batch.count ≡ blocks_of class → list ≡ 0 → GivesTo class front p (parts_with x)
-    listed_all all same = record {
+    listed_to : ((front.batch.count ≡ blocks_of class) × (list ≡ 0)) ⊎ ((front.batch.count ≢ blocks_of class) × (list ≡ class)) → GivesTo class front p (parts_with x)
+    listed_to (inl all) = record {
       free = kept_in 0 (omega arith);
       listed = kept_in class below;
-      all = λ _. subst (λ k. IsInList (parts_with x) k front.d) same here;
-      some = λ some. absurd (some all);
+      all = λ _. subst (λ k. IsInList (parts_with x) k front.d) all.1 here;
+      some = λ some. absurd (some all.0);
       only = λ d there. elim (free_only d there) as (λ _. IsInList p 0 d ⊎ ((d ≡ front.d) × (front.batch.count ≡ blocks_of class)))
-          [ inl before ↦ inl before | inr now ↦ inr (now.0, all) ];
-      heads = heads_kept (inl same);
+          [ inl before ↦ inl before | inr now ↦ inr (now.0, all.0) ];
+      heads = heads_kept (inl all.1);
       infos = infos_kept;
     }
-
-    listed_some : front.batch.count ≢ blocks_of class → list ≡ class → GivesTo class front p (parts_with x)
-    listed_some some same = record {
+    listed_to (inr some) = record {
       free = kept_in 0 (omega arith);
       listed = kept_in class below;
-      all = λ all. absurd (some all);
-      some = λ _. subst (λ k. IsInList (parts_with x) k front.d) same here;
+      all = λ all. absurd (some.0 all);
+      some = λ _. subst (λ k. IsInList (parts_with x) k front.d) some.1 here;
       only = λ d there. elim (free_only d there) as (λ _. IsInList p 0 d ⊎ ((d ≡ front.d) × (front.batch.count ≡ blocks_of class)))
-          [ inl before ↦ inl before | inr now ↦ absurd (let from = is.some in let zero = now.1 in omega arith) ];
-      heads = heads_kept (inr same);
+          [ inl before ↦ inl before | inr now ↦ absurd (let from = is.some in let same = some.1 in let zero = now.1 in omega arith) ];
+      heads = heads_kept (inr some.1);
       infos = infos_kept;
     }
 
   module _ (full : anchor.state ≡ Full) (list : ℕ) (x : View) (pushed : IsPushed list front.d w x) (push_stores : StoresOnly (IsPushWord list front.d) w x) where
     pub all_to : front.batch.count ≡ blocks_of class → list ≡ 0 → GivesTo class front p (parts_with x)
-    all_to all same = listed_all full list x pushed push_stores (omega arith) _
+    all_to all same = listed_to full list x pushed push_stores (omega arith) _
         (all_shape p class is run front is_front w anchor given stores full list x pushed push_stores all same)
-        (λ l. ap (λ k. with_at run.shape.listed k (front.d ∷ run.shape.listed k) l) (sym same)) all same
+        (λ l. ap (λ k. with_at run.shape.listed k (front.d ∷ run.shape.listed k) l) (sym same)) (inl (all, same))
 
     pub some_to : front.batch.count ≢ blocks_of class → list ≡ class → GivesTo class front p (parts_with x)
-    some_to some same = listed_some full list x pushed push_stores (let under = below in omega arith) _
+    some_to some same = listed_to full list x pushed push_stores (let under = below in omega arith) _
         (some_shape p class is run front is_front w anchor given stores full list x pushed push_stores some same)
-        (λ l. ap (λ k. with_at run.shape.listed k (front.d ∷ run.shape.listed k) l) (sym same)) some same
+        (λ l. ap (λ k. with_at run.shape.listed k (front.d ∷ run.shape.listed k) l) (sym same)) (inr (some, same))
 
 -- the cache is the same where loads see the same
 pub only_same : (class d : ℕ) (p q : Parts) → q.capacity ≡ p.capacity → q.words.volatile ≡ p.words.volatile → cache_at q.caches class ≡ cache_at p.caches class
@@ -285,7 +280,7 @@ module _ (p : Parts) (class : ℕ) (is : IsClass class) (run : IsRunning p) (fro
     full = let left = is_front.rest in let few = most in omega arith
 
     none : rest ≡ []
-    none = none_of_zero rest (let long = rest_long p class is run front is_front in let left = is_front.rest in let few = most in omega arith)
+    none = nil_from_length rest (let long = rest_long p class is run front is_front in let left = is_front.rest in let few = most in omega arith)
 
     only : run.shape.cached class ≡ whole
     only = cached_is ∙ ap (λ ws. whole ++ ws) none ∙ append-nil whole
@@ -312,24 +307,6 @@ module _ (class : ℕ) (p q r t : Parts) (is : IsClass class) (most : (cache_at 
   loaded : (list d : ℕ) → IsInList q list d → IsInList r list d
   loaded list d there = list_same q r list d capacity volatile there
 
-  shorter : (cache_at t.caches class).count < (cache_at q.caches class).count
-  shorter =
-      let now : (cache_at t.caches class).count ≡ front.rest.count = ap (λ (x : Cache). x.count) back in
-      let was : (cache_at r.caches class).count ≡ (cache_at q.caches class).count = ap (λ (x : Cache). x.count) cache in
-      let left = is_front.rest in
-      omega arith
-
-  was_all : front.batch.count ≡ blocks_of class → CachesAllOf class front.d p
-  was_all count = elim before.way as (λ _. CachesAllOf class front.d p) [
-    | inl same ↦ only_same class front.d r p (sym (capacity ∙ same.0)) (sym (volatile ∙ same.1)) (sym (cache ∙ same.2))
-        (front_is_all r class is run front is_front count)
-    | inr less ↦ absurd (
-        let was : (cache_at r.caches class).count ≡ (cache_at q.caches class).count = ap (λ (x : Cache). x.count) cache in
-        let left = is_front.rest in
-        let fewer = less.0 in
-        omega arith)
-  ]
-
   now_free : (d : ℕ) → CachesAllOf class d p → IsInList t 0 d
   now_free d all = elim before.way as (λ _. IsInList t 0 d) [
     | inl same ↦
@@ -344,7 +321,16 @@ module _ (class : ℕ) (p q r t : Parts) (is : IsClass class) (most : (cache_at 
     listed = λ d there. to.listed d (loaded class d (before.listed d there));
     only = λ d there. elim (to.only d there) as (λ _. IsInList p 0 d ⊎ CachesAllOf class d p) [
       | inl was ↦ before.only d (list_same r q 0 d (sym capacity) (sym volatile) was)
-      | inr now ↦ inr (subst (λ k. CachesAllOf class k p) (sym now.0) (was_all now.1))
+      | inr now ↦ inr (subst (λ k. CachesAllOf class k p) (sym now.0) (elim before.way as (λ _. CachesAllOf class front.d p) [
+        | inl same ↦ only_same class front.d r p (sym (capacity ∙ same.0)) (sym (volatile ∙ same.1)) (sym (cache ∙ same.2))
+            (front_is_all r class is run front is_front now.1)
+        | inr less ↦ absurd (
+            let was : (cache_at r.caches class).count ≡ (cache_at q.caches class).count = ap (λ (x : Cache). x.count) cache in
+            let left = is_front.rest in
+            let all = now.1 in
+            let fewer = less.0 in
+            omega arith)
+      ]))
     ];
     same_capacity = now_capacity ∙ capacity ∙ before.same_capacity;
     heads = λ c is_c other.
@@ -353,10 +339,13 @@ module _ (class : ℕ) (p q r t : Parts) (is : IsClass class) (most : (cache_at 
         let inside : d < r.capacity = subst (λ n. d < n) (sym (capacity ∙ before.same_capacity)) below in
         to.infos d inside ∙ ap (λ (xs : List ℕ). get_or xs (info_word d) 0) volatile ∙ before.infos d below;
     way = inr (
-      elim before.way as (λ _. (cache_at t.caches class).count < (cache_at p.caches class).count) [
-        | inl same ↦ let count : (cache_at q.caches class).count ≡ (cache_at p.caches class).count = ap (λ (x : Cache). x.count) same.2 in let less = shorter in omega arith
-        | inr fewer ↦ let less = shorter in omega (arith, fewer.0)
-      ],
+      (let now : (cache_at t.caches class).count ≡ front.rest.count = ap (λ (x : Cache). x.count) back in
+          let was : (cache_at r.caches class).count ≡ (cache_at q.caches class).count = ap (λ (x : Cache). x.count) cache in
+          let left = is_front.rest in
+          elim before.way as (λ _. (cache_at t.caches class).count < (cache_at p.caches class).count) [
+            | inl same ↦ let count : (cache_at q.caches class).count ≡ (cache_at p.caches class).count = ap (λ (x : Cache). x.count) same.2 in omega arith
+            | inr fewer ↦ omega (arith, fewer.0)
+          ]),
       now_free,
     );
   }
@@ -376,7 +365,7 @@ module _ (class : ℕ) (p q : Parts) (is : IsClass class) (run : IsRunning p) (n
       by_owner d (a_held none holds) = λ _. let some = times_of word (run.shape.cached class) has in omega arith
 
   none_cached : now.shape.cached class ≡ []
-  none_cached = none_of_zero (now.shape.cached class) (sym (now.caches class is).count ∙ empty)
+  none_cached = nil_from_length (now.shape.cached class) (sym (now.caches class is).count ∙ empty)
 
   pub listed_now : (word d : ℕ) → Contains (run.shape.cached class) word → IsFirstOf p.capacity class d word → IsInList q class d ⊎ IsInList q 0 d
   listed_now word d has first = by_place (now.shape.place d) refl (now.is.places d (subst (λ n. d < n) (sym so_far.same_capacity) below)) where

@@ -5,7 +5,7 @@ use Rattle.heap_model.specs.Words.{head_first, head_pops}
 use Rattle.heap_model.proofs.PartLemmas.{part_taken}
 use Rattle.heap_shape.specs.Whole.{IsShape, layout_at}
 use Rattle.heap_shape.specs.Effects.{IsSet}
-use Rattle.heap_shape.proofs.BasicLemmas.{follows_from}
+use Rattle.heap_model.proofs.ListLemmas.{follows_small}
 use Rattle.line_memory.specs.View.{View, volatile_at, durable_at}
 use Rattle.block_heap.specs.Links.{IsHead}
 use Rattle.block_heap.specs.Medium.{StoresOnly}
@@ -59,7 +59,7 @@ running_words p w to run running same stores infos used below = record {
 -- the head of a list leads to a superblock or to none, and its count has room
 pub is_head : (p : Parts) (list : ℕ) → IsRunning p → list < lists → IsHead p.capacity (head_at p list)
 is_head p list run less = record {
-  first = follows_from _ p.capacity (head_first (head_at p list)) (run.shape.listed list) (run.is.follows list less);
+  first = follows_small _ p.capacity (head_first (head_at p list)) (run.shape.listed list) (run.is.follows list less);
   pops = let few = run.pops list less in let below = run.below in let bounded = run.bounded in omega arith;
 }
 

@@ -31,14 +31,15 @@ use Rattle.block_heap.specs.Returns.{FreesLarge, FreesOne}
 use Rattle.block_heap.specs.Parts.{Parts, image_of, held_in}
 use Rattle.block_heap.specs.Running.{IsRunning, Serves}
 use Rattle.block_heap.specs.Large.{IsDropped}
-use Rattle.block_heap.specs.Works.{IsAllocatorWord, is_head, is_anchor, is_link, Works}
+use Rattle.block_heap.specs.Works.{IsAllocatorWord, is_head, is_anchor, is_link}
 use Rattle.block_heap.proofs.MediumLemmas.{stores_then, stores_more}
 use Rattle.block_heap.proofs.OrderLemmas.{in_list_along, in_list_has, list_kept}
 use Rattle.block_heap.proofs.RunningLemmas.{set_is, settled_kept}
 use Rattle.block_heap.proofs.HeldLemmas.{only_map, mark_block}
-use Rattle.block_heap.proofs.LookLemmas.{looks_kept, looks_then}
-use Rattle.block_heap.proofs.StableLemmas.{works_none, works_of, works_then}
+use Rattle.block_heap.proofs.LookLemmas.{looks_kept}
+use Rattle.block_heap.proofs.StableLemmas.{works_none, works_of}
 use Rattle.block_heap.proofs.PushLemmas.{pushed_is, pushed_pops, words_inside}
+use Rattle.block_heap.proofs.SmallLemmas.{serves_then}
 
 -- parts with other words serve, where each word stored to is an allocator's
 pub serves_words : (held : List Block) (p : Parts) (to : ℕ → Type 0) (w : View) → ((word : ℕ) → to word → IsAllocatorWord p.capacity held word) → (to used_word → ⊥)
@@ -263,16 +264,6 @@ pub record IsFreed (first d end : ℕ) (p q : Parts) : Type 0 where
   pub few : q.words.drawn + 4 * first ≤ p.words.drawn + 4 * d
   pub drew : p.words.drawn + d ≤ q.words.drawn + first
 
--- parts that serve, and serve on
-pub serves_then : (held : List Block) (p q r : Parts) → Serves held p q → Serves held q r → Serves held p r
-serves_then held p q r a b = record {
-  capacity = b.capacity ∙ a.capacity;
-  works = works_then p.capacity held p.words q.words r.words a.works (subst (λ k. Works k held q.words r.words) a.capacity b.works);
-  knows = let x = a.knows in let y = b.knows in omega arith;
-  taken = let x = a.taken in let y = b.taken in omega arith;
-  looks = looks_then p q r a.works.stores.drawn b.works.stores.drawn a.taken b.taken a.looks b.looks;
-}
-
 -- one superblock more is in the free list
 pub freed_more : (first d end : ℕ) (p q r : Parts) → d < end → IsFreed first d end p q → IsRunning r → ((e : ℕ) → e ≢ d → IsDropped q e → IsDropped r e)
     → GivesUse d q r → FreesOne d q r → Goes 4 q.words r.words → r.blocks ≡ q.blocks → Serves (held_in q) q r → r.caches ≡ q.caches → r.taken ≡ q.taken → IsFreed first (d + 1) end p r
@@ -298,7 +289,7 @@ freed_more first d end p q r below freed running others gives frees goes blocks 
   free = λ e there. frees.free e (freed.free e there);
   heads = λ class is. frees.heads class is ∙ freed.heads class is;
   infos = λ e. frees.infos e ∙ freed.infos e;
-  serves = serves_then (held_in p) p q r freed.serves (subst (λ (h : HeldBlocks). Serves (held_of h) q r) freed.blocks serves);
+  serves = serves_then p q r (held_in p) freed.serves (subst (λ (h : HeldBlocks). Serves (held_of h) q r) freed.blocks serves);
   blocks = blocks ∙ freed.blocks;
   caches = caches ∙ freed.caches;
   taken = taken ∙ freed.taken;
@@ -316,7 +307,7 @@ freed_more first d end p q r below freed running others gives frees goes blocks 
 pub freed_serves : (first d end : ℕ) (h : HeldBlocks) (p q r : Parts) → IsFreed first d end (record p { blocks = h }) q → r.blocks ≡ q.blocks → Serves (held_in q) q r
     → Serves (held_in r) p r
 freed_serves first d end h p q r freed blocks serves =
-    let all = serves_then (held_of h) (record p { blocks = h }) q r freed.serves (subst (λ (x : HeldBlocks). Serves (held_of x) q r) freed.blocks serves) in
+    let all = serves_then (record p { blocks = h }) q r (held_of h) freed.serves (subst (λ (x : HeldBlocks). Serves (held_of x) q r) freed.blocks serves) in
     subst (λ (x : HeldBlocks). Serves (held_of x) p r) (sym (blocks ∙ freed.blocks))
     (record { capacity = all.capacity; works = all.works; knows = all.knows; taken = all.taken; looks = record { used = all.looks.used; heads = all.looks.heads } })
 
@@ -349,15 +340,12 @@ module _ (p : Parts) (b : Block) (run : IsRunning p) (holds : Contains (held_in 
   -- its mark is taken back
   module _ (h : HeldBlocks) (takes : TakesFrom (at_mark p.blocks b.first_word) (held_in p) (held_of h)) (words : h.words.items ≡ p.blocks.words.items)
       (start : h.start ≡ p.blocks.start) where
-    takes_block : TakesFrom b (held_in p) (held_of h)
-    takes_block = freed_takes p (record p { blocks = h }) b h holds takes refl
-
     whole_words : superblock_words ≤ b.words
     whole_words = let whole = lies in let some = whole.some in let size = whole.size in omega arith
 
     dropped : IsShape p.capacity (image_of p) (held_of h) run.shape
         × ((d : ℕ) → b.first_word ≤ start_word p.capacity d → start_word p.capacity d < b.first_word + b.words → HasNoHeld p.capacity (held_of h) d)
-    dropped = drop_large p.capacity (image_of p) (held_in p) (held_of h) run.shape b run.is holds whole_words takes_block
+    dropped = drop_large p.capacity (image_of p) (held_in p) (held_of h) run.shape b run.is holds whole_words (freed_takes p (record p { blocks = h }) b h holds takes refl)
 
     drop_running : IsRunning (record p { blocks = h })
     drop_running = record {
@@ -470,7 +458,7 @@ module _ (p : Parts) (b : Block) (run : IsRunning p) (holds : Contains (held_in 
           let size = whole.size in
           let one : first ≡ whole.first = omega arith in
           let count : b.words / 8192 ≡ whole.count = omega arith in
-          elim (use_without p.capacity e (image_of p) (held_in p) (held_of h) b takes_block (before.each e (omega arith))) as (λ _. IsUsed q e) [
+          elim (use_without p.capacity e (image_of p) (held_in p) (held_of h) b (freed_takes p (record p { blocks = h }) b h holds takes refl) (before.each e (omega arith))) as (λ _. IsUsed q e) [
             | inl still ↦ freed.uses e (inr still)
             | inr part ↦ let begins = part.begins in let ends = part.ends in freed.uses e (inl (omega arith, omega arith))
           ]

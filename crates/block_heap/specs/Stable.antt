@@ -1,35 +1,19 @@
 -- Held blocks that are stable: where they lie, and that every image that may be left names them.
-use Rattle.std.proofs.Common.{◌≡◌, ℕ, zero, suc, ◌+◌, ◌<◌, ◌≤◌, ◌⊎◌, inl, inr, List, ◌∷◌, Contains, refl, subst, ◌∙◌, arith}
-use Rattle.std.proofs.lemmas.Bool.{cases_eq}
+use Rattle.std.proofs.Common.{◌≡◌, ℕ, ◌+◌, ◌<◌, ◌≤◌, ◌⊎◌, inl, inr, List, Contains, refl, ◌∙◌, arith}
 use Rattle.heap_model.specs.declared.block.Block.{Block}
 use Rattle.heap_model.specs.Geometry.{roots, largest_capacity, root_word, info_word, used_word, capacity_word, state_word, start_word, largest_capacity_fits}
 use Rattle.heap_model.specs.Image.{Image, words_from}
-use Rattle.heap_model.specs.Blocks.{Layout, layout_of, Begins, of_class, as_large, IsBlock, AreOneOrApart}
+use Rattle.heap_model.specs.Blocks.{Layout, layout_of, AreOneOrApart}
 use Rattle.heap_model.specs.Durability.{IsTransient, is_head as head_lost, is_anchor as anchor_lost, is_link as link_lost}
 use Rattle.heap_model.specs.Recovered.{HasPartIn}
 use Rattle.heap_model.proofs.BlockLemmas.{never_overlap, block_words, block_inside}
-use Rattle.heap_model.proofs.MemberLemmas.{in_none, in_head, in_rest, head_or_rest}
-use Rattle.heap_model.proofs.PlaceLemmas.{same_there}
+use Rattle.heap_model.proofs.PlaceLemmas.{block_more}
 use Rattle.line_memory.specs.View.{View, volatile_at}
 use Rattle.line_memory.specs.Crash.{IsValueOf}
 use Rattle.heap_seat.specs.Words.{IsOwn, in_block, in_root, NamesAll}
 use Rattle.heap_seat.specs.Sound.{IsPlaced}
 use Rattle.block_heap.specs.Works.{IsStable}
-
--- the `count` numbers from a number on: each stands among them, and no other does
-in_numbers : (from count i : ℕ) → from ≤ i → i < from + count → Contains (words_from (λ n. n) from count) i
-in_numbers from zero i low high = absurd (omega arith)
-in_numbers from (suc count) i low high = elim (cases_eq from i) as (λ _. Contains (words_from (λ n. n) from (suc count)) i) [
-  | inl same ↦ subst (λ x. Contains (from ∷ words_from (λ n. n) (from + 1) count) x) same (in_head from (words_from (λ n. n) (from + 1) count))
-  | inr other ↦ in_rest from i (words_from (λ n. n) (from + 1) count) (in_numbers (from + 1) count i (omega arith) (omega arith))
-]
-
-numbers_below : (from count i : ℕ) → Contains (words_from (λ n. n) from count) i → i < from + count
-numbers_below from zero i p = absurd (in_none i p)
-numbers_below from (suc count) i p = elim (head_or_rest from i (words_from (λ n. n) (from + 1) count) p) as (λ _. i < from + suc count) [
-  | inl same ↦ omega arith
-  | inr later ↦ omega (arith, numbers_below (from + 1) count i later)
-]
+use Rattle.heap_model.proofs.ListLemmas.{in_numbers, numbers_below}
 
 -- the numbers of the roots
 pub is_root : (i : ℕ) → i < roots → Contains (words_from (λ n. n) 0 roots) i
@@ -37,32 +21,6 @@ is_root i below = in_numbers 0 roots i (omega arith) (omega arith)
 
 pub root_below : (i : ℕ) → Contains (words_from (λ n. n) 0 roots) i → i < roots
 root_below i p = omega (arith, numbers_below 0 roots i p)
-
--- a block stays one where more superblocks are taken
-begins_more : (l : Layout) (used d w n : ℕ) → l.used ≤ used → Begins l d w n → Begins (record { capacity = l.capacity; used = used; info = l.info }) d w n
-begins_more l used d w n more (of_class c info is) = of_class c info is
-begins_more l used d w n more (as_large k some info end zeros) = as_large k some info (omega arith) zeros
-
-taken_more : (l : Layout) (used : ℕ) (b : Block) → l.used ≤ used → IsBlock l b → IsBlock (record { capacity = l.capacity; used = used; info = l.info }) b
-taken_more l used b more is = record {
-  superblock = is.superblock;
-  index = is.index;
-  words = is.words;
-  count = is.count;
-  is_of = record {
-    taken = let taken = is.is_of.taken in omega arith;
-    begins = begins_more l used is.superblock is.words is.count more is.is_of.begins;
-    below = is.is_of.below;
-    at = is.is_of.at;
-    size = is.is_of.size;
-  };
-}
-
--- and where the infos of its superblocks stay
-pub block_more : (l m : Layout) (b : Block) → m.capacity ≡ l.capacity → l.used ≤ m.used → ((d : ℕ) → HasPartIn l.capacity b d → m.info d ≡ l.info d)
-    → IsBlock l b → IsBlock m b
-block_more l m b capacity more infos is =
-    same_there (record { capacity = l.capacity; used = m.used; info = l.info }) m b capacity refl infos (taken_more l m.used b more is)
 
 module _ (capacity : ℕ) (held : List Block) where
   -- the layout that tells held blocks

@@ -1,11 +1,12 @@
-use Rattle.block_heap.proofs.FixedLemmas.{fixed_same, fixed_then, fixed_opened, long_opened}
+use Rattle.block_heap.proofs.FixedLemmas.{fixed_opened, long_opened}
+use Rattle.block_heap.specs.Laws.{keeps_none_law, keeps_row_law}
 use Rattle.block_heap.proofs.laws.fixed_words_stay.Goals as goal
 
 pub returns-clause-none : goal.returns-clause-none
-returns-clause-none c = fixed_same
+returns-clause-none c = keeps_none_law
 
 pub returns-clause-row : goal.returns-clause-row
-returns-clause-row c = fixed_then
+returns-clause-row c = keeps_row_law
 
 pub returns-clause-opened : goal.returns-clause-opened
 returns-clause-opened c = fixed_opened

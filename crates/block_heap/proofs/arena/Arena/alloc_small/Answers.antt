@@ -1,7 +1,8 @@
 use Rattle.std.proofs.Common.{Bool, subst}
 use Rattle.block_heap.specs.Parts.{parts_of}
 use Rattle.block_heap.specs.Refill.{Refills}
-use Rattle.block_heap.proofs.AllocLemmas.{drains_nothing, still_none, gets_in_class, drains_block, serves_all}
+use Rattle.block_heap.proofs.AllocLemmas.{drains_nothing, still_none, gets_in_class, drains_block}
+use Rattle.block_heap.proofs.RefillLemmas.{serves_all}
 use Rattle.block_heap.proofs.OrderLemmas.{takes_first}
 use Rattle.block_heap.proofs.SpendLemmas.{costs_of}
 use Rattle.block_heap.proofs.arena.Arena.alloc_small.Goals as goal

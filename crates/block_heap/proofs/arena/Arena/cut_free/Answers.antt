@@ -4,7 +4,7 @@ use Rattle.block_heap.specs.Parts.{parts_of}
 use Rattle.block_heap.proofs.RunningLemmas.{is_head}
 use Rattle.block_heap.proofs.RefillLemmas.{head_moved, serves_moved, emptied_fills, emptied, emptied_serves, popped_none}
 use Rattle.block_heap.proofs.SpendLemmas.{spends_none}
-use Rattle.block_heap.proofs.CutStepLemmas.{free_within, free_unmarked, free_serves, free_fills, free_found, free_spends, free_cuts}
+use Rattle.block_heap.proofs.CutStepLemmas.{free_within, unmarked, free_none, free_serves, free_fills, free_found, free_spends, free_cuts}
 use Rattle.block_heap.proofs.LookLemmas.{looks_kept}
 use Rattle.block_heap.proofs.arena.Arena.cut_free.Goals as goal
 
@@ -37,8 +37,9 @@ cut-requires-clause-superblock g c =
 
 pub cut-requires-clause-none : goal.cut-requires-clause-none
 cut-requires-clause-none g c =
-    free_unmarked (parts_of c.args.self.now) c.args.class c.in-Some.d c.in_ok-popped.popped (medium_view c.pop.new.self) c.by.result c.requires.running
-    c.requires.class c.in_ok-popped.ensures.ok c.pop.ensures.others c.in-Some.is
+    unmarked (parts_of c.args.self.now) c.in-Some.d c.requires.running
+    (free_none (parts_of c.args.self.now) c.args.class c.in-Some.d c.in_ok-popped.popped (medium_view c.pop.new.self) c.by.result c.requires.running
+    c.requires.class c.in_ok-popped.ensures.ok c.pop.ensures.others c.in-Some.is)
 
 pub returns-in_err-cut-clause-serves : goal.returns-in_err-cut-clause-serves
 returns-in_err-cut-clause-serves g c =

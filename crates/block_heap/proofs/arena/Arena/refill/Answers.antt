@@ -6,17 +6,17 @@ use Rattle.block_heap.specs.Parts.{parts_of, held_in}
 use Rattle.block_heap.specs.Refill.{FindsPartial, FindsFree, Refills}
 use Rattle.block_heap.specs.Running.{Serves}
 use Rattle.block_heap.specs.Steps.{Fills, Spends}
-use Rattle.block_heap.proofs.RefillLemmas.{serves_then}
 use Rattle.block_heap.proofs.SpendLemmas.{spends_then}
 use Rattle.block_heap.proofs.PartialLemmas.{fills_then, fresh_refills, partial_refills, free_refills, fills_fresh}
 use Rattle.block_heap.specs.Order.{FillsFrom, from_class_list, OrdersPartial, OrdersFree}
 use Rattle.block_heap.proofs.OrderLemmas.{fills_free}
 use Rattle.block_heap.proofs.arena.Arena.refill.Goals.{then-branch-via-then-branch, then-branch-via-else-branch+in_ok-cut_free+then-branch-2}
 use Rattle.block_heap.proofs.arena.Arena.refill.Goals as goal
+use Rattle.block_heap.proofs.RefillLemmas.{serves_all}
 
 pub returns-in_err-cut_free-clause-serves : goal.returns-in_err-cut_free-clause-serves
 returns-in_err-cut_free-clause-serves g c =
-    serves_then (parts_of c.args.self.now) (parts_of c.take_partial.new.self) (parts_of c.cut_free.new.self) c.take_partial.ensures.held
+    serves_all (parts_of c.args.self.now) (parts_of c.take_partial.new.self) (parts_of c.cut_free.new.self) c.take_partial.ensures.held
     c.take_partial.ensures.serves c.cut_free.ensures.serves
 
 pub returns-then-branch-clause-fills : goal.returns-then-branch-clause-fills
@@ -35,7 +35,7 @@ returns-then-branch-clause-serves g c =
     elim c.then-branch.branch as (λ _. Serves (held_in p) p (parts_of c.then-branch.self)) [
       | then-branch-via-then-branch w ↦ subst (λ (a : Arena _). Serves (held_in p) p (parts_of a)) (sym w.self-is) c.take_partial.ensures.serves
       | then-branch-via-else-branch+in_ok-cut_free+then-branch-2 w ↦ subst (λ (a : Arena _). Serves (held_in p) p (parts_of a)) (sym w.self-is)
-          (serves_then p (parts_of c.take_partial.new.self) (parts_of w.cut_free.new.self) c.take_partial.ensures.held c.take_partial.ensures.serves
+          (serves_all p (parts_of c.take_partial.new.self) (parts_of w.cut_free.new.self) c.take_partial.ensures.held c.take_partial.ensures.serves
           w.cut_free.ensures.serves)
     ]
 
@@ -62,9 +62,9 @@ returns-clause-fills g c =
 
 pub returns-clause-serves : goal.returns-clause-serves
 returns-clause-serves g c =
-    serves_then (parts_of c.args.self.now) (parts_of c.cut_free.new.self) (parts_of c.cut_fresh.new.self)
+    serves_all (parts_of c.args.self.now) (parts_of c.cut_free.new.self) (parts_of c.cut_fresh.new.self)
     (c.cut_free.ensures.held ∙ c.take_partial.ensures.held)
-    (serves_then (parts_of c.args.self.now) (parts_of c.take_partial.new.self) (parts_of c.cut_free.new.self) c.take_partial.ensures.held
+    (serves_all (parts_of c.args.self.now) (parts_of c.take_partial.new.self) (parts_of c.cut_free.new.self) c.take_partial.ensures.held
     c.take_partial.ensures.serves c.cut_free.ensures.serves) c.cut_fresh.ensures.serves
 
 pub returns-then-branch-clause-left : goal.returns-then-branch-clause-left

@@ -5,7 +5,7 @@ use Rattle.block_heap.specs.MediumView.{medium_view}
 use Rattle.block_heap.specs.Divide.{IsChained}
 use Rattle.heap_shape.specs.Effects.{IsInSuperblock}
 use Rattle.block_heap.proofs.MediumLemmas.{stores_nothing}
-use Rattle.block_heap.proofs.DivideLemmas.{first_inside, more_stores, chain_more, chain_begins}
+use Rattle.block_heap.proofs.DivideLemmas.{first_inside, chain_more, chain_begins}
 use Rattle.block_heap.proofs.medium.Medium.chain.Goals as goal
 
 pub loop-index-init : goal.loop-index-init
@@ -27,17 +27,17 @@ store-requires-clause-within g c =
 
 pub returns-in_err-store-clause-others : goal.returns-in_err-store-clause-others
 returns-in_err-store-clause-others g c =
-    more_stores c.args.geometry.capacity c.args.class c.args.d c.loop-index.index (medium_view c.args.self.now) (medium_view c.loop-index.self) (medium_view c.store.new.self)
+    (chain_more c.args.geometry.capacity c.args.class c.args.d c.loop-index.index (medium_view c.args.self.now) (medium_view c.loop-index.self) (medium_view c.store.new.self)
     c.block_at-before.result.first_word c.block_at-block.result.first_word c.requires.class c.requires.superblock (omega arith) c.block_at-block.ensures.below
-    c.block_at-before.ensures.at c.block_at-block.ensures.at c.loop-index.invariant.chained c.store.ensures.others
+    c.block_at-before.ensures.at c.block_at-block.ensures.at c.loop-index.invariant.chained c.store.ensures.others).0
 
 pub loop-index-preserved : goal.loop-index-preserved
 loop-index-preserved g c = record {
   ends = c.loop-index.invariant.ends;
   few = c.loop-index.invariant.few;
-  chained = chain_more c.args.geometry.capacity c.args.class c.args.d c.loop-index.index (medium_view c.args.self.now) (medium_view c.loop-index.self) (medium_view c.store.new.self)
+  chained = (chain_more c.args.geometry.capacity c.args.class c.args.d c.loop-index.index (medium_view c.args.self.now) (medium_view c.loop-index.self) (medium_view c.store.new.self)
       c.block_at-before.result.first_word c.block_at-block.result.first_word c.requires.class c.requires.superblock (omega arith) c.block_at-block.ensures.below
-      c.block_at-before.ensures.at c.block_at-block.ensures.at c.loop-index.invariant.chained c.store.ensures.others c.in_ok-store.ensures.ok;
+      c.block_at-before.ensures.at c.block_at-block.ensures.at c.loop-index.invariant.chained c.store.ensures.others).1 c.in_ok-store.ensures.ok;
 }
 
 pub returns-clause-ok : goal.returns-clause-ok

@@ -4,13 +4,12 @@ use Rattle.std.proofs.Math.Nat.{mul-le-mul_left}
 use Rattle.heap_model.specs.Geometry.{largest_capacity_fits}
 use Rattle.heap_model.specs.Sizes.{blocks_of}
 use Rattle.heap_model.proofs.SizeLemmas.{few_blocks}
-use Rattle.block_heap.specs.Laws.{seat_law}
+use Rattle.block_heap.specs.Laws.{seat_law, keeps_none_law, keeps_row_law}
 use Rattle.block_heap.specs.SeqState.{SeqState}
 use Rattle.block_heap.specs.Serving.{Answers, DrainsAs}
 use Rattle.block_heap.proofs.DrainKeepLemmas.{kept_first, kept_pushed, kept_unpushed, kept_last, kept_done, kept_stops}
 use Rattle.block_heap.proofs.DrainStepLemmas.{drains_last}
 use Rattle.block_heap.proofs.DrawnLemmas.{draining_first, draining_more, room_for_one, drawn_few, drawn_halts}
-use Rattle.block_heap.proofs.FixedLemmas.{fixed_same, fixed_then}
 use Rattle.block_heap.proofs.seq_heap.SeqHeap.drain.Goals as goal
 
 pub overflow_mul-most : goal.overflow_mul-most
@@ -32,7 +31,7 @@ overflow_mul-b g c =
 pub loop-offsets-init : goal.loop-offsets-init
 loop-offsets-init g c = (
   draining_first c.args.class _ c.args.self.now c.in_ok-offsets.offsets.items c.in_ok-offsets.ensures.items c.requires c.self.view_is c.self.invariant,
-  fixed_same c.args.self.now,
+  keeps_none_law c.args.self.now,
   kept_first c.args.class c.args.self.now c.in_ok-offsets.offsets.items c.in_ok-offsets.ensures.items,
   c.in_ok-offsets.ensures.capacity,
 )
@@ -42,7 +41,7 @@ loop-offsets-preserved g c = (
   draining_more c.args.class c.size_of.result _ c.args.self.now c.loop-offsets.self c.request.new.self c.loop-offsets.offsets.items c.push.new.self.items
       c.in_ok-b.field-0 c.in-Some.b c.in-Ok.ensures.items c.loop-offsets.invariant.0 c.in-Some.is c.in_ok-b.ensures.ok
       (c.in_ok-b.ensures.drains c.args.class c.requires c.size_of.ensures) c.requires c.size_of.ensures c.in_ok-b.ensures.runs c.request.ensures.counted,
-  fixed_then c.args.self.now c.loop-offsets.self c.request.new.self c.loop-offsets.invariant.1 c.request.ensures.kept,
+  keeps_row_law c.args.self.now c.loop-offsets.self c.request.new.self c.loop-offsets.invariant.1 c.request.ensures.kept,
   kept_pushed c.args.class c.size_of.result c.args.self.now c.loop-offsets.self c.request.new.self c.loop-offsets.offsets.items c.push.new.self.items
       c.in_ok-b.field-0 c.in-Some.b c.in-Ok.ensures.items c.loop-offsets.invariant.2 c.in-Some.is c.in_ok-b.ensures.ok c.request.ensures.words
       c.requires c.size_of.ensures c.in_ok-b.ensures.runs,
@@ -101,7 +100,7 @@ returns-clause-holds g c =
     c.in_ok-b.field-0 c.loop-offsets.invariant.2 c.in_default.is c.in_ok-b.ensures.ok c.request.ensures.words c.in_ok-b.ensures.runs).1
 
 pub returns-in-Err-clause-kept : goal.returns-in-Err-clause-kept
-returns-in-Err-clause-kept g c = fixed_then c.args.self.now c.loop-offsets.self c.request.new.self c.loop-offsets.invariant.1 c.request.ensures.kept
+returns-in-Err-clause-kept g c = keeps_row_law c.args.self.now c.loop-offsets.self c.request.new.self c.loop-offsets.invariant.1 c.request.ensures.kept
 
 pub returns-clause-full : goal.returns-clause-full
 returns-clause-full g c =
