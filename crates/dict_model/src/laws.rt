@@ -6,10 +6,13 @@ ghost use Rattle.dict_model.specs.Shards.{Map, MapOf, BadShard};
 
 /// A shard of an image is one map, or it has one first bad place, and not both.
 pub fn a_shard_is_one_map_or_bad_at_one_place()
-    ensures map { (image : Image) (shard : ℕ) (a b : Map) → MapOf image shard a → MapOf image shard b
+    ensures map { (image : Image) (shard : ℕ) (a b : Map) → MapOf image shard a
+        → MapOf image shard b
         → (key : ℕ) → a key ≡ b key }
-    ensures bad { (image : Image) (shard at other : ℕ) → BadShard image shard at → BadShard image shard other
+    ensures bad { (image : Image) (shard at other : ℕ) → BadShard image shard at
+        → BadShard image shard other
         → at ≡ other }
-    ensures either { (image : Image) (shard at : ℕ) (map : Map) → MapOf image shard map → BadShard image shard at
+    ensures either { (image : Image) (shard at : ℕ) (map : Map) → MapOf image shard map
+        → BadShard image shard at
         → ⊥ }
 {}

@@ -67,7 +67,8 @@ impl Scan<'_> {
     /// Adds what the word at the index leads to, as one of the kind.
     fn follow(&self, at: usize, kind: u32, found: &mut PairSet) -> Result<(), TraceFault>
         requires at { at < length self.now.words.now }
-        requires described { Describes self.now.directory.now (layout_of (slice_index self.now.words.now)) }
+        requires described { Describes self.now.directory.now
+            (layout_of (slice_index self.now.words.now)) }
         requires kind { kind < found.old.kinds }
         requires marked { IsSetOf self.now.words.now found.old }
         ensures kinds { found.new.kinds ≡ found.old.kinds }
@@ -91,13 +92,15 @@ impl Scan<'_> {
     /// Adds what the roots lead to, each as one of the root's kind, to the empty set.
     pub(crate) fn follow_roots(&self, kinds: &[u32], found: &mut PairSet) -> Result<(), TraceFault>
         requires formed { IsImage self.now.words.now }
-        requires described { Describes self.now.directory.now (layout_of (slice_index self.now.words.now)) }
+        requires described { Describes self.now.directory.now
+            (layout_of (slice_index self.now.words.now)) }
         requires roots { length kinds.now ≡ roots }
         requires kinds { All (λ kind. kind < found.old.kinds) kinds.now }
         requires empty { length found.old.pairs.items ≡ 0 }
         requires marked { IsSetOf self.now.words.now found.old }
         ensures kinds { found.new.kinds ≡ found.old.kinds }
-        ensures ok { OnOk result (FollowsAllRoots self.now.words.now kinds.now found.old.kinds found.new) }
+        ensures ok { OnOk result (FollowsAllRoots self.now.words.now kinds.now found.old.kinds
+            found.new) }
         ensures err { IfErr result (TellsOfRoots (slice_index self.now.words.now)) }
     {
         for (root, kind) in kinds.iter().enumerate() {
@@ -116,13 +119,18 @@ impl Scan<'_> {
         found: &mut PairSet,
     ) -> Result<(), TraceFault>
         requires formed { IsImage self.now.words.now }
-        requires described { Describes self.now.directory.now (layout_of (slice_index self.now.words.now)) }
+        requires described { Describes self.now.directory.now
+            (layout_of (slice_index self.now.words.now)) }
         requires kinds { found.old.kinds ≡ F.KINDS }
-        requires reached { Reach (slice_index self.now.words.now) (slice_index kinds.now) (F.links_of filter.now) block kind }
-        requires found { HasFound self.now.words.now kinds.now (F.links_of filter.now) F.KINDS found.old }
+        requires reached { Reach (slice_index self.now.words.now) (slice_index kinds.now)
+            (F.links_of filter.now) block kind }
+        requires found { HasFound self.now.words.now kinds.now (F.links_of filter.now) F.KINDS
+            found.old }
         ensures kinds { found.new.kinds ≡ found.old.kinds }
-        ensures ok { OnOk result (FollowsAllLinks self.now.words.now kinds.now (F.links_of filter.now) F.KINDS block kind found.old found.new) }
-        ensures err { IfErr result (TellsOutside (slice_index self.now.words.now) (slice_index kinds.now) (F.links_of filter.now)) }
+        ensures ok { OnOk result (FollowsAllLinks self.now.words.now kinds.now
+            (F.links_of filter.now) F.KINDS block kind found.old found.new) }
+        ensures err { IfErr result (TellsOutside (slice_index self.now.words.now)
+            (slice_index kinds.now) (F.links_of filter.now)) }
     {
         let first = block.first_word as usize;
         let inside = self.words_of(block);

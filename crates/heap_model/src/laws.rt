@@ -17,16 +17,21 @@ pub fn blocks_never_overlap()
 /// A block begins in its superblock, and all its words lie between the descriptors and the end of
 /// the superblocks that have been taken.
 pub fn a_block_lies_in_the_image()
-    ensures superblock { (l : Layout) (b : Block) (d index words count : ℕ) → IsBlockOf l b d index words count
-        → (start_word l.capacity d ≤ b.first_word) × (b.first_word < start_word l.capacity (d + 1)) }
+    ensures superblock { (l : Layout) (b : Block) (d index words count : ℕ)
+        → IsBlockOf l b d index words count
+        → (start_word l.capacity d ≤ b.first_word)
+        × (b.first_word < start_word l.capacity (d + 1)) }
     ensures image { (l : Layout) (b : Block) → IsBlock l b
-        → (start_word l.capacity 0 ≤ b.first_word) × (b.first_word + b.words ≤ start_word l.capacity l.used) }
+        → (start_word l.capacity 0 ≤ b.first_word)
+        × (b.first_word + b.words ≤ start_word l.capacity l.used) }
 {}
 
 /// A byte offset names one block, and a pointer word, which is never null, leads to one.
 pub fn a_pointer_leads_to_one_block()
-    ensures offset { (image : Image) (offset : ℕ) (a b : Block) → Names image offset a → Names image offset b → a ≡ b }
-    ensures word { (image : Image) (word : ℕ) (a b : Block) → Leads image word a → Leads image word b → a ≡ b }
+    ensures offset { (image : Image) (offset : ℕ) (a b : Block) → Names image offset a
+        → Names image offset b → a ≡ b }
+    ensures word { (image : Image) (word : ℕ) (a b : Block) → Leads image word a
+        → Leads image word b → a ≡ b }
     ensures not_null { (word offset : ℕ) → IsPointerTo word offset → word ≢ 0 }
 {}
 
@@ -40,20 +45,24 @@ pub fn reach_is_closed()
 /// Nothing else is reached: what is reached is in each closed set.
 pub fn reach_is_least()
     ensures { (image : Image) (kinds : ℕ → ℕ) (links : Links) (has : Block → ℕ → Bool)
-        → IsClosed image kinds links has → (b : Block) (kind : ℕ) → Reach image kinds links b kind → IsTrue (has b kind) }
+        → IsClosed image kinds links has → (b : Block) (kind : ℕ) → Reach image kinds links b kind
+        → IsTrue (has b kind) }
 {}
 
 /// An image in which a trace finds what it finds in another reaches what that one reaches, and the
 /// same where nothing is outside in that one.
 pub fn reach_is_told_by_what_is_traced()
-    ensures kept { (image other : Image) (kinds : ℕ → ℕ) (links : Links) → TracesAlike image other AnyRoot kinds links
+    ensures kept { (image other : Image) (kinds : ℕ → ℕ) (links : Links)
+        → TracesAlike image other AnyRoot kinds links
         → (b : Block) (kind : ℕ) → Reach image kinds links b kind → Reach other kinds links b kind }
-    ensures same { (image other : Image) (kinds : ℕ → ℕ) (links : Links) → TracesAlike image other AnyRoot kinds links
+    ensures same { (image other : Image) (kinds : ℕ → ℕ) (links : Links)
+        → TracesAlike image other AnyRoot kinds links
         → ((at : ℕ) → IsOutside image kinds links at → ⊥)
         → (b : Block) (kind : ℕ) → Reach image kinds links b kind ↔ Reach other kinds links b kind }
 {}
 
 /// A header is well formed exactly where no cause holds.
 pub fn a_header_is_good_or_has_a_fault()
-    ensures { (bytes : ℕ) (image : Image) → (header_fault bytes image ≡ None) ↔ IsWellFormed bytes image }
+    ensures { (bytes : ℕ) (image : Image) → (header_fault bytes image ≡ None)
+        ↔ IsWellFormed bytes image }
 {}

@@ -26,12 +26,16 @@ fn follow(
     found: &mut Found,
 ) -> Result<(), AllocError>
     requires at { at < length scan.now.words.now }
-    requires described { Describes scan.now.directory.now (layout_of (slice_index scan.now.words.now)) }
+    requires described { Describes scan.now.directory.now
+        (layout_of (slice_index scan.now.words.now)) }
     requires kind { kind < found.old.origins.kinds }
     requires root { IsRoot origin }
-    requires room { HasRoom (layout_of (slice_index scan.now.words.now)) found.old.origins.kinds found.old.origins.labels.items }
+    requires room { HasRoom (layout_of (slice_index scan.now.words.now)) found.old.origins.kinds
+        found.old.origins.labels.items }
     ensures kinds { found.new.origins.kinds ≡ found.old.origins.kinds }
-    ensures ok { OnOk result (Follows (slice_index scan.now.words.now) found.old.origins.kinds at kind origin found.old.list.items found.new.list.items found.old.origins.labels.items found.new.origins.labels.items) }
+    ensures ok { OnOk result (Follows (slice_index scan.now.words.now) found.old.origins.kinds at
+        kind origin found.old.list.items found.new.list.items found.old.origins.labels.items
+        found.new.origins.labels.items) }
 {
     match scan.target_of(scan.words[at]) {
         Target::To(block) => found.add(block, kind, origin),
@@ -48,13 +52,19 @@ pub fn follow_roots<F: Filter>(
     found: &mut Found,
 ) -> Result<(), AllocError>
     requires formed { IsWellFormed (8 * length scan.now.words.now) (slice_index scan.now.words.now) }
-    requires described { Describes scan.now.directory.now (layout_of (slice_index scan.now.words.now)) }
+    requires described { Describes scan.now.directory.now
+        (layout_of (slice_index scan.now.words.now)) }
     requires roots { length kinds.now ≡ roots }
     requires kinds { All (λ kind. kind < found.old.origins.kinds) kinds.now }
-    requires so_far { IsFound (slice_index scan.now.words.now) (slice_index kinds.now) (F.links_of _filter.now) found.old.origins.kinds found.old.list.items found.old.origins.labels.items }
+    requires so_far { IsFound (slice_index scan.now.words.now) (slice_index kinds.now)
+        (F.links_of _filter.now) found.old.origins.kinds found.old.list.items
+        found.old.origins.labels.items }
     ensures kinds { found.new.origins.kinds ≡ found.old.origins.kinds }
-    ensures ok { OnOk result (FollowsRoots (slice_index scan.now.words.now) (slice_index kinds.now) (F.links_of _filter.now) found.old.origins.kinds roots found.new.list.items found.new.origins.labels.items) }
-    ensures long { OnOk result (length found.new.origins.labels.items ≡ length found.old.origins.labels.items) }
+    ensures ok { OnOk result (FollowsRoots (slice_index scan.now.words.now) (slice_index kinds.now)
+        (F.links_of _filter.now) found.old.origins.kinds roots found.new.list.items
+        found.new.origins.labels.items) }
+    ensures long { OnOk result (length found.new.origins.labels.items
+        ≡ length found.old.origins.labels.items) }
 {
     for (root, kind) in kinds.iter().enumerate() {
         follow(
@@ -77,14 +87,20 @@ pub fn follow_links<F: Filter>(
     found: &mut Found,
 ) -> Result<(), AllocError>
     requires formed { IsWellFormed (8 * length scan.now.words.now) (slice_index scan.now.words.now) }
-    requires described { Describes scan.now.directory.now (layout_of (slice_index scan.now.words.now)) }
+    requires described { Describes scan.now.directory.now
+        (layout_of (slice_index scan.now.words.now)) }
     requires kinds { found.old.origins.kinds ≡ F.KINDS }
-    requires tells { Tells (slice_index scan.now.words.now) (slice_index _kinds.now) (F.links_of filter.now) finding.block finding.kind finding.origin }
-    requires so_far { IsFound (slice_index scan.now.words.now) (slice_index _kinds.now) (F.links_of filter.now) F.KINDS found.old.list.items found.old.origins.labels.items }
+    requires tells { Tells (slice_index scan.now.words.now) (slice_index _kinds.now)
+        (F.links_of filter.now) finding.block finding.kind finding.origin }
+    requires so_far { IsFound (slice_index scan.now.words.now) (slice_index _kinds.now)
+        (F.links_of filter.now) F.KINDS found.old.list.items found.old.origins.labels.items }
     ensures kinds { found.new.origins.kinds ≡ found.old.origins.kinds }
-    ensures ok { OnOk result (FollowsLinks (slice_index scan.now.words.now) (slice_index _kinds.now) (F.links_of filter.now) F.KINDS finding.block finding.origin
-        (F.links_of filter.now finding.kind (words_in (slice_index scan.now.words.now) finding.block))
-        found.old.list.items found.new.list.items found.old.origins.labels.items found.new.origins.labels.items) }
+    ensures ok { OnOk result (FollowsLinks (slice_index scan.now.words.now) (slice_index _kinds.now)
+        (F.links_of filter.now) F.KINDS finding.block finding.origin
+        (F.links_of filter.now finding.kind
+        (words_in (slice_index scan.now.words.now) finding.block))
+        found.old.list.items found.new.list.items found.old.origins.labels.items
+        found.new.origins.labels.items) }
 {
     let first = finding.block.first_word as usize;
     let inside = scan.words_of(finding.block);

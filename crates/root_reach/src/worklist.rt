@@ -25,10 +25,12 @@ pub fn trace_origins<F: Filter>(
     filter: &F,
 ) -> Result<Origins, AllocError>
     requires formed { IsWellFormed (8 * length scan.now.words.now) (slice_index scan.now.words.now) }
-    requires described { Describes scan.now.directory.now (layout_of (slice_index scan.now.words.now)) }
+    requires described { Describes scan.now.directory.now
+        (layout_of (slice_index scan.now.words.now)) }
     requires roots { length kinds.now ≡ roots }
     requires kinds { All (λ kind. kind < F.KINDS) kinds.now }
-    ensures ok { IfOk result (AreOrigins (slice_index scan.now.words.now) (slice_index kinds.now) (F.links_of filter.now)) }
+    ensures ok { IfOk result (AreOrigins (slice_index scan.now.words.now) (slice_index kinds.now)
+        (F.links_of filter.now)) }
 {
     let mut found = Found::new(alloc, words_of_taken(scan.words), F::KINDS)?;
     follow_roots(scan, kinds, filter, &mut found)?;
@@ -46,7 +48,8 @@ pub fn trace_origins<F: Filter>(
 // behind.
 fn words_of_taken(words: &[u64]) -> usize
     requires formed { IsWellFormed (8 * length words.now) (slice_index words.now) }
-    ensures { result ≡ start_word (capacity_of (slice_index words.now)) (used_of (slice_index words.now)) }
+    ensures { result ≡ start_word (capacity_of (slice_index words.now))
+        (used_of (slice_index words.now)) }
 {
     let capacity = words[CAPACITY_WORD as usize];
     let used = words[USED_WORD as usize];
