@@ -37,6 +37,13 @@ shard_below key = mod-lt key (omega arith)
 pub seen_value : (v : View) (word a b : ℕ) → v.volatile word ≡ Some a → v.volatile word ≡ Some b → a ≡ b
 seen_value v word a b p q = cc
 
+-- what is so of a node that a walk along a chain came to
+pub record IsFoundNode (u : View) (key : ℕ) (place : Place) (table : Block) (before : List Block) : Type 0 where
+  pub held : Contains u.held place.node
+  pub reached : MayReach u (shard_of key) place.node node_kind
+  pub come : HasCome IsSettled u (shard_of key) key table before
+  pub link : IsSettled u (word_of place.link) (pointer_to place.node)
+
 module _ (u : View) (seat : IsSeat u) (key : ℕ) (place : Place) (next : ℕ) (taken : IsTaken IsSettled u key place next) (map₀ : Map) (gives₀ : Gives u (shard_of key) map₀) where
   node : Block
   node = place.node
@@ -132,3 +139,12 @@ module _ (u : View) (seat : IsSeat u) (key : ℕ) (place : Place) (next : ℕ) (
             | inr fresh ↦ differs (sym fresh.0)
           ]
     ]
+
+pub found_node : (u : View) → IsSeat u → (key : ℕ) (place : Place) (next : ℕ) (taken : IsTaken IsSettled u key place next) (map₀ : Map) → Gives u (shard_of key) map₀
+    → IsFoundNode u key place taken.table taken.before
+found_node u seat key place next taken map₀ gives₀ = record {
+  held = node_held u seat key place next taken map₀ gives₀;
+  reached = node_reached u seat key place next taken map₀ gives₀;
+  come = come_to u seat key place next taken map₀ gives₀;
+  link = link_holds u seat key place next taken map₀ gives₀;
+}

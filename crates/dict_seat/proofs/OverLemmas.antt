@@ -37,7 +37,7 @@ use Rattle.dict_seat.proofs.PutLemmas.{put_left, put_done, old_key, publish}
 use Rattle.dict_seat.proofs.ExactLemmas.{SeesLink, target_sees, come_sees, node_link, sees_grown, sees_after, sees_freed}
 use Rattle.dict_seat.proofs.ExactCallLemmas.{come_kept, one_kind, leads_to_node, next_value, not_root}
 use Rattle.dict_seat.proofs.ChangeLemmas.{change_after, changes_after, freed}
-use Rattle.dict_seat.proofs.DeleteLemmas.{shard_below, node_held, node_reached, come_to, link_kind, link_holds, node_word_own, key_in_node, outside}
+use Rattle.dict_seat.proofs.DeleteLemmas.{shard_below, IsFoundNode, found_node, link_kind, node_word_own, key_in_node, outside}
 use Rattle.dict_seat.proofs.UnreachedLemmas.{replaced}
 
 -- what was taken stays where words settle and blocks come; its table, link and node were there before
@@ -84,52 +84,43 @@ module _ (v t u w : View) (seat_t : IsSeat t) (seat : IsSeat u) (key next x : �
   gives_u : Gives u (shard_of key) shard.map
   gives_u = gives_grown v u grown_all (shard_of key) shard.map shard.gives
 
-  before_come : HasCome IsSettled u (shard_of key) key taken.table taken.before
-  before_come = come_to u seat key place next taken shard.map gives_u
-
-  old_held : Contains u.held place.node
-  old_held = node_held u seat key place next taken shard.map gives_u
-
-  old_reached : MayReach u (shard_of key) place.node node_kind
-  old_reached = node_reached u seat key place next taken shard.map gives_u
+  found : IsFoundNode u key place taken.table taken.before
+  found = found_node u seat key place next taken shard.map gives_u
 
   next_leads : (next ≡ 0) ⊎ ((f : Block) × LeadsTo (Contains u.held) next f × MayReach u (shard_of key) f node_kind)
-  next_leads = followed_leads u seat (shard_of key) (shard_below key) place.node.first_word next (own_link_followed u seat (shard_of key) (shard_below key) place.node old_held old_reached) taken.next_is only_u
-
-  holds : IsSettled u (word_of place.link) (pointer_to place.node)
-  holds = link_holds u seat key place next taken shard.map gives_u
+  next_leads = followed_leads u seat (shard_of key) (shard_below key) place.node.first_word next (own_link_followed u seat (shard_of key) (shard_below key) place.node found.held found.reached) taken.next_is only_u
 
   first_word_own : IsOwn u.held u.roots place.node.first_word
-  first_word_own = first_own u place.node seat old_held
+  first_word_own = first_own u place.node seat found.held
 
   key_word_own : IsOwn u.held u.roots (place.node.first_word + 1)
   key_word_own = node_word_own u seat key place next taken shard.map gives_u (place.node.first_word + 1) (key_in_node u seat key place next taken shard.map gives_u)
 
   new_map : (map : Map) → Gives u (shard_of key) map → (image : Image) → MixesOwn w image → image (word_of place.link) ≡ x → IsMapIn w image (shard_of key) (with_key map key value)
   new_map = old_key t u seat grown_u only_t key next value n makes.held makes.new makes.room short small makes.written next_leads
-      w only_u taken.table taken.before (place.node ∷ []) taken.come before_come (word_of place.link) x (pointer_to place.node) taken.at_is holds may points own_t table_t taken.next_is first_word_own
+      w only_u taken.table taken.before (place.node ∷ []) taken.come found.come (word_of place.link) x (pointer_to place.node) taken.at_is found.link may points own_t table_t taken.next_is first_word_own
       place.node refl taken.key_is key_word_own
 
   left_here : MayChange (shard_of key) (λ map. with_key map key value) u w
   left_here = put_left t u seat grown_u only_t key next value n makes.held makes.new makes.room short small makes.written next_leads
-      w only_u taken.table taken.before (place.node ∷ []) taken.come before_come (word_of place.link) x (pointer_to place.node) taken.at_is holds may points own_t table_t taken.next_is first_word_own new_map
+      w only_u taken.table taken.before (place.node ∷ []) taken.come found.come (word_of place.link) x (pointer_to place.node) taken.at_is found.link may points own_t table_t taken.next_is first_word_own new_map
 
   pub over_left : MayChange (shard_of key) (λ map. with_key map key value) v w
   over_left = change_after (shard_of key) (λ map. with_key map key value) v u w grown_all seat shard.only left_here
 
   pub old_still : Contains w.held place.node
-  old_still = stays_held u w may.held place.node old_held
+  old_still = stays_held u w may.held place.node found.held
 
   module _ (seat_w : IsSeat w) (settled : IsSettled w (word_of place.link) x) where
     done_here : Changes (shard_of key) (λ map. with_key map key value) u w
     done_here = put_done t u seat grown_u only_t key next value n makes.held makes.new makes.room short small makes.written next_leads
-        w only_u taken.table taken.before (place.node ∷ []) taken.come before_come (word_of place.link) x (pointer_to place.node) taken.at_is holds may points own_t table_t taken.next_is first_word_own new_map settled
+        w only_u taken.table taken.before (place.node ∷ []) taken.come found.come (word_of place.link) x (pointer_to place.node) taken.at_is found.link may points own_t table_t taken.next_is first_word_own new_map settled
 
     kept : (word y : ℕ) → IsOwn u.held u.roots word → word ≢ word_of place.link → IsSettled u word y → IsSettled w word y
     kept word y own differs was = settled_stays u w word y (may.others word own differs) was
 
     path : IsPath (but taken.table (LeadsTo (Contains u.held))) (now_image u) (shard_of key) (bucket_of key) (taken.table.first_word + bucket_of key) taken.before
-    path = begins_chain u seat key (shard_below key) taken.table taken.before before_come shard.map gives_u
+    path = begins_chain u seat key (shard_below key) taken.table taken.before found.come shard.map gives_u
 
     come_w : HasCome IsSettled w (shard_of key) key taken.table (taken.before ++ (n ∷ []))
     come_w = record {
@@ -138,7 +129,7 @@ module _ (v t u w : View) (seat_t : IsSeat t) (seat : IsSeat u) (key next x : �
       held_table = subst (λ (bs : List Block). Contains bs taken.table) (sym may.held) taken.come.held_table;
       size = taken.come.size;
       root = kept (root_word (shard_of key)) (pointer_to taken.table) (in_root (shard_of key) (root_word (shard_of key)) taken.come.owned refl)
-          (λ e. link_behind_roots u key taken.table taken.before (shard_of key) seat taken.come.owned before_come (e ∙ taken.at_is)) taken.come.root;
+          (λ e. link_behind_roots u key taken.table taken.before (shard_of key) seat taken.come.owned found.come (e ∙ taken.at_is)) taken.come.root;
       trail = trail_more (IsSettled w) w.held (taken.table.first_word + bucket_of key) taken.before n
           (trail_kept u w (word_of place.link) x seat may taken.table (now_image u) (shard_of key) (bucket_of key) (taken.table.first_word + bucket_of key) taken.before taken.at_is
           (λ c h e.
@@ -146,7 +137,7 @@ module _ (v t u w : View) (seat_t : IsSeat t) (seat : IsSeat u) (key next x : �
           c_is.1 (one_holder (Contains u.held) (are_placed u seat) c taken.table (taken.table.first_word + bucket_of key) c_is.0.0 taken.come.held_table
           (subst (IsIn c) (sym e) (first_in (Contains u.held) (are_placed u seat) c c_is.0.0))
           (record { from = omega arith; until = let below = bucket_below key in let size = taken.come.size in omega arith })))
-          path (bucket_own u taken.table (bucket_of key) taken.come.held_table taken.come.size (bucket_below key)) before_come.trail)
+          path (bucket_own u taken.table (bucket_of key) taken.come.held_table taken.come.size (bucket_below key)) found.come.trail)
           (subst (λ (bs : List Block). Contains bs n) (sym may.held) makes.held) (subst (IsSettled w (link_behind (taken.table.first_word + bucket_of key) taken.before)) points (subst (λ q. IsSettled w q x) taken.at_is settled));
     }
 
@@ -172,9 +163,9 @@ module _ (v t u w : View) (seat_t : IsSeat t) (seat : IsSeat u) (key next x : �
       | inr differs ↦
           let at = link_kind u seat key place next taken shard.map gives_u in
           let may_publish = publish t u seat grown_u only_t key next value n makes.held makes.new makes.room short small makes.written next_leads
-          w only_u taken.table taken.before (place.node ∷ []) taken.come before_come (word_of place.link) x (pointer_to place.node) taken.at_is holds may points own_t table_t taken.next_is first_word_own in
+          w only_u taken.table taken.before (place.node ∷ []) taken.come found.come (word_of place.link) x (pointer_to place.node) taken.at_is found.link may points own_t table_t taken.next_is first_word_own in
           elim (reached_after u w (shard_of key) (word_of place.link) x node_kind seat (shard_below key) may only_u at may_publish root place.node kind reached) as (λ _. ⊥) [
-            | inl before ↦ only_u.alone (shard_of key) root place.node node_kind kind (shard_below key) differs old_reached before
+            | inl before ↦ only_u.alone (shard_of key) root place.node node_kind kind (shard_below key) differs found.reached before
             | inr fresh ↦ differs (sym fresh.0)
           ]
     ]
@@ -182,7 +173,7 @@ module _ (v t u w : View) (seat_t : IsSeat t) (seat : IsSeat u) (key next x : �
     pub over_freed : (y : View) → MayFree place.node w y → Changes (shard_of key) (λ map. with_key map key value) v y × MayChange (shard_of key) (λ map. with_key map key value) v y
     over_freed y freeing =
         let both = freed (shard_of key) (λ map. with_key map key value) u w y place.node node_kind (shard_below key) seat_w come_w.owned old_still done_here left_here.only left_here.table left_here.others
-        old_reached unreached freeing in
+        found.reached unreached freeing in
         (changes_after (shard_of key) (λ map. with_key map key value) v u y grown_all both.0, change_after (shard_of key) (λ map. with_key map key value) v u y grown_all seat shard.only both.1)
 
     -- all that is held is reached still, the new node in the old one's place
@@ -191,7 +182,7 @@ module _ (v t u w : View) (seat_t : IsSeat t) (seat : IsSeat u) (key next x : �
       n_reached : Reaches w (shard_of key) n node_kind
       n_reached = target_sees w (shard_of key) (word_of place.link) x n
           (subst (λ q. SeesLink w (shard_of key) q) (sym taken.at_is)
-          (come_sees w key taken.table taken.before seat_w (come_kept u w key (word_of place.link) x taken.table taken.before shard.map seat gives_u before_come taken.at_is may)))
+          (come_sees w key taken.table taken.before seat_w (come_kept u w key (word_of place.link) x taken.table taken.before shard.map seat gives_u found.come taken.at_is may)))
           settled.seen (subst (λ q. LeadsTo (Contains w.held) q n) (sym points) (leads_held w n seat_w (subst (λ (bs : List Block). Contains bs n) (sym may.held) makes.held)))
 
       n_next : w.volatile n.first_word ≡ Some next
@@ -205,8 +196,8 @@ module _ (v t u w : View) (seat_t : IsSeat t) (seat : IsSeat u) (key next x : �
       past : (root : ℕ) (c : Block) (k : ℕ) → Reaches u root c k → Reaches w root c k ⊎ (c ≡ place.node)
       past = sees_after u w seat (shard_of key) (word_of place.link) x (pointer_to place.node) (shard_below key) may only_u (link_kind u seat key place next taken shard.map gives_u)
           (publish t u seat grown_u only_t key next value n makes.held makes.new makes.room short small makes.written next_leads
-          w only_u taken.table taken.before (place.node ∷ []) taken.come before_come (word_of place.link) x (pointer_to place.node) taken.at_is holds may points own_t table_t taken.next_is first_word_own)
-          holds (not_root u w seat seat_w key place next taken shard.map gives_u only_u) (λ d. d ≡ place.node)
+          w only_u taken.table taken.before (place.node ∷ []) taken.come found.come (word_of place.link) x (pointer_to place.node) taken.at_is found.link may points own_t table_t taken.next_is first_word_own)
+          found.link (not_root u w seat seat_w key place next taken shard.map gives_u only_u) (λ d. d ≡ place.node)
           (λ d leads. inl (leads_to_node u w seat seat_w key place next taken shard.map gives_u only_u d leads))
           (λ a d read same seen leads.
           inr (target_sees w (shard_of key) n.first_word next d (node_link w (shard_of key) n seat_w n_reached) n_next

@@ -14,7 +14,6 @@ use Rattle.heap_seat.specs.Calls.{SameRefusals}
 use Rattle.heap_seat.proofs.RowLemmas.{runs_then, stops_then, same_refusals_then}
 use Rattle.dict_model.specs.Nodes.{shard_of, table_bytes}
 use Rattle.dict_model.specs.Shards.{Map}
-use Rattle.dict_seat.specs.Maps.{KeepsOthers}
 use Rattle.dict_seat.specs.Quiet.{Grown}
 use Rattle.dict_seat.specs.Changes.{MayChange, Changes}
 use Rattle.dict_seat.specs.Tables.{MakesTable}
