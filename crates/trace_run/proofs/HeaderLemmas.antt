@@ -4,7 +4,7 @@ use Rattle.heap_model.specs.declared.block.Block.{Block}
 use Rattle.heap_model.specs.Geometry.{clean, dirty, magic_word, version_word, capacity_word, state_word, used_word, IsReserved, in_header, in_descriptor, IsFixed}
 use Rattle.heap_model.specs.Header.{IsWellFormed, capacity_of}
 use Rattle.heap_model.specs.Durability.{IsTransient, is_head, is_anchor, is_link, IsCrashImage, IsClosedImage}
-use Rattle.heap_model.proofs.HeaderLemmas.{no_fault}
+use Rattle.heap_model.proofs.HeaderLemmas.{no_fault, header_lasts}
 use Rattle.line_memory.specs.View.{volatile_at, durable_at}
 use Rattle.block_heap.specs.Closing.{IsOpened, KeepsFixed}
 use Rattle.block_heap.specs.SeqState.{SeqState}
@@ -12,12 +12,7 @@ use Rattle.block_heap.proofs.FixedLemmas.{fixed_opened, long_opened}
 use Rattle.trace_run.specs.Left.{IsWhole}
 use Rattle.trace_run.specs.Runs.{LeavesHeader}
 
--- neither the first words of the header, nor the mark of taken superblocks, nor a word without a meaning is transient
-first_stays : (capacity word : ℕ) → word < 16 → IsTransient capacity word → ⊥
-first_stays capacity _ few (is_head list word below e) = omega arith
-first_stays capacity _ few (is_anchor d word below e) = omega arith
-first_stays capacity _ few (is_link d word below e) = omega arith
-
+-- no word without a meaning is transient
 reserved_stays : (capacity word : ℕ) → IsReserved capacity word → IsTransient capacity word → ⊥
 reserved_stays capacity _ (in_header word low high used_not lists_not) (is_head list _ below e) = elim lists_not as (λ _. ⊥) [ inl before ↦ omega arith | inr behind ↦ omega arith ]
 reserved_stays capacity _ (in_header word low high used_not lists_not) (is_anchor d _ below e) = omega arith
@@ -36,7 +31,7 @@ module _ (words values left : List ℕ) (formed : IsWellFormed (8 * length words
     (same : (word : ℕ) → (word ≡ state_word → ⊥) → (IsTransient (capacity_of (slice_index words)) word → ⊥) → slice_index left word ≡ slice_index values word)
     (state : (slice_index left state_word ≡ clean) ⊎ (slice_index left state_word ≡ dirty)) where
   first : (word : ℕ) → word < 4 → (word ≡ state_word → ⊥) → slice_index left word ≡ slice_index words word
-  first word few other = same word other (first_stays (capacity_of (slice_index words)) word (omega arith)) ∙ fixed word (inl few)
+  first word few other = same word other (header_lasts (capacity_of (slice_index words)) word (omega arith)) ∙ fixed word (inl few)
 
   left_capacity : slice_index left capacity_word ≡ slice_index words capacity_word
   left_capacity = first capacity_word (omega arith) (λ e. omega (arith, e))
@@ -50,7 +45,7 @@ module _ (words values left : List ℕ) (formed : IsWellFormed (8 * length words
     length_is = let is = left_capacity in let whole = formed.length_is in omega arith;
     state = state;
     used = let is = left_capacity in
-        let at = same used_word (λ e. omega (arith, e)) (first_stays (capacity_of (slice_index words)) used_word (omega arith)) in
+        let at = same used_word (λ e. omega (arith, e)) (header_lasts (capacity_of (slice_index words)) used_word (omega arith)) in
         omega arith;
   }
 

@@ -1,5 +1,5 @@
 -- A seat that was opened over a dictionary reaches only held blocks, and has the maps of the image.
-use Rattle.std.proofs.Common.{◌≡◌, ◌≢◌, ℕ, ◌+◌, ◌*◌, ◌^◌, ◌<◌, ◌⊎◌, inl, inr, List, [], ◌∷◌, Option, Some, Contains, refl, subst, sym, ◌∙◌, arith}
+use Rattle.std.proofs.Common.{◌≡◌, ◌≢◌, ℕ, ◌+◌, ◌*◌, ◌^◌, ◌<◌, ◌⊎◌, inl, inr, List, [], ◌∷◌, Option, Contains, refl, subst, sym, ◌∙◌, arith}
 use Rattle.std.proofs.lemmas.Bool.{cases_eq}
 use Rattle.heap_model.specs.declared.block.Block.{Block}
 use Rattle.heap_model.specs.Geometry.{root_word}
@@ -42,13 +42,10 @@ led_or_not word (c ∷ bs) = elim (both (cases_eq word (pointer_tag + 8 * c.firs
     ]
 
 module _ (image : Image) (v : View) (seat : IsSeat v) (opened : IsOpenedOver image v) where
-  value_is : (known : Option ℕ) (x value : ℕ) → known ≡ Some x → MayBe known value → value ≡ x
-  value_is known x value seen may = subst (λ (k : Option ℕ). MayBe k value) seen may
-
   read_is : (word value : ℕ) → IsOwn v.held v.roots word → MayRead v word value → value ≡ image word
   read_is word value own may = elim may as (λ _. value ≡ image word) [
-    | inl seen ↦ value_is (v.volatile word) (image word) value (opened.words word own).seen seen
-    | inr left ↦ value_is (v.durable word) (image word) value (opened.words word own).left left
+    | inl seen ↦ subst (λ (k : Option ℕ). MayBe k value) (opened.words word own).seen seen
+    | inr left ↦ subst (λ (k : Option ℕ). MayBe k value) (opened.words word own).left left
   ]
 
   -- what leads to a held block leads to it in the image

@@ -9,7 +9,7 @@ use Rattle.block_heap.specs.SeqState.{SeqState, seat_of}
 use Rattle.trace_run.specs.Opened.{IsDictionary, IsOpenedOver}
 use Rattle.trace_run.specs.Progress.{HasAnswered}
 use Rattle.trace_run.proofs.ProgressLemmas.{begins}
-use Rattle.trace_run.proofs.TakenLemmas.{has_from}
+use Rattle.heap_model.proofs.ListLemmas.{in_numbers}
 
 pub opened_over : (words : List ℕ) (held : List Block) (budget : ℕ) (s : SeqState) → IsOpened words held budget s → IsDictionary (slice_index words) (Contains held)
     → IsOpenedOver (slice_index words) (seat_of s)
@@ -19,7 +19,7 @@ opened_over words held budget s is has = record {
     maps = has.maps;
     exact = λ b. (λ h. (has.exact b).0 ((is.opens.same b).0 h), λ r. (is.opens.same b).1 ((has.exact b).1 r));
   };
-  all_roots = λ root below. has_from 0 roots root (omega arith) (omega arith);
+  all_roots = λ root below. in_numbers 0 roots root (omega arith) (omega arith);
   words = λ word own. record {
     seen = ap (λ (m : View). Some (volatile_at m word)) is.opens.words_are;
     left = ap (λ (m : View). Some (durable_at m word)) is.opens.words_are;

@@ -5,7 +5,7 @@ use Rattle.std.specs.Ordering.{nat_cmp}
 use Rattle.heap_model.specs.declared.block.Block.{Block}
 use Rattle.heap_model.specs.Image.{Image}
 use Rattle.heap_model.specs.Pointers.{Leads, LeadsOutside}
-use Rattle.heap_model.specs.Reach.{AnyRoot, by_start, by_link, IsTraced, is_root, is_linked, IsReached, TracesAlike, words_in}
+use Rattle.heap_model.specs.Reach.{AnyRoot, by_start, by_link, IsTraced, is_root, is_linked, IsReached, words_in}
 use Rattle.heap_model.specs.Recovered.{AreAscending}
 use Rattle.heap_model.proofs.ReachLemmas.{reach_kept, nothing_more}
 use Rattle.dict_model.specs.Links.{shards, dict_links, root_kind}
@@ -14,23 +14,17 @@ use Rattle.dictionary.proofs.SameLemmas.{traced_alike, none_outside}
 use Rattle.trace_run.specs.Opened.{IsDictionary}
 
 module _ (old new : Image) (to : RecoversTo old new) where
-  alike : TracesAlike old new AnyRoot root_kind dict_links
-  alike = traced_alike old new to
-
-  inside : (at : ℕ) → IsTraced old root_kind dict_links at → LeadsOutside old (old at) → ⊥
-  inside = none_outside old new to
-
   pub same_reach : (b : Block) → IsReached old root_kind dict_links b ↔ IsReached new root_kind dict_links b
   same_reach b = (
-    λ r. record { kind = r.kind; reach = reach_kept old new AnyRoot root_kind dict_links alike b r.kind r.reach },
-    λ r. record { kind = r.kind; reach = nothing_more old new AnyRoot root_kind dict_links alike inside b r.kind r.reach },
+    λ r. record { kind = r.kind; reach = reach_kept old new AnyRoot root_kind dict_links (traced_alike old new to) b r.kind r.reach },
+    λ r. record { kind = r.kind; reach = nothing_more old new AnyRoot root_kind dict_links (traced_alike old new to) (none_outside old new to) b r.kind r.reach },
   )
 
   -- a word that a trace of the old image looks at leads outside in the new one no more than there
   not_there : (at : ℕ) → IsTraced old root_kind dict_links at → ((b : Block) → Leads old (old at) b → IsReached old root_kind dict_links b) → LeadsOutside new (new at) → ⊥
   not_there at traced reaches out =
-      let same = alike.same_words at traced in
-      inside at traced (record {
+      let same = (traced_alike old new to).same_words at traced in
+      none_outside old new to at traced (record {
         not_null = λ e. out.not_null (same ∙ e);
         nowhere = λ b leads. out.nowhere b (record {
           pointer = record { tagged = same ∙ leads.pointer.tagged; short = leads.pointer.short };
@@ -45,9 +39,9 @@ module _ (old new : Image) (to : RecoversTo old new) where
         reach = by_start b (root_kind root) (record { root = root; below = below; is_chosen = chosen; kind_is = refl; leads = subst (λ x. Leads old (old x) b) same leads });
       }) out
   outside_at _ (is_linked a from position kind at reached listed same) out =
-      let before = nothing_more old new AnyRoot root_kind dict_links alike inside a from reached in
+      let before = nothing_more old new AnyRoot root_kind dict_links (traced_alike old new to) (none_outside old new to) a from reached in
       let there : Contains (dict_links from (words_in old a)) (position, kind) =
-      subst (λ (ls : List (ℕ × ℕ)). Contains ls (position, kind)) (alike.same_links a from before) listed in
+      subst (λ (ls : List (ℕ × ℕ)). Contains ls (position, kind)) ((traced_alike old new to).same_links a from before) listed in
       not_there at (is_linked a from position kind at before there same) (λ b leads. record {
         kind = kind;
         reach = by_link a b from kind before (record { position = position; listed = there; leads = subst (λ x. Leads old (old x) b) same leads });

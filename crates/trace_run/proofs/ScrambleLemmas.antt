@@ -1,11 +1,12 @@
 -- What is put into words that a crash may leave with any value leaves an image of the crash.
-use Rattle.std.proofs.Common.{◌≡◌, ℕ, ◌<◌, List, refl, subst, sym, ◌∙◌, arith}
+use Rattle.std.proofs.Common.{◌≡◌, ℕ, List, refl, subst, sym, ◌∙◌, arith}
 use Rattle.std.specs.Prelude.{slice_index, slice_set}
 use Rattle.std.proofs.lemmas.List.{get_or-set_same, get_or-set_other, length-set}
 use Rattle.heap_model.specs.Geometry.{dirty, state_word, capacity_word}
 use Rattle.heap_model.specs.Header.{capacity_of}
-use Rattle.heap_model.specs.Durability.{IsTransient, is_head, is_anchor, is_link, IsCrashImage}
+use Rattle.heap_model.specs.Durability.{IsTransient, IsCrashImage}
 use Rattle.trace_run.specs.Left.{IsWhole, ScramblesOnly}
+use Rattle.heap_model.proofs.HeaderLemmas.{header_lasts}
 
 pub scrambled_none : (words : List ℕ) → ScramblesOnly words words
 scrambled_none words = record { long = refl; others = λ word not. refl }
@@ -16,14 +17,8 @@ scrambled_at old now at value is so_far = record {
   others = λ word not. get_or-set_other now at word value 0 (λ same. not (subst (IsTransient (capacity_of (slice_index old))) (sym same) is)) ∙ so_far.others word not;
 }
 
--- a word of the header is none of them
-low_word : (capacity word : ℕ) → word < 16 → IsTransient capacity word → ⊥
-low_word capacity _ low (is_head list word below same) = omega arith
-low_word capacity _ low (is_anchor d word below same) = omega arith
-low_word capacity _ low (is_link d word below same) = omega arith
-
 pub scrambled_capacity : (old new : List ℕ) → ScramblesOnly old new → capacity_of (slice_index new) ≡ capacity_of (slice_index old)
-scrambled_capacity old new scrambles = scrambles.others capacity_word (low_word (capacity_of (slice_index old)) capacity_word (omega arith))
+scrambled_capacity old new scrambles = scrambles.others capacity_word (header_lasts (capacity_of (slice_index old)) capacity_word (omega arith))
 
 pub scrambled_whole : (old new : List ℕ) → IsWhole old → ScramblesOnly old new → IsWhole new
 scrambled_whole old new whole scrambles =

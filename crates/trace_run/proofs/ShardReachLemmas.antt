@@ -1,6 +1,5 @@
 -- What a shard's root reaches in an image is what its map stands on.
-use Rattle.std.proofs.Common.{◌≡◌, ◌≢◌, ℕ, ◌+◌, ◌*◌, ◌<◌, inl, inr, List, [], ◌∷◌, Contains, nat_lt, refl, subst, sym, ◌∙◌, arith, rules}
-use Rattle.std.proofs.lemmas.Bool.{cond-true}
+use Rattle.std.proofs.Common.{◌≡◌, ◌≢◌, ℕ, ◌+◌, ◌*◌, ◌<◌, inl, inr, List, [], ◌∷◌, Contains, refl, subst, sym, ◌∙◌, arith}
 use Rattle.heap_model.specs.declared.block.Block.{Block}
 use Rattle.heap_model.specs.Geometry.{root_word}
 use Rattle.heap_model.specs.Image.{Image}
@@ -16,9 +15,7 @@ use Rattle.dict_model.proofs.ChainLemmas.{in_path}
 use Rattle.dict_model.proofs.MapLemmas.{IsUsed, as_table, as_node}
 use Rattle.dict_seat.proofs.GrownLemmas.{link_inside, link_to}
 use Rattle.dict_model.proofs.LinkLemmas.{link_in_block, link_listed, at_first}
-
-pub shard_kind : (shard : ℕ) → shard < shards → root_kind shard ≡ table_kind
-shard_kind shard small = cond-true (nat_lt shard shards) table_kind 0 (search rules)
+use Rattle.dict_seat.proofs.ComeLemmas.{root_is_table}
 
 pub block_lists : (image : Image) (a : Block) (from position kind : ℕ) → IsLink from a.words position kind → Contains (dict_links from (words_in image a)) (position, kind)
 block_lists image a from position kind is = link_listed from a.words position kind is (words_in image a) (length-words_from image a.first_word a.words)
@@ -56,7 +53,7 @@ module _ (image : Image) (shard : ℕ) (small : shard < shards) where
     node_kind,
     path_reach table k (table.first_word + k) (nodes k) (node_some table k (table.first_word + k) (nodes k) (chains k below).path) (chains k below).path
         (λ c leads.
-        let is : IsLink (root_kind shard) table.words k node_kind = subst (λ kind. IsLink kind table.words k node_kind) (sym (shard_kind shard small)) (in_table table.words k (omega (arith, there.size))) in
+        let is : IsLink (root_kind shard) table.words k node_kind = subst (λ kind. IsLink kind table.words k node_kind) (sym (root_is_table shard small)) (in_table table.words k (omega (arith, there.size))) in
         by_link table c (root_kind shard) node_kind (root_reached table there) (record { position = k; listed = block_lists image table (root_kind shard) k node_kind is; leads = leads })) b h,
   )
 
@@ -97,7 +94,7 @@ module _ (image : Image) (shard : ℕ) (small : shard < shards) where
         (λ b kind start.
         let leads = subst (λ root. Leads image (image (root_word root)) b) start.is_chosen start.leads in
         let kind_is : kind ≡ root_kind shard = subst (λ root. kind ≡ root_kind root) start.is_chosen start.kind_is in
-        the_table (one_block image (image (root_word shard)) b table leads there.leads_there.0) (kind_is ∙ shard_kind shard small))
+        the_table (one_block image (image (root_word shard)) b table leads there.leads_there.0) (kind_is ∙ root_is_table shard small))
         (λ a b from kind reached has link.
         let is = link_in_block image a from link.position kind link.listed in
         link_on a b from kind link.position has is (link_inside from a.words link.position kind is) link.leads)

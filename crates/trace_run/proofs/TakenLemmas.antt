@@ -1,7 +1,7 @@
 -- How many superblocks requests take, and how many tables they make: each shard that is put into gets one at most.
-use Rattle.std.proofs.Common.{◌≡◌, ◌≢◌, ℕ, zero, suc, ◌+◌, ◌*◌, ◌<◌, ◌≤◌, inl, inr, List, [], ◌∷◌, ◌++◌, sum_by, Option, None, Some, Bool, true, false, not, nat_eq, cond, Contains, refl, subst, sym, ap, ◌∙◌, arith}
+use Rattle.std.proofs.Common.{◌≡◌, ◌≢◌, ℕ, ◌+◌, ◌*◌, ◌<◌, ◌≤◌, inl, inr, List, [], ◌∷◌, ◌++◌, sum_by, Option, None, Some, Bool, true, false, not, nat_eq, cond, Contains, refl, subst, sym, ap, ◌∙◌, arith}
 use Rattle.std.specs.Prelude.{count_by, ◌&&◌}
-use Rattle.std.proofs.lemmas.Bool.{cases_eq, cases_lt, and_parts, and_from, and_right, eq-eqb, ne_eqb, or_left, or_right}
+use Rattle.std.proofs.lemmas.Bool.{cases_eq, and_parts, and_from, and_right, eq-eqb, ne_eqb, or_left, or_right}
 use Rattle.std.proofs.lemmas.List.Sums.{sum_by-cons, sum_by-append}
 use Rattle.heap_model.specs.Geometry.{roots, root_word}
 use Rattle.heap_model.specs.Image.{words_from}
@@ -19,23 +19,7 @@ use Rattle.trace_run.specs.Runs.{span_taken}
 use Rattle.trace_run.specs.Progress.{shard_asked, MayAnswer}
 use Rattle.trace_run.specs.Spending.{IsPut, TakesFew, for_node, with_table}
 use Rattle.trace_run.proofs.ProgressLemmas.{small_shard}
-
--- the numbers from one on, so many: each stands among them
-pub has_from : (from count k : ℕ) → from ≤ k → k < from + count → Contains (words_from (λ i. i) from count) k
-has_from from zero k low high = absurd (omega arith)
-has_from from (suc count) k low high = elim (cases_lt from k) as (λ _. Contains (words_from (λ i. i) from (suc count)) k) [
-  | inl above ↦ in_rest from k (words_from (λ i. i) (from + 1) count) (has_from (from + 1) count k (omega arith) (omega arith))
-  | inr here ↦
-      let same : from ≡ k = omega arith in
-      subst (λ x. Contains (words_from (λ i. i) from (suc count)) x) same (in_head from (words_from (λ i. i) (from + 1) count))
-]
-
-from_below : (from count k : ℕ) → Contains (words_from (λ i. i) from count) k → k < from + count
-from_below from zero k p = absurd (in_none k p)
-from_below from (suc count) k p = elim (head_or_rest from k (words_from (λ i. i) (from + 1) count) p) as (λ _. k < from + suc count) [
-  | inl same ↦ omega arith
-  | inr later ↦ omega (arith, from_below (from + 1) count k later)
-]
+use Rattle.heap_model.proofs.ListLemmas.{in_numbers, numbers_below}
 
 -- where what passed still passes, no fewer do, and one more where one passes that did not
 one_count : (a b : Bool) → (a ≡ true → b ≡ true) → cond a 1 0 ≤ cond b 1 0
@@ -151,7 +135,7 @@ taken_next requests rs request reply v u w h all may was takes = by_case takes w
   stays : (shard : ℕ) → Contains (words_from (λ i. i) 0 shards) shard → (put_into requests shard && sees_table u shard) ≡ true → (put_into requests shard && sees_table w shard) ≡ true
   stays shard among both =
       let parts = and_parts (put_into requests shard) (sees_table u shard) both in
-      and_from (put_into requests shard) (sees_table w shard) parts.0 (table_kept u w request shard all (from_below 0 shards shard among) may parts.1)
+      and_from (put_into requests shard) (sees_table w shard) parts.0 (table_kept u w request shard all (numbers_below 0 shards shard among) may parts.1)
 
   sums : sum_by span_taken (rs ++ ((request, reply) ∷ [])) ≡ sum_by span_taken rs + span_taken (request, reply)
   sums = let both = sum_by-append span_taken rs ((request, reply) ∷ []) in let one = sum_by-cons span_taken (request, reply) [] in omega arith
@@ -163,7 +147,7 @@ taken_next requests rs request reply v u w h all may was takes = by_case takes w
   by_case (with_table is null now few) =
       let shard = shard_asked request in
       let more = count_gains (λ shard. put_into requests shard && sees_table u shard) (λ shard. put_into requests shard && sees_table w shard) (words_from (λ i. i) 0 shards) shard
-      (has_from 0 shards shard (omega arith) (let small = small_shard request in omega arith))
+      (in_numbers 0 shards shard (omega arith) (let small = small_shard request in omega arith))
       (and_right (put_into requests shard) (sees_table u shard) (null_unset (u.volatile (root_word shard)) null))
       (and_from (put_into requests shard) (sees_table w shard) (put_into_has requests request is h) (value_set (w.volatile (root_word shard)) now.value now.seen now.some)) stays in
       let all_sums = sums in omega arith
