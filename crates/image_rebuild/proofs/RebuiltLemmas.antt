@@ -23,7 +23,7 @@ pub by_list : (kinds old new : List ℕ) (held : List Block) → ((i : ℕ) → 
 by_list kinds old new held are is = subst (λ (ks : ℕ → ℕ). IsRecoveryOf old ks dict_links new held) (sym (kinds_same kinds are)) is
 
 module _ (old new : List ℕ) (held : List Block) (is : IsRecoveryOf old root_kind dict_links new held) where
-  capacity_new : capacity_of (slice_index new) ≡ capacity_of (slice_index old)
+  pub capacity_new : capacity_of (slice_index new) ≡ capacity_of (slice_index old)
   capacity_new = is.words_are.same capacity_word (in_header capacity_word (inr (inr (inl refl))))
 
   -- what is durable of such words is a whole image
@@ -42,9 +42,6 @@ module _ (old new : List ℕ) (held : List Block) (is : IsRecoveryOf old root_ki
         small = let small = is.formed.small in omega arith;
         long = let long = is.formed.length_is in omega arith;
       }
-
-  pub new_capacity : capacity_of (slice_index new) ≡ capacity_of (slice_index old)
-  new_capacity = capacity_new
 
   -- it was done
   pub rebuilt_done : (budget : ℕ) (now : List ℕ) (v : View) → v.volatile ≡ now → Has new v

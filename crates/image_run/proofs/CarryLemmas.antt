@@ -4,7 +4,7 @@ use Rattle.std.specs.BTreeMap.{BTreeMap, get}
 use Rattle.std.specs.Ordering.{nat_cmp}
 use Rattle.heap_model.specs.Image.{Image}
 use Rattle.heap_model.specs.Geometry.{capacity_word, used_word, IsReserved}
-use Rattle.heap_model.specs.Header.{capacity_of, used_of}
+use Rattle.heap_model.specs.Header.{used_of}
 use Rattle.heap_model.specs.Reach.{AnyRoot, IsTracedFrom, is_root, is_linked, TracesAlike}
 use Rattle.heap_model.specs.Recovery.{in_header, is_reserved}
 use Rattle.heap_model.proofs.ReachLemmas.{reach_kept, more_roots}
@@ -34,9 +34,6 @@ module _ (old new : Image) (to : RecoversTo old new) (maps : List (BTreeMap ℕ 
   keys_listed : (keys : List ℕ) → ListsKeysOf old keys → ListsKeysOf new keys
   keys_listed keys lists = record { all = λ shard map below is. lists.all shard map below (map_kept old new to shard map below is) }
 
-  capacity_stays : capacity_of new ≡ capacity_of old
-  capacity_stays = to.recovered.same capacity_word (in_header capacity_word (inr (inr (inl refl))))
-
   used_stays : used_of new ≡ used_of old
   used_stays = to.recovered.same used_word (in_header used_word (inr (inr (inr refl))))
 
@@ -64,14 +61,14 @@ module _ (old new : Image) (to : RecoversTo old new) (maps : List (BTreeMap ℕ 
     full = record {
       cause = λ before later key value is.
           let more = leaves.full.cause before later key value is in
-          omega (arith, more, capacity_stays, used_stays);
+          omega (arith, more, (to.recovered.same capacity_word (in_header capacity_word (inr (inr (inl refl))))), used_stays);
     };
     maps = record { each = λ shard map below is. leaves.maps.each shard map below (map_of_words shard map below is) };
     header = record {
       well_formed = leaves.header.well_formed;
-      capacity = leaves.header.capacity ∙ capacity_stays;
+      capacity = leaves.header.capacity ∙ (to.recovered.same capacity_word (in_header capacity_word (inr (inr (inl refl)))));
       without_meaning = λ word reserved.
-          leaves.header.without_meaning word (subst (λ n. IsReserved n word) (sym capacity_stays) reserved)
+          leaves.header.without_meaning word (subst (λ n. IsReserved n word) (sym (to.recovered.same capacity_word (in_header capacity_word (inr (inr (inl refl)))))) reserved)
           ∙ to.recovered.same word (is_reserved word reserved);
     };
     others = record {

@@ -8,7 +8,7 @@ use Rattle.line_memory.specs.Plain.{view_of}
 use Rattle.line_memory.specs.ClosedWords.{volatile_words, durable_words}
 use Rattle.dict_model.specs.Links.{dict_links}
 use Rattle.trace_run.specs.Left.{IsWhole}
-use Rattle.image_rebuild.proofs.RebuiltLemmas.{by_list, kinds_same, durable_capacity, durable_whole, new_capacity, rebuilt_done, rebuilt_cut}
+use Rattle.image_rebuild.proofs.RebuiltLemmas.{by_list, kinds_same, durable_capacity, durable_whole, capacity_new, rebuilt_done, rebuilt_cut}
 use Rattle.image_rebuild.proofs.rebuilding.rebuild_words.Goals as goal
 
 pub rebuild-end-requires-clause-recovered : goal.rebuild-end-requires-clause-recovered
@@ -34,7 +34,7 @@ crash_image-requires-clause-whole g c _ _ =
 pub crash_image-requires-clause-layout : goal.crash_image-requires-clause-layout
 crash_image-requires-clause-layout g c _ _ =
     let v = view_of c.rebuild-end.new.memory in
-    c.geometry-geometry.ensures ∙ new_capacity c.args.words.now c.args.heap.now.words c.args.heap.now.held c.requires
+    c.geometry-geometry.ensures ∙ capacity_new c.args.words.now c.args.heap.now.words c.args.heap.now.held c.requires
     ∙ sym (durable_capacity c.args.words.now c.args.heap.now.words c.args.heap.now.held c.requires v c.in-Err.ensures.between)
     ∙ ap (λ (ws : List ℕ). capacity_of (slice_index ws)) (sym c.finish.ensures.durable ∙ sym (ap durable_words c.now.view_is))
 
