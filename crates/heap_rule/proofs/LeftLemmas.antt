@@ -1,15 +1,19 @@
 -- What a step leaves of the seat's view.
-use Rattle.std.proofs.Common.{◌≡◌, ◌≢◌, ◌≤◌, ℕ, Bool, true, false, cond, nat_eq, nat_lt, Option, None, Some, ap, sym, ◌∙◌, eq-eqb, arith}
+use Rattle.std.proofs.Common.{◌≡◌, ◌≢◌, ◌≤◌, ℕ, Bool, true, false, cond, nat_eq, nat_lt, Option, None, Some, set, ap, sym, subst, ◌∙◌, eq-eqb, arith}
+use Rattle.core_model.specs.declared.answer.StepAnswer.TheVariants.{Done, Stopped}
+use Rattle.core_model.specs.declared.event.Event.{Event}
 use Rattle.core_model.specs.declared.event.Event.TheVariants.{Tick, LookUsed, TakeFresh, Pop, Push, TakeAll, Give}
 use Rattle.core_model.specs.declared.event.Shift.{Shift}
 use Rattle.core_model.specs.declared.event.Shift.TheVariants.{Cut, Free}
-use Rattle.core_model.specs.Effects.{after_free, before, drew, given, lost, popped, pushed, seen, seen_word, shifted, stopped, taken_all, taken_fresh}
+use Rattle.core_model.specs.Effects.{after_free, before, drew, given, lost, popped, pushed, seen, seen_word, shifted, stopped, taken_all, taken_fresh, view_after}
+use Rattle.core_model.specs.Guards.{IsAsSeen}
+use Rattle.core_model.specs.Steps.{State, StepsTo, is_done, stops, seat_after, words_after}
 use Rattle.core_model.specs.Memory.{memory_of}
 use Rattle.core_model.specs.View.{View, one_if_some}
 use Rattle.core_model.proofs.PlaceLemmas.{pick, skip, not-eq}
 use Rattle.heap_model.specs.Words.{head_first}
 use Rattle.heap_rule.specs.Parts.{cut_for}
-use Rattle.heap_rule.specs.Plays.{IsEvent}
+use Rattle.heap_rule.specs.Plays.{IsEvent, state_before, state_with}
 use Rattle.heap_rule.specs.Shown.{CanCut, CanFree}
 use Rattle.heap_rule.proofs.ToldLemmas.{parts_alone, stop_told}
 use Rattle.heap_rule.proofs.ShiftLemmas.{cut_info, free_info}
@@ -78,3 +82,19 @@ give_lost d v w found e other = lost_as w (given v d) (record (lost v) { seen_an
 -- a mark that is read is that of a sound state
 pub mark_within : (v w : View) (found : ℕ) → IsEvent LookUsed v found w → found ≤ v.setup.capacity
 mark_within v w found e = let room = e.before.sound.good.shaped.durable.room in let is = e.found_is in omega arith
+
+-- the event that a seat's step is, as the core takes it
+as_taken : (event : Event) (v w : View) (found : ℕ) → (e : IsEvent event v found w) → seat_after (memory_of v.setup.capacity e.before.words) v event ≡ w
+as_taken event v w found e = sym (e.after ∙ ap (view_after (memory_of v.setup.capacity e.before.words) v event) e.found_is)
+
+pub step_done : (event : Event) (v w : View) (found : ℕ) → (e : IsEvent event v found w) → IsAsSeen (memory_of v.setup.capacity e.before.words) v event → w.stopped ≡ None
+    → StepsTo v.setup (state_before e.before) e.before.seat event Done (state_with e.before (words_after v.setup e.before.words v event) w)
+step_done event v w found e seen going = let same = as_taken event v w found e in
+    subst (λ u. StepsTo v.setup (state_before e.before) e.before.seat event Done (state_with e.before (words_after v.setup e.before.words v event) u)) same
+    (is_done v e.before.at (record { may = e.may; as_seen = seen }) (ap (λ (u : View). u.stopped) same ∙ going))
+
+pub step_stops : (event : Event) (v w : View) (found step : ℕ) → (e : IsEvent event v found w) → IsAsSeen (memory_of v.setup.capacity e.before.words) v event → w.stopped ≡ Some step
+    → StepsTo v.setup (state_before e.before) e.before.seat event (Stopped step) (state_with e.before (words_after v.setup e.before.words v event) w)
+step_stops event v w found step e seen stop = let same = as_taken event v w found e in
+    subst (λ u. StepsTo v.setup (state_before e.before) e.before.seat event (Stopped step) (state_with e.before (words_after v.setup e.before.words v event) u)) same
+    (stops v step e.before.at (record { may = e.may; as_seen = seen }) (ap (λ (u : View). u.stopped) same ∙ stop))

@@ -10,6 +10,7 @@ use Rattle.core_model.specs.Guards.{IsOwn}
 use Rattle.core_model.specs.View.{View, known}
 use Rattle.heap_rule.specs.Plays.{IsEvent}
 use Rattle.heap_rule.specs.Seated.{SeatView, KeepsStores}
+use Rattle.heap_rule.specs.Shown.{Shows, ShowsDurable}
 
 -- the words of the word's line are marked, and no other mark has changed
 pub record IsLineMarked (word : ℕ) (v w : SeatView) : Type 0 where
@@ -27,16 +28,27 @@ abbrev pub Settles : View → List ℕ → View → Type 0
 Settles v [] w = w ≡ v
 Settles v (word ∷ words) w = (u : View) × ((found : ℕ) × IsEvent (Settle word) v found u) × Settles u words w
 
--- what a crash leaves of the word is what loads see, as far as the seat has recorded it
-abbrev pub IsSettled : View → ℕ → Type 0
-IsSettled v word = known v.durable (cell_at v.setup.capacity word) ≡ known v.volatile (cell_at v.setup.capacity word)
+-- what loads see of the word and what a crash leaves are both recorded, and the same
+pub record IsDurable (v : View) (word : ℕ) : Type 0 where
+  pub value : ℕ
+  pub volatile : Shows v (cell_at v.setup.capacity word) value
+  pub durable : ShowsDurable v (cell_at v.setup.capacity word) value
 
--- the words that are marked and own are settled, and none is marked any more
+-- of an own word the same is recorded
+pub record KeepsRecords (v w : View) (word : ℕ) : Type 0 where
+  pub volatile : known w.volatile (cell_at v.setup.capacity word) ≡ known v.volatile (cell_at v.setup.capacity word)
+  pub durable : known w.durable (cell_at v.setup.capacity word) ≡ known v.durable (cell_at v.setup.capacity word)
+
+-- the words that are marked and own are settled, and none is marked any more: each of them is durable, with the value that was recorded; of other own words, and of all else, the seat's view stays
 pub record IsFence (v w : SeatView) : Type 0 where
   pub words : List ℕ
   pub settles : Settles v.view words w.view
   pub exactly : (word : ℕ) → (0 < times word words) ↔ (IsMarked v.marks word × Owns v.view word)
-  pub settled : (word : ℕ) → IsMarked v.marks word → Owns v.view word → IsSettled w.view word
+  pub durable : (word : ℕ) → IsMarked v.marks word → Owns v.view word → IsDurable w.view word
+  pub seen : (word value : ℕ) → Owns v.view word → Shows v.view (cell_at v.view.setup.capacity word) value
+      → Shows w.view (cell_at v.view.setup.capacity word) value
+  pub others : (word : ℕ) → Owns v.view word → (IsMarked v.marks word → ⊥) → KeepsRecords v.view w.view word
+  pub rest : w.view ≡ record v.view { volatile = w.view.volatile; durable = w.view.durable }
   pub clear : (word : ℕ) → mark_at w.marks word ≡ false
   pub stores : w.stores ≡ v.stores
 

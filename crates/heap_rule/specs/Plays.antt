@@ -7,7 +7,7 @@ use Rattle.core_model.specs.View.{View}
 use Rattle.core_model.specs.Effects.{place_of, left_there, view_after, learn}
 use Rattle.core_model.specs.Guards.{MayStep}
 use Rattle.core_model.specs.Sound.{Sound}
-use Rattle.core_model.specs.Steps.{found_by, words_after}
+use Rattle.core_model.specs.Steps.{State, found_by, words_after}
 use Rattle.heap_rule.specs.Joint.{Joint, IsSingle, all_views}
 use Rattle.heap_rule.specs.Rule.{Opening, Keeps, setup_for}
 
@@ -19,6 +19,13 @@ pub record Has (v : View) : Type 0 where
   pub sound : Sound v.setup words views
   pub below : seat < length views
   pub at : get_or views seat v ≡ v
+
+-- that state, and one with other words in which the seat has another view
+abbrev pub state_before : {v : View} → Has v → State
+state_before s = record { words = s.words; views = s.views }
+
+abbrev pub state_with : {v : View} → Has v → List ℕ → View → State
+state_with s words w = record { words = words; views = set s.views s.seat w }
 
 -- in every such state the seat may do the step
 abbrev pub May : View → Event → Type 0

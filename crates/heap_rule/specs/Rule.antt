@@ -1,5 +1,5 @@
 -- What is so of the words of the shared table and of the seats' views between any two atomic steps.
-use Rattle.std.specs.Prelude.{◌≡◌, ℕ, ◌<◌, ◌≤◌, List, [], ◌∷◌, length}
+use Rattle.std.specs.Prelude.{◌≡◌, ℕ, ◌<◌, ◌≤◌, List, [], ◌∷◌, ◌++◌, length}
 use Rattle.heap_model.specs.declared.block.Block.{Block}
 use Rattle.atomic_table.specs.Table.{State}
 use Rattle.core_model.specs.View.{Setup, View}
@@ -54,7 +54,8 @@ first_joint o = (opened_state (setup_for o) o.held o.block_owners o.root_owners 
 abbrev pub opened_view_of : Opening → ℕ → View
 opened_view_of o = opened_view (setup_for o) o.held o.block_owners o.root_owners
 
--- some words and the seats at the opening keep the rule
+-- the words at the opening, volatile and durable the same and no ticket drawn, and the seats keep the rule
 pub record IsOpened (o : Opening) : Type 0 where
   pub words : List ℕ
+  pub words_are : words ≡ o.words ++ (o.words ++ (0 ∷ []))
   pub keeps : Keeps o words (first_joint o ∷ [])

@@ -2,15 +2,19 @@
 //! clauses.
 
 ghost use Rattle.std.specs.Prelude.{◌≡◌, ◌≢◌, ◌≤◌, ℕ, Option, None, Some};
+ghost use Rattle.core_model.specs.declared.answer.StepAnswer.TheVariants.{Done, Stopped};
+ghost use Rattle.core_model.specs.declared.event.Event.{Event};
 ghost use Rattle.core_model.specs.declared.event.Event.TheVariants.{Tick, LookUsed, LookHead, LookLink, LookAnchor, KeepUsed, TakeFresh, Pop, Push, TakeAll, Give};
 ghost use Rattle.core_model.specs.declared.event.Shift.{Shift};
 ghost use Rattle.core_model.specs.declared.event.Shift.TheVariants.{Cut, Free};
 ghost use Rattle.core_model.specs.Effects.{after_free, before, drew, given, lost, popped, pushed, seen, seen_of, seen_word, shifted, stopped, taken_all, taken_fresh};
+ghost use Rattle.core_model.specs.Guards.{IsAsSeen};
 ghost use Rattle.core_model.specs.Memory.{memory_of};
+ghost use Rattle.core_model.specs.Steps.{StepsTo, words_after};
 ghost use Rattle.core_model.specs.View.{View};
 ghost use Rattle.heap_model.specs.Words.{head_first};
 ghost use Rattle.heap_rule.specs.Parts.{KeepsParts, cut_for};
-ghost use Rattle.heap_rule.specs.Plays.{IsEvent};
+ghost use Rattle.heap_rule.specs.Plays.{IsEvent, state_before, state_with};
 ghost use Rattle.heap_rule.specs.Shown.{CanCut, CanFree};
 
 /// A draw that goes on leaves the ticket in hand and its change done; one that stops the seat
@@ -31,8 +35,21 @@ pub fn a_draw_leaves_its_change_or_a_stop()
         → w ≡ after_free (drew v ticket) can.class block }
 {}
 
-/// An exchange of a word that is as it was seen is won, and leaves what it does; any other is lost,
-/// and only the snapshot goes.
+/// A seat's step is one of the core: in the sound state before it, the same seat takes the event
+/// there, unless it is an exchange that is lost.
+pub fn a_step_of_a_seat_is_one_of_the_core()
+    ensures done { (event : Event) (v w : View) (found : ℕ) → (e : IsEvent event v found w)
+        → IsAsSeen (memory_of v.setup.capacity e.before.words) v event → w.stopped ≡ None
+        → StepsTo v.setup (state_before e.before) e.before.seat event Done
+        (state_with e.before (words_after v.setup e.before.words v event) w) }
+    ensures stops { (event : Event) (v w : View) (found step : ℕ) → (e : IsEvent event v found w)
+        → IsAsSeen (memory_of v.setup.capacity e.before.words) v event → w.stopped ≡ Some step
+        → StepsTo v.setup (state_before e.before) e.before.seat event (Stopped step)
+        (state_with e.before (words_after v.setup e.before.words v event) w) }
+{}
+
+/// An exchange of a word that is as it was seen is won, and leaves what it does; any other is lost:
+/// the ticket and the snapshot are used up, a loss is counted, and nothing else changes.
 pub fn an_exchange_is_won_or_lost()
     ensures taken { (n : ℕ) (v w : View) (found : ℕ) → IsEvent (TakeFresh n) v found w
         → found ≡ seen v.seen_used → w ≡ taken_fresh v n }

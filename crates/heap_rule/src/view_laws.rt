@@ -7,17 +7,19 @@ ghost use Rattle.core_model.specs.declared.event.Event.TheVariants.{Store, Settl
 ghost use Rattle.core_model.specs.Cells.{cell_at, superblock_at};
 ghost use Rattle.core_model.specs.Effects.{learn};
 ghost use Rattle.core_model.specs.Guards.{IsOwn, MayChange};
-ghost use Rattle.core_model.specs.View.{View, times_raw};
+ghost use Rattle.core_model.specs.View.{View, times_block, times_raw};
 ghost use Rattle.heap_rule.specs.Plays.{Has, IsEvent};
 ghost use Rattle.heap_rule.specs.Shown.{Shows, ShowsDurable};
 
 /// A superblock that a seat has claimed without a class is claimed once and lies in the image, and
-/// no block of the seat begins in it: so each of its words may be stored to.
+/// no block of the seat begins in it; each of its words may be stored to.
 pub fn a_superblock_without_a_class_is_the_seats_alone()
     ensures once { (v : View) → Has v → (d : ℕ) → times_raw d v ≤ 1 }
     ensures inside { (v : View) → Has v → (d : ℕ) → 0 < times_raw d v → d < v.setup.capacity }
     ensures blank { (v : View) → Has v → (word : ℕ)
         → 0 < times_raw (superblock_at v.setup.capacity word) v → MayChange v word }
+    ensures no_block { (v : View) → Has v → (word : ℕ)
+        → 0 < times_raw (superblock_at v.setup.capacity word) v → times_block word v ≡ 0 }
 {}
 
 /// A seat has room to record each word of the image.

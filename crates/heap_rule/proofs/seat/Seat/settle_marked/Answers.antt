@@ -1,10 +1,13 @@
-use Rattle.std.proofs.Common.{ap, sym, subst, refl, ◌∙◌, arith}
+use Rattle.std.proofs.Common.{[], ap, sym, subst, refl, ◌∙◌, arith}
 use Rattle.line_memory.specs.Marks.{mark_count}
 use Rattle.heap_rule.specs.Fences.{IsFence}
 use Rattle.heap_rule.specs.Joint.{view_in}
 use Rattle.heap_rule.specs.Seated.{SeatView}
-use Rattle.heap_rule.proofs.FenceLemmas.{IsRow, row_step, row_whole, settles_at, fewer_marks}
+use Rattle.heap_rule.proofs.FenceLemmas.{IsRow, row_start, row_step, row_whole, settles_at, fewer_marks}
 use Rattle.heap_rule.proofs.seat.Seat.settle_marked.Goals as goal
+
+pub loop-word-init : goal.loop-word-init
+loop-word-init c = record { seat = c.requires.seat; row = ([], row_start c.args.self.now) }
 
 pub loop-word-smaller : goal.loop-word-smaller
 loop-word-smaller c = let gone = c.in-Some.ensures.some in
