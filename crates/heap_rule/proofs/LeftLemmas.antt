@@ -1,5 +1,5 @@
 -- What a step leaves of the seat's view.
-use Rattle.std.proofs.Common.{◌≡◌, ◌≢◌, ◌≤◌, ℕ, Bool, true, false, cond, nat_eq, nat_lt, Option, None, Some, set, ap, sym, subst, ◌∙◌, eq-eqb, arith}
+use Rattle.std.proofs.Common.{◌≡◌, ◌≢◌, ◌≤◌, ℕ, Bool, true, false, cond, nat_eq, nat_lt, Option, None, Some, ap, sym, subst, ◌∙◌, eq-eqb, arith}
 use Rattle.core_model.specs.declared.answer.StepAnswer.TheVariants.{Done, Stopped}
 use Rattle.core_model.specs.declared.event.Event.{Event}
 use Rattle.core_model.specs.declared.event.Event.TheVariants.{Tick, LookUsed, TakeFresh, Pop, Push, TakeAll, Give}
@@ -7,7 +7,7 @@ use Rattle.core_model.specs.declared.event.Shift.{Shift}
 use Rattle.core_model.specs.declared.event.Shift.TheVariants.{Cut, Free}
 use Rattle.core_model.specs.Effects.{after_free, before, drew, given, lost, popped, pushed, seen, seen_word, shifted, stopped, taken_all, taken_fresh, view_after}
 use Rattle.core_model.specs.Guards.{IsAsSeen}
-use Rattle.core_model.specs.Steps.{State, StepsTo, is_done, stops, seat_after, words_after}
+use Rattle.core_model.specs.Steps.{StepsTo, is_done, stops, seat_after, words_after}
 use Rattle.core_model.specs.Memory.{memory_of}
 use Rattle.core_model.specs.View.{View, one_if_some}
 use Rattle.core_model.proofs.PlaceLemmas.{pick, skip, not-eq}

@@ -10,3 +10,4 @@ pub mod Owned
 pub mod Changed
 pub mod Rooms
 pub mod Fences
+pub mod Examples
