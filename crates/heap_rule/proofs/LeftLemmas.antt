@@ -80,8 +80,8 @@ pub give_lost : (d : ℕ) (v w : View) (found : ℕ) → IsEvent (Give d) v foun
 give_lost d v w found e other = lost_as w (given v d) (record (lost v) { seen_anchor = None }) found (seen_word v.seen_anchor) e.after other
 
 -- a mark that is read is that of a sound state
-pub mark_within : (v w : View) (found : ℕ) → IsEvent LookUsed v found w → found ≤ v.setup.capacity
-mark_within v w found e = let room = e.before.sound.good.shaped.durable.room in let is = e.found_is in omega arith
+pub used_within : (v w : View) (found : ℕ) → IsEvent LookUsed v found w → found ≤ v.setup.capacity
+used_within v w found e = let room = e.before.sound.good.shaped.durable.room in let is = e.found_is in omega arith
 
 -- the event that a seat's step is, as the core takes it
 as_taken : (event : Event) (v w : View) (found : ℕ) → (e : IsEvent event v found w) → seat_after (memory_of v.setup.capacity e.before.words) v event ≡ w

@@ -1,4 +1,4 @@
-//! Write-backs of a seat: marks, and the fence that makes the marked words durable.
+//! Write-backs of a seat, and the fence that makes the written-back words durable.
 
 ghost use Rattle.std.specs.Prelude.{◌≡◌, None};
 ghost use Rattle.core_model.specs.declared.event.Event.TheVariants.{Settle};
@@ -13,8 +13,8 @@ use crate::shared::Shared;
 const LINE: u64 = 8;
 
 impl Seat {
-    /// Marks the words of an own word's line as written back.
-    pub fn mark(&mut self, shared: &Shared, word: u64)
+    /// Writes back the words of an own word's line: the next fence makes them durable.
+    pub fn write_back(&mut self, shared: &Shared, word: u64)
         requires seat { IsSeatOf shared.now self.old }
         requires can { Can self.old.view (Settle word) }
         ensures marked { IsLineMarked word self.old self.new }
@@ -24,8 +24,8 @@ impl Seat {
         self.pending.mark_line(word / LINE);
     }
 
-    /// Makes the words durable that are marked and own, and takes back all marks: a fence.
-    pub fn settle_marked(&mut self, shared: &Shared)
+    /// Makes the words durable that were written back and are own; nothing is pending then.
+    pub fn fence(&mut self, shared: &Shared)
         requires seat { IsSeatOf shared.now self.old }
         requires going { self.old.view.stopped ≡ None }
         ensures fence { IsFence self.old self.new }

@@ -97,7 +97,7 @@ pub fn a_step_that_changes_nothing_keeps_the_parts()
         → found ≢ seen_word v.seen_anchor → KeepsParts v w }
 {}
 
-/// A mark that is read is within the capacity.
-pub fn a_mark_is_within_the_capacity()
+/// What is read of `used` is within the capacity.
+pub fn a_seen_used_is_within_the_capacity()
     ensures { (v w : View) (found : ℕ) → IsEvent LookUsed v found w → found ≤ v.setup.capacity }
 {}

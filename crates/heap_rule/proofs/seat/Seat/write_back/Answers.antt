@@ -2,7 +2,7 @@ use Rattle.std.proofs.Common.{refl, subst, arith}
 use Rattle.heap_rule.specs.Fences.{IsLineMarked}
 use Rattle.heap_rule.specs.Joint.{view_in}
 use Rattle.heap_rule.specs.Seated.{SeatView}
-use Rattle.heap_rule.proofs.seat.Seat.mark.Goals as goal
+use Rattle.heap_rule.proofs.seat.Seat.write_back.Goals as goal
 
 pub returns-clause-marked : goal.returns-clause-marked
 returns-clause-marked c = subst (λ (s : SeatView). IsLineMarked c.args.word s (record { table = c.self.inside.bare.table_id; view = view_in c.self.inside.bare.me.0; stores = c.self.inside.recent; marks = c.mark_line.new.self })) c.self.view_is (record {

@@ -2,7 +2,7 @@ use Rattle.std.proofs.Common.{List, ℕ}
 use Rattle.line_memory.specs.Marks.{mark_count}
 use Rattle.heap_rule.specs.Seated.{IsSeatOf}
 use Rattle.heap_rule.proofs.FenceLemmas.{IsRow}
-use Rattle.heap_rule.proofs.seat.Seat.settle_marked.Given as goal
+use Rattle.heap_rule.proofs.seat.Seat.fence.Given as goal
 
 abbrev pub invariant-loop-word : goal.invariant-loop-word
 invariant-loop-word l = record {

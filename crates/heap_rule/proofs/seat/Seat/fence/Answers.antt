@@ -4,7 +4,7 @@ use Rattle.heap_rule.specs.Fences.{IsFence}
 use Rattle.heap_rule.specs.Joint.{view_in}
 use Rattle.heap_rule.specs.Seated.{SeatView}
 use Rattle.heap_rule.proofs.FenceLemmas.{IsRow, row_start, row_step, row_whole, settles_at, fewer_marks}
-use Rattle.heap_rule.proofs.seat.Seat.settle_marked.Goals as goal
+use Rattle.heap_rule.proofs.seat.Seat.fence.Goals as goal
 
 pub loop-word-init : goal.loop-word-init
 loop-word-init c = record { seat = c.requires.seat; row = ([], row_start c.args.self.now) }
