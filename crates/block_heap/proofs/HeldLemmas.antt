@@ -4,6 +4,7 @@ use Rattle.std.proofs.lemmas.Bool.{cases_eq}
 use Rattle.heap_model.specs.declared.block.Block.{Block}
 use Rattle.heap_model.proofs.PartLemmas.{same_fields}
 use Rattle.heap_model.proofs.MemberLemmas.{in_none, in_head, in_rest, head_or_rest}
+use Rattle.line_memory.proofs.StepLemmas.{unmarked}
 use Rattle.line_memory.specs.Marks.{marked_words, IsMarked}
 use Rattle.line_memory.specs.Marked.{marked_words-has, marked_words-only, marked_words-none}
 use Rattle.block_heap.specs.Held.{block_of_mark, marked_blocks}
@@ -108,13 +109,7 @@ same_blocks start words marks d new none =
     (λ mark p. same_fields (block_of_mark start (set words d new) mark) (block_of_mark start words mark) refl
     (get_or-set_other words d (mark / 4096) new 0 (none mark (marked_words-only marks mark p))))
 
--- marks that are all clear
-clear_at : (n k : ℕ) → get_or (replicate n false) k false ≡ false
-clear_at zero k = refl
-clear_at (suc n) zero = refl
-clear_at (suc n) (suc k) = clear_at n k
-
 pub no_blocks : (start : ℕ) (words : List ℕ) (marks : List Bool) (n : ℕ) → marks ≡ replicate n false → marked_blocks start words marks ≡ []
 no_blocks start words marks n e =
     ap (λ (xs : List ℕ). map (block_of_mark start words) xs)
-    (marked_words-none marks (λ k. ap (λ (xs : List Bool). get_or xs k false) e ∙ clear_at n k))
+    (marked_words-none marks (λ k. ap (λ (xs : List Bool). get_or xs k false) e ∙ unmarked n k))

@@ -20,7 +20,8 @@ use Rattle.heap_rule.specs.Plays.{Has, IsEvent}
 use Rattle.heap_rule.specs.Shown.{Shows, ShowsDurable, ShowsEmpty, by_claim, by_anchor, by_look, ShowsLinks, CanShift, Can}
 use Rattle.heap_rule.specs.Seated.{SeatView}
 use Rattle.heap_rule.proofs.SettleLemmas.{own_below}
-use Rattle.heap_rule.proofs.ViewLemmas.{shown, below_capacity, block_cell, last_there, cut_cell}
+use Rattle.heap_rule.proofs.ViewLemmas.{shown, below_capacity, block_cell, cut_cell, info_there}
+use Rattle.crash_core.proofs.LiftSteps.{last_there}
 
 module _ (v w : View) (word found : ℕ) (event : IsEvent (Settle word) v found w) where
   abbrev x : ℕ
@@ -54,9 +55,6 @@ module _ (v w : View) (word found : ℕ) (event : IsEvent (Settle word) v found 
   abbrev s : Has v
   s = event.before
 
-  descriptor : (d : ℕ) → d < v.floor → d < v.setup.capacity
-  descriptor d low = below_capacity v s d low
-
   empty_made : (d : ℕ) → d < v.setup.capacity → ShowsEmpty v d → ShowsEmpty made d
   empty_made d less (by_claim raw) = by_claim raw
   empty_made d less (by_anchor anchor shows empty) = by_anchor anchor (shows_made (anchor_cell d) anchor (lt-ltb d v.setup.capacity less) shows) empty
@@ -73,14 +71,12 @@ module _ (v w : View) (word found : ℕ) (event : IsEvent (Settle word) v found 
     cutting = can.cutting;
     class = can.class;
     is_class = can.is_class;
-    info_is = shows_made (info_cell d) can.class there can.info_is;
-    durable_info_is = durable_made (info_cell d) can.class there can.info_is can.durable_info_is;
+    info_is = shows_made (info_cell d) can.class (info_there v s d can.durable) can.info_is;
+    durable_info_is = durable_made (info_cell d) can.class (info_there v s d can.durable) can.info_is can.durable_info_is;
     durable = can.durable;
-    linked = links_made (class_blocks v.setup.capacity can.class d) (λ b some. cut_cell v.setup.capacity can.class d b can.is_class (block_of v.setup.capacity can.class d b some) (descriptor d can.durable)) can.linked;
+    linked = links_made (class_blocks v.setup.capacity can.class d) (λ b some. cut_cell v.setup.capacity can.class d b can.is_class (block_of v.setup.capacity can.class d b some) (below_capacity v s d can.durable)) can.linked;
     uncached = can.uncached;
-  } where
-    there : is_cell v.setup.capacity (info_cell d) ≡ true
-    there = lt-ltb d v.setup.capacity (descriptor d can.durable)
+  }
   shift_made (Some (Alloc class)) can = record { is_class = can.is_class; cached = can.cached }
   shift_made (Some (Free block)) can = record {
     class = can.class;
@@ -97,7 +93,7 @@ module _ (v w : View) (word found : ℕ) (event : IsEvent (Settle word) v found 
   shift_made (Some (Large d n)) can = record {
     some = can.some;
     durable = can.durable;
-    each = λ e from until. let join = can.each e from until in let less = descriptor e (let low = can.durable in omega arith) in record {
+    each = λ e from until. let join = can.each e from until in let less = below_capacity v s e (let low = can.durable in omega arith) in record {
       claimed = join.claimed;
       empty = elim join.empty [
         | inl shows ↦ inl (empty_made e less shows)

@@ -1,5 +1,5 @@
 -- What a view shows of the shift of a draw, the seat may do.
-use Rattle.std.proofs.Common.{◌≡◌, ℕ, ◌+◌, ◌<◌, ◌≤◌, inl, inr, true, cond, nat_eq, length, Option, None, Some, refl, ap, sym, subst, ◌∙◌, lt-ltb, eq-eqb, ne_eqb, arith}
+use Rattle.std.proofs.Common.{◌≡◌, ℕ, ◌+◌, ◌<◌, ◌≤◌, inl, inr, true, cond, nat_eq, length, Option, None, Some, refl, ap, sym, subst, ◌∙◌, eq-eqb, ne_eqb, arith}
 use Rattle.heap_model.specs.Geometry.{start_word}
 use Rattle.heap_model.specs.Sizes.{IsClass}
 use Rattle.heap_model.specs.Chains.{Walks}
@@ -15,7 +15,8 @@ use Rattle.core_model.specs.Guards.{MayCut, MayFree, MayLift, MayHoldLarge, MayS
 use Rattle.core_model.proofs.OwnerLemmas.{in_lists_total}
 use Rattle.heap_rule.specs.Plays.{Has}
 use Rattle.heap_rule.specs.Shown.{CanCut, CanFree, CanLift, CanHoldLarge, CanShift}
-use Rattle.heap_rule.proofs.ViewLemmas.{shown, shown_durable, below_capacity, block_class, block_cell, empty_shown, blocks_walk, last_there}
+use Rattle.heap_rule.proofs.ViewLemmas.{shown, shown_durable, below_capacity, block_class, block_cell, empty_shown, blocks_walk, info_there}
+use Rattle.crash_core.proofs.LiftSteps.{last_there}
 
 module _ (v : View) (s : Has v) where
   abbrev m : Memory
@@ -25,7 +26,7 @@ module _ (v : View) (s : Has v) where
   cut_may d can = record {
     cutting = can.cutting;
     class = subst IsClass (sym info_is) can.is_class;
-    durable_class = shown_durable v s (info_cell d) can.class there can.durable_info_is ∙ sym info_is;
+    durable_class = shown_durable v s (info_cell d) can.class (info_there v s d can.durable) can.durable_info_is ∙ sym info_is;
     durable = let floor = (s.sound.good.knows s.seat v s.below s.at).floor in let low = can.durable in omega arith;
     linked = subst (λ c. Walks (next m) (start_word v.setup.capacity d) (class_blocks v.setup.capacity c d)) (sym info_is)
         (blocks_walk v s can.class d can.is_class less can.linked);
@@ -34,11 +35,8 @@ module _ (v : View) (s : Has v) where
     less : d < v.setup.capacity
     less = below_capacity v s d can.durable
 
-    there : is_cell v.setup.capacity (info_cell d) ≡ true
-    there = lt-ltb d v.setup.capacity less
-
     info_is : info m d ≡ can.class
-    info_is = shown v s (info_cell d) can.class there can.info_is
+    info_is = shown v s (info_cell d) can.class (info_there v s d can.durable) can.info_is
 
   free_may : (block : ℕ) → CanFree v block → MayFree m v block
   free_may block can = record {
@@ -79,7 +77,7 @@ module _ (v : View) (s : Has v) where
     durable_infos = λ e from until. shown_durable v s (info_cell e) _ (there e until) (can.each e from until).durable_info_is ∙ sym (info_is e from until);
   } where
     there : (e : ℕ) → e < d + n → is_cell v.setup.capacity (info_cell e) ≡ true
-    there e until = lt-ltb e v.setup.capacity (below_capacity v s e (let low = can.durable in omega arith))
+    there e until = info_there v s e (let low = can.durable in omega arith)
 
     info_is : (e : ℕ) → d ≤ e → e < d + n → info m e ≡ cond (nat_eq e d) (large_info n) 0
     info_is e from until = shown v s (info_cell e) _ (there e until) (can.each e from until).info_is

@@ -4,6 +4,7 @@ use Rattle.std.proofs.lemmas.List.{append-nil}
 use Rattle.atomic_table.specs.Seated.{TableId}
 use Rattle.atomic_table.specs.Table.{Me}
 use Rattle.heap_model.specs.Rest.{IsReady}
+use Rattle.line_memory.proofs.StepLemmas.{unmarked}
 use Rattle.core_model.specs.Opening.{AreOwners, tabulate}
 use Rattle.core_model.specs.View.{View}
 use Rattle.line_memory.specs.Marks.{mark_at}
@@ -78,11 +79,6 @@ is_seat o i capacity budget me is less me_is capacity_is budget_is = subst (λ m
   budget_is = budget_is;
   low = is.keeps.low;
 })
-
-unmarked : (n k : ℕ) → get_or (replicate n false) k false ≡ false
-unmarked zero k = refl
-unmarked (suc n) zero = refl
-unmarked (suc n) (suc k) = unmarked n k
 
 -- the seats that were dealt out are those of the heap
 pub are_opened : (shared : SharedView) (views : ℕ → View) (words : ℕ) (seats : List SeatView) → ((i : ℕ) → i < shared.seats → (views i).setup ≡ shared.setup) → seats ≡ dealt_seats shared.table views words shared.seats

@@ -1,11 +1,11 @@
 -- What a seat keeps to tell its own words, as a heap at rest is opened.
 use Rattle.std.specs.Vec.{vec_capacity}
-use Rattle.std.proofs.Common.{◌≡◌, ℕ, zero, suc, ◌+◌, ◌<◌, ◌≤◌, inl, inr, false, nat_eq, List, [], ◌∷◌, ◌++◌, get_or, set, length, replicate, slice_index, refl, ap, sym, subst, ◌∙◌, arith}
+use Rattle.std.proofs.Common.{◌≡◌, ℕ, zero, suc, ◌+◌, ◌<◌, ◌≤◌, inl, inr, false, nat_eq, List, [], ◌∷◌, ◌++◌, get_or, set, length, slice_index, refl, ap, sym, subst, ◌∙◌, arith}
 use Rattle.std.proofs.lemmas.Bool.{cases_eq, cases_lt}
 use Rattle.std.proofs.lemmas.List.{get_or-set_same, get_or-set_other, get_or_append_left}
 use Rattle.heap_model.specs.Geometry.{lists, roots, capacity_word, info_word}
 use Rattle.heap_model.specs.Rest.{IsReady}
-use Rattle.heap_model.specs.Counting.{times, total, one_if}
+use Rattle.heap_model.specs.Counting.{times, one_if}
 use Rattle.super_block.specs.Contents.{Contents}
 use Rattle.core_model.specs.Cells.{superblock_at}
 use Rattle.core_model.specs.Opening.{AreOwners, setup_of, opened_view, opened_state, picked, tabulate, small_blocks}
@@ -21,6 +21,7 @@ use Rattle.crash_core.specs.declared.owners.Share.TheVariants as share
 use Rattle.crash_core.specs.OwnerLists.{OwnerLists}
 use Rattle.crash_core.specs.OpenedOwners.{AreBlockOwners, AreSuperblockOwners}
 use Rattle.crash_core.specs.Standing.{place_for, share_for, held_in, no_block, no_superblock, IsShare}
+use Rattle.crash_core.proofs.OpenedBlocks.{none_cached}
 use Rattle.crash_core.proofs.OwnDecision.{one_true}
 use Rattle.crash_core.proofs.PickedLemmas.{roots_of}
 use Rattle.heap_rule.specs.declared.owned.Stake.TheVariants as stake
@@ -47,10 +48,6 @@ opened_has heap owners seats seat ready are less = record {
 -- the parts that a seat is opened with, by the key of the table
 pub opened_parts_are : (heap : Contents) (owners : OwnerLists) (seats budget i : ℕ) → parts_of (opened_view_of (opening_of heap owners seats budget) i) ≡ opened_parts heap owners i
 opened_parts_are heap owners seats budget i = refl
-
-none_cached : (n b : ℕ) → total (times b) (replicate n []) ≡ 0
-none_cached zero b = refl
-none_cached (suc n) b = let rest = none_cached n b in omega arith
 
 -- a share of a heap at rest as a stake
 stake_of_share : (d : ℕ) (x : Share) (p : Parts) → IsShare d x p.raw p.split p.cutting p.classed p.large → IsStake d (stake_for x) p

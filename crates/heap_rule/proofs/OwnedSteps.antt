@@ -152,6 +152,10 @@ fresh_owned o stakes v w n found u own event is same staking = subst (HasOwned (
       w_is : w ≡ taken_fresh v n
       w_is = event.after ∙ hit found (seen v.seen_used) (taken_fresh v n) _ (same ∙ sym is)
 
+-- one stake of them is another
+set_long : (stakes were : Vec Stake Global) (d : ℕ) (x : Stake) → stakes.items ≡ set were.items d x → length stakes.items ≡ length were.items
+set_long stakes were d x items = ap length items ∙ length-set were.items d x
+
 -- a claim from a list
 claimed_parts : (v : View) (d list : ℕ) → parts_of (claimed v d list) ≡ with_claim (parts_of v) d list
 claimed_parts v d zero = refl
@@ -160,12 +164,9 @@ claimed_parts v d (suc class) = refl
 claim_owned : (o : Owned) (stakes : Vec Stake Global) (p : Parts) (d list : ℕ) (x : Stake) → HasOwned o p → x ≡ listed list → stakes.items ≡ set o.stakes.items d x → d < p.capacity
     → (times d p.raw + times d p.split + times d p.cutting ≡ 0) × (times_classed d p.classed ≡ 0) × (times_large d p.large ≡ 0) → HasOwned (record o { stakes = stakes }) (with_claim p d list)
 claim_owned o stakes p d list x own x_is items less none = by list (claim_stakes o.stakes.items p d list x x_is (let l = own.stakes_long in omega arith) own.stakes none) where
-  long : length stakes.items ≡ length o.stakes.items
-  long = ap length items ∙ length-set o.stakes.items d x
-
   by : (list : ℕ) → ((e : ℕ) → IsStake e (get_or (set o.stakes.items d x) e stake.Nothing) (with_claim p d list)) → HasOwned (record o { stakes = stakes }) (with_claim p d list)
-  by zero are = staked o stakes p (d ∷ p.raw) p.split p.cutting p.classed p.large own long (subst (λ l. (e : ℕ) → IsStake e (get_or l e stake.Nothing) (with_claim p d 0)) (sym items) are)
-  by (suc n) are = staked o stakes p p.raw p.split p.cutting (record { descriptor = d; class = suc n } ∷ p.classed) p.large own long (subst (λ l. (e : ℕ) → IsStake e (get_or l e stake.Nothing) (with_claim p d (suc n))) (sym items) are)
+  by zero are = staked o stakes p (d ∷ p.raw) p.split p.cutting p.classed p.large own (set_long stakes o.stakes d x items) (subst (λ l. (e : ℕ) → IsStake e (get_or l e stake.Nothing) (with_claim p d 0)) (sym items) are)
+  by (suc n) are = staked o stakes p p.raw p.split p.cutting (record { descriptor = d; class = suc n } ∷ p.classed) p.large own (set_long stakes o.stakes d x items) (subst (λ l. (e : ℕ) → IsStake e (get_or l e stake.Nothing) (with_claim p d (suc n))) (sym items) are)
 
 -- what is claimed lies in the image
 pub popped_below : (v w : View) (found head_word first d : ℕ) → IsEvent Pop v found w → seen_word v.seen_head ≡ head_word → first ≡ head_first head_word → d ≡ first - 1 → d < v.setup.capacity
@@ -212,9 +213,6 @@ pushed_owned o stakes v w d found head_word own event is same items = subst (Has
   less : d < length o.stakes.items
   less = let t = taken_below v event.before d (some (seen_of v.seen_head) event.may.ready.listed) in let l = own.stakes_long in omega arith
 
-  long : length stakes.items ≡ length o.stakes.items
-  long = ap length items ∙ length-set o.stakes.items d stake.Nothing
-
   not_raw : nat_lt 0 (times d v.raw + times d v.split) ≡ false → times d v.raw + times d v.split ≡ 0
   not_raw e = elim (cases_lt 0 (times d v.raw + times d v.split)) [
     | inl more ↦ absurd (true≢false (sym (lt-ltb 0 (times d v.raw + times d v.split) more) ∙ e))
@@ -226,10 +224,10 @@ pushed_owned o stakes v w d found head_word own event is same items = subst (Has
   classed_some list (of_its_class l apart classed class_is state) none = classed
 
   by_claim : (raw : Bool) → nat_lt 0 (times d v.raw + times d v.split) ≡ raw → HasOwned (record o { stakes = stakes }) (parts_of (cond raw (pushed_raw v d) (pushed_classed v d)))
-  by_claim true e = staked o stakes (parts_of v) (without d v.raw) (without d v.split) v.cutting v.classed v.large own long
+  by_claim true e = staked o stakes (parts_of v) (without d v.raw) (without d v.split) v.cutting v.classed v.large own (set_long stakes o.stakes d stake.Nothing items)
       (subst (λ l. (n : ℕ) → IsStake n (get_or l n stake.Nothing) (record (parts_of v) { raw = without d v.raw; split = without d v.split })) (sym items)
       (raw_stakes o.stakes.items (parts_of v) d less (ltb-true 0 (times d v.raw + times d v.split) e) own.stakes))
-  by_claim false e = staked o stakes (parts_of v) v.raw v.split v.cutting (without_claim d v.classed) v.large own long
+  by_claim false e = staked o stakes (parts_of v) v.raw v.split v.cutting (without_claim d v.classed) v.large own (set_long stakes o.stakes d stake.Nothing items)
       (subst (λ l. (n : ℕ) → IsStake n (get_or l n stake.Nothing) (record (parts_of v) { classed = without_claim d v.classed })) (sym items)
       (classed_stakes o.stakes.items (parts_of v) d less (classed_some (seen_of v.seen_head) event.may.ready.listed (not_raw e)) own.stakes))
 

@@ -7,7 +7,7 @@ use lib.ListN.{get_elem?}
 use Rattle.atomic_table.specs.Table.{Allows, keeps}
 use Rattle.core_model.specs.declared.event.Event.{Event}
 use Rattle.core_model.specs.Cells.{cell_at, is_cell}
-use Rattle.core_model.specs.Memory.{Memory, Place, volatile_at, durable_at, tickets, memory_of, read, table_index}
+use Rattle.core_model.specs.Memory.{Memory, memory_of}
 use Rattle.core_model.specs.View.{View, times_own}
 use Rattle.core_model.specs.Effects.{place_of, left_there, view_after}
 use Rattle.core_model.specs.Guards.{IsOwn, MayStep}
@@ -16,7 +16,7 @@ use Rattle.core_model.specs.Steps.{found_by, words_after, seat_after}
 use Rattle.core_model.proofs.SoundLemmas.{in_table, sound_step}
 use Rattle.core_model.proofs.PlaceLemmas.{pick, cell_there, index_at}
 use Rattle.core_model.proofs.OwnStepLemmas.{learns}
-use Rattle.core_model.proofs.TableLemmas.{is_place}
+use Rattle.crash_core.proofs.WordLemmas.{read_is}
 use Rattle.heap_rule.specs.Joint.{Joint, IsSingle, all_views}
 use Rattle.heap_rule.specs.Rule.{Opening, Keeps, Holds, setup_for}
 use Rattle.heap_rule.specs.Plays.{Has, IsStepAt, Did, DidStore, DidRead, DidLearn, learned}
@@ -33,12 +33,6 @@ state_with o words joints id joint v setup holds at single = record {
   at = at_offset joints id joint v at single;
 }
 
--- a place of the table reads the word there
-pub read_at : (c : ℕ) (words : List ℕ) (p : Place) → is_place c p ≡ true → read (memory_of c words) p ≡ get_or words (table_index c p) 0
-read_at c words (volatile_at cell) is = pick (is_cell c cell) _ _ is
-read_at c words (durable_at cell) is = pick (is_cell c cell) _ _ is
-read_at c words tickets is = refl
-
 pub allowed : (o : Opening) (count id : ℕ) (joint : Joint) (slots : List (ℕ × ℕ)) (v : View) (event : Event) (place : ℕ) (f : ℕ → ℕ) → IsSingle joint v → IsStepAt o v event place f
     → Allows (Holds o) count id (joint, slots) place f (λ found after. Did event (joint, slots) found after)
 allowed o count id joint slots v event place f single is s holds none at fits =
@@ -54,7 +48,7 @@ allowed o count id joint slots v event place f single is s holds none at fits =
 
       found_is : found ≡ found_by (memory_of v.setup.capacity s.words) v event
       found_is = ap (λ n. get_or s.words n 0) is.place_is
-          ∙ sym (read_at v.setup.capacity s.words (place_of v event) (in_table v.setup (memory_of v.setup.capacity s.words) (all_views s.views) has.seat v has.below has.at has.sound.good event step))
+          ∙ sym (read_is v.setup.capacity s.words (place_of v event) (in_table v.setup (memory_of v.setup.capacity s.words) (all_views s.views) has.seat v has.below has.at has.sound.good event step))
 
       w : View
       w = view_after (memory_of v.setup.capacity s.words) v event found

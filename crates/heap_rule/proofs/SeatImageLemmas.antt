@@ -6,12 +6,12 @@ use Rattle.heap_model.specs.Durability.{Mixes}
 use Rattle.heap_model.specs.Geometry.{image_words, IsFixed, in_header, in_descriptor}
 use Rattle.heap_model.specs.Header.{IsWellFormed, header_fault}
 use Rattle.heap_model.specs.Image.{Image}
-use Rattle.heap_model.proofs.HeaderLemmas.{no_fault}
 use Rattle.core_model.specs.Cells.{cell_at, is_cell}
 use Rattle.core_model.specs.Guards.{IsOwn}
 use Rattle.core_model.specs.Held.{IsHeld, volatile_image, durable_image}
 use Rattle.core_model.specs.Sound.{Sound}
 use Rattle.core_model.specs.View.{Setup, View}
+use Rattle.core_model.proofs.HeaderLemmas.{header_of}
 use Rattle.core_model.proofs.HeldLemmas.{firm}
 use Rattle.core_model.proofs.PlaceLemmas.{pick}
 use Rattle.heap_rule.specs.Images.{Agrees, HasPicked, HasRecorded, IsImageOf, KeepsFixed, MixesRecorded}
@@ -42,23 +42,11 @@ module _ (k : Setup) (words : List ℕ) (views : List View) (sound : Sound k wor
   pub mixed_fixed : KeepsFixed k image
   mixed_fixed = record { each = opened_is }
 
-  capacity_is : image 2 ≡ k.capacity
-  capacity_is = opened_is 2 (inl (omega arith)) ∙ sound.capacity
-
-  mixed_formed : IsWellFormed (8 * length k.opened) (slice_index k.opened) → IsWellFormed (8 * image_words k.capacity) image
-  mixed_formed good = record {
-    magic_is = opened_is 0 (inl (omega arith)) ∙ good.magic_is;
-    version_is = opened_is 1 (inl (omega arith)) ∙ good.version_is;
-    some = let some = sound.some in omega (arith, capacity_is);
-    small = let small = sound.good.small in omega (arith, capacity_is);
-    length_is = ap (λ n. 8 * image_words n) (sym capacity_is);
-    state = elim good.state [ inl clean ↦ inl (opened_is 3 (inl (omega arith)) ∙ clean) | inr dirty ↦ inr (opened_is 3 (inl (omega arith)) ∙ dirty) ];
-    used = let behind = sound.good.shaped.durable.behind in let room = sound.good.shaped.durable.room in
-        elim (either 8 (omega arith)) [ inl volatile ↦ omega (arith, capacity_is) | inr durable ↦ omega (arith, capacity_is) ];
-  }
-
   pub mixed_header : IsWellFormed (8 * length k.opened) (slice_index k.opened) → header_fault (8 * image_words k.capacity) image ≡ None
-  mixed_header good = no_fault (8 * image_words k.capacity) image (mixed_formed good)
+  mixed_header good = header_of k words views sound image (λ word low. opened_is word (inl (omega arith)))
+      (elim good.state [ inl clean ↦ inl (opened_is 3 (inl (omega arith)) ∙ clean) | inr dirty ↦ inr (opened_is 3 (inl (omega arith)) ∙ dirty) ])
+      (let behind = sound.good.shaped.durable.behind in let room = sound.good.shaped.durable.room in
+      elim (either 8 (omega arith)) [ inl volatile ↦ omega (arith, volatile) | inr durable ↦ omega (arith, durable) ]) good
 
 -- one of the two
 picked : (test : Bool) (a b : ℕ) → (cond test a b ≡ a) ⊎ (cond test a b ≡ b)

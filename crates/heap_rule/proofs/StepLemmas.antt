@@ -1,16 +1,15 @@
 -- What a step at the table leaves a seat with.
 use prog.Atomic.{either}
-use Rattle.std.proofs.Common.{◌≡◌, ℕ, ◌+◌, ◌*◌, ◌%◌, ◌^◌, ◌<◌, ◌≤◌, ◌==◌, max, Option, None, Some, List, [], ◌∷◌, get_or, set, length, length-set, ap, sym, subst, ◌∙◌, arith, inl, inr}
+use Rattle.std.proofs.Common.{◌≡◌, ℕ, ◌+◌, ◌*◌, ◌%◌, ◌^◌, ◌<◌, ◌==◌, max, List, [], ◌∷◌, get_or, set, length, length-set, ap, sym, subst, ◌∙◌, arith, inl, inr}
 use Rattle.std.proofs.Math.Nat.{mod-eq_of_lt}
 use Rattle.std.proofs.lemmas.List.{get_or-set_same}
-use Rattle.heap_model.specs.Counting.{total}
 use Rattle.heap_model.specs.Geometry.{image_words}
 use Rattle.atomic_table.specs.Seated.{TableId}
 use Rattle.atomic_table.specs.Table.{Me}
 use Rattle.core_model.specs.declared.event.Event.{Event}
 use Rattle.core_model.specs.Effects.{place_of, left_there}
 use Rattle.core_model.specs.Memory.{memory_of, table_index, table_length}
-use Rattle.core_model.specs.View.{Setup, View, one_if_some}
+use Rattle.core_model.specs.View.{Setup, View}
 use Rattle.core_model.specs.Sound.{Sound}
 use Rattle.core_model.specs.Steps.{found_by, words_after}
 use Rattle.core_model.proofs.SoundLemmas.{in_length, in_table, taken, batched}
@@ -18,7 +17,8 @@ use Rattle.core_model.specs.Guards.{MayLookAt}
 use Rattle.heap_rule.specs.Joint.{Joint, IsSingle, all_views, view_in, nobody}
 use Rattle.heap_rule.specs.Rule.{Opening, Keeps, setup_for}
 use Rattle.heap_rule.specs.Plays.{Has, May, IsEvent, IsStepAt, Did}
-use Rattle.heap_rule.proofs.RuleLemmas.{read_at}
+use Rattle.crash_core.proofs.WordLemmas.{read_is}
+use Rattle.crash_core.proofs.WordSteps.{stopped_most}
 use Rattle.heap_rule.specs.Seated.{SharedView, IsAt, IsLook, IsDraw, IsRaise, IsExchange, IsStore}
 
 -- the place of a step is one of the table
@@ -97,13 +97,7 @@ look_below v d s look = elim look [
 
 -- a draw does not wrap: fewer tickets are drawn than the budget and the seats
 drawn_below : (o : Opening) (words : List ℕ) (joints : List Joint) → Keeps o words joints → get_or words (2 * image_words (setup_for o).capacity) 0 + 1 < 18446744073709551616
-drawn_below o words joints keeps = let d = keeps.sound.good.adds.stopped in let most = stops_most (all_views joints) in let c = keeps.count in let f = keeps.few in let l = keeps.low in omega arith where
-  stops_most : (views : List View) → total (λ (v : View). one_if_some v.stopped) views ≤ length views
-  stops_most [] = omega arith
-  stops_most (v ∷ views) = let rest = stops_most views in let one = one_some v.stopped in omega arith where
-    one_some : (x : Option ℕ) → one_if_some x ≤ 1
-    one_some None = omega arith
-    one_some (Some n) = omega arith
+drawn_below o words joints keeps = let d = keeps.sound.good.adds.stopped in let most = stopped_most (all_views joints) in let c = keeps.count in let f = keeps.few in let l = keeps.low in omega arith
 
 pub draw_at : (o : Opening) (v : View) (event : Event) (place : ℕ) → v.setup ≡ setup_for o → May v event → place ≡ table_index v.setup.capacity (place_of v event) → IsDraw event → IsStepAt o v event place (λ n. (n + 1) % 2 ^ 64)
 draw_at o v event place setup may place_is draw = record {
@@ -133,7 +127,7 @@ exchange_at o v event place seen new setup may place_is exchange = record {
   leaves = λ words joints keeps s same all.
       let step = may s in
       let found_is : get_or s.words place 0 ≡ found_by (memory_of v.setup.capacity s.words) v event = ap (λ n. get_or s.words n 0) place_is
-      ∙ sym (read_at v.setup.capacity s.words (place_of v event) (in_table v.setup (memory_of v.setup.capacity s.words) s.views s.seat v s.below s.at s.sound.good event step)) in
+      ∙ sym (read_is v.setup.capacity s.words (place_of v event) (in_table v.setup (memory_of v.setup.capacity s.words) s.views s.seat v s.below s.at s.sound.good event step)) in
       subst (λ ws. either (get_or ws place 0 == seen) new (get_or ws place 0) ≡ left_there (memory_of v.setup.capacity ws) v event (get_or ws place 0)) same (sym (exchange s (get_or s.words place 0) found_is));
 }
 

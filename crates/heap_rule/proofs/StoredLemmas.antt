@@ -13,7 +13,13 @@ use Rattle.crash_core.specs.Standing.{HasCaches, HasBatch}
 use Rattle.heap_rule.specs.Plays.{Has, IsEvent}
 use Rattle.heap_rule.specs.Seated.{Fits, IsKeptOf}
 use Rattle.heap_rule.proofs.SeatLemmas.{keep_fits}
-use Rattle.heap_rule.proofs.ViewLemmas.{block_cell, last_there}
+use Rattle.heap_rule.proofs.ViewLemmas.{block_cell}
+use Rattle.crash_core.proofs.LiftSteps.{last_there}
+
+-- no block is the last of none
+pub of_none : (bs : List ℕ) → length bs ≡ 0 → last_of bs ≡ 0
+of_none [] e = refl
+of_none (b ∷ bs) e = absurd (omega arith)
 
 -- an own word that is no block's first word is not that of the batch's last block
 not_last : (v : View) → Has v → (word : ℕ) (cell : Cell) → cell_at v.setup.capacity word ≡ cell → IsOwn v cell → ((at : ℕ) → cell ≢ data_cell at) → last_of v.batch.blocks ≢ word
@@ -25,10 +31,7 @@ not_last v s word cell is own other last = elim (cases_lt 0 (length v.batch.bloc
   | inr none ↦ let zero_word : word ≡ 0 = sym last ∙ of_none v.batch.blocks (omega arith) in
       absurd (let o : 0 < times_own v (cell_at v.setup.capacity word) = subst (λ x. 0 < times_own v x) (sym is) own in
       let z : 0 < times_own v (cell_at v.setup.capacity 0) = subst (λ n. 0 < times_own v (cell_at v.setup.capacity n)) zero_word o in omega arith)
-] where
-  of_none : (bs : List ℕ) → length bs ≡ 0 → last_of bs ≡ 0
-  of_none [] e = refl
-  of_none (b ∷ bs) e = absurd (omega arith)
+]
 
 pub word_stored : (notes : Seat) (v w : View) (word value found : ℕ) (batch : Group) → IsKeptOf notes v → IsEvent (Store word value) v found w → Has w → IsOwn v (cell_at v.setup.capacity word)
     → batch ≡ record notes.batch { linked = cond (nat_eq word notes.batch.last) false notes.batch.linked } → IsKeptOf (record notes { ticket = None; batch = batch }) w

@@ -7,10 +7,10 @@ use Rattle.heap_model.specs.Chains.{Walks}
 use Rattle.heap_model.specs.Words.{anchor_state, empty_state}
 use Rattle.heap_model.specs.Counting.{times}
 use Rattle.heap_model.proofs.SizeLemmas.{two_words, four_blocks}
-use Rattle.core_model.specs.Cells.{Cell, anchor_cell, data_cell, is_cell, superblock_at}
+use Rattle.core_model.specs.Cells.{Cell, info_cell, anchor_cell, data_cell, is_cell, superblock_at}
 use Rattle.core_model.specs.Memory.{Memory, memory_of, anchor, info, next}
 use Rattle.core_model.specs.View.{View, of_class, times_raw, times_classed, times_block}
-use Rattle.core_model.specs.Effects.{steps, class_blocks, first_of, last_of}
+use Rattle.core_model.specs.Effects.{steps, class_blocks, first_of}
 use Rattle.core_model.specs.Sound.{Good, IsCutBlock, tally_of, times_cut}
 use Rattle.core_model.proofs.TotalLemmas.{total_at, eq-eqb-one}
 use Rattle.core_model.proofs.PlaceLemmas.{and_is}
@@ -28,12 +28,6 @@ pub cut_cell : (c class d b : ℕ) → IsClass class → IsCutBlock c class d b 
 cut_cell c class d b is at less =
     let place = inside_of c class d b is at in let low = place.0 in let high = place.1 in let two = two_words class is in
     and_is (nat_le (start_word c 0) b) (nat_lt b (image_words c)) (le-leb (start_word c 0) b (omega arith)) (lt-ltb b (image_words c) (omega arith))
-
--- the last of some blocks is one of them
-pub last_there : (bs : List ℕ) → 1 ≤ length bs → 0 < times (last_of bs) bs
-last_there [] some = absurd (omega arith)
-last_there (b ∷ []) some = let one = eq-eqb-one b b refl in omega arith
-last_there (b ∷ c ∷ bs) some = let rest = last_there (c ∷ bs) (omega arith) in omega arith
 
 -- numbers a step apart begin with the first
 pub first_step : (from apart n : ℕ) → 1 ≤ n → first_of (steps from apart n) ≡ from
@@ -56,6 +50,9 @@ module _ (v : View) (s : Has v) where
   -- what lies below the floor lies in the image
   pub below_capacity : (d : ℕ) → d < v.floor → d < v.setup.capacity
   below_capacity d low = let f = (good.knows s.seat v s.below s.at).floor in let q = good.shaped.durable.behind in let r = good.shaped.durable.room in omega arith
+
+  pub info_there : (d : ℕ) → d < v.floor → is_cell v.setup.capacity (info_cell d) ≡ true
+  info_there d low = lt-ltb d v.setup.capacity (below_capacity d low)
 
   -- the superblock of an own block is cut, for a class
   pub block_cut : (b : ℕ) → 0 < times_block b v → (0 < times_cut good.shape (tally_of s.views) (superblock_at v.setup.capacity b))

@@ -19,7 +19,7 @@ takes_after gives step v u w d s =
     }
 
 -- no mark is set at first
-unmarked : (n k : ℕ) → get_or (replicate n false) k false ≡ false
+pub unmarked : (n k : ℕ) → get_or (replicate n false) k false ≡ false
 unmarked zero k = refl
 unmarked (suc n) zero = refl
 unmarked (suc n) (suc k) = unmarked n k
