@@ -5,6 +5,7 @@ use Rattle.std.proofs.lemmas.Bool.{cases_lt, eqb-true, eqb-false}
 use Rattle.std.specs.Option.{option_eq}
 use Rattle.std.proofs.lemmas.List.{get_or_default, get_or-set_same, get_or-set_other}
 use Rattle.std.proofs.lemmas.List.Elements.{Contains-get_or}
+use Rattle.heap_model.proofs.ListLemmas.{follows_same}
 use Rattle.heap_model.specs.Geometry.{head_word, link_word, image_words}
 use Rattle.heap_model.specs.Image.{Image}
 use Rattle.heap_model.specs.Recovered.{AreAscending}
@@ -101,16 +102,6 @@ no_member roles list d other below away is = away (ap list_of (get_or_default ro
 -- a superblock is in one list
 pub one_list : (roles : List Role) (i j d : ℕ) → IsMember roles i d → IsMember roles j d → i ≡ j
 one_list roles i j d in_i in_j = let same : Some i ≡ Some j = sym in_i.in_list ∙ in_j.in_list in cc
-
--- links that agree lead along the same list
-pub follows_same : (link link' : ℕ → ℕ) (capacity from : ℕ) (ds : List ℕ) → ((d : ℕ) → Contains ds d → link' d ≡ link d) → Follows link capacity from ds → Follows link' capacity from ds
-follows_same link link' capacity from [] same follows = follows
-follows_same link link' capacity from (d ∷ ds) same follows = (
-  follows.0,
-  follows.1,
-  subst (λ n. Follows link' capacity n ds) (sym (same d (0, omega arith, refl)))
-      (follows_same link link' capacity (link d) ds (λ x has. same x (suc has.0, (let below = has.1 in omega arith), has.2)) follows.2),
-)
 
 -- links and head are written
 pub linked : (old mid : List ℕ) (capacity list : ℕ) (ds : List ℕ) → list < 21 → length old ≡ image_words capacity → All (λ d. d < capacity) ds

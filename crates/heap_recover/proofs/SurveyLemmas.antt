@@ -12,6 +12,7 @@ use Rattle.heap_model.specs.Blocks.{Layout, Begins, of_class, as_large, IsBlock,
 use Rattle.heap_model.specs.Recovered.{IsFreeSuperblock, IsBlockOfClass, AreAscending}
 use Rattle.heap_model.specs.Recovery.{HoldsKept, IsSpare}
 use Rattle.heap_model.proofs.BlockLemmas.{same_begins, block_begins, block_step}
+use Rattle.heap_model.proofs.PartLemmas.{same_fields}
 use Rattle.heap_model.proofs.SizeLemmas.{two_words, blocks_fit}
 use Rattle.heap_recover.specs.Marked.{KeepsBlocks, IsKeptAmong, IsSpareAmong, AreParted, IsKeptIn, GoOnTo}
 use Rattle.heap_recover.specs.declared.roles.Role.{Role}
@@ -55,10 +56,6 @@ class_inside capacity class d index b is is_b =
     let at = is_b.at in
     let size = is_b.size in
     (omega arith, omega arith, omega arith)
-
--- blocks with the same parts are one
-same_fields : (a b : Block) → a.first_word ≡ b.first_word → a.words ≡ b.words → a ≡ b
-same_fields a b first words = λ i. record { first_word = first i; words = words i }
 
 -- an empty list has no element
 pub none_of : {A : Type 0} {x : A} {xs : List A} → xs ≡ [] → Contains xs x → ⊥

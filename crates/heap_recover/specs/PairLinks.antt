@@ -12,11 +12,8 @@ abbrev pub pair_links : Links
 pair_links kind words = cond (nat_eq kind 1) (one_link 2 0 words) (cond (nat_eq kind 2) (one_link 0 2 words) [])
 
 -- the position lies in the block, and the kind is below 3
-none_inside : (words : List ℕ) (at to : ℕ) → Contains {X = ℕ × ℕ} [] (at, to) → (at < length words) × (to < 3)
-none_inside words at to here = let none = here.1 in absurd (omega arith)
-
 one_inside : (test : Bool) (position leads : ℕ) (words : List ℕ) (at to : ℕ) → (test ≡ true → position < length words) → leads < 3 → Contains {X = ℕ × ℕ} (cond test ((position, leads) ∷ []) []) (at, to) → (at < length words) × (to < 3)
-one_inside false position leads words at to fits small here = none_inside words at to here
+one_inside false position leads words at to fits small here = let none = here.1 in absurd (omega arith)
 one_inside true position leads words at to fits small (zero, below, is) =
     let inside = fits (λ _. true) in
     let same = ap (λ (l : ℕ × ℕ). l.0) is in
@@ -27,7 +24,7 @@ one_inside true position leads words at to fits small (suc k, below, is) = absur
 cases_inside : (second first : Bool) (words : List ℕ) (at to : ℕ) → Contains (cond second (one_link 2 0 words) (cond first (one_link 0 2 words) [])) (at, to) → (at < length words) × (to < 3)
 cases_inside true first words at to here = one_inside (nat_lt 2 (length words)) 2 0 words at to (ltb-true 2 (length words)) (omega arith) here
 cases_inside false true words at to here = one_inside (nat_lt 0 (length words)) 0 2 words at to (ltb-true 0 (length words)) (omega arith) here
-cases_inside false false words at to here = none_inside words at to here
+cases_inside false false words at to here = let none = here.1 in absurd (omega arith)
 
 pub pair_links-inside : AreInside 3 pair_links
 pair_links-inside = record {

@@ -1,2 +1,2 @@
 mod LeftLemmas
-mod Written
+pub mod Written

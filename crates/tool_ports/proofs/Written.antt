@@ -15,7 +15,7 @@ started bytes None = record { done = []; split = refl; taken = refl }
 started bytes (Some taken) = record { done = []; split = refl; taken = ap (λ (l : List ℕ). Some l) (sym (append-nil taken)) }
 
 -- two pieces, one after the other
-taken_with_twice : (before : Option (List ℕ)) (a b : List ℕ) → taken_with (taken_with before a) b ≡ taken_with before (a ++ b)
+pub taken_with_twice : (before : Option (List ℕ)) (a b : List ℕ) → taken_with (taken_with before a) b ≡ taken_with before (a ++ b)
 taken_with_twice None a b = refl
 taken_with_twice (Some taken) a b = ap (λ (l : List ℕ). Some l) (append_assoc taken a b)
 

@@ -3,12 +3,9 @@ use Rattle.std.proofs.Common.{◌≡◌, ℕ, ◌+◌, ◌<◌, List, ◌++◌, 
 use Rattle.std.proofs.lemmas.List.{take-append-le}
 use Rattle.std.proofs.Math.Seq.{take-append-add}
 use Rattle.tool_ports.specs.Taken.{taken_with, TakesPart}
+use Rattle.tool_ports.proofs.Written.{taken_with_twice}
 
 -- two texts, one after the other
-taken_with_twice : (before : Option (List ℕ)) (a b : List ℕ) → taken_with (taken_with before a) b ≡ taken_with before (a ++ b)
-taken_with_twice None a b = refl
-taken_with_twice (Some taken) a b = ap (λ (l : List ℕ). Some l) (append_assoc taken a b)
-
 pub both_taken : (a b : List ℕ) (old mid new : Option (List ℕ)) → mid ≡ taken_with old a → new ≡ taken_with mid b → new ≡ taken_with old (a ++ b)
 both_taken a b old mid new first second = second ∙ ap (λ (o : Option (List ℕ)). taken_with o b) first ∙ taken_with_twice old a b
 
@@ -29,11 +26,6 @@ part_of_next text rest old mid new first part =
       both_taken text (take part.0 rest) old mid new first part.2
           ∙ ap (λ (l : List ℕ). taken_with old l) (sym (take-append-add text rest part.0)),
     )
-
--- what holds at every answer holds at an error
-pub at_every : {T E P : Type 0} (result : Result T E) → P → OnErr result P
-at_every (Ok x) p = tt
-at_every (Err e) p = p
 
 -- what follows at an error
 pub at_error : {T E P Q : Type 0} (result : Result T E) → OnErr result P → (P → Q) → OnErr result Q

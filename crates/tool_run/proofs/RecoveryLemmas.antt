@@ -16,12 +16,9 @@ use Rattle.heap_recover.specs.declared.answer.Recovered.{Recovered}
 use Rattle.heap_recover.specs.declared.answer.Was.TheVariants.{Clean}
 use Rattle.heap_recover.specs.declared.fault.RecoverFault.{RecoverFault}
 use Rattle.heap_recover.specs.declared.fault.RecoverFault.TheVariants.{Header, Outside, Memory}
+use Rattle.image_run.proofs.PutLemmas.{image_of_words}
 use Rattle.tool_run.specs.Making.{PointsOutside}
 use Rattle.tool_run.specs.Recovering.{IsRecoveryOf, IsRecoveryFault}
-
--- the words of an image are those of its bytes, at each index
-words_are : (words bytes : List ℕ) → AreWordsOf words bytes → slice_index words ≡ image_of_bytes bytes
-words_are words bytes of = λ i at. of.word at i
 
 -- an image recovered with the kinds of roots
 RecoversWith : Image → (ℕ → ℕ) → Recovered → Type 0
@@ -44,14 +41,14 @@ module _ (words kinds bytes : List ℕ) (kinds_are : (i : ℕ) → slice_index k
   recovery_of (Ok answer) held free left was =
       let here : RecoversWith (slice_index words) (slice_index kinds) answer = (held, free, left, was) in
       let kinds_same : RecoversWith (slice_index words) root_kind answer = subst (λ (ks : ℕ → ℕ). RecoversWith (slice_index words) ks answer) (λ i at. kinds_are at i) here in
-      let there : RecoversWith (image_of_bytes bytes) root_kind answer = subst (λ (image : Image). RecoversWith image root_kind answer) (words_are words bytes of) kinds_same in
+      let there : RecoversWith (image_of_bytes bytes) root_kind answer = subst (λ (image : Image). RecoversWith image root_kind answer) (image_of_words words bytes of) kinds_same in
       record { recovers = record { held_are = there.0; free_are = there.1; words_are = there.2 }; was = there.3 }
 
   -- what points outside in the bytes does so in the words
   outside_words : (at : ℕ) → PointsOutside (image_of_bytes bytes) at → IsOutside (slice_index words) (slice_index kinds) dict_links at
   outside_words at points =
       let kinds_same : IsOutside (image_of_bytes bytes) (slice_index kinds) dict_links at = subst (λ (ks : ℕ → ℕ). IsOutside (image_of_bytes bytes) ks dict_links at) (λ i w. sym (kinds_are w) i) points in
-      subst (λ (image : Image). IsOutside image (slice_index kinds) dict_links at) (sym (words_are words bytes of)) kinds_same
+      subst (λ (image : Image). IsOutside image (slice_index kinds) dict_links at) (sym (image_of_words words bytes of)) kinds_same
 
   pub none_outside : (result : Result Recovered RecoverFault) → OnOk result ((at : ℕ) → IsOutside (slice_index words) (slice_index kinds) dict_links at → ⊥)
       → OnOk result ((at : ℕ) → PointsOutside (image_of_bytes bytes) at → ⊥)
@@ -65,10 +62,10 @@ module _ (words kinds bytes : List ℕ) (kinds_are : (i : ℕ) → slice_index k
   recovery_fault (Err Memory) good why = tt
   recovery_fault (Err (Header cause)) good why =
       let none : header_fault (length bytes) (image_of_bytes bytes) ≡ None = no_fault (length bytes) (image_of_bytes bytes) good in
-      let some : header_fault (8 * length words) (image_of_bytes bytes) ≡ Some cause = subst (λ (image : Image). header_fault (8 * length words) image ≡ Some cause) (words_are words bytes of) why in
+      let some : header_fault (8 * length words) (image_of_bytes bytes) ≡ Some cause = subst (λ (image : Image). header_fault (8 * length words) image ≡ Some cause) (image_of_words words bytes of) why in
       let same : header_fault (length bytes) (image_of_bytes bytes) ≡ Some cause = subst (λ n. header_fault n (image_of_bytes bytes) ≡ Some cause) of.count some in
       absurd (cc)
   recovery_fault (Err (Outside at value)) good why =
       let kinds_same : IsOutside (slice_index words) root_kind dict_links at = subst (λ (ks : ℕ → ℕ). IsOutside (slice_index words) ks dict_links at) (λ i w. kinds_are w i) why.1 in
-      let there : PointsOutside (image_of_bytes bytes) at = subst (λ (image : Image). IsOutside image root_kind dict_links at) (words_are words bytes of) kinds_same in
+      let there : PointsOutside (image_of_bytes bytes) at = subst (λ (image : Image). IsOutside image root_kind dict_links at) (image_of_words words bytes of) kinds_same in
       (there, why.2 ∙ of.word at)

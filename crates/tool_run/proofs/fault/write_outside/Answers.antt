@@ -2,19 +2,20 @@ use Rattle.std.proofs.Common.{◌∙◌, codes, decimal, refl}
 use Rattle.std.specs.Int.{w64, to_be_bytes}
 use Rattle.hex.specs.Hex.{encode_lower}
 use Rattle.trace_text.specs.Report.{line_feed}
-use Rattle.tool_run.proofs.PrintLemmas.{in_first_pair, in_second_pair, in_end, all_taken, at_every, at_error, at_ok}
+use Rattle.tool_run.proofs.PrintLemmas.{in_first_pair, in_second_pair, in_end, all_taken, at_error, at_ok}
+use Rattle.tool_ports.proofs.Written.{at_err}
 use Rattle.tool_run.proofs.fault.write_outside.Goals as goal
 
 pub returns-in_err-write_two-clause-err : goal.returns-in_err-write_two-clause-err
 returns-in_err-write_two-clause-err g c =
     let number = c.as_bytes.ensures.value ∙ c.format.ensures.text in
-    at_every c.from_residual.result (in_first_pair (codes "pointer outside at ") (decimal c.args.at) _ (codes " value ") (encode_lower (to_be_bytes w64 c.args.value))
+    at_err c.from_residual.result (in_first_pair (codes "pointer outside at ") (decimal c.args.at) _ (codes " value ") (encode_lower (to_be_bytes w64 c.args.value))
     (encode_lower (to_be_bytes w64 c.args.value)) line_feed _ (g.O.Sink.taken c.args.out.now) (g.O.Sink.taken c.args.out.now) _ number refl c.in_err-write_two.ensures.err)
 
 pub returns-in_err-write_two-2-clause-err : goal.returns-in_err-write_two-2-clause-err
 returns-in_err-write_two-2-clause-err g c =
     let number = c.as_bytes.ensures.value ∙ c.format.ensures.text in
-    at_every c.from_residual-in_err-write_two-2.result (in_second_pair (codes "pointer outside at ") (decimal c.args.at) _ (codes " value ") (encode_lower (to_be_bytes w64 c.args.value))
+    at_err c.from_residual-in_err-write_two-2.result (in_second_pair (codes "pointer outside at ") (decimal c.args.at) _ (codes " value ") (encode_lower (to_be_bytes w64 c.args.value))
     c.word_digits.result line_feed _ (g.O.Sink.taken c.write_two.new.out) (g.O.Sink.taken c.args.out.now) _ number c.word_digits.ensures c.in_ok-write_two.ensures.ok c.in_err-write_two-2.ensures.err)
 
 pub returns-clause-ok : goal.returns-clause-ok
