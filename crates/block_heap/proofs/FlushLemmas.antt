@@ -37,21 +37,7 @@ use Rattle.block_heap.proofs.RunningLemmas.{set_is}
 use Rattle.block_heap.proofs.LookLemmas.{looks_of}
 use Rattle.block_heap.proofs.SmallLemmas.{changed, KeepsFixed, keeps_fixed, running_after, caches_set, serves_of}
 use Rattle.std.proofs.lemmas.List.{nil_from_length}
-
--- a walk along fewer blocks from where a longer one begins goes along its front
-pub walk_front : (next : ℕ → ℕ) (from : ℕ) (xs ys : List ℕ) → Walks next from xs → Walks next from ys → length xs ≤ length ys
-    → (rest : List ℕ) × (ys ≡ xs ++ rest)
-walk_front next from [] ys walks all few = (ys, refl)
-walk_front next from (x ∷ xs) [] walks all few = absurd (omega arith)
-walk_front next from (x ∷ xs) (y ∷ ys) walks all few =
-    let same : x ≡ y = sym walks.0 ∙ all.0 in
-    let rest = walk_front next (next x) xs ys walks.1 (subst (λ z. Walks next (next z) ys) (sym same) all.1) (omega arith) in
-    (rest.0, ap (λ z. z ∷ ys) (sym same) ∙ ap (λ zs. x ∷ zs) rest.1)
-
--- a walk that is not empty begins at its first block
-walk_first : (next : ℕ → ℕ) (from : ℕ) (before : List ℕ) (last : ℕ) → Walks next from (before ++ last ∷ []) → Contains (before ++ last ∷ []) from
-walk_first next from [] last walks = subst (λ x. Contains (last ∷ []) x) (sym walks.0) (in_head last [])
-walk_first next from (x ∷ before) last walks = subst (λ y. Contains (x ∷ (before ++ last ∷ [])) y) (sym walks.0) (in_head x (before ++ last ∷ []))
+use Rattle.block_heap.proofs.WalkLemmas.{walk_front, walk_first}
 
 -- the states by their numbers
 full_number : (state : State) → state_number state ≡ 2 → state ≡ Full

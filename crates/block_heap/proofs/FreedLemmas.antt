@@ -17,7 +17,8 @@ use Rattle.block_heap.specs.Parts.{Parts, held_in, cache_at}
 use Rattle.block_heap.specs.Returns.{CachesAlong, CachesOnlyOf, CachesAllOf, CachesBlock, Flushes, below_limit, at_limit, FreesSmall}
 use Rattle.block_heap.specs.Running.{IsRunning, AreShort}
 use Rattle.block_heap.proofs.FreeLemmas.{freed_parts, count_short, freed_shape}
-use Rattle.block_heap.proofs.ReturnLemmas.{one_walk, cached_along}
+use Rattle.block_heap.proofs.ReturnLemmas.{cached_along}
+use Rattle.block_heap.proofs.WalkLemmas.{one_walk}
 use Rattle.block_heap.proofs.SmallLemmas.{other_cache}
 
 module _ (p : Parts) (class : ℕ) (is : IsClass class) (run : IsRunning p) (b : Block) (holds : Contains (held_in p) b) (size : b.words ≡ words_of_class class)

@@ -21,8 +21,8 @@ use Rattle.block_heap.proofs.RunningLemmas.{running_words}
 use Rattle.block_heap.proofs.SmallLemmas.{first_cached, first_of_d, serves_of, serves_none, serves_then}
 use Rattle.block_heap.proofs.LookLemmas.{looks_of}
 use Rattle.block_heap.specs.Returns.{IsLongest, GivesTo}
-use Rattle.block_heap.proofs.FlushLemmas.{walk_front}
-use Rattle.block_heap.proofs.ReturnLemmas.{walk_begin, FlushesSoFar, flushes_none, flushes_more}
+use Rattle.block_heap.proofs.WalkLemmas.{walk_front, walk_begin}
+use Rattle.block_heap.proofs.ReturnLemmas.{FlushesSoFar, flushes_none, flushes_more}
 use Rattle.heap_model.proofs.ListLemmas.{walk_behind}
 
 -- the cache leads along so many blocks of superblock d, up to the last one, which leads to the next

@@ -11,6 +11,8 @@ pub mod OpeningLemmas
 pub mod OpenedLemmas
 pub mod PushLemmas
 pub mod SplitLemmas
+pub mod FreeLargeLemmas
+pub mod WalkLemmas
 pub mod StableLemmas
 pub mod RunningLemmas
 pub mod SeatLemmas

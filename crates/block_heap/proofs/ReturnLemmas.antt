@@ -33,21 +33,7 @@ use Rattle.block_heap.proofs.FlushLemmas.{give_low, split, rest_long, front_fits
 use Rattle.std.proofs.lemmas.List.{nil_from_length}
 use Rattle.block_heap.proofs.OrderLemmas.{in_list_along, in_list_has, list_kept, list_same}
 use Rattle.block_heap.proofs.SmallLemmas.{changed}
-
--- where a walk begins
-pub walk_begin : (next : ℕ → ℕ) (from : ℕ) (words : List ℕ) → Walks next from words → 1 ≤ length words → Contains words from
-walk_begin next from [] walks some = absurd (omega arith)
-walk_begin next from (w ∷ ws) walks some = subst (λ x. Contains (w ∷ ws) x) (sym walks.0) (in_head w ws)
-
--- walks along as many blocks from one block are one
-pub one_walk : (next : ℕ → ℕ) (from : ℕ) (xs ys : List ℕ) → Walks next from xs → Walks next from ys → length xs ≡ length ys → xs ≡ ys
-one_walk next from [] [] a b long = refl
-one_walk next from [] (y ∷ ys) a b long = absurd (omega arith)
-one_walk next from (x ∷ xs) [] a b long = absurd (omega arith)
-one_walk next from (x ∷ xs) (y ∷ ys) a b long =
-    let same : x ≡ y = sym a.0 ∙ b.0 in
-    let rest : xs ≡ ys = one_walk next (next x) xs ys a.1 (subst (λ z. Walks next (next z) ys) (sym same) b.1) (omega arith) in
-    ap (λ z. z ∷ xs) same ∙ ap (λ zs. y ∷ zs) rest
+use Rattle.block_heap.proofs.WalkLemmas.{walk_begin, one_walk}
 
 -- a list with one more in front has what it had
 pub with_more : (f : ℕ → List ℕ) (at d list e : ℕ) → Contains (f list) e → Contains (with_at f at (d ∷ f at) list) e

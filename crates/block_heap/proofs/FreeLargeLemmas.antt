@@ -1,0 +1,282 @@
+-- How a large block is freed: its mark is taken back, and then its superblocks go to the free list, one after another.
+use Rattle.std.proofs.Common.{◌≡◌, ◌≢◌, ℕ, zero, suc, ◌+◌, ◌-◌, ◌*◌, ◌/◌, ◌<◌, ◌≤◌, ◌^◌, ◌⊎◌, inl, inr, List, ◌∷◌, length, get_or, set, Contains, refl, ap, sym, subst, ◌∙◌, arith}
+use Rattle.std.proofs.lemmas.Bool.{cases_eq}
+use Rattle.heap_model.specs.declared.block.Block.{Block}
+use Rattle.heap_model.specs.Geometry.{lists, head_word, info_word, anchor_word, link_word, used_word, start_word, superblock_words, largest_capacity, largest_capacity_fits}
+use Rattle.heap_model.specs.Sizes.{IsClass, words_of_class}
+use Rattle.heap_model.specs.Words.{head_first, head_pops}
+use Rattle.heap_model.specs.Recovered.{HasPartIn}
+use Rattle.heap_model.specs.Chains.{Follows}
+use Rattle.heap_model.proofs.CountingLemmas.{times_some}
+use Rattle.heap_model.proofs.MemberLemmas.{in_head, in_rest, head_or_rest}
+use Rattle.heap_shape.specs.Shape.{Place, in_list, is_full, in_large, is_new, Shape, stands_in}
+use Rattle.heap_shape.specs.Standing.{HasNoHeld, IsInLarge, IsAs}
+use Rattle.heap_shape.specs.Whole.{IsShape}
+use Rattle.heap_shape.specs.Effects.{IsSet, IsPushedOn}
+use Rattle.heap_shape.specs.Moves.{after_split, TakesFrom}
+use Rattle.heap_shape.specs.Draining.{for_later}
+use Rattle.heap_shape.proofs.AccountLemmas.{free_follows, use_kept, use_without}
+use Rattle.heap_shape.proofs.BasicLemmas.{with_at_same, with_at_other, member_place}
+use Rattle.heap_shape.proofs.LargeLemmas.{large_places, drop_large, split_one}
+use Rattle.heap_shape.proofs.OwnLemmas.{one_following, large_block}
+use Rattle.line_memory.specs.View.{View, word_count, volatile_at, durable_at}
+use Rattle.line_memory.specs.Marks.{marked_words}
+use Rattle.block_heap.specs.declared.held.HeldBlocks.{HeldBlocks}
+use Rattle.block_heap.specs.Held.{held_of, at_mark, block_of_mark, HasMark}
+use Rattle.block_heap.specs.Accounts.{IsUsed, AreAccounted, GivesUse}
+use Rattle.block_heap.specs.Links.{IsPushed, IsPushWord}
+use Rattle.block_heap.specs.Medium.{StoresOnly, Goes, IsStored}
+use Rattle.block_heap.specs.Lists.{head_at, LeadsAlong, IsInList, KeepsFree}
+use Rattle.block_heap.specs.Returns.{FreesLarge, FreesOne}
+use Rattle.block_heap.specs.Parts.{Parts, image_of, held_in}
+use Rattle.block_heap.specs.Running.{IsRunning, Serves}
+use Rattle.block_heap.specs.Large.{IsDropped}
+use Rattle.block_heap.specs.Works.{IsAllocatorWord, is_head, is_anchor, is_link}
+use Rattle.block_heap.proofs.MediumLemmas.{stores_then, stores_more}
+use Rattle.block_heap.proofs.OrderLemmas.{in_list_along, in_list_has, list_kept}
+use Rattle.block_heap.proofs.RunningLemmas.{set_is, settled_kept}
+use Rattle.block_heap.proofs.HeldLemmas.{only_map, mark_block}
+use Rattle.block_heap.proofs.LookLemmas.{looks_kept}
+use Rattle.block_heap.proofs.StableLemmas.{works_none, works_of}
+use Rattle.block_heap.proofs.PushLemmas.{pushed_is, pushed_pops, words_inside}
+use Rattle.block_heap.proofs.SmallLemmas.{serves_then}
+
+-- a held block is that of its mark
+pub held_mark : (h : HeldBlocks) (b : Block) → Contains (held_of h) b → at_mark h b.first_word ≡ b
+held_mark h b holds =
+    let found = only_map (block_of_mark h.start h.words.items) (marked_words h.marks.items) b holds in
+    let first : h.start + 2 * found.0 ≡ b.first_word = ap (λ (x : Block). x.first_word) found.2 in
+    sym (mark_block h.start h.words.items found.0 b.first_word first) ∙ found.2
+
+-- a place is one
+list_not_large : in_list 0 ≡ in_large → ⊥
+list_not_large same = cc
+
+-- a block of whole superblocks: the first of them, and how many there are
+record IsWhole (capacity : ℕ) (b : Block) : Type 0 where
+  pub first : ℕ
+  pub count : ℕ
+  pub some : 1 ≤ count
+  pub within : first + count ≤ capacity
+  pub at : b.first_word ≡ start_word capacity first
+  pub size : b.words ≡ superblock_words * count
+
+-- so many superblocks of a large block, from `first` on, are to go to the free list, and those before d are there
+pub record IsFreed (first d end : ℕ) (p q : Parts) : Type 0 where
+  pub some : first + 1 ≤ end
+  pub most : end ≤ first + largest_capacity
+  pub until : d ≤ end
+  pub running : IsRunning q
+  pub left : (e : ℕ) → d ≤ e → e < end → IsDropped q e
+  pub used : image_of q used_word ≡ image_of p used_word
+  pub uses : (e : ℕ) → ((first ≤ e) × (e < d)) ⊎ IsUsed p e → IsUsed q e
+  pub listed : (e : ℕ) → first ≤ e → e < d → IsInList q 0 e
+  pub only : (e : ℕ) → IsInList q 0 e → IsInList p 0 e ⊎ ((first ≤ e) × (e < d))
+  pub free : KeepsFree p q
+  pub heads : (class : ℕ) → IsClass class → head_at q class ≡ head_at p class
+  pub infos : (e : ℕ) → image_of q (info_word e) ≡ image_of p (info_word e)
+  pub serves : Serves (held_in p) p q
+  pub blocks : q.blocks ≡ p.blocks
+  pub caches : q.caches ≡ p.caches
+  pub taken : q.taken ≡ p.taken
+  pub few : q.words.drawn + 4 * first ≤ p.words.drawn + 4 * d
+  pub drew : p.words.drawn + d ≤ q.words.drawn + first
+
+-- one superblock more is in the free list
+pub freed_more : (first d end : ℕ) (p q r : Parts) → d < end → IsFreed first d end p q → IsRunning r → ((e : ℕ) → e ≢ d → IsDropped q e → IsDropped r e)
+    → GivesUse d q r → FreesOne d q r → Goes 4 q.words r.words → r.blocks ≡ q.blocks → Serves (held_in q) q r → r.caches ≡ q.caches → r.taken ≡ q.taken → IsFreed first (d + 1) end p r
+freed_more first d end p q r below freed running others gives frees goes blocks serves caches taken = record {
+  some = freed.some;
+  most = freed.most;
+  until = omega arith;
+  running = running;
+  left = λ e from until. others e (λ same. omega arith) (freed.left e (omega arith) until);
+  used = gives.used ∙ freed.used;
+  uses = uses;
+  listed = λ e from until. elim (cases_eq e d) as (λ _. IsInList r 0 e) [
+    | inl same ↦ subst (λ k. IsInList r 0 k) (sym same) frees.freed
+    | inr other ↦ frees.free e (freed.listed e from (omega arith))
+  ];
+  only = λ e there. elim (frees.only e there) as (λ _. IsInList p 0 e ⊎ ((first ≤ e) × (e < d + 1))) [
+    | inl before ↦ elim (freed.only e before) as (λ _. IsInList p 0 e ⊎ ((first ≤ e) × (e < d + 1))) [
+      | inl was ↦ inl was
+      | inr one ↦ inr (one.0, omega (arith, one.1))
+    ]
+    | inr same ↦ inr (let few = freed.few in let more = freed.serves.works.stores.drawn in omega arith, omega arith)
+  ];
+  free = λ e there. frees.free e (freed.free e there);
+  heads = λ class is. frees.heads class is ∙ freed.heads class is;
+  infos = λ e. frees.infos e ∙ freed.infos e;
+  serves = serves_then p q r (held_in p) freed.serves (subst (λ (h : HeldBlocks). Serves (held_of h) q r) freed.blocks serves);
+  blocks = blocks ∙ freed.blocks;
+  caches = caches ∙ freed.caches;
+  taken = taken ∙ freed.taken;
+  few = let before = freed.few in let more = goes.few in omega arith;
+  drew = let before = freed.drew in let more = goes.drew in omega arith;
+} where
+  uses : (e : ℕ) → ((first ≤ e) × (e < d + 1)) ⊎ IsUsed p e → IsUsed r e
+  uses e (inr before) = gives.uses e (inr (freed.uses e (inr before)))
+  uses e (inl done) = elim (cases_eq e d) as (λ _. IsUsed r e) [
+    | inl same ↦ gives.uses e (inl same)
+    | inr other ↦ gives.uses e (inr (freed.uses e (inl (done.0, omega (arith, done.1)))))
+  ]
+
+-- the parts serve the blocks that are held still
+pub freed_serves : (first d end : ℕ) (h : HeldBlocks) (p q r : Parts) → IsFreed first d end (record p { blocks = h }) q → r.blocks ≡ q.blocks → Serves (held_in q) q r
+    → Serves (held_in r) p r
+freed_serves first d end h p q r freed blocks serves =
+    let all = serves_then (record p { blocks = h }) q r (held_of h) freed.serves (subst (λ (x : HeldBlocks). Serves (held_of x) q r) freed.blocks serves) in
+    subst (λ (x : HeldBlocks). Serves (held_of x) p r) (sym (blocks ∙ freed.blocks))
+    (record { capacity = all.capacity; works = all.works; knows = all.knows; taken = all.taken; looks = record { used = all.looks.used; heads = all.looks.heads } })
+
+-- the block is held no more
+pub freed_takes : (p r : Parts) (b : Block) (h : HeldBlocks) → Contains (held_in p) b → TakesFrom (at_mark p.blocks b.first_word) (held_in p) (held_of h) → r.blocks ≡ h
+    → TakesFrom b (held_in p) (held_in r)
+freed_takes p r b h holds takes same =
+    subst (λ (x : HeldBlocks). TakesFrom b (held_in p) (held_of x)) (sym same) (subst (λ x. TakesFrom x (held_in p) (held_of h)) (held_mark p.blocks b holds) takes)
+
+-- A large block is held no more.
+module _ (p : Parts) (b : Block) (run : IsRunning p) (holds : Contains (held_in p) b) (large : (class : ℕ) → IsClass class → b.words ≢ words_of_class class) where
+  lies : IsWhole p.capacity b
+  lies =
+      let found = large_block p.capacity (image_of p) (held_in p) run.shape b run.is holds large in
+      record { first = found.0; count = found.1; some = found.2; within = found.3; at = found.4; size = found.5 }
+
+  pub large_mark : HasMark p.blocks b.first_word
+  large_mark =
+      let whole = lies in
+      let some = whole.some in
+      let within = whole.within in
+      let at = whole.at in
+      let start = run.sizes.start in
+      let long = run.sizes.long in
+      record { from = omega arith; until = omega arith; even = omega arith }
+
+  pub large_behind : start_word p.capacity 0 ≤ b.first_word
+  large_behind = let whole = lies in let at = whole.at in omega arith
+
+  -- its mark is taken back
+  module _ (h : HeldBlocks) (takes : TakesFrom (at_mark p.blocks b.first_word) (held_in p) (held_of h)) (words : h.words.items ≡ p.blocks.words.items)
+      (start : h.start ≡ p.blocks.start) where
+    whole_words : superblock_words ≤ b.words
+    whole_words = let whole = lies in let some = whole.some in let size = whole.size in omega arith
+
+    dropped : IsShape p.capacity (image_of p) (held_of h) run.shape
+        × ((d : ℕ) → b.first_word ≤ start_word p.capacity d → start_word p.capacity d < b.first_word + b.words → HasNoHeld p.capacity (held_of h) d)
+    dropped = drop_large p.capacity (image_of p) (held_in p) (held_of h) run.shape b run.is holds whole_words (freed_takes p (record p { blocks = h }) b h holds takes refl)
+
+    drop_running : IsRunning (record p { blocks = h })
+    drop_running = record {
+      words_open = run.words_open;
+      below = run.below;
+      bounded = run.bounded;
+      caches_long = run.caches_long;
+      looks_long = run.looks_long;
+      shape = run.shape;
+      is = dropped.0;
+      caches = run.caches;
+      sizes = record {
+        start = start ∙ run.sizes.start;
+        long = ap (λ xs. length xs) words ∙ run.sizes.long;
+        sizes = λ d below is place. ap (λ xs. get_or xs d 0) words ∙ run.sizes.sizes d below is place;
+      };
+      settled = run.settled;
+      pops = run.pops;
+      knows = run.knows;
+      few = run.few;
+    }
+
+    drop_left : (d : ℕ) → b.first_word ≤ start_word p.capacity d → start_word p.capacity d < b.first_word + b.words → IsDropped (record p { blocks = h }) d
+    drop_left d from until = by_place (large_places p.capacity d (image_of p) (held_in p) run.shape b run.is holds whole_words from until) where
+      by_place : (d < p.capacity) × (run.shape.place d ≡ in_large) → IsDropped (record p { blocks = h }) d
+      by_place place =
+          let is : IsInLarge (image_of p) d = subst (λ at. IsAs p.capacity (image_of p) run.shape (held_in p) d at) place.1 (run.is.places d place.0) in
+          record {
+            within = place.0;
+            taken = is.taken;
+            no_class = is.no_class;
+            none = dropped.1 d from until;
+            unlisted = λ ds leads in_ds.
+                let one = one_following (λ k. image_of p (link_word k)) p.capacity (head_first (image_of p (head_word 0))) ds (run.shape.listed 0) leads
+                (run.is.follows 0 (omega arith)) in
+                let there = member_place p.capacity (image_of p) (held_in p) run.shape run.is 0 d (omega arith) (subst (λ xs. Contains xs d) one in_ds) in
+                list_not_large (sym there.0 ∙ place.1);
+          }
+
+    -- none of its superblocks is in the free list yet
+    pub drop_begins : (first : ℕ) → first ≡ (b.first_word - start_word p.capacity 0) / 8192
+        → IsFreed first first (first + b.words / 8192) (record p { blocks = h }) (record p { blocks = h })
+    drop_begins first is =
+        let whole = lies in
+        let some = whole.some in
+        let within = whole.within in
+        let at = whole.at in
+        let size = whole.size in
+        let small = run.is.small in
+        let one : first ≡ whole.first = omega arith in
+        let count : b.words / 8192 ≡ whole.count = omega arith in
+        record {
+          some = omega arith;
+          most = omega arith;
+          until = omega arith;
+          running = drop_running;
+          left = λ e from until. drop_left e (omega arith) (omega arith);
+          used = refl;
+          uses = λ e before. elim before as (λ _. IsUsed (record p { blocks = h }) e) [ inl none ↦ absurd (omega (arith, none.0, none.1)) | inr same ↦ same ];
+          listed = λ e from until. absurd (omega arith);
+          only = λ e there. inl there;
+          free = λ e there. there;
+          heads = λ class is. refl;
+          infos = λ e. refl;
+          serves = record {
+            capacity = refl;
+            works = works_none p.capacity (held_of h) p.words;
+            knows = refl;
+            taken = omega arith;
+            looks = looks_kept (record p { blocks = h }) (record p { blocks = h }) refl;
+          };
+          blocks = refl;
+          caches = refl;
+          taken = refl;
+          few = omega arith;
+          drew = omega arith;
+        }
+
+    -- and in the end all are
+    pub freed_large : (first d : ℕ) (q : Parts) → first ≡ (b.first_word - start_word p.capacity 0) / 8192 → first + b.words / 8192 ≤ d
+        → IsFreed first d (first + b.words / 8192) (record p { blocks = h }) q → FreesLarge b p q
+    freed_large first d q is past freed =
+        let whole = lies in
+        let at = whole.at in
+        let size = whole.size in
+        let one : first ≡ whole.first = omega arith in
+        let count : b.words / 8192 ≡ whole.count = omega arith in record {
+          all = λ e part. let begins = part.begins in let ends = part.ends in freed.listed e (omega arith) (omega arith);
+          only = λ e there. elim (freed.only e there) as (λ _. IsInList p 0 e ⊎ HasPartIn p.capacity b e) [
+            | inl before ↦ inl before
+            | inr part ↦ let until = freed.until in inr (record { begins = omega (arith, part.0, part.1); ends = omega (arith, part.0, part.1) })
+          ];
+          free = freed.free;
+          heads = freed.heads;
+          infos = λ e below. freed.infos e;
+          caches = freed.caches;
+        }
+
+    -- and none is lost
+    pub freed_accounted : (first d : ℕ) (q : Parts) → first ≡ (b.first_word - start_word p.capacity 0) / 8192 → first + b.words / 8192 ≤ d
+        → IsFreed first d (first + b.words / 8192) (record p { blocks = h }) q → AreAccounted p → AreAccounted q
+    freed_accounted first d q is past freed before = record { each = each } where
+      whole : IsWhole p.capacity b
+      whole = lies
+
+      each : (e : ℕ) → e < image_of q used_word → IsUsed q e
+      each e taken =
+          let same = freed.used in
+          let at = whole.at in
+          let size = whole.size in
+          let one : first ≡ whole.first = omega arith in
+          let count : b.words / 8192 ≡ whole.count = omega arith in
+          elim (use_without p.capacity e (image_of p) (held_in p) (held_of h) b (freed_takes p (record p { blocks = h }) b h holds takes refl) (before.each e (omega arith))) as (λ _. IsUsed q e) [
+            | inl still ↦ freed.uses e (inr still)
+            | inr part ↦ let begins = part.begins in let ends = part.ends in freed.uses e (inl (omega arith, omega arith))
+          ]
