@@ -4,7 +4,7 @@ use Rattle.heap_model.specs.declared.block.Block.{Block}
 use Rattle.heap_model.specs.Sizes.{IsClass}
 use Rattle.heap_shape.specs.Draining.{IsAccounted}
 use Rattle.line_memory.specs.View.{View}
-use Rattle.block_heap.specs.declared.small.Front.{Front}
+use Rattle.block_heap.specs.declared.small.CacheFront.{CacheFront}
 use Rattle.block_heap.specs.Accounts.{AreAccounted}
 use Rattle.block_heap.specs.Flush.{GivesBack}
 use Rattle.block_heap.specs.Parts.{Parts, image_of, held_in}
@@ -19,7 +19,7 @@ accounted_same p q capacity volatile held before =
     (subst (λ (blocks : List Block). IsAccounted p.capacity (image_of p) blocks) (sym held) before))
 
 -- the cache is what was behind the front
-pub gives_back : (p : Parts) (class : ℕ) (front : Front) (w : View) → IsClass class → IsRunning p
+pub gives_back : (p : Parts) (class : ℕ) (front : CacheFront) (w : View) → IsClass class → IsRunning p
     → (AreAccounted p → AreAccounted (changed p w (set p.caches class front.rest) p.blocks))
     → GivesBack class front p (changed p w (set p.caches class front.rest) p.blocks)
 gives_back p class front w is run accounted = record {

@@ -20,7 +20,7 @@ use Rattle.block_heap.specs.Parts.{Parts, image_of, held_in, cache_at}
 use Rattle.block_heap.specs.Returns.{FreesSmall, FreesLarge, ComesBack}
 use Rattle.block_heap.specs.Running.{IsRunning, AreShort}
 use Rattle.block_heap.specs.Lists.{head_at}
-use Rattle.block_heap.specs.Steps.{Fills, HandsOut}
+use Rattle.block_heap.specs.Steps.{IsRefilling, HandsOut}
 use Rattle.block_heap.specs.Large.{JoinsAs}
 use Rattle.block_heap.specs.Serving.{HasRoom, in_cache, in_class_list, in_free_list, in_fresh, HasRoomFor, for_class, for_large, LookedInClass, FindsNone, GetsInClass, AnswersInClass, Answers, DrainsTo, DrainsNone}
 use Rattle.std.proofs.lemmas.List.{nil_from_length}
@@ -78,7 +78,7 @@ leads_nowhere link capacity from [] none leads = refl
 leads_nowhere link capacity from (d ∷ ds) none leads = absurd (let first = leads.0 in omega arith)
 
 -- where a request of a class found nothing there was nothing to drain
-pub drains_nothing : (class : ℕ) (p q : Parts) → IsClass class → q.capacity ≡ p.capacity → Fills class p q → FindsNone class p q → DrainsNone class p
+pub drains_nothing : (class : ℕ) (p q : Parts) → IsClass class → q.capacity ≡ p.capacity → IsRefilling class p q → FindsNone class p q → DrainsNone class p
 drains_nothing class p q is capacity fills finds drainable b drained =
     let run = fills.running in
     let looked = finds.looked in
@@ -103,7 +103,7 @@ still_none class p q finds (in_free_list some) = some finds.looked.free_empty
 still_none class p q finds (in_fresh room) = let past = finds.looked.past in omega arith
 
 -- a request of a class that got a block
-pub gets_in_class : (class : ℕ) (b : Block) (p q r : Parts) → IsClass class → AreShort p 0 → q.capacity ≡ p.capacity → r.capacity ≡ q.capacity → Fills class p q → HasRoom p class
+pub gets_in_class : (class : ℕ) (b : Block) (p q r : Parts) → IsClass class → AreShort p 0 → q.capacity ≡ p.capacity → r.capacity ≡ q.capacity → IsRefilling class p q → HasRoom p class
     → HandsOut class b q r → GetsInClass class b p r
 gets_in_class class b p q r is short capacity same fills room hands = record {
   running = hands.running;
@@ -121,7 +121,7 @@ gets_in_class class b p q r is short capacity same fills room hands = record {
 }
 
 -- it was one of those to be drained
-pub drains_block : (class : ℕ) (b : Block) (p q r : Parts) → q.capacity ≡ p.capacity → Fills class p q → HandsOut class b q r → DrainsTo class b p r
+pub drains_block : (class : ℕ) (b : Block) (p q r : Parts) → q.capacity ≡ p.capacity → IsRefilling class p q → HandsOut class b q r → DrainsTo class b p r
 drains_block class b p q r capacity fills hands drainable =
     let same = fills.drains in
     let first : DrainsOne p.capacity class (image_of q) (held_in p) (held_in r) b =

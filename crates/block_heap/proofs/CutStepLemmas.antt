@@ -33,11 +33,11 @@ use Rattle.block_heap.specs.Links.{IsPopped, IsFresh}
 use Rattle.block_heap.specs.Medium.{StoresOnly}
 use Rattle.block_heap.specs.Parts.{Parts, image_of, held_in, cache_at}
 use Rattle.block_heap.specs.Refill.{SameBut, Cuts}
-use Rattle.block_heap.specs.Running.{IsRunning, IsCacheOf, KnowsSizes, IsSettled, Serves}
+use Rattle.block_heap.specs.Running.{IsRunning, IsCacheOf, KnowsSizes, IsSettled, LeavesHeld}
 use Rattle.block_heap.specs.Lists.{head_at, IsEmptyList, LeadsAlong, IsInList}
 use Rattle.block_heap.specs.Order.{CutsAll, CutsFirst}
-use Rattle.block_heap.specs.Steps.{Fills, Spends}
-use Rattle.block_heap.specs.Works.{UsedFits, Works, IsAllocatorWord}
+use Rattle.block_heap.specs.Steps.{IsRefilling, Spends}
+use Rattle.block_heap.specs.Works.{UsedFits, StoresAsAllocator, IsAllocatorWord}
 use Rattle.block_heap.proofs.HeldLemmas.{has_map}
 use Rattle.block_heap.proofs.MediumLemmas.{stores_then, stores_more}
 use Rattle.block_heap.proofs.OrderLemmas.{in_list_along, in_list_has, list_kept}
@@ -182,7 +182,7 @@ module _ (p : Parts) (class d : ℕ) (popped : Popped) (w : View) (look : Look) 
     free_not_used : IsFreeWord used_word → ⊥
     free_not_used t = elim t as (λ _. ⊥) [ inl m ↦ moved_used p.capacity used_word m refl | inr t ↦ divide_before p.capacity d used_word (omega arith) t ]
 
-    pub free_serves : IsNextLook p look → Serves (held_in p) p q
+    pub free_serves : IsNextLook p look → LeavesHeld (held_in p) p q
     free_serves next = serves_of p q IsFreeWord run
         (λ word t. elim t as (λ _. IsAllocatorWord p.capacity (held_in p) word)
         [ inl m ↦ moved_word p.capacity (held_in p) word m | inr t ↦ divide_word p.capacity d (held_in p) word free_within free_none t ])
@@ -221,7 +221,7 @@ module _ (p : Parts) (class d : ℕ) (popped : Popped) (w : View) (look : Look) 
           stores.volatile (head_word c) (divide_before p.capacity d (head_word c) (let last = is_c.last in omega arith))
           ∙ pop_stores.volatile (head_word c) (λ at. let first = is_c.some in omega arith)
 
-      pub free_fills : Fills class p q
+      pub free_fills : IsRefilling class p q
       free_fills = record {
         running = free_running;
         held = same.held;
@@ -274,11 +274,11 @@ module _ (p : Parts) (class d : ℕ) (popped : Popped) (w : View) (look : Look) 
 -- one that was never taken
 module _ (p : Parts) (w : View) (run : IsRunning p) (stores : StoresOnly (λ word. word ≡ used_word) p.words w)
     (crash : MayStore used_word (image_of p used_word + 1) p.words w) (fits : UsedFits p.capacity p.words → UsedFits p.capacity w) where
-  raised : Works p.capacity (held_in p) p.words w
+  raised : StoresAsAllocator p.capacity (held_in p) p.words w
   raised = works_raised p.capacity (held_in p) (image_of p used_word + 1) p.words w stores crash run.settled.used (omega arith) fits
 
   -- it may stop within
-  pub fresh_stops : Serves (held_in p) p (record p { words = w })
+  pub fresh_stops : LeavesHeld (held_in p) p (record p { words = w })
   fresh_stops = record { capacity = refl; works = raised; knows = refl; taken = omega arith; looks = looks_kept p (record p { words = w }) refl }
 
   module _ (class : ℕ) (fresh : Fresh) (look : Look) (took : IsFresh p.capacity 1 fresh p.words w) (seen : look.seen ≡ fresh.used)
@@ -299,7 +299,7 @@ module _ (p : Parts) (w : View) (run : IsRunning p) (stores : StoresOnly (λ wor
       pub none_spends : Spends 0 class p none_fresh
       none_spends = spends_none class p none_fresh refl no_words.0
 
-      pub none_fills : Fills class p none_fresh
+      pub none_fills : IsRefilling class p none_fresh
       none_fills = record {
         running = record {
           words_open = none_running.words_open;
@@ -364,7 +364,7 @@ module _ (p : Parts) (w : View) (run : IsRunning p) (stores : StoresOnly (λ wor
 
       module _ (q : Parts) (cut_stores : StoresOnly (IsDivideWord p.capacity d) w q.words)
           (same : SameBut (record p { words = w; used_look = look; taken = p.taken + 1 }) q) where
-        pub fresh_serves : IsNextLook p look → Serves (held_in p) p q
+        pub fresh_serves : IsNextLook p look → LeavesHeld (held_in p) p q
         fresh_serves next =
             let seen_now : q.used_look.seen ≡ look.seen = ap (λ (l : Look). l.seen) same.used_look in
             let then : q.used_look.taken ≡ look.taken = ap (λ (l : Look). l.taken) same.used_look in
@@ -405,7 +405,7 @@ module _ (p : Parts) (w : View) (run : IsRunning p) (stores : StoresOnly (λ wor
               (let now : volatile_at w used_word ≡ d + 1 = used_set.at in let first = some_words.0 in omega arith)
               (let now : volatile_at w used_word ≡ d + 1 = used_set.at in let at = past in let least = run.few in omega arith)
 
-          pub fresh_fills : Fills class p q
+          pub fresh_fills : IsRefilling class p q
           fresh_fills = record {
             running = fresh_running;
             held = same.held;

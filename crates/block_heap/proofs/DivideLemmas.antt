@@ -7,7 +7,7 @@ use Rattle.heap_model.specs.Words.{full_anchor}
 use Rattle.heap_model.proofs.SizeLemmas.{blocks_fit, two_words, few_blocks, four_blocks}
 use Rattle.heap_model.proofs.BlockLemmas.{block_step}
 use Rattle.line_memory.specs.View.{View, volatile_at, durable_at}
-use Rattle.block_heap.specs.Medium.{Halts, StoresOnly, IsStored, IsPersisted}
+use Rattle.block_heap.specs.Medium.{StopsWithin, StoresOnly, IsStored, IsPersisted}
 use Rattle.block_heap.specs.Links.{IsOpen}
 use Rattle.block_heap.specs.Divide.{IsChained, IsDivided}
 use Rattle.heap_shape.specs.Effects.{IsInSuperblock}
@@ -139,7 +139,7 @@ module _ (capacity class d : ℕ) (v u t w : View) (info anchor value : ℕ) (is
       let c = four_blocks class is in
       omega arith
 
-  pub divide_halts : (ticket : ℕ) → Halts ticket 1 t w → Halts ticket 4200 v w
+  pub divide_halts : (ticket : ℕ) → StopsWithin ticket 1 t w → StopsWithin ticket 4200 v w
   divide_halts ticket halts =
       let few = drawn_few in
       let more = drawn_more in

@@ -8,7 +8,7 @@ use Rattle.line_memory.specs.View.{View, word_count, volatile_at, durable_at}
 use Rattle.block_heap.specs.Closing.{IsOpened, KeepsFixed}
 use Rattle.block_heap.specs.Medium.{StoresOnly}
 use Rattle.block_heap.specs.Parts.{held_in, image_of}
-use Rattle.block_heap.specs.Running.{Serves}
+use Rattle.block_heap.specs.Running.{LeavesHeld}
 use Rattle.block_heap.specs.SeqState.{SeqState, IsSeqHeap, all_roots, seat_of}
 use Rattle.heap_seat.specs.Words.{IsOwn}
 use Rattle.heap_model.specs.Geometry.{IsFixed}
@@ -66,14 +66,14 @@ fixed_store s seen t word heap same capacity own stores looks draws = fixed_by (
     own_not_fixed s.parts.capacity (held_in s.parts) s.parts.words other heap.lasts.stable (subst (IsOwn (held_in s.parts) all_roots) (sym at) own) is) looks draws
 
 -- a request, and a free
-pub fixed_request : (s seen t : SeqState) → IsSeqHeap s → s ≡ seen → Serves (held_in s.parts) s.parts t.parts
+pub fixed_request : (s seen t : SeqState) → IsSeqHeap s → s ≡ seen → LeavesHeld (held_in s.parts) s.parts t.parts
     → t.parts.words.drawn + (s.small_calls + 131072 * s.large_calls) ≤ s.parts.words.drawn + (t.small_calls + 131072 * t.large_calls) → KeepsFixed seen t
 fixed_request s seen t heap same serves draws =
     fixed_by (IsAllocatorWord s.parts.capacity (held_in s.parts)) s seen t same serves.capacity serves.works.stores (λ word may is.
     not_fixed s.parts.capacity (held_in s.parts) s.parts.words word heap.lasts.stable may is) serves.knows draws
 
 pub fixed_free : (s seen t : SeqState) (b : Block) → IsSeqHeap s → s ≡ seen → TakesFrom b (held_in s.parts) (held_in t.parts)
-    → Serves (held_in t.parts) s.parts t.parts
+    → LeavesHeld (held_in t.parts) s.parts t.parts
     → t.parts.words.drawn + (s.small_calls + 131072 * s.large_calls) ≤ s.parts.words.drawn + (t.small_calls + 131072 * t.large_calls) → KeepsFixed seen t
 fixed_free s seen t b heap same takes serves draws =
     let stable = stable_fewer s.parts.capacity (held_in s.parts) (held_in t.parts) s.parts.words takes.only heap.lasts.stable in

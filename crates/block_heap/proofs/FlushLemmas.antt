@@ -23,14 +23,14 @@ use Rattle.anchor_word.specs.declared.anchor.Anchor.{Anchor}
 use Rattle.anchor_word.specs.declared.anchor.State.{State}
 use Rattle.anchor_word.specs.declared.anchor.State.TheVariants.{Empty, Partial, Full}
 use Rattle.anchor_word.specs.Anchor.{state_number}
-use Rattle.block_heap.specs.declared.small.Front.{Front}
+use Rattle.block_heap.specs.declared.small.CacheFront.{CacheFront}
 use Rattle.block_heap.specs.Accounts.{AreAccounted}
 use Rattle.block_heap.specs.Batches.{IsGiven, IsGiveWord, linked_words, given_to}
 use Rattle.block_heap.specs.Flush.{IsFront}
 use Rattle.block_heap.specs.Links.{IsPushed, IsPushWord}
 use Rattle.block_heap.specs.Medium.{StoresOnly}
 use Rattle.block_heap.specs.Parts.{Parts, image_of, held_in, cache_at}
-use Rattle.block_heap.specs.Running.{IsRunning, IsCacheOf, Serves}
+use Rattle.block_heap.specs.Running.{IsRunning, IsCacheOf, LeavesHeld}
 use Rattle.block_heap.specs.Works.{IsAllocatorWord, is_head, is_anchor, is_link, is_inside}
 use Rattle.block_heap.proofs.MediumLemmas.{stores_then, stores_more}
 use Rattle.block_heap.proofs.RunningLemmas.{set_is}
@@ -46,7 +46,7 @@ full_number Partial e = absurd (omega arith)
 full_number Full e = refl
 
 -- where the front of a cache stands
-module _ (p : Parts) (class : ℕ) (is : IsClass class) (run : IsRunning p) (front : Front) (is_front : IsFront class front p) where
+module _ (p : Parts) (class : ℕ) (is : IsClass class) (run : IsRunning p) (front : CacheFront) (is_front : IsFront class front p) where
   abbrev pub blocks : List ℕ
   blocks = is_front.before ++ front.batch.last ∷ []
 
@@ -175,7 +175,7 @@ module _ (p : Parts) (class : ℕ) (is : IsClass class) (run : IsRunning p) (fro
   both_low list word low not_anchor not_link not_head (inr (inr at)) = not_link at
 
   pub gave_serves : (q : Parts) → q.capacity ≡ p.capacity → looks_of q ≡ looks_of p → q.taken ≡ p.taken
-      → StoresOnly (IsGiveWord front.d front.batch) p.words q.words → Serves (held_in p) p q
+      → StoresOnly (IsGiveWord front.d front.batch) p.words q.words → LeavesHeld (held_in p) p q
   gave_serves q capacity look taken stores = serves_of p q (held_in p) (IsGiveWord front.d front.batch) run capacity look taken give_word
       (λ at. give_low used_word (omega arith) (omega arith) at) stores
 
@@ -186,7 +186,7 @@ module _ (p : Parts) (class : ℕ) (is : IsClass class) (run : IsRunning p) (fro
       (stores_more (IsPushWord list front.d) (IsEitherWord list) w x (λ word at. inr at) pushed)
 
   pub pushed_serves : (w : View) (list : ℕ) (q : Parts) → list < lists → q.capacity ≡ p.capacity → looks_of q ≡ looks_of p → q.taken ≡ p.taken
-      → StoresOnly (IsGiveWord front.d front.batch) p.words w → StoresOnly (IsPushWord list front.d) w q.words → Serves (held_in p) p q
+      → StoresOnly (IsGiveWord front.d front.batch) p.words w → StoresOnly (IsPushWord list front.d) w q.words → LeavesHeld (held_in p) p q
   pushed_serves w list q below capacity look taken given pushed = serves_of p q (held_in p) (IsEitherWord list) run capacity look taken
       (λ word at. both_word list word below at)
       (λ at. both_low list used_word (omega arith) (omega arith) (omega arith) (omega arith) at) (both_stores w q.words list given pushed)

@@ -6,9 +6,9 @@ use Rattle.heap_shape.specs.Moves.{TakesFrom}
 use Rattle.line_memory.specs.declared.memory.Stopped.{Stopped}
 use Rattle.block_heap.specs.Accounts.{AreAccounted}
 use Rattle.heap_seat.specs.Free.{MayFree, Frees}
-use Rattle.block_heap.specs.Medium.{Goes, Halts}
+use Rattle.block_heap.specs.Medium.{RunsWithin, StopsWithin}
 use Rattle.block_heap.specs.Parts.{Parts, held_in}
-use Rattle.block_heap.specs.Running.{IsRunning, AreShort, Serves}
+use Rattle.block_heap.specs.Running.{IsRunning, AreShort, LeavesHeld}
 use Rattle.block_heap.specs.Works.{IsAllocatorWord, IsStable, IsLasting}
 use Rattle.block_heap.specs.SeqState.{SeqState, IsSeqHeap, all_roots, seat_of}
 use Rattle.heap_seat.specs.Words.{IsOwn, in_block, in_root}
@@ -16,7 +16,7 @@ use Rattle.block_heap.proofs.RequestLemmas.{large_lasts, large_view, word_kept, 
 use Rattle.block_heap.proofs.StableLemmas.{not_own, stable_kept, stable_fewer}
 
 -- held blocks are stable after a free
-pub free_stable : (p q : Parts) (b : Block) → IsStable p.capacity p.words (held_in p) → TakesFrom b (held_in p) (held_in q) → Serves (held_in q) p q
+pub free_stable : (p q : Parts) (b : Block) → IsStable p.capacity p.words (held_in p) → TakesFrom b (held_in p) (held_in q) → LeavesHeld (held_in q) p q
     → IsStable q.capacity q.words (held_in q)
 free_stable p q b stable takes serves =
     subst (λ n. IsStable n q.words (held_in q)) (sym serves.capacity)
@@ -24,8 +24,8 @@ free_stable p q b stable takes serves =
 
 -- what lasts over a free
 pub free_lasts : (r : Result Unit Stopped) (p q : Parts) (b : Block) (old o : Option ℕ) → IsLasting p.capacity p.words (held_in p) old
-    → TakesFrom b (held_in p) (held_in q) → Serves (held_in q) p q
-    → OnOk r (o ≡ None) → IfErr r (λ e. o ≡ Some e.step) → IfErr r (λ e. Halts e.step 40000 p.words q.words) → IsLasting q.capacity q.words (held_in q) o
+    → TakesFrom b (held_in p) (held_in q) → LeavesHeld (held_in q) p q
+    → OnOk r (o ≡ None) → IfErr r (λ e. o ≡ Some e.step) → IfErr r (λ e. StopsWithin e.step 40000 p.words q.words) → IsLasting q.capacity q.words (held_in q) o
 free_lasts r p q b old o lasts takes serves none stops halts =
     large_lasts r p q (held_in q) 40000 old o lasts serves (free_stable p q b lasts.stable takes serves) none stops halts
 
@@ -36,7 +36,7 @@ free_runs (Ok t) p q before run short accounted = (run, short, accounted before)
 free_runs (Err e) p q before run short accounted = tt
 
 module _ (s : SeqState) (q : Parts) (o : Option ℕ) (b : Block) (heap : IsSeqHeap s)
-    (takes : TakesFrom b (held_in s.parts) (held_in q)) (serves : Serves (held_in q) s.parts q) where
+    (takes : TakesFrom b (held_in s.parts) (held_in q)) (serves : LeavesHeld (held_in q) s.parts q) where
   -- an own word outside the block is own after it
   still_own : (word : ℕ) → (IsIn b word → ⊥) → IsOwn (held_in s.parts) all_roots word → IsOwn (held_in q) all_roots word
   still_own _ out (in_block a word holds in_a) = in_block a word (takes.keeps a holds (λ e. out (subst (λ x. IsIn x word) e in_a))) in_a
@@ -60,7 +60,7 @@ module _ (s : SeqState) (q : Parts) (o : Option ℕ) (b : Block) (heap : IsSeqHe
 
   -- and where it was done
   pub frees : (r : Result Unit Stopped) (seen : SeqState) (most : ℕ) → s ≡ seen → seen.stopped ≡ None → OnOk r (o ≡ None)
-      → OnOk r (Goes most s.parts.words q.words) → OnOk r (Frees b (seat_of seen) (large_view s q o))
+      → OnOk r (RunsWithin most s.parts.words q.words) → OnOk r (Frees b (seat_of seen) (large_view s q o))
   frees (Ok t) seen most same ran runs goes = subst (λ t. Frees b (seat_of t) (large_view s q o)) same (record {
     runs = record { ran = ap (λ (t : SeqState). t.stopped) same ∙ ran; running = runs; drew = goes.drew; below = goes.below };
     gone = takes.gone;

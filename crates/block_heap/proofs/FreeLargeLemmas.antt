@@ -1,44 +1,32 @@
 -- How a large block is freed: its mark is taken back, and then its superblocks go to the free list, one after another.
-use Rattle.std.proofs.Common.{◌≡◌, ◌≢◌, ℕ, zero, suc, ◌+◌, ◌-◌, ◌*◌, ◌/◌, ◌<◌, ◌≤◌, ◌^◌, ◌⊎◌, inl, inr, List, ◌∷◌, length, get_or, set, Contains, refl, ap, sym, subst, ◌∙◌, arith}
+use Rattle.std.proofs.Common.{◌≡◌, ◌≢◌, ℕ, ◌+◌, ◌-◌, ◌*◌, ◌/◌, ◌<◌, ◌≤◌, ◌⊎◌, inl, inr, length, get_or, Contains, refl, ap, sym, subst, ◌∙◌, arith}
 use Rattle.std.proofs.lemmas.Bool.{cases_eq}
 use Rattle.heap_model.specs.declared.block.Block.{Block}
-use Rattle.heap_model.specs.Geometry.{lists, head_word, info_word, anchor_word, link_word, used_word, start_word, superblock_words, largest_capacity, largest_capacity_fits}
+use Rattle.heap_model.specs.Geometry.{head_word, info_word, link_word, used_word, start_word, superblock_words, largest_capacity}
 use Rattle.heap_model.specs.Sizes.{IsClass, words_of_class}
-use Rattle.heap_model.specs.Words.{head_first, head_pops}
+use Rattle.heap_model.specs.Words.{head_first}
 use Rattle.heap_model.specs.Recovered.{HasPartIn}
-use Rattle.heap_model.specs.Chains.{Follows}
-use Rattle.heap_model.proofs.CountingLemmas.{times_some}
-use Rattle.heap_model.proofs.MemberLemmas.{in_head, in_rest, head_or_rest}
-use Rattle.heap_shape.specs.Shape.{Place, in_list, is_full, in_large, is_new, Shape, stands_in}
+use Rattle.heap_shape.specs.Shape.{in_list, in_large}
 use Rattle.heap_shape.specs.Standing.{HasNoHeld, IsInLarge, IsAs}
 use Rattle.heap_shape.specs.Whole.{IsShape}
-use Rattle.heap_shape.specs.Effects.{IsSet, IsPushedOn}
-use Rattle.heap_shape.specs.Moves.{after_split, TakesFrom}
-use Rattle.heap_shape.specs.Draining.{for_later}
-use Rattle.heap_shape.proofs.AccountLemmas.{free_follows, use_kept, use_without}
-use Rattle.heap_shape.proofs.BasicLemmas.{with_at_same, with_at_other, member_place}
-use Rattle.heap_shape.proofs.LargeLemmas.{large_places, drop_large, split_one}
+use Rattle.heap_shape.specs.Moves.{TakesFrom}
+use Rattle.heap_shape.proofs.AccountLemmas.{use_without}
+use Rattle.heap_shape.proofs.BasicLemmas.{member_place}
+use Rattle.heap_shape.proofs.LargeLemmas.{large_places, drop_large}
 use Rattle.heap_shape.proofs.OwnLemmas.{one_following, large_block}
-use Rattle.line_memory.specs.View.{View, word_count, volatile_at, durable_at}
 use Rattle.line_memory.specs.Marks.{marked_words}
 use Rattle.block_heap.specs.declared.held.HeldBlocks.{HeldBlocks}
 use Rattle.block_heap.specs.Held.{held_of, at_mark, block_of_mark, HasMark}
 use Rattle.block_heap.specs.Accounts.{IsUsed, AreAccounted, GivesUse}
-use Rattle.block_heap.specs.Links.{IsPushed, IsPushWord}
-use Rattle.block_heap.specs.Medium.{StoresOnly, Goes, IsStored}
-use Rattle.block_heap.specs.Lists.{head_at, LeadsAlong, IsInList, KeepsFree}
+use Rattle.block_heap.specs.Medium.{RunsWithin}
+use Rattle.block_heap.specs.Lists.{head_at, IsInList, KeepsFree}
 use Rattle.block_heap.specs.Returns.{FreesLarge, FreesOne}
 use Rattle.block_heap.specs.Parts.{Parts, image_of, held_in}
-use Rattle.block_heap.specs.Running.{IsRunning, Serves}
+use Rattle.block_heap.specs.Running.{IsRunning, LeavesHeld}
 use Rattle.block_heap.specs.Large.{IsDropped}
-use Rattle.block_heap.specs.Works.{IsAllocatorWord, is_head, is_anchor, is_link}
-use Rattle.block_heap.proofs.MediumLemmas.{stores_then, stores_more}
-use Rattle.block_heap.proofs.OrderLemmas.{in_list_along, in_list_has, list_kept}
-use Rattle.block_heap.proofs.RunningLemmas.{set_is, settled_kept}
 use Rattle.block_heap.proofs.HeldLemmas.{only_map, mark_block}
 use Rattle.block_heap.proofs.LookLemmas.{looks_kept}
-use Rattle.block_heap.proofs.StableLemmas.{works_none, works_of}
-use Rattle.block_heap.proofs.PushLemmas.{pushed_is, pushed_pops, words_inside}
+use Rattle.block_heap.proofs.StableLemmas.{works_none}
 use Rattle.block_heap.proofs.SmallLemmas.{serves_then}
 
 -- a held block is that of its mark
@@ -75,7 +63,7 @@ pub record IsFreed (first d end : ℕ) (p q : Parts) : Type 0 where
   pub free : KeepsFree p q
   pub heads : (class : ℕ) → IsClass class → head_at q class ≡ head_at p class
   pub infos : (e : ℕ) → image_of q (info_word e) ≡ image_of p (info_word e)
-  pub serves : Serves (held_in p) p q
+  pub serves : LeavesHeld (held_in p) p q
   pub blocks : q.blocks ≡ p.blocks
   pub caches : q.caches ≡ p.caches
   pub taken : q.taken ≡ p.taken
@@ -84,7 +72,7 @@ pub record IsFreed (first d end : ℕ) (p q : Parts) : Type 0 where
 
 -- one superblock more is in the free list
 pub freed_more : (first d end : ℕ) (p q r : Parts) → d < end → IsFreed first d end p q → IsRunning r → ((e : ℕ) → e ≢ d → IsDropped q e → IsDropped r e)
-    → GivesUse d q r → FreesOne d q r → Goes 4 q.words r.words → r.blocks ≡ q.blocks → Serves (held_in q) q r → r.caches ≡ q.caches → r.taken ≡ q.taken → IsFreed first (d + 1) end p r
+    → GivesUse d q r → FreesOne d q r → RunsWithin 4 q.words r.words → r.blocks ≡ q.blocks → LeavesHeld (held_in q) q r → r.caches ≡ q.caches → r.taken ≡ q.taken → IsFreed first (d + 1) end p r
 freed_more first d end p q r below freed running others gives frees goes blocks serves caches taken = record {
   some = freed.some;
   most = freed.most;
@@ -107,7 +95,7 @@ freed_more first d end p q r below freed running others gives frees goes blocks 
   free = λ e there. frees.free e (freed.free e there);
   heads = λ class is. frees.heads class is ∙ freed.heads class is;
   infos = λ e. frees.infos e ∙ freed.infos e;
-  serves = serves_then p q r (held_in p) freed.serves (subst (λ (h : HeldBlocks). Serves (held_of h) q r) freed.blocks serves);
+  serves = serves_then p q r (held_in p) freed.serves (subst (λ (h : HeldBlocks). LeavesHeld (held_of h) q r) freed.blocks serves);
   blocks = blocks ∙ freed.blocks;
   caches = caches ∙ freed.caches;
   taken = taken ∙ freed.taken;
@@ -122,11 +110,11 @@ freed_more first d end p q r below freed running others gives frees goes blocks 
   ]
 
 -- the parts serve the blocks that are held still
-pub freed_serves : (first d end : ℕ) (h : HeldBlocks) (p q r : Parts) → IsFreed first d end (record p { blocks = h }) q → r.blocks ≡ q.blocks → Serves (held_in q) q r
-    → Serves (held_in r) p r
+pub freed_serves : (first d end : ℕ) (h : HeldBlocks) (p q r : Parts) → IsFreed first d end (record p { blocks = h }) q → r.blocks ≡ q.blocks → LeavesHeld (held_in q) q r
+    → LeavesHeld (held_in r) p r
 freed_serves first d end h p q r freed blocks serves =
-    let all = serves_then (record p { blocks = h }) q r (held_of h) freed.serves (subst (λ (x : HeldBlocks). Serves (held_of x) q r) freed.blocks serves) in
-    subst (λ (x : HeldBlocks). Serves (held_of x) p r) (sym (blocks ∙ freed.blocks))
+    let all = serves_then (record p { blocks = h }) q r (held_of h) freed.serves (subst (λ (x : HeldBlocks). LeavesHeld (held_of x) q r) freed.blocks serves) in
+    subst (λ (x : HeldBlocks). LeavesHeld (held_of x) p r) (sym (blocks ∙ freed.blocks))
     (record { capacity = all.capacity; works = all.works; knows = all.knows; taken = all.taken; looks = record { used = all.looks.used; heads = all.looks.heads } })
 
 -- the block is held no more

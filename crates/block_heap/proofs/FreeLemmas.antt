@@ -24,9 +24,9 @@ use Rattle.block_heap.specs.declared.cache.Cache.{Cache}
 use Rattle.block_heap.specs.declared.held.HeldBlocks.{HeldBlocks}
 use Rattle.block_heap.specs.Accounts.{AreAccounted}
 use Rattle.block_heap.specs.Held.{held_of, HasMark, at_mark}
-use Rattle.block_heap.specs.Medium.{StoresOnly, IsStored, Goes}
+use Rattle.block_heap.specs.Medium.{StoresOnly, IsStored, RunsWithin}
 use Rattle.block_heap.specs.Parts.{Parts, image_of, held_in, cache_at}
-use Rattle.block_heap.specs.Running.{IsRunning, AreShort, Serves}
+use Rattle.block_heap.specs.Running.{IsRunning, AreShort, LeavesHeld}
 use Rattle.block_heap.specs.Flush.{KeepsAll}
 use Rattle.block_heap.specs.Works.{IsAllocatorWord, is_inside}
 use Rattle.block_heap.proofs.RunningLemmas.{set_is}
@@ -119,7 +119,7 @@ module _ (p : Parts) (class : ℕ) (is : IsClass class) (run : IsRunning p) (b :
     not_first word low at = let from = inside.0 in omega arith
 
     pub freed_serves : (q : Parts) → q.capacity ≡ p.capacity → looks_of q ≡ looks_of p → q.taken ≡ p.taken
-        → StoresOnly (λ word. word ≡ b.first_word) p.words q.words → Serves (held_of h) p q
+        → StoresOnly (λ word. word ≡ b.first_word) p.words q.words → LeavesHeld (held_of h) p q
     freed_serves q capacity look taken stores = serves_of p q (held_of h) (λ word. word ≡ b.first_word) run capacity look taken freed_word
         (λ at. not_first used_word (omega arith) at) stores
 
@@ -219,12 +219,12 @@ module _ (p : Parts) (class : ℕ) (is : IsClass class) (run : IsRunning p) (b :
       pub flushed_held : (r : Parts) → held_in r ≡ held_of h → TakesFrom b (held_in p) (held_in r)
       flushed_held r same = subst (λ now. TakesFrom b (held_in p) now) (sym same) taken_back
 
-      pub flushed_serve : (r : Parts) → held_in r ≡ held_of h → Serves (held_of h) freed_parts r → Serves (held_in r) p r
-      flushed_serve r same serves = subst (λ now. Serves now p r) (sym same) (serves_then p freed_parts r (held_of h)
+      pub flushed_serve : (r : Parts) → held_in r ≡ held_of h → LeavesHeld (held_of h) freed_parts r → LeavesHeld (held_in r) p r
+      flushed_serve r same serves = subst (λ now. LeavesHeld now p r) (sym same) (serves_then p freed_parts r (held_of h)
           (freed_serves freed_parts refl refl refl stores) serves)
 
       pub flushed_goes : (r : Parts) → IsRunning r → freed_parts.words.drawn ≤ r.words.drawn
-          → r.words.drawn ≤ freed_parts.words.drawn + 9 * (cache_at freed_parts.caches class).count → Goes 40000 p.words r.words
+          → r.words.drawn ≤ freed_parts.words.drawn + 9 * (cache_at freed_parts.caches class).count → RunsWithin 40000 p.words r.words
       flushed_goes r running more few =
           let drew = stored.goes.drew in
           let one = stored.goes.few in

@@ -10,11 +10,11 @@ use Rattle.heap_model.proofs.SizeLemmas.{two_words, few_blocks}
 use Rattle.heap_shape.specs.Standing.{first_of, IsFirstOf}
 use Rattle.line_memory.specs.View.{View}
 use Rattle.block_heap.specs.declared.cache.Cache.{Cache}
-use Rattle.block_heap.specs.declared.small.Front.{Front}
+use Rattle.block_heap.specs.declared.small.CacheFront.{CacheFront}
 use Rattle.block_heap.specs.Flush.{IsFront, KeepsAll, GivesBack}
-use Rattle.block_heap.specs.Medium.{StoresOnly, Goes, Halts, IsLoaded}
+use Rattle.block_heap.specs.Medium.{StoresOnly, RunsWithin, StopsWithin, IsLoaded}
 use Rattle.block_heap.specs.Parts.{Parts, image_of, held_in, cache_at}
-use Rattle.block_heap.specs.Running.{IsRunning, Serves}
+use Rattle.block_heap.specs.Running.{IsRunning, LeavesHeld}
 use Rattle.block_heap.proofs.AccountLemmas.{accounted_same}
 use Rattle.block_heap.proofs.MediumLemmas.{stores_then}
 use Rattle.block_heap.proofs.RunningLemmas.{running_words}
@@ -38,7 +38,7 @@ pub record IsWalked (class d last next count : ℕ) (cache : Cache) (p : Parts) 
 -- so many words at most were loaded, and nothing else was done
 pub record HasLoaded (most : ℕ) (p q : Parts) : Type 0 where
   pub same : q ≡ record p { words = q.words }
-  pub goes : Goes most p.words q.words
+  pub goes : RunsWithin most p.words q.words
   pub volatile : q.words.volatile ≡ p.words.volatile
   pub stores : StoresOnly (λ _. ⊥) p.words q.words
 
@@ -59,12 +59,12 @@ module _ (p q : Parts) (most : ℕ) (run : IsRunning p) (loaded : HasLoaded most
     accounted = accounted_same p q (ap (λ (x : Parts). x.capacity) loaded.same) loaded.volatile (ap (λ (x : Parts). held_in x) loaded.same);
   }
 
-  pub loaded_serves : Serves (held_in p) p q
+  pub loaded_serves : LeavesHeld (held_in p) p q
   loaded_serves = serves_of p q (held_in p) (λ _. ⊥) run (ap (λ x. x.capacity) loaded.same) (ap looks_of loaded.same)
       (ap (λ x. x.taken) loaded.same)
       (λ word out. absurd out) (λ out. out) loaded.stores
 
-  pub loaded_front : (class : ℕ) (front : Front) → IsFront class front p → IsFront class front q
+  pub loaded_front : (class : ℕ) (front : CacheFront) → IsFront class front p → IsFront class front q
   loaded_front class front is = subst (λ x. IsFront class front x) (sym loaded.same)
       (record {
         within = is.within;
@@ -79,7 +79,7 @@ module _ (p q : Parts) (most : ℕ) (run : IsRunning p) (loaded : HasLoaded most
       })
 
   -- also where the next load stopped
-  pub stopped_serves : (r : Parts) → r ≡ record q { words = r.words } → StoresOnly (λ _. ⊥) q.words r.words → Serves (held_in p) p r
+  pub stopped_serves : (r : Parts) → r ≡ record q { words = r.words } → StoresOnly (λ _. ⊥) q.words r.words → LeavesHeld (held_in p) p r
   stopped_serves r same stores = serves_of p r (held_in p) (λ _. ⊥) run
       (ap (λ (x : Parts). x.capacity) same ∙ ap (λ (x : Parts). x.capacity) loaded.same)
       (ap looks_of same ∙ ap looks_of loaded.same)
@@ -235,7 +235,7 @@ pub record IsFlushed (class : ℕ) (p q : Parts) : Type 0 where
   pub more : p.words.drawn ≤ q.words.drawn
   pub few : q.words.drawn + 9 * (cache_at q.caches class).count ≤ p.words.drawn + 9 * (cache_at p.caches class).count
   pub held : held_in q ≡ held_in p
-  pub serves : Serves (held_in p) p q
+  pub serves : LeavesHeld (held_in p) p q
   pub taken : q.taken ≡ p.taken
   pub order : FlushesSoFar class p q
 
@@ -260,13 +260,13 @@ keeps_then class p q r a b = record {
   accounted = λ before. b.accounted (a.accounted before);
 }
 
-pub flushed_serves : (class : ℕ) (p q r : Parts) → IsFlushed class p q → Serves (held_in q) q r → Serves (held_in p) p r
-flushed_serves class p q r before serves = serves_then p q r (held_in p) before.serves (subst (λ held. Serves held q r) before.held serves)
+pub flushed_serves : (class : ℕ) (p q r : Parts) → IsFlushed class p q → LeavesHeld (held_in q) q r → LeavesHeld (held_in p) p r
+flushed_serves class p q r before serves = serves_then p q r (held_in p) before.serves (subst (λ held. LeavesHeld held q r) before.held serves)
 
 -- a front was found
-module _ (class : ℕ) (p q r : Parts) (front : Front) (before : IsFlushed class p q) (is_front : IsFront class front r) (run : IsRunning r)
+module _ (class : ℕ) (p q r : Parts) (front : CacheFront) (before : IsFlushed class p q) (is_front : IsFront class front r) (run : IsRunning r)
     (keeps : KeepsAll class q r) (caches : r.caches ≡ q.caches)
-    (goes : Goes front.batch.count q.words r.words) (held : held_in r ≡ held_in q) (serves : Serves (held_in q) q r) (taken : r.taken ≡ q.taken) where
+    (goes : RunsWithin front.batch.count q.words r.words) (held : held_in r ≡ held_in q) (serves : LeavesHeld (held_in q) q r) (taken : r.taken ≡ q.taken) where
   some_given : 1 ≤ front.batch.count
   some_given = let count = is_front.count in let both = length-append is_front.before (front.batch.last ∷ []) in omega arith
 
@@ -284,12 +284,12 @@ module _ (class : ℕ) (p q r : Parts) (front : Front) (before : IsFlushed class
   pub front_held : held_in r ≡ held_in p
   front_held = held ∙ before.held
 
-  pub front_serves : Serves (held_in p) p r
+  pub front_serves : LeavesHeld (held_in p) p r
   front_serves = flushed_serves class p q r before serves
 
   -- and given back
-  module _ (t : Parts) (gave_run : IsRunning t) (gives : GivesBack class front r t) (gave : Goes 6 r.words t.words) (gave_held : held_in t ≡ held_in r)
-      (gave_serve : Serves (held_in r) r t) (gave_taken : t.taken ≡ r.taken) (is : IsClass class) (first : IsRunning p)
+  module _ (t : Parts) (gave_run : IsRunning t) (gives : GivesBack class front r t) (gave : RunsWithin 6 r.words t.words) (gave_held : held_in t ≡ held_in r)
+      (gave_serve : LeavesHeld (held_in r) r t) (gave_taken : t.taken ≡ r.taken) (is : IsClass class) (first : IsRunning p)
       (volatile : r.words.volatile ≡ q.words.volatile) (longest : IsLongest front r) (to : GivesTo class front r t) where
     pub flushed_more : IsFlushed class p t
     flushed_more = record {
@@ -303,7 +303,7 @@ module _ (class : ℕ) (p q r : Parts) (front : Front) (before : IsFlushed class
           let rest : (cache_at t.caches class).count ≡ front.rest.count = ap (λ (x : Cache). x.count) gives.cache in
           omega arith;
       held = gave_held ∙ front_held;
-      serves = serves_then p r t (held_in p) front_serves (subst (λ h. Serves h r t) front_held gave_serve);
+      serves = serves_then p r t (held_in p) front_serves (subst (λ h. LeavesHeld h r t) front_held gave_serve);
       taken = gave_taken ∙ taken ∙ before.taken;
       order = flushes_more class p q r t is (first.caches class is).most before.order serves.capacity volatile (ap (λ (xs : List Cache). cache_at xs class) caches)
           run front is_front longest some_given to gave_serve.capacity gives.cache;
@@ -318,11 +318,11 @@ module _ (class : ℕ) (p q r : Parts) (front : Front) (before : IsFlushed class
         omega arith
 
   -- giving it serves the held blocks, however far it goes
-  pub give_serves : (x : Parts) → Serves (held_in r) r x → Serves (held_in p) p x
-  give_serves x gave = serves_then p r x (held_in p) front_serves (subst (λ h. Serves h r x) front_held gave)
+  pub give_serves : (x : Parts) → LeavesHeld (held_in r) r x → LeavesHeld (held_in p) p x
+  give_serves x gave = serves_then p r x (held_in p) front_serves (subst (λ h. LeavesHeld h r x) front_held gave)
 
   -- how far it went where giving it stopped
-  pub give_halts : (w : View) (ticket : ℕ) → IsClass class → IsRunning p → Halts ticket 6 r.words w → Halts ticket 36864 p.words w
+  pub give_halts : (w : View) (ticket : ℕ) → IsClass class → IsRunning p → StopsWithin ticket 6 r.words w → StopsWithin ticket 36864 p.words w
   give_halts w ticket is first halts = record {
     stopped = halts.stopped;
     above = halts.above;
@@ -341,7 +341,7 @@ module _ (class : ℕ) (p q r : Parts) (front : Front) (before : IsFlushed class
 
 -- and where finding it did
 pub front_halts : (class : ℕ) (p q : Parts) (w : View) (ticket : ℕ) → IsFlushed class p q → IsClass class → IsRunning p
-    → Halts ticket (cache_at q.caches class).count q.words w → Halts ticket 36864 p.words w
+    → StopsWithin ticket (cache_at q.caches class).count q.words w → StopsWithin ticket 36864 p.words w
 front_halts class p q w ticket before is first halts = record {
   stopped = halts.stopped;
   above = halts.above;

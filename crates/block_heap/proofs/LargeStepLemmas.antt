@@ -26,7 +26,7 @@ use Rattle.block_heap.specs.Held.{held_of, at_mark, block_of_mark}
 use Rattle.block_heap.specs.Links.{IsFresh}
 use Rattle.block_heap.specs.Medium.{StoresOnly, IsPersisted}
 use Rattle.block_heap.specs.Parts.{Parts, image_of, held_in}
-use Rattle.block_heap.specs.Running.{IsRunning, IsSettled, Serves}
+use Rattle.block_heap.specs.Running.{IsRunning, IsSettled, LeavesHeld}
 use Rattle.block_heap.specs.Works.{UsedFits, is_info}
 use Rattle.block_heap.proofs.AccountLemmas.{accounted_same}
 use Rattle.block_heap.proofs.RunningLemmas.{set_is, running_words}
@@ -80,7 +80,7 @@ looked_accounted p count fresh u look is none =
     accounted_same p (record p { words = u; used_look = look }) refl (fresh_none p.capacity count fresh p.words u is none).0 refl
 
 pub serves_looked : (p : Parts) (count : ℕ) (fresh : Fresh) (u : View) (look : Look) → IsRunning p → IsFresh p.capacity count fresh p.words u → fresh.first ≡ None
-    → look.seen ≡ fresh.used → look.taken ≡ p.taken → IsNextLook p look → Serves (held_in p) p (record p { words = u; used_look = look })
+    → look.seen ≡ fresh.used → look.taken ≡ p.taken → IsNextLook p look → LeavesHeld (held_in p) p (record p { words = u; used_look = look })
 serves_looked p count fresh u look run is none seen when next =
     let got = fresh_none p.capacity count fresh p.words u is none in
     let knows = run.knows in
@@ -95,7 +95,7 @@ serves_looked p count fresh u look run is none seen when next =
 
 -- raising `used` may stop within
 pub large_stops : (p : Parts) (count : ℕ) (w : View) → IsRunning p → StoresOnly (λ word. word ≡ used_word) p.words w
-    → MayStore used_word (image_of p used_word + count) p.words w → (UsedFits p.capacity p.words → UsedFits p.capacity w) → Serves (held_in p) p (record p { words = w })
+    → MayStore used_word (image_of p used_word + count) p.words w → (UsedFits p.capacity p.words → UsedFits p.capacity w) → LeavesHeld (held_in p) p (record p { words = w })
 large_stops p count w run stores crash fits = record {
   capacity = refl;
   works = works_raised p.capacity (held_in p) (image_of p used_word + count) p.words w stores crash run.settled.used (omega arith) fits;
@@ -156,7 +156,7 @@ module _ (p : Parts) (count d : ℕ) (fresh : Fresh) (u : View) (look : Look) (r
           omega (arith, got.0)
 
       pub join_serves : (blocks : HeldBlocks) → IsNextLook p look
-          → Serves (held_in p) p (record p { words = w; blocks = blocks; taken = p.taken + count; used_look = look })
+          → LeavesHeld (held_in p) p (record p { words = w; blocks = blocks; taken = p.taken + count; used_look = look })
       join_serves blocks next = record {
         capacity = refl;
         works = works_then p.capacity (held_in p) p.words u w

@@ -5,7 +5,7 @@ use Rattle.line_memory.specs.View.{View, volatile_at, durable_at, IsPending, IsS
 use Rattle.line_memory.specs.Crash.{IsValueOf, MayStore}
 use Rattle.line_memory.specs.Steps.{TakesBy, RefusesBy, SameTickets, IsLoad, IsStore, IsWriteBack, IsFence, after_draw}
 use Rattle.line_memory.proofs.CallerLemmas.{draw_adds, contains_or_not}
-use Rattle.block_heap.specs.Medium.{StoresOnly, Goes, Halts, IsLoaded, IsStored, IsWritten, IsFenced}
+use Rattle.block_heap.specs.Medium.{StoresOnly, RunsWithin, StopsWithin, IsLoaded, IsStored, IsWritten, IsFenced}
 
 -- a draw leaves all but the durable words
 pub draw_stores : (r : ℕ) (v w : View) → w ≡ after_draw r v → StoresOnly (λ _. ⊥) v w
@@ -85,14 +85,14 @@ refused_stores gives ticket v w refused =
           })
     ]
 
-pub refused_halts : (gives : ℕ → Type 0) (ticket : ℕ) (v w : View) → v.stopped ≡ None → RefusesBy gives ticket v w → Halts ticket 1 v w
+pub refused_halts : (gives : ℕ → Type 0) (ticket : ℕ) (v w : View) → v.stopped ≡ None → RefusesBy gives ticket v w → StopsWithin ticket 1 v w
 refused_halts gives ticket v w running refused =
     elim refused [
       | inl had ↦ let e = had.stopped in absurd (cc)
       | inr stops ↦
           let is_ticket : ticket ≡ v.drawn = stops.is_ticket in
           let above = stops.above in
-          subst (λ (x : View). Halts ticket 1 v x) (sym stops.done)
+          subst (λ (x : View). StopsWithin ticket 1 v x) (sym stops.done)
           (record {
             stopped = refl;
             above = omega arith;
@@ -104,7 +104,7 @@ refused_halts gives ticket v w running refused =
     ]
 
 -- tickets of a step that was done
-same_goes : (r : ℕ) (v w : View) → v.stopped ≡ None → v.drawn < v.budget → SameTickets (after_draw r v) w → Goes 1 v w
+same_goes : (r : ℕ) (v w : View) → v.stopped ≡ None → v.drawn < v.budget → SameTickets (after_draw r v) w → RunsWithin 1 v w
 same_goes r v w running allowed same =
     let drawn : w.drawn ≡ v.drawn + 1 = same.drawn in
     let budget : w.budget ≡ v.budget = same.budget in

@@ -11,13 +11,13 @@ use Rattle.heap_shape.proofs.OwnLemmas.{one_following}
 use Rattle.heap_seat.specs.declared.look.Look.{Look}
 use Rattle.block_heap.specs.declared.refill.Found.{Found}
 use Rattle.block_heap.specs.declared.refill.Found.TheVariants.{Blocks, Recycled, Nothing}
-use Rattle.block_heap.specs.Medium.{Goes, Halts}
+use Rattle.block_heap.specs.Medium.{RunsWithin, StopsWithin}
 use Rattle.block_heap.specs.Parts.{Parts, image_of, held_in, cache_at}
 use Rattle.block_heap.specs.Refill.{FindsPartial, FindsFree, FindsFresh, Refills}
-use Rattle.block_heap.specs.Running.{IsRunning, Serves}
+use Rattle.block_heap.specs.Running.{IsRunning, LeavesHeld}
 use Rattle.block_heap.specs.Serving.{HasRoom, in_cache, in_class_list, in_free_list, in_fresh}
 use Rattle.block_heap.specs.Lists.{head_at, IsEmptyList, LeadsAlong}
-use Rattle.block_heap.specs.Steps.{look_at, IsLook, Fills, FindsFirst, FindsEmpty, Recycles, Spends, used_up}
+use Rattle.block_heap.specs.Steps.{look_at, IsLook, IsRefilling, FindsFirst, FindsEmpty, Recycles, Spends, used_up}
 use Rattle.block_heap.specs.Order.{CutsAll, FillsFrom, from_fresh, MovesEmpty, OrdersFirst, OrdersPartial, OrdersFresh}
 use Rattle.block_heap.proofs.OrderLemmas.{moves_none, moves_then, moves_same, takes_after, cuts_after, nothing_in_empty}
 use Rattle.block_heap.proofs.SpendLemmas.{spends_none, spends_then}
@@ -25,10 +25,10 @@ use Rattle.std.proofs.lemmas.Bool.{cases_eq}
 use Rattle.block_heap.proofs.RefillLemmas.{serves_same, drains_none, drains_then, serves_all}
 
 -- nothing done yet, and two rows of steps
-pub fills_none : (class : ℕ) (p : Parts) → IsRunning p → Fills class p p
+pub fills_none : (class : ℕ) (p : Parts) → IsRunning p → IsRefilling class p p
 fills_none class p run = record { running = run; held = refl; caches = λ c is other. refl; heads = λ c is other. refl; drains = drains_none p.capacity class (held_in p) (image_of p) }
 
-pub fills_then : (class : ℕ) (p u q : Parts) → u.capacity ≡ p.capacity → Fills class p u → Fills class u q → Fills class p q
+pub fills_then : (class : ℕ) (p u q : Parts) → u.capacity ≡ p.capacity → IsRefilling class p u → IsRefilling class u q → IsRefilling class p q
 fills_then class p u q capacity a b = record {
   running = b.running;
   held = b.held ∙ a.held;
@@ -57,8 +57,8 @@ look_later from first p q look seen before later same is = record {
 
 -- on the way along the list of the class: what was found there went to the free list, and eight steps for each that is left are few
 pub record Walked (class : ℕ) (p q : Parts) : Type 0 where
-  pub fills : Fills class p q
-  pub serves : Serves (held_in p) p q
+  pub fills : IsRefilling class p q
+  pub serves : LeavesHeld (held_in p) p q
   pub empty : (cache_at q.caches class).count ≡ 0
   pub taken : q.taken ≡ p.taken
   pub used : image_of q used_word ≡ image_of p used_word
@@ -88,7 +88,7 @@ walk_begins class p is run empty = record {
 }
 
 -- one more look at the first of the list
-module _ (class : ℕ) (p q r : Parts) (is : IsClass class) (walked : Walked class p q) (serves : Serves (held_in q) q r) (held : held_in r ≡ held_in q)
+module _ (class : ℕ) (p q r : Parts) (is : IsClass class) (walked : Walked class p q) (serves : LeavesHeld (held_in q) q r) (held : held_in r ≡ held_in q)
     (taken : r.taken ≡ q.taken) where
   begun : p.words.drawn ≤ q.words.drawn
   begun = walked.serves.works.stores.drawn
@@ -103,10 +103,10 @@ module _ (class : ℕ) (p q r : Parts) (is : IsClass class) (walked : Walked cla
   was_some : (IsEmptyList q class → ⊥) → IsEmptyList p class → ⊥
   was_some some none = elim walked.way as (λ _. ⊥) [ inl same ↦ some (empty_same p q class same none) | inr way ↦ way.1 none ]
 
-  pub walk_serves : Serves (held_in p) p r
+  pub walk_serves : LeavesHeld (held_in p) p r
   walk_serves = serves_all p q r walked.fills.held walked.serves serves
 
-  pub walk_halts : (ticket : ℕ) → Halts ticket 8 q.words r.words → Halts ticket (8 * largest_capacity + 8) p.words r.words
+  pub walk_halts : (ticket : ℕ) → StopsWithin ticket 8 q.words r.words → StopsWithin ticket (8 * largest_capacity + 8) p.words r.words
   walk_halts ticket halts =
       let from = halts.from in
       let few = halts.few in
@@ -137,8 +137,8 @@ module _ (class : ℕ) (p q r : Parts) (is : IsClass class) (walked : Walked cla
         walked.moves.nothing (nothing_in_empty class q finds.1.empty),
       )
 
-  module _ (fills : Fills class q r) (goes : Goes 8 q.words r.words) where
-    pub walk_goes : Goes (8 * largest_capacity + 8) p.words r.words
+  module _ (fills : IsRefilling class q r) (goes : RunsWithin 8 q.words r.words) where
+    pub walk_goes : RunsWithin (8 * largest_capacity + 8) p.words r.words
     walk_goes =
         let drew = goes.drew in
         let few = goes.few in
@@ -146,7 +146,7 @@ module _ (class : ℕ) (p q r : Parts) (is : IsClass class) (walked : Walked cla
         let most = so_far in
         record { running = goes.running; drew = omega arith; few = omega arith; below = goes.below }
 
-    pub walk_fills : Fills class p r
+    pub walk_fills : IsRefilling class p r
     walk_fills = fills_then class p q r walked.serves.capacity walked.fills fills
 
     pub walk_more : (found : Found) → found ≡ Recycled → FindsFirst class found q r → OrdersFirst class found q r → Spends (used_up found) class q r
@@ -172,9 +172,9 @@ module _ (class : ℕ) (p q r : Parts) (is : IsClass class) (walked : Walked cla
         }
 
 -- First the list of the class is looked through, then the free list, and then superblocks that were never taken.
-module _ (class : ℕ) (p a b : Parts) (is : IsClass class) (a_serves : Serves (held_in p) p a) (a_taken : a.taken ≡ p.taken)
-    (b_serves : Serves (held_in a) a b) where
-  module _ (q : Parts) (b_taken : b.taken ≡ a.taken) (q_serves : Serves (held_in b) b q) (part : FindsPartial class false p a)
+module _ (class : ℕ) (p a b : Parts) (is : IsClass class) (a_serves : LeavesHeld (held_in p) p a) (a_taken : a.taken ≡ p.taken)
+    (b_serves : LeavesHeld (held_in a) a b) where
+  module _ (q : Parts) (b_taken : b.taken ≡ a.taken) (q_serves : LeavesHeld (held_in b) b q) (part : FindsPartial class false p a)
       (free : FindsFree class false a b) where
     finds : FindsEmpty 0 a b
     finds = free.1

@@ -8,14 +8,14 @@ use Rattle.heap_model.specs.Sizes.{IsClass, IsLeastClassFor, class_sizes, size_o
 use Rattle.heap_model.specs.Words.{head_first}
 use Rattle.line_memory.specs.View.{volatile_at, durable_at}
 use Rattle.line_memory.specs.declared.memory.Stopped.{Stopped}
-use Rattle.block_heap.specs.Medium.{StoresOnly, Goes, Halts}
+use Rattle.block_heap.specs.Medium.{StoresOnly, RunsWithin, StopsWithin}
 use Rattle.heap_seat.specs.declared.fault.Looks.{Looks}
 use Rattle.heap_seat.specs.declared.look.Look.{Look}
 use Rattle.block_heap.specs.Accounts.{AreAccounted}
 use Rattle.heap_seat.specs.Alloc.{Refuses}
 use Rattle.heap_seat.specs.Looks.{IsLastSeen, FoundNone, FoundNoRoom}
 use Rattle.block_heap.specs.Parts.{Parts, image_of, held_in}
-use Rattle.block_heap.specs.Running.{IsRunning, AreShort, Serves}
+use Rattle.block_heap.specs.Running.{IsRunning, AreShort, LeavesHeld}
 use Rattle.block_heap.specs.Serving.{Answers, Misses, IsLooksOf, RefusesAs}
 use Rattle.heap_seat.specs.declared.fault.AllocFault.{AllocFault}
 use Rattle.heap_seat.specs.declared.fault.AllocFault.TheVariants.{Full, Stopped as StoppedFault}
@@ -54,7 +54,7 @@ answer_runs None bytes p q misses = (misses.running, misses.short, misses.accoun
 answer_runs (Some b) bytes p q gets = (gets.running, gets.short, gets.accounted)
 
 -- held blocks are stable after a request
-pub request_stable : (r : Result (Option Block) Stopped) (p q : Parts) (bytes : ℕ) → IsStable p.capacity p.words (held_in p) → Serves (held_in p) p q
+pub request_stable : (r : Result (Option Block) Stopped) (p q : Parts) (bytes : ℕ) → IsStable p.capacity p.words (held_in p) → LeavesHeld (held_in p) p q
     → IfOk r (λ answer. Answers bytes answer p q)
     → OnErr r (held_in q ≡ held_in p) → IsStable q.capacity q.words (held_in q)
 request_stable (Ok answer) p q bytes stable serves answers held =
@@ -66,8 +66,8 @@ request_stable (Err e) p q bytes stable serves answers held =
 
 -- what lasts over a request or a free
 pub large_lasts : {T : Type 0} (r : Result T Stopped) (p q : Parts) (held : List Block) (most : ℕ) (old o : Option ℕ)
-    → IsLasting p.capacity p.words (held_in p) old → Serves held p q
-    → IsStable q.capacity q.words (held_in q) → OnOk r (o ≡ None) → IfErr r (λ e. o ≡ Some e.step) → IfErr r (λ e. Halts e.step most p.words q.words)
+    → IsLasting p.capacity p.words (held_in p) old → LeavesHeld held p q
+    → IsStable q.capacity q.words (held_in q) → OnOk r (o ≡ None) → IfErr r (λ e. o ≡ Some e.step) → IfErr r (λ e. StopsWithin e.step most p.words q.words)
     → IsLasting q.capacity q.words (held_in q) o
 large_lasts r p q held most old o lasts serves stable none stops halts = record {
   some = let same = serves.capacity in let some = lasts.some in omega arith;
@@ -79,9 +79,9 @@ large_lasts r p q held most old o lasts serves stable none stops halts = record 
 
 -- over a request
 pub request_lasts : (r : Result (Option Block) Stopped) (p q : Parts) (bytes : ℕ) (old o : Option ℕ) → IsLasting p.capacity p.words (held_in p) old
-    → Serves (held_in p) p q
+    → LeavesHeld (held_in p) p q
     → IfOk r (λ answer. Answers bytes answer p q) → OnErr r (held_in q ≡ held_in p) → OnOk r (o ≡ None) → IfErr r (λ e. o ≡ Some e.step)
-    → IfErr r (λ e. Halts e.step 41201 p.words q.words)
+    → IfErr r (λ e. StopsWithin e.step 41201 p.words q.words)
     → IsLasting q.capacity q.words (held_in q) o
 request_lasts r p q bytes old o lasts serves answers held none stops halts =
     large_lasts r p q (held_in p) 41201 old o lasts serves (request_stable r p q bytes lasts.stable serves answers held) none stops halts
@@ -89,8 +89,8 @@ request_lasts r p q bytes old o lasts serves answers held none stops halts =
 -- a request or a free keeps the heap
 pub large_heap : {T : Type 0} (r : Result T Stopped) (s : SeqState) (q : Parts) (most : ℕ) (o : Option ℕ) (l : ∥ IsLasting q.capacity q.words (held_in q) o ∥₁)
     → IsSeqHeap s
-    → IsLasting q.capacity q.words (held_in q) o → OnOk r (IsRunning q × AreShort q 0 × AreAccounted q) → OnOk r (Goes most s.parts.words q.words)
-    → IfErr r (λ e. Halts e.step most s.parts.words q.words) → IfErr r (λ e. o ≡ Some e.step)
+    → IsLasting q.capacity q.words (held_in q) o → OnOk r (IsRunning q × AreShort q 0 × AreAccounted q) → OnOk r (RunsWithin most s.parts.words q.words)
+    → IfErr r (λ e. StopsWithin e.step most s.parts.words q.words) → IfErr r (λ e. o ≡ Some e.step)
     → IsSeqHeap (record {
       parts = q;
       stopped = o;
@@ -125,7 +125,7 @@ pending_kept s q o to word stores out = λ p. elim (stores.pending word out p) a
 ]
 
 -- a request keeps all own words
-pub request_words : (s seen : SeqState) (q : Parts) (o : Option ℕ) → IsSeqHeap s → s ≡ seen → Serves (held_in s.parts) s.parts q
+pub request_words : (s seen : SeqState) (q : Parts) (o : Option ℕ) → IsSeqHeap s → s ≡ seen → LeavesHeld (held_in s.parts) s.parts q
     → KeepsWords (seat_of seen) (large_view s q o)
 request_words s seen q o heap same serves = subst (λ t. KeepsWords (seat_of t) (large_view s q o)) same (record {
   roots = refl;

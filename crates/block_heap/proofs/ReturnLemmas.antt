@@ -1,5 +1,5 @@
 -- Where the blocks of a cache go as it is given back.
-use Rattle.std.proofs.Common.{◌≡◌, ◌≢◌, ℕ, ◌<◌, ◌≤◌, ◌⊎◌, inl, inr, nat_eq, eq-eqb, zero, suc, List, [], ◌∷◌, ◌++◌, length, get_or, set, Contains, refl, ap, sym, subst, ◌∙◌, arith, length-append, append-nil}
+use Rattle.std.proofs.Common.{◌≡◌, ◌≢◌, ℕ, ◌<◌, ◌≤◌, ◌⊎◌, inl, inr, nat_eq, eq-eqb, zero, suc, List, [], ◌∷◌, ◌++◌, get_or, set, Contains, refl, ap, sym, subst, ◌∙◌, arith, length-append, append-nil}
 use Rattle.std.proofs.lemmas.Bool.{cases_eq}
 use Rattle.std.proofs.lemmas.List.Elements.{Contains-append_left, Contains-append_right}
 use Rattle.heap_model.specs.declared.block.Block.{Block}
@@ -20,7 +20,7 @@ use Rattle.line_memory.specs.View.{View, volatile_at}
 use Rattle.anchor_word.specs.declared.anchor.Anchor.{Anchor}
 use Rattle.anchor_word.specs.declared.anchor.State.TheVariants.{Full}
 use Rattle.block_heap.specs.declared.cache.Cache.{Cache}
-use Rattle.block_heap.specs.declared.small.Front.{Front}
+use Rattle.block_heap.specs.declared.small.CacheFront.{CacheFront}
 use Rattle.block_heap.specs.Batches.{IsGiven, IsGiveWord}
 use Rattle.block_heap.specs.Flush.{IsFront, KeepsAll}
 use Rattle.block_heap.specs.Links.{IsPushed, IsPushWord}
@@ -65,7 +65,7 @@ along_one p class words is run along =
     one_walk (image_of p) (cache_at p.caches class).first words (run.shape.cached class) along.walks here.walks (sym along.count ∙ here.count)
 
 -- The front of the cache was given back.
-module _ (p : Parts) (class : ℕ) (is : IsClass class) (run : IsRunning p) (front : Front) (is_front : IsFront class front p)
+module _ (p : Parts) (class : ℕ) (is : IsClass class) (run : IsRunning p) (front : CacheFront) (is_front : IsFront class front p)
     (w : View) (anchor : Anchor) (given : IsGiven p.capacity class front.d front.batch anchor p.words w)
     (stores : StoresOnly (IsGiveWord front.d front.batch) p.words w) where
   below : class < lists
@@ -203,7 +203,7 @@ only_same class d p q capacity same cache all = (
 )
 
 -- Where the longest front is all of the cache, it is all of a superblock.
-module _ (p : Parts) (class : ℕ) (is : IsClass class) (run : IsRunning p) (front : Front) (is_front : IsFront class front p) where
+module _ (p : Parts) (class : ℕ) (is : IsClass class) (run : IsRunning p) (front : CacheFront) (is_front : IsFront class front p) where
   abbrev whole : List ℕ
   whole = is_front.before ++ front.batch.last ∷ []
 
@@ -288,7 +288,7 @@ flushes_none class p = record { free = λ d there. there; listed = λ d there. t
 -- one front more
 module _ (class : ℕ) (p q r t : Parts) (is : IsClass class) (most : (cache_at p.caches class).count ≤ blocks_of class) (before : FlushesSoFar class p q)
     (capacity : r.capacity ≡ q.capacity) (volatile : r.words.volatile ≡ q.words.volatile) (cache : cache_at r.caches class ≡ cache_at q.caches class)
-    (run : IsRunning r) (front : Front) (is_front : IsFront class front r) (longest : IsLongest front r) (some : 1 ≤ front.batch.count)
+    (run : IsRunning r) (front : CacheFront) (is_front : IsFront class front r) (longest : IsLongest front r) (some : 1 ≤ front.batch.count)
     (to : GivesTo class front r t) (now_capacity : t.capacity ≡ r.capacity) (back : cache_at t.caches class ≡ front.rest) where
   loaded : (list d : ℕ) → IsInList q list d → IsInList r list d
   loaded list d there = list_same q r list d capacity volatile there

@@ -3,7 +3,7 @@ use Rattle.std.proofs.Common.{◌≡◌, ℕ, ◌+◌, ◌<◌, ◌≤◌, Optio
 use Rattle.heap_model.specs.Geometry.{used_word, image_words, largest_capacity_fits}
 use Rattle.line_memory.specs.View.{View, word_count, volatile_at, durable_at, line_of}
 use Rattle.line_memory.specs.declared.memory.Stopped.{Stopped}
-use Rattle.block_heap.specs.Medium.{StoresOnly, Goes, Halts, IsLoaded, IsStored, IsWritten, IsFenced}
+use Rattle.block_heap.specs.Medium.{StoresOnly, RunsWithin, StopsWithin, IsLoaded, IsStored, IsWritten, IsFenced}
 use Rattle.block_heap.specs.Parts.{Parts, held_in}
 use Rattle.block_heap.specs.Works.{IsLasting}
 use Rattle.block_heap.specs.SeqState.{SeqState, IsSeqHeap, all_roots, seat_of}
@@ -20,7 +20,7 @@ use Rattle.block_heap.proofs.AccountLemmas.{accounted_same}
 use Rattle.block_heap.proofs.RunningLemmas.{running_words}
 
 -- the ticket of a stop is not allowed
-pub stop_above : {T : Type 0} (r : Result T Stopped) (o : Option ℕ) (most : ℕ) (v w : View) → OnOk r (o ≡ None) → IfErr r (λ e. o ≡ Some e.step) → IfErr r (λ e. Halts e.step most v w)
+pub stop_above : {T : Type 0} (r : Result T Stopped) (o : Option ℕ) (most : ℕ) (v w : View) → OnOk r (o ≡ None) → IfErr r (λ e. o ≡ Some e.step) → IfErr r (λ e. StopsWithin e.step most v w)
     → (ticket : ℕ) → o ≡ Some ticket → (w.budget ≤ ticket) × (w.drawn ≡ ticket + 1)
 stop_above (Ok x) o most v w none stops halts ticket at = absurd (cc)
 stop_above (Err e) o most v w none stops halts ticket at =
@@ -31,12 +31,12 @@ stop_above (Err e) o most v w none stops halts ticket at =
     (omega arith, omega arith)
 
 -- a call that ran drew a ticket
-pub drew : {T : Type 0} (r : Result T Stopped) (most : ℕ) (v w : View) → OnOk r (Goes most v w) → IfErr r (λ e. Halts e.step most v w) → v.drawn < w.drawn
+pub drew : {T : Type 0} (r : Result T Stopped) (most : ℕ) (v w : View) → OnOk r (RunsWithin most v w) → IfErr r (λ e. StopsWithin e.step most v w) → v.drawn < w.drawn
 drew (Ok x) most v w goes halts = goes.drew
 drew (Err e) most v w goes halts = let from = halts.from in let until = halts.until in omega arith
 
 -- and few
-pub few_drawn : {T : Type 0} (r : Result T Stopped) (most : ℕ) (v w : View) → OnOk r (Goes most v w) → IfErr r (λ e. Halts e.step most v w) → w.drawn ≤ v.drawn + most
+pub few_drawn : {T : Type 0} (r : Result T Stopped) (most : ℕ) (v w : View) → OnOk r (RunsWithin most v w) → IfErr r (λ e. StopsWithin e.step most v w) → w.drawn ≤ v.drawn + most
 few_drawn (Ok x) most v w goes halts = goes.few
 few_drawn (Err e) most v w goes halts = halts.few
 
@@ -58,14 +58,14 @@ small_lasts p w to old o lasts stores own above = record {
 
 -- a call that stores nothing keeps the heap
 pub quiet_heap : {T : Type 0} (r : Result T Stopped) (s : SeqState) (w : View) (o : Option ℕ) (l : ∥ IsLasting s.parts.capacity w (held_in s.parts) o ∥₁) → IsSeqHeap s → s.stopped ≡ None
-    → OnOk r (Goes 1 s.parts.words w) → OnOk r (w.volatile ≡ s.parts.words.volatile) → IfErr r (λ e. Halts e.step 1 s.parts.words w) → StoresOnly (λ _. ⊥) s.parts.words w
+    → OnOk r (RunsWithin 1 s.parts.words w) → OnOk r (w.volatile ≡ s.parts.words.volatile) → IfErr r (λ e. StopsWithin e.step 1 s.parts.words w) → StoresOnly (λ _. ⊥) s.parts.words w
     → OnOk r (o ≡ None) → IfErr r (λ e. o ≡ Some e.step)
     → IsSeqHeap (record { parts = record s.parts { words = w }; stopped = o; small_calls = s.small_calls + 1; large_calls = s.large_calls; refusals = s.refusals; refused_bytes = s.refused_bytes; refused_looks = s.refused_looks; lasts = l })
 quiet_heap r s w o l heap ran goes same halts stores none stops = record {
   lasts = small_lasts s.parts w (λ _. ⊥) s.stopped o heap.lasts stores (λ word t. absurd t) (stop_above r o 1 s.parts.words w none stops halts);
   running = λ running.
       let before = heap.running ran in
-      let went = done_of r o (Goes 1 s.parts.words w) goes stops running in (
+      let went = done_of r o (RunsWithin 1 s.parts.words w) goes stops running in (
         running_words s.parts w (λ _. ⊥) before.0 went.running (done_of r o (w.volatile ≡ s.parts.words.volatile) same stops running) stores (λ d below t. t) (λ t. t) went.below,
         record { each = before.1.each },
         accounted_same s.parts (record s.parts { words = w }) refl (done_of r o (w.volatile ≡ s.parts.words.volatile) same stops running) refl before.2,
@@ -110,7 +110,7 @@ small_view s w o = record (seat_of s) {
 }
 
 -- a call that was done
-runs_of : (s : SeqState) (w : View) (o : Option ℕ) → s.stopped ≡ None → o ≡ None → Goes 1 s.parts.words w → Runs (seat_of s) (small_view s w o)
+runs_of : (s : SeqState) (w : View) (o : Option ℕ) → s.stopped ≡ None → o ≡ None → RunsWithin 1 s.parts.words w → Runs (seat_of s) (small_view s w o)
 runs_of s w o ran runs goes = record { ran = ran; running = runs; drew = goes.drew; below = goes.below }
 
 pub load_ok : (r : Result ℕ Stopped) (s seen : SeqState) (w : View) (o : Option ℕ) (word : ℕ) → IsSeqHeap s → s ≡ seen → seen.stopped ≡ None → OnOk r (o ≡ None)
@@ -164,7 +164,7 @@ fence_ok (Ok t) s seen w o same ran runs fenced = subst (λ t. Fences (seat_of t
 fence_ok (Err e) s seen w o same ran runs fenced = tt
 
 -- of a load that was done
-pub loaded_goes : (r : Result ℕ Stopped) (word : ℕ) (v w : View) → IfOk r (λ value. IsLoaded word value v w) → OnOk r (Goes 1 v w)
+pub loaded_goes : (r : Result ℕ Stopped) (word : ℕ) (v w : View) → IfOk r (λ value. IsLoaded word value v w) → OnOk r (RunsWithin 1 v w)
 loaded_goes (Ok value) word v w loaded = loaded.goes
 loaded_goes (Err e) word v w loaded = tt
 

@@ -24,9 +24,9 @@ use Rattle.block_heap.specs.declared.held.HeldBlocks.{HeldBlocks}
 use Rattle.block_heap.specs.Held.{held_of, HasMark, at_mark}
 use Rattle.block_heap.specs.Medium.{StoresOnly, IsLoaded}
 use Rattle.block_heap.specs.Parts.{Parts, image_of, held_in, cache_at}
-use Rattle.block_heap.specs.Running.{IsCacheOf, IsRunning, Serves}
+use Rattle.block_heap.specs.Running.{IsCacheOf, IsRunning, LeavesHeld}
 use Rattle.block_heap.specs.Steps.{HandsOut}
-use Rattle.block_heap.specs.Works.{IsAllocatorWord}
+use Rattle.block_heap.specs.Works.{IsAllocatorWord, StoresAsAllocator}
 use Rattle.block_heap.proofs.RunningLemmas.{settled_kept}
 use Rattle.block_heap.proofs.LookLemmas.{looks_of, looks_kept, looks_then}
 use Rattle.block_heap.proofs.StableLemmas.{works_of, works_then, works_none}
@@ -154,7 +154,7 @@ other_cache caches class new c other = get_or-set_other caches class c new (reco
 
 -- steps that store to words of an allocator serve the held blocks
 pub serves_of : (p q : Parts) (held : List Block) (to : ℕ → Type 0) → IsRunning p → q.capacity ≡ p.capacity → looks_of q ≡ looks_of p → q.taken ≡ p.taken
-    → ((word : ℕ) → to word → IsAllocatorWord p.capacity held word) → (to used_word → ⊥) → StoresOnly to p.words q.words → Serves held p q
+    → ((word : ℕ) → to word → IsAllocatorWord p.capacity held word) → (to used_word → ⊥) → StoresOnly to p.words q.words → LeavesHeld held p q
 serves_of p q held to run capacity look taken are not_used stores = record {
   capacity = capacity;
   works = (works_of p.capacity held to p.words q.words are not_used stores run.settled.used).0;
@@ -166,13 +166,13 @@ serves_of p q held to run capacity look taken are not_used stores = record {
   looks = looks_kept p q look;
 }
 
-pub serves_none : (p : Parts) (held : List Block) → Serves held p p
+pub serves_none : (p : Parts) (held : List Block) → LeavesHeld held p p
 serves_none p held = record { capacity = refl; works = works_none p.capacity held p.words; knows = omega arith; taken = omega arith; looks = looks_kept p p refl }
 
-pub serves_then : (p q r : Parts) (held : List Block) → Serves held p q → Serves held q r → Serves held p r
+pub serves_then : (p q r : Parts) (held : List Block) → LeavesHeld held p q → LeavesHeld held q r → LeavesHeld held p r
 serves_then p q r held a b = record {
   capacity = b.capacity ∙ a.capacity;
-  works = works_then p.capacity held p.words q.words r.words a.works (subst (λ n. Rattle.block_heap.specs.Works.Works n held q.words r.words) a.capacity
+  works = works_then p.capacity held p.words q.words r.words a.works (subst (λ n. StoresAsAllocator n held q.words r.words) a.capacity
       b.works);
   knows = let x = a.knows in let y = b.knows in omega arith;
   taken = let x = a.taken in let y = b.taken in omega arith;
@@ -352,5 +352,5 @@ module _ (p : Parts) (class : ℕ) (is : IsClass class) (run : IsRunning p) (cac
         taken = refl;
       })
 
-  pub handed_serves : Serves (held_in p) p handed_parts
+  pub handed_serves : LeavesHeld (held_in p) p handed_parts
   handed_serves = serves_of p handed_parts (held_in p) (λ _. ⊥) run refl refl refl (λ word out. absurd out) (λ out. out) stores

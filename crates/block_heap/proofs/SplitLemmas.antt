@@ -1,49 +1,43 @@
 -- One superblock of a large block that is freed goes to the free list: its anchor is stored, and then it is pushed.
-use Rattle.std.proofs.Common.{◌≡◌, ◌≢◌, ℕ, zero, suc, ◌+◌, ◌-◌, ◌*◌, ◌/◌, ◌<◌, ◌≤◌, ◌^◌, ◌⊎◌, inl, inr, List, ◌∷◌, length, get_or, set, Contains, refl, ap, sym, subst, ◌∙◌, arith}
+use Rattle.std.proofs.Common.{◌≡◌, ◌≢◌, ℕ, zero, suc, ◌*◌, ◌<◌, ◌≤◌, ◌^◌, ◌⊎◌, inl, inr, List, ◌∷◌, get_or, set, Contains, refl, ap, sym, subst, ◌∙◌, arith}
 use Rattle.std.proofs.lemmas.Bool.{cases_eq}
 use Rattle.heap_model.specs.declared.block.Block.{Block}
-use Rattle.heap_model.specs.Geometry.{lists, head_word, info_word, anchor_word, link_word, used_word, start_word, superblock_words, largest_capacity, largest_capacity_fits}
+use Rattle.heap_model.specs.Geometry.{lists, head_word, info_word, anchor_word, link_word, used_word, largest_capacity_fits}
 use Rattle.heap_model.specs.Sizes.{IsClass, words_of_class}
 use Rattle.heap_model.specs.Words.{head_first, head_pops}
-use Rattle.heap_model.specs.Recovered.{HasPartIn}
 use Rattle.heap_model.specs.Chains.{Follows}
 use Rattle.heap_model.proofs.CountingLemmas.{times_some}
 use Rattle.heap_model.proofs.MemberLemmas.{in_head, in_rest, head_or_rest}
 use Rattle.heap_shape.specs.Shape.{Place, in_list, is_full, in_large, is_new, Shape, stands_in}
-use Rattle.heap_shape.specs.Standing.{HasNoHeld, IsInLarge, IsAs}
+use Rattle.heap_shape.specs.Standing.{IsAs}
 use Rattle.heap_shape.specs.Whole.{IsShape}
 use Rattle.heap_shape.specs.Effects.{IsSet, IsPushedOn}
-use Rattle.heap_shape.specs.Moves.{after_split, TakesFrom}
+use Rattle.heap_shape.specs.Moves.{after_split}
 use Rattle.heap_shape.specs.Draining.{for_later}
-use Rattle.heap_shape.proofs.AccountLemmas.{free_follows, use_kept, use_without}
-use Rattle.heap_shape.proofs.BasicLemmas.{with_at_same, with_at_other, member_place}
-use Rattle.heap_shape.proofs.LargeLemmas.{large_places, drop_large, split_one}
-use Rattle.heap_shape.proofs.OwnLemmas.{one_following, large_block}
+use Rattle.heap_shape.proofs.AccountLemmas.{free_follows, use_kept}
+use Rattle.heap_shape.proofs.BasicLemmas.{with_at_same, with_at_other}
+use Rattle.heap_shape.proofs.LargeLemmas.{split_one}
+use Rattle.heap_shape.proofs.OwnLemmas.{one_following}
 use Rattle.line_memory.specs.View.{View, word_count, volatile_at, durable_at}
-use Rattle.line_memory.specs.Marks.{marked_words}
-use Rattle.block_heap.specs.declared.held.HeldBlocks.{HeldBlocks}
-use Rattle.block_heap.specs.Held.{held_of, at_mark, block_of_mark, HasMark}
-use Rattle.block_heap.specs.Accounts.{IsUsed, AreAccounted, GivesUse}
+use Rattle.block_heap.specs.Accounts.{IsUsed, GivesUse}
 use Rattle.block_heap.specs.Links.{IsPushed, IsPushWord}
-use Rattle.block_heap.specs.Medium.{StoresOnly, Goes, IsStored}
-use Rattle.block_heap.specs.Lists.{head_at, LeadsAlong, IsInList, KeepsFree}
-use Rattle.block_heap.specs.Returns.{FreesLarge, FreesOne}
+use Rattle.block_heap.specs.Medium.{StoresOnly, IsStored}
+use Rattle.block_heap.specs.Lists.{LeadsAlong, IsInList}
+use Rattle.block_heap.specs.Returns.{FreesOne}
 use Rattle.block_heap.specs.Parts.{Parts, image_of, held_in}
-use Rattle.block_heap.specs.Running.{IsRunning, Serves}
+use Rattle.block_heap.specs.Running.{IsRunning, LeavesHeld}
 use Rattle.block_heap.specs.Large.{IsDropped}
 use Rattle.block_heap.specs.Works.{IsAllocatorWord, is_head, is_anchor, is_link}
 use Rattle.block_heap.proofs.MediumLemmas.{stores_then, stores_more}
 use Rattle.block_heap.proofs.OrderLemmas.{in_list_along, in_list_has, list_kept}
 use Rattle.block_heap.proofs.RunningLemmas.{set_is, settled_kept}
-use Rattle.block_heap.proofs.HeldLemmas.{only_map, mark_block}
 use Rattle.block_heap.proofs.LookLemmas.{looks_kept}
-use Rattle.block_heap.proofs.StableLemmas.{works_none, works_of}
+use Rattle.block_heap.proofs.StableLemmas.{works_of}
 use Rattle.block_heap.proofs.PushLemmas.{pushed_is, pushed_pops, words_inside}
-use Rattle.block_heap.proofs.SmallLemmas.{serves_then}
 
 -- parts with other words serve, where each word stored to is an allocator's
 pub serves_words : (held : List Block) (p : Parts) (to : ℕ → Type 0) (w : View) → ((word : ℕ) → to word → IsAllocatorWord p.capacity held word) → (to used_word → ⊥)
-    → StoresOnly to p.words w → durable_at p.words used_word ≡ volatile_at p.words used_word → Serves held p (record p { words = w })
+    → StoresOnly to p.words w → durable_at p.words used_word ≡ volatile_at p.words used_word → LeavesHeld held p (record p { words = w })
 serves_words held p to w are not_used stores settled = record {
   capacity = refl;
   works = (works_of p.capacity held to p.words w are not_used stores settled).0;
@@ -105,7 +99,7 @@ module _ (p : Parts) (d anchor : ℕ) (u w : View) (run : IsRunning p) (dropped 
   pub anchor_stores : StoresOnly (IsSplitWord d) p.words u
   anchor_stores = stores_more (λ word. word ≡ anchor) (IsSplitWord d) p.words u (λ word e. inl (e ∙ at)) store
 
-  pub anchor_serves : Serves (held_in p) p (record p { words = u })
+  pub anchor_serves : LeavesHeld (held_in p) p (record p { words = u })
   anchor_serves = serves_words (held_in p) p (IsSplitWord d) u (split_words p.capacity d (held_in p) within) (split_not_used d) anchor_stores run.settled.used
 
   -- after both
@@ -113,7 +107,7 @@ module _ (p : Parts) (d anchor : ℕ) (u w : View) (run : IsRunning p) (dropped 
     pub split_stores : StoresOnly (IsSplitWord d) p.words w
     split_stores = stores_then (IsSplitWord d) p.words u w anchor_stores (stores_more (IsPushWord 0 d) (IsSplitWord d) u w (λ word e. inr e) push)
 
-    pub split_serves : Serves (held_in p) p (record p { words = w })
+    pub split_serves : LeavesHeld (held_in p) p (record p { words = w })
     split_serves = serves_words (held_in p) p (IsSplitWord d) w (split_words p.capacity d (held_in p) within) (split_not_used d) split_stores run.settled.used
 
     -- where both were done

@@ -13,7 +13,7 @@ use Rattle.line_memory.specs.View.{View, word_count, volatile_at, durable_at}
 use Rattle.line_memory.specs.Crash.{MayStore as MayStoreWord}
 use Rattle.line_memory.specs.declared.memory.Stopped.{Stopped}
 use Rattle.block_heap.specs.declared.held.HeldBlocks.{HeldBlocks}
-use Rattle.block_heap.specs.Medium.{StoresOnly, Goes, Halts, IsStored}
+use Rattle.block_heap.specs.Medium.{StoresOnly, RunsWithin, StopsWithin, IsStored}
 use Rattle.block_heap.specs.Accounts.{AreAccounted}
 use Rattle.block_heap.specs.Parts.{Parts, held_in}
 use Rattle.block_heap.specs.Running.{IsRunning, KnowsSizes}
@@ -91,7 +91,7 @@ own_accounted p w o word value run lasts own within stored stores =
 
 -- a store to an own word keeps the heap
 pub store_heap : (r : Result Unit Stopped) (s : SeqState) (w : View) (o : Option ℕ) (l : ∥ IsLasting s.parts.capacity w (held_in s.parts) o ∥₁) (word value : ℕ) → IsSeqHeap s → s.stopped ≡ None
-    → IsOwn (held_in s.parts) all_roots word → word < word_count s.parts.words → OnOk r (IsStored word value s.parts.words w) → IfErr r (λ e. Halts e.step 1 s.parts.words w)
+    → IsOwn (held_in s.parts) all_roots word → word < word_count s.parts.words → OnOk r (IsStored word value s.parts.words w) → IfErr r (λ e. StopsWithin e.step 1 s.parts.words w)
     → StoresOnly (λ other. other ≡ word) s.parts.words w → OnOk r (o ≡ None) → IfErr r (λ e. o ≡ Some e.step)
     → IsSeqHeap (record { parts = record s.parts { words = w }; stopped = o; small_calls = s.small_calls + 1; large_calls = s.large_calls; refusals = s.refusals; refused_bytes = s.refused_bytes; refused_looks = s.refused_looks; lasts = l })
 store_heap r s w o l word value heap ran own within stored halts stores none stops = record {
@@ -106,7 +106,7 @@ store_heap r s w o l word value heap ran own within stored halts stores none sto
   calls = let few = heap.calls in let more = drew r 1 s.parts.words w (stored_goes r stored) halts in omega arith;
   refused = heap.refused;
 } where
-  stored_goes : (q : Result Unit Stopped) → OnOk q (IsStored word value s.parts.words w) → OnOk q (Goes 1 s.parts.words w)
+  stored_goes : (q : Result Unit Stopped) → OnOk q (IsStored word value s.parts.words w) → OnOk q (RunsWithin 1 s.parts.words w)
   stored_goes (Ok t) is = is.goes
   stored_goes (Err e) is = tt
 

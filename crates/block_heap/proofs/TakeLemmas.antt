@@ -23,8 +23,8 @@ use Rattle.block_heap.specs.Anchors.{IsTakenFrom}
 use Rattle.block_heap.specs.Links.{IsPopped, IsPushed, IsPushWord}
 use Rattle.block_heap.specs.Medium.{StoresOnly}
 use Rattle.block_heap.specs.Parts.{Parts, image_of, held_in, cache_at}
-use Rattle.block_heap.specs.Running.{IsRunning, Serves, MakesLooks}
-use Rattle.block_heap.specs.Steps.{Fills, Recycles, Spends}
+use Rattle.block_heap.specs.Running.{IsRunning, LeavesHeld, MakesLooks}
+use Rattle.block_heap.specs.Steps.{IsRefilling, Recycles, Spends}
 use Rattle.block_heap.specs.Lists.{head_at, IsEmptyList, LeadsAlong}
 use Rattle.block_heap.specs.Order.{TakesAll, MovesEmpty}
 use Rattle.block_heap.proofs.OrderLemmas.{in_list_along, in_list_has, list_kept, same_cache}
@@ -149,7 +149,7 @@ module _ (p : Parts) (class d : ℕ) (popped : Popped) (w : View) (look : Look) 
             take_moved.volatile used_word (λ m. moved_used p.capacity used_word m refl) in let least = run.few in omega arith;
       }
 
-      pub taken_fills : Fills class p taken_parts
+      pub taken_fills : IsRefilling class p taken_parts
       taken_fills = record {
         running = made p taken_parts shape run made_taken;
         held = refl;
@@ -161,7 +161,7 @@ module _ (p : Parts) (class d : ℕ) (popped : Popped) (w : View) (look : Look) 
             (popped_of p class popped w run below pop pop_stores d some) anchor_set;
       }
 
-      pub taken_serves : IsNextLook p look → Serves (held_in p) p taken_parts
+      pub taken_serves : IsNextLook p look → LeavesHeld (held_in p) p taken_parts
       taken_serves next = serves_moved p taken_parts run take_moved refl refl refl (first_looked taken_parts next take_stores.drawn (omega arith) refl refl)
 
       pub taken_some : (1 ≤ (cache_at (set p.caches class cache) class).count) × (IsEmptyList p class → ⊥)
@@ -224,7 +224,7 @@ module _ (p : Parts) (class d : ℕ) (popped : Popped) (w : View) (look : Look) 
       abbrev pub recycled : Parts
       recycled = record p { words = v; head_looks = set p.head_looks class look }
 
-      pub recycled_serves : IsNextLook p look → Serves (held_in p) p recycled
+      pub recycled_serves : IsNextLook p look → LeavesHeld (held_in p) p recycled
       recycled_serves next = serves_moved p recycled run push_moved refl refl refl
           (first_looked recycled next (let a = take_stores.drawn in let b = push_stores.drawn in omega arith) (omega arith) refl refl)
 
@@ -318,7 +318,7 @@ module _ (p : Parts) (class d : ℕ) (popped : Popped) (w : View) (look : Look) 
               push_moved.volatile used_word (λ m. moved_used p.capacity used_word m refl) in let least = run.few in omega arith;
         }
 
-        pub recycled_fills : Fills class p recycled
+        pub recycled_fills : IsRefilling class p recycled
         recycled_fills = record {
           running = made p recycled shape_then run made_recycled;
           held = refl;

@@ -1,7 +1,7 @@
 -- Walks along blocks: where one begins, its front, and when two are one.
-use Rattle.std.proofs.Common.{◌≡◌, ℕ, zero, suc, ◌+◌, ◌<◌, ◌≤◌, List, [], ◌∷◌, ◌++◌, length, Contains, refl, ap, ap₂, sym, subst, ◌∙◌, arith}
-use Rattle.heap_model.specs.Chains.{Walks, after}
-use Rattle.heap_model.proofs.MemberLemmas.{in_head, in_rest}
+use Rattle.std.proofs.Common.{◌≡◌, ℕ, ◌≤◌, List, [], ◌∷◌, ◌++◌, length, Contains, refl, ap, sym, subst, ◌∙◌, arith}
+use Rattle.heap_model.specs.Chains.{Walks}
+use Rattle.heap_model.proofs.MemberLemmas.{in_head}
 
 -- a walk along fewer blocks from where a longer one begins goes along its front
 pub walk_front : (next : ℕ → ℕ) (from : ℕ) (xs ys : List ℕ) → Walks next from xs → Walks next from ys → length xs ≤ length ys

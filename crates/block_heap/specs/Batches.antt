@@ -7,7 +7,7 @@ use Rattle.line_memory.specs.View.{View, volatile_at}
 use Rattle.anchor_word.specs.declared.anchor.Anchor.{Anchor}
 use Rattle.anchor_word.specs.Anchor.{HasParts}
 use Rattle.block_heap.specs.declared.anchors.Batch.{Batch}
-use Rattle.block_heap.specs.Medium.{Goes}
+use Rattle.block_heap.specs.Medium.{RunsWithin}
 use Rattle.block_heap.specs.Links.{IsOpen}
 
 -- the words once the last block of the batch leads to the chain of the anchor, if it has one
@@ -28,7 +28,7 @@ given_to anchor batch most =
 
 -- the batch was given to superblock d, whose anchor was this one
 pub record IsGiven (capacity class d : ℕ) (batch : Batch) (anchor : Anchor) (v w : View) : Type 0 where
-  pub goes : Goes 3 v w
+  pub goes : RunsWithin 3 v w
   pub parts : HasParts (volatile_at v (anchor_word d)) anchor
   pub words : w.volatile ≡ slice_set (linked_words capacity class d batch anchor v.volatile) (anchor_word d) (given_to anchor batch (blocks_of class))
 

@@ -4,7 +4,7 @@ use Rattle.heap_model.specs.Geometry.{start_word, info_word, anchor_word}
 use Rattle.heap_model.specs.Sizes.{words_of_class, blocks_of}
 use Rattle.heap_model.specs.Words.{full_anchor}
 use Rattle.line_memory.specs.View.{View, volatile_at, durable_at}
-use Rattle.block_heap.specs.Medium.{Goes, StoresOnly}
+use Rattle.block_heap.specs.Medium.{RunsWithin, StoresOnly}
 use Rattle.heap_shape.specs.Effects.{IsInSuperblock}
 use Rattle.block_heap.specs.Links.{IsOpen}
 
@@ -26,7 +26,7 @@ pub record IsChained (capacity class d count : ℕ) (v w : View) : Type 0 where
 
 -- the superblock has the class, durably, and its blocks are in one chain that belongs to nobody
 pub record IsDivided (capacity class d : ℕ) (v w : View) : Type 0 where
-  pub goes : Goes 4200 v w
+  pub goes : RunsWithin 4200 v w
   pub info : volatile_at w (info_word d) ≡ class
   pub info_durable : durable_at w (info_word d) ≡ class
   pub anchor : volatile_at w (anchor_word d) ≡ full_anchor

@@ -3,12 +3,12 @@ use Rattle.std.specs.Prelude.{◌≡◌, ◌≢◌, ℕ, ◌+◌, ◌<◌, List,
 use Rattle.heap_model.specs.Sizes.{IsClass}
 use Rattle.heap_model.specs.Chains.{Walks}
 use Rattle.heap_shape.specs.Standing.{first_of, IsFirstOf}
-use Rattle.block_heap.specs.declared.small.Front.{Front}
+use Rattle.block_heap.specs.declared.small.CacheFront.{CacheFront}
 use Rattle.block_heap.specs.Accounts.{AreAccounted}
 use Rattle.block_heap.specs.Parts.{Parts, image_of, cache_at}
 
 -- the cache leads along blocks of superblock d, which the batch has, and then along the rest, of which so many are left
-pub record IsFront (class : ℕ) (front : Front) (p : Parts) : Type 0 where
+pub record IsFront (class : ℕ) (front : CacheFront) (p : Parts) : Type 0 where
   pub within : front.d < p.capacity
   pub before : List ℕ
   pub walks : Walks (image_of p) (cache_at p.caches class).first (before ++ front.batch.last ∷ [])
@@ -26,6 +26,6 @@ pub record KeepsAll (class : ℕ) (p q : Parts) : Type 0 where
   pub accounted : AreAccounted p → AreAccounted q
 
 -- the cache is what was behind the front
-pub record GivesBack (class : ℕ) (front : Front) (p q : Parts) : Type 0 where
+pub record GivesBack (class : ℕ) (front : CacheFront) (p q : Parts) : Type 0 where
   pub cache : cache_at q.caches class ≡ front.rest
   pub keeps : KeepsAll class p q

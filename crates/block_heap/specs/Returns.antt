@@ -7,7 +7,7 @@ use Rattle.heap_model.specs.Recovered.{HasPartIn}
 use Rattle.heap_model.specs.Chains.{Walks}
 use Rattle.heap_shape.specs.Standing.{IsFirstOf}
 use Rattle.heap_shape.specs.Effects.{IsInSuperblock}
-use Rattle.block_heap.specs.declared.small.Front.{Front}
+use Rattle.block_heap.specs.declared.small.CacheFront.{CacheFront}
 use Rattle.block_heap.specs.Lists.{head_at, IsInList, KeepsFree}
 use Rattle.block_heap.specs.Parts.{Parts, image_of, cache_at}
 
@@ -72,11 +72,11 @@ pub record ComesBack (b : Block) (p q : Parts) : Type 0 where
   pub as_large : ((class : ℕ) → IsClass class → b.words ≢ words_of_class class) → FreesLarge b p q
 
 -- no longer front of the cache lies in its superblock
-abbrev pub IsLongest : Front → Parts → Type 0
+abbrev pub IsLongest : CacheFront → Parts → Type 0
 IsLongest front p = (front.rest.count ≡ 0) ⊎ (IsInSuperblock p.capacity front.d front.rest.first → ⊥)
 
 -- the superblock that got the front is in the free list if it got all its blocks, and else in that of the class; no list loses one
-pub record GivesTo (class : ℕ) (front : Front) (p q : Parts) : Type 0 where
+pub record GivesTo (class : ℕ) (front : CacheFront) (p q : Parts) : Type 0 where
   pub free : KeepsFree p q
   pub listed : (d : ℕ) → IsInList p class d → IsInList q class d
   pub all : front.batch.count ≡ blocks_of class → IsInList q 0 front.d

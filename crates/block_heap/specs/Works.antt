@@ -23,7 +23,7 @@ pub data IsAllocatorWord (capacity : ℕ) (held : List Block) (word : ℕ) : Typ
   is_inside : start_word capacity 0 ≤ word → ((b : Block) → Contains held b → IsIn b word → ⊥) → IsAllocatorWord capacity held word
 
 -- it stores to no other word, and `used` rises, of what loads see and of what is durable, and not past the capacity
-pub record Works (capacity : ℕ) (held : List Block) (v w : View) : Type 0 where
+pub record StoresAsAllocator (capacity : ℕ) (held : List Block) (v w : View) : Type 0 where
   pub stores : StoresOnly (IsAllocatorWord capacity held) v w
   pub used : volatile_at v used_word ≤ volatile_at w used_word
   pub used_durable : durable_at v used_word ≤ durable_at w used_word

@@ -11,12 +11,12 @@ impl<C: Chance> Arena<C> {
     ghost use Rattle.heap_model.specs.Sizes.{IsClass, IsLeastClassFor, size_of, span_of};
     ghost use Rattle.heap_shape.specs.Moves.{TakesFrom};
     ghost use Rattle.block_heap.specs.Accounts.{AreAccounted};
-    ghost use Rattle.block_heap.specs.Medium.{Goes, Halts};
+    ghost use Rattle.block_heap.specs.Medium.{RunsWithin, StopsWithin};
     ghost use Rattle.block_heap.specs.Order.{Stocked, ServesInOrder};
     ghost use Rattle.block_heap.specs.Returns.{ComesBack};
     ghost use Rattle.block_heap.specs.Parts.{parts_of, held_in};
-    ghost use Rattle.block_heap.specs.Running.{IsRunning, AreShort, Serves};
-    ghost use Rattle.block_heap.specs.Steps.{Fills};
+    ghost use Rattle.block_heap.specs.Running.{IsRunning, AreShort, LeavesHeld};
+    ghost use Rattle.block_heap.specs.Steps.{IsRefilling};
     ghost use Rattle.block_heap.specs.Refill.{Refills, Stocks};
     ghost use Rattle.block_heap.specs.Serving.{Answers, AnswersInClass, DrainsAs, IsLooksOf};
 
@@ -32,11 +32,11 @@ impl<C: Chance> Arena<C> {
         ensures order { (class : ℕ) → IsLeastClassFor bytes class
             → IfOk result (λ answer. ServesInOrder class answer
             (parts_of self.old) (parts_of self.new)) }
-        ensures goes { OnOk result (Goes 41201
+        ensures goes { OnOk result (RunsWithin 41201
             (parts_of self.old).words (parts_of self.new).words) }
-        ensures stopped { IfErr result (λ e. Halts e.step 41201
+        ensures stopped { IfErr result (λ e. StopsWithin e.step 41201
             (parts_of self.old).words (parts_of self.new).words) }
-        ensures serves { Serves (held_in (parts_of self.old))
+        ensures serves { LeavesHeld (held_in (parts_of self.old))
             (parts_of self.old) (parts_of self.new) }
         ensures held { OnErr result
             (held_in (parts_of self.new) ≡ held_in (parts_of self.old)) }
@@ -59,11 +59,11 @@ impl<C: Chance> Arena<C> {
             (parts_of self.old) (parts_of self.new)) }
         ensures order { IfOk result (λ answer. ServesInOrder class answer
             (parts_of self.old) (parts_of self.new)) }
-        ensures goes { OnOk result (Goes 41201
+        ensures goes { OnOk result (RunsWithin 41201
             (parts_of self.old).words (parts_of self.new).words) }
-        ensures stopped { IfErr result (λ e. Halts e.step 41201
+        ensures stopped { IfErr result (λ e. StopsWithin e.step 41201
             (parts_of self.old).words (parts_of self.new).words) }
-        ensures serves { Serves (held_in (parts_of self.old))
+        ensures serves { LeavesHeld (held_in (parts_of self.old))
             (parts_of self.old) (parts_of self.new) }
         ensures held { OnErr result
             (held_in (parts_of self.new) ≡ held_in (parts_of self.old)) }
@@ -83,14 +83,14 @@ impl<C: Chance> Arena<C> {
             (parts_of self.old) (parts_of self.new)) }
         ensures order { IfOk result (λ some. some ≡ true → Stocked class
             (parts_of self.old) (parts_of self.new)) }
-        ensures fills { OnOk result (Fills class (parts_of self.old) (parts_of self.new)) }
+        ensures fills { OnOk result (IsRefilling class (parts_of self.old) (parts_of self.new)) }
         ensures left { IfOk result (λ some. Stocks class some
             (parts_of self.old) (parts_of self.new)) }
         ensures steps { OnOk result ((parts_of self.new).words.drawn
             ≤ (parts_of self.old).words.drawn + 41200) }
-        ensures stopped { IfErr result (λ e. Halts e.step 41200
+        ensures stopped { IfErr result (λ e. StopsWithin e.step 41200
             (parts_of self.old).words (parts_of self.new).words) }
-        ensures serves { Serves (held_in (parts_of self.old))
+        ensures serves { LeavesHeld (held_in (parts_of self.old))
             (parts_of self.old) (parts_of self.new) }
         ensures held { held_in (parts_of self.new) ≡ held_in (parts_of self.old) }
         ensures few { (parts_of self.new).taken ≤ (parts_of self.old).taken + 1 }
@@ -108,13 +108,13 @@ impl<C: Chance> Arena<C> {
         requires holds { Contains (held_in (parts_of self.old)) b }
         ensures running { OnOk result (IsRunning (parts_of self.new)) }
         ensures short { OnOk result (AreShort (parts_of self.new) 0) }
-        ensures goes { OnOk result (Goes 40000
+        ensures goes { OnOk result (RunsWithin 40000
             (parts_of self.old).words (parts_of self.new).words) }
-        ensures stopped { IfErr result (λ e. Halts e.step 40000
+        ensures stopped { IfErr result (λ e. StopsWithin e.step 40000
             (parts_of self.old).words (parts_of self.new).words) }
         ensures freed { TakesFrom b (held_in (parts_of self.old)) (held_in (parts_of self.new)) }
         ensures order { OnOk result (ComesBack b (parts_of self.old) (parts_of self.new)) }
-        ensures serves { Serves (held_in (parts_of self.new))
+        ensures serves { LeavesHeld (held_in (parts_of self.new))
             (parts_of self.old) (parts_of self.new) }
         ensures taken { (parts_of self.new).taken ≡ (parts_of self.old).taken }
         ensures accounted { OnOk result (AreAccounted (parts_of self.old)

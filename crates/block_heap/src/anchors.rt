@@ -29,7 +29,7 @@ impl<C: Chance> Medium<C> {
     ghost use Rattle.block_heap.specs.Batches.{IsGiven, IsGiveWord, IsLinkedTo};
     ghost use Rattle.line_memory.specs.View.{volatile_at};
     ghost use Rattle.block_heap.specs.MediumView.{medium_view};
-    ghost use Rattle.block_heap.specs.Medium.{StoresOnly, Halts};
+    ghost use Rattle.block_heap.specs.Medium.{StoresOnly, StopsWithin};
     ghost use Rattle.block_heap.specs.Links.{IsOpen};
     ghost use Rattle.block_heap.specs.Anchors.{IsTakenFrom, AnchorRead};
 
@@ -47,7 +47,7 @@ impl<C: Chance> Medium<C> {
         ensures ok { IfOk result (λ taken.
             IsTakenFrom geometry.capacity class d taken
             (medium_view self.old) (medium_view self.new)) }
-        ensures stopped { IfErr result (λ e. Halts e.step 2
+        ensures stopped { IfErr result (λ e. StopsWithin e.step 2
             (medium_view self.old) (medium_view self.new)) }
         ensures others { StoresOnly (λ word. word ≡ anchor_word d)
             (medium_view self.old) (medium_view self.new) }
@@ -86,7 +86,7 @@ impl<C: Chance> Medium<C> {
         ensures ok { IfOk result (λ anchor.
             IsGiven geometry.capacity class d batch anchor
             (medium_view self.old) (medium_view self.new)) }
-        ensures stopped { IfErr result (λ e. Halts e.step 3
+        ensures stopped { IfErr result (λ e. StopsWithin e.step 3
             (medium_view self.old) (medium_view self.new)) }
         ensures others { StoresOnly (IsGiveWord d batch)
             (medium_view self.old) (medium_view self.new) }
@@ -114,7 +114,7 @@ impl<C: Chance> Medium<C> {
         requires last { batch.last < image_words geometry.capacity }
         ensures ok { OnOk result (IsLinkedTo geometry.capacity class d batch anchor
             (medium_view self.old) (medium_view self.new)) }
-        ensures stopped { IfErr result (λ e. Halts e.step 1
+        ensures stopped { IfErr result (λ e. StopsWithin e.step 1
             (medium_view self.old) (medium_view self.new)) }
         ensures others { StoresOnly (λ word. word ≡ batch.last)
             (medium_view self.old) (medium_view self.new) }
@@ -132,7 +132,7 @@ impl<C: Chance> Medium<C> {
         requires anchor { anchor_state (volatile_at (medium_view self.old) (anchor_word d)) ≢ 3 }
         ensures ok { IfOk result (λ anchor. AnchorRead d anchor
             (medium_view self.old) (medium_view self.new)) }
-        ensures stopped { IfErr result (λ e. Halts e.step 1
+        ensures stopped { IfErr result (λ e. StopsWithin e.step 1
             (medium_view self.old) (medium_view self.new)) }
         ensures unchanged { StoresOnly (λ _. ⊥) (medium_view self.old) (medium_view self.new) }
     {

@@ -16,7 +16,7 @@ impl<C: Chance> Medium<C> {
     ghost use Rattle.std.specs.Prelude.{◌≡◌, ◌<◌, ◌≤◌, OnOk, IfErr};
     ghost use Rattle.heap_model.specs.Sizes.{IsClass, blocks_of};
     ghost use Rattle.block_heap.specs.MediumView.{medium_view};
-    ghost use Rattle.block_heap.specs.Medium.{StoresOnly, Halts};
+    ghost use Rattle.block_heap.specs.Medium.{StoresOnly, StopsWithin};
     ghost use Rattle.block_heap.specs.Links.{IsOpen};
     ghost use Rattle.block_heap.specs.Divide.{IsDivideWord, IsChained, IsDivided};
     ghost use Rattle.heap_shape.specs.Effects.{IsInSuperblock};
@@ -28,7 +28,7 @@ impl<C: Chance> Medium<C> {
         requires class { IsClass class }
         ensures ok { OnOk result (IsDivided geometry.capacity class d
             (medium_view self.old) (medium_view self.new)) }
-        ensures stopped { IfErr result (λ e. Halts e.step 4200
+        ensures stopped { IfErr result (λ e. StopsWithin e.step 4200
             (medium_view self.old) (medium_view self.new)) }
         ensures others { StoresOnly (IsDivideWord geometry.capacity d)
             (medium_view self.old) (medium_view self.new) }
@@ -47,7 +47,7 @@ impl<C: Chance> Medium<C> {
         requires class { IsClass class }
         ensures ok { OnOk result (IsChained geometry.capacity class d (blocks_of class)
             (medium_view self.old) (medium_view self.new)) }
-        ensures stopped { IfErr result (λ e. Halts e.step 4100
+        ensures stopped { IfErr result (λ e. StopsWithin e.step 4100
             (medium_view self.old) (medium_view self.new)) }
         ensures others { StoresOnly (IsInSuperblock geometry.capacity d)
             (medium_view self.old) (medium_view self.new) }

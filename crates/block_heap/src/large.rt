@@ -11,9 +11,9 @@ impl<C: Chance> Arena<C> {
     ghost use Rattle.heap_model.specs.Sizes.{IsClass, words_of_class};
     ghost use Rattle.heap_shape.specs.Moves.{TakesFrom};
     ghost use Rattle.block_heap.specs.Accounts.{AreAccounted, GivesUse};
-    ghost use Rattle.block_heap.specs.Medium.{Goes, Halts};
+    ghost use Rattle.block_heap.specs.Medium.{RunsWithin, StopsWithin};
     ghost use Rattle.block_heap.specs.Parts.{parts_of, held_in};
-    ghost use Rattle.block_heap.specs.Running.{IsRunning, AreShort, Serves};
+    ghost use Rattle.block_heap.specs.Running.{IsRunning, AreShort, LeavesHeld};
     ghost use Rattle.block_heap.specs.Large.{JoinsAs, IsDropped};
     ghost use Rattle.block_heap.specs.Returns.{FreesLarge, FreesOne};
 
@@ -26,11 +26,11 @@ impl<C: Chance> Arena<C> {
         ensures one_look { IfOk result (λ answer. answer ≡ None
             → (parts_of self.new).words.drawn ≡ (parts_of self.old).words.drawn + 1) }
         ensures running { OnOk result (IsRunning (parts_of self.new)) }
-        ensures goes { OnOk result (Goes 7
+        ensures goes { OnOk result (RunsWithin 7
             (parts_of self.old).words (parts_of self.new).words) }
-        ensures stopped { IfErr result (λ e. Halts e.step 7
+        ensures stopped { IfErr result (λ e. StopsWithin e.step 7
             (parts_of self.old).words (parts_of self.new).words) }
-        ensures serves { Serves (held_in (parts_of self.old))
+        ensures serves { LeavesHeld (held_in (parts_of self.old))
             (parts_of self.old) (parts_of self.new) }
         ensures held { OnErr result
             (held_in (parts_of self.new) ≡ held_in (parts_of self.old)) }
@@ -59,13 +59,13 @@ impl<C: Chance> Arena<C> {
         requires holds { Contains (held_in (parts_of self.old)) b }
         requires large { (class : ℕ) → IsClass class → b.words ≢ words_of_class class }
         ensures running { OnOk result (IsRunning (parts_of self.new)) }
-        ensures goes { OnOk result (Goes (4 * largest_capacity)
+        ensures goes { OnOk result (RunsWithin (4 * largest_capacity)
             (parts_of self.old).words (parts_of self.new).words) }
-        ensures stopped { IfErr result (λ e. Halts e.step (4 * largest_capacity)
+        ensures stopped { IfErr result (λ e. StopsWithin e.step (4 * largest_capacity)
             (parts_of self.old).words (parts_of self.new).words) }
         ensures freed { TakesFrom b (held_in (parts_of self.old)) (held_in (parts_of self.new)) }
         ensures order { OnOk result (FreesLarge b (parts_of self.old) (parts_of self.new)) }
-        ensures serves { Serves (held_in (parts_of self.new))
+        ensures serves { LeavesHeld (held_in (parts_of self.new))
             (parts_of self.old) (parts_of self.new) }
         ensures caches { (parts_of self.new).caches ≡ (parts_of self.old).caches }
         ensures taken { (parts_of self.new).taken ≡ (parts_of self.old).taken }
@@ -91,12 +91,12 @@ impl<C: Chance> Arena<C> {
             → IsDropped (parts_of self.new) e) }
         ensures gives { OnOk result (GivesUse d (parts_of self.old) (parts_of self.new)) }
         ensures order { OnOk result (FreesOne d (parts_of self.old) (parts_of self.new)) }
-        ensures goes { OnOk result (Goes 4
+        ensures goes { OnOk result (RunsWithin 4
             (parts_of self.old).words (parts_of self.new).words) }
-        ensures stopped { IfErr result (λ e. Halts e.step 4
+        ensures stopped { IfErr result (λ e. StopsWithin e.step 4
             (parts_of self.old).words (parts_of self.new).words) }
         ensures held { (parts_of self.new).blocks ≡ (parts_of self.old).blocks }
-        ensures serves { Serves (held_in (parts_of self.old))
+        ensures serves { LeavesHeld (held_in (parts_of self.old))
             (parts_of self.old) (parts_of self.new) }
         ensures caches { (parts_of self.new).caches ≡ (parts_of self.old).caches }
         ensures taken { (parts_of self.new).taken ≡ (parts_of self.old).taken }

@@ -16,7 +16,7 @@ impl<C: Chance> Medium<C> {
     ghost use Rattle.heap_model.specs.Geometry.{lists, head_word};
     ghost use Rattle.line_memory.specs.View.{volatile_at};
     ghost use Rattle.block_heap.specs.MediumView.{medium_view};
-    ghost use Rattle.block_heap.specs.Medium.{StoresOnly, Halts};
+    ghost use Rattle.block_heap.specs.Medium.{StoresOnly, StopsWithin};
     ghost use Rattle.block_heap.specs.Links.{IsOpen, IsHead, IsPopped, IsPushed, IsPushWord};
 
     /// Takes the first descriptor off the list.
@@ -27,7 +27,7 @@ impl<C: Chance> Medium<C> {
             (volatile_at (medium_view self.old) (head_word list)) }
         ensures ok { IfOk result (λ popped. IsPopped list popped
             (medium_view self.old) (medium_view self.new)) }
-        ensures stopped { IfErr result (λ e. Halts e.step 3
+        ensures stopped { IfErr result (λ e. StopsWithin e.step 3
             (medium_view self.old) (medium_view self.new)) }
         ensures others { StoresOnly (λ word. word ≡ head_word list)
             (medium_view self.old) (medium_view self.new) }
@@ -54,7 +54,7 @@ impl<C: Chance> Medium<C> {
         requires list { list < lists }
         requires descriptor { d < geometry.capacity }
         ensures ok { OnOk result (IsPushed list d (medium_view self.old) (medium_view self.new)) }
-        ensures stopped { IfErr result (λ e. Halts e.step 3
+        ensures stopped { IfErr result (λ e. StopsWithin e.step 3
             (medium_view self.old) (medium_view self.new)) }
         ensures others { StoresOnly (IsPushWord list d)
             (medium_view self.old) (medium_view self.new) }

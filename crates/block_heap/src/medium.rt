@@ -21,7 +21,7 @@ impl<C: Chance> Medium<C> {
     ghost use Rattle.line_memory.specs.Crash.{MayStore};
     ghost use Rattle.line_memory.specs.ClosedWords.{volatile_words, durable_words};
     ghost use Rattle.block_heap.specs.MediumView.{medium_view};
-    ghost use Rattle.block_heap.specs.Medium.{StoresOnly, Goes, Halts, IsLoaded, IsStored, IsWritten, IsFenced, IsPersisted};
+    ghost use Rattle.block_heap.specs.Medium.{StoresOnly, RunsWithin, StopsWithin, IsLoaded, IsStored, IsWritten, IsFenced, IsPersisted};
 
     /// A memory of these words, all durable, that allows `budget` steps.
     pub(crate) fn new(
@@ -59,7 +59,7 @@ impl<C: Chance> Medium<C> {
         requires within { word < word_count (medium_view self.old) }
         ensures ok { IfOk result (λ value. IsLoaded word value
             (medium_view self.old) (medium_view self.new)) }
-        ensures stopped { IfErr result (λ e. Halts e.step 1
+        ensures stopped { IfErr result (λ e. StopsWithin e.step 1
             (medium_view self.old) (medium_view self.new)) }
         ensures unchanged { StoresOnly (λ _. ⊥) (medium_view self.old) (medium_view self.new) }
     {
@@ -74,7 +74,7 @@ impl<C: Chance> Medium<C> {
         requires within { word < word_count (medium_view self.old) }
         ensures ok { OnOk result (IsStored word value
             (medium_view self.old) (medium_view self.new)) }
-        ensures stopped { IfErr result (λ e. Halts e.step 1
+        ensures stopped { IfErr result (λ e. StopsWithin e.step 1
             (medium_view self.old) (medium_view self.new)) }
         ensures others { StoresOnly (λ other. other ≡ word)
             (medium_view self.old) (medium_view self.new) }
@@ -92,7 +92,7 @@ impl<C: Chance> Medium<C> {
         requires running { (medium_view self.old).stopped ≡ None }
         requires within { word < word_count (medium_view self.old) }
         ensures ok { OnOk result (IsWritten word (medium_view self.old) (medium_view self.new)) }
-        ensures stopped { IfErr result (λ e. Halts e.step 1
+        ensures stopped { IfErr result (λ e. StopsWithin e.step 1
             (medium_view self.old) (medium_view self.new)) }
         ensures unchanged { StoresOnly (λ _. ⊥) (medium_view self.old) (medium_view self.new) }
     {
@@ -105,7 +105,7 @@ impl<C: Chance> Medium<C> {
     pub(crate) fn fence(&mut self) -> Result<(), Stopped>
         requires running { (medium_view self.old).stopped ≡ None }
         ensures ok { OnOk result (IsFenced (medium_view self.old) (medium_view self.new)) }
-        ensures stopped { IfErr result (λ e. Halts e.step 1
+        ensures stopped { IfErr result (λ e. StopsWithin e.step 1
             (medium_view self.old) (medium_view self.new)) }
         ensures unchanged { StoresOnly (λ _. ⊥) (medium_view self.old) (medium_view self.new) }
     {
@@ -120,7 +120,7 @@ impl<C: Chance> Medium<C> {
         requires within { word < word_count (medium_view self.old) }
         ensures ok { OnOk result (IsPersisted word value
             (medium_view self.old) (medium_view self.new)) }
-        ensures stopped { IfErr result (λ e. Halts e.step 3
+        ensures stopped { IfErr result (λ e. StopsWithin e.step 3
             (medium_view self.old) (medium_view self.new)) }
         ensures others { StoresOnly (λ other. other ≡ word)
             (medium_view self.old) (medium_view self.new) }

@@ -24,13 +24,13 @@ impl<C: Chance> Arena<C> {
     ghost use Rattle.heap_model.specs.Sizes.{IsClass};
     ghost use Rattle.heap_shape.specs.Standing.{HasNoHeld};
     ghost use Rattle.line_memory.specs.Marks.{IsMarked};
-    ghost use Rattle.block_heap.specs.Medium.{StoresOnly, Goes, Halts};
+    ghost use Rattle.block_heap.specs.Medium.{StoresOnly, RunsWithin, StopsWithin};
     ghost use Rattle.block_heap.specs.Divide.{IsDivideWord};
     ghost use Rattle.block_heap.specs.Links.{IsOpen};
     ghost use Rattle.block_heap.specs.Parts.{parts_of, held_in, image_of, cache_at};
-    ghost use Rattle.block_heap.specs.Running.{IsRunning, Serves};
+    ghost use Rattle.block_heap.specs.Running.{IsRunning, LeavesHeld};
     ghost use Rattle.block_heap.specs.Lists.{IsEmptyList};
-    ghost use Rattle.block_heap.specs.Steps.{Fills, FindsFirst, Spends, used_up};
+    ghost use Rattle.block_heap.specs.Steps.{IsRefilling, FindsFirst, Spends, used_up};
     ghost use Rattle.block_heap.specs.Order.{FillsFrom, OrdersFirst, OrdersPartial, OrdersFree, OrdersFresh};
     ghost use Rattle.block_heap.specs.Refill.{Cuts, SameBut, FindsFree, FindsFresh, FindsPartial, Refills};
 
@@ -43,14 +43,14 @@ impl<C: Chance> Arena<C> {
             (parts_of self.old) (parts_of self.new)) }
         ensures order { IfOk result (λ some. some ≡ true → FillsFrom class
             (parts_of self.old) (parts_of self.new)) }
-        ensures fills { OnOk result (Fills class (parts_of self.old) (parts_of self.new)) }
+        ensures fills { OnOk result (IsRefilling class (parts_of self.old) (parts_of self.new)) }
         ensures left { IfOk result (λ some. Spends (one_if some) class
             (parts_of self.old) (parts_of self.new)) }
-        ensures goes { OnOk result (Goes 41200
+        ensures goes { OnOk result (RunsWithin 41200
             (parts_of self.old).words (parts_of self.new).words) }
-        ensures stopped { IfErr result (λ e. Halts e.step 41200
+        ensures stopped { IfErr result (λ e. StopsWithin e.step 41200
             (parts_of self.old).words (parts_of self.new).words) }
-        ensures serves { Serves (held_in (parts_of self.old))
+        ensures serves { LeavesHeld (held_in (parts_of self.old))
             (parts_of self.old) (parts_of self.new) }
         ensures held { held_in (parts_of self.new) ≡ held_in (parts_of self.old) }
         ensures few { (parts_of self.new).taken ≤ (parts_of self.old).taken + 1 }
@@ -71,14 +71,14 @@ impl<C: Chance> Arena<C> {
             (parts_of self.old) (parts_of self.new)) }
         ensures order { IfOk result (λ some. OrdersPartial class some
             (parts_of self.old) (parts_of self.new)) }
-        ensures fills { OnOk result (Fills class (parts_of self.old) (parts_of self.new)) }
+        ensures fills { OnOk result (IsRefilling class (parts_of self.old) (parts_of self.new)) }
         ensures left { IfOk result (λ some. Spends (one_if some) class
             (parts_of self.old) (parts_of self.new)) }
-        ensures goes { OnOk result (Goes (8 * largest_capacity + 8)
+        ensures goes { OnOk result (RunsWithin (8 * largest_capacity + 8)
             (parts_of self.old).words (parts_of self.new).words) }
-        ensures stopped { IfErr result (λ e. Halts e.step (8 * largest_capacity + 8)
+        ensures stopped { IfErr result (λ e. StopsWithin e.step (8 * largest_capacity + 8)
             (parts_of self.old).words (parts_of self.new).words) }
-        ensures serves { Serves (held_in (parts_of self.old))
+        ensures serves { LeavesHeld (held_in (parts_of self.old))
             (parts_of self.old) (parts_of self.new) }
         ensures held { held_in (parts_of self.new) ≡ held_in (parts_of self.old) }
         ensures taken { (parts_of self.new).taken ≡ (parts_of self.old).taken }
@@ -102,14 +102,14 @@ impl<C: Chance> Arena<C> {
             (parts_of self.old) (parts_of self.new)) }
         ensures order { IfOk result (λ found. OrdersFirst class found
             (parts_of self.old) (parts_of self.new)) }
-        ensures fills { OnOk result (Fills class (parts_of self.old) (parts_of self.new)) }
+        ensures fills { OnOk result (IsRefilling class (parts_of self.old) (parts_of self.new)) }
         ensures left { IfOk result (λ found. Spends (used_up found) class
             (parts_of self.old) (parts_of self.new)) }
-        ensures goes { OnOk result (Goes 8
+        ensures goes { OnOk result (RunsWithin 8
             (parts_of self.old).words (parts_of self.new).words) }
-        ensures stopped { IfErr result (λ e. Halts e.step 8
+        ensures stopped { IfErr result (λ e. StopsWithin e.step 8
             (parts_of self.old).words (parts_of self.new).words) }
-        ensures serves { Serves (held_in (parts_of self.old))
+        ensures serves { LeavesHeld (held_in (parts_of self.old))
             (parts_of self.old) (parts_of self.new) }
         ensures held { held_in (parts_of self.new) ≡ held_in (parts_of self.old) }
         ensures taken { (parts_of self.new).taken ≡ (parts_of self.old).taken }
@@ -137,14 +137,14 @@ impl<C: Chance> Arena<C> {
             (parts_of self.old) (parts_of self.new)) }
         ensures order { IfOk result (λ some. OrdersFree class some
             (parts_of self.old) (parts_of self.new)) }
-        ensures fills { OnOk result (Fills class (parts_of self.old) (parts_of self.new)) }
+        ensures fills { OnOk result (IsRefilling class (parts_of self.old) (parts_of self.new)) }
         ensures left { IfOk result (λ some. Spends (one_if some) class
             (parts_of self.old) (parts_of self.new)) }
-        ensures goes { OnOk result (Goes 4203
+        ensures goes { OnOk result (RunsWithin 4203
             (parts_of self.old).words (parts_of self.new).words) }
-        ensures stopped { IfErr result (λ e. Halts e.step 4203
+        ensures stopped { IfErr result (λ e. StopsWithin e.step 4203
             (parts_of self.old).words (parts_of self.new).words) }
-        ensures serves { Serves (held_in (parts_of self.old))
+        ensures serves { LeavesHeld (held_in (parts_of self.old))
             (parts_of self.old) (parts_of self.new) }
         ensures held { held_in (parts_of self.new) ≡ held_in (parts_of self.old) }
         ensures taken { (parts_of self.new).taken ≡ (parts_of self.old).taken }
@@ -168,14 +168,14 @@ impl<C: Chance> Arena<C> {
             (parts_of self.old) (parts_of self.new)) }
         ensures order { IfOk result (λ some. OrdersFresh class some
             (parts_of self.old) (parts_of self.new)) }
-        ensures fills { OnOk result (Fills class (parts_of self.old) (parts_of self.new)) }
+        ensures fills { OnOk result (IsRefilling class (parts_of self.old) (parts_of self.new)) }
         ensures left { IfOk result (λ some. Spends (one_if some) class
             (parts_of self.old) (parts_of self.new)) }
-        ensures goes { OnOk result (Goes 4204
+        ensures goes { OnOk result (RunsWithin 4204
             (parts_of self.old).words (parts_of self.new).words) }
-        ensures stopped { IfErr result (λ e. Halts e.step 4204
+        ensures stopped { IfErr result (λ e. StopsWithin e.step 4204
             (parts_of self.old).words (parts_of self.new).words) }
-        ensures serves { Serves (held_in (parts_of self.old))
+        ensures serves { LeavesHeld (held_in (parts_of self.old))
             (parts_of self.old) (parts_of self.new) }
         ensures held { held_in (parts_of self.new) ≡ held_in (parts_of self.old) }
         ensures few { (parts_of self.new).taken ≤ (parts_of self.old).taken + 1 }
@@ -201,7 +201,7 @@ impl<C: Chance> Arena<C> {
         requires none { (mark : ℕ) → IsMarked (parts_of self.old).blocks.marks.items mark
             → mark / 4096 ≢ d }
         ensures ok { OnOk result (Cuts class d (parts_of self.old) (parts_of self.new)) }
-        ensures stopped { IfErr result (λ e. Halts e.step 4200
+        ensures stopped { IfErr result (λ e. StopsWithin e.step 4200
             (parts_of self.old).words (parts_of self.new).words) }
         ensures others { StoresOnly (IsDivideWord (parts_of self.old).capacity d)
             (parts_of self.old).words (parts_of self.new).words }

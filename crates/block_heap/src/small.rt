@@ -11,7 +11,7 @@ use super_block::{SUPERBLOCK_WORDS, WORD_BYTES};
 
 /// Blocks at the front of a cache that lie in superblock `d`, and the cache behind them.
 #[derive(Clone, Copy, Debug, PartialEq, Eq)]
-pub(crate) struct Front {
+pub(crate) struct CacheFront {
     pub(crate) d: u64,
     pub(crate) batch: Batch,
     pub(crate) rest: Cache,
@@ -23,9 +23,9 @@ impl<C: Chance> Arena<C> {
     ghost use Rattle.heap_model.specs.Sizes.{IsClass, words_of_class, blocks_of};
     ghost use Rattle.heap_shape.specs.Moves.{TakesFrom};
     ghost use Rattle.block_heap.specs.Accounts.{AreAccounted};
-    ghost use Rattle.block_heap.specs.Medium.{Goes, Halts};
+    ghost use Rattle.block_heap.specs.Medium.{RunsWithin, StopsWithin};
     ghost use Rattle.block_heap.specs.Parts.{parts_of, held_in, cache_at};
-    ghost use Rattle.block_heap.specs.Running.{IsRunning, AreShort, Serves};
+    ghost use Rattle.block_heap.specs.Running.{IsRunning, AreShort, LeavesHeld};
     ghost use Rattle.block_heap.specs.Steps.{HandsOut};
     ghost use Rattle.block_heap.specs.Flush.{IsFront, KeepsAll, GivesBack};
     ghost use Rattle.block_heap.specs.Returns.{FreesSmall, Flushes, IsLongest, GivesTo};
@@ -37,11 +37,11 @@ impl<C: Chance> Arena<C> {
         requires some { 1 ≤ (cache_at (parts_of self.old).caches class).count }
         ensures ok { IfOk result (λ b. HandsOut class b
             (parts_of self.old) (parts_of self.new)) }
-        ensures goes { OnOk result (Goes 1
+        ensures goes { OnOk result (RunsWithin 1
             (parts_of self.old).words (parts_of self.new).words) }
-        ensures stopped { IfErr result (λ e. Halts e.step 1
+        ensures stopped { IfErr result (λ e. StopsWithin e.step 1
             (parts_of self.old).words (parts_of self.new).words) }
-        ensures serves { Serves (held_in (parts_of self.old))
+        ensures serves { LeavesHeld (held_in (parts_of self.old))
             (parts_of self.old) (parts_of self.new) }
         ensures held { OnErr result
             (held_in (parts_of self.new) ≡ held_in (parts_of self.old)) }
@@ -68,14 +68,14 @@ impl<C: Chance> Arena<C> {
         requires size { b.words ≡ words_of_class class }
         ensures running { OnOk result (IsRunning (parts_of self.new)) }
         ensures short { OnOk result (AreShort (parts_of self.new) 0) }
-        ensures goes { OnOk result (Goes 40000
+        ensures goes { OnOk result (RunsWithin 40000
             (parts_of self.old).words (parts_of self.new).words) }
-        ensures stopped { IfErr result (λ e. Halts e.step 40000
+        ensures stopped { IfErr result (λ e. StopsWithin e.step 40000
             (parts_of self.old).words (parts_of self.new).words) }
         ensures freed { TakesFrom b (held_in (parts_of self.old)) (held_in (parts_of self.new)) }
         ensures order { OnOk result (FreesSmall class b.first_word
             (parts_of self.old) (parts_of self.new)) }
-        ensures serves { Serves (held_in (parts_of self.new))
+        ensures serves { LeavesHeld (held_in (parts_of self.new))
             (parts_of self.old) (parts_of self.new) }
         ensures taken { (parts_of self.new).taken ≡ (parts_of self.old).taken }
         ensures accounted { OnOk result (AreAccounted (parts_of self.old)
@@ -107,10 +107,10 @@ impl<C: Chance> Arena<C> {
             + 9 * (cache_at (parts_of self.old).caches class).count }
         ensures below { OnOk result ((parts_of self.new).words.drawn
             ≤ (parts_of self.new).words.budget) }
-        ensures stopped { IfErr result (λ e. Halts e.step 36864
+        ensures stopped { IfErr result (λ e. StopsWithin e.step 36864
             (parts_of self.old).words (parts_of self.new).words) }
         ensures held { held_in (parts_of self.new) ≡ held_in (parts_of self.old) }
-        ensures serves { Serves (held_in (parts_of self.old))
+        ensures serves { LeavesHeld (held_in (parts_of self.old))
             (parts_of self.old) (parts_of self.new) }
         ensures taken { (parts_of self.new).taken ≡ (parts_of self.old).taken }
     {
@@ -122,7 +122,7 @@ impl<C: Chance> Arena<C> {
     }
 
     /// The longest front of the cache, which is not empty, that lies in one superblock.
-    fn front(&mut self, class: u8) -> Result<Front, Stopped>
+    fn front(&mut self, class: u8) -> Result<CacheFront, Stopped>
         requires class { IsClass class }
         requires running { IsRunning (parts_of self.old) }
         requires some { 1 ≤ (cache_at (parts_of self.old).caches class).count }
@@ -133,13 +133,13 @@ impl<C: Chance> Arena<C> {
         ensures running { OnOk result (IsRunning (parts_of self.new)) }
         ensures keeps { OnOk result (KeepsAll class (parts_of self.old) (parts_of self.new)) }
         ensures caches { (parts_of self.new).caches ≡ (parts_of self.old).caches }
-        ensures goes { IfOk result (λ front. Goes front.batch.count
+        ensures goes { IfOk result (λ front. RunsWithin front.batch.count
             (parts_of self.old).words (parts_of self.new).words) }
         ensures stopped { IfErr result (λ e.
-            Halts e.step (cache_at (parts_of self.old).caches class).count
+            StopsWithin e.step (cache_at (parts_of self.old).caches class).count
             (parts_of self.old).words (parts_of self.new).words) }
         ensures held { held_in (parts_of self.new) ≡ held_in (parts_of self.old) }
-        ensures serves { Serves (held_in (parts_of self.old))
+        ensures serves { LeavesHeld (held_in (parts_of self.old))
             (parts_of self.old) (parts_of self.new) }
         ensures taken { (parts_of self.new).taken ≡ (parts_of self.old).taken }
     {
@@ -154,7 +154,7 @@ impl<C: Chance> Arena<C> {
             count += 1;
         }
         let words = size_of(class) / WORD_BYTES;
-        Ok(Front {
+        Ok(CacheFront {
             d,
             batch: Batch {
                 first: (cache.first - self.geometry.start(d)) / words,
@@ -170,7 +170,7 @@ impl<C: Chance> Arena<C> {
 
     /// Gives the front of the cache back. A superblock that was full goes to a list: that of the
     /// free ones if all its blocks are given, else that of the class.
-    fn give(&mut self, class: u8, front: Front) -> Result<(), Stopped>
+    fn give(&mut self, class: u8, front: CacheFront) -> Result<(), Stopped>
         requires class { IsClass class }
         requires running { IsRunning (parts_of self.old) }
         requires front { IsFront class front (parts_of self.old) }
@@ -178,12 +178,12 @@ impl<C: Chance> Arena<C> {
         ensures gives { OnOk result (GivesBack class front
             (parts_of self.old) (parts_of self.new)) }
         ensures order { OnOk result (GivesTo class front (parts_of self.old) (parts_of self.new)) }
-        ensures goes { OnOk result (Goes 6
+        ensures goes { OnOk result (RunsWithin 6
             (parts_of self.old).words (parts_of self.new).words) }
-        ensures stopped { IfErr result (λ e. Halts e.step 6
+        ensures stopped { IfErr result (λ e. StopsWithin e.step 6
             (parts_of self.old).words (parts_of self.new).words) }
         ensures held { held_in (parts_of self.new) ≡ held_in (parts_of self.old) }
-        ensures serves { Serves (held_in (parts_of self.old))
+        ensures serves { LeavesHeld (held_in (parts_of self.old))
             (parts_of self.old) (parts_of self.new) }
         ensures taken { (parts_of self.new).taken ≡ (parts_of self.old).taken }
     {

@@ -18,7 +18,7 @@ impl<C: Chance> Medium<C> {
     ghost use Rattle.line_memory.specs.View.{volatile_at};
     ghost use Rattle.line_memory.specs.Crash.{MayStore};
     ghost use Rattle.block_heap.specs.MediumView.{medium_view};
-    ghost use Rattle.block_heap.specs.Medium.{StoresOnly, Halts, IsPersisted};
+    ghost use Rattle.block_heap.specs.Medium.{StoresOnly, StopsWithin, IsPersisted};
     ghost use Rattle.block_heap.specs.Links.{IsOpen, IsFresh};
     ghost use Rattle.block_heap.specs.Works.{UsedFits};
 
@@ -30,7 +30,7 @@ impl<C: Chance> Medium<C> {
             IsFresh geometry.capacity count fresh (medium_view self.old) (medium_view self.new)) }
         ensures one_look { IfOk result (λ fresh. fresh.first ≡ None
             → (medium_view self.new).drawn ≡ (medium_view self.old).drawn + 1) }
-        ensures stopped { IfErr result (λ e. Halts e.step 4
+        ensures stopped { IfErr result (λ e. StopsWithin e.step 4
             (medium_view self.old) (medium_view self.new)) }
         ensures others { StoresOnly (λ word. word ≡ used_word)
             (medium_view self.old) (medium_view self.new) }
@@ -59,7 +59,7 @@ impl<C: Chance> Medium<C> {
         requires count { count ≤ largest_capacity }
         ensures ok { OnOk result (IsPersisted (info_word d) (large_info count)
             (medium_view self.old) (medium_view self.new)) }
-        ensures stopped { IfErr result (λ e. Halts e.step 3
+        ensures stopped { IfErr result (λ e. StopsWithin e.step 3
             (medium_view self.old) (medium_view self.new)) }
         ensures others { StoresOnly (λ word. word ≡ info_word d)
             (medium_view self.old) (medium_view self.new) }

@@ -4,8 +4,8 @@ use Rattle.heap_model.specs.Counting.{one_if}
 use Rattle.block_heap.specs.declared.arena.Arena.{Arena}
 use Rattle.block_heap.specs.Parts.{parts_of, held_in}
 use Rattle.block_heap.specs.Refill.{FindsPartial, FindsFree, Refills}
-use Rattle.block_heap.specs.Running.{Serves}
-use Rattle.block_heap.specs.Steps.{Fills, Spends}
+use Rattle.block_heap.specs.Running.{LeavesHeld}
+use Rattle.block_heap.specs.Steps.{IsRefilling, Spends}
 use Rattle.block_heap.proofs.SpendLemmas.{spends_then}
 use Rattle.block_heap.proofs.PartialLemmas.{fills_then, fresh_refills, partial_refills, free_refills, fills_fresh}
 use Rattle.block_heap.specs.Order.{FillsFrom, from_class_list, OrdersPartial, OrdersFree}
@@ -22,9 +22,9 @@ returns-in_err-cut_free-clause-serves g c =
 pub returns-then-branch-clause-fills : goal.returns-then-branch-clause-fills
 returns-then-branch-clause-fills g c =
     let p = parts_of c.args.self.now in
-    elim c.then-branch.branch as (λ _. Fills c.args.class p (parts_of c.then-branch.self)) [
-      | then-branch-via-then-branch w ↦ subst (λ (a : Arena _). Fills c.args.class p (parts_of a)) (sym w.self-is) c.in_ok-take_partial.ensures.fills
-      | then-branch-via-else-branch+in_ok-cut_free+then-branch-2 w ↦ subst (λ (a : Arena _). Fills c.args.class p (parts_of a)) (sym w.self-is)
+    elim c.then-branch.branch as (λ _. IsRefilling c.args.class p (parts_of c.then-branch.self)) [
+      | then-branch-via-then-branch w ↦ subst (λ (a : Arena _). IsRefilling c.args.class p (parts_of a)) (sym w.self-is) c.in_ok-take_partial.ensures.fills
+      | then-branch-via-else-branch+in_ok-cut_free+then-branch-2 w ↦ subst (λ (a : Arena _). IsRefilling c.args.class p (parts_of a)) (sym w.self-is)
           (fills_then c.args.class p (parts_of c.take_partial.new.self) (parts_of w.cut_free.new.self) c.take_partial.ensures.serves.capacity
           c.in_ok-take_partial.ensures.fills w.in_ok-cut_free.ensures.fills)
     ]
@@ -32,9 +32,9 @@ returns-then-branch-clause-fills g c =
 pub returns-then-branch-clause-serves : goal.returns-then-branch-clause-serves
 returns-then-branch-clause-serves g c =
     let p = parts_of c.args.self.now in
-    elim c.then-branch.branch as (λ _. Serves (held_in p) p (parts_of c.then-branch.self)) [
-      | then-branch-via-then-branch w ↦ subst (λ (a : Arena _). Serves (held_in p) p (parts_of a)) (sym w.self-is) c.take_partial.ensures.serves
-      | then-branch-via-else-branch+in_ok-cut_free+then-branch-2 w ↦ subst (λ (a : Arena _). Serves (held_in p) p (parts_of a)) (sym w.self-is)
+    elim c.then-branch.branch as (λ _. LeavesHeld (held_in p) p (parts_of c.then-branch.self)) [
+      | then-branch-via-then-branch w ↦ subst (λ (a : Arena _). LeavesHeld (held_in p) p (parts_of a)) (sym w.self-is) c.take_partial.ensures.serves
+      | then-branch-via-else-branch+in_ok-cut_free+then-branch-2 w ↦ subst (λ (a : Arena _). LeavesHeld (held_in p) p (parts_of a)) (sym w.self-is)
           (serves_all p (parts_of c.take_partial.new.self) (parts_of w.cut_free.new.self) c.take_partial.ensures.held c.take_partial.ensures.serves
           w.cut_free.ensures.serves)
     ]

@@ -2,7 +2,7 @@ use Rattle.std.proofs.Common.{◌≡◌, ap, inl, refl, arith}
 use Rattle.block_heap.specs.Order.{in_stock, is_filled}
 use Rattle.block_heap.specs.declared.cache.Cache.{Cache}
 use Rattle.block_heap.specs.Parts.{parts_of, cache_at}
-use Rattle.block_heap.specs.Steps.{Fills}
+use Rattle.block_heap.specs.Steps.{IsRefilling}
 use Rattle.block_heap.proofs.AllocLemmas.{both_ok}
 use Rattle.block_heap.proofs.SmallLemmas.{read_cache}
 use Rattle.block_heap.proofs.SpendLemmas.{spends_none}
@@ -25,6 +25,6 @@ returns-then-index-eq0-clause-order g c =
     let p = parts_of c.args.self.now in
     let read = read_cache p c.args.class c.index.result.now c.requires.class c.requires.running c.index.ensures in
     let count : c.index.result.now.count ≡ (cache_at p.caches c.args.class).count = ap (λ (x : Cache). x.count) read in
-    both_ok c.refill.result _ _ (Fills c.args.class p (parts_of c.refill.new.self))
+    both_ok c.refill.result _ _ (IsRefilling c.args.class p (parts_of c.refill.new.self))
     (λ some fills kept is. is_filled (omega arith) c.refill.ensures.held (record { caches = kept.caches; heads = kept.heads }) (fills is)) c.refill.ensures.order
     c.refill.ensures.fills
