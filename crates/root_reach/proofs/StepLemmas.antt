@@ -16,8 +16,8 @@ use Rattle.root_reach.specs.declared.origin.Origin.{Origin}
 use Rattle.root_reach.specs.declared.origin.Origin.TheVariants.{One, Several}
 use Rattle.root_reach.specs.declared.labels.Finding.{Finding}
 use Rattle.root_reach.specs.Origins.{Covers, Joins, first, both, origin_in, origin_at, label_of, rank}
-use Rattle.root_reach.specs.Reaching.{Tells, HasRoom, IsShared}
-use Rattle.root_reach.specs.Steps.{Adds, present, added, Follows, nowhere, lead, IsSettled, AreSettled, IsFound, Grows}
+use Rattle.root_reach.specs.Reaching.{Tells, HasLabels, IsShared}
+use Rattle.root_reach.specs.Steps.{AddsOrigin, present, added, Propagates, nowhere, lead, IsPropagated, ArePropagated, AreFindings, Grows}
 use Rattle.root_reach.proofs.OriginLemmas.{origin_in-label_of, joins_covers, joins_still, rank_up}
 
 -- nothing new
@@ -44,19 +44,19 @@ kept found found' labels labels' f grown here = subst (λ fs. Contains fs f) (sy
 module _ (image : Image) (kinds : ℕ → ℕ) (links : Links) (count : ℕ) where
   -- what was settled is still
   pub still_settled : (found found' : List Finding) (labels labels' : List ℕ) (at kind : ℕ) (o : Origin) → Grows found found' labels labels'
-      → IsSettled image count labels at kind o → IsSettled image count labels' at kind o
+      → IsPropagated image count labels at kind o → IsPropagated image count labels' at kind o
   still_settled found found' labels labels' at kind o grown was = record {
     here = λ b leads. ((was.here b leads).0, grown.still (mark_of count b kind) o (was.here b leads).1);
   }
 
   pub all_still : (found found' : List Finding) (labels labels' : List ℕ) (a : Block) (o : Origin) (upto : List (ℕ × ℕ)) → Grows found found' labels labels'
-      → AreSettled image count labels a o upto → AreSettled image count labels' a o upto
+      → ArePropagated image count labels a o upto → ArePropagated image count labels' a o upto
   all_still found found' labels labels' a o upto grown was = record {
     each = λ position kind here. still_settled found found' labels labels' (a.first_word + position) kind o grown (was.each position kind here);
   }
 
   -- a label is there
-  label_inside : (found : List Finding) (labels : List ℕ) (b : Block) (kind : ℕ) → HasRoom (layout_of image) count labels → IsBlock (layout_of image) b → kind < count
+  label_inside : (found : List Finding) (labels : List ℕ) (b : Block) (kind : ℕ) → HasLabels (layout_of image) count labels → IsBlock (layout_of image) b → kind < count
       → mark_of count b kind < length labels
   label_inside found labels b kind room is below = let each = room.each b is in omega arith
 
@@ -73,7 +73,7 @@ module _ (image : Image) (kinds : ℕ → ℕ) (links : Links) (count : ℕ) whe
   two_roots b kind root Several apart was now = now
 
   -- what is told where an origin joins is so
-  tells_joined : (found : List Finding) (labels : List ℕ) (b : Block) (kind : ℕ) (o joined : Origin) → IsFound image kinds links count found labels
+  tells_joined : (found : List Finding) (labels : List ℕ) (b : Block) (kind : ℕ) (o joined : Origin) → AreFindings image kinds links count found labels
       → IsBlock (layout_of image) b → kind < count → Tells image kinds links b kind o → Joins (origin_at count labels b kind) o joined → Tells image kinds links b kind joined
   tells_joined found labels b kind o joined so_far is below tells (first none are) = subst (λ x. Tells image kinds links b kind x) (sym are) tells
   tells_joined found labels b kind o joined so_far is below tells (both root one apart are) =
@@ -88,7 +88,7 @@ module _ (image : Image) (kinds : ℕ → ℕ) (links : Links) (count : ℕ) whe
   other_label : (labels : List ℕ) (at i : ℕ) (label : ℕ) → i ≢ at → origin_in (slice_index (set labels at label) i) ≡ origin_in (slice_index labels i)
   other_label labels at i label apart = ap origin_in (get_or-set_other labels at i label 0 apart)
 
-  told_more : (found : List Finding) (labels : List ℕ) (b : Block) (kind : ℕ) (joined : Origin) → IsFound image kinds links count found labels
+  told_more : (found : List Finding) (labels : List ℕ) (b : Block) (kind : ℕ) (joined : Origin) → AreFindings image kinds links count found labels
       → IsBlock (layout_of image) b → kind < count → (c : Block) (j : ℕ) (o : Origin) → IsBlock (layout_of image) c → j < count
       → origin_at count (set labels (mark_of count b kind) (label_of joined)) c j ≡ Some o
       → Contains (found ++ record { block = b; kind = kind; origin = joined } ∷ []) (record { block = c; kind = j; origin = o })
@@ -111,7 +111,7 @@ module _ (image : Image) (kinds : ℕ → ℕ) (links : Links) (count : ℕ) whe
             (so_far.told c j o is_c j_below (sym (other_label labels (mark_of count b kind) (mark_of count c j) (label_of joined) other) ∙ tells))
       ]
 
-  sound_more : (found : List Finding) (labels : List ℕ) (new : Finding) → IsFound image kinds links count found labels → new.kind < count
+  sound_more : (found : List Finding) (labels : List ℕ) (new : Finding) → AreFindings image kinds links count found labels → new.kind < count
       → Tells image kinds links new.block new.kind new.origin → (f : Finding) → Contains (found ++ new ∷ []) f
       → (f.kind < count) × Tells image kinds links f.block f.kind f.origin
   sound_more found labels new so_far below tells f here =
@@ -120,9 +120,9 @@ module _ (image : Image) (kinds : ℕ → ℕ) (links : Links) (count : ℕ) whe
         | inr one ↦ subst (λ (x : Finding). (x.kind < count) × Tells image kinds links x.block x.kind x.origin) one (below, tells)
       ]
 
-  added_found : (found : List Finding) (labels : List ℕ) (b : Block) (kind : ℕ) (o joined : Origin) → IsFound image kinds links count found labels
+  added_found : (found : List Finding) (labels : List ℕ) (b : Block) (kind : ℕ) (o joined : Origin) → AreFindings image kinds links count found labels
       → IsBlock (layout_of image) b → kind < count → Tells image kinds links b kind o → Joins (origin_at count labels b kind) o joined
-      → IsFound image kinds links count (found ++ record { block = b; kind = kind; origin = joined } ∷ []) (set labels (mark_of count b kind) (label_of joined))
+      → AreFindings image kinds links count (found ++ record { block = b; kind = kind; origin = joined } ∷ []) (set labels (mark_of count b kind) (label_of joined))
   added_found found labels b kind o joined so_far is below tells joins =
       let inside = label_inside found labels b kind so_far.room is below in
       let long : length (set labels (mark_of count b kind) (label_of joined)) ≡ length labels = length-set labels (mark_of count b kind) (label_of joined) in
@@ -138,13 +138,13 @@ module _ (image : Image) (kinds : ℕ → ℕ) (links : Links) (count : ℕ) whe
       }
 
   -- what adding an origin leaves
-  pub add_found : (found found' : List Finding) (labels labels' : List ℕ) (b : Block) (kind : ℕ) (o : Origin) → IsFound image kinds links count found labels
-      → IsBlock (layout_of image) b → kind < count → Tells image kinds links b kind o → Adds count b kind o found found' labels labels' → IsFound image kinds links count found' labels'
+  pub add_found : (found found' : List Finding) (labels labels' : List ℕ) (b : Block) (kind : ℕ) (o : Origin) → AreFindings image kinds links count found labels
+      → IsBlock (layout_of image) b → kind < count → Tells image kinds links b kind o → AddsOrigin count b kind o found found' labels labels' → AreFindings image kinds links count found' labels'
   add_found found found' labels labels' b kind o so_far is below tells (present covers same_found same_labels) =
-      subst (λ fs. IsFound image kinds links count fs labels') (sym same_found) (subst (λ ls. IsFound image kinds links count found ls) (sym same_labels) so_far)
+      subst (λ fs. AreFindings image kinds links count fs labels') (sym same_found) (subst (λ ls. AreFindings image kinds links count found ls) (sym same_labels) so_far)
   add_found found found' labels labels' b kind o so_far is below tells (added joined joins new_found new_labels) =
-      subst (λ fs. IsFound image kinds links count fs labels') (sym new_found)
-      (subst (λ ls. IsFound image kinds links count (found ++ record { block = b; kind = kind; origin = joined } ∷ []) ls) (sym new_labels)
+      subst (λ fs. AreFindings image kinds links count fs labels') (sym new_found)
+      (subst (λ ls. AreFindings image kinds links count (found ++ record { block = b; kind = kind; origin = joined } ∷ []) ls) (sym new_labels)
       (added_found found labels b kind o joined so_far is below tells joins))
 
   added_still : (labels : List ℕ) (b : Block) (kind : ℕ) (o joined : Origin) → mark_of count b kind < length labels → Joins (origin_at count labels b kind) o joined
@@ -159,7 +159,7 @@ module _ (image : Image) (kinds : ℕ → ℕ) (links : Links) (count : ℕ) whe
       ]
 
   pub add_grows : (found found' : List Finding) (labels labels' : List ℕ) (b : Block) (kind : ℕ) (o : Origin) → mark_of count b kind < length labels
-      → Adds count b kind o found found' labels labels' → Grows found found' labels labels'
+      → AddsOrigin count b kind o found found' labels labels' → Grows found found' labels labels'
   add_grows found found' labels labels' b kind o inside (present covers same_found same_labels) = no_more found found' labels labels' same_found same_labels
   add_grows found found' labels labels' b kind o inside (added joined joins new_found new_labels) = record {
     more = record { block = b; kind = kind; origin = joined } ∷ [];
@@ -169,7 +169,7 @@ module _ (image : Image) (kinds : ℕ → ℕ) (links : Links) (count : ℕ) whe
   }
 
   add_covers : (found found' : List Finding) (labels labels' : List ℕ) (b : Block) (kind : ℕ) (o : Origin) → mark_of count b kind < length labels
-      → Adds count b kind o found found' labels labels' → Covers (origin_at count labels' b kind) o
+      → AddsOrigin count b kind o found found' labels labels' → Covers (origin_at count labels' b kind) o
   add_covers found found' labels labels' b kind o inside (present covers same_found same_labels) =
       subst (λ (ls : List ℕ). Covers (origin_at count ls b kind) o) (sym same_labels) covers
   add_covers found found' labels labels' b kind o inside (added joined joins new_found new_labels) =
@@ -177,22 +177,22 @@ module _ (image : Image) (kinds : ℕ → ℕ) (links : Links) (count : ℕ) whe
       (subst (λ x. Covers x o) (sym (set_label labels b kind joined inside)) (joins_covers (origin_at count labels b kind) o joined joins))
 
   -- what following a word leaves
-  pub follow_found : (found found' : List Finding) (labels labels' : List ℕ) (at kind : ℕ) (o : Origin) → IsFound image kinds links count found labels → kind < count
-      → ((b : Block) → Leads image (image at) b → Tells image kinds links b kind o) → Follows image count at kind o found found' labels labels'
-      → IsFound image kinds links count found' labels'
+  pub follow_found : (found found' : List Finding) (labels labels' : List ℕ) (at kind : ℕ) (o : Origin) → AreFindings image kinds links count found labels → kind < count
+      → ((b : Block) → Leads image (image at) b → Tells image kinds links b kind o) → Propagates image count at kind o found found' labels labels'
+      → AreFindings image kinds links count found' labels'
   follow_found found found' labels labels' at kind o so_far below tells (nowhere none same_found same_labels) =
-      subst (λ fs. IsFound image kinds links count fs labels') (sym same_found) (subst (λ ls. IsFound image kinds links count found ls) (sym same_labels) so_far)
+      subst (λ fs. AreFindings image kinds links count fs labels') (sym same_found) (subst (λ ls. AreFindings image kinds links count found ls) (sym same_labels) so_far)
   follow_found found found' labels labels' at kind o so_far below tells (lead b leads adds) =
       add_found found found' labels labels' b kind o so_far leads.names.block below (tells b leads) adds
 
-  pub follow_grows : (found found' : List Finding) (labels labels' : List ℕ) (at kind : ℕ) (o : Origin) → HasRoom (layout_of image) count labels → kind < count
-      → Follows image count at kind o found found' labels labels' → Grows found found' labels labels'
+  pub follow_grows : (found found' : List Finding) (labels labels' : List ℕ) (at kind : ℕ) (o : Origin) → HasLabels (layout_of image) count labels → kind < count
+      → Propagates image count at kind o found found' labels labels' → Grows found found' labels labels'
   follow_grows found found' labels labels' at kind o room below (nowhere none same_found same_labels) = no_more found found' labels labels' same_found same_labels
   follow_grows found found' labels labels' at kind o room below (lead b leads adds) =
       add_grows found found' labels labels' b kind o (label_inside found labels b kind room leads.names.block below) adds
 
-  pub follow_settles : (found found' : List Finding) (labels labels' : List ℕ) (at kind : ℕ) (o : Origin) → HasRoom (layout_of image) count labels → kind < count
-      → Follows image count at kind o found found' labels labels' → IsSettled image count labels' at kind o
+  pub follow_settles : (found found' : List Finding) (labels labels' : List ℕ) (at kind : ℕ) (o : Origin) → HasLabels (layout_of image) count labels → kind < count
+      → Propagates image count at kind o found found' labels labels' → IsPropagated image count labels' at kind o
   follow_settles found found' labels labels' at kind o room below (nowhere none same_found same_labels) = record { here = λ b leads. absurd (none b leads) }
   follow_settles found found' labels labels' at kind o room below (lead b leads adds) = record {
     here = λ c to_c. (

@@ -21,8 +21,8 @@ use Rattle.root_reach.specs.declared.origin.Origin.TheVariants.{One, Several}
 use Rattle.root_reach.specs.declared.labels.Finding.{Finding}
 use Rattle.root_reach.specs.declared.labels.Origins.{Origins}
 use Rattle.root_reach.specs.Origins.{Covers, same, several, origin_in, origin_at, rank}
-use Rattle.root_reach.specs.Reaching.{Tells, ReachesFrom, HasRoom, AreOrigins, IsReachedBeside}
-use Rattle.root_reach.specs.Steps.{Follows, IsSettled, HasSettled, IsFound, FollowsRoots, FollowsLinks, IsWork}
+use Rattle.root_reach.specs.Reaching.{Tells, ReachesFrom, HasLabels, AreOrigins, IsReachedBeside}
+use Rattle.root_reach.specs.Steps.{Propagates, IsPropagated, HasPropagated, AreFindings, PropagatesRoots, PropagatesLinks, IsWorklist}
 use Rattle.root_reach.proofs.OriginLemmas.{one_root}
 use Rattle.root_reach.proofs.StepLemmas.{no_more, more_and_more, still_settled, all_still, follow_found, follow_grows, follow_settles}
 
@@ -35,7 +35,7 @@ small_rank (suc (suc root)) = omega arith
 module _ (image : Image) (kinds : ℕ → ℕ) (links : Links) (count : ℕ) where
   -- nothing has been found, and no label tells anything
   pub nothing_found : (n : ℕ) (labels : List ℕ) → n ≡ start_word (capacity_of image) (used_of image) → length labels ≡ n * count → All (λ label. label ≡ 0) labels
-      → IsFound image kinds links count [] labels
+      → AreFindings image kinds links count [] labels
   nothing_found n labels end long clear =
       let fits : (b : Block) → IsBlock (layout_of image) b → b.first_word * count + count ≤ length labels =
       λ b is.
@@ -72,19 +72,19 @@ module _ (image : Image) (kinds : ℕ → ℕ) (links : Links) (count : ℕ) whe
   tells_block b kind Several tells = reached_block image kinds links b kind tells.from_one
 
   -- one more root
-  pub roots_step : (n : ℕ) (found found' : List Finding) (labels labels' : List ℕ) → FollowsRoots image kinds links count n found labels → n < roots → kinds n < count
-      → Follows image count (root_word n) (kinds n) (One n) found found' labels labels' → FollowsRoots image kinds links count (n + 1) found' labels'
+  pub roots_step : (n : ℕ) (found found' : List Finding) (labels labels' : List ℕ) → PropagatesRoots image kinds links count n found labels → n < roots → kinds n < count
+      → Propagates image count (root_word n) (kinds n) (One n) found found' labels labels' → PropagatesRoots image kinds links count (n + 1) found' labels'
   roots_step n found found' labels labels' was below kind follows =
       let grown = follow_grows image kinds links count found found' labels labels' (root_word n) (kinds n) (One n) was.so_far.room kind follows in
       record {
         so_far = follow_found image kinds links count found found' labels labels' (root_word n) (kinds n) (One n) was.so_far kind (tells_root n below) follows;
-        settled = below_more (λ i. IsSettled image count labels' (root_word i) (kinds i) (One i)) n
+        settled = below_more (λ i. IsPropagated image count labels' (root_word i) (kinds i) (One i)) n
             (λ i low. still_settled image kinds links count found found' labels labels' (root_word i) (kinds i) (One i) grown (was.settled i low))
             (follow_settles image kinds links count found found' labels labels' (root_word n) (kinds n) (One n) was.so_far.room kind follows);
       }
 
-  pub links_begin : (found : List Finding) (labels : List ℕ) (a : Block) (o : Origin) → IsFound image kinds links count found labels
-      → FollowsLinks image kinds links count a o [] found found labels labels
+  pub links_begin : (found : List Finding) (labels : List ℕ) (a : Block) (o : Origin) → AreFindings image kinds links count found labels
+      → PropagatesLinks image kinds links count a o [] found found labels labels
   links_begin found labels a o so_far = record {
     so_far = so_far;
     grown = no_more found found labels labels refl refl;
@@ -93,10 +93,10 @@ module _ (image : Image) (kinds : ℕ → ℕ) (links : Links) (count : ℕ) whe
 
   -- one more link
   pub links_step : (a : Block) (from : ℕ) (o : Origin) (upto : List (ℕ × ℕ)) (position kind : ℕ) (found found' found'' : List Finding) (labels labels' labels'' : List ℕ)
-      → FollowsLinks image kinds links count a o upto found found' labels labels' → Tells image kinds links a from o
+      → PropagatesLinks image kinds links count a o upto found found' labels labels' → Tells image kinds links a from o
       → Contains (links from (words_in image a)) (position, kind) → kind < count
-      → Follows image count (a.first_word + position) kind o found' found'' labels' labels''
-      → FollowsLinks image kinds links count a o (upto ++ (position, kind) ∷ []) found found'' labels labels''
+      → Propagates image count (a.first_word + position) kind o found' found'' labels' labels''
+      → PropagatesLinks image kinds links count a o (upto ++ (position, kind) ∷ []) found found'' labels labels''
   links_step a from o upto position kind found found' found'' labels labels' labels'' was tells listed below follows =
       let at : ℕ = a.first_word + position in
       let grown = follow_grows image kinds links count found' found'' labels' labels'' at kind o was.so_far.room below follows in
@@ -105,15 +105,15 @@ module _ (image : Image) (kinds : ℕ → ℕ) (links : Links) (count : ℕ) whe
         so_far = follow_found image kinds links count found' found'' labels' labels'' at kind o was.so_far below (tells_link a from position kind o tells listed) follows;
         grown = more_and_more found found' found'' labels labels' labels'' was.grown grown;
         settled = record {
-          each = λ p k in_upto. elim (Contains-push_cases upto (position, kind) (p, k) in_upto) as (λ _. IsSettled image count labels'' (a.first_word + p) k o) [
+          each = λ p k in_upto. elim (Contains-push_cases upto (position, kind) (p, k) in_upto) as (λ _. IsPropagated image count labels'' (a.first_word + p) k o) [
             | inl old ↦ still_settled image kinds links count found' found'' labels' labels'' (a.first_word + p) k o grown (was.settled.each p k old)
-            | inr one ↦ subst (λ (l : ℕ × ℕ). IsSettled image count labels'' (a.first_word + l.0) l.1 o) one here
+            | inr one ↦ subst (λ (l : ℕ × ℕ). IsPropagated image count labels'' (a.first_word + l.0) l.1 o) one here
           ];
         };
       }
 
   -- when the roots have been followed, nothing that was found has been
-  pub work_begins : (found : List Finding) (labels : List ℕ) → FollowsRoots image kinds links count roots found labels → IsWork image kinds links count 0 found labels
+  pub work_begins : (found : List Finding) (labels : List ℕ) → PropagatesRoots image kinds links count roots found labels → IsWorklist image kinds links count 0 found labels
   work_begins found labels done = record {
     so_far = done.so_far;
     roots_settled = done.settled;
@@ -122,9 +122,9 @@ module _ (image : Image) (kinds : ℕ → ℕ) (links : Links) (count : ℕ) whe
   }
 
   -- one more finding
-  pub work_step : (next : ℕ) (f : Finding) (found found' : List Finding) (labels labels' : List ℕ) → IsWork image kinds links count next found labels → next < length found
-      → get_or found next f ≡ f → FollowsLinks image kinds links count f.block f.origin (links f.kind (words_in image f.block)) found found' labels labels'
-      → IsWork image kinds links count (next + 1) found' labels'
+  pub work_step : (next : ℕ) (f : Finding) (found found' : List Finding) (labels labels' : List ℕ) → IsWorklist image kinds links count next found labels → next < length found
+      → get_or found next f ≡ f → PropagatesLinks image kinds links count f.block f.origin (links f.kind (words_in image f.block)) found found' labels labels'
+      → IsWorklist image kinds links count (next + 1) found' labels'
   work_step next f found found' labels labels' work below read follows =
       let grown = follows.grown in
       let longer : length found' ≡ length found + length grown.more = ap (λ (fs : List Finding). length fs) grown.is ∙ length-append found grown.more in
@@ -136,15 +136,15 @@ module _ (image : Image) (kinds : ℕ → ℕ) (links : Links) (count : ℕ) whe
       record {
         so_far = follows.so_far;
         roots_settled = λ i low. still_settled image kinds links count found found' labels labels' (root_word i) (kinds i) (One i) grown (work.roots_settled i low);
-        links_settled = λ g here. elim (Contains-push_cases (take next found) f g (subst (λ fs. Contains fs g) front here)) as (λ _. HasSettled image links count labels' g) [
+        links_settled = λ g here. elim (Contains-push_cases (take next found) f g (subst (λ fs. Contains fs g) front here)) as (λ _. HasPropagated image links count labels' g) [
           | inl old ↦ all_still image kinds links count found found' labels labels' g.block g.origin (links g.kind (words_in image g.block)) grown (work.links_settled g old)
-          | inr one ↦ subst (λ (x : Finding). HasSettled image links count labels' x) one follows.settled
+          | inr one ↦ subst (λ (x : Finding). HasPropagated image links count labels' x) one follows.settled
         ];
         within = omega arith;
       }
 
   -- no more is found than twice as much as there are labels
-  pub few_found : (found : List Finding) (labels : List ℕ) → IsFound image kinds links count found labels → length found ≤ 2 * length labels
+  pub few_found : (found : List Finding) (labels : List ℕ) → AreFindings image kinds links count found labels → length found ≤ 2 * length labels
   few_found found labels so_far =
       let few = so_far.few in
       let most = sum_by-le rank 2 labels (λ k d below. small_rank (get_or labels k d)) in omega arith
@@ -158,9 +158,9 @@ module _ (image : Image) (kinds : ℕ → ℕ) (links : Links) (count : ℕ) whe
   covers_on told o root (same is) covers = subst (λ x. Covers x (One root)) (sym is) covers
   covers_on told o root (several is) covers = several is
 
-  complete : (found : List Finding) (labels : List ℕ) → IsFound image kinds links count found labels
-      → ((i : ℕ) → i < roots → IsSettled image count labels (root_word i) (kinds i) (One i))
-      → ((f : Finding) → Contains found f → HasSettled image links count labels f)
+  complete : (found : List Finding) (labels : List ℕ) → AreFindings image kinds links count found labels
+      → ((i : ℕ) → i < roots → IsPropagated image count labels (root_word i) (kinds i) (One i))
+      → ((f : Finding) → Contains found f → HasPropagated image links count labels f)
       → (root : ℕ) (b : Block) (kind : ℕ) → ReachesFrom image kinds links root b kind → (kind < count) × Covers (origin_at count labels b kind) (One root)
   complete found labels so_far from_roots from_links root = closure_least (λ b kind. (kind < count) × Covers (origin_at count labels b kind) (One root))
       (λ b kind start. subst (λ k. (k < count) × Covers (origin_at count labels b k) (One root)) (sym start.kind_is)
@@ -173,14 +173,14 @@ module _ (image : Image) (kinds : ℕ → ℕ) (links : Links) (count : ℕ) whe
       (settled.0, covers_on (origin_at count labels b kind) o root settled.1 covers)))
 
   -- when all that was found has been followed, the labels tell which roots reach each block
-  pub work_ends : (next : ℕ) (found : List Finding) (origins : Origins) → origins.kinds ≡ count → IsWork image kinds links count next found origins.labels.items
+  pub work_ends : (next : ℕ) (found : List Finding) (origins : Origins) → origins.kinds ≡ count → IsWorklist image kinds links count next found origins.labels.items
       → length found ≤ next → AreOrigins image kinds links origins
   work_ends next found origins is work past =
       let labels : List ℕ = origins.labels.items in
-      let all : (f : Finding) → Contains found f → HasSettled image links count labels f =
-      subst (λ fs. (f : Finding) → Contains fs f → HasSettled image links count labels f) (take_all next found past) work.links_settled in
+      let all : (f : Finding) → Contains found f → HasPropagated image links count labels f =
+      subst (λ fs. (f : Finding) → Contains fs f → HasPropagated image links count labels f) (take_all next found past) work.links_settled in
       record {
-        room = subst (λ n. HasRoom (layout_of image) n labels) (sym is) work.so_far.room;
+        room = subst (λ n. HasLabels (layout_of image) n labels) (sym is) work.so_far.room;
         sound = subst (λ n. (b : Block) (kind : ℕ) (o : Origin) → IsBlock (layout_of image) b → kind < n → origin_at n labels b kind ≡ Some o → Tells image kinds links b kind o) (sym is)
             (λ b kind o block below tells. (work.so_far.sound (record { block = b; kind = kind; origin = o }) (work.so_far.told b kind o block below tells)).1);
         complete = subst (λ n. (b : Block) (kind root : ℕ) → ReachesFrom image kinds links root b kind → (kind < n) × Covers (origin_at n labels b kind) (One root)) (sym is)

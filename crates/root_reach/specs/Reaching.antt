@@ -28,12 +28,12 @@ Tells image kinds links b kind (One root) = (root < roots) × ReachesFrom image 
 Tells image kinds links b kind Several = IsShared image kinds links b kind
 
 -- each block has a label for each kind
-pub record HasRoom (l : Layout) (kinds : ℕ) (labels : List ℕ) : Type 0 where
+pub record HasLabels (l : Layout) (kinds : ℕ) (labels : List ℕ) : Type 0 where
   pub each : (b : Block) → IsBlock l b → b.first_word * kinds + kinds ≤ length labels
 
 -- the labels tell nothing that is not so, and of each root that reaches a block they tell it, or several
 pub record AreOrigins (image : Image) (kinds : ℕ → ℕ) (links : Links) (origins : Origins) : Type 0 where
-  pub room : HasRoom (layout_of image) origins.kinds origins.labels.items
+  pub room : HasLabels (layout_of image) origins.kinds origins.labels.items
   pub sound : (b : Block) (kind : ℕ) (origin : Origin) → IsBlock (layout_of image) b → kind < origins.kinds
       → origin_at origins.kinds origins.labels.items b kind ≡ Some origin → Tells image kinds links b kind origin
   pub complete : (b : Block) (kind root : ℕ) → ReachesFrom image kinds links root b kind

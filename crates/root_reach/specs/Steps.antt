@@ -12,39 +12,39 @@ use Rattle.root_reach.specs.declared.origin.Origin.{Origin}
 use Rattle.root_reach.specs.declared.origin.Origin.TheVariants.{One}
 use Rattle.root_reach.specs.declared.labels.Finding.{Finding}
 use Rattle.root_reach.specs.Origins.{Covers, Joins, origin_in, origin_at, label_of, rank}
-use Rattle.root_reach.specs.Reaching.{Tells, HasRoom}
+use Rattle.root_reach.specs.Reaching.{Tells, HasLabels}
 
 -- what adding an origin of a pair leaves: nothing new where it is covered, else the joined one, found and in its label
-pub data Adds (count : ℕ) (b : Block) (kind : ℕ) (origin : Origin) (found found' : List Finding) (labels labels' : List ℕ) : Type 0 where
+pub data AddsOrigin (count : ℕ) (b : Block) (kind : ℕ) (origin : Origin) (found found' : List Finding) (labels labels' : List ℕ) : Type 0 where
   present : Covers (origin_at count labels b kind) origin → found' ≡ found → labels' ≡ labels
-      → Adds count b kind origin found found' labels labels'
+      → AddsOrigin count b kind origin found found' labels labels'
   added : (joined : Origin) → Joins (origin_at count labels b kind) origin joined
       → found' ≡ found ++ record { block = b; kind = kind; origin = joined } ∷ []
-      → labels' ≡ slice_set labels (mark_of count b kind) (label_of joined) → Adds count b kind origin found found' labels labels'
+      → labels' ≡ slice_set labels (mark_of count b kind) (label_of joined) → AddsOrigin count b kind origin found found' labels labels'
 
 -- what following a word leaves: nothing new where it leads nowhere, else the origin added to what it leads to
-pub data Follows (image : Image) (count at kind : ℕ) (origin : Origin) (found found' : List Finding)
+pub data Propagates (image : Image) (count at kind : ℕ) (origin : Origin) (found found' : List Finding)
     (labels labels' : List ℕ) : Type 0 where
   nowhere : ((b : Block) → Leads image (image at) b → ⊥) → found' ≡ found → labels' ≡ labels
-      → Follows image count at kind origin found found' labels labels'
-  lead : (b : Block) → Leads image (image at) b → Adds count b kind origin found found' labels labels'
-      → Follows image count at kind origin found found' labels labels'
+      → Propagates image count at kind origin found found' labels labels'
+  lead : (b : Block) → Leads image (image at) b → AddsOrigin count b kind origin found found' labels labels'
+      → Propagates image count at kind origin found found' labels labels'
 
 -- the word has been followed with the origin: what it leads to is told of it
-pub record IsSettled (image : Image) (count : ℕ) (labels : List ℕ) (at kind : ℕ) (origin : Origin) : Type 0 where
+pub record IsPropagated (image : Image) (count : ℕ) (labels : List ℕ) (at kind : ℕ) (origin : Origin) : Type 0 where
   pub here : (b : Block) → Leads image (image at) b → (kind < count) × Covers (origin_at count labels b kind) origin
 
 -- these links of the block have been
-pub record AreSettled (image : Image) (count : ℕ) (labels : List ℕ) (a : Block) (origin : Origin) (upto : List (ℕ × ℕ)) : Type 0 where
-  pub each : (position kind : ℕ) → Contains upto (position, kind) → IsSettled image count labels (a.first_word + position) kind origin
+pub record ArePropagated (image : Image) (count : ℕ) (labels : List ℕ) (a : Block) (origin : Origin) (upto : List (ℕ × ℕ)) : Type 0 where
+  pub each : (position kind : ℕ) → Contains upto (position, kind) → IsPropagated image count labels (a.first_word + position) kind origin
 
 -- all links of what was found have been
-abbrev pub HasSettled : Image → Links → ℕ → List ℕ → Finding → Type 0
-HasSettled image links count labels f = AreSettled image count labels f.block f.origin (links f.kind (words_in image f.block))
+abbrev pub HasPropagated : Image → Links → ℕ → List ℕ → Finding → Type 0
+HasPropagated image links count labels f = ArePropagated image count labels f.block f.origin (links f.kind (words_in image f.block))
 
 -- what has been found is so, each label tells what has been found, and nothing is found twice
-pub record IsFound (image : Image) (kinds : ℕ → ℕ) (links : Links) (count : ℕ) (found : List Finding) (labels : List ℕ) : Type 0 where
-  pub room : HasRoom (layout_of image) count labels
+pub record AreFindings (image : Image) (kinds : ℕ → ℕ) (links : Links) (count : ℕ) (found : List Finding) (labels : List ℕ) : Type 0 where
+  pub room : HasLabels (layout_of image) count labels
   pub sound : (f : Finding) → Contains found f → (f.kind < count) × Tells image kinds links f.block f.kind f.origin
   pub told : (b : Block) (kind : ℕ) (origin : Origin) → IsBlock (layout_of image) b → kind < count
       → origin_at count labels b kind ≡ Some origin
@@ -60,21 +60,21 @@ pub record Grows (found found' : List Finding) (labels labels' : List ℕ) : Typ
   pub long : length labels' ≡ length labels
 
 -- what following the first roots leaves
-pub record FollowsRoots (image : Image) (kinds : ℕ → ℕ) (links : Links) (count upto : ℕ) (found : List Finding)
+pub record PropagatesRoots (image : Image) (kinds : ℕ → ℕ) (links : Links) (count upto : ℕ) (found : List Finding)
     (labels : List ℕ) : Type 0 where
-  pub so_far : IsFound image kinds links count found labels
-  pub settled : (i : ℕ) → i < upto → IsSettled image count labels (root_word i) (kinds i) (One i)
+  pub so_far : AreFindings image kinds links count found labels
+  pub settled : (i : ℕ) → i < upto → IsPropagated image count labels (root_word i) (kinds i) (One i)
 
 -- what following these links of a block leaves
-pub record FollowsLinks (image : Image) (kinds : ℕ → ℕ) (links : Links) (count : ℕ) (a : Block) (origin : Origin) (upto : List (ℕ × ℕ))
+pub record PropagatesLinks (image : Image) (kinds : ℕ → ℕ) (links : Links) (count : ℕ) (a : Block) (origin : Origin) (upto : List (ℕ × ℕ))
     (found found' : List Finding) (labels labels' : List ℕ) : Type 0 where
-  pub so_far : IsFound image kinds links count found' labels'
+  pub so_far : AreFindings image kinds links count found' labels'
   pub grown : Grows found found' labels labels'
-  pub settled : AreSettled image count labels' a origin upto
+  pub settled : ArePropagated image count labels' a origin upto
 
 -- what the trace knows when it has followed the roots and the links of what was found first
-pub record IsWork (image : Image) (kinds : ℕ → ℕ) (links : Links) (count next : ℕ) (found : List Finding) (labels : List ℕ) : Type 0 where
-  pub so_far : IsFound image kinds links count found labels
-  pub roots_settled : (i : ℕ) → i < roots → IsSettled image count labels (root_word i) (kinds i) (One i)
-  pub links_settled : (f : Finding) → Contains (take next found) f → HasSettled image links count labels f
+pub record IsWorklist (image : Image) (kinds : ℕ → ℕ) (links : Links) (count next : ℕ) (found : List Finding) (labels : List ℕ) : Type 0 where
+  pub so_far : AreFindings image kinds links count found labels
+  pub roots_settled : (i : ℕ) → i < roots → IsPropagated image count labels (root_word i) (kinds i) (One i)
+  pub links_settled : (f : Finding) → Contains (take next found) f → HasPropagated image links count labels f
   pub within : next ≤ length found

@@ -9,7 +9,7 @@ ghost use Rattle.heap_model.specs.Reach.{Links};
 ghost use Rattle.filter_trace.specs.Pairs.{mark_of};
 ghost use Rattle.root_reach.specs.Origins.{origin_at, IsRoot};
 ghost use Rattle.root_reach.specs.Reaching.{AreOrigins, IsReachedBeside};
-ghost use Rattle.root_reach.specs.Steps.{Adds};
+ghost use Rattle.root_reach.specs.Steps.{AddsOrigin};
 
 use crate::origin::Origin;
 use heap_model::Block;
@@ -65,12 +65,12 @@ impl Origins {
 
 /// What has been found, in the order in which it was, and the labels.
 #[derive(Drop)]
-pub struct Found {
+pub struct Labelling {
     pub list: Vec<Finding>,
     pub origins: Origins,
 }
 
-impl Found {
+impl Labelling {
     /// Nothing, of an image of so many words.
     pub fn new(alloc: Global, words: usize, kinds: u32) -> Result<Self, AllocError>
         requires { words < 2 ^ 31 }
@@ -79,7 +79,7 @@ impl Found {
         ensures long { IfOk result (λ found. length found.origins.labels.items ≡ words * kinds) }
         ensures clear { IfOk result (λ found. All (λ label. label ≡ 0) found.origins.labels.items) }
     {
-        Ok(Found {
+        Ok(Labelling {
             list: Vec::new(alloc),
             origins: Origins {
                 kinds,
@@ -90,10 +90,13 @@ impl Found {
 
     /// Adds that these roots reach the block as one of the kind, unless that is told.
     pub fn add(&mut self, block: Block, kind: u32, origin: Origin) -> Result<(), AllocError>
-        requires here { mark_of self.old.origins.kinds block kind < length self.old.origins.labels.items }
+        requires here { mark_of self.old.origins.kinds block kind
+            < length self.old.origins.labels.items }
         requires root { IsRoot origin }
         ensures kinds { self.new.origins.kinds ≡ self.old.origins.kinds }
-        ensures ok { OnOk result (Adds self.old.origins.kinds block kind origin self.old.list.items self.new.list.items self.old.origins.labels.items self.new.origins.labels.items) }
+        ensures ok { OnOk result (AddsOrigin self.old.origins.kinds block kind origin
+            self.old.list.items self.new.list.items self.old.origins.labels.items
+            self.new.origins.labels.items) }
     {
         let told = self.origins.origin_of(block, kind);
         if let Some(joined) = origin.joined_to(told) {

@@ -7,10 +7,10 @@ ghost use Rattle.heap_model.specs.Blocks.{layout_of, IsBlock};
 ghost use Rattle.heap_model.specs.Reach.{words_in};
 ghost use Rattle.super_block.specs.Division.{Describes};
 ghost use Rattle.root_reach.specs.Origins.{IsRoot};
-ghost use Rattle.root_reach.specs.Reaching.{HasRoom, Tells};
-ghost use Rattle.root_reach.specs.Steps.{Follows, IsFound, FollowsRoots, FollowsLinks};
+ghost use Rattle.root_reach.specs.Reaching.{HasLabels, Tells};
+ghost use Rattle.root_reach.specs.Steps.{Propagates, AreFindings, PropagatesRoots, PropagatesLinks};
 
-use crate::labels::{Finding, Found};
+use crate::labels::{Finding, Labelling};
 use crate::origin::Origin;
 use filter_trace::{Filter, Scan, Target};
 use std::alloc::AllocError;
@@ -23,17 +23,17 @@ fn follow(
     at: usize,
     kind: u32,
     origin: Origin,
-    found: &mut Found,
+    found: &mut Labelling,
 ) -> Result<(), AllocError>
     requires at { at < length scan.now.words.now }
     requires described { Describes scan.now.directory.now
         (layout_of (slice_index scan.now.words.now)) }
     requires kind { kind < found.old.origins.kinds }
     requires root { IsRoot origin }
-    requires room { HasRoom (layout_of (slice_index scan.now.words.now)) found.old.origins.kinds
+    requires room { HasLabels (layout_of (slice_index scan.now.words.now)) found.old.origins.kinds
         found.old.origins.labels.items }
     ensures kinds { found.new.origins.kinds ≡ found.old.origins.kinds }
-    ensures ok { OnOk result (Follows (slice_index scan.now.words.now) found.old.origins.kinds at
+    ensures ok { OnOk result (Propagates (slice_index scan.now.words.now) found.old.origins.kinds at
         kind origin found.old.list.items found.new.list.items found.old.origins.labels.items
         found.new.origins.labels.items) }
 {
@@ -49,18 +49,19 @@ pub fn follow_roots<F: Filter>(
     scan: &Scan,
     kinds: &[u32],
     _filter: &F,
-    found: &mut Found,
+    found: &mut Labelling,
 ) -> Result<(), AllocError>
     requires formed { IsWellFormed (8 * length scan.now.words.now) (slice_index scan.now.words.now) }
     requires described { Describes scan.now.directory.now
         (layout_of (slice_index scan.now.words.now)) }
     requires roots { length kinds.now ≡ roots }
     requires kinds { All (λ kind. kind < found.old.origins.kinds) kinds.now }
-    requires so_far { IsFound (slice_index scan.now.words.now) (slice_index kinds.now)
+    requires so_far { AreFindings (slice_index scan.now.words.now) (slice_index kinds.now)
         (F.links_of _filter.now) found.old.origins.kinds found.old.list.items
         found.old.origins.labels.items }
     ensures kinds { found.new.origins.kinds ≡ found.old.origins.kinds }
-    ensures ok { OnOk result (FollowsRoots (slice_index scan.now.words.now) (slice_index kinds.now)
+    ensures ok { OnOk result (PropagatesRoots (slice_index scan.now.words.now)
+        (slice_index kinds.now)
         (F.links_of _filter.now) found.old.origins.kinds roots found.new.list.items
         found.new.origins.labels.items) }
     ensures long { OnOk result (length found.new.origins.labels.items
@@ -84,7 +85,7 @@ pub fn follow_links<F: Filter>(
     _kinds: &[u32],
     filter: &F,
     finding: Finding,
-    found: &mut Found,
+    found: &mut Labelling,
 ) -> Result<(), AllocError>
     requires formed { IsWellFormed (8 * length scan.now.words.now) (slice_index scan.now.words.now) }
     requires described { Describes scan.now.directory.now
@@ -92,10 +93,11 @@ pub fn follow_links<F: Filter>(
     requires kinds { found.old.origins.kinds ≡ F.KINDS }
     requires tells { Tells (slice_index scan.now.words.now) (slice_index _kinds.now)
         (F.links_of filter.now) finding.block finding.kind finding.origin }
-    requires so_far { IsFound (slice_index scan.now.words.now) (slice_index _kinds.now)
+    requires so_far { AreFindings (slice_index scan.now.words.now) (slice_index _kinds.now)
         (F.links_of filter.now) F.KINDS found.old.list.items found.old.origins.labels.items }
     ensures kinds { found.new.origins.kinds ≡ found.old.origins.kinds }
-    ensures ok { OnOk result (FollowsLinks (slice_index scan.now.words.now) (slice_index _kinds.now)
+    ensures ok { OnOk result (PropagatesLinks (slice_index scan.now.words.now)
+        (slice_index _kinds.now)
         (F.links_of filter.now) F.KINDS finding.block finding.origin
         (F.links_of filter.now finding.kind
         (words_in (slice_index scan.now.words.now) finding.block))

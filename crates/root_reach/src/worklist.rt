@@ -8,7 +8,7 @@ ghost use Rattle.heap_model.specs.Blocks.{layout_of};
 ghost use Rattle.super_block.specs.Division.{Describes};
 ghost use Rattle.root_reach.specs.Reaching.{AreOrigins};
 
-use crate::labels::{Found, Origins};
+use crate::labels::{Labelling, Origins};
 use crate::steps::{follow_links, follow_roots};
 use filter_trace::{Filter, Scan};
 use std::alloc::{AllocError, Global};
@@ -32,7 +32,7 @@ pub fn trace_origins<F: Filter>(
     ensures ok { IfOk result (AreOrigins (slice_index scan.now.words.now) (slice_index kinds.now)
         (F.links_of filter.now)) }
 {
-    let mut found = Found::new(alloc, words_of_taken(scan.words), F::KINDS)?;
+    let mut found = Labelling::new(alloc, words_of_taken(scan.words), F::KINDS)?;
     follow_roots(scan, kinds, filter, &mut found)?;
     let mut next = 0;
     while next < found.list.len() {
@@ -40,7 +40,7 @@ pub fn trace_origins<F: Filter>(
         follow_links(scan, kinds, filter, finding, &mut found)?;
         next += 1;
     }
-    let Found { list: _, origins } = found;
+    let Labelling { list: _, origins } = found;
     Ok(origins)
 }
 

@@ -2,7 +2,7 @@ use Rattle.std.proofs.Common.{◌≡◌, ◌*◌, length, slice_index, sym, subs
 use Rattle.std.specs.Prelude.{Contains}
 use Rattle.heap_model.specs.Geometry.{roots}
 use Rattle.filter_trace.proofs.StepLemmas.{image_short}
-use Rattle.root_reach.specs.Steps.{FollowsRoots}
+use Rattle.root_reach.specs.Steps.{PropagatesRoots}
 use Rattle.root_reach.proofs.TraceLemmas.{nothing_found, work_begins, work_step, work_ends, few_found}
 use Rattle.root_reach.proofs.worklist.trace_origins.Goals as goal
 
@@ -33,7 +33,7 @@ loop-next-init g c =
       same = c.follow_roots.ensures.kinds ∙ count;
       work = work_begins (slice_index c.args.scan.now.words.now) (slice_index c.args.kinds.now) (g.F.Filter.links_of c.args.filter.now) g.F.Filter.KINDS
           c.follow_roots.new.found.list.items c.follow_roots.new.found.origins.labels.items
-          (subst (λ n. FollowsRoots (slice_index c.args.scan.now.words.now) (slice_index c.args.kinds.now) (g.F.Filter.links_of c.args.filter.now) n roots c.follow_roots.new.found.list.items c.follow_roots.new.found.origins.labels.items)
+          (subst (λ n. PropagatesRoots (slice_index c.args.scan.now.words.now) (slice_index c.args.kinds.now) (g.F.Filter.links_of c.args.filter.now) n roots c.follow_roots.new.found.list.items c.follow_roots.new.found.origins.labels.items)
           count c.in_ok-follow_roots.ensures.ok);
       long = refl;
     }

@@ -1,6 +1,6 @@
 use Rattle.std.proofs.Common.{refl}
 use Rattle.root_reach.specs.Steps.{added}
-use Rattle.root_reach.proofs.labels.Found.add.Goals as goal
+use Rattle.root_reach.proofs.labels.Labelling.add.Goals as goal
 
 pub returns-in_ok-push-clause-ok : goal.returns-in_ok-push-clause-ok
 returns-in_ok-push-clause-ok c =
