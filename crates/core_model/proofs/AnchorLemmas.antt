@@ -8,7 +8,7 @@ use Rattle.core_model.specs.Memory.{Memory, volatile_at, used, head, anchor, inf
 use Rattle.core_model.specs.View.{Setup, View, Claim, Span, one_if_some, times_raw, times_classed, times_large}
 use Rattle.core_model.specs.Effects.{seen_word, seen_of, trimmed}
 use Rattle.core_model.specs.Guards.{IsThere}
-use Rattle.core_model.specs.Sound.{Shape, tally_of, AreUntaken, AreListed, HasClaims, IsAnchoredBy, KnowsHead, KnowsWords, Adds, stale, class_numbers, times_cut, Good}
+use Rattle.core_model.specs.Sound.{Shape, tally_of, AreUntaken, FitsLists, HasClaims, IsAnchoredBy, KnowsHead, KnowsWords, HasTotals, stale, class_numbers, times_cut, Good}
 use Rattle.core_model.proofs.TotalLemmas.{total_at}
 use Rattle.core_model.proofs.FrameLemmas.{untouched, words_frame, below_not}
 use Rattle.core_model.proofs.StepLemmas.{IsSeat, seat_at, adds_step}
@@ -87,7 +87,7 @@ module _ (k : Setup) (m : Memory) (views : List View) (i : ℕ) (v : View) (belo
   pub theirs : (u : View) → stale m' u + v.wins ≤ stale m u + (v.wins + 1)
   theirs u = let e = stale_anchor_most m' u u.seen_anchor in omega arith
 
-  pub adds_after : (w : View) → w.ticket ≡ None → w.draws ≡ v.draws → w.stopped ≡ v.stopped → w.roots ≡ v.roots → w.taken ≡ v.taken → Adds k m' (set views i w)
+  pub adds_after : (w : View) → w.ticket ≡ None → w.draws ≡ v.draws → w.stopped ≡ v.stopped → w.roots ≡ v.roots → w.taken ≡ v.taken → HasTotals k m' (set views i w)
   adds_after w none draws stopped roots taken = adds_step k m m' views i v w below_i at good.adds refl draws stopped roots (let n = ap one_if_some none in omega arith) (omega arith)
 
   -- what is known of the own words that are left
@@ -101,7 +101,7 @@ module _ (k : Setup) (m : Memory) (views : List View) (i : ℕ) (v : View) (belo
 
   -- lists and infos fit, where the new state fits its place
   pub listed : (full : ℕ → ℕ) → (0 < total (λ n. times d (good.shape.lists n)) class_numbers → anchor_state x < full_state) → ((e : ℕ) → e ≢ d → 0 < full e → 0 < good.shape.full e) → (0 < full d → x ≡ full_anchor)
-      → AreListed (info m) (anchor m') good.shape.lists full
+      → FitsLists (info m) (anchor m') good.shape.lists full
   listed full in_list less at_d = let s = good.shaped.listed in record {
     free = λ e some. subst (λ y. anchor_state y ≡ empty_state) (sym (at_other (anchor m) d x e (λ same. let none = alone.1 in let z = ap (λ y. times y (good.shape.lists 0)) same in omega arith))) (s.free e some);
     in_class = λ class e is_class some. let old = s.in_class class e is_class some in (

@@ -6,13 +6,13 @@ use Rattle.heap_model.specs.Counting.{times, total}
 use Rattle.core_model.specs.Memory.{Memory, tickets, head, anchor, write}
 use Rattle.core_model.specs.View.{Setup, View, one_if_some}
 use Rattle.core_model.specs.Effects.{seen, drew, stopped}
-use Rattle.core_model.specs.Sound.{tally_of, IsInShape, IsSetUp, HasClaims, HasBlocks, Knows, IsDrawn, HasTickets, stale, times_parked, empties, Good}
+use Rattle.core_model.specs.Sound.{tally_of, IsInShape, IsSetUp, HasClaims, HasBlocks, Knows, IsTicketDrawn, HasTickets, stale, times_parked, empties, Good}
 use Rattle.core_model.proofs.TotalLemmas.{total_set, total_same}
 use Rattle.core_model.proofs.QuietLemmas.{words_same, none_drawn, not_there}
 use Rattle.core_model.proofs.StepLemmas.{IsSeat, seat_at, good_step, Parts, parts, tally_same}
 use Rattle.core_model.specs.Cells.{info_cell, anchor_cell, data_cell}
 
-drawn_later : (drawn : ℕ) (ticket : Option ℕ) → IsDrawn drawn ticket → IsDrawn (drawn + 1) ticket
+drawn_later : (drawn : ℕ) (ticket : Option ℕ) → IsTicketDrawn drawn ticket → IsTicketDrawn (drawn + 1) ticket
 drawn_later drawn ticket d = record { is_drawn = λ there. let l = d.is_drawn there in omega arith }
 
 module _ (k : Setup) (m : Memory) (views : List View) (i : ℕ) (v : View) (below_i : i < length views) (at : get_or views i v ≡ v) (good : Good k m views) (going : one_if_some v.stopped ≡ 0) where

@@ -14,7 +14,7 @@ use Rattle.core_model.specs.Memory.{Memory, volatile_at, head, link, write}
 use Rattle.core_model.specs.View.{Setup, View, one_if_some}
 use Rattle.core_model.specs.Effects.{before, seen, seen_word, seen_of}
 use Rattle.core_model.specs.Guards.{IsThere}
-use Rattle.core_model.specs.Sound.{Shape, AreLists, KnowsHead, Adds, class_numbers}
+use Rattle.core_model.specs.Sound.{Shape, AreLists, KnowsHead, HasTotals, class_numbers}
 use Rattle.core_model.proofs.TotalLemmas.{total_change, ne-eqb-none}
 use Rattle.core_model.proofs.FrameLemmas.{untouched, words_frame}
 use Rattle.core_model.proofs.StepLemmas.{IsSeat, adds_step}
@@ -148,9 +148,9 @@ others_at_head k m g at word ds knows x h = record {
 }
 
 -- a seat that wins an exchange on a head gives its ticket up
-pub adds_at_head : (k : Setup) (m : Memory) (views : List View) (i : ℕ) (v w : View) → i < length views → get_or views i v ≡ v → Adds k m views → (list word : ℕ) → list < lists
+pub adds_at_head : (k : Setup) (m : Memory) (views : List View) (i : ℕ) (v w : View) → i < length views → get_or views i v ≡ v → HasTotals k m views → (list word : ℕ) → list < lists
     → head_pops word ≤ head_pops (head m list) + one_if_some v.ticket → w.ticket ≡ None → w.draws ≡ v.draws → w.stopped ≡ v.stopped → w.roots ≡ v.roots → w.taken ≡ v.taken
-    → Adds k (write m (volatile_at (head_cell list)) word) (set views i w)
+    → HasTotals k (write m (volatile_at (head_cell list)) word) (set views i w)
 adds_at_head k m views i v w below at adds list word is pops none draws stopped roots taken =
     adds_step k m (write m (volatile_at (head_cell list)) word) views i v w below at adds refl draws stopped roots
     (let p = pops_set (head m) list word is in let n = ap one_if_some none in omega arith) (omega arith)

@@ -17,7 +17,7 @@ use Rattle.core_model.specs.Memory.{Memory, memory_of, table_length, used, head,
 use Rattle.core_model.specs.View as seen_as
 use Rattle.core_model.specs.View.{Setup, View, Span, Look, one_if_some, known, times_raw, times_classed, times_claimed, times_large, times_block}
 use Rattle.core_model.specs.Effects.{seen, steps, span_count}
-use Rattle.core_model.specs.Sound.{Shape, Tally, tally_of, IsInShape, IsCutBlock, IsAnchoredBy, AreChained, class_numbers, times_in_lists, times_cut, times_parked, IsSetUp, ClaimsOf, BlocksOf, Knows, KnowsWords, IsDrawn, HasTickets, Adds, HasLost, Good, Sound}
+use Rattle.core_model.specs.Sound.{Shape, Tally, tally_of, IsInShape, IsCutBlock, IsAnchoredBy, AreChained, class_numbers, times_in_lists, times_cut, times_parked, IsSetUp, ClaimsOf, BlocksOf, Knows, KnowsWords, IsTicketDrawn, HasTickets, HasTotals, HasLost, Good, Sound}
 use Rattle.core_model.specs.Opening.{picked, tabulate, is_small, small_blocks, large_blocks, AreOwners, setup_of, unlooked, plain_view, opened_view}
 use Rattle.core_model.proofs.TotalLemmas.{total_where, ne-eqb-none}
 use Rattle.core_model.proofs.FrameLemmas.{below_is, below_not}
@@ -431,7 +431,7 @@ module _ (words : List ℕ) (held : List Block) (budget seats : ℕ) (block_owne
     ticket = none_drawn m.drawn;
     last = none_drawn m.drawn;
     used_look = none_drawn m.drawn;
-    head_looks = λ list is. subst (λ (l : Look). IsDrawn m.drawn l.ticket) (sym (tabulate_at (λ n. unlooked (image (head_word n))) 0 lists list (unlooked k.used) is)) (none_drawn m.drawn);
+    head_looks = λ list is. subst (λ (l : Look). IsTicketDrawn m.drawn l.ticket) (sym (tabulate_at (λ n. unlooked (image (head_word n))) 0 lists list (unlooked k.used) is)) (none_drawn m.drawn);
     counts = omega arith;
     state = record { stopping = λ n e. absurd (let z = ap one_if_some e in omega (arith, z)); in_hand = λ e. absurd (not_there e); going = λ _ e. absurd (not_there e) };
     looked_then = (omega arith, omega arith);
@@ -452,7 +452,7 @@ module _ (words : List ℕ) (held : List Block) (budget seats : ℕ) (block_owne
   root_once : (n : ℕ) → total (λ (v : View). times n v.roots) views ≤ 1
   root_once n = subst (λ x. x ≤ 1) (sym (tabulate_sum (λ (v : View). times n v.roots) V 0 seats)) (dealt_once n roots root_owners seats owners.roots_all owners.root_seats)
 
-  adds : Adds k m views
+  adds : HasTotals k m views
   adds = let none_tickets = nothing (λ (v : View). one_if_some v.ticket) (λ j. refl) in let drawn = none_drawn_yet in let pops = no_pops in record {
     draws = (let n = nothing (λ (v : View). v.draws) (λ j. refl) in omega arith);
     pops = omega arith;

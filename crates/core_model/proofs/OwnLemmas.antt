@@ -7,7 +7,7 @@ use Rattle.core_model.specs.Memory.{Memory, anchor}
 use Rattle.core_model.specs.View.{Setup, View, Snapshot, Look, one_if_some, known, times_own, times_raw, times_classed, times_claimed, times_large, times_in_classes, times_within}
 use Rattle.core_model.specs.Effects.{seen, seen_of, cleared, only_own, trimmed}
 use Rattle.core_model.specs.Guards.{IsThere, IsOwn}
-use Rattle.core_model.specs.Sound.{KnowsWords, IsDrawn, HasTickets, differs, stale_head, stale_anchor}
+use Rattle.core_model.specs.Sound.{KnowsWords, IsTicketDrawn, HasTickets, differs, stale_head, stale_anchor}
 use Rattle.core_model.proofs.PlaceLemmas.{cell_at_index, and_is}
 pub use Rattle.heap_model.proofs.ListLemmas.{one_at_most}
 use Rattle.core_model.proofs.QuietLemmas.{none_drawn, not_there, own_same, ticket_given_up}
@@ -104,10 +104,10 @@ stale_anchor_most m v (Some s) = one_at_most (nat_eq (times_raw s.of v) 0 && not
 pub won_tickets : (budget drawn : ℕ) (v w : View) → HasTickets budget drawn v → IsThere v.ticket → w.ticket ≡ None → w.stopped ≡ v.stopped → v.taken ≤ w.taken → w.last_ticket ≡ v.last_ticket → w.used_look ≡ v.used_look → w.head_looks ≡ v.head_looks
     → w.wins ≡ v.wins + 1 → w.losses ≡ v.losses → w.draws ≡ v.draws → w.cuts ≡ v.cuts → w.gives + w.moves ≤ v.gives + v.moves + 1 → HasTickets budget drawn w
 won_tickets budget drawn v w s there none stop more last used_look head_looks wins losses draws cuts gives = record {
-  ticket = subst (IsDrawn drawn) (sym none) (none_drawn drawn);
-  last = subst (IsDrawn drawn) (sym last) s.last;
-  used_look = subst (λ (l : Look). IsDrawn drawn l.ticket) (sym used_look) s.used_look;
-  head_looks = λ list is. subst (λ (l : Look). IsDrawn drawn l.ticket) (sym (ap₂ (λ looks (l : Look). get_or looks list l) head_looks used_look)) (s.head_looks list is);
+  ticket = subst (IsTicketDrawn drawn) (sym none) (none_drawn drawn);
+  last = subst (IsTicketDrawn drawn) (sym last) s.last;
+  used_look = subst (λ (l : Look). IsTicketDrawn drawn l.ticket) (sym used_look) s.used_look;
+  head_looks = λ list is. subst (λ (l : Look). IsTicketDrawn drawn l.ticket) (sym (ap₂ (λ looks (l : Look). get_or looks list l) head_looks used_look)) (s.head_looks list is);
   counts = let c = s.counts in let n = ap one_if_some none in omega arith;
   state = ticket_given_up budget v w s.state none last stop;
   looked_then = (let l = s.looked_then in let a = ap (λ (x : Look). x.taken) used_look in let b = ap (λ (x : Look). x.wins) used_look in let p = l.0 in let q = l.1 in (omega arith, omega arith));

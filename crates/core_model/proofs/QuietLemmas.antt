@@ -13,7 +13,7 @@ use Rattle.core_model.specs.Memory.{Memory, used, head, anchor, link}
 use Rattle.core_model.specs.View.{Setup, View, Snapshot, Look, one_if_some, known, times_own, times_raw, times_classed, times_large, times_in_classes, times_within}
 use Rattle.core_model.specs.Effects.{seen, seen_word, seen_of, before, used_up, lost, look}
 use Rattle.core_model.specs.Guards.{IsThere, MayLink, MayLookAt}
-use Rattle.core_model.specs.Sound.{Shape, Tally, tally_of, IsInShape, IsSetUp, HasClaims, HasBlocks, Knows, KnowsWords, IsDrawn, IsTicketed, HasTickets, stale, differs, stale_head, stale_anchor, times_parked, empties, Good}
+use Rattle.core_model.specs.Sound.{Shape, Tally, tally_of, IsInShape, IsSetUp, HasClaims, HasBlocks, Knows, KnowsWords, IsTicketDrawn, IsTicketed, HasTickets, stale, differs, stale_head, stale_anchor, times_parked, empties, Good}
 use Rattle.core_model.proofs.TotalLemmas.{total_same}
 use Rattle.core_model.proofs.StepLemmas.{IsSeat, seat_at, good_step, Parts, parts, tally_same, adds_step}
 
@@ -84,7 +84,7 @@ words_same capacity m v w same volatile durable words = record {
 pub not_there : IsThere {A = ℕ} None → ⊥
 not_there e = omega (arith, e)
 
-pub none_drawn : (drawn : ℕ) → IsDrawn drawn None
+pub none_drawn : (drawn : ℕ) → IsTicketDrawn drawn None
 none_drawn drawn = record { is_drawn = λ e. absurd (not_there e) }
 
 -- a ticket that is used up
@@ -135,8 +135,8 @@ module _ (k : Setup) (m : Memory) (views : List View) (i : ℕ) (v : View) (belo
       (let s = seat.tickets in record { state = given_up k.budget v.ticket v.last_ticket v.stopped s.state; looked_then = (omega arith, omega arith); ticket = none_drawn m.drawn; last = s.last; used_look = s.ticket; head_looks = λ list is. looks list is; counts = let c = s.counts in omega arith; gives = s.gives; cuts = s.cuts })
       (omega arith)
       (let e = differs_none (used m) in omega arith) where
-        looks : (list : ℕ) → list < lists → IsDrawn m.drawn (get_or v.head_looks list (look v (used m))).ticket
-        looks list is = subst (λ (l : Look). IsDrawn m.drawn l.ticket) (get_or_default v.head_looks list v.used_look (look v (used m)) (let e = seat.set_up.looks in omega arith)) (seat.tickets.head_looks list is)
+        looks : (list : ℕ) → list < lists → IsTicketDrawn m.drawn (get_or v.head_looks list (look v (used m))).ticket
+        looks list is = subst (λ (l : Look). IsTicketDrawn m.drawn l.ticket) (get_or_default v.head_looks list v.used_look (look v (used m)) (let e = seat.set_up.looks in omega arith)) (seat.tickets.head_looks list is)
 
   -- the ticket is used up
   pub done_tickets : (w : View) → w.ticket ≡ None → w.last_ticket ≡ v.last_ticket → w.used_look ≡ v.used_look → w.head_looks ≡ v.head_looks → counts w ≡ counts v → w.cuts ≡ v.cuts
@@ -144,10 +144,10 @@ module _ (k : Setup) (m : Memory) (views : List View) (i : ℕ) (v : View) (belo
   done_tickets w none last used_looks head_looks kept cuts losses = let s = seat.tickets in record {
     state = ticket_given_up k.budget v w s.state none last (ap (λ (c : Counts). c.stopped) kept);
     looked_then = (let l = s.looked_then in let a = ap (λ (x : Look). x.taken) used_looks in let b = ap (λ (x : Look). x.wins) used_looks in let t = ap (λ (c : Counts). c.taken) kept in let u = ap (λ (c : Counts). c.wins) kept in let p = l.0 in let q = l.1 in (omega arith, omega arith));
-    ticket = subst (IsDrawn m.drawn) (sym none) (none_drawn m.drawn);
-    last = subst (IsDrawn m.drawn) (sym last) s.last;
-    used_look = subst (λ (l : Look). IsDrawn m.drawn l.ticket) (sym used_looks) s.used_look;
-    head_looks = λ list is. subst (λ (l : Look). IsDrawn m.drawn l.ticket) (sym (ap₂ (λ looks (l : Look). get_or looks list l) head_looks used_looks)) (s.head_looks list is);
+    ticket = subst (IsTicketDrawn m.drawn) (sym none) (none_drawn m.drawn);
+    last = subst (IsTicketDrawn m.drawn) (sym last) s.last;
+    used_look = subst (λ (l : Look). IsTicketDrawn m.drawn l.ticket) (sym used_looks) s.used_look;
+    head_looks = λ list is. subst (λ (l : Look). IsTicketDrawn m.drawn l.ticket) (sym (ap₂ (λ looks (l : Look). get_or looks list l) head_looks used_looks)) (s.head_looks list is);
     counts = let c = s.counts in let e = ap (λ (c : Counts). c.wins) kept in let d = ap (λ (c : Counts). c.draws) kept in let n = ap one_if_some none in omega arith;
     gives = let c = s.gives in let e = ap (λ (c : Counts). c.wins) kept in let d = ap (λ (c : Counts). c.gives) kept in let n = ap (λ (c : Counts). c.moves) kept in omega arith;
     cuts = let c = s.cuts in let d = ap (λ (c : Counts). c.draws) kept in omega arith;
@@ -176,10 +176,10 @@ module _ (k : Setup) (m : Memory) (views : List View) (i : ℕ) (v : View) (belo
       (let s = seat.tickets in record { state = given_up k.budget v.ticket v.last_ticket v.stopped s.state; looked_then = s.looked_then; ticket = none_drawn m.drawn; last = s.last; used_look = s.used_look; head_looks = looks; counts = let c = s.counts in omega arith; gives = s.gives; cuts = s.cuts })
       (omega arith)
       (let e : stale_head m (Some (record { of = list; word = head m list })) ≡ 0 = ap (λ t. one_if (not t)) (eq-eqb (head m list) (head m list) refl) in omega arith) where
-        looks : (other : ℕ) → other < lists → IsDrawn m.drawn (get_or (set v.head_looks list (look v (head m list))) other v.used_look).ticket
+        looks : (other : ℕ) → other < lists → IsTicketDrawn m.drawn (get_or (set v.head_looks list (look v (head m list))) other v.used_look).ticket
         looks other below_lists = elim (cases_eq other list) [
-          | inl same ↦ subst (λ (l : Look). IsDrawn m.drawn l.ticket) (sym (get_or-set_at v.head_looks list other (look v (head m list)) v.used_look same (let e = seat.set_up.looks in omega arith))) seat.tickets.ticket
-          | inr apart ↦ subst (λ (l : Look). IsDrawn m.drawn l.ticket) (sym (get_or-set_other v.head_looks list other (look v (head m list)) v.used_look apart)) (seat.tickets.head_looks other below_lists)
+          | inl same ↦ subst (λ (l : Look). IsTicketDrawn m.drawn l.ticket) (sym (get_or-set_at v.head_looks list other (look v (head m list)) v.used_look same (let e = seat.set_up.looks in omega arith))) seat.tickets.ticket
+          | inr apart ↦ subst (λ (l : Look). IsTicketDrawn m.drawn l.ticket) (sym (get_or-set_other v.head_looks list other (look v (head m list)) v.used_look apart)) (seat.tickets.head_looks other below_lists)
         ]
 
   pub look_link : MayLink v → Good k m (set views i (record (used_up v) { seen_link = Some (link m (before (head_first (seen_word v.seen_head)))) }))

@@ -5,7 +5,7 @@ use Rattle.heap_model.specs.Rest.{list_numbers}
 use Rattle.heap_model.specs.Words.{head_pops}
 use Rattle.core_model.specs.Memory.{Memory, used, head, anchor}
 use Rattle.core_model.specs.View.{Setup, View, Batch, Span, Claim, one_if_some, times_raw, times_classed, times_large, times_block}
-use Rattle.core_model.specs.Sound.{Shape, tally_of, IsInShape, IsSetUp, ClaimsOf, BlocksOf, Knows, KnowsWords, HasTickets, Adds, HasLost, stale, times_parked, empties, Good}
+use Rattle.core_model.specs.Sound.{Shape, tally_of, IsInShape, IsSetUp, ClaimsOf, BlocksOf, Knows, KnowsWords, HasTickets, HasTotals, HasLost, stale, times_parked, empties, Good}
 use Rattle.core_model.proofs.TotalLemmas.{total_set, total_same, each_set}
 
 -- what is so of one seat
@@ -49,7 +49,7 @@ pub good_step : (k : Setup) (m m' : Memory) (views : List View) (i : ℕ) (v w :
     → IsInShape k.capacity m' g (tally_of (set views i w))
     → IsSeat k m' g w
     → ((j : ℕ) (u : View) → j ≢ i → j < length views → get_or views j u ≡ u → IsSeat k m good.shape u → IsSeat k m' g u)
-    → Adds k m' (set views i w)
+    → HasTotals k m' (set views i w)
     → Loses m m' v w
     → ((j : ℕ) (u : View) → j ≢ i → j < length views → get_or views j u ≡ u → stale m' u + v.wins ≤ stale m u + w.wins)
     → empties k.capacity (anchor m') (times_parked g (tally_of (set views i w))) + total (λ (u : View). u.moves) (set views i w) ≤ total (λ (u : View). u.gives) (set views i w) + k.capacity
@@ -99,11 +99,11 @@ tally_same views i v w below at same = λ j. record {
 }
 
 -- a step without a draw changes the sums by what the words and the counts change
-pub adds_step : (k : Setup) (m m' : Memory) (views : List View) (i : ℕ) (v w : View) → i < length views → get_or views i v ≡ v → Adds k m views
+pub adds_step : (k : Setup) (m m' : Memory) (views : List View) (i : ℕ) (v w : View) → i < length views → get_or views i v ≡ v → HasTotals k m views
     → m'.drawn ≡ m.drawn → w.draws ≡ v.draws → w.stopped ≡ v.stopped → w.roots ≡ v.roots
     → total (λ list. head_pops (head m' list)) list_numbers + one_if_some w.ticket ≤ total (λ list. head_pops (head m list)) list_numbers + one_if_some v.ticket
     → used m' + v.taken ≡ used m + w.taken
-    → Adds k m' (set views i w)
+    → HasTotals k m' (set views i w)
 adds_step k m m' views i v w below at adds drawn draws stopped roots pops taken =
     let a = adds.draws in let b = adds.pops in let c = adds.budget in let d = adds.stopped in let e = adds.taken in
     let tickets = total_set (λ (x : View). one_if_some x.ticket) views i v w below at in

@@ -49,7 +49,7 @@ pub record AreLists (capacity : ℕ) (head link : ℕ → ℕ) (descriptors : �
   pub follows : (list : ℕ) → list < lists → Follows link capacity (head_first (head list)) (descriptors list)
 
 -- each taken superblock is in exactly one place, and no other is in any
-pub record IsPlaced (used : ℕ) (g : Shape) (t : Tally) : Type 0 where
+pub record IsInOnePlace (used : ℕ) (g : Shape) (t : Tally) : Type 0 where
   pub one_place : (d : ℕ) → times d (g.lists 0) + times_cut g t d + t.raw d + t.large d ≡ below d used
 
 -- a superblock that was never taken has nothing but 0 in its descriptor, volatile and durable
@@ -61,7 +61,7 @@ pub record AreUntaken (capacity : ℕ) (m : Memory) : Type 0 where
   pub blank : (d : ℕ) → used m ≤ d → d < capacity → IsBlank m d
 
 -- infos and anchors fit the lists
-pub record AreListed (info anchor : ℕ → ℕ) (descriptors : ℕ → List ℕ) (full : ℕ → ℕ) : Type 0 where
+pub record FitsLists (info anchor : ℕ → ℕ) (descriptors : ℕ → List ℕ) (full : ℕ → ℕ) : Type 0 where
   pub free : (d : ℕ) → 0 < times d (descriptors 0) → anchor_state (anchor d) ≡ empty_state
   pub in_class : (class d : ℕ) → IsClass class → 0 < times d (descriptors class) → (info d ≡ class) × (anchor_state (anchor d) < full_state)
   pub is_full : (d : ℕ) → 0 < full d → anchor d ≡ full_anchor
@@ -108,9 +108,9 @@ empties capacity anchor parked = total (λ d. one_if (nat_lt 0 (parked d) && nat
 -- everything that is said of superblocks, lists and blocks
 pub record IsInShape (capacity : ℕ) (m : Memory) (g : Shape) (t : Tally) : Type 0 where
   pub lists : AreLists capacity (head m) (link m) g.lists
-  pub placed : IsPlaced (used m) g t
+  pub placed : IsInOnePlace (used m) g t
   pub untaken : AreUntaken capacity m
-  pub listed : AreListed (info m) (anchor m) g.lists g.full
+  pub listed : FitsLists (info m) (anchor m) g.lists g.full
   pub chained : AreChained capacity (info m) (anchor m) (next m) g.chains (times_cut g t) t.blocks
   pub durable : AreDurable capacity (used m) (durable_used m) (info m) (durable_info m) (λ d. times d (g.lists 0)) (times_cut g t) t.large
 
@@ -176,7 +176,7 @@ pub record Knows (capacity : ℕ) (m : Memory) (g : Shape) (v : View) : Type 0 w
   pub floor : v.floor ≤ durable_used m
 
 -- a ticket, if there is one, has been drawn
-pub record IsDrawn (drawn : ℕ) (ticket : Option ℕ) : Type 0 where
+pub record IsTicketDrawn (drawn : ℕ) (ticket : Option ℕ) : Type 0 where
   pub is_drawn : IsThere ticket → seen ticket < drawn
 
 -- a seat stops at its last ticket, which is not below the budget, and has none in hand then; a ticket in hand is the last one, and below the budget; and so are the tickets of a seat that has not stopped
@@ -186,10 +186,10 @@ pub record IsTicketed (budget : ℕ) (ticket last stopped : Option ℕ) : Type 0
   pub going : stopped ≡ None → IsThere last → seen last < budget
 
 pub record HasTickets (budget drawn : ℕ) (v : View) : Type 0 where
-  pub ticket : IsDrawn drawn v.ticket
-  pub last : IsDrawn drawn v.last_ticket
-  pub used_look : IsDrawn drawn v.used_look.ticket
-  pub head_looks : (list : ℕ) → list < lists → IsDrawn drawn (get_or v.head_looks list v.used_look).ticket
+  pub ticket : IsTicketDrawn drawn v.ticket
+  pub last : IsTicketDrawn drawn v.last_ticket
+  pub used_look : IsTicketDrawn drawn v.used_look.ticket
+  pub head_looks : (list : ℕ) → list < lists → IsTicketDrawn drawn (get_or v.head_looks list v.used_look).ticket
   pub counts : v.wins + v.losses + one_if_some v.ticket ≤ v.draws
   pub state : IsTicketed budget v.ticket v.last_ticket v.stopped
   pub looked_then : (v.used_look.taken ≤ v.taken) × (v.used_look.wins ≤ v.wins)
@@ -221,7 +221,7 @@ abbrev pub stale : Memory → View → ℕ
 stale m v = differs v.seen_used (used m) + stale_head m v.seen_head + stale_anchor m v v.seen_anchor
 
 -- the sums over the seats
-pub record Adds (k : Setup) (m : Memory) (views : List View) : Type 0 where
+pub record HasTotals (k : Setup) (m : Memory) (views : List View) : Type 0 where
   -- each draw is a ticket, and each pop uses one up
   pub draws : m.drawn ≡ total (λ (v : View). v.draws) views
   pub pops : total (λ list. head_pops (head m list)) list_numbers + total (λ (v : View). one_if_some v.ticket) views ≤ m.drawn
@@ -246,7 +246,7 @@ pub record Good (k : Setup) (m : Memory) (views : List View) : Type 0 where
   pub knows : Each views (Knows k.capacity m shape)
   pub words : Each views (KnowsWords k.capacity m)
   pub tickets : Each views (HasTickets k.budget m.drawn)
-  pub adds : Adds k m views
+  pub adds : HasTotals k m views
   pub lost : Each views (HasLost m views)
   -- superblocks that became empty in a list of their class came there by a give, or were so at the opening
   pub moves : empties k.capacity (anchor m) (times_parked shape (tally_of views)) + total (λ (v : View). v.moves) views ≤ total (λ
