@@ -19,7 +19,7 @@ use Rattle.dict_model.proofs.ChainLemmas.{found_in, in_path}
 use Rattle.dict_seat.specs.declared.walk.Place.{Place}
 use Rattle.dict_seat.specs.Maps.{Gives}
 use Rattle.dict_seat.specs.Trails.{IsSettling, Completes}
-use Rattle.dict_seat.specs.Walks.{IsFound, IsQuietWalk}
+use Rattle.dict_seat.specs.Walks.{IsFoundPlace, IsQuietWalk}
 use Rattle.dict_seat.specs.Changes.{Changes}
 use Rattle.dict_seat.specs.Removal.{IsShard}
 use Rattle.dict_seat.specs.Answers.{Deletes, MakesFew}
@@ -41,7 +41,7 @@ without_missing map key none q = elim (cases_eq key q) as (λ _. map q ≡ witho
 ]
 
 -- a key's node that was found is a node, and the map has its value
-pub found_is : (w : View) (key : ℕ) (place : Place) → IsSeat w → IsFound w key place → (map : Map) → Gives w (shard_of key) map
+pub found_is : (w : View) (key : ℕ) (place : Place) → IsSeat w → IsFoundPlace w key place → (map : Map) → Gives w (shard_of key) map
     → (image : Image) → Completes w image → (map key ≡ Some (value_in image place.node)) × IsNode image (shard_of key) (bucket_of key) place.node
 found_is w key place seat found map gives image completes =
     let node = place.node in
@@ -61,7 +61,7 @@ found_is w key place seat found map gives image completes =
     )
 
 -- the map has a key whose node was found
-pub found_has : (w : View) (key : ℕ) (place : Place) → IsSeat w → IsFound w key place → (map : Map) → Gives w (shard_of key) map → map key ≢ None
+pub found_has : (w : View) (key : ℕ) (place : Place) → IsSeat w → IsFoundPlace w key place → (map : Map) → Gives w (shard_of key) map → map key ≢ None
 found_has w key place seat found map gives none =
     let has = (found_is w key place seat found map gives (now_image w) (now_completes w)).0 in
     let clash : Some (value_in (now_image w) place.node) ≡ None = sym has ∙ none in
@@ -77,7 +77,7 @@ deletes_nothing v w key keeps runs none = record {
 }
 
 -- the node was found, and removed
-pub deletes_node : (v u w : View) (key : ℕ) (place : Place) → IsSeat u → KeepsOwn v u → Runs v u → IsFound u key place
+pub deletes_node : (v u w : View) (key : ℕ) (place : Place) → IsSeat u → KeepsOwn v u → Runs v u → IsFoundPlace u key place
     → Changes (shard_of key) (λ map. without_key map key) u w → Runs u w → Deletes key true v w
 deletes_node v u w key place seat keeps runs found changes runs' =
     let grown = grown_keeps v u keeps in

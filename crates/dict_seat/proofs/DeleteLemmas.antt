@@ -21,7 +21,7 @@ use Rattle.dict_seat.specs.declared.walk.Place.{Place}
 use Rattle.dict_seat.specs.Maps.{IsMapIn, Gives}
 use Rattle.dict_seat.specs.Reached.{MayReach, ReachesOnlyHeld}
 use Rattle.dict_seat.specs.Trails.{pointer_to, IsSettled, Trail, HasCome}
-use Rattle.dict_seat.specs.Changes.{MayChange, IsTaken}
+use Rattle.dict_seat.specs.Changes.{MayChange, IsReadPlace}
 use Rattle.dict_seat.proofs.GrownLemmas.{link_reach}
 use Rattle.dict_seat.proofs.ChangeLemmas.{table_stored}
 use Rattle.dict_seat.proofs.PublishLemmas.{IsLinkOf, MayPublish, no_block, old, only_after, others_after, reached_after}
@@ -44,7 +44,7 @@ pub record IsFoundNode (u : View) (key : ℕ) (place : Place) (table : Block) (b
   pub come : HasCome IsSettled u (shard_of key) key table before
   pub link : IsSettled u (word_of place.link) (pointer_to place.node)
 
-module _ (u : View) (seat : IsSeat u) (key : ℕ) (place : Place) (next : ℕ) (taken : IsTaken IsSettled u key place next) (map₀ : Map) (gives₀ : Gives u (shard_of key) map₀) where
+module _ (u : View) (seat : IsSeat u) (key : ℕ) (place : Place) (next : ℕ) (taken : IsReadPlace IsSettled u key place next) (map₀ : Map) (gives₀ : Gives u (shard_of key) map₀) where
   node : Block
   node = place.node
 
@@ -140,7 +140,7 @@ module _ (u : View) (seat : IsSeat u) (key : ℕ) (place : Place) (next : ℕ) (
           ]
     ]
 
-pub found_node : (u : View) → IsSeat u → (key : ℕ) (place : Place) (next : ℕ) (taken : IsTaken IsSettled u key place next) (map₀ : Map) → Gives u (shard_of key) map₀
+pub found_node : (u : View) → IsSeat u → (key : ℕ) (place : Place) (next : ℕ) (taken : IsReadPlace IsSettled u key place next) (map₀ : Map) → Gives u (shard_of key) map₀
     → IsFoundNode u key place taken.table taken.before
 found_node u seat key place next taken map₀ gives₀ = record {
   held = node_held u seat key place next taken map₀ gives₀;

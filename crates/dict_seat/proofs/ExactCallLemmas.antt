@@ -17,7 +17,7 @@ use Rattle.dict_seat.specs.declared.walk.Place.{Place}
 use Rattle.dict_seat.specs.Maps.{Gives}
 use Rattle.dict_seat.specs.Reached.{MayReach, Reaches, ReachesOnlyHeld, ReachesAllHeld}
 use Rattle.dict_seat.specs.Trails.{pointer_to, IsSettled, HasCome}
-use Rattle.dict_seat.specs.Changes.{IsTaken}
+use Rattle.dict_seat.specs.Changes.{IsReadPlace}
 use Rattle.dict_seat.proofs.GrownLemmas.{are_placed, stays_held, grown_keeps, only_grown}
 use Rattle.dict_seat.proofs.TrailLemmas.{now_image, settled_stays, leads_held, bucket_own, bucket_below}
 use Rattle.dict_seat.proofs.ComeLemmas.{begins_chain, trail_kept, link_behind_roots, last_not_table}
@@ -55,7 +55,7 @@ come_kept u w key p x table before map seat gives come at may = record {
   path : IsPath (but table (LeadsTo (Contains u.held))) (now_image u) (shard_of key) (bucket_of key) (table.first_word + bucket_of key) before
   path = begins_chain u seat key (shard_below key) table before come map gives
 
-module _ (u w : View) (seat : IsSeat u) (seat_w : IsSeat w) (key : ℕ) (place : Place) (next : ℕ) (taken : IsTaken IsSettled u key place next) (map : Map) (gives : Gives u (shard_of key) map)
+module _ (u w : View) (seat : IsSeat u) (seat_w : IsSeat w) (key : ℕ) (place : Place) (next : ℕ) (taken : IsReadPlace IsSettled u key place next) (map : Map) (gives : Gives u (shard_of key) map)
     (only : ReachesOnlyHeld u) where
   held_u : Contains u.held place.node
   held_u = node_held u seat key place next taken map gives

@@ -21,7 +21,7 @@ use Rattle.dict_model.specs.Shards.{Map, LeadsTo}
 use Rattle.dict_seat.specs.Maps.{IsMapIn, Gives}
 use Rattle.dict_seat.specs.Reached.{ReachesOnlyHeld, Reaches, ReachesAllHeld}
 use Rattle.dict_seat.specs.Trails.{pointer_to, IsSettled, IsSettling, HasCome}
-use Rattle.dict_seat.specs.Quiet.{Grown, Follows}
+use Rattle.dict_seat.specs.Quiet.{Grown, FollowsLink}
 use Rattle.dict_seat.specs.Nodes.{MakesNode}
 use Rattle.dict_seat.specs.Changes.{MayChange, Changes}
 use Rattle.dict_seat.specs.Removal.{IsShard}
@@ -91,7 +91,7 @@ put_fails reads bytes (Full looks) v u w runs before same taken after fails = (
 put_fails reads bytes (Stopped stopped) v u w runs before same taken after fails = (stops_then stopped.step v u w runs fails.0, same_refusals_then v u w same fails.1)
 
 module _ (v t u w : View) (seat_t : IsSeat t) (seat : IsSeat u) (key first x : ℕ) (value : List ℕ) (table n : Block) (shard : IsShard v (shard_of key)) (missing : IsMissing v key table)
-    (seat_v : IsSeat v) (keeps : KeepsOwn v t) (follows : Follows (table.first_word + bucket_of key) first v t) (grown_u : Grown t u) (makes : MakesNode n key first value t u)
+    (seat_v : IsSeat v) (keeps : KeepsOwn v t) (follows : FollowsLink (table.first_word + bucket_of key) first v t) (grown_u : Grown t u) (makes : MakesNode n key first value t u)
     (short : length value ≤ largest_value) (small : (k : ℕ) → k < length value → get_or value k 0 < 256) (points : x ≡ pointer_to n) (may : MayStore (table.first_word + bucket_of key) x u w) where
   settle : (word y : ℕ) → IsOwn t.held t.roots word → IsSettling t word y → IsSettled u word y
   settle word y own settling = settles t u word y own (grown_u.words word own) makes.settles settling

@@ -9,7 +9,7 @@ use Rattle.dict_model.specs.Nodes.{shard_of, value_in}
 use Rattle.dict_model.specs.Shards.{Map}
 use Rattle.dict_seat.specs.declared.walk.Place.{Place}
 use Rattle.dict_seat.specs.Maps.{Gives}
-use Rattle.dict_seat.specs.Walks.{IsFound, IsQuietWalk}
+use Rattle.dict_seat.specs.Walks.{IsFoundPlace, IsQuietWalk}
 use Rattle.dict_seat.specs.Gets.{IsAnswer, Gets, words_of, ReadsFew, ReadsValue, IsQuietRead}
 use Rattle.dict_seat.proofs.GrownLemmas.{grown_keeps, gives_grown}
 use Rattle.dict_seat.proofs.TrailLemmas.{now_image, now_completes, completes_before}
@@ -27,20 +27,20 @@ few_search key v u walk map gives = few_quiet (words_of (map key)) 0 (shard_of k
 
 module _ (v u w : View) (key : ℕ) (place : Place) (seat : IsSeat u) where
   -- what the map has of the key, by what loads see after the reading
-  has_value : KeepsOwn v u → IsFound u key place → IsQuietRead place.node u w → (map : Map) → Gives v (shard_of key) map → map key ≡ Some (value_in (now_image w) place.node)
+  has_value : KeepsOwn v u → IsFoundPlace u key place → IsQuietRead place.node u w → (map : Map) → Gives v (shard_of key) map → map key ≡ Some (value_in (now_image w) place.node)
   has_value keeps found read map gives =
       let later = completes_before u w (now_image w) (grown_keeps u w read.quiet.unchanged) (now_completes w) in
       (found_is u key place seat found map (gives_grown v u (grown_keeps v u keeps) (shard_of key) map gives) (now_image w) later).0
 
   -- the key's node was found, and its value read
-  pub gets_node : KeepsOwn v u → IsFound u key place → (answer : ℕ) (old new : List ℕ) → Runs v u → IsQuietRead place.node u w → ReadsValue place.node answer old new u w
+  pub gets_node : KeepsOwn v u → IsFoundPlace u key place → (answer : ℕ) (old new : List ℕ) → Runs v u → IsQuietRead place.node u w → ReadsValue place.node answer old new u w
       → Gets key (Some answer) old new v w
   gets_node keeps found answer old new runs quiet reads = record {
     runs = runs_then v u w runs reads.runs;
     tells = λ map gives. subst (λ (o : Option (List ℕ)). IsAnswer o (Some answer) old new) (sym (has_value keeps found quiet map gives)) (reads.is (now_image w) (now_completes w));
   }
 
-  pub few_read : IsQuietWalk 5 (shard_of key) v u → IsFound u key place → IsQuietRead place.node u w → ReadsFew key v w
+  pub few_read : IsQuietWalk 5 (shard_of key) v u → IsFoundPlace u key place → IsQuietRead place.node u w → ReadsFew key v w
   few_read walk found read map gives =
       let few = read.few (now_image w) (now_completes w) in
       let words : words_of (map key) ≡ words_of (Some (value_in (now_image w) place.node)) = ap words_of (has_value walk.quiet.unchanged found read map gives) in

@@ -26,7 +26,7 @@ use Rattle.dict_seat.specs.Reached.{MayReach, ReachesOnlyHeld, Reaches, ReachesA
 use Rattle.dict_seat.specs.Trails.{pointer_to, IsSettled, IsSettling, HasCome}
 use Rattle.dict_seat.specs.Quiet.{Grown}
 use Rattle.dict_seat.specs.Nodes.{MakesNode}
-use Rattle.dict_seat.specs.Changes.{MayChange, Changes, IsTaken}
+use Rattle.dict_seat.specs.Changes.{MayChange, Changes, IsReadPlace}
 use Rattle.dict_seat.specs.Removal.{IsShard}
 use Rattle.dict_seat.proofs.GrownLemmas.{are_placed, stays_held, grown_keeps, grown_then, gives_grown, only_grown, new_block_outside}
 use Rattle.dict_seat.proofs.TrailLemmas.{now_image, settled_stays, come_stays, first_own, bucket_own, bucket_below, trail_more, leads_held}
@@ -42,8 +42,8 @@ use Rattle.dict_seat.proofs.UnreachedLemmas.{replaced}
 
 -- what was taken stays where words settle and blocks come; its table, link and node were there before
 pub taken_made : (t u : View) (key next : ℕ) (place : Place) → IsSeat t → Grown t u → ((word value : ℕ) → IsOwn t.held t.roots word → IsSettling t word value → IsSettled u word value)
-    → IsTaken IsSettling t key place next
-    → (made : IsTaken IsSettled u key place next) × Contains t.held made.table × IsOwn t.held t.roots (word_of place.link) × Contains t.held place.node
+    → IsReadPlace IsSettling t key place next
+    → (made : IsReadPlace IsSettled u key place next) × Contains t.held made.table × IsOwn t.held t.roots (word_of place.link) × Contains t.held place.node
 taken_made t u key next place seat grown settle taken =
     let node = place.node in
     let held = trail_held (IsSettling t) t.held (taken.table.first_word + bucket_of key) (taken.before ++ (node ∷ [])) node taken.come.trail
@@ -69,7 +69,7 @@ taken_made t u key next place seat grown settle taken =
       own_spot_grown t u (Root i) grown h = subst (λ (rs : List ℕ). Contains rs i) (sym grown.roots) h
 
 module _ (v t u w : View) (seat_t : IsSeat t) (seat : IsSeat u) (key next x : ℕ) (value : List ℕ) (place : Place) (n : Block) (shard : IsShard v (shard_of key)) (keeps : KeepsOwn v t)
-    (taken : IsTaken IsSettled u key place next) (table_t : Contains t.held taken.table) (own_t : IsOwn t.held t.roots (word_of place.link)) (node_t : Contains t.held place.node)
+    (taken : IsReadPlace IsSettled u key place next) (table_t : Contains t.held taken.table) (own_t : IsOwn t.held t.roots (word_of place.link)) (node_t : Contains t.held place.node)
     (grown_u : Grown t u) (makes : MakesNode n key next value t u)
     (short : length value ≤ largest_value) (small : (k : ℕ) → k < length value → get_or value k 0 < 256) (points : x ≡ pointer_to n) (may : MayStore (word_of place.link) x u w) where
   grown_all : Grown v u

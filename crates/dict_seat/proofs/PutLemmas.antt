@@ -14,7 +14,7 @@ use Rattle.dict_seat.specs.Maps.{IsMapIn, Gives}
 use Rattle.dict_seat.specs.Reached.{MayReach, ReachesOnlyHeld}
 use Rattle.dict_seat.specs.Trails.{pointer_to, IsSettled, HasCome}
 use Rattle.dict_seat.specs.Quiet.{Grown}
-use Rattle.dict_seat.specs.Nodes.{IsWritten}
+use Rattle.dict_seat.specs.Nodes.{IsWrittenNode}
 use Rattle.dict_seat.specs.Changes.{MayChange, Changes}
 use Rattle.dict_seat.proofs.GrownLemmas.{new_block_outside, reached_before, reached_held}
 use Rattle.dict_seat.proofs.ChangeLemmas.{table_stored}
@@ -32,7 +32,7 @@ one_reading u word value read settled (inr may) = subst (λ (known : Option ℕ)
 
 -- a node that was written is one in every mixture
 pub node_in : (u : View) (image : Image) (n : Block) (key next : ℕ) (value : List ℕ) → MixesOwn u image → Contains u.held n → 3 + value_words (length value) ≤ n.words → length value ≤ largest_value
-    → ((k : ℕ) → k < length value → get_or value k 0 < 256) → IsWritten (IsSettled u) n key next value → IsNodeOf image (shard_of key) key value next n
+    → ((k : ℕ) → k < length value → get_or value k 0 < 256) → IsWrittenNode (IsSettled u) n key next value → IsNodeOf image (shard_of key) key value next n
 node_in u image n key next value mixes held room short small written = record {
   node = record {
     in_shard = ap shard_of key_is;
@@ -57,7 +57,7 @@ node_in u image n key next value mixes held room short small written = record {
 
 module _ (v u : View) (seat : IsSeat u) (grown : Grown v u) (only_v : ReachesOnlyHeld v) (key next : ℕ) (value : List ℕ) (n : Block) (held : Contains u.held n) (fresh : Contains v.held n → ⊥)
     (room : 3 + value_words (length value) ≤ n.words) (short : length value ≤ largest_value) (small : (k : ℕ) → k < length value → get_or value k 0 < 256)
-    (written : IsWritten (IsSettled u) n key next value) (leads_on : (next ≡ 0) ⊎ ((f : Block) × LeadsTo (Contains u.held) next f × MayReach u (shard_of key) f node_kind)) where
+    (written : IsWrittenNode (IsSettled u) n key next value) (leads_on : (next ≡ 0) ⊎ ((f : Block) × LeadsTo (Contains u.held) next f × MayReach u (shard_of key) f node_kind)) where
   -- nothing reaches it yet
   pub is_fresh : IsFresh u (shard_of key) n node_kind
   is_fresh = record {

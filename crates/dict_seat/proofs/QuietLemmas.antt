@@ -7,7 +7,7 @@ use Rattle.heap_seat.specs.Calls.{IsSmallCall, Loads, WritesBack}
 use Rattle.heap_seat.proofs.CallerLemmas.{keeps_own_then, own_same, own_spot, spot_written}
 use Rattle.heap_seat.proofs.RowLemmas.{row_none, row_then, row_more, row_small, runs_then, same_refusals_then}
 use Rattle.dict_seat.specs.Trails.{IsSettling}
-use Rattle.dict_seat.specs.Quiet.{IsQuiet, GoesPending, Follows}
+use Rattle.dict_seat.specs.Quiet.{IsQuiet, GoesPending, FollowsLink}
 use Rattle.dict_seat.proofs.GrownLemmas.{keeps_none}
 use Rattle.dict_seat.proofs.TrailLemmas.{settling_stays}
 
@@ -36,7 +36,7 @@ pub still_settling : (v w : View) (word value : ℕ) → IsOwn v.held v.roots wo
 still_settling v w word value own keeps goes settling = settling_stays v w word value (keeps.words word own) (λ h. inl (goes.pending word h)) settling
 
 -- a link that is loaded and then written back
-pub follows : (s : Spot) (word : ℕ) (v u w : View) → IsOwnSpot v s → Loads (word_of s) word v u → KeepsOwn v u → WritesBack s u w → KeepsOwn u w → Follows (word_of s) word v w
+pub follows : (s : Spot) (word : ℕ) (v u w : View) → IsOwnSpot v s → Loads (word_of s) word v u → KeepsOwn v u → WritesBack s u w → KeepsOwn u w → FollowsLink (word_of s) word v w
 follows s word v u w own loads keeps writes keeps' = record {
   goes = record { runs = runs_then v u w loads.runs writes.runs; pending = λ other h. writes.pending other (loads.pending other h) };
   settling = record {

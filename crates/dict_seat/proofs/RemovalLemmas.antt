@@ -18,9 +18,9 @@ use Rattle.dict_seat.specs.declared.walk.Place.{Place}
 use Rattle.dict_seat.specs.Maps.{Gives}
 use Rattle.dict_seat.specs.Reached.{ReachesOnlyHeld}
 use Rattle.dict_seat.specs.Trails.{IsSettled, IsSettling}
-use Rattle.dict_seat.specs.Quiet.{GoesPending, Follows}
-use Rattle.dict_seat.specs.Walks.{IsFound}
-use Rattle.dict_seat.specs.Changes.{MayChange, Changes, IsTaken}
+use Rattle.dict_seat.specs.Quiet.{GoesPending, FollowsLink}
+use Rattle.dict_seat.specs.Walks.{IsFoundPlace}
+use Rattle.dict_seat.specs.Changes.{MayChange, Changes, IsReadPlace}
 use Rattle.dict_seat.specs.Removal.{IsShard, Takes}
 use Rattle.dict_seat.proofs.GrownLemmas.{Grown, stays_held, grown_keeps, gives_grown, only_grown}
 use Rattle.dict_seat.proofs.TrailLemmas.{come_stays, settles}
@@ -30,7 +30,7 @@ use Rattle.dict_seat.proofs.ChangeLemmas.{change_after, changes_after, freed}
 use Rattle.dict_seat.proofs.DeleteLemmas.{shard_below, node_held, node_reached, unlink_left, unlinked, unreached}
 
 -- the node that was found is held
-pub found_held : (v : View) (key : ℕ) (place : Place) → IsFound v key place → Contains v.held place.node
+pub found_held : (v : View) (key : ℕ) (place : Place) → IsFoundPlace v key place → Contains v.held place.node
 found_held v key place found = trail_held (IsSettling v) v.held (found.table.first_word + bucket_of key) (found.before ++ (place.node ∷ [])) place.node found.come.trail
     (Contains-append_right found.before (place.node ∷ []) place.node (in_head place.node []))
 
@@ -39,7 +39,7 @@ still_own v w (InBlock b index) keeps h = (stays_held v w keeps.held b h.0, h.1)
 still_own v w (Root i) keeps h = subst (λ (rs : List ℕ). Contains rs i) (sym keeps.roots) h
 
 -- its link and its key were followed
-pub takes : (v u w : View) (key next : ℕ) (place : Place) → IsSeat v → IsFound v key place → KeepsOwn v u → Follows (place.node.first_word + 0) next v u
+pub takes : (v u w : View) (key next : ℕ) (place : Place) → IsSeat v → IsFoundPlace v key place → KeepsOwn v u → FollowsLink (place.node.first_word + 0) next v u
     → KeepsOwn u w → WritesBack (InBlock place.node 1) u w → Takes key place next v w
 takes v u w key next place seat found keeps follows keeps' writes =
     let node = place.node in
@@ -71,7 +71,7 @@ takes v u w key next place seat found keeps follows keeps' writes =
     }
 
 -- after a fence all of it is durable
-pub taken_settled : (u w : View) (key next : ℕ) (place : Place) → IsSeat u → KeepsOwn u w → Settles u w → IsTaken IsSettling u key place next → IsTaken IsSettled w key place next
+pub taken_settled : (u w : View) (key next : ℕ) (place : Place) → IsSeat u → KeepsOwn u w → Settles u w → IsReadPlace IsSettling u key place next → IsReadPlace IsSettled w key place next
 taken_settled u w key next place seat keeps settled taken =
     let node = place.node in
     let held = trail_held (IsSettling u) u.held (taken.table.first_word + bucket_of key) (taken.before ++ (node ∷ [])) node taken.come.trail
@@ -91,7 +91,7 @@ taken_settled u w key next place seat keeps settled taken =
     }
 
 -- what the parts of a removal leave: before its link is stored to, by that store, and by freeing the node
-module _ (v u : View) (key : ℕ) (place : Place) (next : ℕ) (seat : IsSeat u) (shard : IsShard v (shard_of key)) (grown : Grown v u) (taken : IsTaken IsSettled u key place next) where
+module _ (v u : View) (key : ℕ) (place : Place) (next : ℕ) (seat : IsSeat u) (shard : IsShard v (shard_of key)) (grown : Grown v u) (taken : IsReadPlace IsSettled u key place next) where
   gives : Gives u (shard_of key) shard.map
   gives = gives_grown v u grown (shard_of key) shard.map shard.gives
 

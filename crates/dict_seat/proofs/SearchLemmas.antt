@@ -14,7 +14,7 @@ use Rattle.dict_seat.specs.declared.search.SearchEnd.TheVariants.{NoTable, Missi
 use Rattle.dict_seat.specs.Maps.{IsMapIn}
 use Rattle.dict_seat.specs.Reached.{IsNullOrHeld}
 use Rattle.dict_seat.specs.Trails.{IsSettling, HasCome}
-use Rattle.dict_seat.specs.Quiet.{IsQuiet, GoesPending, Follows}
+use Rattle.dict_seat.specs.Quiet.{IsQuiet, GoesPending, FollowsLink}
 use Rattle.dict_seat.specs.Walks.{Walks, IsQuietWalk}
 use Rattle.dict_seat.specs.Removal.{IsShard}
 use Rattle.dict_seat.specs.Searches.{HasRoot, FindsTable, Searches}
@@ -24,7 +24,7 @@ use Rattle.dict_seat.proofs.MapPublishLemmas.{seen_read}
 use Rattle.dict_seat.proofs.QuietLemmas.{goes_then, quiet_then, still_settling}
 use Rattle.dict_seat.proofs.CountLemmas.{lists_later}
 
-module _ (v w : View) (shard word : ℕ) (seat : IsSeat w) (is : IsShard v shard) (keeps : KeepsOwn v w) (follows : Follows (root_word shard) word v w) where
+module _ (v w : View) (shard word : ℕ) (seat : IsSeat w) (is : IsShard v shard) (keeps : KeepsOwn v w) (follows : FollowsLink (root_word shard) word v w) where
   grown : Grown v w
   grown = grown_keeps v w keeps
 
@@ -73,7 +73,7 @@ module _ (v w : View) (shard word : ℕ) (seat : IsSeat w) (is : IsShard v shard
         absurd (not_null (now_image w (root_word shard)) (8 * t.first_word) there.leads_there.1 (root_is ∙ null))
 
 -- in both cases
-pub table_found : (v w : View) (shard word : ℕ) → IsSeat w → IsShard v shard → KeepsOwn v w → Follows (root_word shard) word v w
+pub table_found : (v w : View) (shard word : ℕ) → IsSeat w → IsShard v shard → KeepsOwn v w → FollowsLink (root_word shard) word v w
     → (result : Option Block) → IfSome result (LeadsTo (Contains w.held) word) → IfNone result (word ≡ 0) → FindsTable shard result v w
 table_found v w shard word seat is keeps follows None some none = root_none v w shard word seat is keeps follows none
 table_found v w shard word seat is keeps follows (Some table) some none = root_some v w shard word seat is keeps follows table some

@@ -16,11 +16,11 @@ use Rattle.dict_model.proofs.SpliceLemmas.{held_once}
 use Rattle.dict_seat.specs.Maps.{Gives}
 use Rattle.dict_seat.specs.Reached.{IsNullOrHeld}
 use Rattle.dict_seat.specs.Trails.{pointer_to, IsSettling, Completes, HasCome}
-use Rattle.dict_seat.specs.Quiet.{IsQuiet, GoesPending, Follows}
+use Rattle.dict_seat.specs.Quiet.{IsQuiet, GoesPending, FollowsLink}
 use Rattle.dict_seat.specs.declared.walk.Next.TheVariants.{End, Key, Other}
 use Rattle.heap_seat.specs.declared.spot.Spot.{Spot}
 use Rattle.heap_seat.specs.declared.spot.Spot.TheVariants.{InBlock, Root}
-use Rattle.dict_seat.specs.Walks.{IsWalk, IsNodeAt, IsWalking, Walks, Steps}
+use Rattle.dict_seat.specs.Walks.{IsWalk, IsNodeAt, IsWalking, Walks, StepsAlong}
 use Rattle.dict_seat.proofs.GrownLemmas.{are_placed, stays_held, grown_keeps, grown_then, own_grown, gives_grown}
 use Rattle.dict_seat.proofs.TrailLemmas.{now_image, now_completes, completes_before, settling_in, IsAlong, is_along, found_at, come_stays, trail_more, behind_more, bucket_below}
 use Rattle.dict_seat.proofs.MapPublishLemmas.{behind_own}
@@ -57,7 +57,7 @@ module _ (v : View) (key at : ℕ) (table : Block) (seat : IsSeat v) (walk : IsW
             let leads : LeadsTo (Contains v.held) x b = subst (λ n. LeadsTo (Contains v.held) n b) (sym (ap image walk.at_is) ∙ x_is) path.0.0 in
             inr (b, record { held = leads.0; points = leads.1.tagged; room = let fits = path.1.fits in omega arith })
 
-  module _ (u : View) (x : ℕ) (keeps : KeepsOwn v u) (follows : Follows at x v u) where
+  module _ (u : View) (x : ℕ) (keeps : KeepsOwn v u) (follows : FollowsLink at x v u) where
     pub null_or_node : IsNullOrHeld u x
     null_or_node = elim (linked u x keeps follows.settling.seen) as (λ _. IsNullOrHeld u x) [
       | inl null ↦ inl null
@@ -139,7 +139,7 @@ walk_ends v key at table seat walk seen map gives =
           absurd (not_null (now_image v (link_behind (table.first_word + bucket_of key) walk.before)) (8 * b.first_word) path.0.0.1 (sym (ap (now_image v) walk.at_is) ∙ null))
 
 -- a link that was followed, and the key of its node that was loaded
-pub key_loaded : (v u w : View) (key at word x : ℕ) (table b : Block) → IsSeat v → IsSeat u → IsWalk v key table at → KeepsOwn v u → Follows at word v u → LeadsTo (Contains u.held) word b
+pub key_loaded : (v u w : View) (key at word x : ℕ) (table b : Block) → IsSeat v → IsSeat u → IsWalk v key table at → KeepsOwn v u → FollowsLink at word v u → LeadsTo (Contains u.held) word b
     → KeepsOwn u w → Loads (b.first_word + 1) x u w → GoesPending v w × IsNodeAt w at b × (w.volatile (b.first_word + 1) ≡ Some x)
 key_loaded v u w key at word x table b seat seat_u walk keeps follows leads keeps_u loads =
     let node = node_at v key at table seat walk u word keeps follows seat_u b leads in
@@ -158,7 +158,7 @@ module _ (v u w : View) (key : ℕ) (table : Block) (link : Spot) (seat : IsSeat
     | inr before ↦ goes_then v u w before goes
   ]
 
-  pub walking_on : (b : Block) → IsQuiet 3 u w → Steps key (word_of link) (Other b) u w → IsWalking key table (InBlock b 0) v w
+  pub walking_on : (b : Block) → IsQuiet 3 u w → StepsAlong key (word_of link) (Other b) u w → IsWalking key table (InBlock b 0) v w
   unfolding walk_on on_way walk_still
   walking_on b quiet steps =
       let there = on_way steps.goes in
@@ -177,7 +177,7 @@ module _ (v u w : View) (key : ℕ) (table : Block) (link : Spot) (seat : IsSeat
   own_later (InBlock b index) h = (subst (λ (bs : List Block). Contains bs b) (sym keeps.held) h.0, h.1)
   own_later (Root i) h = subst (λ (rs : List ℕ). Contains rs i) (sym keeps.roots) h
 
-  pub walk_found : (b : Block) → Steps key (word_of link) (Key b) u w → Walks key (Some (record { link = link; node = b })) v w
+  pub walk_found : (b : Block) → StepsAlong key (word_of link) (Key b) u w → Walks key (Some (record { link = link; node = b })) v w
   walk_found b steps =
       let there = on_way steps.goes in
       let node = steps.leads.0 in
@@ -203,7 +203,7 @@ module _ (v u w : View) (key : ℕ) (table : Block) (link : Spot) (seat : IsSeat
         none = tt;
       }
 
-  pub walk_missed : Steps key (word_of link) End u w → Walks key None v w
+  pub walk_missed : StepsAlong key (word_of link) End u w → Walks key None v w
   walk_missed steps = record {
     goes = since_start steps.goes;
     some = tt;

@@ -22,7 +22,7 @@ pub record Changes (shard : ℕ) (after : Map → Map) (v w : View) : Type 0 whe
   pub gives : (map : Map) → Gives v shard map → Gives w shard (after map)
 
 -- a key's node whose links and key are read: the link that leads to it, and the one that leads from it
-pub record IsTaken (reads : View → Reading) (v : View) (key : ℕ) (place : Place) (next : ℕ) : Type 0 where
+pub record IsReadPlace (reads : View → Reading) (v : View) (key : ℕ) (place : Place) (next : ℕ) : Type 0 where
   pub table : Block
   pub before : List Block
   pub come : HasCome reads v (shard_of key) key table (before ++ (place.node ∷ []))

@@ -36,7 +36,7 @@ abbrev pub HasWords : Reading → Block → List ℕ → ℕ → Type 0
 HasWords reads b value count = (i : ℕ) → i < count → reads (b.first_word + (3 + i)) (image_of_bytes value i)
 
 -- the block is a node of the key with this value, and leads on to this word
-pub record IsWritten (reads : Reading) (b : Block) (key next : ℕ) (value : List ℕ) : Type 0 where
+pub record IsWrittenNode (reads : Reading) (b : Block) (key next : ℕ) (value : List ℕ) : Type 0 where
   pub next_is : reads (b.first_word + 0) next
   pub key_is : reads (b.first_word + 1) key
   pub length_is : reads (b.first_word + 2) (length value)
@@ -56,7 +56,7 @@ pub record WritesValue (b : Block) (value : List ℕ) (v w : View) : Type 0 wher
 -- all of a node was written
 pub record WritesNode (b : Block) (key next : ℕ) (value : List ℕ) (v w : View) : Type 0 where
   pub done : KeepsPendingBut b v w
-  pub written : IsWritten (IsSettling w) b key next value
+  pub written : IsWrittenNode (IsSettling w) b key next value
 
 -- a new block became a node, all of it durable, and so is each word whose write-back was pending
 pub record MakesNode (b : Block) (key next : ℕ) (value : List ℕ) (v w : View) : Type 0 where
@@ -66,5 +66,5 @@ pub record MakesNode (b : Block) (key next : ℕ) (value : List ℕ) (v w : View
   pub only : (a : Block) → Contains w.held a → (a ≡ b) ⊎ Contains v.held a
   pub room : 3 + value_words (length value) ≤ b.words
   pub settles : Settles v w
-  pub written : IsWritten (IsSettled w) b key next value
+  pub written : IsWrittenNode (IsSettled w) b key next value
   pub refusals : SameRefusals v w

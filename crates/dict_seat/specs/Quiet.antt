@@ -20,7 +20,7 @@ pub record GoesPending (v w : View) : Type 0 where
   pub pending : (other : ℕ) → Contains v.pending other → Contains w.pending other
 
 -- the word was loaded, and it is durable with the next fence
-pub record Follows (at word : ℕ) (v w : View) : Type 0 where
+pub record FollowsLink (at word : ℕ) (v w : View) : Type 0 where
   pub goes : GoesPending v w
   pub settling : IsSettling w at word
 

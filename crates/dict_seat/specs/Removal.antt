@@ -7,7 +7,7 @@ use Rattle.dict_seat.specs.Maps.{Gives}
 use Rattle.dict_seat.specs.Reached.{ReachesOnlyHeld}
 use Rattle.dict_seat.specs.Trails.{IsSettling}
 use Rattle.dict_seat.specs.Quiet.{GoesPending}
-use Rattle.dict_seat.specs.Changes.{IsTaken}
+use Rattle.dict_seat.specs.Changes.{IsReadPlace}
 
 -- the shard of the key is a map in every mixture, and only held blocks are reached
 pub record IsShard (v : View) (shard : ℕ) : Type 0 where
@@ -19,4 +19,4 @@ pub record IsShard (v : View) (shard : ℕ) : Type 0 where
 -- the links round a key's node and its key were followed
 pub record Takes (key : ℕ) (place : Place) (next : ℕ) (v w : View) : Type 0 where
   pub goes : GoesPending v w
-  pub taken : IsTaken IsSettling w key place next
+  pub taken : IsReadPlace IsSettling w key place next

@@ -10,7 +10,7 @@ use Rattle.dict_seat.specs.declared.search.SearchEnd.TheVariants.{NoTable, Missi
 use Rattle.dict_seat.specs.Maps.{Gives}
 use Rattle.dict_seat.specs.Trails.{pointer_to, IsSettling, HasCome}
 use Rattle.dict_seat.specs.Quiet.{GoesPending}
-use Rattle.dict_seat.specs.Walks.{IsFound}
+use Rattle.dict_seat.specs.Walks.{IsFoundPlace}
 
 -- the root leads to the table
 pub record HasRoot (w : View) (shard : ℕ) (table : Block) : Type 0 where
@@ -35,7 +35,7 @@ abbrev pub EndsAt : ℕ → View → View → SearchEnd → Type 0
 EndsAt key v w NoTable = HasNoRoot (shard_of key) v w
 EndsAt key v w (Missing table) =
     HasCome IsSettling w (shard_of key) key table [] × ((map : Map) → Gives v (shard_of key) map → map key ≡ None)
-EndsAt key v w (Found place) = IsFound w key place
+EndsAt key v w (Found place) = IsFoundPlace w key place
 
 pub record Searches (key : ℕ) (search : SearchEnd) (v w : View) : Type 0 where
   pub goes : GoesPending v w

@@ -35,12 +35,12 @@ LeadsOn w key at (Key b) = IsNodeAt w at b × (w.volatile (b.first_word + 1) ≡
 LeadsOn w key at (Other b) = IsNodeAt w at b × ((x : ℕ) × (w.volatile (b.first_word + 1) ≡ Some x) × (x ≢ key))
 
 -- one link was followed
-pub record Steps (key at : ℕ) (next : Next) (v w : View) : Type 0 where
+pub record StepsAlong (key at : ℕ) (next : Next) (v w : View) : Type 0 where
   pub goes : GoesPending v w
   pub leads : LeadsOn w key at next
 
 -- a key's node, and the link that leads to it behind the nodes before
-pub record IsFound (w : View) (key : ℕ) (place : Place) : Type 0 where
+pub record IsFoundPlace (w : View) (key : ℕ) (place : Place) : Type 0 where
   pub table : Block
   pub before : List Block
   pub come : HasCome IsSettling w (shard_of key) key table (before ++ (place.node ∷ []))
@@ -58,7 +58,7 @@ pub record ListsKeys (v : View) (shard : ℕ) (keys : List ℕ) : Type 0 where
 -- a walk was done: it found the key's node, or the map hasn't the key
 pub record Walks (key : ℕ) (found : Option Place) (v w : View) : Type 0 where
   pub goes : GoesPending v w
-  pub some : IfSome found (IsFound w key)
+  pub some : IfSome found (IsFoundPlace w key)
   pub none : IfNone found ((map : Map) → Gives v (shard_of key) map → map key ≡ None)
 
 -- quiet calls, three for each key of the shard and some more

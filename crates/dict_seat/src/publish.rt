@@ -11,7 +11,7 @@ ghost use Rattle.dict_model.specs.Shards.{Map};
 ghost use Rattle.dict_seat.specs.Changes.{MayChange, Changes};
 ghost use Rattle.dict_seat.specs.Reached.{ReachesAllHeld};
 ghost use Rattle.dict_seat.specs.Removal.{IsShard};
-ghost use Rattle.dict_seat.specs.Walks.{IsFound};
+ghost use Rattle.dict_seat.specs.Walks.{IsFoundPlace};
 ghost use Rattle.dict_seat.specs.Puts.{IsMissing, PutFails};
 
 use crate::node::make_node;
@@ -60,7 +60,7 @@ pub(crate) fn put_over<H: HeapSeat>(
     value: &[u8],
 ) -> Result<(), AllocFault>
     requires shard { IsShard (H.view seat.old) (shard_of key) }
-    requires found { IsFound (H.view seat.old) key place }
+    requires found { IsFoundPlace (H.view seat.old) key place }
     requires short { length value.now ≤ largest_value }
     ensures ok { OnOk result (Changes (shard_of key) (λ map. with_key map key value.now)
         (H.view seat.old) (H.view seat.new)) }

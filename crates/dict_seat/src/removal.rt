@@ -8,7 +8,7 @@ ghost use Rattle.dict_model.specs.Nodes.{shard_of};
 ghost use Rattle.dict_model.specs.Requests.{without_key};
 ghost use Rattle.dict_model.specs.Shards.{Map};
 ghost use Rattle.dict_seat.specs.Quiet.{IsQuiet};
-ghost use Rattle.dict_seat.specs.Walks.{IsFound};
+ghost use Rattle.dict_seat.specs.Walks.{IsFoundPlace};
 ghost use Rattle.dict_seat.specs.Changes.{MayChange, Changes};
 ghost use Rattle.dict_seat.specs.Reached.{ReachesAllHeld};
 ghost use Rattle.dict_seat.specs.Removal.{IsShard, Takes};
@@ -20,7 +20,7 @@ use line_memory::Stopped;
 /// Follows the link of a key's node, and asks for its key to be durable with the next fence. So
 /// that fence settles all that the node's place depends on.
 pub(crate) fn take<H: HeapSeat>(seat: &mut H, key: u64, place: Place) -> Result<u64, Stopped>
-    requires { IsFound (H.view seat.old) key place }
+    requires { IsFoundPlace (H.view seat.old) key place }
     ensures ok { IfOk result (λ next. Takes key place next (H.view seat.old) (H.view seat.new)) }
     ensures cause { IfErr result (λ e. Stops e.step (H.view seat.old) (H.view seat.new)) }
     ensures quiet { IsQuiet 3 (H.view seat.old) (H.view seat.new) }
@@ -34,7 +34,7 @@ pub(crate) fn take<H: HeapSeat>(seat: &mut H, key: u64, place: Place) -> Result<
 /// Takes a key's node out of its chain, and frees it.
 pub(crate) fn remove<H: HeapSeat>(seat: &mut H, key: u64, place: Place) -> Result<(), Stopped>
     requires shard { IsShard (H.view seat.old) (shard_of key) }
-    requires found { IsFound (H.view seat.old) key place }
+    requires found { IsFoundPlace (H.view seat.old) key place }
     ensures ok { OnOk result (Changes (shard_of key) (λ map. without_key map key)
         (H.view seat.old) (H.view seat.new)) }
     ensures runs { OnOk result (Runs (H.view seat.old) (H.view seat.new)) }

@@ -7,8 +7,8 @@ ghost use Rattle.heap_seat.specs.Words.{IsOwnSpot};
 ghost use Rattle.heap_seat.specs.Tickets.{Stops};
 ghost use Rattle.dict_model.specs.Shards.{Map, LeadsTo};
 ghost use Rattle.dict_seat.specs.Reached.{IsNullOrHeld};
-ghost use Rattle.dict_seat.specs.Quiet.{IsQuiet, Follows};
-ghost use Rattle.dict_seat.specs.Walks.{IsWalk, Steps, Walks, IsQuietWalk};
+ghost use Rattle.dict_seat.specs.Quiet.{IsQuiet, FollowsLink};
+ghost use Rattle.dict_seat.specs.Walks.{IsWalk, StepsAlong, Walks, IsQuietWalk};
 ghost use Rattle.dict_model.specs.Nodes.{shard_of, bucket_of};
 ghost use Rattle.dict_seat.specs.Trails.{IsSettling, HasCome};
 ghost use Rattle.dict_seat.specs.Maps.{Gives};
@@ -21,7 +21,7 @@ use offset_ptr::{Ptr, decode};
 /// The word of a link, which the next fence makes durable.
 pub(crate) fn follow<H: HeapSeat>(seat: &mut H, link: Spot) -> Result<u64, Stopped>
     requires { IsOwnSpot (H.view seat.old) link }
-    ensures ok { IfOk result (λ word. Follows (word_of link) word
+    ensures ok { IfOk result (λ word. FollowsLink (word_of link) word
         (H.view seat.old) (H.view seat.new)) }
     ensures cause { IfErr result (λ e. Stops e.step (H.view seat.old) (H.view seat.new)) }
     ensures quiet { IsQuiet 2 (H.view seat.old) (H.view seat.new) }
@@ -73,7 +73,7 @@ pub(crate) const KEY: u64 = 1;
 fn step<H: HeapSeat>(seat: &mut H, link: Spot, key: u64) -> Result<Next, Stopped>
     requires own { IsOwnSpot (H.view seat.old) link }
     requires walk { (table : Block) × IsWalk (H.view seat.old) key table (word_of link) }
-    ensures ok { IfOk result (λ next. Steps key (word_of link) next
+    ensures ok { IfOk result (λ next. StepsAlong key (word_of link) next
         (H.view seat.old) (H.view seat.new)) }
     ensures cause { IfErr result (λ e. Stops e.step (H.view seat.old) (H.view seat.new)) }
     ensures quiet { IsQuiet 3 (H.view seat.old) (H.view seat.new) }

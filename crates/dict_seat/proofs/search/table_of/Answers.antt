@@ -1,7 +1,7 @@
 use Rattle.std.proofs.Common.{ℕ, subst}
 use Rattle.heap_model.specs.Geometry.{root_word}
 use Rattle.dict_model.specs.Nodes.{shard_of}
-use Rattle.dict_seat.specs.Quiet.{Follows}
+use Rattle.dict_seat.specs.Quiet.{FollowsLink}
 use Rattle.dict_seat.proofs.SearchLemmas.{root_null_or_held, table_found}
 use Rattle.dict_seat.proofs.search.table_of.Goals as goal
 
@@ -10,7 +10,7 @@ block_of-requires g c =
     let view = g.H.HeapSeat.view in
     let v = view c.args.seat.now in
     let w = view c.follow.new.seat in
-    let follows = subst (λ (i : ℕ). Follows (root_word i) c.in_ok-word.word v w) c.shard_of.ensures c.in_ok-word.ensures.ok in
+    let follows = subst (λ (i : ℕ). FollowsLink (root_word i) c.in_ok-word.word v w) c.shard_of.ensures c.in_ok-word.ensures.ok in
     root_null_or_held v w (shard_of c.args.key) c.in_ok-word.word (g.met.H.HeapSeat.seat c.follow.new.seat) c.requires c.follow.ensures.quiet.unchanged follows
 
 pub returns-clause-ok : goal.returns-clause-ok
@@ -18,6 +18,6 @@ returns-clause-ok g c =
     let view = g.H.HeapSeat.view in
     let v = view c.args.seat.now in
     let w = view c.follow.new.seat in
-    let follows = subst (λ (i : ℕ). Follows (root_word i) c.in_ok-word.word v w) c.shard_of.ensures c.in_ok-word.ensures.ok in
+    let follows = subst (λ (i : ℕ). FollowsLink (root_word i) c.in_ok-word.word v w) c.shard_of.ensures c.in_ok-word.ensures.ok in
     table_found v w (shard_of c.args.key) c.in_ok-word.word (g.met.H.HeapSeat.seat c.follow.new.seat) c.requires c.follow.ensures.quiet.unchanged follows c.block_of.result
     c.block_of.ensures.some c.block_of.ensures.none

@@ -1,6 +1,6 @@
 use Rattle.heap_seat.specs.View.{word_of}
 use Rattle.dict_seat.specs.declared.walk.Next.{Next}
-use Rattle.dict_seat.specs.Walks.{Steps}
+use Rattle.dict_seat.specs.Walks.{StepsAlong}
 use Rattle.dict_seat.proofs.CountLemmas.{quiet_walk}
 use Rattle.dict_seat.proofs.WalkLemmas.{walking_on, walk_found, walk_missed}
 use Rattle.std.proofs.Common.{subst}
@@ -30,7 +30,7 @@ returns-in-End-clause-ok g c =
     let v = view c.args.seat.now in
     let u = view c.loop-node.seat in
     let w = view c.step.new.seat in
-    let steps = subst (λ (n : Next). Steps c.args.key (word_of c.loop-node.link) n u w) c.in-End.is c.in_ok-step.ensures.ok in
+    let steps = subst (λ (n : Next). StepsAlong c.args.key (word_of c.loop-node.link) n u w) c.in-End.is c.in_ok-step.ensures.ok in
     walk_missed v u w c.args.key c.args.table c.loop-node.link (g.met.H.HeapSeat.seat c.loop-node.seat) (g.met.H.HeapSeat.seat c.step.new.seat) c.loop-node.invariant.walking
     c.step.ensures.quiet.unchanged steps
 
@@ -40,7 +40,7 @@ returns-in-Key-clause-ok g c =
     let v = view c.args.seat.now in
     let u = view c.loop-node.seat in
     let w = view c.step.new.seat in
-    let steps = subst (λ (n : Next). Steps c.args.key (word_of c.loop-node.link) n u w) c.in-Key.is c.in_ok-step.ensures.ok in
+    let steps = subst (λ (n : Next). StepsAlong c.args.key (word_of c.loop-node.link) n u w) c.in-Key.is c.in_ok-step.ensures.ok in
     walk_found v u w c.args.key c.args.table c.loop-node.link (g.met.H.HeapSeat.seat c.loop-node.seat) (g.met.H.HeapSeat.seat c.step.new.seat) c.loop-node.invariant.walking
     c.step.ensures.quiet.unchanged c.in-Key.node steps
 
@@ -50,7 +50,7 @@ loop-node-preserved g c =
     let v = view c.args.seat.now in
     let u = view c.loop-node.seat in
     let w = view c.step.new.seat in
-    let steps = subst (λ (n : Next). Steps c.args.key (word_of c.loop-node.link) n u w) c.in-Other.is c.in_ok-step.ensures.ok in
+    let steps = subst (λ (n : Next). StepsAlong c.args.key (word_of c.loop-node.link) n u w) c.in-Other.is c.in_ok-step.ensures.ok in
     record {
       walking = walking_on v u w c.args.key c.args.table c.loop-node.link (g.met.H.HeapSeat.seat c.loop-node.seat) (g.met.H.HeapSeat.seat c.step.new.seat) c.loop-node.invariant.walking
           c.step.ensures.quiet.unchanged c.in-Other.node c.step.ensures.quiet steps;
