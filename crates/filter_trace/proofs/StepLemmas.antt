@@ -14,7 +14,7 @@ use Rattle.heap_model.proofs.ImageLemmas.{words_from-list}
 use Rattle.heap_model.proofs.ReachLemmas.{one_offset, not_null, one_block}
 use Rattle.offset_ptr.specs.Meaning.{IsAlien}
 use Rattle.filter_trace.specs.Pairs.{mark_of, Inserts, present, added, AreMarked}
-use Rattle.filter_trace.specs.Trace.{Follows, null, lead, IsSettled, Each, IsExtended}
+use Rattle.filter_trace.specs.Trace.{Follows, null, lead, IsFollowedWord, Each, IsExtended}
 use Rattle.filter_trace.proofs.PairLemmas.{pair_cases, insert_marked, insert_has}
 
 -- a pointer to an offset that names a block leads to it
@@ -48,7 +48,7 @@ more_and_more pairs pairs' pairs'' one two = record { more = one.more ++ two.mor
 pub kept : (pairs pairs' : List (Block × ℕ)) (b : Block) (k : ℕ) → IsExtended pairs pairs' → Contains pairs (b, k) → Contains pairs' (b, k)
 kept pairs pairs' b k grown here = subst (λ ps. Contains ps (b, k)) (sym grown.is) (Contains-append_left pairs grown.more (b, k) here)
 
-pub still_settled : (image : Image) (pairs pairs' : List (Block × ℕ)) (at kind : ℕ) → IsExtended pairs pairs' → IsSettled image pairs at kind → IsSettled image pairs' at kind
+pub still_settled : (image : Image) (pairs pairs' : List (Block × ℕ)) (at kind : ℕ) → IsExtended pairs pairs' → IsFollowedWord image pairs at kind → IsFollowedWord image pairs' at kind
 still_settled image pairs pairs' at kind grown was = record {
   inside = was.inside;
   here = λ b leads. kept pairs pairs' b kind grown (was.here b leads);
@@ -103,7 +103,7 @@ follow_each holds image count at kind pairs pairs' marks marks' was this (lead b
 -- and that is there then
 pub follow_settles : (image : Image) (count at kind : ℕ) (pairs pairs' : List (Block × ℕ)) (marks marks' : List Bool)
     → AreMarked (layout_of image) count pairs marks → kind < count → Follows image count at kind pairs pairs' marks marks'
-    → IsSettled image pairs' at kind
+    → IsFollowedWord image pairs' at kind
 follow_settles image count at kind pairs pairs' marks marks' work below (null is same_pairs same_marks) = record {
   inside = λ outside. outside.not_null is;
   here = λ b leads. absurd (not_null (image at) (8 * b.first_word) leads.pointer is);

@@ -19,8 +19,8 @@ use Rattle.heap_model.specs.Reach.{Links, AnyRoot, RootLeads, Reach, IsOutside, 
 use Rattle.filter_trace.specs.declared.fault.TraceFault.{TraceFault}
 use Rattle.filter_trace.specs.declared.fault.TraceFault.TheVariants.{Outside, Memory}
 use Rattle.filter_trace.specs.Reached.{TellsOutside, AreReached}
-use Rattle.filter_trace.specs.Trace.{Follows, IsSettled, Each, IsExtended, FollowsRoots, FollowsLinks, TellsOfWord, TellsOfRoots, HasSettled, IsWork}
-use Rattle.filter_trace.specs.Pairs.{mark_of, HasRoom, AreMarked}
+use Rattle.filter_trace.specs.Trace.{Follows, IsFollowedWord, Each, IsExtended, FollowsRoots, FollowsLinks, TellsOfWord, TellsOfRoots, HasSettled, IsWork}
+use Rattle.filter_trace.specs.Pairs.{mark_of, HasMarks, AreMarked}
 use Rattle.filter_trace.proofs.PairLemmas.{pair_cases}
 use Rattle.filter_trace.proofs.StepLemmas.{follow_marked, follow_each, follow_grows, follow_settles, follow_long, still_settled, more_and_more, block_within}
 
@@ -34,7 +34,7 @@ roots_step image kinds count n pairs pairs' marks marks' was below kind follows 
       marked = follow_marked image count (root_word n) (kinds n) pairs pairs' marks marks' was.marked kind follows;
       rooted = follow_each (RootLeads image AnyRoot kinds) image count (root_word n) (kinds n) pairs pairs' marks marks' was.rooted
           (λ b leads. record { root = n; below = below; is_chosen = tt; kind_is = refl; leads = leads }) follows;
-      settled = below_more (λ i. IsSettled image pairs' (root_word i) (kinds i)) n
+      settled = below_more (λ i. IsFollowedWord image pairs' (root_word i) (kinds i)) n
           (λ i low. still_settled image pairs pairs' (root_word i) (kinds i) grown (was.settled i low))
           (follow_settles image count (root_word n) (kinds n) pairs pairs' marks marks' was.marked kind follows);
     }
@@ -58,9 +58,9 @@ links_step image kinds links count a from upto position kind pairs pairs' pairs'
             (λ b leads. by_link a b from kind reached (record { position = position; listed = listed; leads = leads })) follows;
       };
       grown = more_and_more pairs pairs' pairs'' was.grown grown;
-      settled = λ p k in_upto. elim (Contains-push_cases upto (position, kind) (p, k) in_upto) as (λ _. IsSettled image pairs'' (a.first_word + p) k) [
+      settled = λ p k in_upto. elim (Contains-push_cases upto (position, kind) (p, k) in_upto) as (λ _. IsFollowedWord image pairs'' (a.first_word + p) k) [
         | inl old ↦ still_settled image pairs' pairs'' (a.first_word + p) k grown (was.settled p k old)
-        | inr same ↦ subst (λ (l : ℕ × ℕ). IsSettled image pairs'' (a.first_word + l.0) l.1) same here
+        | inr same ↦ subst (λ (l : ℕ × ℕ). IsFollowedWord image pairs'' (a.first_word + l.0) l.1) same here
       ];
     }
 
@@ -109,7 +109,7 @@ tells_root image kinds links (Outside at value) tells = (
 tells_root image kinds links Memory tells = tt
 
 -- no pair, and no mark
-pub nothing_marked : (image : Image) (n count : ℕ) (marks : List Bool) → IsWellFormed (8 * n) image → HasRoom n count marks → All (λ mark. mark ≡ false) marks
+pub nothing_marked : (image : Image) (n count : ℕ) (marks : List Bool) → IsWellFormed (8 * n) image → HasMarks n count marks → All (λ mark. mark ≡ false) marks
     → AreMarked (layout_of image) count [] marks
 nothing_marked image n count marks formed room clear =
     let fits : (b : Block) → IsBlock (layout_of image) b → b.first_word * count + count ≤ length marks
@@ -179,7 +179,7 @@ few_pairs l count pairs marks marked = let some = count_by-le-length (λ (mark :
 
 -- when all pairs have been followed, each that is reached is there
 complete : (image : Image) (kinds : ℕ → ℕ) (links : Links) (pairs : List (Block × ℕ))
-    → ((i : ℕ) → i < roots → IsSettled image pairs (root_word i) (kinds i)) → Each (HasSettled image links pairs) pairs
+    → ((i : ℕ) → i < roots → IsFollowedWord image pairs (root_word i) (kinds i)) → Each (HasSettled image links pairs) pairs
     → (b : Block) (kind : ℕ) → Reach image kinds links b kind → Contains pairs (b, kind)
 complete image kinds links pairs from_roots from_links _ _ (by_start b kind start) =
     subst (λ k. Contains pairs (b, k)) (sym start.kind_is) ((from_roots start.root start.below).here b start.leads)
@@ -188,7 +188,7 @@ complete image kinds links pairs from_roots from_links _ _ (by_link a b from kin
 
 -- and no word is outside
 inside_all : (image : Image) (kinds : ℕ → ℕ) (links : Links) (pairs : List (Block × ℕ))
-    → ((i : ℕ) → i < roots → IsSettled image pairs (root_word i) (kinds i)) → Each (HasSettled image links pairs) pairs
+    → ((i : ℕ) → i < roots → IsFollowedWord image pairs (root_word i) (kinds i)) → Each (HasSettled image links pairs) pairs
     → (at : ℕ) → IsTraced image kinds links at → LeadsOutside image (image at) → ⊥
 inside_all image kinds links pairs from_roots from_links _ (is_root i at below chosen is) outside =
     (from_roots i below).inside (subst (λ n. LeadsOutside image (image n)) is outside)

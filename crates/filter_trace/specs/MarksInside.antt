@@ -8,7 +8,7 @@ use Rattle.super_block.specs.Division.{Describes}
 use Rattle.filter_trace.specs.Pairs.{AreMarked}
 
 -- there is an image whose blocks the directory has, and which are marked
-pub record IsSound (m : Inside) : Type 0 where
+pub record HasImage (m : Inside) : Type 0 where
   pub image : Image
   pub words : ℕ
   pub formed : IsWellFormed (8 * words) image

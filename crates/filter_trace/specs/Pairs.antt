@@ -9,7 +9,7 @@ abbrev pub mark_of : ℕ → Block → ℕ → ℕ
 mark_of kinds b kind = b.first_word * kinds + kind
 
 -- there is a mark for each word of the image and each kind
-pub record HasRoom (words kinds : ℕ) (marks : List Bool) : Type 0 where
+pub record HasMarks (words kinds : ℕ) (marks : List Bool) : Type 0 where
   pub long : words * kinds ≤ length marks
   pub short : length marks < 2 ^ 64
 

@@ -7,7 +7,7 @@ use Rattle.heap_model.specs.Blocks.{layout_of}
 use Rattle.heap_model.specs.Reach.{Links, words_in}
 use Rattle.filter_trace.specs.declared.pairs.PairSet.{PairSet}
 use Rattle.filter_trace.specs.Pairs.{mark_of, Inserts, AreMarked}
-use Rattle.filter_trace.specs.Trace.{Follows, FollowsRoots, FollowsLinks, IsFound}
+use Rattle.filter_trace.specs.Trace.{Follows, FollowsRoots, FollowsLinks, AreFoundPairs}
 
 -- the words are those of an image with a good header
 abbrev pub IsImage : List ℕ → Type 0
@@ -35,7 +35,7 @@ FollowsAllRoots words kinds count new = FollowsRoots (slice_index words) (slice_
 
 -- the pairs have been reached, and are marked
 abbrev pub HasFound : List ℕ → List ℕ → Links → ℕ → PairSet → Type 0
-HasFound words kinds links count set = IsFound (slice_index words) (slice_index kinds) links count set.pairs.items set.marks
+HasFound words kinds links count set = AreFoundPairs (slice_index words) (slice_index kinds) links count set.pairs.items set.marks
 
 -- following all links of a block leaves this
 abbrev pub FollowsAllLinks : List ℕ → List ℕ → Links → ℕ → Block → ℕ → PairSet → PairSet → Type 0

@@ -34,13 +34,13 @@ pub data Follows (image : Image) (count at kind : ℕ) (pairs pairs' : List (Blo
   lead : (b : Block) → Leads image (image at) b → Inserts count b kind pairs pairs' marks marks' → Follows image count at kind pairs pairs' marks marks'
 
 -- the word has been followed: it is not outside, and what it leads to is there
-pub record IsSettled (image : Image) (pairs : List (Block × ℕ)) (at kind : ℕ) : Type 0 where
+pub record IsFollowedWord (image : Image) (pairs : List (Block × ℕ)) (at kind : ℕ) : Type 0 where
   pub inside : LeadsOutside image (image at) → ⊥
   pub here : (b : Block) → Leads image (image at) b → Contains pairs (b, kind)
 
 -- each linked word of the block has been followed
 pub record HasSettled (image : Image) (links : Links) (pairs : List (Block × ℕ)) (a : Block) (from : ℕ) : Type 0 where
-  pub each : (position kind : ℕ) → Contains (links from (words_in image a)) (position, kind) → IsSettled image pairs (a.first_word + position) kind
+  pub each : (position kind : ℕ) → Contains (links from (words_in image a)) (position, kind) → IsFollowedWord image pairs (a.first_word + position) kind
 
 -- what holds of each pair
 pub record Each (holds : Block → ℕ → Type 0) (pairs : List (Block × ℕ)) : Type 0 where
@@ -52,7 +52,7 @@ pub record IsExtended (pairs pairs' : List (Block × ℕ)) : Type 0 where
   pub is : pairs' ≡ pairs ++ more
 
 -- all pairs that have been found are reached, and marked
-pub record IsFound (image : Image) (kinds : ℕ → ℕ) (links : Links) (count : ℕ) (pairs : List (Block × ℕ)) (marks : List Bool) : Type 0 where
+pub record AreFoundPairs (image : Image) (kinds : ℕ → ℕ) (links : Links) (count : ℕ) (pairs : List (Block × ℕ)) (marks : List Bool) : Type 0 where
   pub marked : AreMarked (layout_of image) count pairs marks
   pub reached : Each (Reach image kinds links) pairs
 
@@ -60,18 +60,18 @@ pub record IsFound (image : Image) (kinds : ℕ → ℕ) (links : Links) (count 
 pub record FollowsRoots (image : Image) (kinds : ℕ → ℕ) (count upto : ℕ) (pairs : List (Block × ℕ)) (marks : List Bool) : Type 0 where
   pub marked : AreMarked (layout_of image) count pairs marks
   pub rooted : Each (RootLeads image AnyRoot kinds) pairs
-  pub settled : (i : ℕ) → i < upto → IsSettled image pairs (root_word i) (kinds i)
+  pub settled : (i : ℕ) → i < upto → IsFollowedWord image pairs (root_word i) (kinds i)
 
 -- what following these links of a block leaves
 pub record FollowsLinks (image : Image) (kinds : ℕ → ℕ) (links : Links) (count : ℕ) (a : Block) (upto : List (ℕ × ℕ)) (pairs pairs' : List (Block × ℕ)) (marks marks' : List Bool) : Type 0 where
   pub long : length marks' ≡ length marks
-  pub found : IsFound image kinds links count pairs' marks'
+  pub found : AreFoundPairs image kinds links count pairs' marks'
   pub grown : IsExtended pairs pairs'
-  pub settled : (position kind : ℕ) → Contains upto (position, kind) → IsSettled image pairs' (a.first_word + position) kind
+  pub settled : (position kind : ℕ) → Contains upto (position, kind) → IsFollowedWord image pairs' (a.first_word + position) kind
 
 -- what a trace knows when it has followed the roots and the links of the first `next` pairs
 pub record IsWork (image : Image) (kinds : ℕ → ℕ) (links : Links) (count next : ℕ) (pairs : List (Block × ℕ)) (marks : List Bool) : Type 0 where
-  pub found : IsFound image kinds links count pairs marks
-  pub roots_settled : (i : ℕ) → i < roots → IsSettled image pairs (root_word i) (kinds i)
+  pub found : AreFoundPairs image kinds links count pairs marks
+  pub roots_settled : (i : ℕ) → i < roots → IsFollowedWord image pairs (root_word i) (kinds i)
   pub links_settled : Each (HasSettled image links pairs) (take next pairs)
   pub within : next ≤ length pairs

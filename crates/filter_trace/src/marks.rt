@@ -22,11 +22,11 @@ impl Model for Marks {
 
     ghost Value = { List (Block × ℕ) };
 
-    ghost use Rattle.filter_trace.specs.MarksInside.{IsSound};
+    ghost use Rattle.filter_trace.specs.MarksInside.{HasImage};
 
     ghost view = { λ m. m.found.pairs.items };
 
-    ghost invariant = { IsSound };
+    ghost invariant = { HasImage };
 }
 
 impl Marks {

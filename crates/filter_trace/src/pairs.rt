@@ -1,7 +1,7 @@
 //! A growing set of pairs of a block and a kind, each with a mark bit by which it is found again.
 ghost use Rattle.std.specs.Prelude.{◌≡◌, ◌+◌, ◌*◌, ℕ, ◌<◌, ◌≤◌, ◌^◌, [], true, false, IsTrue, length, slice_index_or, IfOk, OnOk};
 ghost use Rattle.std.specs.List.{All};
-ghost use Rattle.filter_trace.specs.Pairs.{mark_of, HasRoom};
+ghost use Rattle.filter_trace.specs.Pairs.{mark_of, HasMarks};
 
 use crate::bits::Bits;
 use heap_model::Block;
@@ -26,7 +26,7 @@ impl PairSet {
         requires { words < 2 ^ 31 }
         ensures kinds { IfOk result (λ set. set.kinds ≡ kinds) }
         ensures empty { IfOk result (λ set. set.pairs.items ≡ []) }
-        ensures room { IfOk result (λ set. HasRoom words kinds set.marks) }
+        ensures room { IfOk result (λ set. HasMarks words kinds set.marks) }
         ensures clear { IfOk result (λ set. All (λ mark. mark ≡ false) set.marks) }
     {
         Ok(PairSet {

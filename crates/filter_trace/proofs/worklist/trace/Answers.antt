@@ -1,15 +1,15 @@
 use Rattle.std.proofs.Common.{◌≡◌, length, slice_index, sym, subst, ◌∙◌, refl, arith}
 use Rattle.std.proofs.lemmas.Result.{err_from_is_err_and}
 use Rattle.heap_model.specs.Geometry.{roots}
-use Rattle.filter_trace.specs.Pairs.{HasRoom}
+use Rattle.filter_trace.specs.Pairs.{HasMarks}
 use Rattle.filter_trace.specs.Trace.{FollowsRoots}
 use Rattle.filter_trace.proofs.TraceLemmas.{nothing_marked, work_begins, work_step, work_ends, work_inside, tells_root}
 use Rattle.filter_trace.proofs.worklist.trace.Goals as goal
 
 pub follow_roots-requires-clause-marked : goal.follow_roots-requires-clause-marked
 follow_roots-requires-clause-marked g c =
-    let room : HasRoom (length c.args.words.now) g.F.Filter.KINDS c.in_ok-found.found.marks
-    = subst (λ n. HasRoom (length c.args.words.now) n c.in_ok-found.found.marks) c.KINDS.ensures c.in_ok-found.ensures.room in
+    let room : HasMarks (length c.args.words.now) g.F.Filter.KINDS c.in_ok-found.found.marks
+    = subst (λ n. HasMarks (length c.args.words.now) n c.in_ok-found.found.marks) c.KINDS.ensures c.in_ok-found.ensures.room in
     rw (c.in_ok-found.ensures.kinds, c.KINDS.ensures, c.in_ok-found.ensures.empty)
     (nothing_marked (slice_index c.args.words.now) (length c.args.words.now) g.F.Filter.KINDS c.in_ok-found.found.marks c.requires.formed room c.in_ok-found.ensures.clear)
 
