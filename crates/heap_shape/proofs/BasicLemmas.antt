@@ -13,7 +13,7 @@ use Rattle.heap_model.proofs.BlockLemmas.{block_step}
 use Rattle.heap_model.proofs.MemberLemmas.{in_none, in_head, in_rest, head_or_rest}
 use Rattle.heap_model.proofs.CountingLemmas.{one_if_true, one_if_false, one_if_some}
 use Rattle.heap_shape.specs.Shape.{Place, in_list, is_full, in_large, is_new, Shape, stands_in, with_at}
-use Rattle.heap_shape.specs.Standing.{first_of, IsFirstOf, IsOfClass, IsListed, IsFull, IsFree, IsAs}
+use Rattle.heap_shape.specs.Standing.{first_of, IsFirstOf, IsOfClass, IsListed, IsFullSuperblock, IsFree, IsAs}
 use Rattle.heap_shape.specs.Whole.{IsShape}
 use Rattle.heap_shape.specs.Effects.{IsInSuperblock}
 use Rattle.heap_model.proofs.ListLemmas.{one_at_most, times_of}
@@ -130,7 +130,7 @@ module _ (capacity : ℕ) (image : Image) (held : List Block) (s : Shape) (shape
   in_free_list d within place = subst (IsAs capacity image s held d) place (shape.places d within)
 
   -- one that is full has none of its class
-  pub in_full : (d : ℕ) → d < capacity → s.place d ≡ is_full → IsFull capacity image s held d
+  pub in_full : (d : ℕ) → d < capacity → s.place d ≡ is_full → IsFullSuperblock capacity image s held d
   in_full d within place = subst (IsAs capacity image s held d) place (shape.places d within)
 
   -- the superblock of a cached block is cut for the class

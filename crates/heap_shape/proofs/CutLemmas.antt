@@ -15,7 +15,7 @@ use Rattle.heap_model.proofs.MemberLemmas.{in_none, head_or_rest}
 use Rattle.heap_model.proofs.PartLemmas.{part_taken}
 use Rattle.heap_model.proofs.PlaceLemmas.{block_more}
 use Rattle.heap_shape.specs.Shape.{Place, in_list, is_full, in_large, is_new, Shape, stands_in, with_at}
-use Rattle.heap_shape.specs.Standing.{first_of, IsFirstOf, HoldsAt, HasOneOwner, a_free, a_held, IsOfClass, IsFull, IsAs}
+use Rattle.heap_shape.specs.Standing.{first_of, IsFirstOf, HoldsAt, HasOneOwner, a_free, a_held, IsOfClass, IsFullSuperblock, IsAs}
 use Rattle.heap_shape.specs.Whole.{layout_at, IsCachedIn, IsShape}
 use Rattle.heap_shape.specs.Effects.{IsPoppedOf, IsInSuperblock, firsts_from}
 use Rattle.heap_shape.proofs.BasicLemmas.{with_at_same, with_at_other, walks_same, follows_below, first_inside, inside_one, first_injective, first_place}
@@ -182,7 +182,7 @@ module _ (capacity class d : ℕ) (image new : Image) (held : List Block) (s : S
       re.raised (λ p. (re.untaken e within apart p, re.links e within)) (shape.places e within)
 
   -- superblock d is full
-  full : IsFull capacity new (refilled s class d listed words first) held d
+  full : IsFullSuperblock capacity new (refilled s class d listed words first) held d
   full = record {
     of_class = subst (λ c. IsOfClass capacity new (refilled s class d listed words first) held c d) (sym re.info) (record {
       is_class = is;

@@ -16,7 +16,7 @@ use Rattle.heap_model.proofs.MemberLemmas.{in_head, in_rest, head_or_rest}
 use Rattle.heap_model.proofs.PartLemmas.{cases_of_part, part_taken}
 use Rattle.heap_model.proofs.PlaceLemmas.{class_block, same_there}
 use Rattle.heap_shape.specs.Shape.{Place, in_list, is_full, in_large, is_new, Shape, with_at}
-use Rattle.heap_shape.specs.Standing.{first_of, IsFirstOf, HoldsAt, HasOneOwner, a_free, a_held, times_free, IsOfClass, IsListed, IsFull, HasNoHeld, IsAs}
+use Rattle.heap_shape.specs.Standing.{first_of, IsFirstOf, HoldsAt, HasOneOwner, a_free, a_held, times_free, IsOfClass, IsListed, IsFullSuperblock, HasNoHeld, IsAs}
 use Rattle.heap_shape.specs.Whole.{layout_at, IsCachedIn, IsShape}
 use Rattle.heap_shape.specs.Effects.{IsSet, IsInSuperblock}
 use Rattle.heap_shape.specs.Moves.{with_cache, AddsTo, TakesFrom}
@@ -112,7 +112,7 @@ replaced capacity image new s t held now class d (in_list (suc c)) place is info
   }
   | inr both ↦ absurd (cc)
 ]
-replaced capacity image new s t held now class d is_full place is info anchor chain of full = elim place as (λ _. IsFull capacity new t now d) [
+replaced capacity image new s t held now class d is_full place is info anchor chain of full = elim place as (λ _. IsFullSuperblock capacity new t now d) [
   | inl e ↦ absurd (cc)
   | inr both ↦ record {
     of_class = subst (λ k. IsOfClass capacity new t now k d) (sym (info ∙ both.1)) of;

@@ -16,7 +16,7 @@ use Rattle.heap_model.proofs.CountingLemmas.{total_some, one_if_true, one_if_fal
 use Rattle.heap_model.proofs.PartLemmas.{long_takes}
 use Rattle.heap_model.proofs.LeftLemmas.{counts_large}
 use Rattle.heap_shape.specs.Shape.{Place, in_list, is_full, in_large, is_new, Shape, stands_in}
-use Rattle.heap_shape.specs.Standing.{first_of, IsFirstOf, HasOneOwner, a_free, a_held, IsListed, IsFull, IsAs}
+use Rattle.heap_shape.specs.Standing.{first_of, IsFirstOf, HasOneOwner, a_free, a_held, IsListed, IsFullSuperblock, IsAs}
 use Rattle.heap_shape.specs.Whole.{IsShape}
 use Rattle.heap_shape.specs.Draining.{HasUse, for_class, for_held, for_later, IsAccounted}
 use Rattle.heap_shape.proofs.CountLemmas.{few_members}
@@ -210,7 +210,7 @@ module _ (image : Image) (held : List Block) (shaped : IsShaped image held) (nam
       }
 
   -- a full one
-  full_at_rest : 0 < shaped.full d → d < used_of image → IsFull (capacity_of image) image (shape_of image held shaped) held d
+  full_at_rest : 0 < shaped.full d → d < used_of image → IsFullSuperblock (capacity_of image) image (shape_of image held shaped) held d
   full_at_rest some taken =
       let is = shaped.is_full d some in
       let none : shaped.chains d ≡ [] = is.2 in

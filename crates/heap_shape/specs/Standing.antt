@@ -53,7 +53,7 @@ pub record IsListed (capacity : ℕ) (image : Image) (s : Shape) (held : List Bl
       ⊎ ((anchor_state (image (anchor_word d)) ≡ partial_state) × (length (s.chain d) < blocks_of class))
 
 -- it has none in its chain
-pub record IsFull (capacity : ℕ) (image : Image) (s : Shape) (held : List Block) (d : ℕ) : Type 0 where
+pub record IsFullSuperblock (capacity : ℕ) (image : Image) (s : Shape) (held : List Block) (d : ℕ) : Type 0 where
   pub of_class : IsOfClass capacity image s held (image (info_word d)) d
   pub none : s.chain d ≡ []
   pub anchor : image (anchor_word d) ≡ full_anchor
@@ -84,6 +84,6 @@ pub record IsNew (image : Image) (d : ℕ) : Type 0 where
 abbrev pub IsAs : ℕ → Image → Shape → List Block → ℕ → Place → Type 0
 IsAs capacity image s held d (in_list zero) = IsFree capacity image held d
 IsAs capacity image s held d (in_list (suc c)) = IsListed capacity image s held (suc c) d
-IsAs capacity image s held d is_full = IsFull capacity image s held d
+IsAs capacity image s held d is_full = IsFullSuperblock capacity image s held d
 IsAs capacity image s held d in_large = IsInLarge image d
 IsAs capacity image s held d is_new = IsNew image d
