@@ -14,7 +14,7 @@ use Rattle.core_model.specs.Memory.{volatile_at, next}
 use Rattle.core_model.specs.View.{Setup, View, of_class, times_block}
 use Rattle.core_model.specs.Effects.{chain, first_of}
 use Rattle.core_model.specs.Sound.{IsCutBlock}
-use Rattle.crash_core.specs.Standing.{place_for, no_block, IsPlace, HasBlocksOf, HasCaches, IsGiven, IsKept, Keeps}
+use Rattle.crash_core.specs.Standing.{place_for, no_block, IsPlace, HasBlocksOf, HasCaches, HasNewOwner, IsKept, Keeps}
 use Rattle.core_model.proofs.TotalLemmas.{total_at}
 use Rattle.core_model.proofs.PlaceLemmas.{and_is}
 use Rattle.core_model.proofs.BlockLemmas.{inside_of, walks_chain, total_lists}
@@ -69,12 +69,12 @@ module _ (c : CoreState) (k : Setup) (views : List View) (i : ℕ) (v : View) (t
   cached_more : (b : ℕ) → total (times b) (set v.caches class bs) ≡ total (times b) v.caches + times b bs
   cached_more b = let l = total_lists b v.caches class bs long_caches in let none = ap (times b) empty in omega arith
 
-  pub blocks_given : (owners : List BlockOwner) → IsGiven c.blocks.items owners bs (record { seat = i; place = place.Cached }) → HasBlocksOf owners i v.small (set v.caches class bs) v.batch.blocks
+  pub blocks_given : (owners : List BlockOwner) → HasNewOwner c.blocks.items owners bs (record { seat = i; place = place.Cached }) → HasBlocksOf owners i v.small (set v.caches class bs) v.batch.blocks
   blocks_given owners given = given_mine c.blocks.items owners i bs place.Cached (λ b p. IsPlace b p v.small (set v.caches class bs) v.batch.blocks) given
       (λ b some. let f = free b some in let one = f.0 in let nobody = f.1 in let mine = total_at (times_block b) views i v below at in let more = cached_more b in record { held = omega arith; cached = omega arith; batched = omega arith })
       (λ b none. let o = kept.blocks b in let more = cached_more b in record { held = o.held; cached = (let h = o.cached in omega arith); batched = o.batched })
 
-  pub blocks_theirs : (owners : List BlockOwner) → IsGiven c.blocks.items owners bs (record { seat = i; place = place.Cached })
+  pub blocks_theirs : (owners : List BlockOwner) → HasNewOwner c.blocks.items owners bs (record { seat = i; place = place.Cached })
       → (j : ℕ) (s : Seat) (u : View) → j ≢ i → j < length views → get_or views j u ≡ u → IsKept c j s u → HasBlocksOf owners j u.small u.caches u.batch.blocks
   blocks_theirs owners given j s u other below_j at_u h = given_theirs c.blocks.items owners i j bs place.Cached (λ b p. IsPlace b p u.small u.caches u.batch.blocks) other given
       (λ b some. no_place b (place_for j (get_or c.blocks.items b no_block)) u.small u.caches u.batch.blocks (h.blocks b) (let nobody = (free b some).1 in let theirs = total_at (times_block b) views j u below_j at_u in omega arith))

@@ -22,7 +22,7 @@ use Rattle.core_model.specs.View.{Setup, View, Claim, Span, of_class, times_bloc
 use Rattle.core_model.specs.Effects.{chain, steps, first_of, class_blocks, cleared, after_cut}
 use Rattle.core_model.specs.Guards.{MayCut}
 use Rattle.core_model.specs.Sound.{tally_of, times_cut, IsCutBlock, Good}
-use Rattle.crash_core.specs.Standing.{share_for, no_superblock, cutting_in, IsShare, HasSuperblocks, HasCaches, HasBlocksOf, IsGiven, IsKept, IsCore, Keeps, IsMoved, Decides, memory_at, snapshot}
+use Rattle.crash_core.specs.Standing.{share_for, no_superblock, cutting_in, IsShare, HasSuperblocks, HasCaches, HasBlocksOf, HasNewOwner, IsKept, IsCore, Keeps, IsMoved, Decides, memory_at, snapshot}
 use Rattle.core_model.proofs.TotalLemmas.{total_at}
 use Rattle.heap_model.proofs.ListLemmas.{one_at_most, without_at}
 use Rattle.core_model.proofs.CountLemmas.{length_steps, block_once}
@@ -217,7 +217,7 @@ module _ (c : CoreState) (k : Setup) (views : List View) (i : ℕ) (v : View) (t
       inside first count first_is count_is b there = block_fits c k views keeps class d b cut_class d_less (in_block b (subst (λ xs. 0 < times b xs) (whole first count first_is count_is).2 there))
 
       pub cut : (first count : ℕ) → first ≡ start_word c.geometry.capacity d → count ≡ blocks_of class → (blocks : Vec BlockOwner Global)
-          → IsGiven c.blocks.items blocks.items (chain (λ n. get_or c.words.items n 0) first count) (record { seat = i; place = place.Cached })
+          → HasNewOwner c.blocks.items blocks.items (chain (λ n. get_or c.words.items n 0) first count) (record { seat = i; place = place.Cached })
           → (anchor : Option Seen) → snapshot anchor ≡ cleared d 1 (snapshot t.seen_anchor)
           → IsMoved c (record c {
             blocks = blocks;
@@ -256,8 +256,8 @@ module _ (c : CoreState) (k : Setup) (views : List View) (i : ℕ) (v : View) (t
         w : (first ≡ start_word k.capacity d) × (count ≡ length cs) × (chain (λ n. get_or c.words.items n 0) first count ≡ cs)
         w = whole first count first_is count_is
 
-        given_cs : IsGiven c.blocks.items blocks.items cs (record { seat = i; place = place.Cached })
-        given_cs = subst (λ xs. IsGiven c.blocks.items blocks.items xs (record { seat = i; place = place.Cached })) w.2 given
+        given_cs : HasNewOwner c.blocks.items blocks.items cs (record { seat = i; place = place.Cached })
+        given_cs = subst (λ xs. HasNewOwner c.blocks.items blocks.items xs (record { seat = i; place = place.Cached })) w.2 given
 
         empty : of_class v.caches class ≡ []
         empty = ap (of_class v.caches) (sym now) ∙ may.uncached

@@ -26,7 +26,7 @@ use Rattle.core_model.specs.Effects.{chain, first_of, last_of, seen_word, seen_o
 use Rattle.core_model.specs.Guards.{IsThere, MayGive}
 use Rattle.core_model.specs.Sound.{tally_of, times_cut, IsCutBlock, Good}
 use Rattle.core_model.specs.Steps.{seat_after}
-use Rattle.crash_core.specs.Standing.{share_for, no_superblock, no_block, listed, batched_in, IsPlace, IsShare, HasBlocksOf, IsGiven, IsKept, IsCore, Keeps, Steps, Decides, memory_at}
+use Rattle.crash_core.specs.Standing.{share_for, no_superblock, no_block, listed, batched_in, IsPlace, IsShare, HasBlocksOf, HasNewOwner, IsKept, IsCore, Keeps, Steps, Decides, memory_at}
 use Rattle.core_model.proofs.TotalLemmas.{total_at}
 use Rattle.core_model.proofs.SoundLemmas.{batched}
 use Rattle.core_model.proofs.PlaceLemmas.{pick}
@@ -189,9 +189,9 @@ module _ (c : CoreState) (k : Setup) (views : List View) (i : ℕ) (v : View) (t
           count_fits = let n = kept.batch.count in let e = ap anchor_count as_seen in let z = ap anchor_count now in let all = gives.count_is k (memory_in c k) views i v below at good ticket d may as_seen in let m = no_more in
               let b = ap blocks_of kept.batch.class in omega arith
 
-          module _ (blocks : Vec BlockOwner Global) (given_chain : IsGiven c.blocks.items blocks.items (chain (λ n. get_or c.words.items n 0) t.batch.first t.batch.count) (record { seat = i; place = place.Nowhere })) where
-            given_bs : IsGiven c.blocks.items blocks.items bs (record { seat = i; place = place.Nowhere })
-            given_bs = subst (λ xs. IsGiven c.blocks.items blocks.items xs (record { seat = i; place = place.Nowhere })) whole given_chain
+          module _ (blocks : Vec BlockOwner Global) (given_chain : HasNewOwner c.blocks.items blocks.items (chain (λ n. get_or c.words.items n 0) t.batch.first t.batch.count) (record { seat = i; place = place.Nowhere })) where
+            given_bs : HasNewOwner c.blocks.items blocks.items bs (record { seat = i; place = place.Nowhere })
+            given_bs = subst (λ xs. HasNewOwner c.blocks.items blocks.items xs (record { seat = i; place = place.Nowhere })) whole given_chain
 
             blocks_mine : HasBlocksOf blocks.items i v.small v.caches []
             blocks_mine = given_mine c.blocks.items blocks.items i bs place.Nowhere (λ b p. IsPlace b p v.small v.caches []) given_bs

@@ -8,7 +8,7 @@ use Rattle.crash_core.specs.declared.owners.BlockPlace.{BlockPlace}
 use Rattle.crash_core.specs.declared.owners.BlockPlace.TheVariants as place
 use Rattle.crash_core.specs.declared.owners.BlockOwner.{BlockOwner}
 use Rattle.core_model.specs.Effects.{chain}
-use Rattle.crash_core.specs.Standing.{place_for, no_block, IsGiven}
+use Rattle.crash_core.specs.Standing.{place_for, no_block, HasNewOwner}
 use Rattle.core_model.proofs.TotalLemmas.{eq-eqb-one, ne-eqb-none}
 use Rattle.crash_core.proofs.ShareLemmas.{place_own, place_theirs}
 
@@ -48,7 +48,7 @@ part_next next old new first count block left left' to owner p is less to_is = s
     (part_step next old new first count block left' owner (subst (λ n. IsPartGiven next old new first count block n owner) is p) less)
 
 pub part_whole : (next : ℕ → ℕ) (old new : List BlockOwner) (first count block left : ℕ) (owner : BlockOwner) → IsPartGiven next old new first count block left owner
-    → left ≡ 0 → IsGiven old new (chain next first count) owner
+    → left ≡ 0 → HasNewOwner old new (chain next first count) owner
 part_whole next old new first count block left owner p none = record {
   long = p.long;
   inside = λ b some. elim (p.inside b some) [
@@ -59,7 +59,7 @@ part_whole next old new first count block left owner p none = record {
 }
 
 -- whose a block is then, for the new owner and for another
-pub given_mine : (old new : List BlockOwner) (i : ℕ) (bs : List ℕ) (x : BlockPlace) (P : ℕ → BlockPlace → Type 0) → IsGiven old new bs (record { seat = i; place = x })
+pub given_mine : (old new : List BlockOwner) (i : ℕ) (bs : List ℕ) (x : BlockPlace) (P : ℕ → BlockPlace → Type 0) → HasNewOwner old new bs (record { seat = i; place = x })
     → ((b : ℕ) → 0 < times b bs → P b x) → ((b : ℕ) → times b bs ≡ 0 → P b (place_for i (get_or old b no_block)))
     → (b : ℕ) → P b (place_for i (get_or new b no_block))
 given_mine old new i bs x P given inside outside b = elim (cases_lt 0 (times b bs)) [
@@ -67,7 +67,7 @@ given_mine old new i bs x P given inside outside b = elim (cases_lt 0 (times b b
   | inr none ↦ let z : times b bs ≡ 0 = omega arith in subst (P b) (sym (ap (place_for i) (given.outside b z))) (outside b z)
 ]
 
-pub given_theirs : (old new : List BlockOwner) (i j : ℕ) (bs : List ℕ) (x : BlockPlace) (P : ℕ → BlockPlace → Type 0) → j ≢ i → IsGiven old new bs (record { seat = i; place = x })
+pub given_theirs : (old new : List BlockOwner) (i j : ℕ) (bs : List ℕ) (x : BlockPlace) (P : ℕ → BlockPlace → Type 0) → j ≢ i → HasNewOwner old new bs (record { seat = i; place = x })
     → ((b : ℕ) → 0 < times b bs → place_for j (get_or old b no_block) ≡ place.Nowhere)
     → ((b : ℕ) → P b (place_for j (get_or old b no_block)))
     → (b : ℕ) → P b (place_for j (get_or new b no_block))

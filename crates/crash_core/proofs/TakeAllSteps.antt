@@ -21,7 +21,7 @@ use Rattle.core_model.specs.Effects.{chain, seen_word, seen_of, claim_class, anc
 use Rattle.core_model.specs.Guards.{IsThere, MayTakeAll}
 use Rattle.core_model.specs.Sound.{tally_of, times_cut, IsAnchoredBy, IsCutBlock, Good}
 use Rattle.core_model.specs.Steps.{seat_after}
-use Rattle.crash_core.specs.Standing.{share_for, no_superblock, classed_in, IsShare, HasCaches, HasBlocksOf, IsGiven, IsKept, IsCore, Keeps, Steps, Decides, memory_at}
+use Rattle.crash_core.specs.Standing.{share_for, no_superblock, classed_in, IsShare, HasCaches, HasBlocksOf, HasNewOwner, IsKept, IsCore, Keeps, Steps, Decides, memory_at}
 use Rattle.core_model.proofs.SoundLemmas.{taken}
 use Rattle.core_model.proofs.PlaceLemmas.{pick}
 use Rattle.core_model.proofs.BlockLemmas.{walks_chain}
@@ -161,7 +161,7 @@ module _ (c : CoreState) (k : Setup) (views : List View) (i : ℕ) (v : View) (t
             ∙ ap (chain (next (memory_in c k)) from) anchored.count ∙ walks_chain (next (memory_in c k)) from cs anchored.walks)
 
         pub take_all : v.stopped ≡ None → IsThere v.ticket → (first count : ℕ) → first ≡ start_word c.geometry.capacity d + anchor_first found * words_of_class class → count ≡ anchor_count found
-            → (blocks : Vec BlockOwner Global) → IsGiven c.blocks.items blocks.items (chain (λ n. get_or c.words.items n 0) first count) (record { seat = i; place = place.Cached })
+            → (blocks : Vec BlockOwner Global) → HasNewOwner c.blocks.items blocks.items (chain (λ n. get_or c.words.items n 0) first count) (record { seat = i; place = place.Cached })
             → (at_word full : ℕ) → at_word ≡ anchor_word d → full ≡ full_anchor
             → Steps c (record c {
               words = with_item c.words at_word full;
@@ -200,8 +200,8 @@ module _ (c : CoreState) (k : Setup) (views : List View) (i : ℕ) (v : View) (t
             w : (first ≡ from) × (count ≡ length cs) × (chain (λ n. get_or c.words.items n 0) first count ≡ cs)
             w = whole first count first_is count_is
 
-            given_cs : IsGiven c.blocks.items blocks.items cs (record { seat = i; place = place.Cached })
-            given_cs = subst (λ xs. IsGiven c.blocks.items blocks.items xs (record { seat = i; place = place.Cached })) w.2 given
+            given_cs : HasNewOwner c.blocks.items blocks.items cs (record { seat = i; place = place.Cached })
+            given_cs = subst (λ xs. HasNewOwner c.blocks.items blocks.items xs (record { seat = i; place = place.Cached })) w.2 given
 
             empty : of_class v.caches class ≡ []
             empty = ap (of_class v.caches) is.1 ∙ may.uncached

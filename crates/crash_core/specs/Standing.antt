@@ -184,7 +184,7 @@ pub record IsRange (old new : List SuperblockOwner) (from n : ℕ) (owner : Supe
   pub outside : (d : ℕ) → (from ≤ d → d < from + n → ⊥) → get_or new d no_superblock ≡ get_or old d no_superblock
 
 -- the blocks of a list have another owner, and all others stay
-pub record IsGiven (old new : List BlockOwner) (blocks : List ℕ) (owner : BlockOwner) : Type 0 where
+pub record HasNewOwner (old new : List BlockOwner) (blocks : List ℕ) (owner : BlockOwner) : Type 0 where
   pub long : length new ≡ length old
   pub inside : (b : ℕ) → 0 < times b blocks → get_or new b no_block ≡ owner
   pub outside : (b : ℕ) → times b blocks ≡ 0 → get_or new b no_block ≡ get_or old b no_block

@@ -9,7 +9,7 @@ ghost use Rattle.core_model.specs.declared.event.Event.TheVariants.{TakeAll, Giv
 ghost use Rattle.crash_core.specs.declared.owners.Seat.{Seat};
 ghost use Rattle.core_model.specs.Effects.{chain};
 ghost use Rattle.core_model.specs.Guards.{IsThere, MayTakeAll, MayGive};
-ghost use Rattle.crash_core.specs.Standing.{IsCore, IsGiven, Takes, Decides};
+ghost use Rattle.crash_core.specs.Standing.{IsCore, HasNewOwner, Takes, Decides};
 
 use crate::anchors::{
     FULL_ANCHOR, PARTIAL, anchor_after_give, anchor_after_take_all, anchor_count, anchor_first,
@@ -33,7 +33,7 @@ pub(crate) fn give_chain(
 )
     requires { (b : ℕ) → 0 < times b (chain (λ n. get_or words.now n 0) first count)
         → (b < length owners.old.items) × (b < length words.now) }
-    ensures { IsGiven owners.old.items owners.new.items
+    ensures { HasNewOwner owners.old.items owners.new.items
         (chain (λ n. get_or words.now n 0) first count) owner }
 {
     let mut block = first;

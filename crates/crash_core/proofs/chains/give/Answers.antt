@@ -6,7 +6,7 @@ use Rattle.heap_model.proofs.SizeLemmas.{size_of-words, few_blocks, two_words}
 use Rattle.core_model.specs.declared.event.Event.TheVariants.{Give}
 use Rattle.crash_core.specs.declared.owners.BlockPlace.TheVariants as place
 use Rattle.core_model.specs.Effects.{chain, given_anchor}
-use Rattle.crash_core.specs.Standing.{IsGiven}
+use Rattle.crash_core.specs.Standing.{HasNewOwner}
 use Rattle.crash_core.proofs.StandingLemmas.{step_not}
 use Rattle.crash_core.proofs.ReadLemmas.{lengths}
 use Rattle.crash_core.proofs.KeptFacts.{unseen_anchor}
@@ -90,7 +90,7 @@ returns-then-word-ne-FULL_ANCHOR c = λ k views v keeps below at going ticket.
     let words : c.size_of.result / 8 ≡ words_of_class c.index-notes.result.now.batch.class = (let s = c.size_of.ensures in let w = size_of-words c.index-notes.result.now.batch.class f.is_class in omega arith) in
     give_kept c.args.core.now k views c.args.seat v c.index-notes.result.now keeps below at (sym c.index-notes.ensures) c.args.d c.in-Some.seen c.in-Some.is ((c.if-not-may_give.ensures k views v keeps below at).0 refl)
     c.anchor-word.result c.anchor-word.ensures ticket (let e = c.if-word-seen.false in omega arith) c.give_chain.new.owners
-    (subst (λ ws. IsGiven c.args.core.now.blocks.items c.give_chain.new.owners.items (chain (λ n. get_or ws n 0) c.index-notes.result.now.batch.first c.index-notes.result.now.batch.count) (record { seat = c.args.seat; place = place.Nowhere })) c.deref.ensures.value c.give_chain.ensures)
+    (subst (λ ws. HasNewOwner c.args.core.now.blocks.items c.give_chain.new.owners.items (chain (λ n. get_or ws n 0) c.index-notes.result.now.batch.first c.index-notes.result.now.batch.count) (record { seat = c.args.seat; place = place.Nowhere })) c.deref.ensures.value c.give_chain.ensures)
     c.anchor.result c.anchor_after_give-given.result c.anchor.ensures (c.anchor_after_give-given.ensures ∙ ap₂ (λ a b. given_anchor c.anchor-word.result ((c.index-notes.result.now.batch.first - a) / b) c.index-notes.result.now.batch.count c.blocks_of.result) c.start.ensures words
     ∙ ap (given_anchor c.anchor-word.result ((c.index-notes.result.now.batch.first - start_word c.args.core.now.geometry.capacity c.args.d) / words_of_class c.index-notes.result.now.batch.class) c.index-notes.result.now.batch.count) c.blocks_of.ensures) going c.if-word-ne-FULL_ANCHOR.true
 
@@ -104,6 +104,6 @@ returns c = λ k views v keeps below at going ticket.
     let words : c.size_of.result / 8 ≡ words_of_class c.index-notes.result.now.batch.class = (let s = c.size_of.ensures in let w = size_of-words c.index-notes.result.now.batch.class f.is_class in omega arith) in
     give_full c.args.core.now k views c.args.seat v c.index-notes.result.now keeps below at (sym c.index-notes.ensures) c.args.d c.in-Some.seen c.in-Some.is ((c.if-not-may_give.ensures k views v keeps below at).0 refl)
     c.anchor-word.result c.anchor-word.ensures ticket (let e = c.if-word-seen.false in omega arith) c.give_chain.new.owners
-    (subst (λ ws. IsGiven c.args.core.now.blocks.items c.give_chain.new.owners.items (chain (λ n. get_or ws n 0) c.index-notes.result.now.batch.first c.index-notes.result.now.batch.count) (record { seat = c.args.seat; place = place.Nowhere })) c.deref.ensures.value c.give_chain.ensures)
+    (subst (λ ws. HasNewOwner c.args.core.now.blocks.items c.give_chain.new.owners.items (chain (λ n. get_or ws n 0) c.index-notes.result.now.batch.first c.index-notes.result.now.batch.count) (record { seat = c.args.seat; place = place.Nowhere })) c.deref.ensures.value c.give_chain.ensures)
     c.anchor.result c.anchor_after_give-given.result c.anchor.ensures (c.anchor_after_give-given.ensures ∙ ap₂ (λ a b. given_anchor c.anchor-word.result ((c.index-notes.result.now.batch.first - a) / b) c.index-notes.result.now.batch.count c.blocks_of.result) c.start.ensures words
     ∙ ap (given_anchor c.anchor-word.result ((c.index-notes.result.now.batch.first - start_word c.args.core.now.geometry.capacity c.args.d) / words_of_class c.index-notes.result.now.batch.class) c.index-notes.result.now.batch.count) c.blocks_of.ensures) going (let e = c.if-word-ne-FULL_ANCHOR.false in omega arith) c.listed.result c.listed.ensures

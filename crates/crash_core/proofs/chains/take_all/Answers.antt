@@ -2,7 +2,7 @@ use Rattle.std.proofs.Common.{ℕ, ◌<◌, get_or, length, refl, sym, subst, tr
 use Rattle.heap_model.specs.Counting.{times}
 use Rattle.crash_core.specs.declared.owners.BlockPlace.TheVariants as place
 use Rattle.core_model.specs.Effects.{chain}
-use Rattle.crash_core.specs.Standing.{IsGiven}
+use Rattle.crash_core.specs.Standing.{HasNewOwner}
 use Rattle.core_model.specs.declared.event.Event.TheVariants.{TakeAll}
 use Rattle.crash_core.proofs.StandingLemmas.{step_not}
 use Rattle.crash_core.proofs.ReadLemmas.{lengths}
@@ -48,5 +48,5 @@ returns c = λ k views v keeps below at going ticket.
     take_all c.args.core.now k views c.args.seat v c.index-notes.result.now keeps below at (sym c.index-notes.ensures) c.args.d c.in-Some.seen c.in-Some.is ((c.if-not-may_take_all.ensures.decides k views v keeps below at).0 refl)
     c.anchor-word.result c.anchor-word.ensures (let e = c.if-word-seen.false in omega arith) c.info-class.result c.info-class.ensures going ticket
     c.first_free-first.result c.anchor_count-count.result c.first_free-first.ensures c.anchor_count-count.ensures c.give_chain.new.owners
-    (subst (λ ws. IsGiven c.args.core.now.blocks.items c.give_chain.new.owners.items (chain (λ n. get_or ws n 0) c.first_free-first.result c.anchor_count-count.result) (record { seat = c.args.seat; place = place.Cached })) c.deref.ensures.value c.give_chain.ensures)
+    (subst (λ ws. HasNewOwner c.args.core.now.blocks.items c.give_chain.new.owners.items (chain (λ n. get_or ws n 0) c.first_free-first.result c.anchor_count-count.result) (record { seat = c.args.seat; place = place.Cached })) c.deref.ensures.value c.give_chain.ensures)
     c.anchor.result c.anchor_after_take_all.result c.anchor.ensures c.anchor_after_take_all.ensures

@@ -2,7 +2,7 @@ use Rattle.std.proofs.Common.{◌≡◌, ℕ, ◌<◌, get_or, length, refl, sym
 use Rattle.heap_model.specs.Counting.{times}
 use Rattle.crash_core.specs.declared.owners.BlockPlace.TheVariants as place
 use Rattle.core_model.specs.Effects.{chain}
-use Rattle.crash_core.specs.Standing.{IsGiven}
+use Rattle.crash_core.specs.Standing.{HasNewOwner}
 use Rattle.crash_core.proofs.ReadLemmas.{lengths}
 use Rattle.crash_core.proofs.WordLemmas.{entry_is}
 use Rattle.crash_core.proofs.MoveSteps.{retold}
@@ -39,5 +39,5 @@ returns c = λ k views v t keeps below at at_t.
     let same : c.index-notes.result.now ≡ t = c.index-notes.ensures ∙ entry_is c.args.core.now.seats.items c.args.seat c.index-notes.result.now t c.requires.seat ∙ at_t in
     retold _ _ views c.args.seat c.index-notes.result.now t _ same (cut c.args.core.now k views c.args.seat v c.index-notes.result.now keeps below at (sym c.index-notes.ensures) c.args.d c.info-class.result c.info-class.ensures
     ((c.requires.may k views v keeps below at).0 refl) c.start-first.result c.blocks_of-count.result c.start-first.ensures c.blocks_of-count.ensures c.give_chain.new.owners
-    (subst (λ ws. IsGiven c.args.core.now.blocks.items c.give_chain.new.owners.items (chain (λ n. get_or ws n 0) c.start-first.result c.blocks_of-count.result) (record { seat = c.args.seat; place = place.Cached })) c.deref.ensures.value c.give_chain.ensures)
+    (subst (λ ws. HasNewOwner c.args.core.now.blocks.items c.give_chain.new.owners.items (chain (λ n. get_or ws n 0) c.start-first.result c.blocks_of-count.result) (record { seat = c.args.seat; place = place.Cached })) c.deref.ensures.value c.give_chain.ensures)
     c.cleared.result c.cleared.ensures)
