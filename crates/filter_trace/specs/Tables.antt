@@ -39,7 +39,7 @@ each_inside words at to here =
     let kind = ap (λ (l : ℕ × ℕ). l.1) is in
     (omega arith, omega arith)
 
-none_inside : (words : List ℕ) (at to : ℕ) → Contains {X = ℕ × ℕ} [] (at, to) → (at < length words) × (to < 3)
+pub none_inside : (words : List ℕ) (at to : ℕ) → Contains {X = ℕ × ℕ} [] (at, to) → (at < length words) × (to < 3)
 none_inside words at to here = let none = here.1 in absurd (omega arith)
 
 cases_inside : (table node : Bool) (words : List ℕ) (at to : ℕ) → Contains (cond table (each_link words) (cond node (node_links words) [])) (at, to) → (at < length words) × (to < 3)
