@@ -1,5 +1,5 @@
 //! Gets the image that a command names, and recovers it.
-ghost use Rattle.std.specs.Prelude.{◌≡◌, ◌≤◌, ℕ, length, IfOk, IfErr, OnOk};
+ghost use Rattle.std.specs.Prelude.{◌≡◌, ◌%◌, ◌≤◌, ℕ, length, IfOk, IfErr, OnOk};
 ghost use Rattle.heap_model.specs.Image.{image_of_bytes};
 ghost use Rattle.heap_model.specs.Header.{IsWellFormed};
 ghost use Rattle.region_header.specs.Words.{AreWordsOf};
@@ -15,9 +15,12 @@ use crate::fault::Fault;
 use dictionary::{DictFilter, root_kinds};
 use heap_recover::{RecoverFault, Recovered, recover};
 use region_header::{bytes_to_words, check_bytes};
-use std::alloc::Global;
+use std::alloc::{AllocError, Global};
 use super_block::{LONGEST_IMAGE, constants_agree};
 use tool_ports::ImageStore;
+
+/// More bytes than the longest image has, and less than the 32 MiB up to which glibc keeps room.
+const MORE_THAN_AN_IMAGE: usize = 24 << 20;
 
 /// Recovers the image of this name.
 pub fn recover_image<I: ImageStore>(
@@ -52,10 +55,18 @@ pub fn recover_words<I: ImageStore>(
     ensures later { I.faults images.old ≤ I.faults images.new }
     ensures calls { I.calls images.new ≡ with_get get_limit (I.calls images.old) }
 {
+    keep_freed_room(alloc);
     let image = images.get(alloc, name, most_bytes())?;
     check_bytes(&image)?;
-    let both = recover_bytes(alloc, &image)?;
+    let both = recover_bytes(alloc, image)?;
     Ok(both)
+}
+
+// Takes more room than an image has, and gives it back untouched. An allocator that gets each large
+// request from the system anew, as glibc's does, keeps what is freed from then on for the next one:
+// an image has thousands of pages, and to get them costs more than to fill them.
+fn keep_freed_room(alloc: Global) {
+    let _room: Result<Vec<u8>, AllocError> = Vec::with_capacity(alloc, MORE_THAN_AN_IMAGE);
 }
 
 // How many bytes of an image are asked for: one more than the longest has, so that a longer one shows.
@@ -67,15 +78,23 @@ fn most_bytes() -> usize
 }
 
 // Recovers an image of these bytes, whose header is good.
-fn recover_bytes(alloc: Global, bytes: &[u8]) -> Result<(Vec<u64>, Recovered), RecoverFault>
-    requires { IsWellFormed (length bytes.now) (image_of_bytes bytes.now) }
-    ensures ok { IfOk result (λ both. IsRecoveryOf (image_of_bytes bytes.now) both.1) }
-    ensures words { IfOk result (λ both. AreWordsOf both.0.items bytes.now) }
+fn recover_bytes(alloc: Global, bytes: Vec<u8>) -> Result<(Vec<u64>, Recovered), RecoverFault>
+    requires { IsWellFormed (length bytes.items) (image_of_bytes bytes.items) }
+    ensures ok { IfOk result (λ both. IsRecoveryOf (image_of_bytes bytes.items) both.1) }
+    ensures words { IfOk result (λ both. AreWordsOf both.0.items bytes.items) }
     ensures long { IfOk result (λ both. length both.1.heap.words ≡ length both.0.items) }
-    ensures none { OnOk result ((at : ℕ) → PointsOutside (image_of_bytes bytes.now) at → ⊥) }
-    ensures err { IfErr result (IsRecoveryFault (image_of_bytes bytes.now)) }
+    ensures none { OnOk result ((at : ℕ) → PointsOutside (image_of_bytes bytes.items) at → ⊥) }
+    ensures err { IfErr result (IsRecoveryFault (image_of_bytes bytes.items)) }
 {
-    let words = bytes_to_words(alloc, bytes)?;
+    let words = words_in(alloc, bytes)?;
     let recovered = recover(alloc, &words, &root_kinds(), &DictFilter)?;
     Ok((words, recovered))
+}
+
+// The words in the bytes, which are let go: recovery has their room for its own words.
+fn words_in(alloc: Global, bytes: Vec<u8>) -> Result<Vec<u64>, AllocError>
+    requires { length bytes.items % 8 ≡ 0 }
+    ensures ok { IfOk result (λ words. AreWordsOf words.items bytes.items) }
+{
+    bytes_to_words(alloc, &bytes)
 }
