@@ -8,6 +8,7 @@ use std::marker::Model;
 use super_block::Geometry;
 
 /// A seat of a shared heap.
+#[derive(Drop)]
 pub struct Seat {
     pub(crate) bare: Bare,
     pub(crate) notes: Notes,

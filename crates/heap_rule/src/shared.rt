@@ -6,6 +6,7 @@ use crate::rule::HeapTable;
 use std::marker::Model;
 
 /// A heap that is shared by its seats. It owns the table of its words.
+#[derive(Drop)]
 pub struct Shared {
     pub(crate) table: HeapTable,
     ghost no_slots: { table.shared.table_id.slots ≡ 0 },
