@@ -27,7 +27,7 @@ use Rattle.heap_rule.proofs.ViewLemmas.{last_there}
 use Rattle.heap_rule_tests.specs.Cuts.{HasBegun, HasClass, HasLinked, HasLinks, HasMade, with_making}
 use Rattle.heap_rule_tests.specs.Draws.{HasDrawn, HasStopped}
 
-none_last : (bs : List ℕ) → length bs ≡ 0 → last_of bs ≡ 0
+pub none_last : (bs : List ℕ) → length bs ≡ 0 → last_of bs ≡ 0
 none_last [] none = refl
 none_last (b ∷ bs) none = absurd (omega (arith, none))
 

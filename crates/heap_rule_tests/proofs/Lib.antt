@@ -5,3 +5,5 @@ pub mod CutLemmas
 pub mod CacheLemmas
 pub mod PopLemmas
 pub mod PushLemmas
+pub mod StoreLemmas
+pub mod FreeLemmas

@@ -4,3 +4,5 @@ pub mod Cuts
 pub mod Caches
 pub mod Pops
 pub mod Pushes
+pub mod Stores
+pub mod Frees

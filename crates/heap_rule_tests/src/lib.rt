@@ -5,6 +5,7 @@
 mod caches;
 mod cuts;
 mod draws;
+mod frees;
 mod pops;
 mod pushes;
 mod refusal;
@@ -13,6 +14,7 @@ mod takes;
 pub use caches::{alloc_cached, fill_cache};
 pub use cuts::make_blocks;
 pub use draws::draw;
+pub use frees::free_block;
 pub use pops::pop_free;
 pub use pushes::push_free;
 pub use refusal::Refusal;
