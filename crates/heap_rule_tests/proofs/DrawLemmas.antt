@@ -12,7 +12,7 @@ use Rattle.heap_rule.proofs.ToldLemmas.{stop_told}
 use Rattle.heap_rule_tests.specs.Draws.{HasDrawn, HasStopped}
 
 -- some step, and none, are not one
-not_both : {o : Option ℕ} {step : ℕ} → o ≡ Some step → o ≡ None → {A : Type 0} → A
+pub not_both : {o : Option ℕ} {step : ℕ} → o ≡ Some step → o ≡ None → {A : Type 0} → A
 not_both some none = absurd (let e = ap one_if_some (sym some ∙ none) in omega arith)
 
 module _ (s t : SeatView) (event : s.view.stopped ≡ None → (found : ℕ) × IsEvent (Tick None) s.view found t.view) (idle : (step : ℕ) → s.view.stopped ≡ Some step → t ≡ s) where

@@ -7,3 +7,4 @@ pub mod PopLemmas
 pub mod PushLemmas
 pub mod StoreLemmas
 pub mod FreeLemmas
+pub mod TrimLemmas

@@ -1,5 +1,5 @@
--- What a push on the list of the free superblocks leaves.
-use Rattle.std.proofs.Common.{◌≡◌, ◌≢◌, ◌≤◌, ◌<◌, ℕ, zero, suc, ◌+◌, inl, inr, nat_lt, cond, List, [], ◌∷◌, get_or, set, Option, None, Some, Result, Ok, Err, OnOk, IfOk, IfErr, refl, ap, ap₂, sym, subst, ◌∙◌, lt-ltb, arith}
+-- What a push on a list of superblocks leaves.
+use Rattle.std.proofs.Common.{◌≡◌, ◌≢◌, ◌≤◌, ◌<◌, ℕ, zero, suc, ◌+◌, inl, inr, nat_eq, nat_lt, cond, List, [], ◌∷◌, get_or, set, Option, None, Some, Result, Ok, Err, OnOk, IfOk, IfErr, refl, ap, ap₂, sym, subst, ◌∙◌, lt-ltb, arith}
 use Rattle.std.specs.Bool.{⊤}
 use Rattle.std.proofs.lemmas.Bool.{cases_lt}
 use Rattle.std.proofs.lemmas.List.{get_or-set_other}
@@ -8,27 +8,32 @@ use Rattle.heap_model.specs.Geometry.{link_word, anchor_word}
 use Rattle.heap_model.specs.Sizes.{words_of_class}
 use Rattle.heap_model.specs.Words.{head_first}
 use Rattle.core_model.specs.declared.event.Event.TheVariants.{Store, Push}
-use Rattle.core_model.specs.Cells.{Cell, used_cell, head_cell, info_cell, anchor_cell, link_cell, root_cell, data_cell, no_cell, cell_at, superblock_at}
-use Rattle.core_model.specs.Effects.{cleared, drew, learn, lost, only_own, pushed, pushed_raw, pushed_classed, seen_of, seen_word, stored, used_up, won}
-use Rattle.core_model.specs.Guards.{IsOwn}
+use Rattle.core_model.specs.Cells.{Cell, anchor_cell, link_cell, cell_at}
+use Rattle.core_model.specs.Effects.{claim_class, cleared, drew, learn, lost, only_own, pushed, pushed_raw, pushed_classed, seen_of, seen_word, stored, trimmed, used_up, without_claim, won}
+use Rattle.core_model.specs.Guards.{IsFreelyClaimed, IsOwn}
 use Rattle.core_model.specs.Memory.{memory_of, used}
-use Rattle.core_model.specs.View.{Batch, Setup, Snapshot, View, one_if_some, times_in_classes, times_large, times_within, times_raw, times_classed, times_own}
+use Rattle.core_model.specs.View.{Setup, Snapshot, View, one_if_some, times_raw, times_classed, times_own}
+use Rattle.core_model.proofs.CountLemmas.{times_without_claim}
 use Rattle.core_model.proofs.FrameLemmas.{times_without, without_none}
 use Rattle.core_model.proofs.OwnLemmas.{one_at_most}
-use Rattle.core_model.proofs.PlaceLemmas.{cell_at_index, pick}
+use Rattle.core_model.proofs.PlaceLemmas.{cell_at_index, not-lt, pick, skip}
+use Rattle.core_model.proofs.SoundLemmas.{taken}
+use Rattle.core_model.proofs.StepLemmas.{parts}
 use Rattle.core_model.proofs.QuietLemmas.{own_same}
 use Rattle.core_model.proofs.TotalLemmas.{total_at, eq-eqb-one}
 use Rattle.heap_rule.specs.Parts.{KeepsParts}
 use Rattle.heap_rule.specs.Plays.{Has, IsEvent}
-use Rattle.heap_rule.specs.Shown.{Can, CanList, CanStore, Shows, ShowsEmpty, by_claim, by_anchor, as_free}
+use Rattle.heap_rule.specs.Shown.{Can, CanList, CanStore, Shows, ShowsEmpty, by_claim, by_anchor, as_free, of_its_class}
 use Rattle.heap_rule.proofs.LeftLemmas.{push_won, push_lost}
 use Rattle.heap_rule.proofs.PartLemmas.{one_more}
-use Rattle.heap_rule.proofs.RawLemmas.{raw_inside, raw_once, store_shown}
+use Rattle.heap_rule.proofs.RawLemmas.{store_shown}
 use Rattle.heap_rule_tests.specs.declared.refusal.Refusal.{Refusal}
 use Rattle.heap_rule_tests.specs.declared.refusal.Refusal.TheVariants.{Nothing, Lost, Stopped}
 use Rattle.heap_rule_tests.specs.Draws.{HasDrawn}
 use Rattle.heap_rule_tests.specs.Pops.{HasLostHead, HasPopped, HasSeenHead}
-use Rattle.heap_rule_tests.specs.Pushes.{HasPushed, HasSetLink, IsEmptyClaim, as_raw, as_split, IsNotPushed, PushesNone, SeesLinked, unclaimed, with_link}
+use Rattle.heap_rule_tests.specs.Pushes.{HasPushed, HasPushedOfClass, HasSetLink, IsClaimOf, IsEmptyClaim, as_raw, as_split, IsNotPushed, PushesNone, SeesLinked, unclaimed, unclaimed_of_class, with_link}
+use Rattle.heap_rule_tests.proofs.StoreLemmas.{still_empty}
+use Rattle.heap_rule_tests.proofs.TrimLemmas.{forgotten, only_same}
 use Rattle.heap_rule_tests.proofs.PopLemmas.{stopped_later}
 
 pub is_claimed : (v : View) (d : ℕ) → IsEmptyClaim v d → 0 < times d v.raw + times d v.split
@@ -36,32 +41,45 @@ is_claimed v d (as_raw raw) = omega arith
 is_claimed v d (as_split split anchor shows empty) = omega arith
 
 -- what is claimed once is claimed nowhere else
-claimed_once : (v : View) → Has v → (d : ℕ) → times_raw d v + times_classed d v.classed ≤ 1
+pub claimed_once : (v : View) → Has v → (d : ℕ) → times_raw d v + times_classed d v.classed ≤ 1
 claimed_once v s d =
     let raw = total_at (times_raw d) s.views s.seat v s.below s.at in
     let classed = total_at (λ (x : View). times_classed d x.classed) s.views s.seat v s.below s.at in
     let p = s.sound.good.shaped.placed.one_place d in
     let one = one_at_most (nat_lt d (used (memory_of v.setup.capacity s.words))) in omega arith
 
+pub freely_empty : (v : View) → Has v → (d : ℕ) → IsEmptyClaim v d → IsFreelyClaimed v d
+freely_empty v has d empty = let some = is_claimed v d empty in let once = claimed_once v has d in record { claimed = omega arith; not_cutting = omega arith }
+
+pub freely_of_class : (v : View) → Has v → (class d : ℕ) → IsClaimOf class d v → IsFreelyClaimed v d
+freely_of_class v has class d claim = let some = claim.claimed in let once = claimed_once v has d in record { claimed = omega arith; not_cutting = omega arith }
+
+pub freely_still : (v w : View) (d : ℕ) → KeepsParts v w → IsFreelyClaimed v d → IsFreelyClaimed w d
+freely_still v w d p free = let a = ap (times d) p.raw in let b = ap (times d) p.split in let c = ap (times d) p.cutting in let e = ap (times_classed d) p.classed in
+    let some = free.claimed in let none = free.not_cutting in record { claimed = omega arith; not_cutting = omega arith }
+
 -- what is known of its anchor is still known
-still_empty : (v w : View) (d : ℕ) → w.raw ≡ v.raw → w.split ≡ v.split → ((anchor : ℕ) → Shows v (anchor_cell d) anchor → Shows w (anchor_cell d) anchor) → IsEmptyClaim v d → IsEmptyClaim w d
-still_empty v w d raw split known (as_raw some) = as_raw (subst (λ l. 0 < times d l) (sym raw) some)
-still_empty v w d raw split known (as_split some anchor shows empty) = as_split (subst (λ l. 0 < times d l) (sym split) some) anchor (known anchor shows) empty
+still_empty_claim : (v w : View) (d : ℕ) → w.raw ≡ v.raw → w.split ≡ v.split → ((anchor : ℕ) → Shows v (anchor_cell d) anchor → Shows w (anchor_cell d) anchor) → IsEmptyClaim v d → IsEmptyClaim w d
+still_empty_claim v w d raw split known (as_raw some) = as_raw (subst (λ l. 0 < times d l) (sym raw) some)
+still_empty_claim v w d raw split known (as_split some anchor shows empty) = as_split (subst (λ l. 0 < times d l) (sym split) some) anchor (known anchor shows) empty
+
+pub shows_empty : (v : View) (d : ℕ) → IsEmptyClaim v d → ShowsEmpty v d
+shows_empty v d (as_raw raw) = by_claim raw
+shows_empty v d (as_split split anchor shows empty) = by_anchor anchor shows empty
 
 -- the link of a claimed superblock leads to another
-module _ (v : View) (has : Has v) (d : ℕ) (claimed : 0 < times d v.raw + times d v.split) where
+module _ (v : View) (has : Has v) (d : ℕ) (free : IsFreelyClaimed v d) where
   pub link_inside : d < v.setup.capacity
-  link_inside = raw_inside v has d (omega arith)
+  link_inside = taken v.setup (memory_of v.setup.capacity has.words) has.views has.seat v has.below has.at has.sound.good d free.claimed
 
-  link_is : cell_at v.setup.capacity (link_word d) ≡ link_cell d
+  pub link_is : cell_at v.setup.capacity (link_word d) ≡ link_cell d
   link_is = cell_at_index v.setup.capacity (link_cell d) (lt-ltb d v.setup.capacity link_inside)
 
   drawn_links : (ticket first : ℕ) → v.stopped ≡ None → Can (drew v ticket) (Store (link_word d) first)
   drawn_links ticket first going = record {
     going = going;
     ticket = refl;
-    shown = subst (λ (cell : Cell). IsOwn (drew v ticket) cell × CanStore (drew v ticket) cell first) (sym link_is)
-        (omega (arith, claimed), (let once = raw_once v has d in omega (arith, once, claimed)));
+    shown = subst (λ (cell : Cell). IsOwn (drew v ticket) cell × CanStore (drew v ticket) cell first) (sym link_is) (free.claimed, free.not_cutting);
   }
 
   pub can_set_link : (u : View) (first : ℕ) → HasDrawn v u → Can u (Store (link_word d) first)
@@ -77,6 +95,7 @@ module _ (v : View) (has : Has v) (d : ℕ) (claimed : 0 < times d v.raw + times
     going = ap (λ (x : View). x.stopped) after ∙ going;
     losses = ap (λ (x : View). x.losses) after;
     head = ap (λ (x : View). x.seen_head) after;
+    anchor = ap (λ (x : View). x.seen_anchor) after;
     link = shows;
   }
 
@@ -88,50 +107,35 @@ module _ (v : View) (has : Has v) (d : ℕ) (claimed : 0 < times d v.raw + times
       (subst (λ (cell : Cell). Shows w cell first) (ap (λ (x : View). cell_at x.setup.capacity (link_word d)) drawn.left ∙ link_is) (store_shown (link_word d) first u w found event))
 
 -- of the view with a ticket in hand
-shows_empty : (v : View) (d ticket : ℕ) → IsEmptyClaim v d → ShowsEmpty (drew v ticket) d
-shows_empty v d ticket (as_raw raw) = by_claim raw
-shows_empty v d ticket (as_split split anchor shows empty) = by_anchor anchor shows empty
-
--- own words alone, of views with the same own words
-only_same : (v w : View) → w.setup.capacity ≡ v.setup.capacity → ((cell : Cell) → times_own w cell ≡ times_own v cell) → (index : ℕ) (values : List (Option ℕ)) → only_own w index values ≡ only_own v index values
-only_same v w same own index [] = refl
-only_same v w same own index (x ∷ xs) = ap₂ (λ n l. cond (nat_lt 0 n) x None ∷ l) (own (cell_at w.setup.capacity index) ∙ ap (λ c. times_own v (cell_at c index)) same) (only_same v w same own (index + 1) xs)
-
--- a word that is not own is not known, whatever was known of it
-only_set : (v : View) (index n : ℕ) (value : Option ℕ) (values : List (Option ℕ)) → times_own v (cell_at v.setup.capacity (index + n)) ≡ 0 → only_own v index (set values n value) ≡ only_own v index values
-only_set v index n value [] none = refl
-only_set v index zero value (x ∷ xs) none = ap (λ y. y ∷ only_own v (index + 1) xs)
-    (let here : times_own v (cell_at v.setup.capacity index) ≡ 0 = ap (λ j. times_own v (cell_at v.setup.capacity j)) (let e : index ≡ index + 0 = omega arith in e) ∙ none in
-    ap (λ n. cond (nat_lt 0 n) value None) here ∙ sym (ap (λ n. cond (nat_lt 0 n) x None) here))
-only_set v index (suc n) value (x ∷ xs) none = ap (λ l. cond (nat_lt 0 (times_own v (cell_at v.setup.capacity index))) x None ∷ l)
-    (only_set v (index + 1) n value xs (ap (λ j. times_own v (cell_at v.setup.capacity j)) (let e : index + 1 + n ≡ index + suc n = omega arith in e) ∙ none))
+still_list : (v : View) (ticket d list : ℕ) → CanList v d list → CanList (drew v ticket) d list
+still_list v ticket d list (as_free free empty) = as_free (record { claimed = free.claimed; not_cutting = free.not_cutting }) (still_empty v ticket d empty)
+still_list v ticket d list (of_its_class class is classed of) = of_its_class class is classed of
 
 -- a superblock that was claimed once is not claimed any more
-module _ (v : View) (has : Has v) (d : ℕ) (empty : IsEmptyClaim v d) where
-  some : 0 < times d v.raw + times d v.split
-  some = is_claimed v d empty
-
-  link_gone : times_own (unclaimed v d) (link_cell d) ≡ 0
-  link_gone = let once = claimed_once v has d in let have = some in let one = eq-eqb-one d d refl in elim (cases_lt 0 (times d v.raw)) [
+module _ (v : View) (has : Has v) (d : ℕ) where
+  link_gone : 0 < times d v.raw + times d v.split → times_own (unclaimed v d) (link_cell d) ≡ 0
+  link_gone some = let once = claimed_once v has d in let one = eq-eqb-one d d refl in elim (cases_lt 0 (times d v.raw)) [
     | inl raw ↦ let a = times_without d d v.raw raw in let b = without_none d d v.split (omega arith) in omega arith
     | inr none ↦ let a = times_without d d v.split (omega arith) in let b = without_none d d v.raw (omega arith) in omega arith
   ]
 
-  drawn_pushes : (ticket : ℕ) → v.stopped ≡ None → d < v.floor → SeesLinked d v → Can (drew v ticket) (Push d)
-  drawn_pushes ticket going durable sees = record {
+  class_link_gone : 0 < times_classed d v.classed → times_own (unclaimed_of_class v d) (link_cell d) ≡ 0
+  class_link_gone some = let once = claimed_once v has d in let one = eq-eqb-one d d refl in let a = times_without_claim d d v.classed some in omega arith
+
+  drawn_pushes : (ticket list : ℕ) → v.stopped ≡ None → d < v.floor → SeesLinked list d v → CanList v d list → Can (drew v ticket) (Push d)
+  drawn_pushes ticket list going durable sees listed = record {
     going = going;
     ticket = refl;
     shown = record {
       is_seen = ap one_if_some sees.is_seen;
       durable = durable;
       linked = subst (λ (o : Option Snapshot). Shows (drew v ticket) (link_cell d) (head_first (seen_word o))) (sym sees.is_seen) sees.link;
-      listed = subst (λ (o : Option Snapshot). CanList (drew v ticket) d (seen_of o)) (sym sees.is_seen)
-          (as_free (let have = some in let once = raw_once v has d in record { claimed = omega arith; not_cutting = omega arith }) (shows_empty v d ticket empty));
+      listed = subst (λ (o : Option Snapshot). CanList (drew v ticket) d (seen_of o)) (sym sees.is_seen) (still_list v ticket d list listed);
     };
   }
 
-  pub can_push : (u : View) → HasDrawn v u → d < v.floor → SeesLinked d v → Can u (Push d)
-  can_push u drawn durable sees = subst (λ (x : View). Can x (Push d)) (sym drawn.left) (drawn_pushes drawn.ticket drawn.went durable sees)
+  pub can_push : (u : View) (list : ℕ) → HasDrawn v u → d < v.floor → SeesLinked list d v → CanList v d list → Can u (Push d)
+  can_push u list drawn durable sees listed = subst (λ (x : View). Can x (Push d)) (sym drawn.left) (drawn_pushes drawn.ticket list drawn.went durable sees listed)
 
   -- after the exchange, but for what is known of other words
   abbrev won_push : ℕ → View
@@ -157,56 +161,84 @@ module _ (v : View) (has : Has v) (d : ℕ) (empty : IsEmptyClaim v d) where
     going = going;
   })
 
-  pub pushed_left : (u w : View) (found : ℕ) → HasDrawn v u → IsEvent (Push d) u found w → found ≡ seen_word u.seen_head → HasPushed d v w
-  pushed_left u w found drawn event same = pushed_from drawn.ticket w drawn.went (push_won d u w found event same
+  pub pushed_left : (u w : View) (found : ℕ) → HasDrawn v u → IsEvent (Push d) u found w → found ≡ seen_word u.seen_head → 0 < times d v.raw + times d v.split → HasPushed d v w
+  pushed_left u w found drawn event same some = pushed_from drawn.ticket w drawn.went (push_won d u w found event same
       ∙ ap (λ (x : View). pushed x d) drawn.left
       ∙ pick (nat_lt 0 (times d v.raw + times d v.split)) (pushed_raw (drew v drawn.ticket) d) (pushed_classed (drew v drawn.ticket) d) (lt-ltb 0 (times d v.raw + times d v.split) some))
 
+  abbrev won_push_class : ℕ → View
+  won_push_class ticket = record (won (drew v ticket)) { classed = without_claim d v.classed; seen_head = None; seen_anchor = cleared d 1 v.seen_anchor; moves = cond (nat_eq (seen_of v.seen_head) 0) (v.moves + 1) v.moves }
+
+  pushed_class_from : (ticket : ℕ) (w : View) → v.stopped ≡ None → w ≡ pushed_classed (drew v ticket) d → HasPushedOfClass d v w
+  pushed_class_from ticket w going after = subst (HasPushedOfClass d v) (sym after) (record {
+    parts = record {
+      setup = refl;
+      small = refl;
+      large = refl;
+      roots = refl;
+      caches = refl;
+      batch = refl;
+      raw = refl;
+      split = refl;
+      cutting = refl;
+      classed = refl;
+      volatile = only_same (unclaimed_of_class v d) (won_push_class ticket) refl (own_same (unclaimed_of_class v d) (won_push_class ticket) refl) 0 v.volatile;
+      durable = only_same (unclaimed_of_class v d) (won_push_class ticket) refl (own_same (unclaimed_of_class v d) (won_push_class ticket) refl) 0 v.durable;
+      floor = omega arith;
+    };
+    going = going;
+  })
+
+  pub pushed_class_left : (u w : View) (found : ℕ) → HasDrawn v u → IsEvent (Push d) u found w → found ≡ seen_word u.seen_head → 0 < times_classed d v.classed → HasPushedOfClass d v w
+  pushed_class_left u w found drawn event same some = pushed_class_from drawn.ticket w drawn.went (push_won d u w found event same
+      ∙ ap (λ (x : View). pushed x d) drawn.left
+      ∙ skip (nat_lt 0 (times d v.raw + times d v.split)) (pushed_raw (drew v drawn.ticket) d) (pushed_classed (drew v drawn.ticket) d) (not-lt 0 (times d v.raw + times d v.split) (let once = claimed_once v has d in omega arith)))
+
   -- said of the view before the link was set
-  module _ (x : View) (first : ℕ) (p : KeepsParts (with_link v d first) x) where
-    own_kept : (cell : Cell) → times_own (unclaimed x d) cell ≡ times_own (unclaimed v d) cell
-    own_kept used_cell = refl
-    own_kept (head_cell list) = refl
-    own_kept (info_cell e) = let a = ap (λ l. times e (without d l)) p.raw in let b = ap (λ l. times e (without d l)) p.split in let c = ap (times e) p.cutting in omega arith
-    own_kept (anchor_cell e) = let a = ap (λ l. times e (without d l)) p.raw in let b = ap (λ l. times e (without d l)) p.split in let c = ap (times e) p.cutting in omega arith
-    own_kept (link_cell e) = let a = ap (λ l. times e (without d l)) p.raw in let b = ap (λ l. times e (without d l)) p.split in let c = ap (times e) p.cutting in
-        let f = ap (times_classed e) p.classed in omega arith
-    own_kept (root_cell i) = ap (times i) p.roots
-    own_kept (data_cell word) =
-        let a = ap (times_in_classes word 0) p.small in
-        let b = ap (times_in_classes word 0) p.caches in
-        let c = ap (λ (batch : Batch). times_within (words_of_class batch.class) word batch.blocks) p.batch in
-        let f = ap₂ (λ l (k : Setup). times_large (superblock_at k.capacity word) l) p.large p.setup in
-        let g = ap₂ (λ l (k : Setup). times (superblock_at k.capacity word) (without d l)) p.raw p.setup in
-        let h = ap₂ (λ l (k : Setup). times (superblock_at k.capacity word) (without d l)) p.split p.setup in
-        let i = ap₂ (λ l (k : Setup). times (superblock_at k.capacity word) l) p.cutting p.setup in omega arith
-    own_kept no_cell = refl
+  module _ (x : View) (first : ℕ) (p : KeepsParts (with_link v d first) x) (free : IsFreelyClaimed v d) where
+    unclaimed_kept : KeepsParts (unclaimed (with_link v d first) d) (unclaimed x d)
+    unclaimed_kept = record {
+      setup = p.setup;
+      small = p.small;
+      large = p.large;
+      roots = p.roots;
+      caches = p.caches;
+      batch = p.batch;
+      raw = ap (without d) p.raw;
+      split = ap (without d) p.split;
+      cutting = p.cutting;
+      classed = p.classed;
+      volatile = p.volatile;
+      durable = p.durable;
+      floor = p.floor;
+    }
 
-    only_kept : (values : List (Option ℕ)) → only_own (unclaimed x d) 0 values ≡ only_own (unclaimed v d) 0 values
-    only_kept values = only_same (unclaimed v d) (unclaimed x d) (ap (λ (k : Setup). k.capacity) p.setup) own_kept 0 values
+    unclaimed_class_kept : KeepsParts (unclaimed_of_class (with_link v d first) d) (unclaimed_of_class x d)
+    unclaimed_class_kept = record {
+      setup = p.setup;
+      small = p.small;
+      large = p.large;
+      roots = p.roots;
+      caches = p.caches;
+      batch = p.batch;
+      raw = p.raw;
+      split = p.split;
+      cutting = p.cutting;
+      classed = ap (without_claim d) p.classed;
+      volatile = p.volatile;
+      durable = p.durable;
+      floor = p.floor;
+    }
 
-    link_forgotten : only_own (unclaimed v d) 0 (learn v.volatile (link_word d) first) ≡ only_own (unclaimed v d) 0 v.volatile
-    link_forgotten = only_set (unclaimed v d) 0 (link_word d) (Some first) v.volatile
-        (ap (λ j. times_own (unclaimed v d) (cell_at v.setup.capacity j)) (let e : 0 + link_word d ≡ link_word d = omega arith in e)
-        ∙ ap (times_own (unclaimed v d)) (link_is v has d some) ∙ link_gone)
+    pub pushed_later : (w : View) → 0 < times d v.raw + times d v.split → HasPushed d x w → HasPushed d v w
+    pushed_later w some pushed = record {
+      parts = forgotten (unclaimed v d) (unclaimed x d) w (link_word d) first unclaimed_kept (ap (times_own (unclaimed v d)) (link_is v has d free) ∙ link_gone some) pushed.parts;
+      going = pushed.going;
+    }
 
-    pub pushed_later : (w : View) → HasPushed d x w → HasPushed d v w
-    pushed_later w pushed = let q = pushed.parts in record {
-      parts = record {
-        setup = q.setup ∙ p.setup;
-        small = q.small ∙ p.small;
-        large = q.large ∙ p.large;
-        roots = q.roots ∙ p.roots;
-        caches = q.caches ∙ p.caches;
-        batch = q.batch ∙ p.batch;
-        raw = q.raw ∙ ap (without d) p.raw;
-        split = q.split ∙ ap (without d) p.split;
-        cutting = q.cutting ∙ p.cutting;
-        classed = q.classed ∙ p.classed;
-        volatile = q.volatile ∙ only_kept x.volatile ∙ ap (only_own (unclaimed v d) 0) p.volatile ∙ link_forgotten;
-        durable = q.durable ∙ only_kept x.durable ∙ ap (only_own (unclaimed v d) 0) p.durable;
-        floor = let a = p.floor in let b = q.floor in omega arith;
-      };
+    pub pushed_class_later : (w : View) → 0 < times_classed d v.classed → HasPushedOfClass d x w → HasPushedOfClass d v w
+    pushed_class_later w some pushed = record {
+      parts = forgotten (unclaimed_of_class v d) (unclaimed_of_class x d) w (link_word d) first unclaimed_class_kept (ap (times_own (unclaimed_of_class v d)) (link_is v has d free) ∙ class_link_gone some) pushed.parts;
       going = pushed.going;
     }
 
@@ -220,7 +252,7 @@ push_head_lost d v u w found drawn event other =
     })
 
 -- after the look at the head, and after the link is set
-module _ (v t x : View) (d head first : ℕ) (first_is : first ≡ head_first head) (seen : HasSeenHead head v t) (linked : HasSetLink d first t x) where
+module _ (v t x : View) (list d head first : ℕ) (first_is : first ≡ head_first head) (seen : HasSeenHead list head v t) (linked : HasSetLink d first t x) where
   pub link_kept : KeepsParts (with_link v d first) x
   link_kept = let p = seen.parts in let q = linked.parts in record {
     setup = q.setup ∙ p.setup;
@@ -238,13 +270,23 @@ module _ (v t x : View) (d head first : ℕ) (first_is : first ≡ head_first he
     floor = let a = p.floor in let b = q.floor in omega arith;
   }
 
-  pub sees_linked : SeesLinked d x
+  pub sees_linked : SeesLinked list d x
   sees_linked = record { head = head; is_seen = linked.head ∙ seen.is_seen; link = subst (Shows x (link_cell d)) first_is linked.link }
 
   pub empty_then : IsEmptyClaim v d → IsEmptyClaim x d
-  empty_then = still_empty v x d link_kept.raw link_kept.split
+  empty_then = still_empty_claim v x d link_kept.raw link_kept.split
       (λ anchor shows. ap (λ l. get_or l (anchor_word d) None) link_kept.volatile
       ∙ get_or-set_other v.volatile (link_word d) (anchor_word d) (Some first) None (λ same. omega (arith, same)) ∙ shows)
+
+  -- it may go to the list of the free ones, or to that of its class
+  pub may_free : IsEmptyClaim v d → Has v → CanList x d 0
+  may_free empty has = as_free (freely_still (with_link v d first) x d link_kept (let free = freely_empty v has d empty in record { claimed = free.claimed; not_cutting = free.not_cutting })) (shows_empty x d (empty_then empty))
+
+  pub claim_kept : 0 < times_classed d v.classed → 0 < times_classed d x.classed
+  claim_kept claimed = subst (λ l. 0 < times_classed d l) (sym link_kept.classed) claimed
+
+  pub may_class : (class : ℕ) → IsClaimOf class d v → CanList x d class
+  may_class class claim = of_its_class class claim.is_class (claim_kept claim.claimed) (ap (claim_class d) link_kept.classed ∙ claim.of)
 
   pub not_pushed_later : (refusal : Refusal) (w : View) → IsNotPushed refusal x w → PushesNone d refusal v w
   not_pushed_later Nothing w none = none

@@ -1,6 +1,6 @@
--- What a store to an own word leaves, of a seat that has drawn a ticket.
+-- What a store to an own word, and a load, leave of a seat that has drawn a ticket.
 use Rattle.std.proofs.Common.{◌≡◌, ℕ, zero, suc, ◌<◌, inl, inr, List, Option, None, refl, ap, sym, subst, ◌∙◌, arith}
-use Rattle.core_model.specs.declared.event.Event.TheVariants.{Store}
+use Rattle.core_model.specs.declared.event.Event.TheVariants.{Load, Store}
 use Rattle.core_model.specs.Cells.{Cell, used_cell, head_cell, info_cell, anchor_cell, link_cell, root_cell, data_cell, no_cell, cell_at}
 use Rattle.core_model.specs.Effects.{drew, learn, stored, used_up}
 use Rattle.core_model.specs.Guards.{IsOwn}
@@ -10,8 +10,9 @@ use Rattle.heap_rule.specs.Parts.{KeepsParts}
 use Rattle.heap_rule.specs.Plays.{IsEvent}
 use Rattle.heap_rule.specs.Shown.{Can, CanAnchor, as_empty, as_full, CanStore, ShowsEmpty, by_claim, by_anchor, by_look, Shows}
 use Rattle.heap_rule.proofs.RawLemmas.{store_shown}
+use Rattle.heap_rule.proofs.ToldLemmas.{load_told}
 use Rattle.heap_rule_tests.specs.Draws.{HasDrawn}
-use Rattle.heap_rule_tests.specs.Stores.{HasStored, with_stored}
+use Rattle.heap_rule_tests.specs.Stores.{HasLoaded, HasStored, with_stored}
 
 -- what a store makes of the parts, and what it leaves of the rest
 record IsStoredIn (v x w : View) : Type 0 where
@@ -39,7 +40,7 @@ stored_in v ticket values (data_cell word) value = record { parts = record { set
 stored_in v ticket values no_cell value = record { parts = record { setup = refl; small = refl; large = refl; roots = refl; caches = refl; batch = refl; raw = refl; split = refl; cutting = refl; classed = refl; volatile = refl; durable = refl; floor = omega arith }; stopped_is = refl; losses = refl; head = refl; anchor = refl }
 
 -- what may be stored may be stored with a ticket in hand
-still_empty : (v : View) (ticket d : ℕ) → ShowsEmpty v d → ShowsEmpty (drew v ticket) d
+pub still_empty : (v : View) (ticket d : ℕ) → ShowsEmpty v d → ShowsEmpty (drew v ticket) d
 still_empty v ticket d (by_claim raw) = by_claim raw
 still_empty v ticket d (by_anchor anchor shows empty) = by_anchor anchor shows empty
 still_empty v ticket d (by_look classed is_seen of empty) = by_look classed is_seen of empty
@@ -86,3 +87,21 @@ module _ (v u : View) (word value : ℕ) (drawn : HasDrawn v u) where
 
     after : w ≡ stored (drawn_values v drawn.ticket (learn v.volatile word value)) (cell_at v.setup.capacity word) value
     after = event.after ∙ ap (λ (x : View). stored (record (used_up x) { volatile = learn x.volatile word value }) (cell_at x.setup.capacity word) value) drawn.left
+
+-- a word of its own is loaded
+module _ (v u : View) (word : ℕ) (drawn : HasDrawn v u) where
+  drawn_load : IsOwn v (cell_at v.setup.capacity word) → Can (drew v drawn.ticket) (Load word)
+  drawn_load own = record { going = drawn.went; ticket = refl; shown = subst (λ n. 0 < n) (sym (own_same v (drew v drawn.ticket) refl (cell_at v.setup.capacity word))) own }
+
+  pub can_load : IsOwn v (cell_at v.setup.capacity word) → Can u (Load word)
+  can_load own = subst (λ (x : View). Can x (Load word)) (sym drawn.left) (drawn_load own)
+
+  pub loaded_left : (w : View) (found : ℕ) → IsEvent (Load word) u found w → HasLoaded word found v w
+  loaded_left w found event = record {
+    parts = subst (KeepsParts (record v { volatile = learn v.volatile word found })) (sym after)
+        (record { setup = refl; small = refl; large = refl; roots = refl; caches = refl; batch = refl; raw = refl; split = refl; cutting = refl; classed = refl; volatile = refl; durable = refl; floor = omega arith });
+    going = ap (λ (x : View). x.stopped) after ∙ drawn.went;
+    known_is = λ before shows. load_told u w word before found event (subst (λ (x : View). Shows x (cell_at x.setup.capacity word) before) (sym drawn.left) shows);
+  } where
+    after : w ≡ record (used_up (drew v drawn.ticket)) { volatile = learn v.volatile word found }
+    after = event.after ∙ ap (λ (x : View). record (used_up x) { volatile = learn x.volatile word found }) drawn.left

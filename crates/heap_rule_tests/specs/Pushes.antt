@@ -1,17 +1,18 @@
--- What a push on the list of the free superblocks leaves of a seat.
+-- What a push on a list of superblocks leaves of a seat.
 use Rattle.std.specs.Prelude.{◌≡◌, ◌<◌, ◌⊎◌, ℕ, None}
 use Rattle.heap_model.specs.Counting.{times, without}
 use Rattle.heap_model.specs.Geometry.{link_word}
+use Rattle.heap_model.specs.Sizes.{IsClass}
 use Rattle.heap_model.specs.Words.{anchor_state, empty_state, head_first}
 use Rattle.core_model.specs.Cells.{anchor_cell, link_cell}
-use Rattle.core_model.specs.Effects.{learn, trimmed}
-use Rattle.core_model.specs.View.{View}
+use Rattle.core_model.specs.Effects.{claim_class, learn, trimmed, without_claim}
+use Rattle.core_model.specs.View.{View, times_classed}
 use Rattle.heap_rule.specs.Parts.{KeepsParts}
 use Rattle.heap_rule.specs.Shown.{Shows}
 use Rattle.heap_rule_tests.specs.declared.refusal.Refusal.{Refusal}
 use Rattle.heap_rule_tests.specs.declared.refusal.Refusal.TheVariants.{Nothing, Lost, Stopped}
 use Rattle.heap_rule_tests.specs.Draws.{HasStopped}
-use Rattle.heap_rule_tests.specs.Pops.{HasLostHead, free_head}
+use Rattle.heap_rule_tests.specs.Pops.{HasLostHead, list_head}
 
 -- all blocks of the superblock, which is claimed without a class, are free: since it is raw, or was split and its own anchor says so
 pub data IsEmptyClaim (v : View) (d : ℕ) : Type 0 where
@@ -27,12 +28,13 @@ pub record HasSetLink (d first : ℕ) (v w : View) : Type 0 where
   pub going : w.stopped ≡ None
   pub losses : w.losses ≡ v.losses
   pub head : w.seen_head ≡ v.seen_head
+  pub anchor : w.seen_anchor ≡ v.seen_anchor
   pub link : Shows w (link_cell d) first
 
--- the head of the list of the free superblocks was seen, and the superblock leads to its first one
-pub record SeesLinked (d : ℕ) (v : View) : Type 0 where
+-- the head of a list was seen, and the superblock leads to its first one
+pub record SeesLinked (list d : ℕ) (v : View) : Type 0 where
   pub head : ℕ
-  pub is_seen : v.seen_head ≡ free_head head
+  pub is_seen : v.seen_head ≡ list_head list head
   pub link : Shows v (link_cell d) (head_first head)
 
 -- the superblock is not claimed any more
@@ -43,6 +45,20 @@ unclaimed v d = record v { raw = without d v.raw; split = without d v.split }
 pub record HasPushed (d : ℕ) (v w : View) : Type 0 where
   pub parts : KeepsParts (trimmed (unclaimed v d)) w
   pub going : w.stopped ≡ None
+
+-- a superblock of a class is not claimed any more, and the rest as above
+abbrev pub unclaimed_of_class : View → ℕ → View
+unclaimed_of_class v d = record v { classed = without_claim d v.classed }
+
+pub record HasPushedOfClass (d : ℕ) (v w : View) : Type 0 where
+  pub parts : KeepsParts (trimmed (unclaimed_of_class v d)) w
+  pub going : w.stopped ≡ None
+
+-- a superblock that is claimed with the class
+pub record IsClaimOf (class d : ℕ) (v : View) : Type 0 where
+  pub is_class : IsClass class
+  pub claimed : 0 < times_classed d v.classed
+  pub of : claim_class d v.classed ≡ class
 
 -- why it was not pushed: the seat has its parts in each case
 abbrev pub IsNotPushed : Refusal → View → View → Type 0

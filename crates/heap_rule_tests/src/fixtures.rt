@@ -156,7 +156,7 @@ pub fn pop_looked(
     looked: Result<u64, Refusal>,
 ) -> Result<(), Refusal>
     requires seat { IsSeatOf shared.now seat.old }
-    requires seen { IfOk looked (λ d. SeesFirst d seat.old.view) }
+    requires seen { IfOk looked (λ d. SeesFirst 0 d seat.old.view) }
     ensures seat { IsSeatOf shared.now seat.new }
 {
     let _first = looked?;

@@ -15,8 +15,8 @@ pub use caches::{alloc_cached, fill_cache};
 pub use cuts::make_blocks;
 pub use draws::draw;
 pub use frees::free_block;
-pub use pops::pop_free;
-pub use pushes::push_free;
+pub use pops::{pop_class, pop_free};
+pub use pushes::{push_class, push_free};
 pub use refusal::Refusal;
 pub use takes::take_one;
 

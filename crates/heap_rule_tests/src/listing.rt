@@ -1,7 +1,7 @@
 //! The list of the free superblocks is popped from and pushed to, by one thread with two seats.
 
 use crate::fixtures::{MANY, Words, close_pair, pair, pop_by, pop_looked, push_popped, recovered};
-use crate::pops::{look_first, look_free, pop_free};
+use crate::pops::{FREE_LIST, look_first, look_list, pop_free};
 use crate::refusal::Refusal;
 use line_memory::Stopped;
 use std::test::Fail;
@@ -21,11 +21,11 @@ fn superblocks_are_popped_and_pushed_in_turn(rt: HostRuntime) -> Result<(), Fail
     assert_eq!(rt; popped, Ok(0));
     assert_eq!(rt; pop_free(&mut b, &table), Ok(1));
     assert_eq!(rt; pop_free(&mut b, &table), Err(Refusal::Nothing));
-    assert_eq!(rt; look_free(&mut b, &table), Ok(33_554_432));
+    assert_eq!(rt; look_list(&mut b, &table, FREE_LIST), Ok(33_554_432));
     assert_eq!(rt; push_popped(&mut a, &table, popped), Ok(()));
-    assert_eq!(rt; look_free(&mut b, &table), Ok(33_554_433));
+    assert_eq!(rt; look_list(&mut b, &table, FREE_LIST), Ok(33_554_433));
     assert_eq!(rt; pop_free(&mut b, &table), Ok(0));
-    assert_eq!(rt; look_free(&mut a, &table), Ok(50_331_648));
+    assert_eq!(rt; look_list(&mut a, &table, FREE_LIST), Ok(50_331_648));
     let left = close_pair(alloc, table, a, b, seats)?;
     assert_eq!(rt; left.now.get(HEAD_WORD as usize).copied(), Some(50_331_648));
     assert_eq!(rt; left.now.get(LINK_OF_0).copied(), Some(0));
@@ -36,7 +36,7 @@ fn superblocks_are_popped_and_pushed_in_turn(rt: HostRuntime) -> Result<(), Fail
 fn a_pop_is_lost_where_another_seat_popped(rt: HostRuntime) -> Result<(), Fail> {
     let alloc = rt.alloc();
     let (table, mut a, mut b, seats) = pair(alloc, recovered(alloc, 2, BOTH_FREE)?, MANY)?;
-    let looked = look_first(&mut a, &table);
+    let looked = look_first(&mut a, &table, FREE_LIST);
     assert_eq!(rt; looked, Ok(0));
     assert_eq!(rt; pop_free(&mut b, &table), Ok(0));
     let lost = Err(Refusal::Lost { found: 16_777_218 });

@@ -1,12 +1,14 @@
-//! A superblock is popped from the list of the free ones.
+//! A superblock is popped from the list of the free ones, or from that of a class.
 
-ghost use Rattle.std.specs.Prelude.{◌≡◌, ◌≢◌, ℕ, IfOk, OnOk, IfErr};
+ghost use Rattle.std.specs.Prelude.{◌≡◌, ◌≢◌, ◌<◌, ℕ, IfOk, OnOk, IfErr};
 ghost use Rattle.core_model.specs.Effects.{seen_word};
 ghost use Rattle.core_model.specs.Guards.{MayLink};
+ghost use Rattle.heap_model.specs.Geometry.{lists};
+ghost use Rattle.heap_model.specs.Sizes.{IsClass};
 ghost use Rattle.heap_rule.specs.Seated.{IsSeatOf};
 ghost use Rattle.heap_rule_tests.specs.declared.refusal.Refusal.TheVariants.{Lost};
 ghost use Rattle.heap_rule_tests.specs.Draws.{HasStopped};
-ghost use Rattle.heap_rule_tests.specs.Pops.{HasPopped, HasSeenFirst, HasSeenHead, HasSeenLink, IsNotPopped, SeesFirst};
+ghost use Rattle.heap_rule_tests.specs.Pops.{HasPopped, HasPoppedFrom, HasSeenFirst, HasSeenHead, HasSeenLink, IsNotPopped, IsNotPoppedFrom, SeesFirst};
 
 use crate::draws::draw;
 use crate::refusal::Refusal;
@@ -14,18 +16,19 @@ use crash_core::head_first;
 use heap_rule::{Seat, Shared};
 use line_memory::Stopped;
 
-/// The list of the free superblocks.
-const FREE_LIST: u64 = 0;
+/// The list of the free superblocks; the list of a class has the number of the class.
+pub(crate) const FREE_LIST: u64 = 0;
 
-/// Reads the head of the list of the free superblocks, which it answers.
-pub(crate) fn look_free(seat: &mut Seat, shared: &Shared) -> Result<u64, Stopped>
-    requires { IsSeatOf shared.now seat.old }
-    ensures seen { IfOk result (λ head. HasSeenHead head seat.old.view seat.new.view) }
+/// Reads the head of a list, which it answers.
+pub(crate) fn look_list(seat: &mut Seat, shared: &Shared, list: u64) -> Result<u64, Stopped>
+    requires seat { IsSeatOf shared.now seat.old }
+    requires list { list < lists }
+    ensures seen { IfOk result (λ head. HasSeenHead list head seat.old.view seat.new.view) }
     ensures stopped { IfErr result (λ e. HasStopped e.step seat.old.view seat.new.view) }
     ensures seat { IsSeatOf shared.now seat.new }
 {
     draw(seat, shared)?;
-    Ok(seat.look_head(shared, FREE_LIST))
+    Ok(seat.look_head(shared, list))
 }
 
 /// Reads the link of the first superblock of the list whose head was seen.
@@ -41,15 +44,16 @@ fn look_link(seat: &mut Seat, shared: &Shared) -> Result<(), Stopped>
     Ok(())
 }
 
-/// Reads which superblock is the first of the list of the free ones, which it answers, and its
-/// link.
-pub(crate) fn look_first(seat: &mut Seat, shared: &Shared) -> Result<u64, Refusal>
-    requires { IsSeatOf shared.now seat.old }
-    ensures seen { IfOk result (λ d. HasSeenFirst d seat.old.view seat.new.view) }
-    ensures refused { IfErr result (λ refusal. IsNotPopped refusal seat.old.view seat.new.view) }
+/// Reads which superblock is the first of a list, which it answers, and its link.
+pub(crate) fn look_first(seat: &mut Seat, shared: &Shared, list: u64) -> Result<u64, Refusal>
+    requires seat { IsSeatOf shared.now seat.old }
+    requires list { list < lists }
+    ensures seen { IfOk result (λ d. HasSeenFirst list d seat.old.view seat.new.view) }
+    ensures refused { IfErr result (λ refusal. IsNotPoppedFrom list refusal
+        seat.old.view seat.new.view) }
     ensures seat { IsSeatOf shared.now seat.new }
 {
-    let head = look_free(seat, shared)?;
+    let head = look_list(seat, shared, list)?;
     let first = head_first(head);
     if first == 0 {
         return Err(Refusal::Nothing);
@@ -58,13 +62,14 @@ pub(crate) fn look_first(seat: &mut Seat, shared: &Shared) -> Result<u64, Refusa
     Ok(first - 1)
 }
 
-/// Pops the superblock that was seen to be the first of the list of the free ones.
+/// Pops the superblock that was seen to be the first of a list.
 pub(crate) fn pop_seen(seat: &mut Seat, shared: &Shared) -> Result<(), Refusal>
     requires seat { IsSeatOf shared.now seat.old }
-    requires seen { (d : ℕ) × SeesFirst d seat.old.view }
-    ensures popped { OnOk result ((d : ℕ) → SeesFirst d seat.old.view
-        → HasPopped d seat.old.view seat.new.view) }
-    ensures refused { IfErr result (λ refusal. IsNotPopped refusal seat.old.view seat.new.view) }
+    requires seen { (list : ℕ) × ((d : ℕ) × SeesFirst list d seat.old.view) }
+    ensures popped { OnOk result ((list d : ℕ) → SeesFirst list d seat.old.view
+        → HasPoppedFrom list d seat.old.view seat.new.view) }
+    ensures refused { IfErr result (λ refusal. (list : ℕ) → IsNotPoppedFrom list refusal
+        seat.old.view seat.new.view) }
     ensures found { IfErr result (λ refusal. (found : ℕ) → refusal ≡ Lost found
         → found ≢ seen_word seat.old.view.seen_head) }
     ensures seat { IsSeatOf shared.now seat.new }
@@ -76,6 +81,20 @@ pub(crate) fn pop_seen(seat: &mut Seat, shared: &Shared) -> Result<(), Refusal>
     }
 }
 
+/// Pops the first superblock of a list, in one try.
+fn pop_from(seat: &mut Seat, shared: &Shared, list: u64) -> Result<u64, Refusal>
+    requires seat { IsSeatOf shared.now seat.old }
+    requires list { list < lists }
+    ensures popped { IfOk result (λ d. HasPoppedFrom list d seat.old.view seat.new.view) }
+    ensures refused { IfErr result (λ refusal. IsNotPoppedFrom list refusal
+        seat.old.view seat.new.view) }
+    ensures seat { IsSeatOf shared.now seat.new }
+{
+    let d = look_first(seat, shared, list)?;
+    pop_seen(seat, shared)?;
+    Ok(d)
+}
+
 /// Pops the first superblock of the list of the free ones, which is claimed then. One try: where
 /// another seat was faster, that is told.
 pub fn pop_free(seat: &mut Seat, shared: &Shared) -> Result<u64, Refusal>
@@ -84,7 +103,18 @@ pub fn pop_free(seat: &mut Seat, shared: &Shared) -> Result<u64, Refusal>
     ensures refused { IfErr result (λ refusal. IsNotPopped refusal seat.old.view seat.new.view) }
     ensures seat { IsSeatOf shared.now seat.new }
 {
-    let d = look_first(seat, shared)?;
-    pop_seen(seat, shared)?;
-    Ok(d)
+    pop_from(seat, shared, FREE_LIST)
+}
+
+/// Pops the first superblock of the list of a class, some of whose blocks are free: it is claimed
+/// with the class then. One try, as above.
+pub fn pop_class(seat: &mut Seat, shared: &Shared, class: u8) -> Result<u64, Refusal>
+    requires seat { IsSeatOf shared.now seat.old }
+    requires class { IsClass class }
+    ensures popped { IfOk result (λ d. HasPoppedFrom class d seat.old.view seat.new.view) }
+    ensures refused { IfErr result (λ refusal. IsNotPoppedFrom class refusal
+        seat.old.view seat.new.view) }
+    ensures seat { IsSeatOf shared.now seat.new }
+{
+    pop_from(seat, shared, class as u64)
 }
