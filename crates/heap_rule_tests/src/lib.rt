@@ -9,6 +9,7 @@ mod frees;
 mod pops;
 mod pushes;
 mod refusal;
+mod stores;
 mod takes;
 
 pub use caches::{alloc_cached, fill_cache};
@@ -18,6 +19,7 @@ pub use frees::free_block;
 pub use pops::{pop_class, pop_free};
 pub use pushes::{push_class, push_free};
 pub use refusal::Refusal;
+pub use stores::{load_own, store_own};
 pub use takes::take_one;
 
 #[cfg(test)]
