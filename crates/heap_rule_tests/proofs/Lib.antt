@@ -8,3 +8,4 @@ pub mod PushLemmas
 pub mod StoreLemmas
 pub mod FreeLemmas
 pub mod TrimLemmas
+pub mod PartialLemmas

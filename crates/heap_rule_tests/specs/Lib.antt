@@ -6,3 +6,4 @@ pub mod Pops
 pub mod Pushes
 pub mod Stores
 pub mod Frees
+pub mod Partials

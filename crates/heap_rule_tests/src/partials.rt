@@ -1,0 +1,74 @@
+//! All free blocks of a superblock are taken that is claimed with a class.
+
+ghost use Rattle.std.specs.Prelude.{◌≡◌, ◌<◌, ℕ, [], IfOk, OnOk, IfErr};
+ghost use Rattle.core_model.specs.Effects.{seen_word};
+ghost use Rattle.core_model.specs.Guards.{MayLookAt, MayTakeAll};
+ghost use Rattle.core_model.specs.View.{of_class, times_classed};
+ghost use Rattle.heap_model.specs.Words.{anchor_count, anchor_state};
+ghost use Rattle.heap_rule.specs.Seated.{IsSeatOf};
+ghost use Rattle.heap_rule_tests.specs.Draws.{HasStopped};
+ghost use Rattle.heap_rule_tests.specs.Partials.{HasSeenAnchor, HasTakenBlocks, TakesNoBlocks};
+ghost use Rattle.heap_rule_tests.specs.Pushes.{IsClaimOf};
+
+use crate::draws::draw;
+use crate::refusal::Refusal;
+use crash_core::{anchor_count, anchor_state};
+use heap_rule::{Seat, Shared};
+use line_memory::Stopped;
+
+/// The state of an anchor some of whose superblock's blocks are free.
+const PARTIAL: u64 = 1;
+
+/// Reads the anchor of a claimed superblock, or of the batch's, which it answers.
+pub(crate) fn look_anchor(seat: &mut Seat, shared: &Shared, d: u64) -> Result<u64, Stopped>
+    requires seat { IsSeatOf shared.now seat.old }
+    requires may { MayLookAt seat.old.view d }
+    ensures seen { IfOk result (λ anchor. HasSeenAnchor d anchor seat.old.view seat.new.view) }
+    ensures of_class { IfOk result (λ anchor. 0 < times_classed d seat.old.view.classed
+        → anchor_state anchor < 2) }
+    ensures stopped { IfErr result (λ e. HasStopped e.step seat.old.view seat.new.view) }
+    ensures seat { IsSeatOf shared.now seat.new }
+{
+    draw(seat, shared)?;
+    Ok(seat.look_anchor(shared, d))
+}
+
+/// Takes all free blocks of a claimed superblock whose anchor was seen.
+pub(crate) fn take_seen_blocks(seat: &mut Seat, shared: &Shared, d: u64) -> Result<(), Refusal>
+    requires seat { IsSeatOf shared.now seat.old }
+    requires may { MayTakeAll seat.old.view d }
+    ensures taken { OnOk result ((class : ℕ) → IsClaimOf class d seat.old.view
+        → HasTakenBlocks d class (anchor_count (seen_word seat.old.view.seen_anchor))
+        seat.old.view seat.new.view) }
+    ensures refused { IfErr result (λ refusal. TakesNoBlocks d refusal
+        seat.old.view seat.new.view) }
+    ensures seat { IsSeatOf shared.now seat.new }
+{
+    draw(seat, shared)?;
+    match seat.try_take_all(shared, d) {
+        Ok(()) => Ok(()),
+        Err(found) => Err(Refusal::Lost { found }),
+    }
+}
+
+/// Takes all free blocks of a superblock that is claimed with a class, whose cache is empty: they
+/// are in the cache then, and it answers how many there are. One try: where another seat was
+/// faster, that is told. Nothing is taken of a superblock all of whose blocks are free.
+pub fn take_free_blocks(seat: &mut Seat, shared: &Shared, d: u64, class: u8) -> Result<u64, Refusal>
+    requires seat { IsSeatOf shared.now seat.old }
+    requires claim { IsClaimOf class d seat.old.view }
+    requires uncached { of_class seat.old.view.caches class ≡ [] }
+    ensures taken { IfOk result (λ count. HasTakenBlocks d class count
+        seat.old.view seat.new.view) }
+    ensures refused { IfErr result (λ refusal. TakesNoBlocks d refusal
+        seat.old.view seat.new.view) }
+    ensures seat { IsSeatOf shared.now seat.new }
+{
+    seat.has_a_sound_state();
+    let anchor = look_anchor(seat, shared, d)?;
+    if anchor_state(anchor) != PARTIAL {
+        return Err(Refusal::Nothing);
+    }
+    take_seen_blocks(seat, shared, d)?;
+    Ok(anchor_count(anchor))
+}
