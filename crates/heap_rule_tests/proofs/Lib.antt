@@ -9,3 +9,4 @@ pub mod StoreLemmas
 pub mod FreeLemmas
 pub mod TrimLemmas
 pub mod PartialLemmas
+pub mod BatchLemmas

@@ -7,3 +7,4 @@ pub mod Pushes
 pub mod Stores
 pub mod Frees
 pub mod Partials
+pub mod Batches

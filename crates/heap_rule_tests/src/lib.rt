@@ -2,6 +2,7 @@
 //! what it needs to go on, and tests that run them.
 #![tactic(auto, unfolding(heap_model::specs::Geometry::largest_capacity))]
 
+mod batches;
 mod caches;
 mod cuts;
 mod draws;
@@ -13,6 +14,7 @@ mod refusal;
 mod stores;
 mod takes;
 
+pub use batches::{give_batch, lift_cached};
 pub use caches::{alloc_cached, fill_cache};
 pub use cuts::make_blocks;
 pub use draws::draw;
