@@ -282,6 +282,8 @@ module _ (v : View) (has : Has v) (d : ℕ) (raw : 0 < times_raw d v) where
     info = get_or-set_same (learn v.volatile (info_word d) class) (info_word d) (Some class) None
         (let long = volatile_long v has in let same = length-set v.volatile (info_word d) (Some class) in let i = class_inside in omega arith);
     durable_info = get_or-set_same v.durable (info_word d) (Some class) None (let long = durable_long v has in let i = class_inside in omega arith);
+    volatile_is = refl;
+    durable_is = refl;
   })
 
   pub class_left : (u x w : View) (class found met : ℕ) → HasDrawn v u → IsEvent (Store (info_word d) class) u found x → IsEvent (Settle (info_word d)) x met w → HasClass d class v w

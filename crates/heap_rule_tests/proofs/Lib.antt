@@ -10,3 +10,4 @@ pub mod FreeLemmas
 pub mod TrimLemmas
 pub mod PartialLemmas
 pub mod BatchLemmas
+pub mod LargeLemmas

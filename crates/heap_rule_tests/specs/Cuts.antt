@@ -1,7 +1,7 @@
 -- What the making of a superblock's blocks leaves of a seat.
 use Rattle.std.specs.Prelude.{◌≡◌, ◌≤◌, ℕ, ◌∷◌, None, set}
 use Rattle.heap_model.specs.Counting.{without}
-use Rattle.heap_model.specs.Geometry.{anchor_word}
+use Rattle.heap_model.specs.Geometry.{anchor_word, info_word}
 use Rattle.heap_model.specs.Words.{full_anchor}
 use Rattle.core_model.specs.Cells.{info_cell, data_cell}
 use Rattle.core_model.specs.Effects.{class_blocks, learn}
@@ -22,12 +22,14 @@ pub record HasBegun (d : ℕ) (v w : View) : Type 0 where
   pub parts : KeepsParts (with_making v d) w
   pub going : w.stopped ≡ None
 
--- the info says the class, and durably
+-- the info is this number, as that of a class, and durably; nothing else that is known changes
 pub record HasClass (d class : ℕ) (v w : View) : Type 0 where
   pub parts : KeepsParts (record v { volatile = w.volatile; durable = w.durable }) w
   pub going : w.stopped ≡ None
   pub info : Shows w (info_cell d) class
   pub durable_info : ShowsDurable w (info_cell d) class
+  pub volatile_is : w.volatile ≡ learn (learn v.volatile (info_word d) class) (info_word d) class
+  pub durable_is : w.durable ≡ learn v.durable (info_word d) class
 
 -- the word leads to the value
 pub record HasLinked (word value : ℕ) (v w : View) : Type 0 where

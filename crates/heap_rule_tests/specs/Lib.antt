@@ -8,3 +8,4 @@ pub mod Stores
 pub mod Frees
 pub mod Partials
 pub mod Batches
+pub mod Large

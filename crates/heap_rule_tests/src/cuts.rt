@@ -71,19 +71,20 @@ fn begin(seat: &mut Seat, shared: &Shared, d: u64) -> Result<(), Stopped>
     Ok(())
 }
 
-/// The info of a superblock says the class that its blocks are made for, and durably.
-fn set_class(seat: &mut Seat, shared: &Shared, d: u64, class: u8) -> Result<(), Stopped>
+/// The info of a claimed superblock says what becomes of it, and durably: the class that its blocks
+/// are made for, or what part of a large block it is.
+pub(crate) fn set_info(seat: &mut Seat, shared: &Shared, d: u64, info: u64) -> Result<(), Stopped>
     requires seat { IsSeatOf shared.now seat.old }
     requires raw { 0 < times_raw d seat.old.view }
-    ensures set { OnOk result (HasClass d class seat.old.view seat.new.view) }
+    ensures set { OnOk result (HasClass d info seat.old.view seat.new.view) }
     ensures stopped { IfErr result (λ e. HasStopped e.step seat.old.view seat.new.view) }
     ensures seat { IsSeatOf shared.now seat.new }
 {
     seat.has_a_sound_state();
-    let info = Geometry::new(seat.capacity(shared)).info(d);
+    let place = Geometry::new(seat.capacity(shared)).info(d);
     draw(seat, shared)?;
-    seat.store_word(shared, info, class as u64);
-    seat.settle(shared, info);
+    seat.store_word(shared, place, info);
+    seat.settle(shared, place);
     Ok(())
 }
 
@@ -100,7 +101,7 @@ pub fn make_blocks(seat: &mut Seat, shared: &Shared, d: u64, class: u8) -> Resul
     ensures seat { IsSeatOf shared.now seat.new }
 {
     begin(seat, shared, d)?;
-    set_class(seat, shared, d, class)?;
+    set_info(seat, shared, d, class as u64)?;
     link_blocks(seat, shared, d, class)?;
     seat.tick(shared, Some(Shift::Cut { d }))
 }
