@@ -1,5 +1,5 @@
 -- What rows on a seat's batch leave.
-use Rattle.std.proofs.Common.{◌≡◌, ◌≢◌, ◌≤◌, ◌<◌, ℕ, zero, suc, ◌+◌, ◌*◌, inl, inr, Bool, true, false, cond, nat_eq, nat_le, nat_lt, length, None, Some, refl, ap, sym, subst, ◌∙◌, eq-eqb, le-leb, lt-ltb, arith}
+use Rattle.std.proofs.Common.{◌≡◌, ◌≢◌, ◌≤◌, ◌<◌, ℕ, zero, suc, ◌+◌, ◌*◌, inl, inr, Bool, true, false, cond, nat_eq, nat_le, nat_lt, length, None, Some, Result, Ok, Err, IfOk, IfErr, refl, ap, sym, subst, ◌∙◌, eq-eqb, le-leb, lt-ltb, arith}
 use Rattle.heap_model.specs.Counting.{times}
 use Rattle.heap_model.specs.Geometry.{start_word, image_words}
 use Rattle.heap_model.specs.Sizes.{IsClass, words_of_class}
@@ -260,3 +260,26 @@ module _ (v t : View) (d class last found : ℕ) (batch : IsBatchOf d class last
 
     pub none_given_last : (refusal : Refusal) (w : View) → IsNotGiven refusal x w → GivesNone last refusal v w
     none_given_last refusal w none = inr (first, not_given_last refusal w none)
+
+-- said of the view before the anchor was seen
+module _ (v t : View) (d class last found : ℕ) (seen : HasSeenAnchor d found v t) where
+  pub given_later : (w : View) (full : Bool) → HasGiven d class last full t w → HasGiven d class last full v w
+  given_later w true gives = gives_later v t w d class true seen.parts gives
+  given_later w false gives = (gives.0, gives_later (with_last v last gives.0) (with_last t last gives.0) w d class false (last_alike v t last gives.0 seen.parts) gives.1)
+
+  not_given_later : (refusal : Refusal) (a b w : View) → KeepsParts a b → b.losses ≡ a.losses → IsNotGiven refusal b w → IsNotGiven refusal a w
+  not_given_later Nothing a b w p losses none = none
+  not_given_later (Lost word) a b w p losses lost = record { parts = one_more a b w p lost.parts; going = lost.going; unseen = lost.unseen; losses = lost.losses ∙ ap (λ n. n + 1) losses }
+  not_given_later (Stopped e) a b w p losses stop = stopped_later a b w e.step p stop
+
+  pub none_given_later : (refusal : Refusal) (w : View) → GivesNone last refusal t w → GivesNone last refusal v w
+  none_given_later refusal w (inl none) = inl (not_given_later refusal v t w seen.parts seen.losses none)
+  none_given_later refusal w (inr none) = inr (none.0, not_given_later refusal (with_last v last none.0) (with_last t last none.0) w (last_alike v t last none.0 seen.parts) seen.losses none.1)
+
+pub given_ok_later : (v t w : View) (d class last found : ℕ) (result : Result Bool Refusal) → HasSeenAnchor d found v t → IfOk result (λ full. HasGiven d class last full t w) → IfOk result (λ full. HasGiven d class last full v w)
+given_ok_later v t w d class last found (Ok full) seen gives = given_later v t d class last found seen w full gives
+given_ok_later v t w d class last found (Err e) seen gives = tt
+
+pub given_err_later : (v t w : View) (d class last found : ℕ) (result : Result Bool Refusal) → HasSeenAnchor d found v t → IfErr result (λ refusal. GivesNone last refusal t w) → IfErr result (λ refusal. GivesNone last refusal v w)
+given_err_later v t w d class last found (Ok full) seen none = tt
+given_err_later v t w d class last found (Err e) seen none = none_given_later v t d class last found seen e w none

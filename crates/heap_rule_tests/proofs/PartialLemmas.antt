@@ -18,11 +18,11 @@ use Rattle.heap_rule.specs.Plays.{IsEvent}
 use Rattle.heap_rule.specs.Shown.{Can, by_look}
 use Rattle.heap_rule.proofs.ChainLemmas.{chain_length}
 use Rattle.heap_rule.proofs.LeftLemmas.{take_all_lost, take_all_won}
-use Rattle.heap_rule.proofs.PartLemmas.{one_more}
+use Rattle.heap_rule.proofs.PartLemmas.{none_changed, one_more}
 use Rattle.heap_rule_tests.specs.declared.refusal.Refusal.{Refusal}
 use Rattle.heap_rule_tests.specs.declared.refusal.Refusal.TheVariants.{Nothing, Lost, Stopped}
 use Rattle.heap_rule_tests.specs.Draws.{HasDrawn}
-use Rattle.heap_rule_tests.specs.Partials.{HasLostAnchor, HasSeenAnchor, HasTakenBlocks, IsAllFree, TakesNoBlocks, anchor_seen, with_cache}
+use Rattle.heap_rule_tests.specs.Partials.{HasLostAnchor, HasSeenAnchor, HasTakenBlocks, IsAllFree, SeesAnchor, TakesNoBlocks, anchor_seen, with_cache}
 use Rattle.heap_rule_tests.specs.Pushes.{IsClaimOf}
 use Rattle.heap_rule_tests.proofs.PopLemmas.{stopped_later}
 use Rattle.heap_rule_tests.proofs.TrimLemmas.{only_same, trimmed_alike}
@@ -139,16 +139,26 @@ cache_alike v t d class blocks p = record { setup = p.setup; small = p.small; la
 pub claim_still : (v t : View) (d class : ℕ) → KeepsParts v t → IsClaimOf class d v → IsClaimOf class d t
 claim_still v t d class p claim = record { is_class = claim.is_class; claimed = subst (λ l. 0 < times_classed d l) (sym p.classed) claim.claimed; of = ap (claim_class d) p.classed ∙ claim.of }
 
-pub taken_later : (v t w : View) (d class found : ℕ) → HasSeenAnchor d found v t → HasTakenBlocks d class (anchor_count (seen_word t.seen_anchor)) t w → HasTakenBlocks d class (anchor_count found) v w
-taken_later v t w d class found seen taken = record {
+pub taken_later : (v t w : View) (d class found count : ℕ) → HasSeenAnchor d found v t → HasTakenBlocks d class count t w → HasTakenBlocks d class count v w
+taken_later v t w d class found count seen taken = record {
   blocks = taken.blocks;
   parts = trimmed_alike (record v { caches = set v.caches class taken.blocks; classed = without_claim d v.classed }) (record t { caches = set t.caches class taken.blocks; classed = without_claim d t.classed }) w
       (cache_alike v t d class taken.blocks seen.parts) taken.parts;
   going = taken.going;
-  count_is = taken.count_is ∙ ap (λ o. anchor_count (seen_word o)) seen.is_seen;
-  some = subst (λ n. 1 ≤ n) (ap (λ o. anchor_count (seen_word o)) seen.is_seen) taken.some;
+  count_is = taken.count_is;
+  some = taken.some;
   cached = taken.cached;
 }
+
+-- the anchor that a seat sees it has seen, and has its parts
+pub seen_now : (v : View) (d found : ℕ) → SeesAnchor d found v → HasSeenAnchor d found v v
+seen_now v d found sees = record { parts = none_changed v; going = sees.going; losses = refl; is_seen = sees.is_seen }
+
+pub sees_then : (v t : View) (d found : ℕ) → HasSeenAnchor d found v t → SeesAnchor d found t
+sees_then v t d found seen = record { going = seen.going; is_seen = seen.is_seen }
+
+pub uncached_then : (v t : View) (d class found : ℕ) → HasSeenAnchor d found v t → of_class v.caches class ≡ [] → of_class t.caches class ≡ []
+uncached_then v t d class found seen empty = ap (λ l. of_class l class) seen.parts.caches ∙ empty
 
 pub none_later : (refusal : Refusal) (v t w : View) (d found : ℕ) → HasSeenAnchor d found v t → TakesNoBlocks d refusal t w → TakesNoBlocks d refusal v w
 none_later Nothing v t w d found seen free = record { parts = one_more v t w seen.parts free.parts; going = free.going; empty = free.empty }

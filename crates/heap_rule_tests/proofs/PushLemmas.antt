@@ -306,7 +306,7 @@ pub ok_later : {P Q : Type 0} (result : Result ⊤ Refusal) → (P → Q) → On
 ok_later (Ok x) later p = later p
 ok_later (Err e) later p = tt
 
-pub err_later : {P Q : Refusal → Type 0} (result : Result ⊤ Refusal) → ((refusal : Refusal) → P refusal → Q refusal) → IfErr result P → IfErr result Q
+pub err_later : {A : Type 0} {P Q : Refusal → Type 0} (result : Result A Refusal) → ((refusal : Refusal) → P refusal → Q refusal) → IfErr result P → IfErr result Q
 err_later (Ok x) later p = tt
 err_later (Err e) later p = later e p
 

@@ -12,7 +12,12 @@ use Rattle.heap_rule_tests.specs.Draws.{HasStopped}
 abbrev pub anchor_seen : ℕ → ℕ → Option Snapshot
 anchor_seen d anchor = Some (record { of = d; word = anchor })
 
--- it was seen, and the seat has its parts
+-- a seat that has not stopped has seen it so
+pub record SeesAnchor (d anchor : ℕ) (v : View) : Type 0 where
+  pub going : v.stopped ≡ None
+  pub is_seen : v.seen_anchor ≡ anchor_seen d anchor
+
+-- it was seen just now, and the seat has its parts
 pub record HasSeenAnchor (d anchor : ℕ) (v w : View) : Type 0 where
   pub parts : KeepsParts v w
   pub going : w.stopped ≡ None

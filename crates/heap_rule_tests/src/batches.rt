@@ -7,6 +7,7 @@ ghost use Rattle.heap_rule.specs.Seated.{IsSeatOf};
 ghost use Rattle.heap_rule.specs.Shown.{CanGive, CanLift};
 ghost use Rattle.heap_rule_tests.specs.Batches.{GivesNone, GivesSeen, HasGiven, HasLifted, HasLinkedLast, IsBatchOf, IsNotGiven};
 ghost use Rattle.heap_rule_tests.specs.Draws.{HasStopped};
+ghost use Rattle.heap_rule_tests.specs.Partials.{SeesAnchor};
 
 use crate::draws::draw;
 use crate::partials::look_anchor;
@@ -68,6 +69,36 @@ fn give_seen(seat: &mut Seat, shared: &Shared, d: u64) -> Result<(), Refusal>
     }
 }
 
+/// Gives a batch whose superblock's anchor was seen, whatever it says.
+pub(crate) fn give_looked(
+    seat: &mut Seat,
+    shared: &Shared,
+    d: u64,
+    class: u8,
+    last: u64,
+    anchor: u64,
+) -> Result<bool, Refusal>
+    requires seat { IsSeatOf shared.now seat.old }
+    requires batch { IsBatchOf d class last seat.old.view }
+    requires sees { SeesAnchor d anchor seat.old.view }
+    ensures given { IfOk result (λ full. HasGiven d class last full
+        seat.old.view seat.new.view) }
+    ensures refused { IfErr result (λ refusal. GivesNone last refusal
+        seat.old.view seat.new.view) }
+    ensures seat { IsSeatOf shared.now seat.new }
+{
+    seat.has_a_sound_state();
+    if anchor == anchor_after_take_all() {
+        give_seen(seat, shared, d)?;
+        return Ok(true);
+    }
+    let geometry = Geometry::new(seat.capacity(shared));
+    let first = first_free(geometry, d, class as u64, anchor);
+    link_last(seat, shared, last, first)?;
+    give_seen(seat, shared, d)?;
+    Ok(false)
+}
+
 /// Gives the batch, whose last block is named, back to its superblock. It answers whether no block
 /// of that was free before: the superblock is claimed with its class then. One try: where another
 /// seat was faster, that is told.
@@ -86,15 +117,6 @@ pub fn give_batch(
         seat.old.view seat.new.view) }
     ensures seat { IsSeatOf shared.now seat.new }
 {
-    seat.has_a_sound_state();
     let anchor = look_anchor(seat, shared, d)?;
-    if anchor == anchor_after_take_all() {
-        give_seen(seat, shared, d)?;
-        return Ok(true);
-    }
-    let geometry = Geometry::new(seat.capacity(shared));
-    let first = first_free(geometry, d, class as u64, anchor);
-    link_last(seat, shared, last, first)?;
-    give_seen(seat, shared, d)?;
-    Ok(false)
+    give_looked(seat, shared, d, class, last, anchor)
 }

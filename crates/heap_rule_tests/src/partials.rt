@@ -7,7 +7,7 @@ ghost use Rattle.core_model.specs.View.{of_class, times_classed};
 ghost use Rattle.heap_model.specs.Words.{anchor_count, anchor_state};
 ghost use Rattle.heap_rule.specs.Seated.{IsSeatOf};
 ghost use Rattle.heap_rule_tests.specs.Draws.{HasStopped};
-ghost use Rattle.heap_rule_tests.specs.Partials.{HasSeenAnchor, HasTakenBlocks, TakesNoBlocks};
+ghost use Rattle.heap_rule_tests.specs.Partials.{HasSeenAnchor, HasTakenBlocks, SeesAnchor, TakesNoBlocks};
 ghost use Rattle.heap_rule_tests.specs.Pushes.{IsClaimOf};
 
 use crate::draws::draw;
@@ -33,8 +33,8 @@ pub(crate) fn look_anchor(seat: &mut Seat, shared: &Shared, d: u64) -> Result<u6
     Ok(seat.look_anchor(shared, d))
 }
 
-/// Takes all free blocks of a claimed superblock whose anchor was seen.
-pub(crate) fn take_seen_blocks(seat: &mut Seat, shared: &Shared, d: u64) -> Result<(), Refusal>
+/// Takes all free blocks of a claimed superblock whose anchor was seen, and says that some are free.
+fn take_seen(seat: &mut Seat, shared: &Shared, d: u64) -> Result<(), Refusal>
     requires seat { IsSeatOf shared.now seat.old }
     requires may { MayTakeAll seat.old.view d }
     ensures taken { OnOk result ((class : ℕ) → IsClaimOf class d seat.old.view
@@ -49,6 +49,33 @@ pub(crate) fn take_seen_blocks(seat: &mut Seat, shared: &Shared, d: u64) -> Resu
         Ok(()) => Ok(()),
         Err(found) => Err(Refusal::Lost { found }),
     }
+}
+
+/// The same of one whose anchor was seen, whatever it says; it answers how many blocks there are.
+pub(crate) fn take_looked(
+    seat: &mut Seat,
+    shared: &Shared,
+    d: u64,
+    class: u8,
+    anchor: u64,
+) -> Result<u64, Refusal>
+    requires seat { IsSeatOf shared.now seat.old }
+    requires claim { IsClaimOf class d seat.old.view }
+    requires uncached { of_class seat.old.view.caches class ≡ [] }
+    requires sees { SeesAnchor d anchor seat.old.view }
+    requires of_class { anchor_state anchor < 2 }
+    ensures taken { IfOk result (λ count. HasTakenBlocks d class count
+        seat.old.view seat.new.view) }
+    ensures refused { IfErr result (λ refusal. TakesNoBlocks d refusal
+        seat.old.view seat.new.view) }
+    ensures seat { IsSeatOf shared.now seat.new }
+{
+    let _class = class;
+    if anchor_state(anchor) != PARTIAL {
+        return Err(Refusal::Nothing);
+    }
+    take_seen(seat, shared, d)?;
+    Ok(anchor_count(anchor))
 }
 
 /// Takes all free blocks of a superblock that is claimed with a class, whose cache is empty: they
@@ -66,9 +93,5 @@ pub fn take_free_blocks(seat: &mut Seat, shared: &Shared, d: u64, class: u8) -> 
 {
     seat.has_a_sound_state();
     let anchor = look_anchor(seat, shared, d)?;
-    if anchor_state(anchor) != PARTIAL {
-        return Err(Refusal::Nothing);
-    }
-    take_seen_blocks(seat, shared, d)?;
-    Ok(anchor_count(anchor))
+    take_looked(seat, shared, d, class, anchor)
 }

@@ -1,5 +1,5 @@
 use Rattle.heap_rule_tests.proofs.PartialLemmas.{blocks_taken, can_take, take_lost}
-use Rattle.heap_rule_tests.proofs.partials.take_seen_blocks.Goals as goal
+use Rattle.heap_rule_tests.proofs.partials.take_seen.Goals as goal
 
 pub try_take_all-requires-clause-can : goal.try_take_all-requires-clause-can
 try_take_all-requires-clause-can c = can_take c.args.seat.now.view c.draw.new.seat.view c.args.d c.in_ok-draw.ensures.drawn c.requires.may
