@@ -133,6 +133,7 @@ given_from true zero d ticket v w going after = subst (GivesSeen d zero true v) 
     floor = omega arith;
   };
   going = going;
+  durable = λ _. omega arith;
 })
 given_from true (suc class) d ticket v w going after = subst (GivesSeen d (suc class) true v) (sym after) (record {
   parts = record {
@@ -151,6 +152,7 @@ given_from true (suc class) d ticket v w going after = subst (GivesSeen d (suc c
     floor = omega arith;
   };
   going = going;
+  durable = λ _. omega arith;
 })
 given_from false class d ticket v w going after = subst (GivesSeen d class false v) (sym after) (record {
   parts = record {
@@ -169,6 +171,7 @@ given_from false class d ticket v w going after = subst (GivesSeen d class false
     floor = omega arith;
   };
   going = going;
+  durable = λ no. absurd (cc);
 })
 
 pub given_left : (v u w : View) (d found : ℕ) → HasDrawn v u → IsEvent (Give d) u found w → found ≡ seen_word u.seen_anchor → GivesSeen d v.batch.class (nat_eq (seen_word v.seen_anchor) full_anchor) v w
@@ -187,7 +190,7 @@ without_alike true v t d class p = claim_alike class d (record v { batch = no_ba
 without_alike false v t d class p = batch_gone v t p
 
 gives_later : (v t w : View) (d class : ℕ) (full : Bool) → KeepsParts v t → GivesSeen d class full t w → GivesSeen d class full v w
-gives_later v t w d class full p gives = record { parts = trimmed_alike (without_batch v d class full) (without_batch t d class full) w (without_alike full v t d class p) gives.parts; going = gives.going }
+gives_later v t w d class full p gives = record { parts = trimmed_alike (without_batch v d class full) (without_batch t d class full) w (without_alike full v t d class p) gives.parts; going = gives.going; durable = gives.durable }
 
 last_alike : (v t : View) (last first : ℕ) → KeepsParts v t → KeepsParts (with_last v last first) (with_last t last first)
 last_alike v t last first p = record { setup = p.setup; small = p.small; large = p.large; roots = p.roots; caches = p.caches; batch = ap (λ (b : Batch). record b { linked = false }) p.batch; raw = p.raw; split = p.split; cutting = p.cutting; classed = p.classed; volatile = ap (λ l. learn l last first) p.volatile; durable = p.durable; floor = p.floor }

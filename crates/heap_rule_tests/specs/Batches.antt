@@ -1,5 +1,5 @@
 -- What rows on a seat's batch leave of it.
-use Rattle.std.specs.Prelude.{◌≡◌, ◌≤◌, ◌⊎◌, ℕ, Bool, true, false, None, length}
+use Rattle.std.specs.Prelude.{◌≡◌, ◌≤◌, ◌<◌, ◌⊎◌, ℕ, Bool, true, false, None, length}
 use Rattle.core_model.specs.Cells.{data_cell}
 use Rattle.core_model.specs.Effects.{after_lift, first_of, last_of, learn, trimmed}
 use Rattle.core_model.specs.View.{View, no_batch, of_class}
@@ -40,10 +40,11 @@ abbrev pub without_batch : View → ℕ → ℕ → Bool → View
 without_batch v d class true = with_claim (record v { batch = no_batch }) d class
 without_batch v d class false = record v { batch = no_batch }
 
--- the batch was given; of words that are not its own any more the seat knows nothing
+-- the batch was given, and no crash forgets a superblock that is claimed; of words that are not its own any more the seat knows nothing
 pub record GivesSeen (d class : ℕ) (full : Bool) (v w : View) : Type 0 where
   pub parts : KeepsParts (trimmed (without_batch v d class full)) w
   pub going : w.stopped ≡ None
+  pub durable : full ≡ true → d < w.floor
 
 -- where blocks were free before, the last one of the batch leads to the first of them
 abbrev pub HasGiven : ℕ → ℕ → ℕ → Bool → View → View → Type 0
