@@ -11,3 +11,4 @@ pub mod TrimLemmas
 pub mod PartialLemmas
 pub mod BatchLemmas
 pub mod LargeLemmas
+pub mod SceneLemmas

@@ -9,3 +9,4 @@ pub mod Frees
 pub mod Partials
 pub mod Batches
 pub mod Large
+pub mod Scenes

@@ -8,13 +8,14 @@ ghost use Rattle.heap_rule.specs.Seats.{AreSeatsOf};
 ghost use Rattle.heap_rule_tests.specs.Caches.{AreEmpty};
 ghost use Rattle.heap_rule_tests.specs.Pops.{SeesFirst};
 ghost use Rattle.heap_rule_tests.specs.Pushes.{IsEmptyClaim};
+ghost use Rattle.heap_rule_tests.specs.Scenes.{AreFresh, IsFresh};
 
 use crate::caches::fill_cache;
 use crate::pops::{pop_free, pop_seen};
 use crate::pushes::push_free;
 use crate::refusal::Refusal;
 use crate::takes::take_one;
-use crash_core::Owners;
+use crash_core::{Core, Owners};
 use dictionary::{DictFilter, root_kinds};
 use heap_recover::recover;
 use heap_rule::{Seat, Shared, close_shared, open_shared};
@@ -71,11 +72,24 @@ pub fn shared(
     requires budget { budget < 1099511627776 }
     ensures all { IfOk result (λ r. AreSeatsOf r.0 r.1.items) }
     ensures count { IfOk result (λ r. length r.1.items ≡ seats) }
-    ensures fresh { IfOk result (λ r. AreEmpty r.1.items) }
+    ensures empty { IfOk result (λ r. AreEmpty r.1.items) }
+    ensures fresh { IfOk result (λ r. AreFresh r.1.items) }
 {
     let held = in_turn(alloc, heap.held().len(), seats)?;
     let roots = in_turn(alloc, ROOTS as usize, seats)?;
     Ok(open_shared(alloc, heap, &Owners::new(held, roots), seats, budget)?)
+}
+
+/// The core of the heap, opened for some seats with the same owners.
+pub fn opened(alloc: Global, heap: &Ready, seats: usize, budget: u64) -> Result<Core, Fail>
+    requires some { 1 ≤ seats }
+    requires seats { seats ≤ 8 }
+    requires budget { budget < 1099511627776 }
+    ensures count { IfOk result (λ core. length core.state.seats.items ≡ seats) }
+{
+    let held = in_turn(alloc, heap.held().len(), seats)?;
+    let roots = in_turn(alloc, ROOTS as usize, seats)?;
+    Ok(Core::of(alloc, heap, &Owners::new(held, roots), seats, budget)?)
 }
 
 /// A seat of the heap takes a superblock that was never taken.
@@ -115,6 +129,8 @@ pub fn pair(
     ensures count { IfOk result (λ r. r.0.seats ≡ 2) }
     ensures first { IfOk result (λ r. IsSeatOf r.0 r.1) }
     ensures second { IfOk result (λ r. IsSeatOf r.0 r.2) }
+    ensures first_fresh { IfOk result (λ r. IsFresh r.1.view) }
+    ensures second_fresh { IfOk result (λ r. IsFresh r.2.view) }
     ensures none { IfOk result (λ r. r.3.items ≡ []) }
     ensures empty { IfOk result (λ r. vec_len r.3 ≡ 0) }
     ensures room { IfOk result (λ r. 2 ≤ vec_capacity r.3) }

@@ -33,6 +33,10 @@ mod filling;
 #[cfg(test)]
 mod fixtures;
 #[cfg(test)]
+mod giving;
+#[cfg(test)]
 mod listing;
+#[cfg(test)]
+mod scenes;
 #[cfg(test)]
 mod taking;
