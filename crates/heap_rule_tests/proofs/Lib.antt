@@ -12,3 +12,4 @@ pub mod PartialLemmas
 pub mod BatchLemmas
 pub mod LargeLemmas
 pub mod SceneLemmas
+pub mod HoldLemmas

@@ -35,8 +35,12 @@ mod fixtures;
 #[cfg(test)]
 mod giving;
 #[cfg(test)]
+mod holding;
+#[cfg(test)]
 mod listing;
 #[cfg(test)]
 mod scenes;
+#[cfg(test)]
+mod spanning;
 #[cfg(test)]
 mod taking;
