@@ -29,6 +29,8 @@ pub use stores::{load_own, store_own};
 pub use takes::take_one;
 
 #[cfg(test)]
+mod beside_core;
+#[cfg(test)]
 mod filling;
 #[cfg(test)]
 mod fixtures;
