@@ -1,5 +1,5 @@
 -- What the making of a superblock's blocks leaves.
-use Rattle.std.proofs.Common.{◌≡◌, ◌≢◌, ◌≤◌, ◌<◌, ℕ, zero, suc, ◌+◌, ◌-◌, ◌*◌, inl, inr, false, cond, nat_eq, nat_le, nat_lt, List, [], ◌∷◌, get_or, length, length-set, set, suc-mul, eq-eqb, None, Some, refl, ap, ap₂, sym, subst, ◌∙◌, le-leb, lt-ltb, arith}
+use Rattle.std.proofs.Common.{◌≡◌, ◌≢◌, ◌≤◌, ◌<◌, ℕ, zero, suc, ◌+◌, ◌-◌, ◌*◌, inl, inr, Bool, true, false, cond, nat_eq, nat_le, nat_lt, List, [], ◌∷◌, get_or, length, length-set, set, suc-mul, eq-eqb, None, Some, refl, ap, ap₂, sym, subst, ◌∙◌, le-leb, lt-ltb, arith}
 use Rattle.std.proofs.lemmas.Bool.{cases_lt}
 use Rattle.heap_model.specs.Counting.{times, without}
 use Rattle.std.proofs.lemmas.List.{get_or-set_other, get_or-set_same}
@@ -10,8 +10,9 @@ use Rattle.heap_model.specs.Words.{full_anchor}
 use Rattle.core_model.specs.declared.event.Event.TheVariants.{Store, Settle, Tick}
 use Rattle.core_model.specs.declared.event.Shift.TheVariants.{Cut}
 use Rattle.core_model.specs.Cells.{Cell, anchor_cell, data_cell, info_cell, cell_at, superblock_at}
-use Rattle.core_model.specs.Effects.{class_blocks, drew, last_of, learn, steps, stored, used_up}
+use Rattle.core_model.specs.Effects.{after_cut, class_blocks, drew, last_of, learn, steps, stopped, stored, used_up}
 use Rattle.core_model.specs.Guards.{IsOwn}
+use Rattle.core_model.specs.Memory.{memory_of}
 use Rattle.core_model.specs.View.{Setup, View, of_class, times_raw}
 use Rattle.core_model.proofs.PlaceLemmas.{and_is, cell_at_index, not-eq, pick, skip}
 use Rattle.core_model.proofs.TotalLemmas.{eq-eqb-one}
@@ -24,7 +25,7 @@ use Rattle.heap_rule.specs.Shown.{Shows, ShowsLinks, by_claim, as_full, Can, Can
 use Rattle.heap_rule.proofs.LeftLemmas.{draw_cuts}
 use Rattle.heap_rule.proofs.RawLemmas.{no_block, raw_blank, raw_inside, raw_once, store_shown, settle_left, volatile_long, durable_long}
 use Rattle.heap_rule.proofs.ViewLemmas.{last_there}
-use Rattle.heap_rule_tests.specs.Cuts.{HasBegun, HasClass, HasLinked, HasLinks, HasMade, with_making}
+use Rattle.heap_rule_tests.specs.Cuts.{HasBegun, HasClass, HasLinked, HasLinks, HasMade, KeepsHeld, with_making}
 use Rattle.heap_rule_tests.specs.Draws.{HasDrawn, HasStopped}
 
 pub none_last : (bs : List ℕ) → length bs ≡ 0 → last_of bs ≡ 0
@@ -340,3 +341,25 @@ module _ (v t x y : View) (d class : ℕ) (begun : HasBegun d v t) (set_is : Has
 
   pub made : (w : View) → IsClass class → d < v.floor → of_class v.caches class ≡ [] → (y.stopped ≡ None → (found : ℕ) × IsEvent (Tick (Some (Cut d))) y found w) → w.stopped ≡ None → HasMade d class v w
   made w is low empty event going = let e = event links.going in made_from e.0 w going (draw_cuts d y w e.0 e.1 going (cut_can is low empty))
+
+-- what is held stays where parts do, and where the blocks of a superblock are cut off or not
+pub held_kept : (v w : View) → KeepsParts v w → KeepsHeld v w
+held_kept v w p = record { small = p.small; large = p.large; roots = p.roots }
+
+pub held_then : (u v w : View) → KeepsHeld u v → KeepsHeld v w → KeepsHeld u w
+held_then u v w p q = record { small = q.small ∙ p.small; large = q.large ∙ p.large; roots = q.roots ∙ p.roots }
+
+pub held_begun : (v w : View) (d : ℕ) → HasBegun d v w → KeepsHeld v w
+held_begun v w d begun = record { small = begun.parts.small; large = begun.parts.large; roots = begun.parts.roots }
+
+pub held_set : (v w : View) (d class : ℕ) → HasClass d class v w → KeepsHeld v w
+held_set v w d class set = record { small = set.parts.small; large = set.parts.large; roots = set.parts.roots }
+
+pub held_linked : (v w : View) (d class : ℕ) → HasLinks d class v w → KeepsHeld v w
+held_linked v w d class linked = record { small = linked.parts.small; large = linked.parts.large; roots = linked.parts.roots }
+
+pub held_cut : (v w : View) (d found : ℕ) → IsEvent (Tick (Some (Cut d))) v found w → KeepsHeld v w
+held_cut v w d found event = by_budget (nat_lt found v.setup.budget) event.after where
+  by_budget : (below : Bool) → w ≡ cond below (after_cut (memory_of v.setup.capacity event.before.words) (drew v found) d) (stopped v found) → KeepsHeld v w
+  by_budget true after = record { small = ap (λ (x : View). x.small) after; large = ap (λ (x : View). x.large) after; roots = ap (λ (x : View). x.roots) after }
+  by_budget false after = record { small = ap (λ (x : View). x.small) after; large = ap (λ (x : View). x.large) after; roots = ap (λ (x : View). x.roots) after }

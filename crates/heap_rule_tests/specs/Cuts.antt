@@ -44,6 +44,12 @@ pub record HasLinks (d class : ℕ) (v w : View) : Type 0 where
   pub info : Shows w (info_cell d) class
   pub links : ShowsLinks w (class_blocks v.setup.capacity class d)
 
+-- it holds the same blocks, and owns the same roots
+pub record KeepsHeld (v w : View) : Type 0 where
+  pub small : w.small ≡ v.small
+  pub large : w.large ≡ v.large
+  pub roots : w.roots ≡ v.roots
+
 -- all its blocks are in the cache of the class, and it is claimed no more
 pub record HasMade (d class : ℕ) (v w : View) : Type 0 where
   pub going : w.stopped ≡ None

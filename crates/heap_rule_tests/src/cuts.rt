@@ -8,7 +8,7 @@ ghost use Rattle.core_model.specs.Cells.{info_cell, superblock_at};
 ghost use Rattle.core_model.specs.View.{of_class, times_raw};
 ghost use Rattle.heap_rule.specs.Seated.{IsSeatOf};
 ghost use Rattle.heap_rule.specs.Shown.{Shows};
-ghost use Rattle.heap_rule_tests.specs.Cuts.{HasBegun, HasClass, HasLinked, HasLinks, HasMade};
+ghost use Rattle.heap_rule_tests.specs.Cuts.{HasBegun, HasClass, HasLinked, HasLinks, HasMade, KeepsHeld};
 ghost use Rattle.heap_rule_tests.specs.Draws.{HasStopped};
 
 use crate::draws::draw;
@@ -97,6 +97,7 @@ pub fn make_blocks(seat: &mut Seat, shared: &Shared, d: u64, class: u8) -> Resul
     requires durable { d < seat.old.view.floor }
     requires uncached { of_class seat.old.view.caches class ≡ [] }
     ensures made { OnOk result (HasMade d class seat.old.view seat.new.view) }
+    ensures held { KeepsHeld seat.old.view seat.new.view }
     ensures stopped { IfErr result (λ e. seat.new.view.stopped ≡ Some e.step) }
     ensures seat { IsSeatOf shared.now seat.new }
 {
