@@ -1,0 +1,4 @@
+pub mod HandLemmas
+pub mod RootLemmas
+pub mod SlotLemmas
+pub mod JobLemmas

@@ -1,0 +1,70 @@
+-- What a thread's acts leave of its seat, and what its slots say of the blocks that the seat holds.
+use Rattle.std.specs.Prelude.{◌≡◌, ◌≤◌, ◌<◌, ℕ, ◌+◌, All, cond, nat_eq, List, Option, None, Some, ⊤, IfSome}
+use Rattle.heap_model.specs.Counting.{one_if, times, total}
+use Rattle.heap_model.specs.Geometry.{roots}
+use Rattle.heap_model.specs.Sizes.{IsClass}
+use Rattle.core_model.specs.View.{View, of_class}
+use Rattle.heap_rule_threads.specs.declared.slots.HeldBlock.{HeldBlock}
+use Rattle.heap_rule_threads.specs.declared.slots.Slot.{Slot}
+
+-- the seat holds the same small blocks, and owns the same roots
+pub record KeepsHeld (v w : View) : Type 0 where
+  pub small : w.small ≡ v.small
+  pub roots : w.roots ≡ v.roots
+
+-- it owns the same roots and claims the same superblocks, as durably
+pub record KeepsClaims (v w : View) : Type 0 where
+  pub roots : w.roots ≡ v.roots
+  pub raw : w.raw ≡ v.raw
+  pub floor : v.floor ≤ w.floor
+
+-- both
+pub record Stays (v w : View) : Type 0 where
+  pub held : KeepsHeld v w
+  pub claims : KeepsClaims v w
+
+-- the superblock is claimed, if there is one, and no crash forgets that it was taken
+abbrev pub Claims : Option ℕ → View → Type 0
+Claims None v = ⊤
+Claims (Some d) v = (0 < times d v.raw) × (d < v.floor)
+
+-- how often a block of a class is held
+abbrev pub times_held : ℕ → ℕ → Option HeldBlock → ℕ
+times_held class block None = 0
+times_held class block (Some held) = cond (nat_eq held.class class) (one_if (nat_eq held.block block)) 0
+
+-- what is held has a class
+abbrev pub HasClass : Option HeldBlock → Type 0
+HasClass held = IfSome held (λ h. IsClass h.class)
+
+-- the one was held and the other is held now, and all other blocks of the seat are as before
+abbrev pub Turns : Option HeldBlock → Option HeldBlock → View → View → Type 0
+Turns old new v w = (class block : ℕ) → times block (of_class w.small class) + times_held class block old
+    ≡ times block (of_class v.small class) + times_held class block new
+
+-- the root is the seat's own, and the seat holds the block
+pub record IsSlot (slot : Slot) (v : View) : Type 0 where
+  pub root : slot.root < roots
+  pub own : 0 < times slot.root v.roots
+  pub class : HasClass slot.held
+  pub held : IfSome slot.held (λ h. 0 < times h.block (of_class v.small h.class))
+
+-- how often slots have a block of a class
+abbrev pub times_in : ℕ → ℕ → List Slot → ℕ
+times_in class block slots = total (λ (slot : Slot). times_held class block slot.held) slots
+
+-- the root is the seat's own, and what is held has a class
+pub record IsRoot (slot : Slot) (v : View) : Type 0 where
+  pub root : slot.root < roots
+  pub own : 0 < times slot.root v.roots
+  pub class : HasClass slot.held
+
+-- and the seat holds each block at least as often as the slots have it
+pub record AreSlots (slots : List Slot) (v : View) : Type 0 where
+  pub roots_are : All (λ slot. IsRoot slot v) slots
+  pub held : (class block : ℕ) → times_in class block slots ≤ times block (of_class v.small class)
+
+-- the seat holds what it held, but for the blocks that left slots or came into them
+abbrev pub HoldsSame : List Slot → List Slot → View → View → Type 0
+HoldsSame old new v w = (class block : ℕ) → times block (of_class w.small class) + times_in class block old
+    ≡ times block (of_class v.small class) + times_in class block new

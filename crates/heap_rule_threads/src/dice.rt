@@ -1,0 +1,50 @@
+//! Random choices.
+
+ghost use Rattle.std.specs.Prelude.{◌<◌};
+ghost use Rattle.heap_model.specs.Sizes.{IsClass};
+
+use line_memory::Chance;
+use rand_core::Rng;
+use rand_pcg::Lcg64Xsh32;
+
+/// The least class that is drawn. Superblocks of smaller ones have more blocks, each of which takes
+/// a ticket when it is made.
+const LEAST_CLASS: u8 = 12;
+
+/// How many classes there are from that one on.
+const CLASSES: u64 = 9;
+
+/// A source of numbers.
+#[derive(Drop)]
+pub struct Dice {
+    generator: Lcg64Xsh32,
+}
+
+impl Dice {
+    pub fn new(seed: u64) -> Dice {
+        Dice {
+            generator: Lcg64Xsh32::new(seed, 0),
+        }
+    }
+
+    /// A number below a bound.
+    pub fn below(&mut self, bound: u64) -> u64
+        requires { 0 < bound }
+        ensures { result < bound }
+    {
+        self.generator.next_u64() % bound
+    }
+
+    /// One of the greater classes.
+    pub fn class(&mut self) -> u8
+        ensures { IsClass result }
+    {
+        LEAST_CLASS + self.below(CLASSES) as u8
+    }
+}
+
+impl Chance for Dice {
+    fn draw(&mut self) -> u64 {
+        self.generator.next_u64()
+    }
+}

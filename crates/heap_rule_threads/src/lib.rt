@@ -1,0 +1,26 @@
+//! Threads over the seats of a shared heap: each takes random acts with a seat of its own, by the
+//! rows of calls of `heap_rule_tests`, and tells which blocks it holds at the end.
+#![tactic(auto, unfolding(heap_model::specs::Geometry::largest_capacity))]
+
+mod acts;
+mod claims;
+mod dice;
+mod jobs;
+mod publishing;
+mod rounds;
+mod slots;
+mod together;
+mod turns;
+mod working;
+
+pub use dice::Dice;
+pub use jobs::{Plan, Report};
+pub use publishing::publish;
+pub use slots::{HeldBlock, Slot};
+pub use together::{Ended, work_together};
+pub use working::{Job, Order, Task, Told, Worked, work};
+
+#[cfg(test)]
+mod plain;
+#[cfg(test)]
+mod running;

@@ -1,0 +1,193 @@
+//! A slow look at the words of a heap, by the rules of its format in docs/IMAGE.md and not by the
+//! code that keeps them.
+
+use std::alloc::{AllocError, Global};
+
+/// The words of a block of each class, and 0 where there is no class.
+const SIZES: [u64; 21] = [
+    0, 2, 4, 6, 8, 12, 16, 24, 32, 48, 64, 96, 128, 192, 256, 384, 512, 768, 1_024, 1_536, 1_792,
+];
+
+/// How many words a superblock has.
+const SUPERBLOCK: u64 = 8_192;
+
+/// The word of the head of the list of the free superblocks; those of the classes follow.
+const HEADS: u64 = 16;
+
+/// The word of the info of the first superblock; its anchor and its link follow.
+const INFOS: u64 = 1_064;
+
+/// How many words a block of the class has, or 0 where that is no class.
+pub fn size_of(class: u64) -> u64 {
+    SIZES.get(class as usize).copied().unwrap_or(0)
+}
+
+/// What is wrong with a heap.
+#[derive(Clone, Copy, Debug, PartialEq, Eq)]
+pub enum Wrong {
+    /// A list leads to a superblock that was never taken, or is in a list already, or has no free
+    /// block.
+    List(u64),
+    /// The anchor of this superblock tells another state than its count of free blocks.
+    Anchor(u64),
+    /// A free block of this superblock is none, or has a word of another block.
+    Free(u64),
+    /// This held block is none, or has a word of another block, or all of its superblock is free.
+    Held(u64),
+}
+
+/// A look at the words of a heap.
+#[derive(Drop)]
+struct Look<'a> {
+    words: &'a [u64],
+    /// By word, whether a block that was met has it.
+    met: Vec<bool>,
+    /// By superblock, in which list it was met: 21 for none.
+    list: Vec<u64>,
+}
+
+impl<'a> Look<'a> {
+    fn new(alloc: Global, words: &'a [u64]) -> Result<Look<'a>, AllocError> {
+        Ok(Look {
+            words,
+            met: vec![in alloc; false; words.len()]?,
+            list: vec![in alloc; 21; words.len() / SUPERBLOCK as usize]?,
+        })
+    }
+
+    fn at(&self, word: u64) -> u64 {
+        self.words.get(word as usize).copied().unwrap_or(0)
+    }
+
+    fn info(&self, d: u64) -> u64 {
+        self.at(d.wrapping_mul(8).wrapping_add(INFOS))
+    }
+
+    fn anchor(&self, d: u64) -> u64 {
+        self.at(d.wrapping_mul(8).wrapping_add(INFOS + 1))
+    }
+
+    fn link(&self, d: u64) -> u64 {
+        self.at(d.wrapping_mul(8).wrapping_add(INFOS + 2))
+    }
+
+    /// The first word of a superblock.
+    fn start(&self, d: u64) -> u64 {
+        let first = self.at(2).wrapping_mul(8).wrapping_add(INFOS);
+        first.wrapping_add(d.wrapping_mul(SUPERBLOCK))
+    }
+
+    /// Meets a block of a superblock: whether one of its class begins there, none of whose words
+    /// was met.
+    fn meet(&mut self, d: u64, block: u64) -> bool {
+        let size = size_of(self.info(d));
+        let within = block.wrapping_sub(self.start(d));
+        if within.checked_rem(size) != Some(0) || within.saturating_add(size) > SUPERBLOCK {
+            return false;
+        }
+        for i in 0..size {
+            match self.met.get_mut(block.wrapping_add(i) as usize) {
+                Some(met) if !*met => *met = true,
+                _ => return false,
+            }
+        }
+        true
+    }
+
+    /// Meets a superblock in a list: whether it was taken, is in no other, and has free blocks of
+    /// the list's class, or nothing but free blocks.
+    fn meet_listed(&mut self, list: u64, d: u64) -> bool {
+        let state = self.anchor(d) % 4;
+        if d >= self.at(8) || state > 1 {
+            return false;
+        }
+        if list == 0 && state != 0 || list != 0 && self.info(d) != list {
+            return false;
+        }
+        match self.list.get_mut(d as usize) {
+            Some(of) if *of == 21 => {
+                *of = list;
+                true
+            }
+            _ => false,
+        }
+    }
+
+    /// Walks a list to its end.
+    fn walks(&mut self, list: u64) -> bool {
+        let mut next = self.at(list.wrapping_add(HEADS)) % (1 << 24);
+        for _ in 0..=self.list.len() {
+            if next == 0 {
+                return true;
+            }
+            let d = next.wrapping_sub(1);
+            if !self.meet_listed(list, d) {
+                return false;
+            }
+            next = self.link(d);
+        }
+        false
+    }
+
+    /// Whether the anchor of a superblock that is cut tells the state that its count makes.
+    fn is_anchored(&self, d: u64) -> bool {
+        let all = SUPERBLOCK.checked_div(size_of(self.info(d))).unwrap_or(0);
+        let count = self.anchor(d) >> 33;
+        let state = if count == 0 {
+            2
+        } else if count == all {
+            0
+        } else {
+            1
+        };
+        count <= all && self.anchor(d) % 4 == state
+    }
+
+    /// Walks the chain of free blocks of a superblock that is cut, as far as the anchor counts.
+    fn walks_chain(&mut self, d: u64) -> bool {
+        let index = self.anchor(d) % (1 << 33) / 4;
+        let size = size_of(self.info(d));
+        let mut block = self.start(d).wrapping_add(index.wrapping_mul(size));
+        for _ in 0..self.anchor(d) >> 33 {
+            if !self.meet(d, block) {
+                return false;
+            }
+            block = self.at(block);
+        }
+        true
+    }
+
+    /// Meets a held block.
+    fn meet_held(&mut self, block: u64) -> bool {
+        let d = block.wrapping_sub(self.start(0)) / SUPERBLOCK;
+        d < self.at(8) && self.list.get(d as usize) != Some(&0) && self.meet(d, block)
+    }
+}
+
+/// What is wrong with a heap of which these blocks are held, by their first words; none where each
+/// superblock is in one list at most, and no word is in two blocks that are held or free.
+pub fn wrong_with(alloc: Global, words: &[u64], held: &[u64]) -> Result<Option<Wrong>, AllocError> {
+    let mut look = Look::new(alloc, words)?;
+    for list in 0..21 {
+        if !look.walks(list) {
+            return Ok(Some(Wrong::List(list)));
+        }
+    }
+    for d in 0..look.at(8) {
+        if size_of(look.info(d)) == 0 || look.list.get(d as usize) == Some(&0) {
+            continue;
+        }
+        if !look.is_anchored(d) {
+            return Ok(Some(Wrong::Anchor(d)));
+        }
+        if !look.walks_chain(d) {
+            return Ok(Some(Wrong::Free(d)));
+        }
+    }
+    for block in held {
+        if !look.meet_held(*block) {
+            return Ok(Some(Wrong::Held(*block)));
+        }
+    }
+    Ok(None)
+}

@@ -1,0 +1,17 @@
+//! The blocks that a thread holds, each with the root that leads to it.
+
+/// A block of a class that is held, by its first word.
+#[derive(Clone, Copy, Debug, PartialEq, Eq)]
+pub struct HeldBlock {
+    pub block: u64,
+    pub class: u8,
+    /// Its root leads to it, and a crash leaves that.
+    pub published: bool,
+}
+
+/// A root of the seat's own, and the held block that it is for.
+#[derive(Clone, Copy, Debug, PartialEq, Eq)]
+pub struct Slot {
+    pub root: u64,
+    pub held: Option<HeldBlock>,
+}
