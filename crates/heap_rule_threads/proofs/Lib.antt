@@ -2,3 +2,4 @@ pub mod HandLemmas
 pub mod RootLemmas
 pub mod SlotLemmas
 pub mod JobLemmas
+pub mod ToldLemmas

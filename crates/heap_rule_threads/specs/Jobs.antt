@@ -1,7 +1,12 @@
 -- The work that is dealt out to threads, and what they tell of it.
-use Rattle.std.specs.Prelude.{◌≡◌, ◌≤◌, ◌<◌, ℕ, ◌+◌, All, List, None, length, get_or}
+use Rattle.std.specs.Prelude.{◌≡◌, ◌≢◌, ◌≤◌, ◌<◌, ℕ, ◌+◌, ◌*◌, All, List, None, length, get_or, slice_index}
 use Rattle.heap_model.specs.Counting.{times, total}
+use Rattle.heap_model.specs.Blocks.{Names}
+use Rattle.heap_model.specs.Durability.{Mixes}
 use Rattle.heap_model.specs.Geometry.{roots}
+use Rattle.heap_model.specs.Image.{Image}
+use Rattle.heap_model.specs.Sizes.{words_of_class}
+use Rattle.line_memory.specs.ClosedWords.{ClosedWords}
 use Rattle.core_model.specs.View.{of_class}
 use Rattle.heap_rule.specs.Seated.{SharedView, SeatView, IsSeatOf}
 use Rattle.heap_rule_threads.specs.declared.jobs.Report.{Report}
@@ -44,3 +49,13 @@ times_told class block reports = total (λ (report : Report). times_in class blo
 -- the seats hold each block at least as often as it is told
 abbrev pub AreTold : List Report → List SeatView → Type 0
 AreTold reports seats = (class block : ℕ) → times_told class block reports ≤ times_seated class block seats
+
+-- no block is told twice, nor of two classes
+pub record AreApart (reports : List Report) : Type 0 where
+  pub once : (class block : ℕ) → times_told class block reports ≤ 1
+  pub one_class : (class other block : ℕ) → class ≢ other → times_told class block reports + times_told other block reports ≤ 1
+
+-- each mixture of the words that loads saw and of those that a crash would have left names each block that is told
+abbrev pub AreNamed : ClosedWords → List Report → Type 0
+AreNamed left reports = (image : Image) → Mixes (slice_index left.now) (slice_index left.kept) image → (class block : ℕ) → 0 < times_told class block reports
+    → Names image (8 * block) (record { first_word = block; words = words_of_class class })

@@ -125,6 +125,7 @@ pub fn part(
     requires worked { All (IsWorkedOf shared.now) worked.items }
     ensures seats { IfOk result (λ r. All (IsSeatOf shared.now) r.0.items) }
     ensures count { IfOk result (λ r. length r.0.items ≡ length worked.items) }
+    ensures reports { IfOk result (λ r. length r.1.items ≡ length worked.items) }
     ensures told { IfOk result (λ r. AreTold r.1.items r.0.items) }
 {
     let _seats = shared;

@@ -10,7 +10,7 @@ use heap_recover::recover;
 use region_header::format;
 use std::alloc::Global;
 use std::test::Fail;
-use super_block::{Block, Ready};
+use super_block::{Block, Ready, USED_WORD};
 
 /// How many acts a thread tries.
 const ACTS: u64 = 1_000;
@@ -93,20 +93,20 @@ fn recovery_finds_what_threads_hold(rt: HostRuntime) -> Result<(), Fail> {
     Ok(())
 }
 
-/// Budgets at which threads stop in the middle.
-const BUDGETS: [(usize, u64, u64); 6] = [
+/// How many threads there are, a budget at which some of them stop in the middle, and the seed.
+const STOPS: [(usize, u64, u64); 6] = [
     (2, 100, 1),
     (2, 1_000, 2),
-    (4, 3_000, 3),
-    (4, 5_000, 4),
-    (8, 5_000, 5),
-    (8, 9_000, 6),
+    (4, 1_500, 3),
+    (4, 3_000, 4),
+    (8, 3_000, 5),
+    (8, 6_000, 6),
 ];
 
 #[test]
 fn a_crash_leaves_what_was_published(rt: HostRuntime) -> Result<(), Fail> {
     let alloc = rt.alloc();
-    for (threads, budget, seed) in BUDGETS {
+    for (threads, budget, seed) in STOPS {
         let plan = Plan {
             threads,
             budget,
@@ -116,9 +116,7 @@ fn a_crash_leaves_what_was_published(rt: HostRuntime) -> Result<(), Fail> {
             seed,
         };
         let ended = work_together(&rt, alloc, empty_heap(alloc, SUPERBLOCKS)?, &plan)?;
-        for report in &ended.reports {
-            assert!(rt; !report.told.done);
-        }
+        assert!(rt; ended.reports.iter().any(|report| !report.told.done));
         let held = told(alloc, &ended, false)?;
         let left = recovered(alloc, &ended.left.kept)?;
         for block in &told(alloc, &ended, true)? {
@@ -131,6 +129,41 @@ fn a_crash_leaves_what_was_published(rt: HostRuntime) -> Result<(), Fail> {
         assert_eq!(rt; wrong_with(alloc, &ended.left.now, &blocks)?, None);
         let blocks = first_words(alloc, left.held())?;
         assert_eq!(rt; wrong_with(alloc, left.words(), &blocks)?, None);
+    }
+    Ok(())
+}
+
+/// A task, how many threads do it, and how often.
+const TASKS: [(Task, usize, u64); 6] = [
+    (Task::PopAndPush, 1, 1_000),
+    (Task::PopAndPush, 2, 1_000),
+    (Task::PopAndPush, 8, 1_000),
+    (Task::LoadAndStore, 1, 1_000),
+    (Task::LoadAndStore, 4, 1_000),
+    (Task::LoadAndStore, 8, 1_000),
+];
+
+#[test]
+fn a_list_that_threads_pop_and_push_stays_one(rt: HostRuntime) -> Result<(), Fail> {
+    let alloc = rt.alloc();
+    for (task, threads, times) in TASKS {
+        let mut image = format(alloc, SUPERBLOCKS)?;
+        image[USED_WORD as usize] = SUPERBLOCKS / 2;
+        let plan = Plan {
+            threads,
+            budget: MANY,
+            slots: 1,
+            task,
+            times,
+            seed: 1,
+        };
+        let ended = work_together(&rt, alloc, recovered(alloc, &image)?, &plan)?;
+        for report in &ended.reports {
+            assert!(rt; report.told.done);
+            assert!(rt; threads > 1 || report.told.losses == 0);
+        }
+        assert_eq!(rt; wrong_with(alloc, &ended.left.now, &[])?, None);
+        assert!(rt; recovered(alloc, &ended.left.now)?.held().is_empty());
     }
     Ok(())
 }

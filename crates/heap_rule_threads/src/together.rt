@@ -1,14 +1,11 @@
 //! Threads work on one heap together.
 
-ghost use Rattle.std.specs.Prelude.{◌≡◌, ◌<◌, ◌≤◌, ℕ, All, IfOk, length, slice_index};
-ghost use Rattle.heap_rule.specs.Seated.{IsSeatOf};
-ghost use Rattle.heap_rule.specs.Seats.{AreSeatsOf};
-ghost use Rattle.heap_rule_threads.specs.Jobs.{HaveRoots, IsJobOf, IsWorkedOf};
+ghost use Rattle.std.specs.Prelude.{◌≡◌, ◌<◌, ◌≤◌, IfOk, length};
+ghost use Rattle.heap_rule_threads.specs.Jobs.{AreApart, AreNamed, IsJobOf, IsWorkedOf};
 
 use crate::jobs::{Plan, Report, deal_jobs, owners_in_turn, part};
 use crate::working::{Job, Worked, work};
-use crash_core::Owners;
-use heap_rule::{Seat, Shared, close_shared, open_shared};
+use heap_rule::{a_closed_heap_names_each_held_block, close_shared, open_shared};
 use line_memory::Closed;
 use std::alloc::{AllocError, Global};
 use std::thread;
@@ -25,7 +22,8 @@ pub struct Ended {
 }
 
 /// Opens a heap at rest for as many seats as the plan has threads, has each thread work with one,
-/// and closes the heap. It fails only where memory runs out.
+/// and closes the heap. Whatever the threads did, no block is told twice, and each is named by what
+/// is left, also where a crash leaves it. It fails only where memory runs out.
 pub fn work_together<R: Threads + Sync>(
     rt: &R,
     alloc: Global,
@@ -35,6 +33,9 @@ pub fn work_together<R: Threads + Sync>(
     requires some { 1 ≤ plan.now.threads }
     requires few { plan.now.threads ≤ 8 }
     requires budget { plan.now.budget < 1099511627776 }
+    ensures count { IfOk result (λ e. length e.reports.items ≡ plan.now.threads) }
+    ensures apart { IfOk result (λ e. AreApart e.reports.items) }
+    ensures named { IfOk result (λ e. AreNamed e.left e.reports.items) }
 {
     let owners = owners_in_turn(alloc, &heap, plan.threads)?;
     let (shared, seats) = open_shared(alloc, heap, &owners, plan.threads, plan.budget)?;
@@ -49,5 +50,6 @@ pub fn work_together<R: Threads + Sync>(
     )?;
     let (seats, reports) = part(alloc, &shared, worked)?;
     let left = close_shared(alloc, shared, seats)?;
+    a_closed_heap_names_each_held_block();
     Ok(Ended { left, reports })
 }

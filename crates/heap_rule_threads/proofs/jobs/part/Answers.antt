@@ -14,6 +14,8 @@ loop-one-preserved c =
       seats = All-same (IsSeatOf c.args.shared.now) c.push.new.self.items _ c.in_ok-push.ensures.items
           (All-push (IsSeatOf c.args.shared.now) c.loop-one.seats.items _ c.loop-one.invariant.seats popped.1.seat);
       told = subst (λ l. AreTold l c.push.new.self.items) (sym c.in_ok-push-2.ensures.items) (subst (λ l. AreTold (c.loop-one.reports.items ++ record { slots = one.slots; told = one.told } ∷ []) l) (sym c.in_ok-push.ensures.items) told);
+      reports = (let count = c.loop-one.invariant.reports in let more = ap length c.in_ok-push-2.ensures.items ∙ length-append c.loop-one.reports.items (record { slots = one.slots; told = one.told } ∷ []) in
+          let fewer = ap length c.in-Some.ensures.items ∙ length-append c.pop.new.self.items (one ∷ []) in omega arith);
       count = (let count = c.loop-one.invariant.count in let more = ap length c.in_ok-push.ensures.items ∙ length-append c.loop-one.seats.items (one.seat ∷ []) in
           let fewer = ap length c.in-Some.ensures.items ∙ length-append c.pop.new.self.items (one ∷ []) in omega arith);
     }

@@ -8,6 +8,7 @@ invariant-loop-one l = record {
   worked : All (IsWorkedOf l.shared) l.worked.items;
   seats : All (IsSeatOf l.shared) l.seats.items;
   told : AreTold l.reports.items l.seats.items;
+  reports : length l.reports.items + length l.worked.items ≡ length l.fn.worked.items;
   count : length l.seats.items + length l.worked.items ≡ length l.fn.worked.items;
 }
 
