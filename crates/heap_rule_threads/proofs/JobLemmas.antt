@@ -1,22 +1,22 @@
 -- Work that is dealt out to seats, and gathered.
-use Rattle.std.proofs.Common.{◌≡◌, ◌≤◌, ◌<◌, ℕ, zero, suc, ◌+◌, All, List, [], ◌∷◌, ◌++◌, None, get_or, length, refl, ap, sym, subst, ◌∙◌, arith}
+use Rattle.std.proofs.Common.{◌≡◌, ◌<◌, ℕ, suc, ◌+◌, List, [], ◌∷◌, ◌++◌, get_or, length, refl, ap, sym, subst, ◌∙◌, arith}
 use Rattle.std.proofs.lemmas.List.{get_or_append_left}
 use Rattle.std.proofs.lemmas.List.Elements.{All-weaker}
 use Rattle.std.proofs.Math.ListN.{length-append}
 use Rattle.std.proofs.Math.Seq.{get_or-append_seam}
 use Rattle.heap_model.specs.declared.block.Block.{Block}
-use Rattle.heap_model.specs.Counting.{times, total}
+use Rattle.heap_model.specs.Counting.{times}
 use Rattle.heap_model.specs.Geometry.{roots}
 use Rattle.core_model.specs.Opening.{opened_view}
 use Rattle.core_model.specs.View.{Setup, View, of_class}
 use Rattle.core_model.proofs.OpenedHeldLemmas.{owns_root}
 use Rattle.crash_core.proofs.PickedLemmas.{total_append}
-use Rattle.heap_rule.specs.Seated.{SharedView, SeatView, IsSeatOf}
-use Rattle.heap_rule.specs.Seats.{AreOpenedSeats, AreSeatsOf}
+use Rattle.heap_rule.specs.Seated.{SharedView, SeatView}
+use Rattle.heap_rule.specs.Seats.{AreOpenedSeats}
 use Rattle.heap_rule_threads.specs.declared.jobs.Report.{Report}
 use Rattle.heap_rule_threads.specs.declared.slots.Slot.{Slot}
 use Rattle.heap_rule_threads.specs.Hands.{AreSlots, HasClass, IsRoot, times_held, times_in}
-use Rattle.heap_rule_threads.specs.Jobs.{AreFreshSlots, AreTold, HaveRoots, IsFreshSlot, times_seated, times_told}
+use Rattle.heap_rule_threads.specs.Jobs.{AreFreshSlots, AreTold, HaveRoots, IsFreshSlot}
 
 -- the seats of an opened heap have the roots that are theirs
 pub opened_roots : (shared : SharedView) (k : Setup) (held : List Block) (block_owners owners : List ℕ) (seats : List SeatView)

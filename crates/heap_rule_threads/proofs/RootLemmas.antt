@@ -1,12 +1,12 @@
 -- What a store to a root, a fence and a draw by chance leave.
-use Rattle.std.proofs.Common.{◌≡◌, ◌≤◌, ◌<◌, ℕ, ◌+◌, List, [], ◌∷◌, Option, None, Some, refl, ap, sym, subst, ◌∙◌, lt-ltb, arith}
+use Rattle.std.proofs.Common.{◌≡◌, ◌<◌, ℕ, List, [], ◌∷◌, Option, None, Some, refl, ap, sym, subst, ◌∙◌, lt-ltb, arith}
 use Rattle.heap_model.specs.Geometry.{roots, root_word}
 use Rattle.core_model.specs.declared.event.Event.TheVariants.{Load, Settle, Store, Tick}
 use Rattle.core_model.specs.Cells.{Cell, cell_at, root_cell}
 use Rattle.core_model.specs.Effects.{drew, learn, stored, used_up}
 use Rattle.core_model.specs.View.{View}
 use Rattle.core_model.proofs.PlaceLemmas.{cell_at_index}
-use Rattle.heap_rule.specs.Fences.{IsFence, IsLineMarked, Settles, SettlesEarly, SettlesOwn, is_own, not_own, no_store, a_store}
+use Rattle.heap_rule.specs.Fences.{IsFence, IsLineMarked, Settles, SettlesEarly, is_own, not_own, no_store, a_store}
 use Rattle.heap_rule.specs.Plays.{IsEvent}
 use Rattle.heap_rule.specs.Seated.{SeatView}
 use Rattle.heap_rule.proofs.PartLemmas.{drawn, none_changed}

@@ -1,14 +1,14 @@
 -- What slots hold, of which one is turned.
-use Rattle.std.proofs.Common.{◌≡◌, ◌≤◌, ◌<◌, ℕ, ◌+◌, cond, nat_eq, All, List, [], ◌∷◌, Option, None, Some, IfSome, get_or, set, length, refl, ap, sym, subst, ◌∙◌, eq-eqb, arith}
+use Rattle.std.proofs.Common.{◌≡◌, ◌<◌, ℕ, cond, nat_eq, List, Option, None, Some, IfSome, get_or, set, length, refl, ap, sym, subst, ◌∙◌, eq-eqb, arith}
 use Rattle.std.proofs.lemmas.List.Elements.{All-get_or, All-set, All-weaker}
-use Rattle.heap_model.specs.Counting.{one_if, times, total, without}
+use Rattle.heap_model.specs.Counting.{one_if, times, without}
 use Rattle.heap_model.specs.Sizes.{IsClass}
 use Rattle.core_model.specs.View.{View, of_class}
 use Rattle.core_model.proofs.TotalLemmas.{eq-eqb-one, total_at, total_set}
 use Rattle.heap_rule.specs.Plays.{Has}
 use Rattle.heap_rule_threads.specs.declared.slots.HeldBlock.{HeldBlock}
 use Rattle.heap_rule_threads.specs.declared.slots.Slot.{Slot}
-use Rattle.heap_rule_threads.specs.Hands.{AreSlots, HasClass, HoldsSame, IsRoot, IsSlot, KeepsClaims, Turns, times_held, times_in}
+use Rattle.heap_rule_threads.specs.Hands.{AreSlots, HasClass, HoldsSame, IsRoot, IsSlot, KeepsClaims, Turns, times_held}
 use Rattle.heap_rule_threads.proofs.HandLemmas.{one_freed}
 
 -- a block is freed

@@ -1,7 +1,6 @@
 -- The blocks that threads tell, of a closed heap whose seats hold them.
-use Rattle.std.proofs.Common.{◌≡◌, ◌≢◌, ◌≤◌, ◌<◌, ℕ, zero, suc, ◌+◌, inl, inr, List, [], ◌∷◌, length, refl, ap, arith}
+use Rattle.std.proofs.Common.{◌≢◌, ◌≤◌, ◌<◌, ℕ, zero, suc, ◌+◌, inl, inr, List, [], ◌∷◌, refl, ap, arith}
 use Rattle.std.proofs.lemmas.Bool.{cases_lt}
-use Rattle.heap_model.specs.declared.block.Block.{Block}
 use Rattle.heap_model.specs.Counting.{times, total}
 use Rattle.heap_model.specs.Sizes.{words_of_class}
 use Rattle.core_model.specs.Cells.{superblock_at}
@@ -12,7 +11,7 @@ use Rattle.crash_core.proofs.FreeSteps.{list_at_most}
 use Rattle.heap_rule.specs.Seated.{SeatView}
 use Rattle.heap_rule.specs.Seats.{IsClosedSound, views_of}
 use Rattle.heap_rule_threads.specs.declared.jobs.Report.{Report}
-use Rattle.heap_rule_threads.specs.Jobs.{AreApart, AreTold, times_seated, times_told}
+use Rattle.heap_rule_threads.specs.Jobs.{AreApart, AreTold, times_seated}
 
 -- a block is in two lists no more often than in all of them
 two_lists : (b class other : ℕ) (lists : List (List ℕ)) → class ≢ other → times b (of_class lists class) + times b (of_class lists other) ≤ total (times b) lists

@@ -13,7 +13,7 @@ use Rattle.heap_rule_threads.specs.declared.jobs.Report.{Report}
 use Rattle.heap_rule_threads.specs.declared.slots.Slot.{Slot}
 use Rattle.heap_rule_threads.specs.declared.working.Job.{Job}
 use Rattle.heap_rule_threads.specs.declared.working.Worked.{Worked}
-use Rattle.heap_rule_threads.specs.Hands.{AreSlots, HoldsSame, times_in}
+use Rattle.heap_rule_threads.specs.Hands.{AreSlots, times_in}
 
 -- the root is the seat's, and leads to no block
 pub record IsFreshSlot (owners : List ℕ) (seat : ℕ) (slot : Slot) : Type 0 where

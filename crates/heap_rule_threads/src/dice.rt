@@ -21,6 +21,7 @@ pub struct Dice {
 }
 
 impl Dice {
+    /// The numbers that follow from the seed.
     pub fn new(seed: u64) -> Dice {
         Dice {
             generator: Lcg64Xsh32::new(seed, 0),

@@ -13,12 +13,10 @@ mod together;
 mod turns;
 mod working;
 
-pub use dice::Dice;
 pub use jobs::{Plan, Report};
-pub use publishing::publish;
 pub use slots::{HeldBlock, Slot};
 pub use together::{Ended, work_together};
-pub use working::{Job, Order, Task, Told, Worked, work};
+pub use working::{Task, Told};
 
 #[cfg(test)]
 mod plain;

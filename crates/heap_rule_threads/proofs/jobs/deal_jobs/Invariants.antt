@@ -1,4 +1,4 @@
-use Rattle.std.proofs.Common.{◌≡◌, ◌+◌, ◌≤◌, length, All}
+use Rattle.std.proofs.Common.{◌≡◌, ◌+◌, length, All}
 use Rattle.heap_rule.specs.Seated.{IsSeatOf}
 use Rattle.heap_rule_threads.specs.Jobs.{HaveRoots, IsJobOf}
 use Rattle.heap_rule_threads.proofs.jobs.deal_jobs.Given as goal
