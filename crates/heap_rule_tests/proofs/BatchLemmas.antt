@@ -20,7 +20,8 @@ use Rattle.heap_rule.specs.Plays.{Has, IsEvent}
 use Rattle.heap_rule.specs.Shown.{Can, CanGive, CanStore, Shows}
 use Rattle.heap_rule.proofs.LeftLemmas.{draw_done, give_lost, give_won}
 use Rattle.heap_rule.proofs.PartLemmas.{left_as, one_more}
-use Rattle.heap_rule.proofs.ViewLemmas.{block_below, block_class, block_once, block_range, last_there}
+use Rattle.crash_core.proofs.LiftSteps.{last_there}
+use Rattle.heap_rule.proofs.ViewLemmas.{block_below, block_class, block_once, block_range}
 use Rattle.heap_rule_tests.specs.declared.refusal.Refusal.{Refusal}
 use Rattle.heap_rule_tests.specs.declared.refusal.Refusal.TheVariants.{Nothing, Lost, Stopped}
 use Rattle.heap_rule_tests.specs.Batches.{GivesNone, GivesSeen, HasGiven, HasLifted, HasLinkedLast, IsBatchOf, IsNotGiven, with_last, without_batch}

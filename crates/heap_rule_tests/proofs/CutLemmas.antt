@@ -24,13 +24,10 @@ use Rattle.heap_rule.specs.Plays.{Has, IsEvent}
 use Rattle.heap_rule.specs.Shown.{Shows, ShowsLinks, by_claim, as_full, Can, CanCut, CanStore}
 use Rattle.heap_rule.proofs.LeftLemmas.{draw_cuts}
 use Rattle.heap_rule.proofs.RawLemmas.{no_block, raw_blank, raw_inside, raw_once, store_shown, settle_left, volatile_long, durable_long}
-use Rattle.heap_rule.proofs.ViewLemmas.{last_there}
+use Rattle.heap_rule.proofs.StoredLemmas.{of_none}
+use Rattle.crash_core.proofs.LiftSteps.{last_there}
 use Rattle.heap_rule_tests.specs.Cuts.{HasBegun, HasClass, HasLinked, HasLinks, HasMade, KeepsHeld, with_making}
 use Rattle.heap_rule_tests.specs.Draws.{HasDrawn, HasStopped}
-
-pub none_last : (bs : List ℕ) → length bs ≡ 0 → last_of bs ≡ 0
-none_last [] none = refl
-none_last (b ∷ bs) none = absurd (omega (arith, none))
 
 module _ (v : View) (has : Has v) (word : ℕ) (from : start_word v.setup.capacity 0 ≤ word) (until : word < image_words v.setup.capacity) (raw : 0 < times_raw (superblock_at v.setup.capacity word) v) where
   cell_is : cell_at v.setup.capacity word ≡ data_cell word
@@ -52,7 +49,7 @@ module _ (v : View) (has : Has v) (word : ℕ) (from : start_word v.setup.capaci
   not_last : word ≢ last_of v.batch.blocks
   not_last same = elim (cases_lt 0 (length v.batch.blocks)) [
     | inl some ↦ absurd (let none = no_block v has word raw in let there = subst (λ n. 0 < times n v.batch.blocks) (sym same) (last_there v.batch.blocks (omega arith)) in omega arith)
-    | inr none ↦ let zero_last = none_last v.batch.blocks (omega arith) in omega (arith, same, zero_last, from)
+    | inr none ↦ let zero_last = of_none v.batch.blocks (omega arith) in omega (arith, same, zero_last, from)
   ]
 
   batch_is : record v.batch { linked = cond (nat_eq word (last_of v.batch.blocks)) false v.batch.linked } ≡ v.batch

@@ -24,14 +24,15 @@ use Rattle.heap_rule.specs.Parts.{KeepsParts}
 use Rattle.heap_rule.specs.Plays.{Has, IsEvent}
 use Rattle.heap_rule.specs.Shown.{Can, CanFree, CanStore, Shows}
 use Rattle.heap_rule.proofs.LeftLemmas.{draw_frees}
-use Rattle.heap_rule.proofs.ViewLemmas.{block_once, block_range, last_there}
+use Rattle.crash_core.proofs.LiftSteps.{last_there}
+use Rattle.heap_rule.proofs.ViewLemmas.{block_once, block_range}
 use Rattle.heap_rule_tests.specs.Draws.{HasDrawn, HasStopped}
 use Rattle.heap_rule_tests.specs.Frees.{FreesNone, HasFreed, HasWay, linked_before, with_way}
 use Rattle.heap_rule_tests.specs.Stores.{HasStored}
 use Rattle.line_memory.specs.declared.memory.Stopped.{Stopped}
 use Rattle.heap_rule.specs.Seated.{TellsDraw}
 use Rattle.heap_rule_tests.proofs.CacheLemmas.{stopped_at}
-use Rattle.heap_rule_tests.proofs.CutLemmas.{none_last}
+use Rattle.heap_rule.proofs.StoredLemmas.{of_none}
 use Rattle.heap_rule_tests.proofs.PopLemmas.{stopped_later}
 use Rattle.heap_rule_tests.proofs.StoreLemmas.{can_store, stored_left}
 
@@ -62,7 +63,7 @@ module _ (v : View) (has : Has v) (class block : ℕ) (is : IsClass class) (held
   not_last : block ≢ last_of v.batch.blocks
   not_last same = elim (cases_lt 0 (length v.batch.blocks)) [
     | inl some ↦ absurd (let none = held_once in let there = subst (λ n. 0 < times n v.batch.blocks) (sym same) (last_there v.batch.blocks (omega arith)) in let no = none.1 in omega arith)
-    | inr none ↦ let zero_last = none_last v.batch.blocks (omega arith) in let range = block_range v has block had in let low = range.0 in omega (arith, same, zero_last, low)
+    | inr none ↦ let zero_last = of_none v.batch.blocks (omega arith) in let range = block_range v has block had in let low = range.0 in omega (arith, same, zero_last, low)
   ]
 
   pub block_stored : (value : ℕ) (w : View) → HasStored block value v w → KeepsParts (record v { volatile = learn v.volatile block value }) w

@@ -50,8 +50,8 @@ fn store_durably(
     store_own(seat, shared, block, value)?;
     seat.has_a_sound_state();
     let last = seat.last_store(shared, 0);
-    seat.mark(shared, block);
-    seat.settle_marked(shared);
+    seat.write_back(shared, block);
+    seat.fence(shared);
     Ok(last)
 }
 

@@ -23,7 +23,7 @@ pub fn publish(seat: &mut Seat, shared: &Shared, root: u64, value: u64) -> Resul
     let word = ROOT_WORD + root;
     draw(seat, shared)?;
     seat.store_word(shared, word, value);
-    seat.mark(shared, word);
-    seat.settle_marked(shared);
+    seat.write_back(shared, word);
+    seat.fence(shared);
     Ok(())
 }
