@@ -113,7 +113,7 @@ impl Chance for Counted {
     }
 }
 
-/// A seat stores to a held block, and draws by chance.
+/// A seat stores to a held block, and draws by chance, also where it has stopped.
 fn store_by_chance(seat: &mut Seat, shared: &Shared, chance: &mut Counted) -> Result<(), Refusal>
     requires seat { IsSeatOf shared.now seat.old }
     requires fresh { IsFresh seat.old.view }
@@ -121,8 +121,10 @@ fn store_by_chance(seat: &mut Seat, shared: &Shared, chance: &mut Counted) -> Re
 {
     let block = hold_one(seat, shared)?;
     seat.has_a_sound_state();
-    store_own(seat, shared, block, 7)?;
-    seat.draw(shared, None, chance)?;
+    let stored = store_own(seat, shared, block, 7);
+    let drawn = seat.draw(shared, None, chance);
+    stored?;
+    drawn?;
     Ok(())
 }
 
