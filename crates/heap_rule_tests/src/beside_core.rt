@@ -35,64 +35,119 @@ const GIVE: Event = Event::Give { d: 0 };
 /// The head of the list of the class.
 const HEAD: Event = Event::LookHead { list: 20 };
 
-/// Where the descriptor of superblock 0 has its info, its anchor and its link, and where its first
-/// blocks begin.
+/// Where the descriptor of superblock 0 has its info, its anchor and its link, and where its blocks
+/// begin.
 const INFO: u64 = 1_064;
 
 const ANCHOR: u64 = 1_065;
 
 const LINK: u64 = 1_066;
 
-const BLOCKS: [u64; 4] = [1_072, 2_864, 4_656, 6_448];
+const FIRST: u64 = 1_072;
 
-/// A store.
-fn store(word: u64, value: u64) -> Event {
-    Event::Store { word, value }
-}
+const SECOND: u64 = 2_864;
+
+const THIRD: u64 = 4_656;
+
+const FOURTH: u64 = 6_448;
 
 /// The steps of a trade but the plain draws, each with its seat; and whether its exchange is lost.
-fn steps() -> [(usize, Event, bool); 38] {
-    [
-        (0, Event::LookUsed, false),
-        (0, Event::TakeFresh { n: 1 }, false),
-        (0, Event::KeepUsed, false),
-        (0, store(ANCHOR, 2), false),
-        (0, store(INFO, 20), false),
-        (0, Event::Settle { word: INFO }, false),
-        (0, store(BLOCKS[0], BLOCKS[1]), false),
-        (0, store(BLOCKS[1], BLOCKS[2]), false),
-        (0, store(BLOCKS[2], BLOCKS[3]), false),
-        (0, CUT, false),
-        (0, LIFT, false),
-        (0, LOOK, false),
-        (0, GIVE, false),
-        (0, HEAD, false),
-        (0, store(LINK, 0), false),
-        (0, Event::Push { d: 0 }, false),
-        (1, HEAD, false),
-        (1, Event::LookLink, false),
-        (1, Event::Pop, false),
-        (1, LOOK, false),
-        (1, TAKE, false),
-        (0, LIFT, false),
-        (0, LOOK, false),
-        (1, LIFT, false),
-        (1, LOOK, false),
-        (1, GIVE, false),
-        (0, GIVE, true),
-        (0, LOOK, false),
-        (0, store(BLOCKS[1], BLOCKS[0]), false),
-        (0, GIVE, false),
-        (1, LOOK, false),
-        (0, LIFT, false),
-        (0, LOOK, false),
-        (0, store(BLOCKS[2], BLOCKS[1]), false),
-        (0, GIVE, false),
-        (1, TAKE, true),
-        (1, LOOK, false),
-        (1, TAKE, false),
-    ]
-}
+const STEPS: [(usize, Event, bool); 38] = [
+    (0, Event::LookUsed, false),
+    (0, Event::TakeFresh { n: 1 }, false),
+    (0, Event::KeepUsed, false),
+    (
+        0,
+        Event::Store {
+            word: ANCHOR,
+            value: 2,
+        },
+        false,
+    ),
+    (
+        0,
+        Event::Store {
+            word: INFO,
+            value: 20,
+        },
+        false,
+    ),
+    (0, Event::Settle { word: INFO }, false),
+    (
+        0,
+        Event::Store {
+            word: FIRST,
+            value: SECOND,
+        },
+        false,
+    ),
+    (
+        0,
+        Event::Store {
+            word: SECOND,
+            value: THIRD,
+        },
+        false,
+    ),
+    (
+        0,
+        Event::Store {
+            word: THIRD,
+            value: FOURTH,
+        },
+        false,
+    ),
+    (0, CUT, false),
+    (0, LIFT, false),
+    (0, LOOK, false),
+    (0, GIVE, false),
+    (0, HEAD, false),
+    (
+        0,
+        Event::Store {
+            word: LINK,
+            value: 0,
+        },
+        false,
+    ),
+    (0, Event::Push { d: 0 }, false),
+    (1, HEAD, false),
+    (1, Event::LookLink, false),
+    (1, Event::Pop, false),
+    (1, LOOK, false),
+    (1, TAKE, false),
+    (0, LIFT, false),
+    (0, LOOK, false),
+    (1, LIFT, false),
+    (1, LOOK, false),
+    (1, GIVE, false),
+    (0, GIVE, true),
+    (0, LOOK, false),
+    (
+        0,
+        Event::Store {
+            word: SECOND,
+            value: FIRST,
+        },
+        false,
+    ),
+    (0, GIVE, false),
+    (1, LOOK, false),
+    (0, LIFT, false),
+    (0, LOOK, false),
+    (
+        0,
+        Event::Store {
+            word: THIRD,
+            value: SECOND,
+        },
+        false,
+    ),
+    (0, GIVE, false),
+    (1, TAKE, true),
+    (1, LOOK, false),
+    (1, TAKE, false),
+];
 
 /// The events with the draws, and the answer of each.
 type Played = (Vec<(usize, Event)>, Vec<StepAnswer>);
@@ -103,7 +158,7 @@ fn played(alloc: Global, seats: usize) -> Result<Played, Fail>
 {
     let mut events = Vec::new(alloc);
     let mut answers = Vec::new(alloc);
-    for (seat, event, is_lost) in steps() {
+    for (seat, event, is_lost) in STEPS {
         if seat >= seats {
             return Err("no such seat".into());
         }
