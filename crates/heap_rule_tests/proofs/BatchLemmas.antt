@@ -7,7 +7,7 @@ use Rattle.heap_model.specs.Words.{anchor_count, anchor_first, full_anchor}
 use Rattle.heap_model.proofs.SizeLemmas.{two_words}
 use Rattle.core_model.specs.declared.event.Event.TheVariants.{Store, Tick, Give}
 use Rattle.core_model.specs.declared.event.Shift.TheVariants.{Lift}
-use Rattle.core_model.specs.Cells.{Cell, data_cell, cell_at, superblock_at}
+use Rattle.core_model.specs.Cells.{Cell, data_cell, cell_at}
 use Rattle.core_model.specs.Effects.{after_lift, claimed, drew, first_of, given, last_of, learn, lost, seen_of, seen_word, stored, trimmed, won}
 use Rattle.core_model.specs.Guards.{IsOwn}
 use Rattle.core_model.specs.Memory.{memory_of, info}
@@ -25,9 +25,8 @@ use Rattle.heap_rule.proofs.ViewLemmas.{block_below, block_class, block_once, bl
 use Rattle.heap_rule_tests.specs.declared.refusal.Refusal.{Refusal}
 use Rattle.heap_rule_tests.specs.declared.refusal.Refusal.TheVariants.{Nothing, Lost, Stopped}
 use Rattle.heap_rule_tests.specs.Batches.{GivesNone, GivesSeen, HasGiven, HasLifted, HasLinkedLast, IsBatchOf, IsNotGiven, with_last, without_batch}
-use Rattle.heap_rule_tests.specs.Draws.{HasDrawn, HasStopped}
+use Rattle.heap_rule_tests.specs.Draws.{HasDrawn}
 use Rattle.heap_rule_tests.specs.Partials.{HasLostAnchor, HasSeenAnchor}
-use Rattle.heap_rule_tests.specs.Pops.{with_claim}
 use Rattle.heap_rule_tests.specs.Stores.{HasStored}
 use Rattle.heap_rule_tests.proofs.PartialLemmas.{lost_as}
 use Rattle.heap_rule_tests.proofs.PopLemmas.{claim_alike, stopped_later}

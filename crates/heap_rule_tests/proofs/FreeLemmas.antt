@@ -1,5 +1,5 @@
 -- What the freeing of a held block leaves.
-use Rattle.std.proofs.Common.{◌≡◌, ◌≢◌, ◌≤◌, ◌<◌, ℕ, ◌+◌, inl, inr, false, nat_eq, nat_le, nat_lt, cond, List, [], ◌∷◌, Option, None, Some, length, set, Result, Ok, Err, IfErr, refl, ap, sym, subst, ◌∙◌, le-leb, lt-ltb, arith}
+use Rattle.std.proofs.Common.{◌≡◌, ◌≢◌, ◌≤◌, ◌<◌, ℕ, ◌+◌, inl, inr, false, nat_eq, nat_le, nat_lt, List, [], ◌∷◌, Option, None, Some, length, set, Result, Ok, Err, IfErr, refl, ap, sym, subst, ◌∙◌, le-leb, lt-ltb, arith}
 use Rattle.std.specs.Bool.{⊤}
 use Rattle.std.proofs.lemmas.Bool.{cases_lt}
 use Rattle.std.proofs.lemmas.List.{get_or-set_same}
@@ -11,9 +11,9 @@ use Rattle.core_model.specs.declared.event.Event.TheVariants.{Store, Tick}
 use Rattle.core_model.specs.declared.event.Shift.TheVariants.{Free}
 use Rattle.core_model.specs.Cells.{Cell, data_cell, cell_at}
 use Rattle.core_model.specs.Effects.{after_free, drew, first_of, last_of, learn, stored}
-use Rattle.core_model.specs.Guards.{IsOwn, MayChange}
+use Rattle.core_model.specs.Guards.{IsOwn}
 use Rattle.core_model.specs.Sound.{IsSetUp}
-use Rattle.core_model.specs.View.{View, of_class, times_block, times_in_classes, times_own}
+use Rattle.core_model.specs.View.{View, of_class, times_block}
 use Rattle.core_model.proofs.FrameLemmas.{times_without}
 use Rattle.core_model.proofs.OwnerLemmas.{in_lists_total}
 use Rattle.core_model.proofs.PlaceLemmas.{and_is, cell_at_index, not-eq, skip}

@@ -1,8 +1,8 @@
 -- What is held in the tests, and what their fences and splits leave.
-use Rattle.std.proofs.Common.{◌≡◌, ◌≤◌, ◌<◌, ℕ, ◌+◌, ◌*◌, inl, inr, List, [], ◌∷◌, ◌++◌, None, refl, ap, sym, subst, ◌∙◌, arith}
+use Rattle.std.proofs.Common.{◌≡◌, ◌<◌, ℕ, ◌+◌, inl, inr, List, [], ◌∷◌, ◌++◌, None, refl, ap, sym, subst, ◌∙◌, arith}
 use Rattle.std.proofs.lemmas.Bool.{cases_eq}
 use Rattle.heap_model.specs.declared.block.Block.{Block}
-use Rattle.heap_model.specs.Counting.{below, times}
+use Rattle.heap_model.specs.Counting.{times}
 use Rattle.heap_model.specs.Geometry.{start_word}
 use Rattle.heap_model.specs.Sizes.{IsClass, words_of_class}
 use Rattle.core_model.specs.declared.event.Event.TheVariants.{Settle}

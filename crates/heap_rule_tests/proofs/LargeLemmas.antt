@@ -1,17 +1,15 @@
 -- What the holding and the splitting of a large block leave.
-use Rattle.std.proofs.Common.{◌≡◌, ◌≢◌, ◌≤◌, ◌<◌, ℕ, ◌+◌, ◌*◌, inl, inr, cond, nat_eq, ◌∷◌, get_or, set, Option, None, Some, Result, Ok, Err, IfErr, OnOk, refl, ap, sym, subst, ◌∙◌, eq-eqb, arith}
+use Rattle.std.proofs.Common.{◌≡◌, ◌≢◌, ◌≤◌, ◌<◌, ℕ, ◌+◌, inl, inr, nat_eq, ◌∷◌, get_or, Option, None, Some, Result, Ok, Err, IfErr, refl, ap, sym, subst, ◌∙◌, eq-eqb, arith}
 use Rattle.std.specs.Bool.{⊤}
 use Rattle.std.proofs.lemmas.Bool.{cases_lt}
 use Rattle.std.proofs.lemmas.List.{get_or-set_other}
 use Rattle.heap_model.specs.Counting.{times}
 use Rattle.heap_model.specs.Geometry.{info_word, start_word}
-use Rattle.heap_model.specs.Words.{large_info}
 use Rattle.core_model.specs.declared.event.Event.TheVariants.{Tick}
 use Rattle.core_model.specs.declared.event.Shift.{Shift}
 use Rattle.core_model.specs.declared.event.Shift.TheVariants.{Large, Split}
 use Rattle.core_model.specs.Cells.{info_cell, superblock_at}
 use Rattle.core_model.specs.Effects.{after_large, after_split, cleared, drew, learn, span_count, trimmed, without_range}
-use Rattle.core_model.specs.Guards.{MaySplit}
 use Rattle.core_model.specs.View.{Setup, View, times_raw}
 use Rattle.core_model.proofs.PlaceLemmas.{pick}
 use Rattle.heap_rule.specs.Parts.{KeepsParts}
@@ -19,14 +17,13 @@ use Rattle.heap_rule.specs.Plays.{Has, IsEvent}
 use Rattle.heap_rule.specs.Seated.{SeatView, TellsDraw}
 use Rattle.heap_rule.specs.Shown.{CanHoldLarge, CanJoin, Shows, ShowsDurable, by_claim}
 use Rattle.heap_rule.proofs.LeftLemmas.{draw_done}
-use Rattle.heap_rule.proofs.PartLemmas.{left_as, none_changed, one_more}
+use Rattle.heap_rule.proofs.PartLemmas.{left_as, none_changed}
 use Rattle.line_memory.specs.declared.memory.Stopped.{Stopped}
 use Rattle.heap_rule_tests.specs.Cuts.{HasClass}
 use Rattle.heap_rule_tests.specs.Draws.{HasStopped}
 use Rattle.heap_rule_tests.specs.Large.{AreClaimed, HasLarge, HasSplit, HaveInfos, info_in, with_known}
 use Rattle.heap_rule_tests.proofs.CacheLemmas.{stopped_at}
 use Rattle.heap_rule_tests.proofs.DrawLemmas.{not_both}
-use Rattle.heap_rule_tests.proofs.PopLemmas.{stopped_later}
 use Rattle.heap_rule_tests.proofs.TrimLemmas.{trimmed_alike}
 
 -- what is known changed twice

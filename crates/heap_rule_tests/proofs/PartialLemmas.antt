@@ -1,10 +1,10 @@
 -- What a look at an anchor, and the taking of all free blocks of a superblock, leave.
-use Rattle.std.proofs.Common.{◌≡◌, ◌≢◌, ◌≤◌, ◌<◌, ℕ, ◌*◌, ◌+◌, inl, inr, List, [], length, set, None, Some, refl, ap, sym, subst, ◌∙◌, arith}
+use Rattle.std.proofs.Common.{◌≡◌, ◌≢◌, ◌≤◌, ◌<◌, ℕ, ◌*◌, ◌+◌, inl, inr, List, [], length, set, None, refl, ap, sym, subst, ◌∙◌, arith}
 use Rattle.std.proofs.lemmas.Bool.{cases_lt}
 use Rattle.std.proofs.lemmas.List.{get_or-set_same}
 use Rattle.heap_model.specs.Geometry.{start_word}
 use Rattle.heap_model.specs.Sizes.{words_of_class}
-use Rattle.heap_model.specs.Words.{anchor_count, anchor_first, anchor_state, empty_state, full_anchor}
+use Rattle.heap_model.specs.Words.{anchor_count, anchor_first, anchor_state}
 use Rattle.core_model.specs.declared.event.Event.TheVariants.{LookAnchor, TakeAll}
 use Rattle.core_model.specs.Effects.{anchored_blocks, claim_class, drew, lost, seen_of, seen_word, taken_all, trimmed, without_claim, won}
 use Rattle.core_model.specs.Guards.{MayTakeAll}
@@ -22,7 +22,7 @@ use Rattle.heap_rule.proofs.PartLemmas.{none_changed, one_more}
 use Rattle.heap_rule_tests.specs.declared.refusal.Refusal.{Refusal}
 use Rattle.heap_rule_tests.specs.declared.refusal.Refusal.TheVariants.{Nothing, Lost, Stopped}
 use Rattle.heap_rule_tests.specs.Draws.{HasDrawn}
-use Rattle.heap_rule_tests.specs.Partials.{HasLostAnchor, HasSeenAnchor, HasTakenBlocks, IsAllFree, SeesAnchor, TakesNoBlocks, anchor_seen, with_cache}
+use Rattle.heap_rule_tests.specs.Partials.{HasLostAnchor, HasSeenAnchor, HasTakenBlocks, IsAllFree, SeesAnchor, TakesNoBlocks, with_cache}
 use Rattle.heap_rule_tests.specs.Pushes.{IsClaimOf}
 use Rattle.heap_rule_tests.proofs.PopLemmas.{stopped_later}
 use Rattle.heap_rule_tests.proofs.TrimLemmas.{only_same, trimmed_alike}

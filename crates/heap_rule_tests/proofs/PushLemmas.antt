@@ -1,24 +1,22 @@
 -- What a push on a list of superblocks leaves.
-use Rattle.std.proofs.Common.{◌≡◌, ◌≢◌, ◌≤◌, ◌<◌, ℕ, zero, suc, ◌+◌, inl, inr, nat_eq, nat_lt, cond, List, [], ◌∷◌, get_or, set, Option, None, Some, Result, Ok, Err, OnOk, IfOk, IfErr, refl, ap, ap₂, sym, subst, ◌∙◌, lt-ltb, arith}
+use Rattle.std.proofs.Common.{◌≡◌, ◌≢◌, ◌≤◌, ◌<◌, ℕ, ◌+◌, inl, inr, nat_eq, nat_lt, cond, get_or, Option, None, Some, Result, Ok, Err, OnOk, IfOk, IfErr, refl, ap, sym, subst, ◌∙◌, lt-ltb, arith}
 use Rattle.std.specs.Bool.{⊤}
 use Rattle.std.proofs.lemmas.Bool.{cases_lt}
 use Rattle.std.proofs.lemmas.List.{get_or-set_other}
 use Rattle.heap_model.specs.Counting.{times, without}
 use Rattle.heap_model.specs.Geometry.{link_word, anchor_word}
-use Rattle.heap_model.specs.Sizes.{words_of_class}
 use Rattle.heap_model.specs.Words.{head_first}
 use Rattle.core_model.specs.declared.event.Event.TheVariants.{Store, Push}
 use Rattle.core_model.specs.Cells.{Cell, anchor_cell, link_cell, cell_at}
-use Rattle.core_model.specs.Effects.{claim_class, cleared, drew, learn, lost, only_own, pushed, pushed_raw, pushed_classed, seen_of, seen_word, stored, trimmed, used_up, without_claim, won}
+use Rattle.core_model.specs.Effects.{claim_class, cleared, drew, learn, lost, pushed, pushed_raw, pushed_classed, seen_of, seen_word, stored, used_up, without_claim, won}
 use Rattle.core_model.specs.Guards.{IsFreelyClaimed, IsOwn}
 use Rattle.core_model.specs.Memory.{memory_of, used}
-use Rattle.core_model.specs.View.{Setup, Snapshot, View, one_if_some, times_raw, times_classed, times_own}
+use Rattle.core_model.specs.View.{Snapshot, View, one_if_some, times_raw, times_classed, times_own}
 use Rattle.core_model.proofs.CountLemmas.{times_without_claim}
 use Rattle.core_model.proofs.FrameLemmas.{times_without, without_none}
 use Rattle.core_model.proofs.OwnLemmas.{one_at_most}
 use Rattle.core_model.proofs.PlaceLemmas.{cell_at_index, not-lt, pick, skip}
 use Rattle.core_model.proofs.SoundLemmas.{taken}
-use Rattle.core_model.proofs.StepLemmas.{parts}
 use Rattle.core_model.proofs.QuietLemmas.{own_same}
 use Rattle.core_model.proofs.TotalLemmas.{total_at, eq-eqb-one}
 use Rattle.heap_rule.specs.Parts.{KeepsParts}

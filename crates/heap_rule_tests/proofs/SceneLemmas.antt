@@ -1,12 +1,11 @@
 -- What the scenes of the tests leave.
-use Rattle.std.proofs.Common.{◌≡◌, ◌≢◌, ◌≤◌, ◌<◌, ℕ, suc, ◌+◌, ◌-◌, ◌/◌, inl, inr, Bool, true, false, cond, nat_eq, List, [], ◌∷◌, ◌++◌, length, set, Contains, None, Some, Option, refl, ap, sym, subst, ◌∙◌, eq-eqb, arith}
-use Rattle.heap_model.specs.Counting.{times}
+use Rattle.std.proofs.Common.{◌≡◌, ◌≤◌, ◌<◌, ℕ, inl, inr, Bool, true, false, nat_eq, List, [], ◌∷◌, ◌++◌, length, refl, ap, sym, subst, ◌∙◌, eq-eqb, arith}
 use Rattle.heap_model.specs.Geometry.{start_word}
 use Rattle.heap_model.specs.Sizes.{IsClass}
 use Rattle.core_model.specs.Cells.{superblock_at}
 use Rattle.core_model.specs.Effects.{claim_class, first_of, last_of}
 use Rattle.core_model.specs.Guards.{MayLookAt}
-use Rattle.core_model.specs.View.{Claim, View, of_class, times_classed, times_block}
+use Rattle.core_model.specs.View.{Claim, View, of_class, times_classed}
 use Rattle.core_model.proofs.OwnerLemmas.{in_lists_total}
 use Rattle.core_model.proofs.PlaceLemmas.{pick}
 use Rattle.core_model.proofs.BlockLemmas.{first_there}
@@ -17,9 +16,9 @@ use Rattle.heap_rule.specs.Shown.{CanLift}
 use Rattle.heap_rule.proofs.ViewLemmas.{block_range}
 use Rattle.heap_rule_tests.specs.declared.refusal.Refusal.{Refusal}
 use Rattle.heap_rule_tests.specs.declared.refusal.Refusal.TheVariants.{Nothing, Lost, Stopped}
-use Rattle.heap_rule_tests.specs.Batches.{GivesNone, GivesSeen, HasGiven, HasLifted, HasLinkedLast, IsBatchOf, IsNotGiven, with_last}
+use Rattle.heap_rule_tests.specs.Batches.{GivesNone, HasGiven, HasLifted, IsBatchOf, IsNotGiven, with_last}
 use Rattle.heap_rule_tests.specs.Caches.{HasFilled}
-use Rattle.heap_rule_tests.specs.Partials.{HasSeenAnchor, HasTakenBlocks, SeesAnchor, TakesNoBlocks}
+use Rattle.heap_rule_tests.specs.Partials.{HasSeenAnchor, HasTakenBlocks, TakesNoBlocks}
 use Rattle.heap_rule_tests.specs.Pops.{HasPoppedFrom}
 use Rattle.heap_rule_tests.specs.Pushes.{HasPushedOfClass, IsClaimOf}
 use Rattle.heap_rule_tests.specs.Scenes.{HasGivenOne, HasLiftedOne, IsFresh, IsIdle}

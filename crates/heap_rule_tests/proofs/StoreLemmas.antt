@@ -1,10 +1,10 @@
 -- What a store to an own word, and a load, leave of a seat that has drawn a ticket.
-use Rattle.std.proofs.Common.{◌≡◌, ℕ, zero, suc, ◌<◌, inl, inr, List, Option, None, refl, ap, sym, subst, ◌∙◌, arith}
+use Rattle.std.proofs.Common.{◌≡◌, ℕ, zero, suc, ◌<◌, inl, inr, List, Option, refl, ap, sym, subst, ◌∙◌, arith}
 use Rattle.core_model.specs.declared.event.Event.TheVariants.{Load, Store}
 use Rattle.core_model.specs.Cells.{Cell, used_cell, head_cell, info_cell, anchor_cell, link_cell, root_cell, data_cell, no_cell, cell_at}
 use Rattle.core_model.specs.Effects.{drew, learn, stored, used_up}
 use Rattle.core_model.specs.Guards.{IsOwn}
-use Rattle.core_model.specs.View.{View, Snapshot, times_own}
+use Rattle.core_model.specs.View.{View}
 use Rattle.core_model.proofs.QuietLemmas.{own_same}
 use Rattle.heap_rule.specs.Parts.{KeepsParts}
 use Rattle.heap_rule.specs.Plays.{IsEvent}

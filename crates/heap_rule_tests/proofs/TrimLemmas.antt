@@ -1,10 +1,10 @@
 -- A view that knows nothing of words that are not its own.
-use Rattle.std.proofs.Common.{◌≡◌, ℕ, zero, suc, ◌+◌, ◌<◌, ◌≤◌, nat_lt, cond, List, [], ◌∷◌, set, Option, None, Some, refl, ap, ap₂, sym, ◌∙◌, arith}
+use Rattle.std.proofs.Common.{◌≡◌, ℕ, zero, suc, ◌+◌, nat_lt, cond, List, [], ◌∷◌, set, Option, None, Some, refl, ap, ap₂, sym, ◌∙◌, arith}
 use Rattle.core_model.specs.Cells.{Cell, cell_at}
 use Rattle.core_model.specs.Effects.{learn, only_own, trimmed}
 use Rattle.core_model.specs.View.{Setup, View, times_own}
 use Rattle.core_model.proofs.QuietLemmas.{own_same}
-use Rattle.core_model.proofs.StepLemmas.{Parts, parts}
+use Rattle.core_model.proofs.StepLemmas.{parts}
 use Rattle.heap_rule.specs.Parts.{KeepsParts}
 use Rattle.heap_rule.proofs.PartLemmas.{one_more}
 

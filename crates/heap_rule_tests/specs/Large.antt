@@ -1,5 +1,5 @@
 -- What the holding and the splitting of a large block leave of a seat.
-use Rattle.std.specs.Prelude.{◌≡◌, ◌≤◌, ◌<◌, ◌+◌, ℕ, cond, nat_eq, List, Option, None}
+use Rattle.std.specs.Prelude.{◌≡◌, ◌≤◌, ◌<◌, ◌+◌, ℕ, cond, nat_eq, None}
 use Rattle.heap_model.specs.Counting.{times}
 use Rattle.heap_model.specs.Geometry.{start_word}
 use Rattle.heap_model.specs.Words.{large_info}

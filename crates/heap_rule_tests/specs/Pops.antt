@@ -2,7 +2,7 @@
 use Rattle.std.specs.Prelude.{◌≡◌, ◌<◌, ◌+◌, ℕ, zero, suc, ◌∷◌, Option, None, Some}
 use Rattle.heap_model.specs.Words.{head_first}
 use Rattle.core_model.specs.Guards.{IsThere}
-use Rattle.core_model.specs.View.{Claim, Snapshot, View}
+use Rattle.core_model.specs.View.{Snapshot, View}
 use Rattle.heap_rule.specs.Parts.{KeepsParts}
 use Rattle.heap_rule_tests.specs.declared.refusal.Refusal.{Refusal}
 use Rattle.heap_rule_tests.specs.declared.refusal.Refusal.TheVariants.{Nothing, Lost, Stopped}

@@ -1,8 +1,6 @@
 -- What the scenes of the tests need of a seat, and leave of it.
 use Rattle.std.specs.Prelude.{◌≡◌, ◌<◌, ℕ, Bool, true, List, [], None, Contains}
-use Rattle.heap_model.specs.Counting.{times}
 use Rattle.core_model.specs.View.{View, of_class}
-use Rattle.heap_rule.specs.Parts.{KeepsParts}
 use Rattle.heap_rule.specs.Seated.{SeatView}
 use Rattle.heap_rule_tests.specs.Batches.{HasLifted, IsBatchOf}
 use Rattle.heap_rule_tests.specs.Pushes.{IsClaimOf}

@@ -33,7 +33,7 @@ pub(crate) fn look_anchor(seat: &mut Seat, shared: &Shared, d: u64) -> Result<u6
     Ok(seat.look_anchor(shared, d))
 }
 
-/// Takes all free blocks of a claimed superblock whose anchor was seen, and says that there are some.
+/// Takes all free blocks of a claimed superblock whose anchor was seen, and says there are some.
 fn take_seen(seat: &mut Seat, shared: &Shared, d: u64) -> Result<(), Refusal>
     requires seat { IsSeatOf shared.now seat.old }
     requires may { MayTakeAll seat.old.view d }

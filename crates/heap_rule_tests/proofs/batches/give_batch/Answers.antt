@@ -1,4 +1,3 @@
-use Rattle.heap_rule_tests.proofs.PartialLemmas.{sees_then}
 use Rattle.heap_rule_tests.proofs.BatchLemmas.{batch_still, given_err_later, given_ok_later}
 use Rattle.heap_rule_tests.proofs.batches.give_batch.Goals as goal
 

@@ -1,10 +1,7 @@
-use Rattle.std.proofs.Common.{◌<◌, ◌*◌, ◌+◌, ℕ, ap, sym, subst, ◌∙◌}
-use Rattle.std.proofs.lemmas.Result.{err_from_is_err_and}
-use Rattle.heap_model.specs.Geometry.{start_word}
-use Rattle.heap_model.specs.Sizes.{IsClass, words_of_class}
-use Rattle.heap_model.specs.Words.{anchor_first}
+use Rattle.std.proofs.Common.{◌<◌, sym, subst, ◌∙◌}
+use Rattle.heap_model.specs.Sizes.{IsClass}
 use Rattle.heap_rule_tests.proofs.PartialLemmas.{seen_now}
-use Rattle.heap_rule_tests.proofs.BatchLemmas.{batch_class, batch_inside, can_give_full, can_give_some, given_full, given_some, none_given, none_given_last}
+use Rattle.heap_rule_tests.proofs.BatchLemmas.{batch_class, batch_inside, given_some}
 use Rattle.heap_rule_tests.proofs.batches.give_looked.Goals as goal
 
 pub first_free-first-requires-clause-d : goal.first_free-first-requires-clause-d

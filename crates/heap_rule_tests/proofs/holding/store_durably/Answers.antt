@@ -1,4 +1,4 @@
-use Rattle.std.proofs.Common.{◌<◌, ◌∙◌, sym, subst}
+use Rattle.std.proofs.Common.{◌<◌, sym, subst}
 use Rattle.heap_model.specs.Counting.{times}
 use Rattle.core_model.specs.View.{of_class}
 use Rattle.heap_rule_tests.proofs.FreeLemmas.{can_block, own_block}

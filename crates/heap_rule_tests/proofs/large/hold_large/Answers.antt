@@ -1,7 +1,7 @@
 use Rattle.std.proofs.Common.{ℕ, ap, sym, ◌∙◌}
 use Rattle.heap_model.specs.Geometry.{start_word}
 use Rattle.core_model.specs.View.{Setup}
-use Rattle.heap_rule_tests.proofs.LargeLemmas.{can_large, large_left}
+use Rattle.heap_rule_tests.proofs.LargeLemmas.{large_left}
 use Rattle.heap_rule_tests.proofs.large.hold_large.Goals as goal
 
 pub returns-clause-held : goal.returns-clause-held

@@ -1,4 +1,4 @@
-use Rattle.heap_rule_tests.proofs.PartialLemmas.{claim_still, none_later, sees_then, taken_later, uncached_then}
+use Rattle.heap_rule_tests.proofs.PartialLemmas.{claim_still, none_later, taken_later, uncached_then}
 use Rattle.heap_rule_tests.proofs.PushLemmas.{err_later, if_ok_later}
 use Rattle.heap_rule_tests.proofs.partials.take_free_blocks.Goals as goal
 

@@ -2,7 +2,6 @@ use Rattle.std.proofs.Common.{ℕ, ap, sym, subst, ◌∙◌}
 use Rattle.core_model.specs.Effects.{seen_word}
 use Rattle.heap_model.specs.Words.{anchor_count}
 use Rattle.heap_rule_tests.specs.Partials.{HasTakenBlocks}
-use Rattle.heap_rule_tests.proofs.PartialLemmas.{all_free, may_take, seen_now}
 use Rattle.heap_rule_tests.proofs.partials.take_looked.Goals as goal
 
 pub returns-clause-taken : goal.returns-clause-taken

@@ -1,5 +1,5 @@
 use Rattle.std.proofs.Common.{arith}
-use Rattle.heap_rule_tests.proofs.SceneLemmas.{first_from, lifted_one, may_lift}
+use Rattle.heap_rule_tests.proofs.SceneLemmas.{first_from}
 use Rattle.heap_rule_tests.proofs.scenes.lift_one.Goals as goal
 
 pub overflow_sub-d : goal.overflow_sub-d

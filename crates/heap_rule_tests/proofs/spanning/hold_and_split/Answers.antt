@@ -1,4 +1,4 @@
-use Rattle.heap_rule_tests.proofs.HoldLemmas.{large_there, pair_claimed, split_claimed}
+use Rattle.heap_rule_tests.proofs.HoldLemmas.{large_there, split_claimed}
 use Rattle.heap_rule_tests.proofs.spanning.hold_and_split.Goals as goal
 
 pub block_at-requires-clause-held : goal.block_at-requires-clause-held
