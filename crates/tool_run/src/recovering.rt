@@ -19,9 +19,6 @@ use std::alloc::{AllocError, Global};
 use super_block::{LONGEST_IMAGE, constants_agree};
 use tool_ports::ImageStore;
 
-/// More bytes than the longest image has, and less than the 32 MiB up to which glibc keeps room.
-const MORE_THAN_AN_IMAGE: usize = 24 << 20;
-
 /// Recovers the image of this name.
 pub fn recover_image<I: ImageStore>(
     alloc: Global,
@@ -55,18 +52,10 @@ pub fn recover_words<I: ImageStore>(
     ensures later { I.faults images.old ≤ I.faults images.new }
     ensures calls { I.calls images.new ≡ with_get get_limit (I.calls images.old) }
 {
-    keep_freed_room(alloc);
     let image = images.get(alloc, name, most_bytes())?;
     check_bytes(&image)?;
     let both = recover_bytes(alloc, image)?;
     Ok(both)
-}
-
-// Takes more room than an image has, and gives it back untouched. An allocator that gets each large
-// request from the system anew, as glibc's does, keeps what is freed from then on for the next one:
-// an image has thousands of pages, and to get them costs more than to fill them.
-fn keep_freed_room(alloc: Global) {
-    let _room: Result<Vec<u8>, AllocError> = Vec::with_capacity(alloc, MORE_THAN_AN_IMAGE);
 }
 
 // How many bytes of an image are asked for: one more than the longest has, so that a longer one shows.
