@@ -154,14 +154,9 @@ fn a_trace_is_made(rt: HostRuntime) -> Result<(), Fail> {
 #[test]
 fn a_trace_is_worked_off(rt: HostRuntime) -> Result<(), Fail> {
     let mut images = empty_store(rt.alloc());
-    runs(
-        &rt,
-        &mut images,
-        "format h 4",
-        &[],
-        0,
-        "formatted 4 bytes 270912\n",
-    )?;
+    let made = "formatted 4 bytes 270912\n";
+    let dirty = "heap 4 dirty\nkey 5 6162\nheld 32 1\nheld 1024 1\n";
+    runs(&rt, &mut images, "format h 4", &[], 0, made)?;
     work_each(
         &rt,
         &mut images,
@@ -196,12 +191,7 @@ fn a_trace_is_worked_off(rt: HostRuntime) -> Result<(), Fail> {
             ("run h --workers 2", "", 2, "usage\n"),
             ("run h --workers 1 --workers 1", "", 2, "usage\n"),
             ("run h --workers 1 --stop 1099511627776", "", 2, "usage\n"),
-            (
-                "show h",
-                "",
-                0,
-                "heap 4 dirty\nkey 5 6162\nheld 32 1\nheld 1024 1\n",
-            ),
+            ("show h", "", 0, dirty),
         ],
     )
 }
@@ -450,40 +440,20 @@ fn superblocks_of_two_kinds_are_shown(rt: HostRuntime) -> Result<(), Fail> {
     let large =
         "heap 2 clean\nheld large 2 1\nused 2 free 0 fresh 0\nsb 0 large 2\nsb 1 inside 0\n";
     let small = "heap 2 clean\nheld 64 1\nused 1 free 0 fresh 1\nsb 0 class 4 held 0\n";
+    for (info, status, text) in [
+        (2, 0, base),
+        (21, 8, outside),
+        (255, 8, outside),
+        (767, 8, outside),
+        (511, 0, with_large),
+    ] {
+        let words = [TWO_USED, INFO, (1_072, info), WIDE_ROOT, BUCKET];
+        show_each(&rt, true, &[(&words, "show h", status, text)])?;
+    }
     show_each(
         &rt,
         true,
         &[
-            (
-                &[TWO_USED, INFO, (1_072, 2), WIDE_ROOT, BUCKET],
-                "show h",
-                0,
-                base,
-            ),
-            (
-                &[TWO_USED, INFO, (1_072, 21), WIDE_ROOT, BUCKET],
-                "show h",
-                8,
-                outside,
-            ),
-            (
-                &[TWO_USED, INFO, (1_072, 255), WIDE_ROOT, BUCKET],
-                "show h",
-                8,
-                outside,
-            ),
-            (
-                &[TWO_USED, INFO, (1_072, 767), WIDE_ROOT, BUCKET],
-                "show h",
-                8,
-                outside,
-            ),
-            (
-                &[TWO_USED, INFO, (1_072, 511), WIDE_ROOT, BUCKET],
-                "show h",
-                0,
-                with_large,
-            ),
             (
                 &[TWO_USED, (1_064, 767), WIDE_OTHER_ROOT],
                 "show h --map",

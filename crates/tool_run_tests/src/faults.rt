@@ -97,6 +97,7 @@ fn the_first_line_outside_the_grammar_is_told(rt: HostRuntime) -> Result<(), Fai
     let alloc = rt.alloc();
     let image = image_after(alloc, "1", "")?;
     let mut images = store_with(alloc, &image, NO_CALL, FailedPut::LeavesOld)?;
+    let line = "run h --workers 1";
     for (trace, text) in [
         ("\n", "bad trace line 1\n"),
         ("get 1\n\nget 2\n", "bad trace line 2\n"),
@@ -121,14 +122,7 @@ fn the_first_line_outside_the_grammar_is_told(rt: HostRuntime) -> Result<(), Fai
         ("put 1 aa bb\n", "bad trace line 1\n"),
         ("move 1 2\n", "bad trace line 1\n"),
     ] {
-        runs(
-            &rt,
-            &mut images,
-            "run h --workers 1",
-            trace.as_bytes(),
-            10,
-            text,
-        )?;
+        runs(&rt, &mut images, line, trace.as_bytes(), 10, text)?;
     }
     assert_eq!(rt; image_in(alloc, &images)?, image);
     runs(
