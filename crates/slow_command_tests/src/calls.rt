@@ -1,0 +1,93 @@
+//! Calls of the tool over an image in memory, and what is wanted of them.
+use line_memory::Chance;
+use std::alloc::{AllocError, Global};
+use std::process::Abort;
+use std::test::Fail;
+use tool_ports::{BytesSource, Chances, FailedPut, ImageStore, MapStore, OpenGate, VecSink};
+use tool_run::run_tool;
+
+/// Room for the longest text of a test.
+const ROOM: usize = 1 << 12;
+
+/// A chance that always gives the same number: by 0 nothing is made durable early, by 1 each store
+/// is at the next step. Words that a crash leaves with any value have all bits.
+#[derive(Clone, Copy, Drop)]
+pub struct Constant(pub u64);
+
+impl Chance for Constant {
+    fn draw(&mut self) -> u64 {
+        self.0
+    }
+}
+
+impl Chances for Constant {
+    type One = Constant;
+
+    fn seed(&mut self, _: u64) {}
+
+    fn chance(&mut self, _: usize) -> Constant {
+        *self
+    }
+
+    fn word(&mut self) -> u64 {
+        u64::MAX
+    }
+}
+
+/// A store with this image under the name h. None of its calls fails.
+pub fn store_with(alloc: Global, image: &[u8]) -> Result<MapStore, Fail> {
+    let mut images = MapStore::new(alloc, Vec::new(alloc), FailedPut::LeavesOld);
+    images.put(alloc, "h", image)?;
+    Ok(images)
+}
+
+/// Makes the call: its status, and the bytes that it printed.
+pub fn make<C: Chances>(
+    alloc: Global,
+    line: &str,
+    trace: Vec<u8>,
+    images: &mut MapStore,
+    chances: &mut C,
+) -> Result<(u8, Vec<u8>), AllocError> {
+    let mut words = Vec::new(alloc);
+    for word in line.split(' ') {
+        words.push(String::from_str(alloc, word)?)?;
+    }
+    let mut out = VecSink::new(alloc, Vec::new(alloc), ROOM, ROOM)?;
+    let mut trace = BytesSource::new(Vec::new(alloc), 1 << 20, trace);
+    let status = run_tool(
+        &(),
+        alloc,
+        &words,
+        images,
+        &mut trace,
+        &mut out,
+        &OpenGate,
+        chances,
+    );
+    Ok((status.code(), Vec::from_slice(alloc, out.bytes())?))
+}
+
+/// An empty image of so many superblocks.
+pub fn formatted(alloc: Global, superblocks: &str) -> Result<Vec<u8>, Fail> {
+    let mut images = store_with(alloc, b"")?;
+    let line = format!(in alloc; "format h {superblocks}")?;
+    make(alloc, &line, Vec::new(alloc), &mut images, &mut Constant(0))?;
+    Ok(Vec::from_slice(alloc, images.image("h").unwrap_or(&[]))?)
+}
+
+/// Makes the call, which is to end with this status and to print this text.
+pub fn runs<C: Chances>(
+    rt: &(impl Abort + AllocGlobal),
+    images: &mut MapStore,
+    chances: &mut C,
+    line: &str,
+    trace: Vec<u8>,
+    status: u8,
+    text: &str,
+) -> Result<(), Fail> {
+    let (code, printed) = make(rt.alloc(), line, trace, images, chances)?;
+    assert_eq!(rt; code, status, "{line}");
+    assert_eq!(rt; printed.as_slice(), text.as_bytes(), "{line}");
+    Ok(())
+}
