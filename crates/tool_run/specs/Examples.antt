@@ -185,6 +185,23 @@ workers_missing : fault_of run_app (codes "run" ∷ codes "h" ∷ []) ≡ Missin
 unfolding clap_on_literals
 workers_missing = refl
 
+-- the first number past each range: of workers, seeds of traces, steps, and superblocks
+two_workers : fault_of run_app (codes "run" ∷ codes "h" ∷ codes "--workers" ∷ codes "2" ∷ []) ≡ ValueValidation ∷ []
+unfolding clap_on_literals
+two_workers = refl
+
+seed_past_the_last : fault_of gen_app (codes "gen" ∷ codes "1" ∷ codes "1000001" ∷ []) ≡ ValueValidation ∷ []
+unfolding clap_on_literals
+seed_past_the_last = refl
+
+step_past_the_last : fault_of rebuild_app (codes "rebuild" ∷ codes "h" ∷ codes "--stop" ∷ codes "1099511627776" ∷ []) ≡ ValueValidation ∷ []
+unfolding clap_on_literals
+step_past_the_last = refl
+
+superblock_past_the_last : fault_of format_app (codes "format" ∷ codes "h" ∷ codes "257" ∷ []) ≡ ValueValidation ∷ []
+unfolding clap_on_literals largest_capacity
+superblock_past_the_last = refl
+
 -- a request too many, a class that there isn't, an option given twice, and a wish for help
 too_many_requests : fault_of gen_app (codes "gen" ∷ codes "100001" ∷ codes "0" ∷ []) ≡ ValueValidation ∷ []
 unfolding clap_on_literals
