@@ -1,6 +1,6 @@
 -- Work that is dealt out to seats, and gathered.
-use Rattle.std.proofs.Common.{◌≡◌, ◌<◌, ℕ, suc, ◌+◌, List, [], ◌∷◌, ◌++◌, get_or, length, refl, ap, sym, subst, ◌∙◌, arith}
-use Rattle.std.proofs.lemmas.List.{get_or_append_left}
+use Rattle.std.proofs.Common.{◌≡◌, ◌<◌, All, ℕ, suc, ◌+◌, List, [], ◌∷◌, ◌++◌, get_or, length, refl, ap, sym, subst, ◌∙◌, arith}
+use Rattle.std.proofs.lemmas.List.{get_or_append_left, get_or_default}
 use Rattle.std.proofs.lemmas.List.Elements.{All-weaker}
 use Rattle.std.proofs.Math.ListN.{length-append}
 use Rattle.std.proofs.Math.Seq.{get_or-append_seam}
@@ -16,13 +16,19 @@ use Rattle.heap_rule.specs.Seats.{AreOpenedSeats}
 use Rattle.heap_rule_threads.specs.declared.jobs.Report.{Report}
 use Rattle.heap_rule_threads.specs.declared.slots.Slot.{Slot}
 use Rattle.heap_rule_threads.specs.Hands.{AreSlots, HasClass, IsRoot, times_held, times_in}
-use Rattle.heap_rule_threads.specs.Jobs.{AreFreshSlots, AreTold, HaveRoots, IsFreshSlot}
+use Rattle.heap_rule_threads.specs.Jobs.{AreFreshSlots, AreTold, HaveRoots, IsFreshSlot, IsUnbatched}
 
 -- the seats of an opened heap have the roots that are theirs
 pub opened_roots : (shared : SharedView) (k : Setup) (held : List Block) (block_owners owners : List ℕ) (seats : List SeatView)
     → AreOpenedSeats shared (opened_view k held block_owners owners) seats → HaveRoots owners seats
 opened_roots shared k held block_owners owners seats opened = λ i seat less at root inside owner.
     subst (λ (v : View). 0 < times root v.roots) (sym (opened.each i seat less at).1) ((owns_root i roots owners root).1 (inside, owner))
+
+-- and no batch
+pub opened_unbatched : (shared : SharedView) (k : Setup) (held : List Block) (block_owners owners : List ℕ) (seats : List SeatView)
+    → AreOpenedSeats shared (opened_view k held block_owners owners) seats → All IsUnbatched seats
+opened_unbatched shared k held block_owners owners seats opened = λ i seat less.
+    ap (λ (v : View). v.batch.blocks) (opened.each i (get_or seats i seat) less (get_or_default seats i (get_or seats i seat) seat less)).1
 
 -- of the seats but the last, and of the last
 module _ (owners : List ℕ) (all rest : List SeatView) (last : SeatView) (split : all ≡ rest ++ last ∷ []) (have : HaveRoots owners all) where

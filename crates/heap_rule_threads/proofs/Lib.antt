@@ -1,3 +1,4 @@
+pub mod BatchLemmas
 pub mod HandLemmas
 pub mod RootLemmas
 pub mod SlotLemmas

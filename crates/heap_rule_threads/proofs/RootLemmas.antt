@@ -22,7 +22,7 @@ stays_as v w same = subst (Stays v) (sym same) (parts_stay v v (none_changed v))
 settled_stays : (word : ℕ) (v w : View) (found : ℕ) → IsEvent (Settle word) v found w → Stays v w
 settled_stays word v w found event = record {
   held = record { small = ap (λ (x : View). x.small) event.after; roots = ap (λ (x : View). x.roots) event.after };
-  claims = record { roots = ap (λ (x : View). x.roots) event.after; raw = ap (λ (x : View). x.raw) event.after; floor = let e = ap (λ (x : View). x.floor) event.after in omega arith };
+  claims = record { roots = ap (λ (x : View). x.roots) event.after; raw = ap (λ (x : View). x.raw) event.after; classed = ap (λ (x : View). x.classed) event.after; batch = ap (λ (x : View). x.batch) event.after; floor = let e = ap (λ (x : View). x.floor) event.after in omega arith };
 }
 
 all_stay : (words : List ℕ) (v w : View) → Settles v words w → Stays v w
@@ -44,7 +44,7 @@ module _ (v : View) (root value : ℕ) (inside : root < roots) where
   pub stored_stays : (w : View) (found : ℕ) → IsEvent (Store (root_word root) value) v found w → Stays v w
   stored_stays w found event = let after = stored_after w found event in record {
     held = record { small = ap (λ (x : View). x.small) after; roots = ap (λ (x : View). x.roots) after };
-    claims = record { roots = ap (λ (x : View). x.roots) after; raw = ap (λ (x : View). x.raw) after; floor = let e = ap (λ (x : View). x.floor) after in omega arith };
+    claims = record { roots = ap (λ (x : View). x.roots) after; raw = ap (λ (x : View). x.raw) after; classed = ap (λ (x : View). x.classed) after; batch = ap (λ (x : View). x.batch) after; floor = let e = ap (λ (x : View). x.floor) after in omega arith };
   }
 
   pub stored_goes : (w : View) (found : ℕ) → IsEvent (Store (root_word root) value) v found w → w.stopped ≡ v.stopped
@@ -58,7 +58,7 @@ draw_stays v w d = subst (Stays v) (sym d.left) (parts_stay v (drew v d.ticket) 
 pub loaded_stays : (word : ℕ) (v w : View) (found : ℕ) → IsEvent (Load word) v found w → Stays v w
 loaded_stays word v w found event = record {
   held = record { small = ap (λ (x : View). x.small) event.after; roots = ap (λ (x : View). x.roots) event.after };
-  claims = record { roots = ap (λ (x : View). x.roots) event.after; raw = ap (λ (x : View). x.raw) event.after; floor = let e = ap (λ (x : View). x.floor) event.after in omega arith };
+  claims = record { roots = ap (λ (x : View). x.roots) event.after; raw = ap (λ (x : View). x.raw) event.after; classed = ap (λ (x : View). x.classed) event.after; batch = ap (λ (x : View). x.batch) event.after; floor = let e = ap (λ (x : View). x.floor) event.after in omega arith };
 }
 
 pub turn_stays : (s a b d w : View) (root value : ℕ) → root < roots → HasDrawn s a → (found : ℕ) → IsEvent (Load (root_word root)) a found b → HasDrawn b d

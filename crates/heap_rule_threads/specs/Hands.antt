@@ -1,9 +1,13 @@
--- What a thread's acts leave of its seat, and what its slots say of the blocks that the seat holds.
-use Rattle.std.specs.Prelude.{◌≡◌, ◌≤◌, ◌<◌, ℕ, ◌+◌, All, cond, nat_eq, List, Option, None, Some, ⊤, IfSome}
+-- What a thread's acts leave of its seat, what is in hand, and what its slots say of the blocks that the seat holds.
+use Rattle.std.specs.Prelude.{◌≡◌, ◌≤◌, ◌<◌, ℕ, ◌+◌, All, cond, nat_eq, List, [], Option, None, Some, IfSome}
 use Rattle.heap_model.specs.Counting.{one_if, times, total}
 use Rattle.heap_model.specs.Geometry.{roots}
 use Rattle.heap_model.specs.Sizes.{IsClass}
 use Rattle.core_model.specs.View.{View, of_class}
+use Rattle.heap_rule_tests.specs.Batches.{IsBatchOf}
+use Rattle.heap_rule_tests.specs.Pushes.{IsClaimOf}
+use Rattle.heap_rule_threads.specs.declared.hands.Hand.{Hand}
+use Rattle.heap_rule_threads.specs.declared.hands.Hand.TheVariants.{Empty, Raw, Classed, Batch}
 use Rattle.heap_rule_threads.specs.declared.slots.HeldBlock.{HeldBlock}
 use Rattle.heap_rule_threads.specs.declared.slots.Slot.{Slot}
 
@@ -12,10 +16,12 @@ pub record KeepsHeld (v w : View) : Type 0 where
   pub small : w.small ≡ v.small
   pub roots : w.roots ≡ v.roots
 
--- it owns the same roots and claims the same superblocks, as durably
+-- it owns the same roots, has the same batch, and claims the same superblocks, as durably
 pub record KeepsClaims (v w : View) : Type 0 where
   pub roots : w.roots ≡ v.roots
   pub raw : w.raw ≡ v.raw
+  pub classed : w.classed ≡ v.classed
+  pub batch : w.batch ≡ v.batch
   pub floor : v.floor ≤ w.floor
 
 -- both
@@ -23,10 +29,33 @@ pub record Stays (v w : View) : Type 0 where
   pub held : KeepsHeld v w
   pub claims : KeepsClaims v w
 
--- the superblock is claimed, if there is one, and no crash forgets that it was taken
-abbrev pub Claims : Option ℕ → View → Type 0
-Claims None v = ⊤
-Claims (Some d) v = (0 < times d v.raw) × (d < v.floor)
+-- the batch is empty
+abbrev pub HasNoBatch : View → Type 0
+HasNoBatch v = v.batch.blocks ≡ []
+
+-- a superblock is claimed without a class, and no crash forgets that it was taken
+pub record HasRaw (d : ℕ) (v : View) : Type 0 where
+  pub claimed : 0 < times d v.raw
+  pub durable : d < v.floor
+  pub none : HasNoBatch v
+
+-- the same with a class
+pub record HasClassed (d class : ℕ) (v : View) : Type 0 where
+  pub claim : IsClaimOf class d v
+  pub durable : d < v.floor
+  pub none : HasNoBatch v
+
+-- there is a batch, of a class
+pub record HasBatch (d class last : ℕ) (v : View) : Type 0 where
+  pub is_class : IsClass class
+  pub batch : IsBatchOf d class last v
+
+-- the seat has this in hand, and no batch beside it
+abbrev pub Holds : Hand → View → Type 0
+Holds Empty v = HasNoBatch v
+Holds (Raw d) v = HasRaw d v
+Holds (Classed d class) v = HasClassed d class v
+Holds (Batch d class last) v = HasBatch d class last v
 
 -- how often a block of a class is held
 abbrev pub times_held : ℕ → ℕ → Option HeldBlock → ℕ

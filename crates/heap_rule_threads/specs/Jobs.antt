@@ -13,7 +13,7 @@ use Rattle.heap_rule_threads.specs.declared.jobs.Report.{Report}
 use Rattle.heap_rule_threads.specs.declared.slots.Slot.{Slot}
 use Rattle.heap_rule_threads.specs.declared.working.Job.{Job}
 use Rattle.heap_rule_threads.specs.declared.working.Worked.{Worked}
-use Rattle.heap_rule_threads.specs.Hands.{AreSlots, times_in}
+use Rattle.heap_rule_threads.specs.Hands.{AreSlots, HasNoBatch, times_in}
 
 -- the root is the seat's, and leads to no block
 pub record IsFreshSlot (owners : List ℕ) (seat : ℕ) (slot : Slot) : Type 0 where
@@ -29,9 +29,14 @@ abbrev pub HaveRoots : List ℕ → List SeatView → Type 0
 HaveRoots owners seats = (i : ℕ) (seat : SeatView) → i < length seats → get_or seats i seat ≡ seat → (root : ℕ) → root < roots
     → get_or owners root (i + 1) ≡ i → 0 < times root seat.view.roots
 
--- the job is for a seat of this heap, and its slots are of that
+-- the seat has no batch
+abbrev pub IsUnbatched : SeatView → Type 0
+IsUnbatched seat = HasNoBatch seat.view
+
+-- the job is for a seat of this heap that has no batch, and its slots are of that
 pub record IsJobOf (shared : SharedView) (job : Job) : Type 0 where
   pub seat : IsSeatOf shared job.seat
+  pub none : IsUnbatched job.seat
   pub slots : AreSlots job.slots.items job.seat.view
 
 -- what is told at its end too

@@ -2,10 +2,11 @@
 
 ghost use Rattle.std.specs.Prelude.{◌≡◌, None, OnOk, IfOk, length};
 ghost use Rattle.heap_rule.specs.Seated.{IsSeatOf};
-ghost use Rattle.heap_rule_threads.specs.Hands.{AreSlots, Claims, HoldsSame, Stays};
+ghost use Rattle.heap_rule_threads.specs.Hands.{AreSlots, HasNoBatch, Holds, HoldsSame, Stays};
 
-use crate::claims::{Tried, change_claim};
+use crate::changes::change_hand;
 use crate::dice::Dice;
+use crate::hands::{Hand, Tried};
 use crate::slots::Slot;
 use crate::turns::turn_slot;
 use heap_rule::{Seat, Shared};
@@ -22,21 +23,21 @@ fn draw_by_chance(seat: &mut Seat, shared: &Shared, dice: &mut Dice) -> Result<(
     seat.draw(shared, None, dice)
 }
 
-/// A random act: a draw by chance, a change of what is claimed, or of what a slot holds. It answers
-/// what is claimed then.
+/// A random act: a draw by chance, a change of what is in hand, or of what a slot holds. It answers
+/// what is in hand then.
 fn act(
     seat: &mut Seat,
     shared: &Shared,
     slots: &mut Vec<Slot>,
-    claimed: Option<u64>,
+    hand: Hand,
     dice: &mut Dice,
 ) -> Result<Tried, Stopped>
     requires seat { IsSeatOf shared.now seat.old }
     requires going { seat.old.view.stopped ≡ None }
-    requires claims { Claims claimed seat.old.view }
+    requires hand { Holds hand seat.old.view }
     requires slots { AreSlots slots.old.items seat.old.view }
     ensures going { OnOk result (seat.new.view.stopped ≡ None) }
-    ensures claims { IfOk result (λ tried. Claims tried.claimed seat.new.view) }
+    ensures hand { IfOk result (λ tried. Holds tried.hand seat.new.view) }
     ensures slots { AreSlots slots.new.items seat.new.view }
     ensures count { length slots.new.items ≡ length slots.old.items }
     ensures held { HoldsSame slots.old.items slots.new.items seat.old.view seat.new.view }
@@ -45,15 +46,15 @@ fn act(
     let choice = dice.below(8);
     if choice == 0 {
         draw_by_chance(seat, shared, dice)?;
-        return Ok(Tried::done(claimed));
+        return Ok(Tried::done(hand));
     }
-    if choice < 3 || slots.is_empty() {
-        return change_claim(seat, shared, claimed, dice);
+    if choice < 4 || slots.is_empty() {
+        return change_hand(seat, shared, hand, dice);
     }
     let class = dice.class();
     let at = dice.below(slots.len() as u64) as usize;
     turn_slot(seat, shared, slots, at, class)?;
-    Ok(Tried::done(claimed))
+    Ok(Tried::done(hand))
 }
 
 /// So many random acts. It counts the exchanges that are lost.
@@ -66,6 +67,7 @@ pub fn act_again(
     losses: &mut u64,
 ) -> Result<(), Stopped>
     requires seat { IsSeatOf shared.now seat.old }
+    requires none { HasNoBatch seat.old.view }
     requires slots { AreSlots slots.old.items seat.old.view }
     ensures slots { AreSlots slots.new.items seat.new.view }
     ensures count { length slots.new.items ≡ length slots.old.items }
@@ -73,10 +75,10 @@ pub fn act_again(
     ensures seat { IsSeatOf shared.now seat.new }
 {
     draw(seat, shared)?;
-    let mut claimed = None;
+    let mut hand = Hand::Empty;
     for _time in 0..times {
-        let tried = act(seat, shared, slots, claimed, dice)?;
-        claimed = tried.claimed;
+        let tried = act(seat, shared, slots, hand, dice)?;
+        hand = tried.hand;
         *losses = losses.wrapping_add(u64::from(tried.lost));
     }
     Ok(())

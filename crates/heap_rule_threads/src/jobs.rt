@@ -4,7 +4,7 @@ ghost use Rattle.std.specs.Prelude.{◌≡◌, ◌<◌, ◌≤◌, ℕ, All, IfO
 ghost use Rattle.heap_model.specs.Geometry.{roots};
 ghost use Rattle.core_model.specs.Opening.{AreOwners};
 ghost use Rattle.heap_rule.specs.Seated.{IsSeatOf};
-ghost use Rattle.heap_rule_threads.specs.Jobs.{AreFreshSlots, AreTold, HaveRoots, IsJobOf, IsWorkedOf};
+ghost use Rattle.heap_rule_threads.specs.Jobs.{AreFreshSlots, AreTold, HaveRoots, IsJobOf, IsUnbatched, IsWorkedOf};
 
 use crate::slots::Slot;
 use crate::working::{Job, Order, Task, Told, Worked};
@@ -90,6 +90,7 @@ pub fn deal_jobs(
     requires few { length seats.items ≤ 8 }
     requires owners { length owners.now.roots ≡ roots }
     requires roots { HaveRoots owners.now.roots seats.items }
+    requires none { All IsUnbatched seats.items }
     ensures jobs { IfOk result (λ jobs. All (IsJobOf shared.now) jobs.items) }
     ensures count { IfOk result (λ jobs. length jobs.items ≡ length seats.items) }
 {

@@ -3,11 +3,14 @@
 #![tactic(auto, unfolding(heap_model::specs::Geometry::largest_capacity))]
 
 mod acts;
+mod changes;
 mod claims;
 mod dice;
+mod hands;
 mod jobs;
 mod publishing;
 mod rounds;
+mod sharing;
 mod slots;
 mod together;
 mod turns;

@@ -4,9 +4,10 @@ ghost use Rattle.std.specs.Prelude.{◌<◌};
 ghost use Rattle.heap_model.specs.Counting.{times};
 ghost use Rattle.heap_model.specs.Geometry.{roots};
 ghost use Rattle.heap_rule.specs.Seated.{IsSeatOf};
-ghost use Rattle.heap_rule_threads.specs.Hands.{KeepsHeld, Stays};
+ghost use Rattle.heap_rule_threads.specs.Hands.{HasNoBatch, KeepsHeld, Stays};
 
 use crate::claims::{pop_listed, push_back};
+use crate::hands::Hand;
 use heap_rule::{Seat, Shared};
 use heap_rule_tests::draw;
 use line_memory::Stopped;
@@ -45,16 +46,18 @@ pub fn pop_and_push(
     losses: &mut u64,
 ) -> Result<(), Stopped>
     requires seat { IsSeatOf shared.now seat.old }
+    requires none { HasNoBatch seat.old.view }
     ensures held { KeepsHeld seat.old.view seat.new.view }
     ensures seat { IsSeatOf shared.now seat.new }
 {
-    let mut claimed = None;
+    let mut hand = Hand::Empty;
     for _turn in 0..count {
-        let tried = match claimed {
-            None => pop_listed(seat, shared)?,
-            Some(d) => push_back(seat, shared, d)?,
+        let tried = match hand {
+            Hand::Empty => pop_listed(seat, shared)?,
+            Hand::Raw { d } => push_back(seat, shared, d)?,
+            Hand::Classed { .. } | Hand::Batch { .. } => return Ok(()),
         };
-        claimed = tried.claimed;
+        hand = tried.hand;
         *losses = losses.wrapping_add(u64::from(tried.lost));
     }
     Ok(())

@@ -2,7 +2,7 @@
 
 ghost use Rattle.std.specs.Prelude.{◌≡◌, length};
 ghost use Rattle.heap_rule.specs.Seated.{IsSeatOf};
-ghost use Rattle.heap_rule_threads.specs.Hands.{AreSlots, HoldsSame, Stays};
+ghost use Rattle.heap_rule_threads.specs.Hands.{AreSlots, HasNoBatch, HoldsSame, Stays};
 
 use crate::acts::act_again;
 use crate::dice::Dice;
@@ -14,7 +14,7 @@ use line_memory::Stopped;
 /// What a thread does again and again.
 #[derive(Clone, Copy, Debug, PartialEq, Eq)]
 pub enum Task {
-    /// A random act: a draw by chance, a change of what it claims, or of what one of its slots
+    /// A random act: a draw by chance, a change of what it has in hand, or of what one of its slots
     /// holds.
     Act,
     /// A load of one of its roots, and a store to it.
@@ -67,6 +67,7 @@ fn do_task(
     losses: &mut u64,
 ) -> Result<(), Stopped>
     requires seat { IsSeatOf shared.now seat.old }
+    requires none { HasNoBatch seat.old.view }
     requires slots { AreSlots slots.old.items seat.old.view }
     ensures slots { AreSlots slots.new.items seat.new.view }
     ensures count { length slots.new.items ≡ length slots.old.items }
@@ -105,6 +106,7 @@ fn load_and_store_first(
 /// beside the blocks of its slots is as before.
 pub fn work(job: Job, shared: &Shared) -> Worked
     requires seat { IsSeatOf shared.now job.seat }
+    requires none { HasNoBatch job.seat.view }
     requires slots { AreSlots job.slots.items job.seat.view }
     ensures slots { AreSlots result.slots.items result.seat.view }
     ensures count { length result.slots.items ≡ length job.slots.items }
