@@ -34,6 +34,8 @@ pub enum Wrong {
     Free(u64),
     /// This held block is none, or has a word of another block, or all of its superblock is free.
     Held(u64),
+    /// So many superblocks with free blocks are in no list, more than can be in hand.
+    Loose(u64),
 }
 
 /// A look at the words of a heap.
@@ -157,6 +159,17 @@ impl<'a> Look<'a> {
         true
     }
 
+    /// How many superblocks with free blocks are in no list.
+    fn loose(&self) -> u64 {
+        let mut count = 0_u64;
+        for d in 0..self.at(8) {
+            if self.list.get(d as usize) == Some(&21) && self.anchor(d) % 4 < 2 {
+                count = count.wrapping_add(1);
+            }
+        }
+        count
+    }
+
     /// Meets a held block.
     fn meet_held(&mut self, block: u64) -> bool {
         let d = block.wrapping_sub(self.start(0)) / SUPERBLOCK;
@@ -164,9 +177,16 @@ impl<'a> Look<'a> {
     }
 }
 
-/// What is wrong with a heap of which these blocks are held, by their first words; none where each
-/// superblock is in one list at most, and no word is in two blocks that are held or free.
-pub fn wrong_with(alloc: Global, words: &[u64], held: &[u64]) -> Result<Option<Wrong>, AllocError> {
+/// What is wrong with a heap of which these blocks are held, by their first words, and so many
+/// seats may have a superblock in hand; none where each superblock is in one list at most, those
+/// with free blocks are in one but for that many, and no word is in two blocks that are held or
+/// free.
+pub fn wrong_with(
+    alloc: Global,
+    words: &[u64],
+    held: &[u64],
+    hands: usize,
+) -> Result<Option<Wrong>, AllocError> {
     let mut look = Look::new(alloc, words)?;
     for list in 0..21 {
         if !look.walks(list) {
@@ -184,10 +204,24 @@ pub fn wrong_with(alloc: Global, words: &[u64], held: &[u64]) -> Result<Option<W
             return Ok(Some(Wrong::Free(d)));
         }
     }
+    let loose = look.loose();
+    if loose > hands as u64 {
+        return Ok(Some(Wrong::Loose(loose)));
+    }
     for block in held {
         if !look.meet_held(*block) {
             return Ok(Some(Wrong::Held(*block)));
         }
     }
     Ok(None)
+}
+
+/// How often superblocks were popped off the lists of classes, as the heads count it.
+pub fn class_pops(words: &[u64]) -> u64 {
+    let mut pops = 0_u64;
+    for list in 1..21_u64 {
+        let head = words.get(list.wrapping_add(HEADS) as usize).copied();
+        pops = pops.wrapping_add(head.unwrap_or(0) >> 24);
+    }
+    pops
 }

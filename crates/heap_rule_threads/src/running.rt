@@ -3,7 +3,7 @@
 ghost use Rattle.std.specs.Prelude.{◌≤◌, ◌<◌, IfOk};
 ghost use Rattle.heap_model.specs.Geometry.{largest_capacity};
 
-use crate::plain::{size_of, wrong_with};
+use crate::plain::{class_pops, size_of, wrong_with};
 use crate::{Ended, Plan, Task, work_together};
 use dictionary::{DictFilter, root_kinds};
 use heap_recover::recover;
@@ -81,14 +81,15 @@ fn recovery_finds_what_threads_hold(rt: HostRuntime) -> Result<(), Fail> {
         for report in &ended.reports {
             assert!(rt; report.told.done);
         }
+        assert!(rt; threads > 1 || class_pops(&ended.left.now) > 0);
         let held = told(alloc, &ended, false)?;
         let found = recovered(alloc, &ended.left.now)?;
         assert_eq!(rt; found.held(), held.as_slice());
         let after_crash = recovered(alloc, &ended.left.kept)?;
         assert_eq!(rt; after_crash.held(), held.as_slice());
         let blocks = first_words(alloc, &held)?;
-        assert_eq!(rt; wrong_with(alloc, &ended.left.now, &blocks)?, None);
-        assert_eq!(rt; wrong_with(alloc, found.words(), &blocks)?, None);
+        assert_eq!(rt; wrong_with(alloc, &ended.left.now, &blocks, threads)?, None);
+        assert_eq!(rt; wrong_with(alloc, found.words(), &blocks, 0)?, None);
     }
     Ok(())
 }
@@ -126,9 +127,9 @@ fn a_crash_leaves_what_was_published(rt: HostRuntime) -> Result<(), Fail> {
             assert!(rt; held.contains(block));
         }
         let blocks = first_words(alloc, &held)?;
-        assert_eq!(rt; wrong_with(alloc, &ended.left.now, &blocks)?, None);
+        assert_eq!(rt; wrong_with(alloc, &ended.left.now, &blocks, threads)?, None);
         let blocks = first_words(alloc, left.held())?;
-        assert_eq!(rt; wrong_with(alloc, left.words(), &blocks)?, None);
+        assert_eq!(rt; wrong_with(alloc, left.words(), &blocks, 0)?, None);
     }
     Ok(())
 }
@@ -162,7 +163,7 @@ fn a_list_that_threads_pop_and_push_stays_one(rt: HostRuntime) -> Result<(), Fai
             assert!(rt; report.told.done);
             assert!(rt; threads > 1 || report.told.losses == 0);
         }
-        assert_eq!(rt; wrong_with(alloc, &ended.left.now, &[])?, None);
+        assert_eq!(rt; wrong_with(alloc, &ended.left.now, &[], threads)?, None);
         assert!(rt; recovered(alloc, &ended.left.now)?.held().is_empty());
     }
     Ok(())
