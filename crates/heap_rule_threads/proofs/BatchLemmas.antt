@@ -1,5 +1,5 @@
 -- What rows on batches, and on superblocks of a class, leave in a seat's hand.
-use Rattle.std.proofs.Common.{◌≡◌, ◌≤◌, ◌<◌, ℕ, zero, suc, inl, inr, Bool, true, false, nat_eq, None, List, [], ◌∷◌, ◌++◌, length, refl, ap, sym, subst, ◌∙◌, eq-eqb, arith}
+use Rattle.std.proofs.Common.{◌≡◌, ◌≤◌, ◌<◌, ℕ, zero, suc, inl, inr, Bool, true, false, nat_eq, List, [], ◌∷◌, ◌++◌, length, refl, ap, sym, subst, ◌∙◌, eq-eqb, arith}
 use Rattle.heap_model.specs.Geometry.{start_word}
 use Rattle.heap_model.specs.Sizes.{IsClass}
 use Rattle.core_model.specs.Cells.{superblock_at}
@@ -102,10 +102,6 @@ given_keeps v w d zero last true given = record { small = given.parts.small; roo
 given_keeps v w d (suc class) last true given = record { small = given.parts.small; roots = given.parts.roots }
 given_keeps v w d class last false given = record { small = given.1.parts.small; roots = given.1.parts.roots }
 
-pub given_goes : (v w : View) (d class last : ℕ) (full : Bool) → HasGiven d class last full v w → w.stopped ≡ None
-given_goes v w d class last true given = given.going
-given_goes v w d class last false given = given.1.going
-
 -- it was not given: where another seat was faster, or the seat stopped
 refused_parts : (refusal : Refusal) (v w : View) → IsNotGiven refusal v w → KeepsParts v w
 refused_parts Nothing v w none = absurd none
@@ -120,16 +116,6 @@ pub refused_batch : (refusal : Refusal) (v w : View) (d class last : ℕ) → Gi
 refused_batch refusal v w d class last (inl none) has = record { is_class = has.is_class; batch = batch_still v w d class last (refused_parts refusal v w none).batch has.batch }
 refused_batch refusal v w d class last (inr none) has = record {
   is_class = has.is_class;
-  batch = record {
-    descriptor = ap (λ b. b.descriptor) same ∙ has.batch.descriptor;
-    class_is = ap (λ b. b.class) same ∙ has.batch.class_is;
-    some = subst (λ b. 1 ≤ length b.blocks) (sym same) has.batch.some;
-    last_is = ap (λ b. last_of b.blocks) same ∙ has.batch.last_is;
-  };
-} where
-  same : w.batch ≡ (with_last v last none.0).batch
-  same = (refused_parts refusal (with_last v last none.0) w none.1).batch
-
-pub lost_goes : (v w : View) (found last : ℕ) → GivesNone last (Lost found) v w → w.stopped ≡ None
-lost_goes v w found last (inl lost) = lost.going
-lost_goes v w found last (inr lost) = lost.1.going
+  batch = batch_still (with_last v last none.0) w d class last (refused_parts refusal (with_last v last none.0) w none.1).batch
+      (record { descriptor = has.batch.descriptor; class_is = has.batch.class_is; some = has.batch.some; last_is = has.batch.last_is });
+}
