@@ -18,7 +18,7 @@ use Rattle.block_heap.specs.Accounts.{AreAccounted}
 use Rattle.heap_seat.specs.Alloc.{IsSizeFor, of_class as size_of_class, of_superblocks}
 use Rattle.block_heap.specs.Parts.{Parts, image_of, held_in, cache_at}
 use Rattle.block_heap.specs.Returns.{FreesSmall, FreesLarge, ComesBack}
-use Rattle.block_heap.specs.Running.{IsRunning, AreShort}
+use Rattle.block_heap.specs.Running.{IsRunning, CachesAreShort}
 use Rattle.block_heap.specs.Lists.{head_at}
 use Rattle.block_heap.specs.Steps.{IsRefilling, HandsOut}
 use Rattle.block_heap.specs.Large.{JoinsAs}
@@ -59,12 +59,12 @@ least_of_size bytes class other least is same =
     omega arith
 
 -- caches that are the same are short
-pub short_same : (p q : Parts) → q.caches ≡ p.caches → AreShort p 0 → AreShort q 0
+pub short_same : (p q : Parts) → q.caches ≡ p.caches → CachesAreShort p 0 → CachesAreShort q 0
 short_same p q same short = record { each = λ c is other. subst (λ cs. (cache_at cs c).count < blocks_of c) (sym same) (short.each c is other) }
 
 -- so are all where the one of a class is
-short_but : (class : ℕ) (p q : Parts) → AreShort p 0 → ((c : ℕ) → IsClass c → c ≢ class → cache_at q.caches c ≡ cache_at p.caches c)
-    → (cache_at q.caches class).count < blocks_of class → AreShort q 0
+short_but : (class : ℕ) (p q : Parts) → CachesAreShort p 0 → ((c : ℕ) → IsClass c → c ≢ class → cache_at q.caches c ≡ cache_at p.caches c)
+    → (cache_at q.caches class).count < blocks_of class → CachesAreShort q 0
 short_but class p q short same here = record {
   each = λ c is other. elim (cases_eq c class) as (λ _. (cache_at q.caches c).count < blocks_of c) [
     | inl one ↦ subst (λ k. (cache_at q.caches k).count < blocks_of k) (sym one) here
@@ -103,7 +103,7 @@ still_none class p q finds (in_free_list some) = some finds.looked.free_empty
 still_none class p q finds (in_fresh room) = let past = finds.looked.past in omega arith
 
 -- a request of a class that got a block
-pub gets_in_class : (class : ℕ) (b : Block) (p q r : Parts) → IsClass class → AreShort p 0 → q.capacity ≡ p.capacity → r.capacity ≡ q.capacity → IsRefilling class p q → HasRoom p class
+pub gets_in_class : (class : ℕ) (b : Block) (p q r : Parts) → IsClass class → CachesAreShort p 0 → q.capacity ≡ p.capacity → r.capacity ≡ q.capacity → IsRefilling class p q → HasRoom p class
     → HandsOut class b q r → GetsInClass class b p r
 gets_in_class class b p q r is short capacity same fills room hands = record {
   running = hands.running;
@@ -165,7 +165,7 @@ answers_small bytes class (Some b) p q least gets = record {
 }
 
 -- the answer to one that takes superblocks of its own
-pub answers_large : (bytes : ℕ) (answer : Option Block) (p q : Parts) → largest_small < bytes → AreShort p 0 → JoinsAs (span_of bytes) answer p q → IsRunning q
+pub answers_large : (bytes : ℕ) (answer : Option Block) (p q : Parts) → largest_small < bytes → CachesAreShort p 0 → JoinsAs (span_of bytes) answer p q → IsRunning q
     → (AreAccounted p → AreAccounted q) → q.caches ≡ p.caches → q.capacity ≡ p.capacity
     → (answer ≡ None → q.words.drawn ≡ p.words.drawn + 1) → Answers bytes answer p q
 answers_large bytes None p q large short joins running accounted caches capacity one = record {

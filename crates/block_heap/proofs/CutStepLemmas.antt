@@ -20,7 +20,7 @@ use Rattle.heap_shape.proofs.OwnLemmas.{none_past}
 use Rattle.heap_shape.proofs.RefillLemmas.{cut_free, cut_fresh}
 use Rattle.heap_shape.proofs.DrainLemmas.{cut_free_drains, cut_fresh_drains}
 use Rattle.line_memory.specs.View.{View, word_count, volatile_at, durable_at}
-use Rattle.line_memory.specs.Crash.{MayStore}
+use Rattle.line_memory.specs.Crash.{MayLeaveStore}
 use Rattle.line_memory.specs.Marks.{IsMarked, marked_words}
 use Rattle.line_memory.specs.Marked.{marked_words-has}
 use Rattle.block_heap.specs.declared.cache.Cache.{Cache}
@@ -33,7 +33,7 @@ use Rattle.block_heap.specs.Links.{IsPopped, IsFresh}
 use Rattle.block_heap.specs.Medium.{StoresOnly}
 use Rattle.block_heap.specs.Parts.{Parts, image_of, held_in, cache_at}
 use Rattle.block_heap.specs.Refill.{SameBut, Cuts}
-use Rattle.block_heap.specs.Running.{IsRunning, IsCacheOf, KnowsSizes, IsSettled, LeavesHeld}
+use Rattle.block_heap.specs.Running.{IsRunning, IsCacheOf, KnowsSizes, HasDurableInfos, LeavesHeld}
 use Rattle.block_heap.specs.Lists.{head_at, IsEmptyList, LeadsAlong, IsInList}
 use Rattle.block_heap.specs.Order.{CutsAll, CutsFirst}
 use Rattle.block_heap.specs.Steps.{IsRefilling, Spends}
@@ -110,7 +110,7 @@ module _ (p : Parts) (class d : ℕ) (w : View) (looks : List Look) (look : Look
     ];
   }
 
-  pub cut_running : (t : Shape) → word_count w ≡ word_count p.words → w.budget ≡ p.words.budget → length looks ≡ lists → IsSettled p.capacity w
+  pub cut_running : (t : Shape) → word_count w ≡ word_count p.words → w.budget ≡ p.words.budget → length looks ≡ lists → HasDurableInfos p.capacity w
       → ((e : ℕ) → e < p.capacity → volatile_at w (info_word e) ≡ image_of p (info_word e)) → IsShape p.capacity (image_of q) (held_in p) t
       → t.place ≡ with_at run.shape.place d is_full → t.start ≡ with_at run.shape.start class (first_of p.capacity class d 0)
       → t.cached ≡ with_at run.shape.cached class (all_firsts p.capacity class d)
@@ -273,7 +273,7 @@ module _ (p : Parts) (class d : ℕ) (popped : Popped) (w : View) (look : Look) 
 
 -- one that was never taken
 module _ (p : Parts) (w : View) (run : IsRunning p) (stores : StoresOnly (λ word. word ≡ used_word) p.words w)
-    (crash : MayStore used_word (image_of p used_word + 1) p.words w) (fits : UsedFits p.capacity p.words → UsedFits p.capacity w) where
+    (crash : MayLeaveStore used_word (image_of p used_word + 1) p.words w) (fits : UsedFits p.capacity p.words → UsedFits p.capacity w) where
   raised : StoresAsAllocator p.capacity (held_in p) p.words w
   raised = works_raised p.capacity (held_in p) (image_of p used_word + 1) p.words w stores crash run.settled.used (omega arith) fits
 
@@ -351,7 +351,7 @@ module _ (p : Parts) (w : View) (run : IsRunning p) (stores : StoresOnly (λ wor
       used_set = subst (λ n. IsSet (image_of p) (λ word. volatile_at w word) used_word n) (let first = some_words.0 in omega arith)
           (set_is p.words.volatile w.volatile used_word (fresh.used + 1) (let long = run.words_open.long in omega arith) some_words.2)
 
-      settled : IsSettled p.capacity w
+      settled : HasDurableInfos p.capacity w
       settled = record {
         infos = λ e less.
             let same = stores.volatile (info_word e) (λ at. omega arith) in

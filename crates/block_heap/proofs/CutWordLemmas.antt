@@ -8,7 +8,7 @@ use Rattle.heap_shape.specs.Effects.{IsCut, IsInSuperblock}
 use Rattle.line_memory.specs.View.{View, volatile_at, durable_at}
 use Rattle.block_heap.specs.Divide.{IsDivideWord, IsDivided}
 use Rattle.block_heap.specs.Medium.{StoresOnly}
-use Rattle.block_heap.specs.Running.{IsSettled}
+use Rattle.block_heap.specs.Running.{HasDurableInfos}
 use Rattle.block_heap.specs.Works.{IsAllocatorWord, is_info, is_anchor, is_inside}
 use Rattle.heap_shape.proofs.BasicLemmas.{inside_one}
 use Rattle.block_heap.specs.Parts.{Parts}
@@ -75,8 +75,8 @@ cut_is capacity class d v w stores divided = record {
   by_word word out not_info not_anchor (inr (inr anchor)) = not_anchor anchor
 
 -- it leaves infos and `used` durable
-pub settled_cut : (capacity class d : ℕ) (v w : View) → IsSettled capacity v → StoresOnly (IsDivideWord capacity d) v w → IsDivided capacity class d v w
-    → IsSettled capacity w
+pub settled_cut : (capacity class d : ℕ) (v w : View) → HasDurableInfos capacity v → StoresOnly (IsDivideWord capacity d) v w → IsDivided capacity class d v w
+    → HasDurableInfos capacity w
 settled_cut capacity class d v w settled stores divided = record {
   infos = λ e within. elim (cases_eq e d) as (λ _. durable_at w (info_word e) ≡ volatile_at w (info_word e)) [
     | inl same ↦ subst (λ k. durable_at w (info_word k) ≡ volatile_at w (info_word k)) (sym same) (divided.info_durable ∙ sym divided.info)

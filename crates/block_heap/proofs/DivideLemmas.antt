@@ -9,7 +9,7 @@ use Rattle.heap_model.proofs.BlockLemmas.{block_step}
 use Rattle.line_memory.specs.View.{View, volatile_at, durable_at}
 use Rattle.block_heap.specs.Medium.{StopsWithin, StoresOnly, IsStored, IsPersisted}
 use Rattle.block_heap.specs.Links.{IsOpen}
-use Rattle.block_heap.specs.Divide.{IsChained, IsDivided}
+use Rattle.block_heap.specs.Divide.{AreInOneChain, IsDivided}
 use Rattle.heap_shape.specs.Effects.{IsInSuperblock}
 use Rattle.block_heap.proofs.MediumLemmas.{stores_then, stores_more}
 
@@ -26,7 +26,7 @@ first_inside capacity class d k word is below few at =
 
 module _ (capacity class d i : ℕ) (v u w : View) (before next : ℕ) (is : IsClass class) (below : d < capacity) (few : i + 1 < blocks_of class)
     (at : before ≡ start_word capacity d + i * words_of_class class) (next_at : next ≡ start_word capacity d + (i + 1) * words_of_class class)
-    (chained : IsChained capacity class d (i + 1) v u) (stores : StoresOnly (λ other. other ≡ before) u w) where
+    (chained : AreInOneChain capacity class d (i + 1) v u) (stores : StoresOnly (λ other. other ≡ before) u w) where
   here : IsInSuperblock capacity d before × (before < image_words capacity)
   here = first_inside capacity class d i before is below (omega arith) at
 
@@ -50,7 +50,7 @@ module _ (capacity class d i : ℕ) (v u w : View) (before next : ℕ) (is : IsC
       stores_then (IsInSuperblock capacity d) v u w chained.stores
       (stores_more (λ (other : ℕ). other ≡ before) (IsInSuperblock capacity d) u w (λ word e. subst (λ (x : ℕ). IsInSuperblock capacity d x) (sym e) here.0) stores)
 
-  pub chain_step : IsStored before next u w → IsChained capacity class d (i + 2) v w
+  pub chain_step : IsStored before next u w → AreInOneChain capacity class d (i + 2) v w
   chain_step stored =
       let goes = stored.goes in
       let drew = goes.drew in
@@ -64,17 +64,17 @@ module _ (capacity class d i : ℕ) (v u w : View) (before next : ℕ) (is : IsC
       }
 
 -- nothing is chained yet
-pub chain_begins : (capacity class d : ℕ) (v : View) → IsOpen capacity v → StoresOnly (IsInSuperblock capacity d) v v → IsChained capacity class d 1 v v
+pub chain_begins : (capacity class d : ℕ) (v : View) → IsOpen capacity v → StoresOnly (IsInSuperblock capacity d) v v → AreInOneChain capacity class d 1 v v
 chain_begins capacity class d v open_now same = record { open_still = open_now; drawn = refl; stores = same; linked = λ k less. absurd (omega arith) }
 
 module _ (capacity class d count : ℕ) (v u w : View) (before next : ℕ) (is : IsClass class) (below : d < capacity) (some : 1 ≤ count) (few : count < blocks_of class)
     (at : before ≡ start_word capacity d + (count - 1) * words_of_class class) (next_at : next ≡ start_word capacity d + count * words_of_class class)
-    (chained : IsChained capacity class d count v u) (stores : StoresOnly (λ other. other ≡ before) u w) where
+    (chained : AreInOneChain capacity class d count v u) (stores : StoresOnly (λ other. other ≡ before) u w) where
   one_more : count ≡ (count - 1) + 1
   one_more = omega arith
 
-  chained_before : IsChained capacity class d ((count - 1) + 1) v u
-  chained_before = subst (λ (k : ℕ). IsChained capacity class d k v u) one_more chained
+  chained_before : AreInOneChain capacity class d ((count - 1) + 1) v u
+  chained_before = subst (λ (k : ℕ). AreInOneChain capacity class d k v u) one_more chained
 
   next_there : next ≡ start_word capacity d + ((count - 1) + 1) * words_of_class class
   next_there = subst (λ (k : ℕ). next ≡ start_word capacity d + k * words_of_class class) one_more next_at
@@ -83,18 +83,18 @@ module _ (capacity class d count : ℕ) (v u w : View) (before next : ℕ) (is :
   few_there = omega arith
 
   -- with one block more in the chain, steps still store to its superblock alone
-  pub chain_more : StoresOnly (IsInSuperblock capacity d) v w × (IsStored before next u w → IsChained capacity class d (count + 1) v w)
+  pub chain_more : StoresOnly (IsInSuperblock capacity d) v w × (IsStored before next u w → AreInOneChain capacity class d (count + 1) v w)
   chain_more = (
     step_stores capacity class d (count - 1) v u w before next is below few_there at next_there chained_before stores,
     λ stored. let e : (count - 1) + 2 ≡ count + 1 = omega arith in
-        subst (λ (k : ℕ). IsChained capacity class d k v w) e
+        subst (λ (k : ℕ). AreInOneChain capacity class d k v w) e
         (chain_step capacity class d (count - 1) v u w before next is below few_there at next_there chained_before stores stored),
   )
 
 -- the three parts of a division
 module _ (capacity class d : ℕ) (v u t w : View) (info anchor value : ℕ) (is : IsClass class) (below : d < capacity) (was_open : IsOpen capacity v)
     (info_at : info ≡ info_word d) (anchor_at : anchor ≡ anchor_word d) (value_is : value ≡ full_anchor)
-    (persisted : IsPersisted info class v u) (persist_stores : StoresOnly (λ other. other ≡ info) v u) (chained : IsChained capacity class d (blocks_of class) u t)
+    (persisted : IsPersisted info class v u) (persist_stores : StoresOnly (λ other. other ≡ info) v u) (chained : AreInOneChain capacity class d (blocks_of class) u t)
     (anchor_stores : StoresOnly (λ other. other ≡ anchor) t w) where
   not_inside : IsInSuperblock capacity d info → ⊥
   not_inside inside = let from = inside.from in omega arith

@@ -9,7 +9,7 @@ use Rattle.block_heap.specs.declared.seq_heap.DrainFault.TheVariants.{Stopped as
 use Rattle.block_heap.specs.Parts.{held_in}
 use Rattle.block_heap.specs.Requests.{KeepsWords, KeepsHeld, IsNewAt, HoldsDrained, StopsDrain}
 use Rattle.block_heap.specs.SeqState.{SeqState, all_roots, seat_of}
-use Rattle.block_heap.specs.Serving.{Gets, Answers, Misses}
+use Rattle.block_heap.specs.Serving.{GetsBlock, Answers, Misses}
 use Rattle.heap_seat.specs.Tickets.{Runs, Stops}
 use Rattle.heap_seat.specs.Words.{IsOwn, in_block, in_root}
 use Rattle.heap_seat.proofs.CallerLemmas.{keeps_word_then, pending_then}
@@ -91,7 +91,7 @@ module _ (class : ℕ) (s t u : SeqState) (offsets : List ℕ) (has : HasKept cl
   }
 
   -- or it gives one
-  module _ (bytes : ℕ) (b : Block) (gets : Gets bytes b t.parts u.parts) where
+  module _ (bytes : ℕ) (b : Block) (gets : GetsBlock bytes b t.parts u.parts) where
     pub kept_one : KeepsHeld s u
     kept_one = held_then s t u has.keeps (record { held = gets.adds.keeps; words = words })
 
@@ -142,7 +142,7 @@ pub kept_pushed : (class bytes : ℕ) (s t u : SeqState) (offsets now : List ℕ
     → HasKept class s t offsets → answer ≡ Some b → Answers bytes answer t.parts u.parts → KeepsWords (seat_of t) (seat_of u)
     → IsClass class → bytes ≡ size_of class → Runs (seat_of t) (seat_of u) → HasKept class s u now
 kept_pushed class bytes s t u offsets now answer b pushed has is answers words is_class at runs =
-    let gets : Gets bytes b t.parts u.parts = subst (λ (o : Option Block). Answers bytes o t.parts u.parts) is answers in
+    let gets : GetsBlock bytes b t.parts u.parts = subst (λ (o : Option Block). Answers bytes o t.parts u.parts) is answers in
     subst (λ xs. HasKept class s u xs) (sym pushed) (kept_more class s t u offsets has words bytes b gets is_class at runs)
 
 pub kept_unpushed : (class bytes : ℕ) (s t u : SeqState) (offsets : List ℕ) (answer : Option Block) (b : Block)

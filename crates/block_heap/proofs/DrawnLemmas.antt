@@ -29,7 +29,7 @@ use Rattle.block_heap.specs.Running.{IsRunning}
 use Rattle.block_heap.proofs.AllocLemmas.{no_later, least_of_size}
 use Rattle.block_heap.specs.Requests.{IsDrainableFor}
 use Rattle.block_heap.specs.SeqState.{SeqState, IsSeqHeap, seat_of}
-use Rattle.block_heap.specs.Serving.{Gets, Answers, DrainsTo, Costs, DrainsAs}
+use Rattle.block_heap.specs.Serving.{GetsBlock, Answers, DrainsTo, Costs, DrainsAs}
 use Rattle.block_heap.specs.Steps.{HasAtMost}
 use Rattle.heap_seat.specs.Tickets.{Runs, Stops}
 use Rattle.block_heap.proofs.DrainStepLemmas.{HasDrained, drains_first, drains_more}
@@ -105,7 +105,7 @@ class_of class bytes _ is at (of_superblocks large) =
 
 -- a request of the class gave a block
 module _ (class bytes most : ℕ) (s t u : SeqState) (offsets : List ℕ) (b : Block) (is : IsClass class) (at : bytes ≡ size_of class)
-    (has : HasDrawn class s t offsets) (gets : Gets bytes b t.parts u.parts) where
+    (has : HasDrawn class s t offsets) (gets : GetsBlock bytes b t.parts u.parts) where
   abbrev more : List ℕ
   more = offsets ++ 8 * b.first_word ∷ []
 
@@ -210,7 +210,7 @@ pub draining_more : (class bytes most : ℕ) (s t u : SeqState) (offsets now : L
     → Draining class s t offsets → answer ≡ Some b → Answers bytes answer t.parts u.parts → DrainsAs class answer t.parts u.parts
     → IsClass class → bytes ≡ size_of class → Runs (seat_of t) (seat_of u) → IsLargeCall most (seat_of t) (seat_of u) → Draining class s u now
 draining_more class bytes most s t u offsets now answer b pushed draining is answers drains is_class at runs counted =
-    let gets : Gets bytes b t.parts u.parts = subst (λ (o : Option Block). Answers bytes o t.parts u.parts) is answers in
+    let gets : GetsBlock bytes b t.parts u.parts = subst (λ (o : Option Block). Answers bytes o t.parts u.parts) is answers in
     let gives : DrainsTo class b t.parts u.parts × Costs class t.parts u.parts = subst (λ (o : Option Block). DrainsAs class o t.parts u.parts) is drains in
     subst (λ xs. Draining class s u xs) (sym pushed) (
       (λ drainable. drains_more class s t u offsets b (draining.0 drainable) counted.goes_on.capacity gives.0),

@@ -5,10 +5,10 @@ use Rattle.heap_model.specs.Blocks.{IsIn}
 use Rattle.heap_shape.specs.Moves.{TakesFrom}
 use Rattle.line_memory.specs.declared.memory.Stopped.{Stopped}
 use Rattle.block_heap.specs.Accounts.{AreAccounted}
-use Rattle.heap_seat.specs.Free.{MayFree, Frees}
+use Rattle.heap_seat.specs.Free.{MayHaveFreed, Frees}
 use Rattle.block_heap.specs.Medium.{RunsWithin, StopsWithin}
 use Rattle.block_heap.specs.Parts.{Parts, held_in}
-use Rattle.block_heap.specs.Running.{IsRunning, AreShort, LeavesHeld}
+use Rattle.block_heap.specs.Running.{IsRunning, CachesAreShort, LeavesHeld}
 use Rattle.block_heap.specs.Works.{IsAllocatorWord, IsStable, IsLasting}
 use Rattle.block_heap.specs.SeqState.{SeqState, IsSeqHeap, all_roots, seat_of}
 use Rattle.heap_seat.specs.Words.{IsOwn, in_block, in_root}
@@ -30,8 +30,8 @@ free_lasts r p q b old o lasts takes serves none stops halts =
     large_lasts r p q (held_in q) 40000 old o lasts serves (free_stable p q b lasts.stable takes serves) none stops halts
 
 -- the parts after a free that was done
-pub free_runs : (r : Result Unit Stopped) (p q : Parts) → AreAccounted p → OnOk r (IsRunning q) → OnOk r (AreShort q 0)
-    → OnOk r (AreAccounted p → AreAccounted q) → OnOk r (IsRunning q × AreShort q 0 × AreAccounted q)
+pub free_runs : (r : Result Unit Stopped) (p q : Parts) → AreAccounted p → OnOk r (IsRunning q) → OnOk r (CachesAreShort q 0)
+    → OnOk r (AreAccounted p → AreAccounted q) → OnOk r (IsRunning q × CachesAreShort q 0 × AreAccounted q)
 free_runs (Ok t) p q before run short accounted = (run, short, accounted before)
 free_runs (Err e) p q before run short accounted = tt
 
@@ -49,8 +49,8 @@ module _ (s : SeqState) (q : Parts) (o : Option ℕ) (b : Block) (heap : IsSeqHe
       (stable_fewer s.parts.capacity (held_in s.parts) (held_in q) s.parts.words takes.only heap.lasts.stable) may (still_own word out own)
 
   -- what a free leaves at each exit
-  pub may_free : (seen : SeqState) → s ≡ seen → MayFree b (seat_of seen) (large_view s q o)
-  may_free seen same = subst (λ t. MayFree b (seat_of t) (large_view s q o)) same (record {
+  pub may_free : (seen : SeqState) → s ≡ seen → MayHaveFreed b (seat_of seen) (large_view s q o)
+  may_free seen same = subst (λ t. MayHaveFreed b (seat_of t) (large_view s q o)) same (record {
     only = takes.only;
     keeps = takes.keeps;
     roots = refl;

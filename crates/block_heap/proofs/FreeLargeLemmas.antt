@@ -7,7 +7,7 @@ use Rattle.heap_model.specs.Sizes.{IsClass, words_of_class}
 use Rattle.heap_model.specs.Words.{head_first}
 use Rattle.heap_model.specs.Recovered.{HasPartIn}
 use Rattle.heap_shape.specs.Shape.{in_list, in_large}
-use Rattle.heap_shape.specs.Standing.{HasNoHeld, IsInLarge, IsAs}
+use Rattle.heap_shape.specs.Standing.{HasNoHeld, IsTakenByLarge, IsAs}
 use Rattle.heap_shape.specs.Whole.{IsShape}
 use Rattle.heap_shape.specs.Moves.{TakesFrom}
 use Rattle.heap_shape.proofs.AccountLemmas.{use_without}
@@ -178,7 +178,7 @@ module _ (p : Parts) (b : Block) (run : IsRunning p) (holds : Contains (held_in 
     drop_left d from until = by_place (large_places p.capacity d (image_of p) (held_in p) run.shape b run.is holds whole_words from until) where
       by_place : (d < p.capacity) × (run.shape.place d ≡ in_large) → IsDropped (record p { blocks = h }) d
       by_place place =
-          let is : IsInLarge (image_of p) d = subst (λ at. IsAs p.capacity (image_of p) run.shape (held_in p) d at) place.1 (run.is.places d place.0) in
+          let is : IsTakenByLarge (image_of p) d = subst (λ at. IsAs p.capacity (image_of p) run.shape (held_in p) d at) place.1 (run.is.places d place.0) in
           record {
             within = place.0;
             taken = is.taken;

@@ -26,7 +26,7 @@ use Rattle.block_heap.specs.Accounts.{AreAccounted}
 use Rattle.block_heap.specs.Held.{held_of, HasMark, at_mark}
 use Rattle.block_heap.specs.Medium.{StoresOnly, IsStored, RunsWithin}
 use Rattle.block_heap.specs.Parts.{Parts, image_of, held_in, cache_at}
-use Rattle.block_heap.specs.Running.{IsRunning, AreShort, LeavesHeld}
+use Rattle.block_heap.specs.Running.{IsRunning, CachesAreShort, LeavesHeld}
 use Rattle.block_heap.specs.Flush.{KeepsAll}
 use Rattle.block_heap.specs.Works.{IsAllocatorWord, is_inside}
 use Rattle.block_heap.proofs.RunningLemmas.{set_is}
@@ -125,7 +125,7 @@ module _ (p : Parts) (class : ℕ) (is : IsClass class) (run : IsRunning p) (b :
 
     module _ (cache : Cache) (cache_is : cache ≡ cache_at p.caches class) (w : View) (stored : IsStored b.first_word cache.first p.words w)
         (stores : StoresOnly (λ word. word ≡ b.first_word) p.words w)
-        (short : AreShort p 0) where
+        (short : CachesAreShort p 0) where
       abbrev pub freed_cache : Cache
       freed_cache = record { first = b.first_word; count = cache.count + 1 }
 
@@ -196,7 +196,7 @@ module _ (p : Parts) (class : ℕ) (is : IsClass class) (run : IsRunning p) (b :
           ap (λ (x : Cache). x.count) (get_or-set_same p.caches class freed_cache (record { first = 0; count = 0 }) (omega arith))
 
       -- the caches stay short
-      pub freed_short : cache.count + 1 ≢ blocks_of class → AreShort freed_parts 0
+      pub freed_short : cache.count + 1 ≢ blocks_of class → CachesAreShort freed_parts 0
       freed_short not_all = record {
         each = λ c is_c other. elim (cases_eq c class) as (λ _. (cache_at (set p.caches class freed_cache) c).count < blocks_of c) [
           | inl same ↦ subst (λ k. (cache_at (set p.caches class freed_cache) k).count < blocks_of k) (sym same)
@@ -207,7 +207,7 @@ module _ (p : Parts) (class : ℕ) (is : IsClass class) (run : IsRunning p) (b :
 
       -- also where its class's was given back
       module _ (r : Parts) (keeps : KeepsAll class freed_parts r) (empty : (cache_at r.caches class).count ≡ 0) where
-        pub flushed_short : AreShort r 0
+        pub flushed_short : CachesAreShort r 0
         flushed_short = record {
           each = λ c is_c other. elim (cases_eq c class) as (λ _. (cache_at r.caches c).count < blocks_of c) [
             | inl same ↦ subst (λ k. (cache_at r.caches k).count < blocks_of k) (sym same) (let four = four_blocks class is in omega arith)

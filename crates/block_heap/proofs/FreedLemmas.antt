@@ -15,7 +15,7 @@ use Rattle.block_heap.specs.Held.{held_of, at_mark}
 use Rattle.block_heap.specs.Medium.{StoresOnly, IsStored}
 use Rattle.block_heap.specs.Parts.{Parts, held_in, cache_at}
 use Rattle.block_heap.specs.Returns.{CachesAlong, CachesOnlyOf, CachesAllOf, CachesBlock, Flushes, below_limit, at_limit, FreesSmall}
-use Rattle.block_heap.specs.Running.{IsRunning, AreShort}
+use Rattle.block_heap.specs.Running.{IsRunning, CachesAreShort}
 use Rattle.block_heap.proofs.FreeLemmas.{freed_parts, count_short, freed_shape}
 use Rattle.block_heap.proofs.ReturnLemmas.{cached_along}
 use Rattle.block_heap.proofs.WalkLemmas.{one_walk}
@@ -24,7 +24,7 @@ use Rattle.block_heap.proofs.SmallLemmas.{other_cache}
 module _ (p : Parts) (class : ℕ) (is : IsClass class) (run : IsRunning p) (b : Block) (holds : Contains (held_in p) b) (size : b.words ≡ words_of_class class)
     (h : HeldBlocks) (takes : TakesFrom (at_mark p.blocks b.first_word) (held_in p) (held_of h)) (words : h.words.items ≡ p.blocks.words.items)
     (start : h.start ≡ p.blocks.start) (cache : Cache) (cache_is : cache ≡ cache_at p.caches class) (w : View)
-    (stored : IsStored b.first_word cache.first p.words w) (stores : StoresOnly (λ word. word ≡ b.first_word) p.words w) (short : AreShort p 0) where
+    (stored : IsStored b.first_word cache.first p.words w) (stores : StoresOnly (λ word. word ≡ b.first_word) p.words w) (short : CachesAreShort p 0) where
   abbrev q : Parts
   q = freed_parts p class is run b holds size h takes words start cache cache_is w stored stores short
 

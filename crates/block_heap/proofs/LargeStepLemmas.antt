@@ -15,7 +15,7 @@ use Rattle.heap_shape.proofs.AccountLemmas.{accounted_joined}
 use Rattle.heap_shape.proofs.JoinLemmas.{join}
 use Rattle.heap_shape.proofs.OwnLemmas.{none_past}
 use Rattle.line_memory.specs.View.{View, word_count, volatile_at, durable_at}
-use Rattle.line_memory.specs.Crash.{MayStore}
+use Rattle.line_memory.specs.Crash.{MayLeaveStore}
 use Rattle.line_memory.specs.Marks.{marked_words, IsMarked}
 use Rattle.line_memory.specs.Marked.{marked_words-has}
 use Rattle.block_heap.specs.declared.held.HeldBlocks.{HeldBlocks}
@@ -26,7 +26,7 @@ use Rattle.block_heap.specs.Held.{held_of, at_mark, block_of_mark}
 use Rattle.block_heap.specs.Links.{IsFresh}
 use Rattle.block_heap.specs.Medium.{StoresOnly, IsPersisted}
 use Rattle.block_heap.specs.Parts.{Parts, image_of, held_in}
-use Rattle.block_heap.specs.Running.{IsRunning, IsSettled, LeavesHeld}
+use Rattle.block_heap.specs.Running.{IsRunning, HasDurableInfos, LeavesHeld}
 use Rattle.block_heap.specs.Works.{UsedFits, is_info}
 use Rattle.block_heap.proofs.AccountLemmas.{accounted_same}
 use Rattle.block_heap.proofs.RunningLemmas.{set_is, running_words}
@@ -95,7 +95,7 @@ serves_looked p count fresh u look run is none seen when next =
 
 -- raising `used` may stop within
 pub large_stops : (p : Parts) (count : ℕ) (w : View) → IsRunning p → StoresOnly (λ word. word ≡ used_word) p.words w
-    → MayStore used_word (image_of p used_word + count) p.words w → (UsedFits p.capacity p.words → UsedFits p.capacity w) → LeavesHeld (held_in p) p (record p { words = w })
+    → MayLeaveStore used_word (image_of p used_word + count) p.words w → (UsedFits p.capacity p.words → UsedFits p.capacity w) → LeavesHeld (held_in p) p (record p { words = w })
 large_stops p count w run stores crash fits = record {
   capacity = refl;
   works = works_raised p.capacity (held_in p) (image_of p used_word + count) p.words w stores crash run.settled.used (omega arith) fits;
@@ -147,7 +147,7 @@ module _ (p : Parts) (count d : ℕ) (fresh : Fresh) (u : View) (look : Look) (r
     pub fresh_unmarked : (mark : ℕ) → IsMarked p.blocks.marks.items mark → mark / 4096 ≢ d
     fresh_unmarked mark marked = no_mark_past p d mark run (let e = was_used in omega arith) marked
 
-    module _ (w : View) (some : 1 ≤ count) (stores : StoresOnly (λ word. word ≡ used_word) p.words u) (may : MayStore used_word (image_of p used_word + count) p.words u)
+    module _ (w : View) (some : 1 ≤ count) (stores : StoresOnly (λ word. word ≡ used_word) p.words u) (may : MayLeaveStore used_word (image_of p used_word + count) p.words u)
         (fits : UsedFits p.capacity p.words → UsedFits p.capacity u) (seen : look.seen ≡ fresh.used) (when : look.taken ≡ p.taken) (info_stores : StoresOnly (λ word. word ≡ info_word d) u w) where
       raised : volatile_at u used_word ≡ d + count
       raised =
@@ -241,7 +241,7 @@ module _ (p : Parts) (count d : ℕ) (fresh : Fresh) (u : View) (look : Look) (r
               ∙ run.sizes.sizes e below (subst IsClass info is) before ∙ ap words_of_class (sym info)
         ]
 
-        settled_now : IsSettled p.capacity w
+        settled_now : HasDurableInfos p.capacity w
         settled_now = record {
           infos = λ e below. elim (cases_eq e d) as (λ _. durable_at w (info_word e) ≡ volatile_at w (info_word e)) [
             | inl one ↦ subst (λ k. durable_at w (info_word k) ≡ volatile_at w (info_word k)) (sym one) (persisted.durable ∙ sym info_set.at)

@@ -2,7 +2,7 @@
 use Rattle.std.proofs.Common.{◌≡◌, ℕ, ◌+◌, ◌<◌, ◌⊎◌, List, length, get_or, set, refl, sym, ◌∙◌, ap, subst, arith, inl, inr, None, Result, Ok, Err, OnErr, length-set, get_or-set_other}
 use Rattle.std.proofs.lemmas.Bool.{cases_eq}
 use Rattle.line_memory.specs.View.{View, volatile_at, durable_at, IsPending, IsSound, line_of}
-use Rattle.line_memory.specs.Crash.{IsValueOf, MayStore}
+use Rattle.line_memory.specs.Crash.{IsValueOf, MayLeaveStore}
 use Rattle.line_memory.specs.Steps.{TakesBy, RefusesBy, SameTickets, IsLoad, IsStore, IsWriteBack, IsFence, after_draw}
 use Rattle.line_memory.proofs.CallerLemmas.{draw_adds, contains_or_not}
 use Rattle.block_heap.specs.Medium.{StoresOnly, RunsWithin, StopsWithin, IsLoaded, IsStored, IsWritten, IsFenced}
@@ -214,7 +214,7 @@ stores_nothing to v =
     }
 
 -- a store, and then steps that store to no word
-pub may_then : (word value : ℕ) (v u w : View) → MayStore word value v u → StoresOnly (λ _. ⊥) u w → MayStore word value v w
+pub may_then : (word value : ℕ) (v u w : View) → MayLeaveStore word value v u → StoresOnly (λ _. ⊥) u w → MayLeaveStore word value v w
 may_then word value v u w may none =
     record {
       words = none.words ∙ may.words;
@@ -233,7 +233,7 @@ may_then word value v u w may none =
     }
 
 -- steps that store to no word, and then a store
-pub none_then : (word value : ℕ) (v u w : View) → StoresOnly (λ _. ⊥) v u → MayStore word value u w → MayStore word value v w
+pub none_then : (word value : ℕ) (v u w : View) → StoresOnly (λ _. ⊥) v u → MayLeaveStore word value u w → MayLeaveStore word value v w
 none_then word value v u w none may =
     record {
       words = may.words ∙ none.words;
@@ -250,7 +250,7 @@ none_then word value v u w none may =
       before other x (inr e) = inr (e ∙ none.volatile other (λ f. f))
 
 -- no step stores to a word
-pub none_may : (word value : ℕ) (v w : View) → StoresOnly (λ _. ⊥) v w → MayStore word value v w
+pub none_may : (word value : ℕ) (v w : View) → StoresOnly (λ _. ⊥) v w → MayLeaveStore word value v w
 none_may word value v w none =
     record {
       words = none.words;

@@ -22,7 +22,7 @@ use Rattle.heap_seat.specs.declared.look.Look.{Look}
 use Rattle.block_heap.specs.Links.{link_of, IsPopped}
 use Rattle.block_heap.specs.Medium.{StoresOnly}
 use Rattle.block_heap.specs.Parts.{Parts, image_of, held_in, cache_at}
-use Rattle.block_heap.specs.Running.{IsRunning, IsCacheOf, KnowsSizes, IsSettled, LeavesHeld, MakesLooks}
+use Rattle.block_heap.specs.Running.{IsRunning, IsCacheOf, KnowsSizes, HasDurableInfos, LeavesHeld, MakesLooks}
 use Rattle.block_heap.specs.Steps.{IsRefilling}
 use Rattle.block_heap.specs.Lists.{head_at, IsEmptyList}
 use Rattle.block_heap.specs.Works.{IsAllocatorWord, is_head, is_anchor, is_link}
@@ -122,7 +122,7 @@ pub record IsMade (p q : Parts) (t : Shape) : Type 0 where
   pub is : IsShape p.capacity (image_of q) (held_in p) t
   pub caches : (class : ℕ) → IsClass class → IsCacheOf t class (cache_at q.caches class)
   pub sizes : KnowsSizes p.capacity t (λ d. image_of q (info_word d)) q.blocks
-  pub settled : IsSettled p.capacity q.words
+  pub settled : HasDurableInfos p.capacity q.words
   pub pops : (list : ℕ) → list < lists → 2 * head_pops (head_at q list) ≤ q.words.drawn
   pub knows : image_of q used_word + q.used_look.taken ≡ q.used_look.seen + q.taken
   pub few : q.taken ≤ image_of q used_word
@@ -139,7 +139,7 @@ made p q t run m = record {
   is = subst (λ c. IsShape c (image_of q) (held_in q) t) (sym m.capacity) (subst (λ (h : List Block). IsShape p.capacity (image_of q) h t) (sym m.held) m.is);
   caches = m.caches;
   sizes = subst (λ c. KnowsSizes c t (λ d. image_of q (info_word d)) q.blocks) (sym m.capacity) m.sizes;
-  settled = subst (λ c. IsSettled c q.words) (sym m.capacity) m.settled;
+  settled = subst (λ c. HasDurableInfos c q.words) (sym m.capacity) m.settled;
   pops = m.pops;
   knows = m.knows;
   few = m.few;

@@ -15,7 +15,7 @@ use Rattle.block_heap.specs.Accounts.{AreAccounted}
 use Rattle.heap_seat.specs.Alloc.{Refuses}
 use Rattle.heap_seat.specs.Looks.{IsLastSeen, FoundNone, FoundNoRoom}
 use Rattle.block_heap.specs.Parts.{Parts, image_of, held_in}
-use Rattle.block_heap.specs.Running.{IsRunning, AreShort, LeavesHeld}
+use Rattle.block_heap.specs.Running.{IsRunning, CachesAreShort, LeavesHeld}
 use Rattle.block_heap.specs.Serving.{Answers, Misses, IsLooksOf, RefusesAs}
 use Rattle.heap_seat.specs.declared.fault.AllocFault.{AllocFault}
 use Rattle.heap_seat.specs.declared.fault.AllocFault.TheVariants.{Full, Stopped as StoppedFault}
@@ -49,7 +49,7 @@ large_view s q o = record (seat_of s) {
 }
 
 -- the parts that an answer leaves run
-pub answer_runs : (answer : Option Block) (bytes : ℕ) (p q : Parts) → Answers bytes answer p q → IsRunning q × AreShort q 0 × (AreAccounted p → AreAccounted q)
+pub answer_runs : (answer : Option Block) (bytes : ℕ) (p q : Parts) → Answers bytes answer p q → IsRunning q × CachesAreShort q 0 × (AreAccounted p → AreAccounted q)
 answer_runs None bytes p q misses = (misses.running, misses.short, misses.accounted)
 answer_runs (Some b) bytes p q gets = (gets.running, gets.short, gets.accounted)
 
@@ -89,7 +89,7 @@ request_lasts r p q bytes old o lasts serves answers held none stops halts =
 -- a request or a free keeps the heap
 pub large_heap : {T : Type 0} (r : Result T Stopped) (s : SeqState) (q : Parts) (most : ℕ) (o : Option ℕ) (l : ∥ IsLasting q.capacity q.words (held_in q) o ∥₁)
     → IsSeqHeap s
-    → IsLasting q.capacity q.words (held_in q) o → OnOk r (IsRunning q × AreShort q 0 × AreAccounted q) → OnOk r (RunsWithin most s.parts.words q.words)
+    → IsLasting q.capacity q.words (held_in q) o → OnOk r (IsRunning q × CachesAreShort q 0 × AreAccounted q) → OnOk r (RunsWithin most s.parts.words q.words)
     → IfErr r (λ e. StopsWithin e.step most s.parts.words q.words) → IfErr r (λ e. o ≡ Some e.step)
     → IsSeqHeap (record {
       parts = q;
@@ -103,7 +103,7 @@ pub large_heap : {T : Type 0} (r : Result T Stopped) (s : SeqState) (q : Parts) 
     })
 large_heap r s q most o l heap lasts runs goes halts stops = record {
   lasts = lasts;
-  running = λ running. done_of r o (IsRunning q × AreShort q 0 × AreAccounted q) runs stops running;
+  running = λ running. done_of r o (IsRunning q × CachesAreShort q 0 × AreAccounted q) runs stops running;
   calls = let few = heap.calls in let more = drew r most s.parts.words q.words goes halts in omega arith;
   refused = let few = heap.refused in omega arith;
 }
@@ -138,7 +138,7 @@ request_words s seen q o heap same serves = subst (λ t. KeepsWords (seat_of t) 
 
 -- the parts of a request that was done
 pub request_runs : (r : Result (Option Block) Stopped) (bytes : ℕ) (p q : Parts) → AreAccounted p → IfOk r (λ answer. Answers bytes answer p q)
-    → OnOk r (IsRunning q × AreShort q 0 × AreAccounted q)
+    → OnOk r (IsRunning q × CachesAreShort q 0 × AreAccounted q)
 request_runs (Ok answer) bytes p q before answers = let runs = answer_runs answer bytes p q answers in (runs.0, runs.1, runs.2 before)
 request_runs (Err e) bytes p q before answers = tt
 

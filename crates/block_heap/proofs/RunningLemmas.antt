@@ -10,7 +10,7 @@ use Rattle.line_memory.specs.View.{View, volatile_at, durable_at}
 use Rattle.block_heap.specs.Links.{IsHead}
 use Rattle.block_heap.specs.Medium.{StoresOnly}
 use Rattle.block_heap.specs.Parts.{Parts, image_of, held_in}
-use Rattle.block_heap.specs.Running.{IsRunning, IsSettled}
+use Rattle.block_heap.specs.Running.{IsRunning, HasDurableInfos}
 use Rattle.block_heap.specs.Works.{IsStable}
 use Rattle.block_heap.specs.Lists.{head_at}
 
@@ -22,7 +22,7 @@ set_is words new word value within is = record {
 }
 
 -- infos and `used` stay durable where none of them is stored to
-pub settled_kept : (capacity : ℕ) (to : ℕ → Type 0) (v w : View) → StoresOnly to v w → ((d : ℕ) → d < capacity → to (info_word d) → ⊥) → (to used_word → ⊥) → IsSettled capacity v → IsSettled capacity w
+pub settled_kept : (capacity : ℕ) (to : ℕ → Type 0) (v w : View) → StoresOnly to v w → ((d : ℕ) → d < capacity → to (info_word d) → ⊥) → (to used_word → ⊥) → HasDurableInfos capacity v → HasDurableInfos capacity w
 settled_kept capacity to v w stores infos used settled = record {
   infos = λ d below. one (info_word d) (infos d below) (settled.infos d below);
   used = one used_word used settled.used;

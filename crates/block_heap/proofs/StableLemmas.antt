@@ -7,7 +7,7 @@ use Rattle.heap_model.specs.Blocks.{IsIn}
 use Rattle.heap_model.specs.Recovered.{HasPartIn}
 use Rattle.heap_model.proofs.PartLemmas.{part_taken}
 use Rattle.line_memory.specs.View.{View, volatile_at, durable_at}
-use Rattle.line_memory.specs.Crash.{MayStore}
+use Rattle.line_memory.specs.Crash.{MayLeaveStore}
 use Rattle.block_heap.specs.Medium.{StoresOnly}
 use Rattle.heap_seat.specs.Words.{IsOwn, in_block, in_root}
 use Rattle.block_heap.specs.Stable.{root_below, low_layout, own_where}
@@ -69,7 +69,7 @@ module _ (capacity : ℕ) (held : List Block) where
       )
 
   -- steps that raise `used`
-  pub works_raised : (value : ℕ) (v w : View) → StoresOnly (λ word. word ≡ used_word) v w → MayStore used_word value v w → durable_at v used_word ≡ volatile_at v used_word → volatile_at v used_word ≤ value
+  pub works_raised : (value : ℕ) (v w : View) → StoresOnly (λ word. word ≡ used_word) v w → MayLeaveStore used_word value v w → durable_at v used_word ≡ volatile_at v used_word → volatile_at v used_word ≤ value
       → (UsedFits capacity v → UsedFits capacity w) → StoresAsAllocator capacity held v w
   works_raised value v w stores may settled more fits = record {
     stores = stores_more (λ word. word ≡ used_word) (IsAllocatorWord capacity held) v w (λ word e. is_used e) stores;

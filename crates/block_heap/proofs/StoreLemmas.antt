@@ -10,7 +10,7 @@ use Rattle.heap_shape.specs.Shape.{Shape}
 use Rattle.heap_shape.proofs.OwnLemmas.{store_inside, store_root}
 use Rattle.heap_shape.proofs.AccountLemmas.{accounted_kept}
 use Rattle.line_memory.specs.View.{View, word_count, volatile_at, durable_at}
-use Rattle.line_memory.specs.Crash.{MayStore as MayStoreWord}
+use Rattle.line_memory.specs.Crash.{MayHaveStored as MayStoreWord}
 use Rattle.line_memory.specs.declared.memory.Stopped.{Stopped}
 use Rattle.block_heap.specs.declared.held.HeldBlocks.{HeldBlocks}
 use Rattle.block_heap.specs.Medium.{StoresOnly, RunsWithin, StopsWithin, IsStored}
@@ -20,7 +20,7 @@ use Rattle.block_heap.specs.Running.{IsRunning, KnowsSizes}
 use Rattle.block_heap.specs.Works.{IsLasting}
 use Rattle.block_heap.specs.Stable.{root_below, own_where}
 use Rattle.block_heap.specs.SeqState.{SeqState, IsSeqHeap, all_roots, seat_of}
-use Rattle.heap_seat.specs.Words.{IsOwn, in_block, in_root, KeepsOwn, MayStore, MayRead}
+use Rattle.heap_seat.specs.Words.{IsOwn, in_block, in_root, KeepsOwn, MayHaveStored, MayRead}
 use Rattle.block_heap.proofs.RunningLemmas.{set_is, settled_kept}
 use Rattle.block_heap.proofs.SeatLemmas.{stop_above, done_of, drew, small_lasts, small_view}
 
@@ -112,8 +112,8 @@ store_heap r s w o l word value heap ran own within stored halts stores none sto
 
 -- at each exit no other own word is stored to
 pub store_keeps : (s seen : SeqState) (w : View) (o : Option ℕ) (word value : ℕ) → s ≡ seen → StoresOnly (λ other. other ≡ word) s.parts.words w → MayStoreWord word value s.parts.words w
-    → MayStore word value (seat_of seen) (small_view s w o)
-store_keeps s seen w o word value same stores may = subst (λ t. MayStore word value (seat_of t) (small_view s w o)) same (record {
+    → MayHaveStored word value (seat_of seen) (small_view s w o)
+store_keeps s seen w o word value same stores may = subst (λ t. MayHaveStored word value (seat_of t) (small_view s w o)) same (record {
   held = refl;
   roots = refl;
   others = λ other own differs. record {

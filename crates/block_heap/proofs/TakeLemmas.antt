@@ -7,7 +7,7 @@ use Rattle.heap_model.specs.Words.{head_first, head_pops, head_of, anchor_state,
 use Rattle.heap_model.specs.Chains.{Follows}
 use Rattle.heap_model.proofs.MemberLemmas.{in_none, in_rest, head_or_rest}
 use Rattle.heap_shape.specs.Shape.{in_list, is_full, Shape, with_at}
-use Rattle.heap_shape.specs.Standing.{first_of, IsListed}
+use Rattle.heap_shape.specs.Standing.{first_of, HasFreeBlocks}
 use Rattle.heap_shape.specs.Effects.{IsSet, IsPushedOn}
 use Rattle.heap_shape.specs.Moves.{after_take, after_recycle}
 use Rattle.heap_shape.proofs.BasicLemmas.{with_at_same, with_at_other, in_class_list}
@@ -62,7 +62,7 @@ module _ (p : Parts) (class d : ℕ) (popped : Popped) (w : View) (look : Look) 
   pub first_within : d < p.capacity
   first_within = (popped_place p class popped w run below pop pop_stores d some).1
 
-  stands : IsListed p.capacity (image_of p) run.shape (held_in p) class d
+  stands : HasFreeBlocks p.capacity (image_of p) run.shape (held_in p) class d
   stands = in_class_list p.capacity (image_of p) (held_in p) run.shape run.is class d is first_within place
 
   anchor_kept : volatile_at w (anchor_word d) ≡ image_of p (anchor_word d)

@@ -18,7 +18,7 @@ AreLinked capacity class d count w = (k : ℕ) → k + 1 < count
     → volatile_at w (start_word capacity d + k * words_of_class class) ≡ start_word capacity d + (k + 1) * words_of_class class
 
 -- so many blocks of the superblock were chained, one step for each but the last
-pub record IsChained (capacity class d count : ℕ) (v w : View) : Type 0 where
+pub record AreInOneChain (capacity class d count : ℕ) (v w : View) : Type 0 where
   pub open_still : IsOpen capacity w
   pub drawn : w.drawn + 1 ≡ v.drawn + count
   pub stores : StoresOnly (IsInSuperblock capacity d) v w

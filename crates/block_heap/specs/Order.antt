@@ -76,14 +76,14 @@ pub data FillsFrom (class : ℕ) (p q : Parts) : Type 0 where
       → FillsFrom class p q
 
 -- the caches and the lists of the other classes stay
-pub record KeepsOthers (class : ℕ) (p q : Parts) : Type 0 where
+pub record KeepsOtherClasses (class : ℕ) (p q : Parts) : Type 0 where
   pub caches : (c : ℕ) → IsClass c → c ≢ class → cache_at q.caches c ≡ cache_at p.caches c
   pub heads : (c : ℕ) → IsClass c → c ≢ class → head_at q c ≡ head_at p c
 
 -- the cache has blocks, or is filled
 pub data Stocked (class : ℕ) (p q : Parts) : Type 0 where
   in_stock : 1 ≤ (cache_at p.caches class).count → q ≡ p → Stocked class p q
-  is_filled : (cache_at p.caches class).count ≡ 0 → held_in q ≡ held_in p → KeepsOthers class p q → FillsFrom class p q
+  is_filled : (cache_at p.caches class).count ≡ 0 → held_in q ≡ held_in p → KeepsOtherClasses class p q → FillsFrom class p q
       → Stocked class p q
 
 -- the first block of the cache left it and is held: no word is stored to, and the other caches stay

@@ -28,7 +28,7 @@ pub record KnowsSizes (capacity : ℕ) (s : Shape) (info : ℕ → ℕ) (blocks 
       → slice_index blocks.words.items d ≡ words_of_class (info d)
 
 -- infos and `used` are durable as loads see them
-pub record IsSettled (capacity : ℕ) (v : View) : Type 0 where
+pub record HasDurableInfos (capacity : ℕ) (v : View) : Type 0 where
   pub infos : (d : ℕ) → d < capacity → durable_at v (info_word d) ≡ volatile_at v (info_word d)
   pub used : durable_at v used_word ≡ volatile_at v used_word
 
@@ -42,13 +42,13 @@ pub record IsRunning (p : Parts) : Type 0 where
   pub is : IsShape p.capacity (image_of p) (held_in p) shape
   pub caches : (class : ℕ) → IsClass class → IsCacheOf shape class (cache_at p.caches class)
   pub sizes : KnowsSizes p.capacity shape (λ d. image_of p (info_word d)) p.blocks
-  pub settled : IsSettled p.capacity p.words
+  pub settled : HasDurableInfos p.capacity p.words
   pub pops : (list : ℕ) → list < lists → 2 * head_pops (image_of p (head_word list)) ≤ p.words.drawn
   pub knows : image_of p used_word + p.used_look.taken ≡ p.used_look.seen + p.taken
   pub few : p.taken ≤ image_of p used_word
 
 -- no cache has as many blocks as a superblock, but perhaps that of this class
-pub record AreShort (p : Parts) (but : ℕ) : Type 0 where
+pub record CachesAreShort (p : Parts) (but : ℕ) : Type 0 where
   pub each : (class : ℕ) → IsClass class → class ≢ but → (cache_at p.caches class).count < blocks_of class
 
 -- each last look is the one from before, or was made in between

@@ -9,7 +9,7 @@ use Rattle.heap_seat.specs.declared.fault.Looks.{Looks}
 use Rattle.heap_seat.specs.View.{View}
 use Rattle.block_heap.specs.Accounts.{AreAccounted}
 use Rattle.block_heap.specs.Parts.{Parts, held_in, head_look}
-use Rattle.block_heap.specs.Running.{IsRunning, AreShort}
+use Rattle.block_heap.specs.Running.{IsRunning, CachesAreShort}
 use Rattle.block_heap.specs.Works.{IsLasting}
 
 pub record SeqState : Type 0 where
@@ -55,6 +55,6 @@ pub record MayLeave (s : SeqState) (image : Image) : Type 0 where
 -- a heap for one thread: its held blocks are stable, and until it stops its parts are right and no superblock is lost
 pub record IsSeqHeap (s : SeqState) : Type 0 where
   pub lasts : IsLasting s.parts.capacity s.parts.words (held_in s.parts) s.stopped
-  pub running : s.stopped ≡ None → IsRunning s.parts × AreShort s.parts 0 × AreAccounted s.parts
+  pub running : s.stopped ≡ None → IsRunning s.parts × CachesAreShort s.parts 0 × AreAccounted s.parts
   pub calls : s.small_calls + s.large_calls ≤ s.parts.words.drawn
   pub refused : s.refusals ≤ s.large_calls

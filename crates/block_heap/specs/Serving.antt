@@ -9,7 +9,7 @@ use Rattle.heap_seat.specs.declared.fault.Looks.{Looks}
 use Rattle.block_heap.specs.Accounts.{AreAccounted}
 use Rattle.heap_seat.specs.Alloc.{IsSizeFor}
 use Rattle.block_heap.specs.Parts.{Parts, image_of, held_in, cache_at}
-use Rattle.block_heap.specs.Running.{IsRunning, AreShort}
+use Rattle.block_heap.specs.Running.{IsRunning, CachesAreShort}
 use Rattle.block_heap.specs.Lists.{head_at, IsEmptyList}
 use Rattle.block_heap.specs.Steps.{look_at, IsLook, Spends}
 
@@ -47,9 +47,9 @@ pub record FindsNone (class : ℕ) (p q : Parts) : Type 0 where
   pub taken : q.taken ≡ p.taken
 
 -- the request got the block
-pub record Gets (bytes : ℕ) (b : Block) (p q : Parts) : Type 0 where
+pub record GetsBlock (bytes : ℕ) (b : Block) (p q : Parts) : Type 0 where
   pub running : IsRunning q
-  pub short : AreShort q 0
+  pub short : CachesAreShort q 0
   pub size : IsSizeFor bytes (8 * b.words)
   pub adds : AddsTo b (held_in p) (held_in q)
   pub new : Contains (held_in p) b → ⊥
@@ -67,7 +67,7 @@ DrainsTo class b p q = IsDrainable p.capacity (image_of p) (held_in p) class
 -- what a request of a class answers: of a block, all that a drain needs too
 pub record MissesInClass (class : ℕ) (p q : Parts) : Type 0 where
   pub running : IsRunning q
-  pub short : AreShort q 0
+  pub short : CachesAreShort q 0
   pub held : held_in q ≡ held_in p
   pub taken : q.taken ≡ p.taken
   pub none : HasRoom p class → ⊥
@@ -76,7 +76,7 @@ pub record MissesInClass (class : ℕ) (p q : Parts) : Type 0 where
 
 pub record GetsInClass (class : ℕ) (b : Block) (p q : Parts) : Type 0 where
   pub running : IsRunning q
-  pub short : AreShort q 0
+  pub short : CachesAreShort q 0
   pub size : b.words ≡ words_of_class class
   pub adds : AddsTo b (held_in p) (held_in q)
   pub new : Contains (held_in p) b → ⊥
@@ -101,7 +101,7 @@ DrainsAs class answer p q = MatchOption answer (DrainsNone class p × (HasRoom q
 -- the request found no room: what it read last was read by it
 pub record Misses (bytes : ℕ) (p q : Parts) : Type 0 where
   pub running : IsRunning q
-  pub short : AreShort q 0
+  pub short : CachesAreShort q 0
   pub held : held_in q ≡ held_in p
   pub taken : q.taken ≡ p.taken
   pub none : HasRoomFor p bytes → ⊥
@@ -112,7 +112,7 @@ pub record Misses (bytes : ℕ) (p q : Parts) : Type 0 where
 
 -- the answer to a request
 abbrev pub Answers : ℕ → Option Block → Parts → Parts → Type 0
-Answers bytes answer p q = MatchOption answer (Misses bytes p q) (λ b. Gets bytes b p q)
+Answers bytes answer p q = MatchOption answer (Misses bytes p q) (λ b. GetsBlock bytes b p q)
 
 -- the last looks that the answer to a request has
 pub record IsLooksOf (bytes : ℕ) (looks : Looks) (p : Parts) : Type 0 where

@@ -15,7 +15,7 @@ impl<C: Chance> Arena<C> {
     ghost use Rattle.block_heap.specs.Order.{Stocked, ServesInOrder};
     ghost use Rattle.block_heap.specs.Returns.{ComesBack};
     ghost use Rattle.block_heap.specs.Parts.{parts_of, held_in};
-    ghost use Rattle.block_heap.specs.Running.{IsRunning, AreShort, LeavesHeld};
+    ghost use Rattle.block_heap.specs.Running.{IsRunning, CachesAreShort, LeavesHeld};
     ghost use Rattle.block_heap.specs.Steps.{IsRefilling};
     ghost use Rattle.block_heap.specs.Refill.{Refills, Stocks};
     ghost use Rattle.block_heap.specs.Serving.{Answers, AnswersInClass, DrainsAs, IsLooksOf};
@@ -23,7 +23,7 @@ impl<C: Chance> Arena<C> {
     /// A block of at least so many bytes, if there is room.
     pub(crate) fn alloc(&mut self, bytes: u64) -> Result<Option<Block>, Stopped>
         requires running { IsRunning (parts_of self.old) }
-        requires short { AreShort (parts_of self.old) 0 }
+        requires short { CachesAreShort (parts_of self.old) 0 }
         ensures ok { IfOk result (λ answer. Answers bytes answer
             (parts_of self.old) (parts_of self.new)) }
         ensures drains { (class : ℕ) → IsClass class → bytes ≡ size_of class
@@ -52,7 +52,7 @@ impl<C: Chance> Arena<C> {
     fn alloc_small(&mut self, class: u8) -> Result<Option<Block>, Stopped>
         requires class { IsClass class }
         requires running { IsRunning (parts_of self.old) }
-        requires short { AreShort (parts_of self.old) 0 }
+        requires short { CachesAreShort (parts_of self.old) 0 }
         ensures ok { IfOk result (λ answer. AnswersInClass class answer
             (parts_of self.old) (parts_of self.new)) }
         ensures drains { IfOk result (λ answer. DrainsAs class answer
@@ -104,10 +104,10 @@ impl<C: Chance> Arena<C> {
     /// Frees a held block.
     pub(crate) fn free(&mut self, b: Block) -> Result<(), Stopped>
         requires running { IsRunning (parts_of self.old) }
-        requires short { AreShort (parts_of self.old) 0 }
+        requires short { CachesAreShort (parts_of self.old) 0 }
         requires holds { Contains (held_in (parts_of self.old)) b }
         ensures running { OnOk result (IsRunning (parts_of self.new)) }
-        ensures short { OnOk result (AreShort (parts_of self.new) 0) }
+        ensures short { OnOk result (CachesAreShort (parts_of self.new) 0) }
         ensures goes { OnOk result (RunsWithin 40000
             (parts_of self.old).words (parts_of self.new).words) }
         ensures stopped { IfErr result (λ e. StopsWithin e.step 40000

@@ -18,7 +18,7 @@ impl<C: Chance> Medium<C> {
     ghost use Rattle.block_heap.specs.MediumView.{medium_view};
     ghost use Rattle.block_heap.specs.Medium.{StoresOnly, StopsWithin};
     ghost use Rattle.block_heap.specs.Links.{IsOpen};
-    ghost use Rattle.block_heap.specs.Divide.{IsDivideWord, IsChained, IsDivided};
+    ghost use Rattle.block_heap.specs.Divide.{IsDivideWord, AreInOneChain, IsDivided};
     ghost use Rattle.heap_shape.specs.Effects.{IsInSuperblock};
 
     /// Divides superblock `d` into blocks of the class, all in one chain in ascending order.
@@ -45,7 +45,7 @@ impl<C: Chance> Medium<C> {
         requires open { IsOpen geometry.capacity (medium_view self.old) }
         requires superblock { d < geometry.capacity }
         requires class { IsClass class }
-        ensures ok { OnOk result (IsChained geometry.capacity class d (blocks_of class)
+        ensures ok { OnOk result (AreInOneChain geometry.capacity class d (blocks_of class)
             (medium_view self.old) (medium_view self.new)) }
         ensures stopped { IfErr result (λ e. StopsWithin e.step 4100
             (medium_view self.old) (medium_view self.new)) }

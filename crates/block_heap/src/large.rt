@@ -13,7 +13,7 @@ impl<C: Chance> Arena<C> {
     ghost use Rattle.block_heap.specs.Accounts.{AreAccounted, GivesUse};
     ghost use Rattle.block_heap.specs.Medium.{RunsWithin, StopsWithin};
     ghost use Rattle.block_heap.specs.Parts.{parts_of, held_in};
-    ghost use Rattle.block_heap.specs.Running.{IsRunning, AreShort, LeavesHeld};
+    ghost use Rattle.block_heap.specs.Running.{IsRunning, CachesAreShort, LeavesHeld};
     ghost use Rattle.block_heap.specs.Large.{JoinsAs, IsDropped};
     ghost use Rattle.block_heap.specs.Returns.{FreesLarge, FreesOne};
 

@@ -18,7 +18,7 @@ pub(crate) struct Medium<C> {
 impl<C: Chance> Medium<C> {
     ghost use Rattle.std.specs.Prelude.{IfOk, OnOk, IfErr, OnErr};
     ghost use Rattle.line_memory.specs.View.{opened, word_count, volatile_at};
-    ghost use Rattle.line_memory.specs.Crash.{MayStore};
+    ghost use Rattle.line_memory.specs.Crash.{MayLeaveStore};
     ghost use Rattle.line_memory.specs.ClosedWords.{volatile_words, durable_words};
     ghost use Rattle.block_heap.specs.MediumView.{medium_view};
     ghost use Rattle.block_heap.specs.Medium.{StoresOnly, RunsWithin, StopsWithin, IsLoaded, IsStored, IsWritten, IsFenced, IsPersisted};
@@ -78,7 +78,7 @@ impl<C: Chance> Medium<C> {
             (medium_view self.old) (medium_view self.new)) }
         ensures others { StoresOnly (λ other. other ≡ word)
             (medium_view self.old) (medium_view self.new) }
-        ensures crash { MayStore word value (medium_view self.old) (medium_view self.new) }
+        ensures crash { MayLeaveStore word value (medium_view self.old) (medium_view self.new) }
         ensures refused { OnErr result (StoresOnly (λ _. ⊥)
             (medium_view self.old) (medium_view self.new)) }
     {
@@ -124,7 +124,7 @@ impl<C: Chance> Medium<C> {
             (medium_view self.old) (medium_view self.new)) }
         ensures others { StoresOnly (λ other. other ≡ word)
             (medium_view self.old) (medium_view self.new) }
-        ensures crash { MayStore word value (medium_view self.old) (medium_view self.new) }
+        ensures crash { MayLeaveStore word value (medium_view self.old) (medium_view self.new) }
     {
         self.store(word, value)?;
         self.write_back(word)?;

@@ -25,7 +25,7 @@ impl<C: Chance> Arena<C> {
     ghost use Rattle.block_heap.specs.Accounts.{AreAccounted};
     ghost use Rattle.block_heap.specs.Medium.{RunsWithin, StopsWithin};
     ghost use Rattle.block_heap.specs.Parts.{parts_of, held_in, cache_at};
-    ghost use Rattle.block_heap.specs.Running.{IsRunning, AreShort, LeavesHeld};
+    ghost use Rattle.block_heap.specs.Running.{IsRunning, CachesAreShort, LeavesHeld};
     ghost use Rattle.block_heap.specs.Steps.{HandsOut};
     ghost use Rattle.block_heap.specs.Flush.{IsFront, KeepsAll, GivesBack};
     ghost use Rattle.block_heap.specs.Returns.{FreesSmall, Flushes, IsLongest, GivesTo};
@@ -63,11 +63,11 @@ impl<C: Chance> Arena<C> {
     pub(crate) fn free_small(&mut self, b: Block, class: u8) -> Result<(), Stopped>
         requires class { IsClass class }
         requires running { IsRunning (parts_of self.old) }
-        requires short { AreShort (parts_of self.old) 0 }
+        requires short { CachesAreShort (parts_of self.old) 0 }
         requires holds { Contains (held_in (parts_of self.old)) b }
         requires size { b.words ≡ words_of_class class }
         ensures running { OnOk result (IsRunning (parts_of self.new)) }
-        ensures short { OnOk result (AreShort (parts_of self.new) 0) }
+        ensures short { OnOk result (CachesAreShort (parts_of self.new) 0) }
         ensures goes { OnOk result (RunsWithin 40000
             (parts_of self.old).words (parts_of self.new).words) }
         ensures stopped { IfErr result (λ e. StopsWithin e.step 40000

@@ -16,7 +16,7 @@ impl<C: Chance> Medium<C> {
     ghost use Rattle.heap_model.specs.Geometry.{used_word, info_word, largest_capacity};
     ghost use Rattle.heap_model.specs.Words.{large_info};
     ghost use Rattle.line_memory.specs.View.{volatile_at};
-    ghost use Rattle.line_memory.specs.Crash.{MayStore};
+    ghost use Rattle.line_memory.specs.Crash.{MayLeaveStore};
     ghost use Rattle.block_heap.specs.MediumView.{medium_view};
     ghost use Rattle.block_heap.specs.Medium.{StoresOnly, StopsWithin, IsPersisted};
     ghost use Rattle.block_heap.specs.Links.{IsOpen, IsFresh};
@@ -34,7 +34,7 @@ impl<C: Chance> Medium<C> {
             (medium_view self.old) (medium_view self.new)) }
         ensures others { StoresOnly (λ word. word ≡ used_word)
             (medium_view self.old) (medium_view self.new) }
-        ensures crash { MayStore used_word (volatile_at (medium_view self.old) used_word + count)
+        ensures crash { MayLeaveStore used_word (volatile_at (medium_view self.old) used_word + count)
             (medium_view self.old) (medium_view self.new) }
         ensures fits { UsedFits geometry.capacity (medium_view self.old)
             → UsedFits geometry.capacity (medium_view self.new) }

@@ -1,8 +1,9 @@
 //! What the heap gives, what it refuses, and what a drain finds.
 ghost use Rattle.heap_model.specs.Sizes.{IsClass};
 
-use crate::fixtures::{Always, MANY, free_at, offset_of, recovered, start};
+use crate::fixtures::{MANY, free_at, offset_of, recovered, start};
 use block_heap::{AllocFault, Block, HeapSeat, Looks, SeqHeap, Spot, Stopped};
+use line_memory::ConstantChance;
 use size_table::{blocks_of, size_of};
 use std::alloc::{AllocError, Global};
 use std::process::Abort;
@@ -35,7 +36,7 @@ fn what_recovery_left_free_is_drained(rt: HostRuntime) -> Result<(), Fail> {
         let words = [used, info, root, a, b, c];
         assert!(rt; 1 <= class && class <= 20);
         let ready = recovered(alloc, 2, &words)?;
-        let mut heap = SeqHeap::new(alloc, ready, MANY, Always(1))?;
+        let mut heap = SeqHeap::new(alloc, ready, MANY, ConstantChance(1))?;
         let mut offsets = heap.drain(alloc, class)?;
         offsets.sort()?;
         assert_eq!(rt; offsets.len(), count, "{words:?} for {class}");
@@ -51,7 +52,7 @@ fn what_recovery_left_free_is_drained(rt: HostRuntime) -> Result<(), Fail> {
 fn a_heap_that_stopped_answers_its_ticket(rt: HostRuntime) -> Result<(), Fail> {
     let alloc = rt.alloc();
     let ready = recovered(alloc, 2, &ONE_HELD)?;
-    let mut heap = SeqHeap::new(alloc, ready, 0, Always(1))?;
+    let mut heap = SeqHeap::new(alloc, ready, 0, ConstantChance(1))?;
     let stopped = Stopped { step: 0 };
     let block = Block {
         first_word: 1_080,
@@ -84,7 +85,7 @@ fn a_heap_that_stopped_answers_its_ticket(rt: HostRuntime) -> Result<(), Fail> {
 fn large_blocks_are_taken_from_those_never_taken(rt: HostRuntime) -> Result<(), Fail> {
     let alloc = rt.alloc();
     let ready = recovered(alloc, 4, &[])?;
-    let mut heap = SeqHeap::new(alloc, ready, MANY, Always(0))?;
+    let mut heap = SeqHeap::new(alloc, ready, MANY, ConstantChance(0))?;
     let full = |used| {
         Err(AllocFault::Full(Looks {
             class_head: 0,
@@ -116,7 +117,7 @@ fn large_blocks_are_taken_from_those_never_taken(rt: HostRuntime) -> Result<(), 
 }
 
 /// Allocates in the class until there is no room, and gives the offsets of the blocks.
-fn filled(alloc: Global, heap: &mut SeqHeap<Always>, class: u8) -> Result<Vec<u64>, Fail>
+fn filled(alloc: Global, heap: &mut SeqHeap<ConstantChance>, class: u8) -> Result<Vec<u64>, Fail>
     requires { IsClass class }
 {
     let mut offsets = Vec::new(alloc);
@@ -163,7 +164,7 @@ fn each_class_gives_every_block_once(rt: HostRuntime) -> Result<(), Fail> {
         let all = all_offsets(alloc, class)?;
         for order in 0..3 {
             let ready = recovered(alloc, 2, &[])?;
-            let mut heap = SeqHeap::new(alloc, ready, MANY, Always(order % 2))?;
+            let mut heap = SeqHeap::new(alloc, ready, MANY, ConstantChance(order % 2))?;
             let given = filled(alloc, &mut heap, class)?;
             let mut sorted = Vec::from_slice(alloc, &given)?;
             sorted.sort()?;
@@ -187,7 +188,7 @@ fn freed_superblocks_serve_every_class_before_fresh_ones(rt: HostRuntime) -> Res
     // back, and what is asked for then
     for (capacity, count, asked) in [(2, 8, [16, 65_536]), (3, 4, [16, 131_072])] {
         let ready = recovered(alloc, capacity, &[])?;
-        let mut heap = SeqHeap::new(alloc, ready, MANY, Always(0))?;
+        let mut heap = SeqHeap::new(alloc, ready, MANY, ConstantChance(0))?;
         let mut offsets = Vec::new(alloc);
         for _ in 0..count {
             offsets.push(offset_of(heap.alloc(14_336)?))?;

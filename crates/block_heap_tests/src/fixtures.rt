@@ -2,9 +2,10 @@
 ghost use Rattle.std.specs.Prelude.{◌≤◌};
 ghost use Rattle.heap_model.specs.Geometry.{largest_capacity};
 
-use block_heap::{Block, Chance, HeapSeat, SeqHeap};
+use block_heap::{Block, HeapSeat, SeqHeap};
 use dictionary::{DictFilter, root_kinds};
 use heap_recover::recover;
+use line_memory::ConstantChance;
 use region_header::format;
 use std::alloc::Global;
 use std::test::Fail;
@@ -12,16 +13,6 @@ use super_block::Ready;
 
 /// More steps than any test here takes.
 pub const MANY: u64 = 1_000_000;
-
-/// A source that gives this number always: 0 writes nothing back early, and 1 the latest store.
-#[derive(Drop)]
-pub struct Always(pub u64);
-
-impl Chance for Always {
-    fn draw(&mut self) -> u64 {
-        self.0
-    }
-}
 
 /// What recovery makes of an image of so many superblocks with these words.
 pub fn recovered(alloc: Global, capacity: u64, words: &[(usize, u64)]) -> Result<Ready, Fail>
@@ -55,7 +46,7 @@ pub fn offset_of(b: Block) -> u64 {
 }
 
 /// Frees the held block that begins at the byte offset.
-pub fn free_at(heap: &mut SeqHeap<Always>, offset: u64) -> Result<(), Fail> {
+pub fn free_at(heap: &mut SeqHeap<ConstantChance>, offset: u64) -> Result<(), Fail> {
     let b = heap.held_at(offset).ok_or("no held block begins there")?;
     heap.free(b)?;
     Ok(())

@@ -2,8 +2,9 @@
 ghost use Rattle.std.specs.Prelude.{◌<◌, ◌^◌, IfSome, Contains};
 ghost use Rattle.block_heap.specs.SeqState.{seat_of};
 
-use crate::fixtures::{Always, offset_of, recovered, word};
+use crate::fixtures::{offset_of, recovered, word};
 use block_heap::{AllocFault, Block, Closed, HeapSeat, SeqHeap, Spot, Stopped};
+use line_memory::ConstantChance;
 use region_header::read_header;
 use std::alloc::{AllocError, Global};
 use std::process::Abort;
@@ -70,7 +71,7 @@ const SCRIPT: [Step; 40] = [
 ];
 
 /// The block that the numbered request got, if it was not freed, as the heap has it.
-fn held(heap: &SeqHeap<Always>, given: &[Option<Block>], number: usize) -> Option<Block>
+fn held(heap: &SeqHeap<ConstantChance>, given: &[Option<Block>], number: usize) -> Option<Block>
     ensures { IfSome result (Contains (seat_of heap.now).held) }
 {
     match given.get(number) {
@@ -81,7 +82,7 @@ fn held(heap: &SeqHeap<Always>, given: &[Option<Block>], number: usize) -> Optio
 
 /// Takes the step. `given` has the block of each request, and none where it was refused or freed.
 fn take(
-    heap: &mut SeqHeap<Always>,
+    heap: &mut SeqHeap<ConstantChance>,
     given: &mut Vec<Option<Block>>,
     step: Step,
 ) -> Result<Result<(), Stopped>, Fail> {
@@ -159,7 +160,7 @@ fn played(alloc: Global, budget: u64, number: u64) -> Result<Left, Fail>
 {
     let ready = recovered(alloc, 4, &OTHERS)?;
     let opened = Vec::from_slice(alloc, ready.words())?;
-    let mut heap = SeqHeap::new(alloc, ready, budget, Always(number))?;
+    let mut heap = SeqHeap::new(alloc, ready, budget, ConstantChance(number))?;
     let mut given = Vec::with_capacity(alloc, SCRIPT.len())?;
     let mut stopped = None;
     for step in &SCRIPT {

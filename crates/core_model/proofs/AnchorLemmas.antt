@@ -8,7 +8,7 @@ use Rattle.core_model.specs.Memory.{Memory, volatile_at, used, head, anchor, inf
 use Rattle.core_model.specs.View.{Setup, View, Claim, Span, one_if_some, times_raw, times_classed, times_large}
 use Rattle.core_model.specs.Effects.{seen_word, seen_of, trimmed}
 use Rattle.core_model.specs.Guards.{IsThere}
-use Rattle.core_model.specs.Sound.{Shape, tally_of, AreUntaken, FitsLists, HasClaims, IsAnchoredBy, KnowsHead, KnowsWords, HasTotals, stale, class_numbers, times_cut, Good}
+use Rattle.core_model.specs.Sound.{CoreShape, tally_of, AreUntaken, FitsLists, HasClaims, IsAnchoredBy, KnowsHead, KnowsWords, HasTotals, stale, class_numbers, times_cut, Good}
 use Rattle.core_model.proofs.TotalLemmas.{total_at}
 use Rattle.core_model.proofs.FrameLemmas.{untouched, words_frame, below_not}
 use Rattle.core_model.proofs.StepLemmas.{IsSeat, seat_at, adds_step}
@@ -53,7 +53,7 @@ module _ (k : Setup) (m : Memory) (views : List View) (i : ℕ) (v : View) (belo
   not_here j u b a = let p = alone in let r = p.2 in let l = p.3 in let raw = total_at (times_raw d) views j u b a in let large = total_at (λ (y : View). times_large d y.large) views j u b a in (omega arith, omega arith)
 
   -- another seat, where it is not classed there, or its new state is no worse
-  pub others : (g : Shape) → g.lists ≡ good.shape.lists → (j : ℕ) (u : View) → j < length views → get_or views j u ≡ u
+  pub others : (g : CoreShape) → g.lists ≡ good.shape.lists → (j : ℕ) (u : View) → j < length views → get_or views j u ≡ u
       → (0 < times_classed d u.classed → (anchor_state x < full_state) × (anchor_state (anchor m d) ≡ empty_state → anchor_state x ≡ empty_state))
       → IsSeat k m good.shape u → IsSeat k m' g u
   others g same_lists j u b a classed h = let none = not_here j u b a in let zero_raw = none.0 in record {

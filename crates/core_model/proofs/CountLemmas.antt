@@ -8,7 +8,7 @@ use Rattle.heap_model.specs.Geometry.{start_word}
 use Rattle.heap_model.specs.Words.{anchor_state, full_state}
 use Rattle.core_model.specs.View.{View, Claim, Span, times_classed}
 use Rattle.core_model.specs.Effects.{steps, claim_class, without_claim, class_blocks}
-use Rattle.core_model.specs.Sound.{Shape, tally_of, times_cut, IsCutBlock, HasClaims}
+use Rattle.core_model.specs.Sound.{CoreShape, tally_of, times_cut, IsCutBlock, HasClaims}
 use Rattle.core_model.proofs.TotalLemmas.{total_set, total_at, eq-eqb-one, ne-eqb-none}
 
 -- one claim is taken out
@@ -57,7 +57,7 @@ all_without_claim e d views i v w below at some without =
     let same = ap (times_classed e) without in omega arith
 
 -- and its superblock is cut
-pub claimed_is_cut : (g : Shape) (views : List View) (i : ℕ) (v : View) (d : ℕ) → i < length views → get_or views i v ≡ v → 0 < times_classed d v.classed → 0 < times_cut g (tally_of views) d
+pub claimed_is_cut : (g : CoreShape) (views : List View) (i : ℕ) (v : View) (d : ℕ) → i < length views → get_or views i v ≡ v → 0 < times_classed d v.classed → 0 < times_cut g (tally_of views) d
 claimed_is_cut g views i v d below at some = let all = total_at (λ (x : View). times_classed d x.classed) views i v below at in omega arith
 
 -- numbers a step apart: how many, and each once

@@ -11,7 +11,7 @@ use Rattle.core_model.specs.Memory.{Memory, used, durable_used, durable_info, an
 use Rattle.core_model.specs.View.{Setup, View, of_class, times_raw, times_classed, times_large, times_block}
 use Rattle.core_model.specs.Effects.{class_blocks, first_of, cleared, after_cut}
 use Rattle.core_model.specs.Guards.{MayCut}
-use Rattle.core_model.specs.Sound.{Shape, Tally, tally_of, IsInShape, IsCutBlock, IsAnchoredBy, AreChained, HasBlocks, times_parked, times_cut, empties, Good}
+use Rattle.core_model.specs.Sound.{CoreShape, Tally, tally_of, IsInShape, IsCutBlock, IsAnchoredBy, AreChained, HasBlocks, times_parked, times_cut, empties, Good}
 use Rattle.core_model.proofs.TotalLemmas.{total_set, total_same, total_at, eq-eqb-one, ne-eqb-none}
 use Rattle.core_model.proofs.FrameLemmas.{times_without}
 use Rattle.core_model.proofs.StepLemmas.{IsSeat, seat_at}
@@ -41,7 +41,7 @@ module _ (k : Setup) (m : Memory) (views : List View) (i : ℕ) (v : View) (belo
   abbrev w : View
   w = after_cut m v d
 
-  abbrev g' : Shape
+  abbrev g' : CoreShape
   g' = record good.shape { full = λ e. good.shape.full e + one_if (nat_eq d e); chains = λ e. cond (nat_eq e d) [] (good.shape.chains e) }
 
   same_blocks : bs ≡ class_blocks k.capacity class d

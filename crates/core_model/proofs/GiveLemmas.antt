@@ -12,7 +12,7 @@ use Rattle.core_model.specs.Memory.{Memory, volatile_at, anchor, info, next, wri
 use Rattle.core_model.specs.View.{Setup, View, Batch, no_batch, times_raw, times_classed, times_large, times_block}
 use Rattle.core_model.specs.Effects.{seen_word, steps, first_of, last_of, trimmed, claim_class, claimed, won, given, batch_anchor}
 use Rattle.core_model.specs.Guards.{IsThere, MayGive}
-use Rattle.core_model.specs.Sound.{Shape, Tally, tally_of, IsInShape, IsCutBlock, IsAnchoredBy, AreChained, ClaimsOf, HasBlocks, class_numbers, times_in_lists, times_parked, times_cut, empties, Good}
+use Rattle.core_model.specs.Sound.{CoreShape, Tally, tally_of, IsInShape, IsCutBlock, IsAnchoredBy, AreChained, ClaimsOf, HasBlocks, class_numbers, times_in_lists, times_parked, times_cut, empties, Good}
 use Rattle.core_model.proofs.TotalLemmas.{total_set, total_same, total_at, total_change, total_where, eq-eqb-one, ne-eqb-none}
 use Rattle.core_model.proofs.FrameLemmas.{times_steps, below_is, below_not}
 use Rattle.heap_model.proofs.ListLemmas.{times_append, one_at_most}
@@ -227,7 +227,7 @@ module _ (k : Setup) (m : Memory) (views : List View) (i : ℕ) (v : View) (belo
   blocks_now : HasBlocks v.setup.capacity (info m) (next m) v.small v.caches no_batch
   blocks_now = let s = seat.blocks in record { held = s.held; cached = s.cached; batched = λ b some. absurd (omega (arith, some)); cache_linked = s.cache_linked; batch_linked = tt }
 
-  others : (g : Shape) → g.lists ≡ good.shape.lists → (j : ℕ) (u : View) → j < length views → get_or views j u ≡ u → IsSeat k m good.shape u → IsSeat k m' g u
+  others : (g : CoreShape) → g.lists ≡ good.shape.lists → (j : ℕ) (u : View) → j < length views → get_or views j u ≡ u → IsSeat k m good.shape u → IsSeat k m' g u
   others g same_lists j u b a h = on_anchor.others k m views i v below_i at good d x cut_d g same_lists j u b a (λ some. (state_x, λ empty. absurd (was_not_empty empty))) h
 
   -- at most one superblock more is empty
@@ -274,7 +274,7 @@ module _ (k : Setup) (m : Memory) (views : List View) (i : ℕ) (v : View) (belo
         w : View
         w = trimmed w0
 
-        g' : Shape
+        g' : CoreShape
         g' = record good.shape { chains = λ e. cond (nat_eq e d) chain' (good.shape.chains e) }
 
         blocks' : ℕ → ℕ
@@ -333,7 +333,7 @@ module _ (k : Setup) (m : Memory) (views : List View) (i : ℕ) (v : View) (belo
         w : View
         w = trimmed w1
 
-        g' : Shape
+        g' : CoreShape
         g' = record good.shape { full = λ e. cond (nat_eq e d) 0 (good.shape.full e); chains = λ e. cond (nat_eq e d) chain' (good.shape.chains e) }
 
         blocks' : ℕ → ℕ

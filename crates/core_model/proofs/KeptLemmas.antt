@@ -3,7 +3,7 @@ use Rattle.std.proofs.Common.{◌≡◌, ◌≢◌, ℕ, ◌+◌, ◌<◌, inl, 
 use Rattle.std.proofs.lemmas.Bool.{cases_eq, cases_lt}
 use Rattle.core_model.specs.declared.event.Event.{Event}
 use Rattle.core_model.specs.declared.event.Event.TheVariants.{Tick, Load, Store, Settle, LookUsed, TakeFresh, KeepUsed, LookHead, LookLink, Pop, Push, LookAnchor, TakeAll, Give}
-use Rattle.core_model.specs.Memory.{Memory, Place, tickets, used, head, anchor, info, read, write}
+use Rattle.core_model.specs.Memory.{Memory, StepPlace, tickets, used, head, anchor, info, read, write}
 use Rattle.core_model.specs.View.{Setup, View, one_if_some, times_raw, times_classed, times_block}
 use Rattle.core_model.specs.Effects.{seen, seen_word, seen_of, before, place_of, taken_fresh, lost, drew, stopped, shifted, after_cut, after_alloc, after_free, after_lift, after_large, after_split, popped, popped_head, pushed, pushed_head, taken_all, given, batch_anchor, first_of}
 use Rattle.heap_model.specs.Words.{head_first, full_anchor}
@@ -41,7 +41,7 @@ exchange a b P won lost = elim (cases_eq a b) [
 
 module _ (k : Setup) (m : Memory) (views : List View) (i : ℕ) (v : View) (below : i < length views) (at : get_or views i v ≡ v) (good : Good k m views) where
   -- a step that leaves the word as it found it
-  reads : (p : Place) (w : View) → Good k m (set views i w) → Good k (write m p (read m p)) (set views i w)
+  reads : (p : StepPlace) (w : View) → Good k m (set views i w) → Good k (write m p (read m p)) (set views i w)
   reads p w kept = subst (λ n. Good k n (set views i w)) (sym (write_read m p)) kept
 
   pub kept_look_used : MayStep m v LookUsed → Keeps k m views i v LookUsed

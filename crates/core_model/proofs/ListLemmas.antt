@@ -14,7 +14,7 @@ use Rattle.core_model.specs.Memory.{Memory, volatile_at, head, link, write}
 use Rattle.core_model.specs.View.{Setup, View, one_if_some}
 use Rattle.core_model.specs.Effects.{before, seen, seen_word, seen_of}
 use Rattle.core_model.specs.Guards.{IsThere}
-use Rattle.core_model.specs.Sound.{Shape, AreLists, KnowsHead, HasTotals, class_numbers}
+use Rattle.core_model.specs.Sound.{CoreShape, AreLists, KnowsHead, HasTotals, class_numbers}
 use Rattle.core_model.proofs.TotalLemmas.{total_change, ne-eqb-none}
 use Rattle.core_model.proofs.FrameLemmas.{untouched, words_frame}
 use Rattle.core_model.proofs.StepLemmas.{IsSeat, adds_step}
@@ -127,7 +127,7 @@ knows_pop capacity heads links descriptors at word ds more list seen_word next h
 ]
 
 -- any seat, where one head changes with its list
-pub others_at_head : (k : Setup) (m : Memory) (g : Shape) (at word : ℕ) (ds : List ℕ)
+pub others_at_head : (k : Setup) (m : Memory) (g : CoreShape) (at word : ℕ) (ds : List ℕ)
     → ((list seen_word : ℕ) (next : Option ℕ) → KnowsHead k.capacity (head m) (link m) g.lists list seen_word next
     → KnowsHead k.capacity (λ n. cond (nat_eq n at) word (head m n)) (link m) (relist g.lists at ds) list seen_word next)
     → (x : View) → IsSeat k m g x → IsSeat k (write m (volatile_at (head_cell at)) word) (record g { lists = relist g.lists at ds }) x

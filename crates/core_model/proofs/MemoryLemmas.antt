@@ -1,7 +1,7 @@
 -- A word that is written as it was read leaves the memory as it is.
 use Rattle.std.proofs.Common.{◌≡◌, ℕ, Bool, true, false, cond, refl, ap, sym, eqb-true, eq-eqb}
 use Rattle.core_model.specs.Cells.{Cell, used_cell, head_cell, info_cell, anchor_cell, link_cell, root_cell, data_cell, no_cell, same_cell}
-use Rattle.core_model.specs.Memory.{Memory, Place, volatile_at, durable_at, tickets, read, write, with_cell}
+use Rattle.core_model.specs.Memory.{Memory, StepPlace, volatile_at, durable_at, tickets, read, write, with_cell}
 
 pub same-true : (a b : Cell) → same_cell a b ≡ true → a ≡ b
 same-true used_cell used_cell e = refl
@@ -31,7 +31,7 @@ by_test false f cell at same = refl
 pub rewritten : (f : Cell → ℕ) (at : Cell) → with_cell f at (f at) ≡ f
 rewritten f at = λ i cell. (by_test (same_cell cell at) f cell at (same-true cell at)) i
 
-pub write_read : (m : Memory) (p : Place) → write m p (read m p) ≡ m
+pub write_read : (m : Memory) (p : StepPlace) → write m p (read m p) ≡ m
 write_read m (volatile_at cell) = λ i. record { volatile = (rewritten m.volatile cell) i; durable = m.durable; drawn = m.drawn }
 write_read m (durable_at cell) = λ i. record { volatile = m.volatile; durable = (rewritten m.durable cell) i; drawn = m.drawn }
 write_read m tickets = refl

@@ -15,9 +15,9 @@ use Rattle.heap_model.proofs.CountingLemmas.{times_some, one_if_true, one_if_fal
 use Rattle.core_model.specs.Cells.{Cell, used_cell, head_cell, info_cell, anchor_cell, link_cell, data_cell, is_cell, index_of, superblock_at}
 use Rattle.core_model.specs.Memory.{Memory, memory_of, table_length, used, head, info, anchor, link, next}
 use Rattle.core_model.specs.View as seen_as
-use Rattle.core_model.specs.View.{Setup, View, Span, Look, one_if_some, known, times_raw, times_classed, times_claimed, times_large, times_block}
+use Rattle.core_model.specs.View.{Setup, View, Span, LastLook, one_if_some, known, times_raw, times_classed, times_claimed, times_large, times_block}
 use Rattle.core_model.specs.Effects.{seen, steps, span_count}
-use Rattle.core_model.specs.Sound.{Shape, Tally, tally_of, IsInShape, IsCutBlock, IsAnchoredBy, AreChained, class_numbers, times_in_lists, times_cut, times_parked, IsSetUp, ClaimsOf, BlocksOf, Knows, KnowsWords, IsTicketDrawn, HasTickets, HasTotals, HasLost, Good, Sound}
+use Rattle.core_model.specs.Sound.{CoreShape, Tally, tally_of, IsInShape, IsCutBlock, IsAnchoredBy, AreChained, class_numbers, times_in_lists, times_cut, times_parked, IsSetUp, ClaimsOf, BlocksOf, Knows, KnowsWords, IsTicketDrawn, HasTickets, HasTotals, HasLost, Good, Sound}
 use Rattle.core_model.specs.Opening.{picked, tabulate, is_small, small_blocks, large_blocks, AreOwners, setup_of, unlooked, plain_view, opened_view}
 use Rattle.core_model.proofs.TotalLemmas.{total_where, ne-eqb-none}
 use Rattle.core_model.proofs.FrameLemmas.{below_is, below_not}
@@ -183,7 +183,7 @@ module _ (words : List ℕ) (held : List Block) (budget seats : ℕ) (block_owne
       let e : image (info_word (superblock_at c p.first_word)) ≡ q.class = ap (λ d. image (info_word d)) q.here ∙ q.info_at in let l = q.is_class.last in omega arith) in omega arith)
       ∙ picked_sum (small_at b) held block_owners seats owners.blocks owners.block_seats
 
-  abbrev g : Shape
+  abbrev g : CoreShape
   g = record { lists = ready.shaped.descriptors; full = ready.shaped.full; chains = ready.shaped.chains }
 
   abbrev t : Tally
@@ -431,7 +431,7 @@ module _ (words : List ℕ) (held : List Block) (budget seats : ℕ) (block_owne
     ticket = none_drawn m.drawn;
     last = none_drawn m.drawn;
     used_look = none_drawn m.drawn;
-    head_looks = λ list is. subst (λ (l : Look). IsTicketDrawn m.drawn l.ticket) (sym (tabulate_at (λ n. unlooked (image (head_word n))) 0 lists list (unlooked k.used) is)) (none_drawn m.drawn);
+    head_looks = λ list is. subst (λ (l : LastLook). IsTicketDrawn m.drawn l.ticket) (sym (tabulate_at (λ n. unlooked (image (head_word n))) 0 lists list (unlooked k.used) is)) (none_drawn m.drawn);
     counts = omega arith;
     state = record { stopping = λ n e. absurd (let z = ap one_if_some e in omega (arith, z)); in_hand = λ e. absurd (not_there e); going = λ _ e. absurd (not_there e) };
     looked_then = (omega arith, omega arith);

@@ -7,13 +7,13 @@ use Rattle.core_model.specs.declared.event.Event.{Event}
 use Rattle.core_model.specs.Memory.{Memory, memory_of}
 use Rattle.core_model.specs.View.{Setup, View, one_if_some}
 use Rattle.core_model.specs.Guards.{MayDo}
-use Rattle.core_model.specs.Steps.{State, seat_after, state_after, StepsTo, is_done, stops, not_now, has_stopped, Runs}
+use Rattle.core_model.specs.Steps.{TableState, seat_after, state_after, StepsTo, is_done, stops, not_now, has_stopped, Runs}
 
 -- what a step answers and comes to is one
-abbrev IsOne : StepAnswer → StepAnswer → State → State → Type 0
+abbrev IsOne : StepAnswer → StepAnswer → TableState → TableState → Type 0
 IsOne a b t u = (a ≡ b) × (t ≡ u)
 
-module _ (k : Setup) (s : State) (i : ℕ) (event : Event) (below : i < length s.views) where
+module _ (k : Setup) (s : TableState) (i : ℕ) (event : Event) (below : i < length s.views) where
   abbrev m : Memory
   m = memory_of k.capacity s.words
 
@@ -51,7 +51,7 @@ module _ (k : Setup) (s : State) (i : ℕ) (event : Event) (below : i < length s
       let number : x ≡ y = cc in
       ap (λ n. Stopped n) number
 
-  pub one_outcome : (a b : StepAnswer) (t u : State) → StepsTo k s i event a t → StepsTo k s i event b u → IsOne a b t u
+  pub one_outcome : (a b : StepAnswer) (t u : TableState) → StepsTo k s i event a t → StepsTo k s i event b u → IsOne a b t u
   one_outcome _ _ _ _ (is_done v at may on) (is_done w at' may' on') = (refl, same_after v w (one_view v w at at'))
   one_outcome _ _ _ _ (is_done v at may on) (stops w step at' may' stop) = absurd (never_both v w step (one_view v w at at') on stop)
   one_outcome _ _ _ _ (is_done v at may on) (not_now w at' going refused) = absurd (never_refused v w (one_view v w at at') may refused)
@@ -73,7 +73,7 @@ module _ (k : Setup) (s : State) (i : ℕ) (event : Event) (below : i < length s
       (one_step_number v w step step' (λ x. x.stopped) (one_view v w at at') stop stop', refl)
 
 -- and so has a list of them
-pub one_run : (k : Setup) (s t u : State) (events : List (ℕ × Event)) (answers answers' : List StepAnswer) → Runs k s events answers t → Runs k s events answers' u
+pub one_run : (k : Setup) (s t u : TableState) (events : List (ℕ × Event)) (answers answers' : List StepAnswer) → Runs k s events answers t → Runs k s events answers' u
     → (answers ≡ answers') × (t ≡ u)
 one_run k s t u [] [] [] runs runs' = (refl, sym runs ∙ runs')
 one_run k s t u [] [] (b ∷ answers') runs runs' = absurd runs'
@@ -82,6 +82,6 @@ one_run k s t u (e ∷ events) [] answers' runs runs' = absurd runs
 one_run k s t u (e ∷ events) (a ∷ answers) [] runs runs' = absurd runs'
 one_run k s t u (e ∷ events) (a ∷ answers) (b ∷ answers') runs runs' =
     let step = one_outcome k s e.0 e.1 runs.1 a b runs.0 runs'.0 runs.2 runs'.2 in
-    let later = subst (λ (x : State). Runs k x events answers t) step.1 runs.3 in
+    let later = subst (λ (x : TableState). Runs k x events answers t) step.1 runs.3 in
     let rest = one_run k runs'.0 t u events answers answers' later runs'.3 in
     (ap (λ x. x ∷ answers) step.0 ∙ ap (λ l. b ∷ l) rest.0, rest.1)

@@ -4,7 +4,7 @@ use Rattle.heap_model.specs.Sizes.{words_of_class}
 use Rattle.heap_model.specs.Counting.{times, one_if}
 use Rattle.core_model.specs.Cells.{Cell, used_cell, head_cell, info_cell, anchor_cell, link_cell, root_cell, data_cell, no_cell, is_cell, index_of, cell_at, superblock_at}
 use Rattle.core_model.specs.Memory.{Memory, anchor}
-use Rattle.core_model.specs.View.{Setup, View, Snapshot, Look, one_if_some, known, times_own, times_raw, times_classed, times_claimed, times_large, times_in_classes, times_within}
+use Rattle.core_model.specs.View.{Setup, View, Snapshot, LastLook, one_if_some, known, times_own, times_raw, times_classed, times_claimed, times_large, times_in_classes, times_within}
 use Rattle.core_model.specs.Effects.{seen, seen_of, cleared, only_own, trimmed}
 use Rattle.core_model.specs.Guards.{IsThere, IsOwn}
 use Rattle.core_model.specs.Sound.{KnowsWords, IsTicketDrawn, HasTickets, differs, stale_head, stale_anchor}
@@ -106,11 +106,11 @@ pub won_tickets : (budget drawn : ℕ) (v w : View) → HasTickets budget drawn 
 won_tickets budget drawn v w s there none stop more last used_look head_looks wins losses draws cuts gives = record {
   ticket = subst (IsTicketDrawn drawn) (sym none) (none_drawn drawn);
   last = subst (IsTicketDrawn drawn) (sym last) s.last;
-  used_look = subst (λ (l : Look). IsTicketDrawn drawn l.ticket) (sym used_look) s.used_look;
-  head_looks = λ list is. subst (λ (l : Look). IsTicketDrawn drawn l.ticket) (sym (ap₂ (λ looks (l : Look). get_or looks list l) head_looks used_look)) (s.head_looks list is);
+  used_look = subst (λ (l : LastLook). IsTicketDrawn drawn l.ticket) (sym used_look) s.used_look;
+  head_looks = λ list is. subst (λ (l : LastLook). IsTicketDrawn drawn l.ticket) (sym (ap₂ (λ looks (l : LastLook). get_or looks list l) head_looks used_look)) (s.head_looks list is);
   counts = let c = s.counts in let n = ap one_if_some none in omega arith;
   state = ticket_given_up budget v w s.state none last stop;
-  looked_then = (let l = s.looked_then in let a = ap (λ (x : Look). x.taken) used_look in let b = ap (λ (x : Look). x.wins) used_look in let p = l.0 in let q = l.1 in (omega arith, omega arith));
+  looked_then = (let l = s.looked_then in let a = ap (λ (x : LastLook). x.taken) used_look in let b = ap (λ (x : LastLook). x.wins) used_look in let p = l.0 in let q = l.1 in (omega arith, omega arith));
   gives = let c = s.gives in omega arith;
   cuts = let c = s.cuts in omega arith;
 }

@@ -8,10 +8,10 @@ use Rattle.heap_model.specs.Chains.{Follows}
 use Rattle.heap_model.specs.Counting.{times, total, one_if}
 use Rattle.core_model.specs.Cells.{head_cell}
 use Rattle.core_model.specs.Memory.{Memory, volatile_at, used, durable_used, head, anchor, info, link, next, write}
-use Rattle.core_model.specs.View.{Setup, View, Batch, Snapshot, Look, one_if_some, times_raw, times_classed, times_claimed, times_large, times_block}
+use Rattle.core_model.specs.View.{Setup, View, Batch, Snapshot, LastLook, one_if_some, times_raw, times_classed, times_claimed, times_large, times_block}
 use Rattle.core_model.specs.Effects.{before, seen, seen_word, seen_of, cleared, claim_class, won, claimed, popped_head}
 use Rattle.core_model.specs.Guards.{IsThere, MayPop}
-use Rattle.core_model.specs.Sound.{Shape, Tally, tally_of, IsInShape, AreChained, Knows, KnowsHead, stale, stale_anchor, stale_head, differs, class_numbers, times_in_lists, times_parked, times_cut, empties, Good}
+use Rattle.core_model.specs.Sound.{CoreShape, Tally, tally_of, IsInShape, AreChained, Knows, KnowsHead, stale, stale_anchor, stale_head, differs, class_numbers, times_in_lists, times_parked, times_cut, empties, Good}
 use Rattle.core_model.proofs.TotalLemmas.{total_set, total_same, total_unchanged, eq-eqb-one, ne-eqb-none}
 use Rattle.core_model.proofs.FrameLemmas.{untouched, words_frame}
 use Rattle.core_model.proofs.StepLemmas.{IsSeat, seat_at, good_step}
@@ -63,7 +63,7 @@ module _ (k : Setup) (m : Memory) (views : List View) (i : ℕ) (v : View) (belo
   follows : Follows (link m) k.capacity (head_first (popped_head v)) first.rest
   follows = subst (λ x. Follows (link m) k.capacity x first.rest) (sym parts_of_head.0) first.follows
 
-  abbrev g' : Shape
+  abbrev g' : CoreShape
   g' = record good.shape { lists = relist good.shape.lists l first.rest }
 
   -- the list without its first descriptor
@@ -92,7 +92,7 @@ module _ (k : Setup) (m : Memory) (views : List View) (i : ℕ) (v : View) (belo
   knows_after w none used_same look_same taken batch anchor_same more classed floor = let s = seat.knows in record {
     seen_head = λ t. absurd (let n = ap one_if_some none in omega arith);
     seen_used = subst (λ x. IsThere x → seen x ≤ used m) (sym used_same) s.seen_used;
-    looked = (let l = s.looked in let a = ap (λ (x : Look). x.word) look_same in let b = ap (λ (x : Look). x.taken) look_same in omega arith);
+    looked = (let l = s.looked in let a = ap (λ (x : LastLook). x.word) look_same in let b = ap (λ (x : LastLook). x.taken) look_same in omega arith);
     seen_anchor = λ t. let same = anchor_same ∙ cleared_same d 1 v.seen_anchor (subst IsThere anchor_same t) in
         subst (λ (x : Option Snapshot). (0 < times_claimed (seen_of x) w) ⊎ ((w.batch.descriptor ≡ seen_of x) × (1 ≤ length w.batch.blocks))) (sym same)
         (subst (λ (b : Batch). (0 < times_claimed (seen_of v.seen_anchor) w) ⊎ ((b.descriptor ≡ seen_of v.seen_anchor) × (1 ≤ length b.blocks))) (sym batch)

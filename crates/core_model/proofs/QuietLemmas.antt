@@ -10,10 +10,10 @@ use Rattle.std.proofs.lemmas.Grind.{get_or-set_at}
 use Rattle.heap_model.specs.Chains.{Follows}
 use Rattle.core_model.specs.Cells.{Cell, used_cell, head_cell, info_cell, anchor_cell, link_cell, root_cell, data_cell, no_cell, superblock_at}
 use Rattle.core_model.specs.Memory.{Memory, used, head, anchor, link}
-use Rattle.core_model.specs.View.{Setup, View, Snapshot, Look, one_if_some, known, times_own, times_raw, times_classed, times_large, times_in_classes, times_within}
+use Rattle.core_model.specs.View.{Setup, View, Snapshot, LastLook, one_if_some, known, times_own, times_raw, times_classed, times_large, times_in_classes, times_within}
 use Rattle.core_model.specs.Effects.{seen, seen_word, seen_of, before, used_up, lost, look}
 use Rattle.core_model.specs.Guards.{IsThere, MayLink, MayLookAt}
-use Rattle.core_model.specs.Sound.{Shape, Tally, tally_of, IsInShape, IsSetUp, HasClaims, HasBlocks, Knows, KnowsWords, IsTicketDrawn, IsTicketed, HasTickets, stale, differs, stale_head, stale_anchor, times_parked, empties, Good}
+use Rattle.core_model.specs.Sound.{CoreShape, Tally, tally_of, IsInShape, IsSetUp, HasClaims, HasBlocks, Knows, KnowsWords, IsTicketDrawn, IsTicketed, HasTickets, stale, differs, stale_head, stale_anchor, times_parked, empties, Good}
 use Rattle.core_model.proofs.TotalLemmas.{total_same}
 use Rattle.core_model.proofs.StepLemmas.{IsSeat, seat_at, good_step, Parts, parts, tally_same, adds_step}
 
@@ -110,13 +110,13 @@ suc_is : (d : ℕ) → suc d ≡ d + 1
 suc_is d = omega arith
 
 -- the first descriptor of a list
-pub first_small : (k : Setup) (m : Memory) (g : Shape) → (t : Tally) → IsInShape k.capacity m g t → (list : ℕ) → list < lists → head_first (head m list) ≤ k.capacity
+pub first_small : (k : Setup) (m : Memory) (g : CoreShape) → (t : Tally) → IsInShape k.capacity m g t → (list : ℕ) → list < lists → head_first (head m list) ≤ k.capacity
 first_small k m g t shaped list is = by_list (g.lists list) (head_first (head m list)) (shaped.lists.follows list is) where
   by_list : (ds : List ℕ) (from : ℕ) → Follows (link m) k.capacity from ds → from ≤ k.capacity
   by_list [] from f = let e : from ≡ 0 = f in omega arith
   by_list (d ∷ ds) from f = let e : from ≡ d + 1 = f.0 in let l : d < k.capacity = f.1 in omega arith
 
-pub first_listed : (k : Setup) (m : Memory) (g : Shape) → (t : Tally) → IsInShape k.capacity m g t → (list : ℕ) → list < lists → head_first (head m list) ≢ 0
+pub first_listed : (k : Setup) (m : Memory) (g : CoreShape) → (t : Tally) → IsInShape k.capacity m g t → (list : ℕ) → list < lists → head_first (head m list) ≢ 0
     → 0 < times (before (head_first (head m list))) (g.lists list)
 first_listed k m g t shaped list is some = by_list (g.lists list) (head_first (head m list)) (shaped.lists.follows list is) some where
   by_list : (ds : List ℕ) (from : ℕ) → Follows (link m) k.capacity from ds → from ≢ 0 → 0 < times (before from) ds
@@ -136,18 +136,18 @@ module _ (k : Setup) (m : Memory) (views : List View) (i : ℕ) (v : View) (belo
       (omega arith)
       (let e = differs_none (used m) in omega arith) where
         looks : (list : ℕ) → list < lists → IsTicketDrawn m.drawn (get_or v.head_looks list (look v (used m))).ticket
-        looks list is = subst (λ (l : Look). IsTicketDrawn m.drawn l.ticket) (get_or_default v.head_looks list v.used_look (look v (used m)) (let e = seat.set_up.looks in omega arith)) (seat.tickets.head_looks list is)
+        looks list is = subst (λ (l : LastLook). IsTicketDrawn m.drawn l.ticket) (get_or_default v.head_looks list v.used_look (look v (used m)) (let e = seat.set_up.looks in omega arith)) (seat.tickets.head_looks list is)
 
   -- the ticket is used up
   pub done_tickets : (w : View) → w.ticket ≡ None → w.last_ticket ≡ v.last_ticket → w.used_look ≡ v.used_look → w.head_looks ≡ v.head_looks → counts w ≡ counts v → w.cuts ≡ v.cuts
       → w.losses ≤ v.losses + 1 → HasTickets k.budget m.drawn w
   done_tickets w none last used_looks head_looks kept cuts losses = let s = seat.tickets in record {
     state = ticket_given_up k.budget v w s.state none last (ap (λ (c : Counts). c.stopped) kept);
-    looked_then = (let l = s.looked_then in let a = ap (λ (x : Look). x.taken) used_looks in let b = ap (λ (x : Look). x.wins) used_looks in let t = ap (λ (c : Counts). c.taken) kept in let u = ap (λ (c : Counts). c.wins) kept in let p = l.0 in let q = l.1 in (omega arith, omega arith));
+    looked_then = (let l = s.looked_then in let a = ap (λ (x : LastLook). x.taken) used_looks in let b = ap (λ (x : LastLook). x.wins) used_looks in let t = ap (λ (c : Counts). c.taken) kept in let u = ap (λ (c : Counts). c.wins) kept in let p = l.0 in let q = l.1 in (omega arith, omega arith));
     ticket = subst (IsTicketDrawn m.drawn) (sym none) (none_drawn m.drawn);
     last = subst (IsTicketDrawn m.drawn) (sym last) s.last;
-    used_look = subst (λ (l : Look). IsTicketDrawn m.drawn l.ticket) (sym used_looks) s.used_look;
-    head_looks = λ list is. subst (λ (l : Look). IsTicketDrawn m.drawn l.ticket) (sym (ap₂ (λ looks (l : Look). get_or looks list l) head_looks used_looks)) (s.head_looks list is);
+    used_look = subst (λ (l : LastLook). IsTicketDrawn m.drawn l.ticket) (sym used_looks) s.used_look;
+    head_looks = λ list is. subst (λ (l : LastLook). IsTicketDrawn m.drawn l.ticket) (sym (ap₂ (λ looks (l : LastLook). get_or looks list l) head_looks used_looks)) (s.head_looks list is);
     counts = let c = s.counts in let e = ap (λ (c : Counts). c.wins) kept in let d = ap (λ (c : Counts). c.draws) kept in let n = ap one_if_some none in omega arith;
     gives = let c = s.gives in let e = ap (λ (c : Counts). c.wins) kept in let d = ap (λ (c : Counts). c.gives) kept in let n = ap (λ (c : Counts). c.moves) kept in omega arith;
     cuts = let c = s.cuts in let d = ap (λ (c : Counts). c.draws) kept in omega arith;
@@ -178,8 +178,8 @@ module _ (k : Setup) (m : Memory) (views : List View) (i : ℕ) (v : View) (belo
       (let e : stale_head m (Some (record { of = list; word = head m list })) ≡ 0 = ap (λ t. one_if (not t)) (eq-eqb (head m list) (head m list) refl) in omega arith) where
         looks : (other : ℕ) → other < lists → IsTicketDrawn m.drawn (get_or (set v.head_looks list (look v (head m list))) other v.used_look).ticket
         looks other below_lists = elim (cases_eq other list) [
-          | inl same ↦ subst (λ (l : Look). IsTicketDrawn m.drawn l.ticket) (sym (get_or-set_at v.head_looks list other (look v (head m list)) v.used_look same (let e = seat.set_up.looks in omega arith))) seat.tickets.ticket
-          | inr apart ↦ subst (λ (l : Look). IsTicketDrawn m.drawn l.ticket) (sym (get_or-set_other v.head_looks list other (look v (head m list)) v.used_look apart)) (seat.tickets.head_looks other below_lists)
+          | inl same ↦ subst (λ (l : LastLook). IsTicketDrawn m.drawn l.ticket) (sym (get_or-set_at v.head_looks list other (look v (head m list)) v.used_look same (let e = seat.set_up.looks in omega arith))) seat.tickets.ticket
+          | inr apart ↦ subst (λ (l : LastLook). IsTicketDrawn m.drawn l.ticket) (sym (get_or-set_other v.head_looks list other (look v (head m list)) v.used_look apart)) (seat.tickets.head_looks other below_lists)
         ]
 
   pub look_link : MayLink v → Good k m (set views i (record (used_up v) { seen_link = Some (link m (before (head_first (seen_word v.seen_head)))) }))

@@ -10,7 +10,7 @@ use Rattle.core_model.specs.Memory.{Memory, head, anchor, info, link, next}
 use Rattle.core_model.specs.View.{Setup, View, one_if_some, of_class, times_own, times_raw, times_classed, times_large, times_block, times_within, times_in_classes}
 use Rattle.core_model.specs.Effects.{seen_word, seen_of, first_of, last_of, rest_of, after_alloc, after_free, after_lift}
 use Rattle.core_model.specs.Guards.{IsThere, MayAlloc, MayFree, MayLift}
-use Rattle.core_model.specs.Sound.{Shape, tally_of, IsInShape, HasBlocks, KnowsHead, stale, times_parked, empties, Good}
+use Rattle.core_model.specs.Sound.{CoreShape, tally_of, IsInShape, HasBlocks, KnowsHead, stale, times_parked, empties, Good}
 use Rattle.core_model.proofs.TotalLemmas.{total_same, eq-eqb-one, ne-eqb-none}
 use Rattle.core_model.proofs.FrameLemmas.{times_without}
 use Rattle.heap_model.proofs.ListLemmas.{times_append}
@@ -67,7 +67,7 @@ module _ (k : Setup) (m : Memory) (views : List View) (i : ℕ) (v : View) (belo
   seat = seat_at k m views good i v below_i at
 
   -- a change of the seat's parts alone
-  pub shift_step : (w : View) (g : Shape) → g.lists ≡ good.shape.lists → IsInShape k.capacity m g (tally_of (set views i w)) → IsSeat k m g w
+  pub shift_step : (w : View) (g : CoreShape) → g.lists ≡ good.shape.lists → IsInShape k.capacity m g (tally_of (set views i w)) → IsSeat k m g w
       → counts w ≡ counts v → w.ticket ≡ v.ticket → w.roots ≡ v.roots → w.losses ≡ v.losses → stale m w ≤ stale m v
       → empties k.capacity (anchor m) (times_parked g (tally_of (set views i w))) ≤ empties k.capacity (anchor m) (times_parked good.shape (tally_of views))
       → Good k m (set views i w)

@@ -8,12 +8,12 @@ use Rattle.core_model.specs.declared.answer.StepAnswer.{StepAnswer}
 use Rattle.core_model.specs.declared.event.Event.{Event}
 use Rattle.core_model.specs.declared.event.Event.TheVariants.{Tick, Load, Store, Settle, LookUsed, TakeFresh, KeepUsed, LookHead, LookLink, Pop, Push, LookAnchor, TakeAll, Give}
 use Rattle.core_model.specs.Cells.{used_cell, is_cell, index_of, cell_at, superblock_at}
-use Rattle.core_model.specs.Memory.{Memory, Place, volatile_at, durable_at, tickets, used, table_index, memory_of}
+use Rattle.core_model.specs.Memory.{Memory, StepPlace, volatile_at, durable_at, tickets, used, table_index, memory_of}
 use Rattle.core_model.specs.View.{Setup, View, times_own, times_raw, times_classed, times_block}
 use Rattle.core_model.specs.Effects.{before, seen_of, seen_word, first_of, place_of, left_there}
 use Rattle.core_model.specs.Guards.{IsOwn, MayStep}
 use Rattle.core_model.specs.Sound.{Good, Sound, tally_of, times_cut}
-use Rattle.core_model.specs.Steps.{State, words_after, seat_after, found_by, StepsTo, is_done, stops, not_now, has_stopped, Runs}
+use Rattle.core_model.specs.Steps.{TableState, words_after, seat_after, found_by, StepsTo, is_done, stops, not_now, has_stopped, Runs}
 use Rattle.core_model.proofs.BlockLemmas.{first_there}
 use Rattle.core_model.proofs.TotalLemmas.{total_at}
 use Rattle.core_model.proofs.FrameLemmas.{below_not}
@@ -81,7 +81,7 @@ sound_step k words views i v event below_i at sound may = record {
   m : Memory
   m = memory_of k.capacity words
 
-  p : Place
+  p : StepPlace
   p = place_of v event
 
   x : ℕ
@@ -90,33 +90,33 @@ sound_step k words views i v event below_i at sound may = record {
   there : is_place k.capacity p ≡ true
   there = in_table k m views i v below_i at sound.good event may
 
-  fixed_same : (q : Place) → is_place k.capacity q ≡ true → (word : ℕ) → IsFixed k.capacity word → get_or (set words (table_index k.capacity q) x) word 0 ≡ get_or words word 0
+  fixed_same : (q : StepPlace) → is_place k.capacity q ≡ true → (word : ℕ) → IsFixed k.capacity word → get_or (set words (table_index k.capacity q) x) word 0 ≡ get_or words word 0
   fixed_same (volatile_at cell) is word fixed = get_or-set_other words (index_of cell) word x 0 (λ z. (fixed_apart k.capacity word cell fixed is).0 (sym z))
   fixed_same (durable_at cell) is word fixed = get_or-set_other words (image_words k.capacity + index_of cell) word x 0 (λ z. let w = (fixed_apart k.capacity word cell fixed is).1 in omega (arith, z, w))
   fixed_same tickets is word fixed = get_or-set_other words (2 * image_words k.capacity) word x 0 (λ z. let w = (fixed_apart k.capacity word used_cell fixed refl).1 in omega (arith, z, w))
 
-  fixed_durable : (q : Place) → is_place k.capacity q ≡ true → (word : ℕ) → IsFixed k.capacity word → get_or (set words (table_index k.capacity q) x) (image_words k.capacity + word) 0 ≡ get_or words (image_words k.capacity + word) 0
+  fixed_durable : (q : StepPlace) → is_place k.capacity q ≡ true → (word : ℕ) → IsFixed k.capacity word → get_or (set words (table_index k.capacity q) x) (image_words k.capacity + word) 0 ≡ get_or words (image_words k.capacity + word) 0
   fixed_durable (volatile_at cell) is word fixed = get_or-set_other words (index_of cell) (image_words k.capacity + word) x 0 (λ z. let w = index_within k.capacity cell is in omega (arith, z, w))
   fixed_durable (durable_at cell) is word fixed = get_or-set_other words (image_words k.capacity + index_of cell) (image_words k.capacity + word) x 0 (λ z. (fixed_apart k.capacity word cell fixed is).0 (omega (arith, z)))
   fixed_durable tickets is word fixed = get_or-set_other words (2 * image_words k.capacity) (image_words k.capacity + word) x 0 (λ z. let w = (fixed_apart k.capacity word used_cell fixed refl).1 in omega (arith, z, w))
 
 -- and so does every list of events
-pub sound_runs : (k : Setup) (s s' : State) (events : List (ℕ × Event)) (answers : List StepAnswer) → Sound k s.words s.views → Runs k s events answers s' → Sound k s'.words s'.views
-sound_runs k s s' [] [] sound runs = subst (λ (x : State). Sound k x.words x.views) runs sound
+pub sound_runs : (k : Setup) (s s' : TableState) (events : List (ℕ × Event)) (answers : List StepAnswer) → Sound k s.words s.views → Runs k s events answers s' → Sound k s'.words s'.views
+sound_runs k s s' [] [] sound runs = subst (λ (x : TableState). Sound k x.words x.views) runs sound
 sound_runs k s s' [] (answer ∷ answers) sound runs = absurd runs
 sound_runs k s s' (e ∷ events) [] sound runs = absurd runs
 sound_runs k s s' (e ∷ events) (answer ∷ answers) sound runs = sound_runs k runs.0 s' events answers (after_one answer runs.0 runs.2) runs.3 where
-  after_one : (a : StepAnswer) (next : State) → StepsTo k s e.0 e.1 a next → Sound k next.words next.views
+  after_one : (a : StepAnswer) (next : TableState) → StepsTo k s e.0 e.1 a next → Sound k next.words next.views
   after_one a next (is_done v at may on) = sound_step k s.words s.views e.0 v e.1 runs.1 at sound may.may
   after_one a next (stops v step at may stop) = sound_step k s.words s.views e.0 v e.1 runs.1 at sound may.may
   after_one a next (not_now v at going refused) = sound
   after_one a next (has_stopped v step at stop) = sound
 
 -- a place of the table has a word there
-pub in_length : (k : Setup) (s : State) (i : ℕ) (v : View) (event : Event) → i < length s.views → get_or s.views i v ≡ v → Sound k s.words s.views → MayStep (memory_of k.capacity s.words) v event
+pub in_length : (k : Setup) (s : TableState) (i : ℕ) (v : View) (event : Event) → i < length s.views → get_or s.views i v ≡ v → Sound k s.words s.views → MayStep (memory_of k.capacity s.words) v event
     → table_index k.capacity (place_of v event) < length s.words
 in_length k s i v event below at sound may = by_place (place_of v event) (in_table k (memory_of k.capacity s.words) s.views i v below at sound.good event may) where
-  by_place : (p : Place) → is_place k.capacity p ≡ true → table_index k.capacity p < length s.words
+  by_place : (p : StepPlace) → is_place k.capacity p ≡ true → table_index k.capacity p < length s.words
   by_place (volatile_at cell) is = let w = index_within k.capacity cell is in let l = sound.long in omega arith
   by_place (durable_at cell) is = let w = index_within k.capacity cell is in let l = sound.long in omega arith
   by_place tickets is = let l = sound.long in omega arith

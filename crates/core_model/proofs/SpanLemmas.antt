@@ -9,10 +9,10 @@ use Rattle.heap_model.proofs.CountingLemmas.{one_if_true, one_if_false}
 use Rattle.heap_model.proofs.MemberLemmas.{head_or_rest, in_head, in_rest}
 use Rattle.core_model.specs.Cells.{superblock_at}
 use Rattle.core_model.specs.Memory.{Memory, used, durable_used, head, anchor, info, link}
-use Rattle.core_model.specs.View.{Setup, View, Batch, Span, Snapshot, Look, takes, times_raw, times_classed, times_claimed, times_large, times_block}
+use Rattle.core_model.specs.View.{Setup, View, Batch, Span, Snapshot, LastLook, takes, times_raw, times_classed, times_claimed, times_large, times_block}
 use Rattle.core_model.specs.Effects.{seen, seen_word, seen_of, steps, class_blocks, cleared, without_range, span_count, without_span, trimmed, after_large, after_split}
 use Rattle.core_model.specs.Guards.{IsThere, MayHoldLarge, MaySplit}
-use Rattle.core_model.specs.Sound.{Shape, tally_of, IsInShape, IsCutBlock, Knows, KnowsHead, KnowsWords, stale, stale_anchor, stale_head, differs, times_parked, empties, Good}
+use Rattle.core_model.specs.Sound.{CoreShape, tally_of, IsInShape, IsCutBlock, Knows, KnowsHead, KnowsWords, stale, stale_anchor, stale_head, differs, times_parked, empties, Good}
 use Rattle.core_model.proofs.TotalLemmas.{total_set, total_same, total_at, ne-eqb-none}
 use Rattle.core_model.proofs.PlaceLemmas.{and_both, and_is}
 use Rattle.core_model.proofs.FrameLemmas.{times_steps, below_is, below_not}
@@ -117,14 +117,14 @@ module _ (k : Setup) (m : Memory) (views : List View) (i : ℕ) (v : View) (belo
   words_after y = words_left k m m v y seat.set_up.setup seat.words (λ cell own. refl) (λ cell own. refl)
 
   -- the snapshots, where descriptors of a range enter or leave the hand
-  pub knows_after : (from n : ℕ) (w : View) (g : Shape) → g.lists ≡ good.shape.lists → w.seen_head ≡ v.seen_head → w.seen_link ≡ v.seen_link → w.seen_used ≡ v.seen_used → w.used_look ≡ v.used_look → w.taken ≡ v.taken → w.batch ≡ v.batch
+  pub knows_after : (from n : ℕ) (w : View) (g : CoreShape) → g.lists ≡ good.shape.lists → w.seen_head ≡ v.seen_head → w.seen_link ≡ v.seen_link → w.seen_used ≡ v.seen_used → w.used_look ≡ v.used_look → w.taken ≡ v.taken → w.batch ≡ v.batch
       → w.seen_anchor ≡ cleared from n v.seen_anchor → w.classed ≡ v.classed → ((e : ℕ) → (from ≤ e → e < from + n → ⊥) → times_raw e v ≤ times_raw e w) → w.floor ≤ durable_used m → Knows k.capacity m g w
   knows_after from n w g same_lists head_same link_same used_same look_same taken batch anchor_same classed raw floor = let s = seat.knows in record {
     seen_head = subst (λ x. IsThere x → KnowsHead k.capacity (head m) (link m) g.lists (seen_of x) (seen_word x) w.seen_link) (sym head_same)
         (subst (λ x. IsThere v.seen_head → KnowsHead k.capacity (head m) (link m) g.lists (seen_of v.seen_head) (seen_word v.seen_head) x) (sym link_same)
         (subst (λ x. IsThere v.seen_head → KnowsHead k.capacity (head m) (link m) x (seen_of v.seen_head) (seen_word v.seen_head) v.seen_link) (sym same_lists) s.seen_head));
     seen_used = subst (λ x. IsThere x → seen x ≤ used m) (sym used_same) s.seen_used;
-    looked = (let l = s.looked in let a = ap (λ (x : Look). x.word) look_same in let b = ap (λ (x : Look). x.taken) look_same in omega arith);
+    looked = (let l = s.looked in let a = ap (λ (x : LastLook). x.word) look_same in let b = ap (λ (x : LastLook). x.taken) look_same in omega arith);
     seen_anchor = λ t. let still = subst IsThere anchor_same t in let same = anchor_same ∙ cleared_same from n v.seen_anchor still in
         subst (λ (x : Option Snapshot). (0 < times_claimed (seen_of x) w) ⊎ ((w.batch.descriptor ≡ seen_of x) × (1 ≤ length w.batch.blocks))) (sym same)
         (subst (λ (b : Batch). (0 < times_claimed (seen_of v.seen_anchor) w) ⊎ ((b.descriptor ≡ seen_of v.seen_anchor) × (1 ≤ length b.blocks))) (sym batch)

@@ -7,7 +7,7 @@ use Rattle.heap_model.specs.Counting.{times, total, one_if}
 use Rattle.heap_model.proofs.MemberLemmas.{in_head, in_rest, head_or_rest}
 use Rattle.core_model.specs.Cells.{superblock_at}
 use Rattle.core_model.specs.Memory.{Memory, memory_of, anchor, info, next}
-use Rattle.core_model.specs.View.{Setup, View, Span, Look, no_batch, one_if_some, of_class, takes, times_raw, times_classed, times_large, times_block}
+use Rattle.core_model.specs.View.{Setup, View, Span, LastLook, no_batch, one_if_some, of_class, takes, times_raw, times_classed, times_large, times_block}
 use Rattle.core_model.specs.Effects.{span_count}
 use Rattle.core_model.specs.Opening.{unlooked}
 use Rattle.core_model.specs.Splitting.{Choice, others, chosen, chosen_spans, chosen_lists, remaining, new_seat, given_off}
@@ -210,7 +210,7 @@ module _ (k : Setup) (m : Memory) (views : List View) (i : ℕ) (v : View) (belo
     ticket = none_drawn m.drawn;
     last = none_drawn m.drawn;
     used_look = none_drawn m.drawn;
-    head_looks = λ list is. subst (λ (l : Look). IsTicketDrawn m.drawn l.ticket) (get_or_default v.head_looks list v.used_look (unlooked v.setup.used) (let e = seat.set_up.looks in omega arith)) (seat.tickets.head_looks list is);
+    head_looks = λ list is. subst (λ (l : LastLook). IsTicketDrawn m.drawn l.ticket) (get_or_default v.head_looks list v.used_look (unlooked v.setup.used) (let e = seat.set_up.looks in omega arith)) (seat.tickets.head_looks list is);
     counts = omega arith;
     state = record { stopping = λ n e. absurd (let z = ap one_if_some e in omega (arith, z)); in_hand = λ e. absurd (not_there e); going = λ _ e. absurd (not_there e) };
     looked_then = (omega arith, omega arith);

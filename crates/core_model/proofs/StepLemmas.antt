@@ -5,11 +5,11 @@ use Rattle.heap_model.specs.Rest.{list_numbers}
 use Rattle.heap_model.specs.Words.{head_pops}
 use Rattle.core_model.specs.Memory.{Memory, used, head, anchor}
 use Rattle.core_model.specs.View.{Setup, View, Batch, Span, Claim, one_if_some, times_raw, times_classed, times_large, times_block}
-use Rattle.core_model.specs.Sound.{Shape, tally_of, IsInShape, IsSetUp, ClaimsOf, BlocksOf, Knows, KnowsWords, HasTickets, HasTotals, HasLost, stale, times_parked, empties, Good}
+use Rattle.core_model.specs.Sound.{CoreShape, tally_of, IsInShape, IsSetUp, ClaimsOf, BlocksOf, Knows, KnowsWords, HasTickets, HasTotals, HasLost, stale, times_parked, empties, Good}
 use Rattle.core_model.proofs.TotalLemmas.{total_set, total_same, each_set}
 
 -- what is so of one seat
-pub record IsSeat (k : Setup) (m : Memory) (g : Shape) (v : View) : Type 0 where
+pub record IsSeat (k : Setup) (m : Memory) (g : CoreShape) (v : View) : Type 0 where
   pub set_up : IsSetUp k v
   pub claims : ClaimsOf m v
   pub blocks : BlocksOf m v
@@ -44,7 +44,7 @@ pub record Loses (m m' : Memory) (v w : View) : Type 0 where
   pub mine : w.losses + stale m' w ≤ v.losses + stale m v
   pub more : v.wins ≤ w.wins
 
-pub good_step : (k : Setup) (m m' : Memory) (views : List View) (i : ℕ) (v w : View) (good : Good k m views) (g : Shape)
+pub good_step : (k : Setup) (m m' : Memory) (views : List View) (i : ℕ) (v w : View) (good : Good k m views) (g : CoreShape)
     → i < length views → get_or views i v ≡ v
     → IsInShape k.capacity m' g (tally_of (set views i w))
     → IsSeat k m' g w

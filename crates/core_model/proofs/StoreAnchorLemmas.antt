@@ -6,7 +6,7 @@ use Rattle.heap_model.specs.Counting.{times, total, one_if, without}
 use Rattle.core_model.proofs.PlaceLemmas.{not-lt}
 use Rattle.core_model.specs.Cells.{Cell, used_cell, head_cell, info_cell, anchor_cell, link_cell, root_cell, data_cell, no_cell, cell_at, superblock_at}
 use Rattle.core_model.specs.Memory.{Memory, volatile_at, used, head, anchor, info, link, next, write}
-use Rattle.core_model.specs.View.{Setup, View, Batch, Snapshot, Look, one_if_some, times_raw, times_classed, times_claimed, times_large, times_block}
+use Rattle.core_model.specs.View.{Setup, View, Batch, Snapshot, LastLook, one_if_some, times_raw, times_classed, times_claimed, times_large, times_block}
 use Rattle.core_model.specs.Effects.{seen, seen_word, seen_of, first_of, steps, stored, stored_anchor}
 use Rattle.core_model.specs.Guards.{IsThere, IsOwn, MayStore, MayAnchor, as_empty, as_full}
 use Rattle.core_model.specs.Sound.{tally_of, IsInShape, IsAnchoredBy, ClaimsOf, HasBlocks, Knows, KnowsHead, stale_anchor, stale_head, differs, times_in_lists, times_parked, times_cut, empties, Good}
@@ -148,7 +148,7 @@ module _ (k : Setup) (m : Memory) (views : List View) (i : ℕ) (v : View) (belo
             seen_head = subst (λ x. IsThere x → KnowsHead k.capacity (head m) (link m) good.shape.lists (seen_of x) (seen_word x) w.seen_link) (sym seen_head)
                 (subst (λ x. IsThere v.seen_head → KnowsHead k.capacity (head m) (link m) good.shape.lists (seen_of v.seen_head) (seen_word v.seen_head) x) (sym seen_link) s.seen_head);
             seen_used = subst (λ x. IsThere x → seen x ≤ used m) (sym seen_used) s.seen_used;
-            looked = (let l = s.looked in let a = ap (λ (x : Look). x.word) used_look in let b = ap (λ (x : Look). x.taken) used_look in let t = ap (λ (c : Counts). c.taken) kept in omega arith);
+            looked = (let l = s.looked in let a = ap (λ (x : LastLook). x.word) used_look in let b = ap (λ (x : LastLook). x.taken) used_look in let t = ap (λ (c : Counts). c.taken) kept in omega arith);
             seen_anchor = subst (λ x. IsThere x → (0 < times_claimed (seen_of x) w) ⊎ ((w.batch.descriptor ≡ seen_of x) × (1 ≤ length w.batch.blocks))) (sym seen_anchor)
                 (subst (λ (x : Batch). IsThere v.seen_anchor → (0 < times_claimed (seen_of v.seen_anchor) w) ⊎ ((x.descriptor ≡ seen_of v.seen_anchor) × (1 ≤ length x.blocks))) (sym batch)
                 (λ there. elim (s.seen_anchor there) [ inl c ↦ inl (let e = raw (seen_of v.seen_anchor) in let f = ap (times_classed (seen_of v.seen_anchor)) classed in omega arith) | inr b ↦ inr b ]));

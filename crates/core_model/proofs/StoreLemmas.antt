@@ -10,7 +10,7 @@ use Rattle.core_model.specs.Cells.{Cell, info_cell, link_cell, root_cell, data_c
 use Rattle.core_model.specs.Memory.{Memory, volatile_at, used, head, anchor, info, link, next, write}
 use Rattle.core_model.specs.View.{Setup, View, of_class, known, times_own, times_raw, times_classed, times_claimed, times_large, times_block}
 use Rattle.core_model.specs.Effects.{before, seen_word, seen_of, span_count, first_of, learn, used_up, stored}
-use Rattle.core_model.specs.Guards.{IsThere, IsOwn, MayChange}
+use Rattle.core_model.specs.Guards.{IsThere, IsOwn, MayChangeWord}
 use Rattle.core_model.specs.Sound.{tally_of, IsInShape, IsSetUp, IsCutBlock, IsAnchoredBy, ClaimsOf, BlocksOf, KnowsHead, KnowsWords, times_in_lists, times_parked, times_cut, empties, Good}
 use Rattle.core_model.proofs.TotalLemmas.{total_same, total_at}
 use Rattle.core_model.proofs.FrameLemmas.{with_other, untouched, words_frame, below_not}
@@ -250,7 +250,7 @@ module _ (k : Setup) (m : Memory) (views : List View) (i : ℕ) (v : View) (belo
               (cut_info (superblock_at k.capacity x) (good.shaped.chained.inside x (let t = total_at (times_block x) views j u b a in omega arith)).0)
 
   -- to a word of a block, or of a superblock without a class
-  pub store_data : (at_word : ℕ) → cell_at v.setup.capacity word ≡ data_cell at_word → IsOwn v (data_cell at_word) → MayChange v at_word
+  pub store_data : (at_word : ℕ) → cell_at v.setup.capacity word ≡ data_cell at_word → IsOwn v (data_cell at_word) → MayChangeWord v at_word
       → Good k (write m (volatile_at (data_cell at_word)) value) (set views i (stored base (data_cell at_word) value))
   store_data n is own may = good_step k m m2 views i v w good good.shape below_i at
       (subst (IsInShape k.capacity m2 good.shape) (sym tally) (let s = good.shaped in record {

@@ -4,14 +4,14 @@ use Rattle.std.proofs.lemmas.List.{get_or-set_same, get_or-set_other}
 use Rattle.std.proofs.lemmas.Grind.{get_or-set_at}
 use Rattle.heap_model.specs.Geometry.{image_words, start_word, IsFixed, in_header, in_descriptor}
 use Rattle.core_model.specs.Cells.{Cell, used_cell, head_cell, info_cell, anchor_cell, link_cell, root_cell, data_cell, no_cell, same_cell, is_cell, index_of, cell_at}
-use Rattle.core_model.specs.Memory.{Place, volatile_at, durable_at, tickets, write, with_cell, table_index, table_length, memory_of}
+use Rattle.core_model.specs.Memory.{StepPlace, volatile_at, durable_at, tickets, write, with_cell, table_index, table_length, memory_of}
 use Rattle.core_model.proofs.MemoryLemmas.{same-true, same-refl}
 use Rattle.core_model.proofs.PlaceLemmas.{and_both, cell_at_index, index_within, pick, skip}
 use Rattle.core_model.proofs.FrameLemmas.{with_other}
 use Rattle.core_model.proofs.OwnStepLemmas.{with_same}
 
 -- a cell is one of the image
-abbrev pub is_place : ℕ → Place → Bool
+abbrev pub is_place : ℕ → StepPlace → Bool
 is_place c (volatile_at cell) = is_cell c cell
 is_place c (durable_at cell) = is_cell c cell
 is_place c tickets = true
@@ -52,7 +52,7 @@ zero_plus : (n : ℕ) → 0 + n ≡ n
 zero_plus n = omega arith
 
 -- the memory of a table in which one place is written
-pub memory_set : (c : ℕ) (words : List ℕ) (p : Place) (x : ℕ) → length words ≡ table_length c → is_place c p ≡ true → memory_of c (set words (table_index c p) x) ≡ write (memory_of c words) p x
+pub memory_set : (c : ℕ) (words : List ℕ) (p : StepPlace) (x : ℕ) → length words ≡ table_length c → is_place c p ≡ true → memory_of c (set words (table_index c p) x) ≡ write (memory_of c words) p x
 memory_set c words (volatile_at at) x long is = λ j. record {
   volatile = λ cell. (ap (λ n. cond (is_cell c cell) (get_or (set words n x) (index_of cell) 0) 0) (sym (zero_plus (index_of at)))
       ∙ ap (λ n. cond (is_cell c cell) (get_or (set words (0 + index_of at) x) n 0) 0) (sym (zero_plus (index_of cell)))

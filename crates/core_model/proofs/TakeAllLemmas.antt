@@ -11,7 +11,7 @@ use Rattle.core_model.specs.Memory.{Memory, volatile_at, anchor, info, next, wri
 use Rattle.core_model.specs.View.{Setup, View, of_class, times_raw, times_classed, times_large, times_block}
 use Rattle.core_model.specs.Effects.{seen_word, steps, chain, first_of, claim_class, without_claim, won, taken_all, anchored_blocks}
 use Rattle.core_model.specs.Guards.{IsThere, MayTakeAll}
-use Rattle.core_model.specs.Sound.{Shape, Tally, tally_of, IsInShape, IsCutBlock, IsAnchoredBy, AreChained, HasBlocks, times_parked, times_cut, empties, Good}
+use Rattle.core_model.specs.Sound.{CoreShape, Tally, tally_of, IsInShape, IsCutBlock, IsAnchoredBy, AreChained, HasBlocks, times_parked, times_cut, empties, Good}
 use Rattle.core_model.proofs.TotalLemmas.{total_set, total_same, total_at, total_two, total_alike, eq-eqb-one, ne-eqb-none}
 use Rattle.core_model.proofs.StepLemmas.{IsSeat, seat_at, good_step}
 use Rattle.core_model.proofs.OwnLemmas.{won_tickets, length_only}
@@ -40,7 +40,7 @@ module _ (k : Setup) (m : Memory) (views : List View) (i : ℕ) (v : View) (belo
   abbrev w : View
   w = taken_all m v d
 
-  abbrev g' : Shape
+  abbrev g' : CoreShape
   g' = record good.shape { full = λ e. good.shape.full e + one_if (nat_eq d e); chains = λ e. cond (nat_eq e d) [] (good.shape.chains e) }
 
   cap : v.setup.capacity ≡ k.capacity

@@ -9,8 +9,8 @@ use Rattle.core_model.specs.declared.event.Event.TheVariants.{Tick, Load, Store,
 use Rattle.core_model.specs.declared.event.Shift.{Shift}
 use Rattle.core_model.specs.declared.event.Shift.TheVariants.{Cut, Alloc, Free, Lift, Large, Split}
 use Rattle.core_model.specs.Cells.{Cell, used_cell, head_cell, info_cell, anchor_cell, link_cell, data_cell, cell_at, index_of, superblock_at}
-use Rattle.core_model.specs.Memory.{Memory, info, next, Place, volatile_at, durable_at, tickets}
-use Rattle.core_model.specs.View.{View, Claim, Span, Snapshot, Look, no_batch, of_class, times_own}
+use Rattle.core_model.specs.Memory.{Memory, info, next, StepPlace, volatile_at, durable_at, tickets}
+use Rattle.core_model.specs.View.{View, Claim, Span, Snapshot, LastLook, no_batch, of_class, times_own}
 
 -- n numbers from one on, a step apart
 abbrev pub steps : ℕ → ℕ → ℕ → List ℕ
@@ -111,7 +111,7 @@ abbrev pub lost : View → View
 lost v = record v { ticket = None; losses = v.losses + 1 }
 
 -- what was seen of a shared word just now
-abbrev pub look : View → ℕ → Look
+abbrev pub look : View → ℕ → LastLook
 look v word = record { word = word; ticket = v.ticket; wins = v.wins; taken = v.taken }
 
 -- 0 becomes known of the info, the anchor and the link of n descriptors from u on
@@ -280,7 +280,7 @@ abbrev pub stopped : View → ℕ → View
 stopped v ticket = record v { draws = v.draws + 1; last_ticket = Some ticket; ticket = None; stopped = Some ticket }
 
 -- the word that the step works on
-abbrev pub place_of : View → Event → Place
+abbrev pub place_of : View → Event → StepPlace
 place_of v (Tick shift) = tickets
 place_of v (Load word) = volatile_at (cell_at v.setup.capacity word)
 place_of v (Store word value) = volatile_at (cell_at v.setup.capacity word)

@@ -5,7 +5,7 @@ use Rattle.core_model.specs.declared.event.Event.TheVariants.{Tick, Load, Store,
 use Rattle.core_model.specs.declared.event.Shift.TheVariants.{Cut, Alloc, Free, Lift, Large, Split}
 use Rattle.core_model.specs.Cells.{Cell, used_cell, head_cell, info_cell, anchor_cell, link_cell, root_cell, data_cell, no_cell, cell_at}
 use Rattle.core_model.specs.Memory.{Memory, write, volatile_at}
-use Rattle.core_model.specs.View.{Setup, View, Look, no_batch, times_own, of_class}
+use Rattle.core_model.specs.View.{Setup, View, LastLook, no_batch, times_own, of_class}
 use Rattle.core_model.specs.Effects.{left_there, view_after, chain, steps}
 use Rattle.core_model.specs.Steps.{seat_after}
 
@@ -34,7 +34,7 @@ at_block = refl
 abbrev setup : Setup
 setup = record { capacity = 2; budget = 10; used = 1; opened = [] }
 
-abbrev unread : Look
+abbrev unread : LastLook
 unread = record { word = 1; ticket = None; wins = 0; taken = 0 }
 
 -- nothing is the seat's own but a ticket

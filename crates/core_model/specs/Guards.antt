@@ -34,7 +34,7 @@ pub data MayAnchor (m : Memory) (v : View) (d : ℕ) : ℕ → Type 0 where
       → (anchor_state (anchor m d) ≡ empty_state) ⊎ (0 < times d v.split) → MayAnchor m v d value
 
 -- the first words of cached blocks stay, and those of the batch but the last one's
-pub record MayChange (v : View) (word : ℕ) : Type 0 where
+pub record MayChangeWord (v : View) (word : ℕ) : Type 0 where
   pub uncached : total (times word) v.caches ≡ 0
   pub in_batch : (times word v.batch.blocks ≡ 0) ⊎ (word ≡ last_of v.batch.blocks)
 
@@ -42,7 +42,7 @@ pub record MayChange (v : View) (word : ℕ) : Type 0 where
 abbrev pub MayStore : Memory → View → Cell → ℕ → Type 0
 MayStore m v (anchor_cell d) value = MayAnchor m v d value
 MayStore m v (link_cell d) value = times d v.cutting ≡ 0
-MayStore m v (data_cell word) value = MayChange v word
+MayStore m v (data_cell word) value = MayChangeWord v word
 MayStore m v cell value = ⊤
 
 pub record MayTake (v : View) (n : ℕ) : Type 0 where

@@ -38,12 +38,12 @@ abbrev pub durable_info : Memory → ℕ → ℕ
 durable_info m d = m.durable (info_cell d)
 
 -- one value of one word, or the ticket word: what an atomic step works on
-pub data Place : Type 0 where
-  volatile_at : Cell → Place
-  durable_at : Cell → Place
-  tickets : Place
+pub data StepPlace : Type 0 where
+  volatile_at : Cell → StepPlace
+  durable_at : Cell → StepPlace
+  tickets : StepPlace
 
-abbrev pub read : Memory → Place → ℕ
+abbrev pub read : Memory → StepPlace → ℕ
 read m (volatile_at cell) = m.volatile cell
 read m (durable_at cell) = m.durable cell
 read m tickets = m.drawn
@@ -52,7 +52,7 @@ read m tickets = m.drawn
 abbrev pub with_cell : (Cell → ℕ) → Cell → ℕ → Cell → ℕ
 with_cell f at value cell = cond (same_cell cell at) value (f cell)
 
-abbrev pub write : Memory → Place → ℕ → Memory
+abbrev pub write : Memory → StepPlace → ℕ → Memory
 write m (volatile_at cell) value = record { volatile = with_cell m.volatile cell value; durable = m.durable; drawn = m.drawn }
 write m (durable_at cell) value = record { volatile = m.volatile; durable = with_cell m.durable cell value; drawn = m.drawn }
 write m tickets value = record { volatile = m.volatile; durable = m.durable; drawn = value }
@@ -62,7 +62,7 @@ abbrev pub table_length : ℕ → ℕ
 table_length capacity = 2 * image_words capacity + 1
 
 -- the index in the table
-abbrev pub table_index : ℕ → Place → ℕ
+abbrev pub table_index : ℕ → StepPlace → ℕ
 table_index capacity (volatile_at cell) = index_of cell
 table_index capacity (durable_at cell) = image_words capacity + index_of cell
 table_index capacity tickets = 2 * image_words capacity

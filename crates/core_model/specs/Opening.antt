@@ -3,9 +3,9 @@ use Rattle.std.specs.Prelude.{◌≡◌, ℕ, zero, suc, ◌+◌, ◌/◌, ◌<�
 use Rattle.heap_model.specs.declared.block.Block.{Block}
 use Rattle.heap_model.specs.Geometry.{roots, lists, info_word, head_word, capacity_word, used_word, superblock_words}
 use Rattle.core_model.specs.Cells.{superblock_at}
-use Rattle.core_model.specs.View.{Setup, Span, Look, View, no_batch}
+use Rattle.core_model.specs.View.{Setup, Span, LastLook, View, no_batch}
 use Rattle.core_model.specs.Effects.{steps, trimmed}
-use Rattle.core_model.specs.Steps.{State}
+use Rattle.core_model.specs.Steps.{TableState}
 
 -- the members that belong to the seat
 abbrev pub picked : {A : Type 0} → ℕ → List A → List ℕ → List A
@@ -50,7 +50,7 @@ setup_of words budget = record {
 }
 
 -- nothing was looked at yet
-abbrev pub unlooked : ℕ → Look
+abbrev pub unlooked : ℕ → LastLook
 unlooked word = record { word = word; ticket = None; wins = 0; taken = 0 }
 
 abbrev pub plain_view : Setup → List Block → List ℕ → View
@@ -92,7 +92,7 @@ opened_view k held block_owners root_owners seat = trimmed (plain_view k (picked
     (steps 0 1 roots) root_owners))
 
 -- the shared words and the views of an opened heap
-abbrev pub opened_state : Setup → List Block → List ℕ → List ℕ → ℕ → State
+abbrev pub opened_state : Setup → List Block → List ℕ → List ℕ → ℕ → TableState
 opened_state k held block_owners root_owners seats = record {
   words = k.opened ++ (k.opened ++ (0 ∷ []));
   views = tabulate (opened_view k held block_owners root_owners) 0 seats;

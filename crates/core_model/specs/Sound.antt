@@ -28,7 +28,7 @@ tally_of views = record {
 }
 
 -- what the words hide: the descriptors of each list, which superblocks are full in no list, and the chain of each superblock
-pub record Shape : Type 0 where
+pub record CoreShape : Type 0 where
   pub lists : ℕ → List ℕ
   pub full : ℕ → ℕ
   pub chains : ℕ → List ℕ
@@ -37,11 +37,11 @@ pub record Shape : Type 0 where
 abbrev pub class_numbers : List ℕ
 class_numbers = 1 ∷ 2 ∷ 3 ∷ 4 ∷ 5 ∷ 6 ∷ 7 ∷ 8 ∷ 9 ∷ 10 ∷ 11 ∷ 12 ∷ 13 ∷ 14 ∷ 15 ∷ 16 ∷ 17 ∷ 18 ∷ 19 ∷ 20 ∷ []
 
-abbrev pub times_in_lists : Shape → ℕ → ℕ
+abbrev pub times_in_lists : CoreShape → ℕ → ℕ
 times_in_lists g d = total (λ class. times d (g.lists class)) class_numbers
 
 -- how often superblock d is cut: in the list of a class, claimed with a class, or full in no list
-abbrev pub times_cut : Shape → Tally → ℕ → ℕ
+abbrev pub times_cut : CoreShape → Tally → ℕ → ℕ
 times_cut g t d = times_in_lists g d + t.classed d + g.full d
 
 -- each list leads along its descriptors
@@ -49,7 +49,7 @@ pub record AreLists (capacity : ℕ) (head link : ℕ → ℕ) (descriptors : �
   pub follows : (list : ℕ) → list < lists → Follows link capacity (head_first (head list)) (descriptors list)
 
 -- each taken superblock is in exactly one place, and no other is in any
-pub record IsInOnePlace (used : ℕ) (g : Shape) (t : Tally) : Type 0 where
+pub record IsInOnePlace (used : ℕ) (g : CoreShape) (t : Tally) : Type 0 where
   pub one_place : (d : ℕ) → times d (g.lists 0) + times_cut g t d + t.raw d + t.large d ≡ below d used
 
 -- a superblock that was never taken has nothing but 0 in its descriptor, volatile and durable
@@ -97,7 +97,7 @@ pub record AreDurable (capacity used durable_used : ℕ) (info durable_info free
   pub infos : (d : ℕ) → 0 < cut d + large d → durable_info d ≡ info d
 
 -- how often superblock d is in the list of a class, or claimed with a class
-abbrev pub times_parked : Shape → Tally → ℕ → ℕ
+abbrev pub times_parked : CoreShape → Tally → ℕ → ℕ
 times_parked g t d = times_in_lists g d + t.classed d
 
 -- how many of those have an empty anchor
@@ -106,7 +106,7 @@ empties capacity anchor parked = total (λ d. one_if (nat_lt 0 (parked d) && nat
     (steps 0 1 capacity)
 
 -- everything that is said of superblocks, lists and blocks
-pub record IsInShape (capacity : ℕ) (m : Memory) (g : Shape) (t : Tally) : Type 0 where
+pub record IsInShape (capacity : ℕ) (m : Memory) (g : CoreShape) (t : Tally) : Type 0 where
   pub lists : AreLists capacity (head m) (link m) g.lists
   pub placed : IsInOnePlace (used m) g t
   pub untaken : AreUntaken capacity m
@@ -163,7 +163,7 @@ pub record KnowsHead (capacity : ℕ) (heads links : ℕ → ℕ) (descriptors :
       → links (before (head_first word)) ≡ seen link)
 
 -- what the seat saw is still true as far as it goes
-pub record Knows (capacity : ℕ) (m : Memory) (g : Shape) (v : View) : Type 0 where
+pub record Knows (capacity : ℕ) (m : Memory) (g : CoreShape) (v : View) : Type 0 where
   pub seen_head : IsThere v.seen_head → KnowsHead capacity (head m) (link m) g.lists (seen_of v.seen_head)
       (seen_word v.seen_head) v.seen_link
   pub seen_used : IsThere v.seen_used → seen v.seen_used ≤ used m
@@ -238,7 +238,7 @@ HasLost m views v = v.losses + stale m v + v.wins ≤ total (λ (u : View). u.wi
 -- memory and seats fit together
 pub record Good (k : Setup) (m : Memory) (views : List View) : Type 0 where
   pub small : k.capacity ≤ largest_capacity
-  pub shape : Shape
+  pub shape : CoreShape
   pub shaped : IsInShape k.capacity m shape (tally_of views)
   pub set_up : Each views (IsSetUp k)
   pub claims : Each views (ClaimsOf m)

@@ -24,11 +24,11 @@ abbrev pub Keeps : Setup → Memory → List View → ℕ → View → Event →
 Keeps k m views i v event = Good k (memory_after m v event) (set views i (seat_after m v event))
 
 -- the words of the shared table and the views of the seats
-pub record State : Type 0 where
+pub record TableState : Type 0 where
   pub words : List ℕ
   pub views : List View
 
-abbrev pub IsSoundState : Setup → State → Type 0
+abbrev pub IsSoundState : Setup → TableState → Type 0
 IsSoundState k s = Sound k s.words s.views
 
 -- the words and views after the step of a seat
@@ -36,14 +36,14 @@ abbrev pub words_after : Setup → List ℕ → View → Event → List ℕ
 words_after k words v event = set words (table_index k.capacity (place_of v event))
     (left_there (memory_of k.capacity words) v event (found_by (memory_of k.capacity words) v event))
 
-abbrev pub state_after : Setup → State → ℕ → View → Event → State
+abbrev pub state_after : Setup → TableState → ℕ → View → Event → TableState
 state_after k s i v event = record {
   words = words_after k s.words v event;
   views = set s.views i (seat_after (memory_of k.capacity s.words) v event);
 }
 
 -- what a seat's event makes of a state, and what it answers: the step is done, won where it compares; a draw stops the seat; it may not be done now, or the seat has stopped, and nothing changes
-pub data StepsTo (k : Setup) (s : State) (i : ℕ) (event : Event) : StepAnswer → State → Type 0 where
+pub data StepsTo (k : Setup) (s : TableState) (i : ℕ) (event : Event) : StepAnswer → TableState → Type 0 where
   is_done : (v : View) → get_or s.views i v ≡ v → MayDo (memory_of k.capacity s.words) v event
       → (seat_after (memory_of k.capacity s.words) v event).stopped ≡ None → StepsTo k s i event Done (state_after k s i v event)
   stops : (v : View) (step : ℕ) → get_or s.views i v ≡ v → MayDo (memory_of k.capacity s.words) v event
@@ -54,9 +54,9 @@ pub data StepsTo (k : Setup) (s : State) (i : ℕ) (event : Event) : StepAnswer 
   has_stopped : (v : View) (step : ℕ) → get_or s.views i v ≡ v → v.stopped ≡ Some step → StepsTo k s i event (Stopped step) s
 
 -- what a list of events makes of a state, with an answer for each event
-abbrev pub Runs : Setup → State → List (ℕ × Event) → List StepAnswer → State → Type 0
+abbrev pub Runs : Setup → TableState → List (ℕ × Event) → List StepAnswer → TableState → Type 0
 Runs k s [] [] s' = s ≡ s'
 Runs k s [] (answer ∷ answers) s' = ⊥
 Runs k s (e ∷ events) [] s' = ⊥
 Runs k s (e ∷ events) (answer ∷ answers) s' =
-    (next : State) × (e.0 < length s.views) × StepsTo k s e.0 e.1 answer next × Runs k next events answers s'
+    (next : TableState) × (e.0 < length s.views) × StepsTo k s e.0 e.1 answer next × Runs k next events answers s'

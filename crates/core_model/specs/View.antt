@@ -34,7 +34,7 @@ pub record Snapshot : Type 0 where
   pub word : ℕ
 
 -- what was seen last of a shared word: by which ticket, and how many exchanges had been won and superblocks taken by then
-pub record Look : Type 0 where
+pub record LastLook : Type 0 where
   pub word : ℕ
   pub ticket : Option ℕ
   pub wins : ℕ
@@ -61,8 +61,8 @@ pub record View : Type 0 where
   pub seen_link : Option ℕ
   pub seen_anchor : Option Snapshot
   -- last looks at the mark and at each head
-  pub used_look : Look
-  pub head_looks : List Look
+  pub used_look : LastLook
+  pub head_looks : List LastLook
   -- by word index, what is known of own words
   pub volatile : List (Option ℕ)
   pub durable : List (Option ℕ)

@@ -13,7 +13,7 @@ ghost use Rattle.core_model.specs.Memory.{Memory, memory_of, table_index};
 ghost use Rattle.core_model.specs.View.{Setup, View, times_own};
 ghost use Rattle.core_model.specs.Guards.{IsOwn, MayStep};
 ghost use Rattle.core_model.specs.Sound.{Good, Sound};
-ghost use Rattle.core_model.specs.Steps.{Keeps, State, IsSoundState, Runs, words_after, seat_after};
+ghost use Rattle.core_model.specs.Steps.{Keeps, TableState, IsSoundState, Runs, words_after, seat_after};
 ghost use Rattle.core_model.specs.Splitting.{Choice, remaining, given_off};
 ghost use Rattle.core_model.specs.Opening.{AreOwners, IsOwnerOf, setup_of, opened_view, opened_state};
 ghost use Rattle.core_model.specs.Held.{IsHeld, IsHeldBy, IsFirm, volatile_image, durable_image};
@@ -40,10 +40,10 @@ pub fn every_step_keeps_the_heap_sound()
 /// Whatever the seats do, in whatever order, the shared words and the views stay sound, and each
 /// mixture of volatile and durable words names each held block.
 pub fn every_list_of_events_keeps_the_heap_sound()
-    ensures sound { (k : Setup) (s s' : State) (events : List (ℕ × Event))
+    ensures sound { (k : Setup) (s s' : TableState) (events : List (ℕ × Event))
         (answers : List StepAnswer) → IsSoundState k s → Runs k s events answers s'
         → IsSoundState k s' }
-    ensures firm { (k : Setup) (s s' : State) (events : List (ℕ × Event))
+    ensures firm { (k : Setup) (s s' : TableState) (events : List (ℕ × Event))
         (answers : List StepAnswer) → IsSoundState k s → Runs k s events answers s'
         → IsFirm k.capacity s'.words s'.views }
 {}
@@ -51,7 +51,7 @@ pub fn every_list_of_events_keeps_the_heap_sound()
 /// The same events from the same state have one outcome: the same answers, and the same words and
 /// views.
 pub fn a_list_of_events_has_one_outcome()
-    ensures { (k : Setup) (s one other : State) (events : List (ℕ × Event))
+    ensures { (k : Setup) (s one other : TableState) (events : List (ℕ × Event))
         (answers answers' : List StepAnswer) → Runs k s events answers one
         → Runs k s events answers' other → (answers ≡ answers') × (one ≡ other) }
 {}
@@ -77,7 +77,7 @@ pub fn an_opened_heap_is_sound()
     ensures running { (words : List ℕ) (held : List Block) (budget seats : ℕ)
         (block_owners root_owners : List ℕ) → IsReady words held
         → AreOwners held seats block_owners root_owners
-        → (events : List (ℕ × Event)) (answers : List StepAnswer) (s : State)
+        → (events : List (ℕ × Event)) (answers : List StepAnswer) (s : TableState)
         → Runs (setup_of words budget)
         (opened_state (setup_of words budget) held block_owners root_owners seats) events
         answers s
@@ -85,7 +85,7 @@ pub fn an_opened_heap_is_sound()
     ensures firm { (words : List ℕ) (held : List Block) (budget seats : ℕ)
         (block_owners root_owners : List ℕ) → IsReady words held
         → AreOwners held seats block_owners root_owners
-        → (events : List (ℕ × Event)) (answers : List StepAnswer) (s : State)
+        → (events : List (ℕ × Event)) (answers : List StepAnswer) (s : TableState)
         → Runs (setup_of words budget)
         (opened_state (setup_of words budget) held block_owners root_owners seats) events
         answers s
@@ -102,10 +102,10 @@ pub fn a_seat_may_be_split()
 
 /// Whatever a crash leaves of a sound state, or a close, names each held block.
 pub fn a_crash_leaves_each_held_block_named()
-    ensures crash { (k : Setup) (s : State) → IsSoundState k s → (image : Image)
+    ensures crash { (k : Setup) (s : TableState) → IsSoundState k s → (image : Image)
         → IsCrashImage (durable_image k.capacity s.words) image
         → (b : Block) → IsHeldBy s.views b → Names image (8 * b.first_word) b }
-    ensures closed { (k : Setup) (s : State) → IsSoundState k s → (image : Image)
+    ensures closed { (k : Setup) (s : TableState) → IsSoundState k s → (image : Image)
         → IsClosedImage (volatile_image k.capacity s.words) image
         → (b : Block) → IsHeldBy s.views b → Names image (8 * b.first_word) b }
 {}
@@ -113,14 +113,14 @@ pub fn a_crash_leaves_each_held_block_named()
 /// Whatever a crash leaves of a sound state, whose opened image has a good header, has one too; so
 /// does what it leaves of any state that the seats of an opened heap at rest come to.
 pub fn a_crash_leaves_a_good_header()
-    ensures sound { (k : Setup) (s : State) → IsSoundState k s
+    ensures sound { (k : Setup) (s : TableState) → IsSoundState k s
         → IsWellFormed (8 * length k.opened) (slice_index k.opened) → (image : Image)
         → IsCrashImage (durable_image k.capacity s.words) image
         → header_fault (8 * image_words k.capacity) image ≡ None }
     ensures running { (words : List ℕ) (held : List Block) (budget seats : ℕ)
         (block_owners root_owners : List ℕ) → IsReady words held
         → AreOwners held seats block_owners root_owners
-        → (events : List (ℕ × Event)) (answers : List StepAnswer) (s : State)
+        → (events : List (ℕ × Event)) (answers : List StepAnswer) (s : TableState)
         → Runs (setup_of words budget)
         (opened_state (setup_of words budget) held block_owners root_owners seats) events
         answers s
@@ -146,7 +146,7 @@ pub fn whatever_a_crash_leaves_reaches_the_same()
 
 /// A step that a seat may take works on a word of the shared table.
 pub fn a_step_works_on_a_word_of_the_table()
-    ensures { (k : Setup) (s : State) (i : ℕ) (v : View) (event : Event)
+    ensures { (k : Setup) (s : TableState) (i : ℕ) (v : View) (event : Event)
         → i < length s.views → get_or s.views i v ≡ v → IsSoundState k s
         → MayStep (memory_of k.capacity s.words) v event
         → table_index k.capacity (place_of v event) < length s.words }

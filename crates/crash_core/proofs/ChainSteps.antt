@@ -7,14 +7,14 @@ use Rattle.heap_model.specs.Counting.{times, total}
 use Rattle.heap_model.proofs.SizeLemmas.{two_words}
 use Rattle.crash_core.specs.declared.owners.BlockPlace.TheVariants as place
 use Rattle.crash_core.specs.declared.owners.BlockOwner.{BlockOwner}
-use Rattle.crash_core.specs.declared.owners.Seat.{Seat}
+use Rattle.crash_core.specs.declared.owners.SeatNotes.{SeatNotes}
 use Rattle.crash_core.specs.declared.state.CoreState.{CoreState}
 use Rattle.core_model.specs.Cells.{data_cell}
 use Rattle.core_model.specs.Memory.{volatile_at, next}
 use Rattle.core_model.specs.View.{Setup, View, of_class, times_block}
 use Rattle.core_model.specs.Effects.{chain, first_of}
 use Rattle.core_model.specs.Sound.{IsCutBlock}
-use Rattle.crash_core.specs.Standing.{place_for, no_block, IsPlace, HasBlocksOf, HasCaches, HasNewOwner, IsKept, Keeps}
+use Rattle.crash_core.specs.Standing.{place_for, no_block, IsPlace, HasBlocksOf, HasCaches, HasNewOwner, IsKept, KeepsViews}
 use Rattle.core_model.proofs.TotalLemmas.{total_at}
 use Rattle.core_model.proofs.PlaceLemmas.{and_is}
 use Rattle.core_model.proofs.BlockLemmas.{inside_of, walks_chain, total_lists}
@@ -39,7 +39,7 @@ pub walk_first : (f : ℕ → ℕ) (from : ℕ) (xs : List ℕ) → length xs �
 walk_first f from [] some walks = absurd (some refl)
 walk_first f from (x ∷ xs) some walks = sym walks.0
 
-module _ (c : CoreState) (k : Setup) (views : List View) (keeps : Keeps c k views) where
+module _ (c : CoreState) (k : Setup) (views : List View) (keeps : KeepsViews c k views) where
   -- the first word of a block, as it stands in the table
   pub raw_next : (b : ℕ) → start_word k.capacity 0 ≤ b → b < image_words k.capacity → next (memory_in c k) b ≡ get_or c.words.items b 0
   raw_next b from until = read_is k.capacity c.words.items (volatile_at (data_cell b)) (and_is _ _ (le-leb (start_word k.capacity 0) b from) (lt-ltb b (image_words k.capacity) until))
@@ -54,7 +54,7 @@ module _ (c : CoreState) (k : Setup) (views : List View) (keeps : Keeps c k view
   block_fits class d b is less cut = let r = (cut_range k.capacity class d b is less cut).1 in let n = keeps.blocks in let l = keeps.sound.long in (omega arith, omega arith)
 
 -- blocks that were nobody's come into an empty cache
-module _ (c : CoreState) (k : Setup) (views : List View) (i : ℕ) (v : View) (t : Seat) (keeps : Keeps c k views) (below : i < length views) (at : get_or views i v ≡ v)
+module _ (c : CoreState) (k : Setup) (views : List View) (i : ℕ) (v : View) (t : SeatNotes) (keeps : KeepsViews c k views) (below : i < length views) (at : get_or views i v ≡ v)
     (at_t : get_or c.seats.items i t ≡ t) (class : ℕ) (less : class < lists) (bs : List ℕ) (empty : of_class v.caches class ≡ [])
     (free : (b : ℕ) → 0 < times b bs → (times b bs ≡ 1) × (total (times_block b) views ≡ 0)) where
   kept : IsKept c i t v
@@ -75,7 +75,7 @@ module _ (c : CoreState) (k : Setup) (views : List View) (i : ℕ) (v : View) (t
       (λ b none. let o = kept.blocks b in let more = cached_more b in record { held = o.held; cached = (let h = o.cached in omega arith); batched = o.batched })
 
   pub blocks_theirs : (owners : List BlockOwner) → HasNewOwner c.blocks.items owners bs (record { seat = i; place = place.Cached })
-      → (j : ℕ) (s : Seat) (u : View) → j ≢ i → j < length views → get_or views j u ≡ u → IsKept c j s u → HasBlocksOf owners j u.small u.caches u.batch.blocks
+      → (j : ℕ) (s : SeatNotes) (u : View) → j ≢ i → j < length views → get_or views j u ≡ u → IsKept c j s u → HasBlocksOf owners j u.small u.caches u.batch.blocks
   blocks_theirs owners given j s u other below_j at_u h = given_theirs c.blocks.items owners i j bs place.Cached (λ b p. IsPlace b p u.small u.caches u.batch.blocks) other given
       (λ b some. no_place b (place_for j (get_or c.blocks.items b no_block)) u.small u.caches u.batch.blocks (h.blocks b) (let nobody = (free b some).1 in let theirs = total_at (times_block b) views j u below_j at_u in omega arith))
       h.blocks

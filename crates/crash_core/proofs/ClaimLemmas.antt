@@ -5,7 +5,7 @@ use Rattle.heap_model.specs.Counting.{times, without}
 use Rattle.crash_core.specs.declared.owners.Share.{Share}
 use Rattle.crash_core.specs.declared.owners.Share.TheVariants as share
 use Rattle.crash_core.specs.declared.owners.SuperblockOwner.{SuperblockOwner}
-use Rattle.crash_core.specs.declared.owners.Seat.{Seat}
+use Rattle.crash_core.specs.declared.owners.SeatNotes.{SeatNotes}
 use Rattle.crash_core.specs.declared.state.CoreState.{CoreState}
 use Rattle.core_model.specs.View.{View, Claim, Span, times_classed}
 use Rattle.core_model.specs.Effects.{claimed, claim_class, without_claim}
@@ -32,7 +32,7 @@ class_absent d (claim ∷ claims) none = elim (cases_eq claim.descriptor d) [
 ]
 
 -- a claim of a superblock that was not the seat's
-pub claimed_kept : (c : CoreState) (i : ℕ) (t : Seat) (base : View) (owners : List SuperblockOwner) (d list : ℕ) (x : Share) → x ≡ listed list
+pub claimed_kept : (c : CoreState) (i : ℕ) (t : SeatNotes) (base : View) (owners : List SuperblockOwner) (d list : ℕ) (x : Share) → x ≡ listed list
     → c.superblocks.items ≡ set owners d (record { seat = i; share = x }) → d < length owners → share_for i (get_or owners d no_superblock) ≡ share.Nothing
     → HasSuperblocks owners i base.raw base.split base.cutting base.classed base.large
     → HasNotes t base → HasCaches t.caches base.caches → HasBatch t.batch base.batch → HasBlocksOf c.blocks.items i base.small base.caches base.batch.blocks → HasRoots c.roots.items i base.roots

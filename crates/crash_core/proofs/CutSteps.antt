@@ -11,7 +11,7 @@ use Rattle.heap_model.specs.Counting.{times, total, without}
 use Rattle.heap_model.proofs.SizeLemmas.{four_blocks}
 use Rattle.crash_core.specs.declared.owners.BlockPlace.TheVariants as place
 use Rattle.crash_core.specs.declared.owners.BlockOwner.{BlockOwner}
-use Rattle.crash_core.specs.declared.owners.Seat.{Seat}
+use Rattle.crash_core.specs.declared.owners.SeatNotes.{SeatNotes}
 use Rattle.crash_core.specs.declared.owners.Seen.{Seen}
 use Rattle.crash_core.specs.declared.owners.Share.{Share}
 use Rattle.crash_core.specs.declared.owners.Share.TheVariants as share
@@ -22,7 +22,7 @@ use Rattle.core_model.specs.View.{Setup, View, Claim, Span, of_class, times_bloc
 use Rattle.core_model.specs.Effects.{chain, steps, first_of, class_blocks, cleared, after_cut}
 use Rattle.core_model.specs.Guards.{MayCut}
 use Rattle.core_model.specs.Sound.{tally_of, times_cut, IsCutBlock, Good}
-use Rattle.crash_core.specs.Standing.{share_for, no_superblock, cutting_in, IsShare, HasSuperblocks, HasCaches, HasBlocksOf, HasNewOwner, IsKept, IsCore, Keeps, IsMoved, Decides, memory_at, snapshot}
+use Rattle.crash_core.specs.Standing.{share_for, no_superblock, cutting_in, IsShare, HasSuperblocks, HasCaches, HasBlocksOf, HasNewOwner, IsKept, IsCore, KeepsViews, IsMoved, Decides, memory_at, snapshot}
 use Rattle.core_model.proofs.TotalLemmas.{total_at}
 use Rattle.heap_model.proofs.ListLemmas.{one_at_most, without_at}
 use Rattle.core_model.proofs.CountLemmas.{length_steps, block_once}
@@ -99,7 +99,7 @@ cut_given_up owners i d raw split cutting classed large less some old =
       gone (share.Classed class) o = absurd (let a = o.is_cutting in omega arith)
       gone (share.Large count) o = absurd (let a = o.is_cutting in omega arith)
 
-module _ (c : CoreState) (k : Setup) (views : List View) (i : ℕ) (v : View) (t : Seat) (keeps : Keeps c k views) (below : i < length views) (at : get_or views i v ≡ v)
+module _ (c : CoreState) (k : Setup) (views : List View) (i : ℕ) (v : View) (t : SeatNotes) (keeps : KeepsViews c k views) (below : i < length views) (at : get_or views i v ≡ v)
     (at_t : get_or c.seats.items i t ≡ t) (d : ℕ) where
   kept : IsKept c i t v
   kept = keeps.each i t v below at_t at
@@ -291,7 +291,7 @@ cut_below c i d core less decides =
     let may = (decides core.setup core.views here.0 core.keeps below here.1).0 refl in
     let l = may.durable in let q = core.keeps.sound.good.shaped.durable.behind in let r = core.keeps.sound.good.shaped.durable.room in let g = core.keeps.capacity in omega arith
 
-pub cut_fits : (c : CoreState) (i d : ℕ) (t : Seat) (class : ℕ) → IsCore c → i < length c.seats.items → get_or c.seats.items i t ≡ t → Decides c i (λ m v. MayCut m v d) true → class ≡ info (memory_at c) d → CutFits c d class
+pub cut_fits : (c : CoreState) (i d : ℕ) (t : SeatNotes) (class : ℕ) → IsCore c → i < length c.seats.items → get_or c.seats.items i t ≡ t → Decides c i (λ m v. MayCut m v d) true → class ≡ info (memory_at c) d → CutFits c d class
 cut_fits c i d t class core less at_t decides class_is =
     let below : i < length core.views = subst (λ n. i < n) (sym core.keeps.seats) less in
     let here = entry_there core.views i below in

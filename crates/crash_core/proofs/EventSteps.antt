@@ -4,13 +4,13 @@ use Rattle.core_model.specs.declared.answer.StepAnswer.{StepAnswer}
 use Rattle.core_model.specs.declared.answer.StepAnswer.TheVariants.{Done, Stopped, NotNow}
 use Rattle.core_model.specs.declared.event.Event.{Event}
 use Rattle.core_model.specs.declared.event.Event.TheVariants.{Tick, Load, Store, Settle, LookUsed, TakeFresh, KeepUsed, LookHead, LookLink, Pop, Push, LookAnchor, TakeAll, Give}
-use Rattle.crash_core.specs.declared.owners.Seat.{Seat}
+use Rattle.crash_core.specs.declared.owners.SeatNotes.{SeatNotes}
 use Rattle.crash_core.specs.declared.state.CoreState.{CoreState}
 use Rattle.core_model.specs.View.{Setup, View, one_if_some}
 use Rattle.core_model.specs.Guards.{HasTicketFor}
 use Rattle.core_model.specs.Memory.{memory_of}
-use Rattle.core_model.specs.Steps.{State, StepsTo, is_done, stops, not_now, has_stopped, state_after, seat_after}
-use Rattle.crash_core.specs.Standing.{IsCore, Keeps, StandsFor, HasTicketAt, Takes, Follows, Steps, steps_done, steps_stopped, steps_not, state_of}
+use Rattle.core_model.specs.Steps.{TableState, StepsTo, is_done, stops, not_now, has_stopped, state_after, seat_after}
+use Rattle.crash_core.specs.Standing.{IsCore, KeepsViews, StandsFor, HasTicketAt, Takes, Follows, Steps, steps_done, steps_stopped, steps_not, state_of}
 use Rattle.crash_core.proofs.WordLemmas.{entry_is, entry_there}
 
 -- what a seat has by its ticket
@@ -47,23 +47,23 @@ ticket_of v ticket (TakeAll d) is has = ap one_if_some (sym is) ∙ has
 ticket_of v ticket (Give d) is has = ap one_if_some (sym is) ∙ has
 
 -- the state is the core's words with its views
-stated : (c : CoreState) (k : Setup) (s : State) → StandsFor c k s → s ≡ state_of c s.views
-stated c k s stands = ap (λ ws. let r : State = record { words = ws; views = s.views } in r) (sym stands.words)
+stated : (c : CoreState) (k : Setup) (s : TableState) → StandsFor c k s → s ≡ state_of c s.views
+stated c k s stands = ap (λ ws. let r : TableState = record { words = ws; views = s.views } in r) (sym stands.words)
 
-abbrev pub Next : CoreState → Setup → State → ℕ → Event → StepAnswer → Type 0
-Next new k s i event answer = (next : State) × StepsTo k s i event answer next × StandsFor new k next
+abbrev pub Next : CoreState → Setup → TableState → ℕ → Event → StepAnswer → Type 0
+Next new k s i event answer = (next : TableState) × StepsTo k s i event answer next × StandsFor new k next
 
-of_steps : (c new : CoreState) (k : Setup) (views : List View) (i : ℕ) (v : View) (event : Event) (answer : StepAnswer) → Keeps c k views → get_or views i v ≡ v → v.stopped ≡ None
+of_steps : (c new : CoreState) (k : Setup) (views : List View) (i : ℕ) (v : View) (event : Event) (answer : StepAnswer) → KeepsViews c k views → get_or views i v ≡ v → v.stopped ≡ None
     → Steps c new k views i v event answer → Next new k (state_of c views) i event answer
 of_steps c new k views i v event Done keeps at going (steps_done may on stands) = (state_after k (state_of c views) i v event, is_done v at may on, stands)
 of_steps c new k views i v event (Stopped ticket) keeps at going (steps_stopped step may at_end stands) = (state_after k (state_of c views) i v event, stops v step at may at_end, stands)
 of_steps c new k views i v event NotNow keeps at going (steps_not refused same) = (state_of c views, not_now v at going refused, subst (λ x. StandsFor x k (state_of c views)) (sym same) (record { words = refl; keeps = keeps }))
 
-module _ (c : CoreState) (i : ℕ) (t : Seat) (event : Event) (less : i < length c.seats.items) (at_t : get_or c.seats.items i t ≡ t) where
-  by_views : (new : CoreState) (answer : StepAnswer) → ((k : Setup) (views : List View) → Keeps c k views → Next new k (state_of c views) i event answer) → Follows c i event answer new
+module _ (c : CoreState) (i : ℕ) (t : SeatNotes) (event : Event) (less : i < length c.seats.items) (at_t : get_or c.seats.items i t ≡ t) where
+  by_views : (new : CoreState) (answer : StepAnswer) → ((k : Setup) (views : List View) → KeepsViews c k views → Next new k (state_of c views) i event answer) → Follows c i event answer new
   by_views new answer next = λ k s stands. subst (λ x. Next new k x i event answer) (sym (stated c k s stands)) (next k s.views stands.keeps)
 
-  seat_there : (k : Setup) (views : List View) → Keeps c k views → (v : View) × (get_or views i v ≡ v)
+  seat_there : (k : Setup) (views : List View) → KeepsViews c k views → (v : View) × (get_or views i v ≡ v)
   seat_there k views keeps = entry_there views i (subst (λ n. i < n) (sym keeps.seats) less)
 
   pub follows_stopped : (step : ℕ) → t.stopped ≡ Some step → Follows c i event (Stopped step) c
@@ -83,7 +83,7 @@ module _ (c : CoreState) (i : ℕ) (t : Seat) (event : Event) (less : i < length
       (takes k views v.0 keeps below v.1 (notes.stopped ∙ going) (ticket_for v.0 t.ticket event notes.ticket has)))
 
 -- a step leaves as many seats
-views_after : (k : Setup) (s : State) (i : ℕ) (event : Event) (answer : StepAnswer) (next : State) → StepsTo k s i event answer next → length next.views ≡ length s.views
+views_after : (k : Setup) (s : TableState) (i : ℕ) (event : Event) (answer : StepAnswer) (next : TableState) → StepsTo k s i event answer next → length next.views ≡ length s.views
 views_after k s i event Done next (is_done v at may on) = length-set s.views i (seat_after (memory_of k.capacity s.words) v event)
 views_after k s i event (Stopped ticket) next (stops v step at may on) = length-set s.views i (seat_after (memory_of k.capacity s.words) v event)
 views_after k s i event NotNow next (not_now v at going refused) = refl
@@ -98,6 +98,6 @@ pub core_after : (c new : CoreState) (i : ℕ) (event : Event) (answer : StepAns
 core_after c new i event answer core follows = let next = follows core.setup (state_of c core.views) (record { words = refl; keeps = core.keeps }) in
     record { setup = core.setup; views = next.0.views; keeps = next.2.keeps }
 
-pub same_ticket : (c : CoreState) (i : ℕ) (t : Seat) (event : Event) → get_or c.seats.items i t ≡ t → i < length c.seats.items → HasTicketAt t.ticket event
-    → (s : Seat) → get_or c.seats.items i s ≡ s → HasTicketAt s.ticket event
-same_ticket c i t event at_t less has s at_s = subst (λ (x : Seat). HasTicketAt x.ticket event) (sym at_t ∙ entry_is c.seats.items i t s less ∙ at_s) has
+pub same_ticket : (c : CoreState) (i : ℕ) (t : SeatNotes) (event : Event) → get_or c.seats.items i t ≡ t → i < length c.seats.items → HasTicketAt t.ticket event
+    → (s : SeatNotes) → get_or c.seats.items i s ≡ s → HasTicketAt s.ticket event
+same_ticket c i t event at_t less has s at_s = subst (λ (x : SeatNotes). HasTicketAt x.ticket event) (sym at_t ∙ entry_is c.seats.items i t s less ∙ at_s) has

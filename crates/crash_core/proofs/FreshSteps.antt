@@ -7,7 +7,7 @@ use Rattle.std.specs.Vec.{with_item}
 use Rattle.heap_model.specs.Counting.{times}
 use Rattle.core_model.specs.declared.answer.StepAnswer.TheVariants.{Done, NotNow}
 use Rattle.core_model.specs.declared.event.Event.TheVariants.{TakeFresh}
-use Rattle.crash_core.specs.declared.owners.Seat.{Seat}
+use Rattle.crash_core.specs.declared.owners.SeatNotes.{SeatNotes}
 use Rattle.crash_core.specs.declared.owners.Seen.{Seen}
 use Rattle.crash_core.specs.declared.owners.Share.TheVariants as share
 use Rattle.crash_core.specs.declared.owners.SuperblockOwner.{SuperblockOwner}
@@ -18,7 +18,7 @@ use Rattle.core_model.specs.Effects.{seen, cleared, steps, taken_fresh, lost}
 use Rattle.core_model.specs.Guards.{IsThere}
 use Rattle.core_model.specs.Sound.{Good}
 use Rattle.core_model.specs.Steps.{seat_after}
-use Rattle.crash_core.specs.Standing.{share_for, no_superblock, IsShare, IsKept, IsRange, Keeps, Steps, snapshot}
+use Rattle.crash_core.specs.Standing.{share_for, no_superblock, IsShare, IsKept, IsRange, KeepsViews, Steps, snapshot}
 use Rattle.core_model.proofs.TotalLemmas.{total_at}
 use Rattle.core_model.proofs.FrameLemmas.{below_is, below_not, times_steps}
 use Rattle.heap_model.proofs.ListLemmas.{times_append}
@@ -28,7 +28,7 @@ use Rattle.crash_core.proofs.ShareLemmas.{no_share}
 use Rattle.crash_core.proofs.RangeLemmas.{range_mine, range_theirs}
 use Rattle.crash_core.proofs.WordLemmas.{entry_is}
 
-module _ (c : CoreState) (k : Setup) (views : List View) (i : ℕ) (v : View) (t : Seat) (keeps : Keeps c k views) (below_i : i < length views) (at : get_or views i v ≡ v)
+module _ (c : CoreState) (k : Setup) (views : List View) (i : ℕ) (v : View) (t : SeatNotes) (keeps : KeepsViews c k views) (below_i : i < length views) (at : get_or views i v ≡ v)
     (at_t : get_or c.seats.items i t ≡ t) where
   kept : IsKept c i t v
   kept = keeps.each i t v below_i at_t at
@@ -107,7 +107,7 @@ module _ (c : CoreState) (k : Setup) (views : List View) (i : ℕ) (v : View) (t
           roots = h.roots;
         })
       where
-        t' : Seat
+        t' : SeatNotes
         t' = record t { ticket = None; seen_used = Some word; seen_anchor = anchor }
 
         c' : CoreState
@@ -125,7 +125,7 @@ module _ (c : CoreState) (k : Setup) (views : List View) (i : ℕ) (v : View) (t
         won_it : seat_after (memory_in c k) v (TakeFresh n) ≡ taken_fresh v n
         won_it = pick (nat_eq (used (memory_in c k)) (seen v.seen_used)) (taken_fresh v n) (record (lost v) { seen_used = None }) test
 
-        fresh : (d : ℕ) → u ≤ d → (j : ℕ) (s : Seat) (w : View) → j < length views → get_or views j w ≡ w → IsKept c j s w → share_for j (get_or c.superblocks.items d no_superblock) ≡ share.Nothing
+        fresh : (d : ℕ) → u ≤ d → (j : ℕ) (s : SeatNotes) (w : View) → j < length views → get_or views j w ≡ w → IsKept c j s w → share_for j (get_or c.superblocks.items d no_superblock) ≡ share.Nothing
         fresh d low j s w b a h = let p = good.shaped.placed.one_place d in let e = as_seen in let none = below_not d (used (memory_in c k)) (omega arith) in
             let raw = total_at (times_raw d) views j w b a in let classed = total_at (λ (x : View). times_classed d x.classed) views j w b a in let large = total_at (λ (x : View). times_large d x.large) views j w b a in
             no_share d (share_for j (get_or c.superblocks.items d no_superblock)) w.raw w.split w.cutting w.classed w.large (h.superblocks d) (omega arith) (omega arith) (omega arith)

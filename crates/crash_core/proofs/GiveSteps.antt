@@ -14,7 +14,7 @@ use Rattle.core_model.specs.declared.event.Event.TheVariants.{Give}
 use Rattle.crash_core.specs.declared.owners.BlockPlace.TheVariants as place
 use Rattle.crash_core.specs.declared.owners.BlockOwner.{BlockOwner}
 use Rattle.crash_core.specs.declared.owners.Group.{Group}
-use Rattle.crash_core.specs.declared.owners.Seat.{Seat}
+use Rattle.crash_core.specs.declared.owners.SeatNotes.{SeatNotes}
 use Rattle.crash_core.specs.declared.owners.Seen.{Seen}
 use Rattle.crash_core.specs.declared.owners.Share.{Share}
 use Rattle.crash_core.specs.declared.owners.Share.TheVariants as share
@@ -26,7 +26,7 @@ use Rattle.core_model.specs.Effects.{chain, first_of, last_of, seen_word, seen_o
 use Rattle.core_model.specs.Guards.{IsThere, MayGive}
 use Rattle.core_model.specs.Sound.{tally_of, times_cut, IsCutBlock, Good}
 use Rattle.core_model.specs.Steps.{seat_after}
-use Rattle.crash_core.specs.Standing.{share_for, no_superblock, no_block, listed, batched_in, IsPlace, IsShare, HasBlocksOf, HasNewOwner, IsKept, IsCore, Keeps, Steps, Decides, memory_at}
+use Rattle.crash_core.specs.Standing.{share_for, no_superblock, no_block, listed, batched_in, IsPlace, IsShare, HasBlocksOf, HasNewOwner, IsKept, IsCore, KeepsViews, Steps, Decides, memory_at}
 use Rattle.core_model.proofs.TotalLemmas.{total_at}
 use Rattle.core_model.proofs.SoundLemmas.{batched}
 use Rattle.core_model.proofs.PlaceLemmas.{pick}
@@ -47,7 +47,7 @@ use Rattle.crash_core.proofs.WordLemmas.{entry_there}
 abbrev pub empty_group : Group
 empty_group = record { descriptor = 0; class = 0; first = 0; last = 0; count = 0; linked = false }
 
-trimmed_kept : (c : CoreState) (i : ℕ) (t : Seat) (v : View) → IsKept c i t v → IsKept c i t (trimmed v)
+trimmed_kept : (c : CoreState) (i : ℕ) (t : SeatNotes) (v : View) → IsKept c i t v → IsKept c i t (trimmed v)
 trimmed_kept c i t v h = record {
   notes = (let n = h.notes in record { ticket = n.ticket; stopped = n.stopped; seen_used = n.seen_used; seen_head = n.seen_head; seen_link = n.seen_link; seen_anchor = n.seen_anchor });
   caches = h.caches;
@@ -57,7 +57,7 @@ trimmed_kept c i t v h = record {
   roots = h.roots;
 }
 
-module _ (c : CoreState) (k : Setup) (views : List View) (i : ℕ) (v : View) (t : Seat) (keeps : Keeps c k views) (below : i < length views) (at : get_or views i v ≡ v)
+module _ (c : CoreState) (k : Setup) (views : List View) (i : ℕ) (v : View) (t : SeatNotes) (keeps : KeepsViews c k views) (below : i < length views) (at : get_or views i v ≡ v)
     (at_t : get_or c.seats.items i t ≡ t) where
   kept : IsKept c i t v
   kept = keeps.each i t v below at_t at
@@ -198,7 +198,7 @@ module _ (c : CoreState) (k : Setup) (views : List View) (i : ℕ) (v : View) (t
                 (λ b there. let o = once c k views i v t keeps below at at_t b in record { held = omega arith; cached = omega arith; batched = refl })
                 (λ b none. let o = kept.blocks b in record { held = o.held; cached = o.cached; batched = (let h = o.batched in omega arith) })
 
-            blocks_theirs : (j : ℕ) (s : Seat) (u : View) → j ≢ i → IsKept c j s u → HasBlocksOf blocks.items j u.small u.caches u.batch.blocks
+            blocks_theirs : (j : ℕ) (s : SeatNotes) (u : View) → j ≢ i → IsKept c j s u → HasBlocksOf blocks.items j u.small u.caches u.batch.blocks
             blocks_theirs j s u other h = given_theirs c.blocks.items blocks.items i j bs place.Nowhere (λ b p. IsPlace b p u.small u.caches u.batch.blocks) other given_bs
                 (λ b there. place_alone i j (get_or c.blocks.items b no_block) other (λ none. let o = (kept.blocks b).batched in let z = ap batched_in none in omega arith)) h.blocks
 
@@ -206,7 +206,7 @@ module _ (c : CoreState) (k : Setup) (views : List View) (i : ℕ) (v : View) (t
             w0 = record (won v) { batch = no_batch; seen_anchor = None; gives = v.gives + 1 }
 
             module _ (at_word left : ℕ) (here : at_word ≡ anchor_word d) (left_is : left ≡ given_anchor found ((t.batch.first - start_word c.geometry.capacity d) / words_of_class t.batch.class) t.batch.count (blocks_of t.batch.class)) where
-              abbrev t' : Seat
+              abbrev t' : SeatNotes
               t' = record t { ticket = None; seen_anchor = None; batch = empty_group }
 
               test : nat_eq (anchor (memory_in c k) d) (seen_word v.seen_anchor) ≡ true
@@ -268,7 +268,7 @@ module _ (c : CoreState) (k : Setup) (views : List View) (i : ℕ) (v : View) (t
                     long : d < length c.superblocks.items
                     long = let l = d_less in let n = keeps.superblocks in omega arith
 
-                    nothing : (j : ℕ) (s : Seat) (u : View) → j < length views → get_or views j u ≡ u → IsKept c j s u → share_for j (get_or c.superblocks.items d no_superblock) ≡ share.Nothing
+                    nothing : (j : ℕ) (s : SeatNotes) (u : View) → j < length views → get_or views j u ≡ u → IsKept c j s u → share_for j (get_or c.superblocks.items d no_superblock) ≡ share.Nothing
                     nothing j s u b a h = let none = on_anchor.not_here k (memory_in c k) views i v below at good d (batch_anchor v d) cut_d j u b a in
                         no_share d (share_for j (get_or c.superblocks.items d no_superblock)) u.raw u.split u.cutting u.classed u.large (h.superblocks d) (let z = none.0 in omega arith)
                         (elim (cases_lt 0 (times_classed d u.classed)) [
@@ -277,7 +277,7 @@ module _ (c : CoreState) (k : Setup) (views : List View) (i : ℕ) (v : View) (t
                         ]) none.1
 
 -- what fits when the batch is given
-pub record GiveFits (c : CoreState) (t : Seat) (d found : ℕ) : Type 0 where
+pub record GiveFits (c : CoreState) (t : SeatNotes) (d found : ℕ) : Type 0 where
   pub is_class : IsClass t.batch.class
   pub below : d < c.geometry.capacity
   pub low : start_word c.geometry.capacity d ≤ t.batch.first
@@ -286,7 +286,7 @@ pub record GiveFits (c : CoreState) (t : Seat) (d found : ℕ) : Type 0 where
   pub count : t.batch.count + anchor_count found ≤ blocks_of t.batch.class
   pub inside : (b : ℕ) → 0 < times b (chain (λ n. get_or c.words.items n 0) t.batch.first t.batch.count) → (b < length c.blocks.items) × (b < length c.words.items)
 
-pub give_fits : (c : CoreState) (i d : ℕ) (t : Seat) (word : Seen) (found : ℕ) → IsCore c → i < length c.seats.items → get_or c.seats.items i t ≡ t → IsThere t.ticket → t.seen_anchor ≡ Some word → Decides c i (λ m v. MayGive m v d) true
+pub give_fits : (c : CoreState) (i d : ℕ) (t : SeatNotes) (word : Seen) (found : ℕ) → IsCore c → i < length c.seats.items → get_or c.seats.items i t ≡ t → IsThere t.ticket → t.seen_anchor ≡ Some word → Decides c i (λ m v. MayGive m v d) true
     → found ≡ anchor (memory_at c) d → found ≡ word.word → GiveFits c t d found
 give_fits c i d t word found core less at_t ticket some decides found_is as_it_was =
     let below : i < length core.views = subst (λ n. i < n) (sym core.keeps.seats) less in
@@ -304,12 +304,12 @@ give_fits c i d t word found core less at_t ticket some decides found_is as_it_w
     }
 
 -- what fits of a batch that has blocks
-pub record BatchFits (c : CoreState) (t : Seat) : Type 0 where
+pub record BatchFits (c : CoreState) (t : SeatNotes) : Type 0 where
   pub is_class : IsClass t.batch.class
   pub below : t.batch.descriptor < c.geometry.capacity
   pub last : (start_word c.geometry.capacity 0 ≤ t.batch.last) × (t.batch.last < image_words c.geometry.capacity)
 
-pub batch_fits : (c : CoreState) (i : ℕ) (t : Seat) → IsCore c → i < length c.seats.items → get_or c.seats.items i t ≡ t → t.batch.count ≢ 0 → BatchFits c t
+pub batch_fits : (c : CoreState) (i : ℕ) (t : SeatNotes) → IsCore c → i < length c.seats.items → get_or c.seats.items i t ≡ t → t.batch.count ≢ 0 → BatchFits c t
 batch_fits c i t core less at_t some =
     let below : i < length core.views = subst (λ n. i < n) (sym core.keeps.seats) less in
     let here = entry_there core.views i below in record {

@@ -2,21 +2,21 @@
 use Rattle.std.proofs.Common.{◌≡◌, ◌≢◌, ℕ, ◌+◌, ◌<◌, ◌≤◌, ◌↔◌, inl, inr, true, cond, nat_eq, List, get_or, length, refl, ap, sym, subst, ◌∙◌, eq-eqb, eqb-true, arith}
 use Rattle.std.proofs.lemmas.Bool.{cases_eq}
 use Rattle.heap_model.specs.Words.{anchor_state, large_info}
-use Rattle.crash_core.specs.declared.owners.Seat.{Seat}
+use Rattle.crash_core.specs.declared.owners.SeatNotes.{SeatNotes}
 use Rattle.crash_core.specs.declared.owners.Share.{Share}
 use Rattle.crash_core.specs.declared.owners.Share.TheVariants as share
 use Rattle.crash_core.specs.declared.state.CoreState.{CoreState}
 use Rattle.core_model.specs.Memory.{info, anchor, durable_used, durable_info, memory_of}
 use Rattle.core_model.specs.View.{Setup, View}
 use Rattle.core_model.specs.Guards.{MayHoldLarge}
-use Rattle.crash_core.specs.Standing.{share_for, no_superblock, raw_in, split_in, IsKept, IsCore, Keeps, MayJoin, memory_at}
+use Rattle.crash_core.specs.Standing.{share_for, no_superblock, raw_in, split_in, IsKept, IsCore, KeepsViews, MayJoin, memory_at}
 use Rattle.core_model.proofs.PlaceLemmas.{pick, skip, not-eq}
 use Rattle.crash_core.proofs.StandingLemmas.{memory_in}
 
 pub mark_low : (c : CoreState) → IsCore c → durable_used (memory_at c) ≤ c.geometry.capacity
 mark_low c core = subst (λ n. durable_used (memory_of n c.words.items) ≤ n) core.keeps.capacity (let g = core.keeps.sound.good.shaped.durable in let a = g.behind in let b = g.room in omega arith)
 
-module _ (c : CoreState) (k : Setup) (views : List View) (i : ℕ) (v : View) (t : Seat) (keeps : Keeps c k views) (below_i : i < length views) (at : get_or views i v ≡ v)
+module _ (c : CoreState) (k : Setup) (views : List View) (i : ℕ) (v : View) (t : SeatNotes) (keeps : KeepsViews c k views) (below_i : i < length views) (at : get_or views i v ≡ v)
     (at_t : get_or c.seats.items i t ≡ t) (d n : ℕ) where
   kept : IsKept c i t v
   kept = keeps.each i t v below_i at_t at

@@ -5,7 +5,7 @@ use Rattle.heap_model.specs.Counting.{times, total}
 use Rattle.heap_model.specs.Rest.{list_numbers}
 use Rattle.heap_model.specs.Geometry.{largest_capacity_fits, lists}
 use Rattle.heap_model.specs.Words.{head_first, head_pops}
-use Rattle.crash_core.specs.declared.owners.Seat.{Seat}
+use Rattle.crash_core.specs.declared.owners.SeatNotes.{SeatNotes}
 use Rattle.crash_core.specs.declared.owners.Seen.{Seen}
 use Rattle.crash_core.specs.declared.state.CoreState.{CoreState}
 use Rattle.core_model.specs.Cells.{head_cell}
@@ -13,13 +13,13 @@ use Rattle.core_model.specs.Memory.{memory_of, table_length}
 use Rattle.core_model.specs.View.{Setup, View, one_if_some}
 use Rattle.core_model.specs.Effects.{seen_word, seen_of}
 use Rattle.core_model.specs.Guards.{IsThere}
-use Rattle.crash_core.specs.Standing.{IsKept, IsCore, Keeps, snapshot}
+use Rattle.crash_core.specs.Standing.{IsKept, IsCore, KeepsViews, snapshot}
 use Rattle.core_model.proofs.QuietLemmas.{not_there}
 use Rattle.core_model.proofs.TotalLemmas.{total_at, ne-eqb-none}
 use Rattle.core_model.proofs.ListLemmas.{number_once}
 use Rattle.crash_core.proofs.WordLemmas.{entry_there}
 
-module _ (c : CoreState) (k : Setup) (views : List View) (i : ℕ) (v : View) (t : Seat) (keeps : Keeps c k views) (below : i < length views) (at : get_or views i v ≡ v)
+module _ (c : CoreState) (k : Setup) (views : List View) (i : ℕ) (v : View) (t : SeatNotes) (keeps : KeepsViews c k views) (below : i < length views) (at : get_or views i v ≡ v)
     (at_t : get_or c.seats.items i t ≡ t) where
   pub kept : IsKept c i t v
   kept = keeps.each i t v below at_t at
@@ -56,7 +56,7 @@ pub record HeadFits (c : CoreState) (head : Seen) : Type 0 where
   pub superblocks : length c.superblocks.items ≡ c.geometry.capacity
   pub small : c.geometry.capacity ≤ 4096
 
-pub head_fits : (c : CoreState) (i : ℕ) (t : Seat) (head : Seen) → IsCore c → i < length c.seats.items → get_or c.seats.items i t ≡ t → t.seen_head ≡ Some head → HeadFits c head
+pub head_fits : (c : CoreState) (i : ℕ) (t : SeatNotes) (head : Seen) → IsCore c → i < length c.seats.items → get_or c.seats.items i t ≡ t → t.seen_head ≡ Some head → HeadFits c head
 head_fits c i t head core less at_t some =
     let below : i < length core.views = subst (λ n. i < n) (sym core.keeps.seats) less in
     let here = entry_there core.views i below in
@@ -84,7 +84,7 @@ pub record PopFits (head : Seen) : Type 0 where
   pub some : head_first head.word ≢ 0
   pub pops : head_pops head.word < 1099511627775
 
-pub pop_fits : (c : CoreState) (i : ℕ) (t : Seat) (head : Seen) (link : ℕ) → IsCore c → i < length c.seats.items → get_or c.seats.items i t ≡ t → t.seen_head ≡ Some head → t.seen_link ≡ Some link → IsThere t.ticket → PopFits head
+pub pop_fits : (c : CoreState) (i : ℕ) (t : SeatNotes) (head : Seen) (link : ℕ) → IsCore c → i < length c.seats.items → get_or c.seats.items i t ≡ t → t.seen_head ≡ Some head → t.seen_link ≡ Some link → IsThere t.ticket → PopFits head
 pop_fits c i t head link core less at_t some some_link ticket =
     let below : i < length core.views = subst (λ n. i < n) (sym core.keeps.seats) less in
     let here = entry_there core.views i below in

@@ -3,7 +3,7 @@ use Rattle.std.proofs.Common.{◌≡◌, ◌≢◌, ℕ, ◌+◌, ◌<◌, ◌�
 use Rattle.std.specs.Prelude.{Vec, Option}
 use Rattle.std.specs.declared.alloc.Global.{Global}
 use Rattle.std.specs.Vec.{with_item}
-use Rattle.crash_core.specs.declared.owners.Seat.{Seat}
+use Rattle.crash_core.specs.declared.owners.SeatNotes.{SeatNotes}
 use Rattle.crash_core.specs.declared.owners.Seen.{Seen}
 use Rattle.crash_core.specs.declared.owners.Share.{Share}
 use Rattle.crash_core.specs.declared.owners.Share.TheVariants as share
@@ -13,7 +13,7 @@ use Rattle.core_model.specs.View.{Setup, View, Span}
 use Rattle.core_model.specs.Effects.{cleared, span_count, without_range, after_large}
 use Rattle.core_model.specs.Guards.{MayHoldLarge}
 use Rattle.core_model.specs.Sound.{Good}
-use Rattle.crash_core.specs.Standing.{share_for, no_superblock, raw_in, split_in, cutting_in, classed_in, class_in, large_in, count_in, IsShare, IsRange, IsKept, IsCore, Keeps, IsMoved, Decides, snapshot}
+use Rattle.crash_core.specs.Standing.{share_for, no_superblock, raw_in, split_in, cutting_in, classed_in, class_in, large_in, count_in, IsShare, IsRange, IsKept, IsCore, KeepsViews, IsMoved, Decides, snapshot}
 use Rattle.core_model.proofs.PlaceLemmas.{pick, skip, not-eq}
 use Rattle.core_model.proofs.SpanLemmas.{range_is, range_not, without_range_in, without_range_out, cases_range}
 use Rattle.crash_core.proofs.StandingLemmas.{memory_in}
@@ -29,7 +29,7 @@ claimed_only share.Cutting some = absurd (omega arith)
 claimed_only (share.Classed class) some = absurd (omega arith)
 claimed_only (share.Large count) some = absurd (omega arith)
 
-module _ (c : CoreState) (k : Setup) (views : List View) (i : ℕ) (v : View) (t : Seat) (keeps : Keeps c k views) (below_i : i < length views) (at : get_or views i v ≡ v)
+module _ (c : CoreState) (k : Setup) (views : List View) (i : ℕ) (v : View) (t : SeatNotes) (keeps : KeepsViews c k views) (below_i : i < length views) (at : get_or views i v ≡ v)
     (at_t : get_or c.seats.items i t ≡ t) (d n : ℕ) (may : MayHoldLarge (memory_in c k) v d n) where
   kept : IsKept c i t v
   kept = keeps.each i t v below_i at_t at
@@ -115,7 +115,7 @@ module _ (c : CoreState) (k : Setup) (views : List View) (i : ℕ) (v : View) (t
           })
     ]
 
-pub large_all_fits : (c : CoreState) (i d n : ℕ) (t : Seat) → IsCore c → i < length c.seats.items → get_or c.seats.items i t ≡ t → Decides c i (λ m v. MayHoldLarge m v d n) true → (1 ≤ n) × (d + n ≤ length c.superblocks.items)
+pub large_all_fits : (c : CoreState) (i d n : ℕ) (t : SeatNotes) → IsCore c → i < length c.seats.items → get_or c.seats.items i t ≡ t → Decides c i (λ m v. MayHoldLarge m v d n) true → (1 ≤ n) × (d + n ≤ length c.superblocks.items)
 large_all_fits c i d n t core less at_t may =
     let below_i : i < length core.views = subst (λ m. i < m) (sym core.keeps.seats) less in
     let here = entry_there core.views i below_i in

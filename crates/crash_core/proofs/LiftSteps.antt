@@ -5,7 +5,7 @@ use Rattle.heap_model.specs.Geometry.{start_word, image_words}
 use Rattle.heap_model.specs.Counting.{times}
 use Rattle.crash_core.specs.declared.owners.BlockPlace.TheVariants as place
 use Rattle.crash_core.specs.declared.owners.Cache.{Cache}
-use Rattle.crash_core.specs.declared.owners.Seat.{Seat}
+use Rattle.crash_core.specs.declared.owners.SeatNotes.{SeatNotes}
 use Rattle.crash_core.specs.declared.state.CoreState.{CoreState}
 use Rattle.core_model.specs.Cells.{superblock_at}
 use Rattle.core_model.specs.Memory.{next, memory_of}
@@ -13,7 +13,7 @@ use Rattle.core_model.specs.View.{Setup, View, of_class}
 use Rattle.core_model.specs.Effects.{first_of, last_of, rest_of, after_lift}
 use Rattle.core_model.specs.Guards.{MayAlloc, MayLift}
 use Rattle.core_model.specs.Sound.{Good}
-use Rattle.crash_core.specs.Standing.{no_block, IsPlace, IsKept, Keeps, IsMoved, Decides, memory_at}
+use Rattle.crash_core.specs.Standing.{no_block, IsPlace, IsKept, KeepsViews, IsMoved, Decides, memory_at}
 use Rattle.core_model.proofs.TotalLemmas.{eq-eqb-one, ne-eqb-none}
 use Rattle.heap_model.proofs.ListLemmas.{times_append}
 use Rattle.core_model.proofs.BlockLemmas.{total_lists}
@@ -42,7 +42,7 @@ last_there [] some = absurd (omega arith)
 last_there (a ∷ []) some = let one = eq-eqb-one a a refl in omega arith
 last_there (a ∷ n ∷ bs) some = let rest = last_there (n ∷ bs) (omega arith) in omega arith
 
-module _ (c : CoreState) (k : Setup) (views : List View) (i : ℕ) (v : View) (t : Seat) (keeps : Keeps c k views) (below : i < length views) (at : get_or views i v ≡ v)
+module _ (c : CoreState) (k : Setup) (views : List View) (i : ℕ) (v : View) (t : SeatNotes) (keeps : KeepsViews c k views) (below : i < length views) (at : get_or views i v ≡ v)
     (at_t : get_or c.seats.items i t ≡ t) where
   kept : IsKept c i t v
   kept = keeps.each i t v below at_t at
@@ -154,5 +154,5 @@ module _ (c : CoreState) (k : Setup) (views : List View) (i : ℕ) (v : View) (t
       long_caches : class < length v.caches
       long_caches = moves.long_caches c k views i v t keeps below at at_t class may
 
-pub lift_allocs : (c : CoreState) (i class : ℕ) (t : Seat) → i < length c.seats.items → get_or c.seats.items i t ≡ t → Decides c i (λ m v. MayLift m v class) true → Decides c i (λ m v. MayAlloc v class) true
+pub lift_allocs : (c : CoreState) (i class : ℕ) (t : SeatNotes) → i < length c.seats.items → get_or c.seats.items i t ≡ t → Decides c i (λ m v. MayLift m v class) true → Decides c i (λ m v. MayAlloc v class) true
 lift_allocs c i class t less at_t may = λ k views v keeps below at. (λ e. lift_alloc c k views i v t keeps below at at_t class ((may k views v keeps below at).0 refl), λ a. refl)

@@ -7,7 +7,7 @@ use Rattle.heap_model.specs.Geometry.{lists}
 use Rattle.heap_model.specs.Words.{head_of, head_first, head_pops}
 use Rattle.core_model.specs.declared.answer.StepAnswer.TheVariants.{Done, NotNow}
 use Rattle.core_model.specs.declared.event.Event.TheVariants.{Pop, Push}
-use Rattle.crash_core.specs.declared.owners.Seat.{Seat}
+use Rattle.crash_core.specs.declared.owners.SeatNotes.{SeatNotes}
 use Rattle.crash_core.specs.declared.owners.Seen.{Seen}
 use Rattle.crash_core.specs.declared.owners.Share.{Share}
 use Rattle.crash_core.specs.declared.owners.Share.TheVariants as share
@@ -19,7 +19,7 @@ use Rattle.core_model.specs.Effects.{seen, seen_word, seen_of, before, cleared, 
 use Rattle.core_model.specs.Guards.{IsThere, MayPush, MayList, as_free, of_its_class}
 use Rattle.core_model.specs.Sound.{Good, KnowsHead}
 use Rattle.core_model.specs.Steps.{seat_after}
-use Rattle.crash_core.specs.Standing.{share_for, no_superblock, listed, IsShare, IsKept, Keeps, Steps, snapshot}
+use Rattle.crash_core.specs.Standing.{share_for, no_superblock, listed, IsShare, IsKept, KeepsViews, Steps, snapshot}
 use Rattle.core_model.proofs.TotalLemmas.{total_at}
 use Rattle.heap_model.proofs.ListLemmas.{one_at_most}
 use Rattle.core_model.proofs.ListLemmas.{in_lists_at, before_is}
@@ -34,7 +34,7 @@ pub claimed_going : (base : View) (d list : ℕ) → (claimed base d list).stopp
 claimed_going base d zero = refl
 claimed_going base d (suc n) = refl
 
-module _ (c : CoreState) (k : Setup) (views : List View) (i : ℕ) (v : View) (t : Seat) (keeps : Keeps c k views) (below : i < length views) (at : get_or views i v ≡ v)
+module _ (c : CoreState) (k : Setup) (views : List View) (i : ℕ) (v : View) (t : SeatNotes) (keeps : KeepsViews c k views) (below : i < length views) (at : get_or views i v ≡ v)
     (at_t : get_or c.seats.items i t ≡ t) where
   kept : IsKept c i t v
   kept = keeps.each i t v below at_t at
@@ -55,7 +55,7 @@ module _ (c : CoreState) (k : Setup) (views : List View) (i : ℕ) (v : View) (t
       let raw = total_at (times_raw d) views j u b a in let classed = total_at (λ (x : View). times_classed d x.classed) views j u b a in let large = total_at (λ (x : View). times_large d x.large) views j u b a in
       (omega arith, omega arith, omega arith)
 
-  nothing : (list d : ℕ) → list < lists → 0 < times d (good.shape.lists list) → (j : ℕ) (s : Seat) (u : View) → j < length views → get_or views j u ≡ u → IsKept c j s u
+  nothing : (list d : ℕ) → list < lists → 0 < times d (good.shape.lists list) → (j : ℕ) (s : SeatNotes) (u : View) → j < length views → get_or views j u ≡ u → IsKept c j s u
       → share_for j (get_or c.superblocks.items d no_superblock) ≡ share.Nothing
   nothing list d is some j s u b a h = let z = listed_alone list d is some j u b a in
       no_share d (share_for j (get_or c.superblocks.items d no_superblock)) u.raw u.split u.cutting u.classed u.large (h.superblocks d) z.0 z.1 z.2
@@ -124,7 +124,7 @@ module _ (c : CoreState) (k : Setup) (views : List View) (i : ℕ) (v : View) (t
             roots = h.roots;
           })
         where
-          t' : Seat
+          t' : SeatNotes
           t' = record t { ticket = None; seen_head = None; seen_link = None; seen_anchor = anchor }
 
           c' : CoreState
@@ -162,7 +162,7 @@ module _ (c : CoreState) (k : Setup) (views : List View) (i : ℕ) (v : View) (t
             seats = with_item c.seats i (record t { ticket = None; seen_head = None; seen_anchor = anchor });
           }) k views i v (Push d) Done
       push d may less word anchor word_new anchor_is = by_claim (nat_lt 0 (times d v.raw + times d v.split)) refl where
-        t' : Seat
+        t' : SeatNotes
         t' = record t { ticket = None; seen_head = None; seen_anchor = anchor }
 
         c' : CoreState
@@ -182,7 +182,7 @@ module _ (c : CoreState) (k : Setup) (views : List View) (i : ℕ) (v : View) (t
               claims_none list (as_free l is_zero claimed empty) o = let a = o.is_raw in let b = o.is_split in let e = o.is_cutting in let f = o.is_classed in let g = claimed.claimed in absurd (omega arith)
               claims_none list (of_its_class l apart classed class_is state_now) o = let f = o.is_classed in absurd (omega arith)
 
-        theirs : (j : ℕ) (s : Seat) (u : View) → j ≢ i → j < length views → get_or views j u ≡ u → IsKept c j s u → IsKept c' j s u
+        theirs : (j : ℕ) (s : SeatNotes) (u : View) → j ≢ i → j < length views → get_or views j u ≡ u → IsKept c j s u → IsKept c' j s u
         theirs j s u other b a h = record {
           notes = h.notes;
           caches = h.caches;

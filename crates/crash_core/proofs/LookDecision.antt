@@ -1,16 +1,16 @@
 -- When an anchor may be read, by what the core keeps.
 use Rattle.std.proofs.Common.{◌≡◌, ◌≢◌, ℕ, ◌+◌, ◌<◌, ◌≤◌, ◌↔◌, inl, inr, true, nat_eq, List, get_or, length, sym, ◌∙◌, eq-eqb, eqb-true, arith}
-use Rattle.crash_core.specs.declared.owners.Seat.{Seat}
+use Rattle.crash_core.specs.declared.owners.SeatNotes.{SeatNotes}
 use Rattle.crash_core.specs.declared.owners.Share.{Share}
 use Rattle.crash_core.specs.declared.state.CoreState.{CoreState}
 use Rattle.core_model.specs.View.{Setup, View}
 use Rattle.core_model.specs.Guards.{MayLookAt}
-use Rattle.crash_core.specs.Standing.{share_for, no_superblock, raw_in, split_in, classed_in, IsShare, IsKept, Keeps}
+use Rattle.crash_core.specs.Standing.{share_for, no_superblock, raw_in, split_in, classed_in, IsShare, IsKept, KeepsViews}
 use Rattle.core_model.proofs.SoundLemmas.{taken, batched}
 use Rattle.crash_core.proofs.StandingLemmas.{memory_in}
 use Rattle.crash_core.proofs.PushDecision.{settled_cut}
 
-module _ (c : CoreState) (k : Setup) (views : List View) (i : ℕ) (v : View) (t : Seat) (keeps : Keeps c k views) (below : i < length views) (at : get_or views i v ≡ v)
+module _ (c : CoreState) (k : Setup) (views : List View) (i : ℕ) (v : View) (t : SeatNotes) (keeps : KeepsViews c k views) (below : i < length views) (at : get_or views i v ≡ v)
     (at_t : get_or c.seats.items i t ≡ t) (d : ℕ) where
   kept : IsKept c i t v
   kept = keeps.each i t v below at_t at

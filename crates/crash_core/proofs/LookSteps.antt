@@ -5,7 +5,7 @@ use Rattle.heap_model.specs.Geometry.{lists, image_words, link_word}
 use Rattle.heap_model.specs.Words.{head_first}
 use Rattle.core_model.specs.declared.answer.StepAnswer.TheVariants.{Done, NotNow}
 use Rattle.core_model.specs.declared.event.Event.TheVariants.{LookUsed, LookHead, LookLink, LookAnchor, KeepUsed}
-use Rattle.crash_core.specs.declared.owners.Seat.{Seat}
+use Rattle.crash_core.specs.declared.owners.SeatNotes.{SeatNotes}
 use Rattle.crash_core.specs.declared.owners.Seen.{Seen}
 use Rattle.crash_core.specs.declared.state.CoreState.{CoreState}
 use Rattle.core_model.specs.Cells.{used_cell, head_cell, link_cell, anchor_cell, is_cell}
@@ -13,14 +13,14 @@ use Rattle.core_model.specs.Memory.{anchor, volatile_at, memory_of}
 use Rattle.core_model.specs.View.{Setup, View, one_if_some}
 use Rattle.core_model.specs.Effects.{seen, seen_word, before}
 use Rattle.core_model.specs.Guards.{IsThere, MayLookAt}
-use Rattle.crash_core.specs.Standing.{IsKept, Keeps, Steps, snapshot, memory_at}
+use Rattle.crash_core.specs.Standing.{IsKept, KeepsViews, Steps, snapshot, memory_at}
 use Rattle.core_model.proofs.QuietLemmas.{not_there}
 use Rattle.crash_core.proofs.StandingLemmas.{step_noted, step_not, memory_in}
 use Rattle.crash_core.proofs.KeptFacts as facts
 use Rattle.crash_core.proofs.WordLemmas.{entry_is, read_is, put_back}
 use Rattle.core_model.proofs.ListLemmas.{before_is}
 
-module _ (c : CoreState) (k : Setup) (views : List View) (i : ℕ) (v : View) (t : Seat) (keeps : Keeps c k views) (below : i < length views) (at : get_or views i v ≡ v)
+module _ (c : CoreState) (k : Setup) (views : List View) (i : ℕ) (v : View) (t : SeatNotes) (keeps : KeepsViews c k views) (below : i < length views) (at : get_or views i v ≡ v)
     (at_t : get_or c.seats.items i t ≡ t) (going : v.stopped ≡ None) where
   kept : IsKept c i t v
   kept = keeps.each i t v below at_t at

@@ -9,7 +9,7 @@ use Rattle.heap_model.proofs.SizeLemmas.{two_words}
 use Rattle.crash_core.specs.declared.owners.BlockPlace.{BlockPlace}
 use Rattle.crash_core.specs.declared.owners.BlockPlace.TheVariants as place
 use Rattle.crash_core.specs.declared.owners.Cache.{Cache}
-use Rattle.crash_core.specs.declared.owners.Seat.{Seat}
+use Rattle.crash_core.specs.declared.owners.SeatNotes.{SeatNotes}
 use Rattle.crash_core.specs.declared.state.CoreState.{CoreState}
 use Rattle.core_model.specs.Cells.{superblock_at}
 use Rattle.core_model.specs.Memory.{next, info, memory_of}
@@ -17,7 +17,7 @@ use Rattle.core_model.specs.View.{Setup, View, of_class, times_block}
 use Rattle.core_model.specs.Effects.{first_of, rest_of, after_alloc}
 use Rattle.core_model.specs.Guards.{MayAlloc}
 use Rattle.core_model.specs.Sound.{Good}
-use Rattle.crash_core.specs.Standing.{HasCaches, place_for, no_block, held_in, cached_in, batched_in, IsPlace, IsKept, IsCore, Keeps, IsMoved, Decides, memory_at}
+use Rattle.crash_core.specs.Standing.{HasCaches, place_for, no_block, held_in, cached_in, batched_in, IsPlace, IsKept, IsCore, KeepsViews, IsMoved, Decides, memory_at}
 use Rattle.core_model.proofs.TotalLemmas.{total_at, eq-eqb-one, ne-eqb-none}
 use Rattle.core_model.proofs.BlockLemmas.{inside_of, first_there, total_lists}
 use Rattle.core_model.proofs.OwnerLemmas.{in_lists_total}
@@ -45,7 +45,7 @@ rest_first f [] walks some = absurd (omega arith)
 rest_first f (b ∷ []) walks some = absurd (omega arith)
 rest_first f (b ∷ n ∷ bs) walks some = sym walks.1.0
 
-module _ (c : CoreState) (k : Setup) (views : List View) (i : ℕ) (v : View) (t : Seat) (keeps : Keeps c k views) (below : i < length views) (at : get_or views i v ≡ v)
+module _ (c : CoreState) (k : Setup) (views : List View) (i : ℕ) (v : View) (t : SeatNotes) (keeps : KeepsViews c k views) (below : i < length views) (at : get_or views i v ≡ v)
     (at_t : get_or c.seats.items i t ≡ t) where
   kept : IsKept c i t v
   kept = keeps.each i t v below at_t at
@@ -181,7 +181,7 @@ pub record AllocFits (c : CoreState) (class : ℕ) (e : Cache) : Type 0 where
   pub until : e.first < image_words c.geometry.capacity
   pub long : e.first < length c.blocks.items
 
-pub alloc_fits : (c : CoreState) (i class : ℕ) (t : Seat) → IsCore c → i < length c.seats.items → get_or c.seats.items i t ≡ t → Decides c i (λ m v. MayAlloc v class) true → AllocFits c class (get_or t.caches class no_cache)
+pub alloc_fits : (c : CoreState) (i class : ℕ) (t : SeatNotes) → IsCore c → i < length c.seats.items → get_or c.seats.items i t ≡ t → Decides c i (λ m v. MayAlloc v class) true → AllocFits c class (get_or t.caches class no_cache)
 alloc_fits c i class t core less at_t may =
     let below : i < length core.views = subst (λ n. i < n) (sym core.keeps.seats) less in
     let here = entry_there core.views i below in
@@ -195,5 +195,5 @@ alloc_fits c i class t core less at_t may =
       long = first_long c core.setup core.views i here.0 t core.keeps below here.1 at_t class holds;
     }
 
-pub retold : (old new : CoreState) (views : List View) (i : ℕ) (t t' : Seat) (w : View) → t ≡ t' → IsMoved old new views i t w → IsMoved old new views i t' w
+pub retold : (old new : CoreState) (views : List View) (i : ℕ) (t t' : SeatNotes) (w : View) → t ≡ t' → IsMoved old new views i t w → IsMoved old new views i t' w
 retold old new views i t t' w same moved = subst (λ x. IsMoved old new views i x w) same moved

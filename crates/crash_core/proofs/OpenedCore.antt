@@ -11,7 +11,7 @@ use Rattle.core_model.specs.Sound.{Sound}
 use Rattle.core_model.proofs.OpenLemmas.{length_tabulate, tabulate_at}
 use Rattle.core_model.proofs.OpenedLemmas.{opened}
 use Rattle.crash_core.specs.declared.owners.Cache.{Cache}
-use Rattle.crash_core.specs.declared.owners.Seat.{Seat}
+use Rattle.crash_core.specs.declared.owners.SeatNotes.{SeatNotes}
 use Rattle.crash_core.specs.declared.state.CoreState.{CoreState}
 use Rattle.crash_core.specs.OpenedOwners.{AreBlockOwners, AreSuperblockOwners}
 use Rattle.crash_core.specs.Standing.{HasCaches, IsKept, StandsFor}
@@ -21,7 +21,7 @@ abbrev pub empty_cache : Cache
 empty_cache = record { first = 0; count = 0 }
 
 -- a seat that has done nothing yet
-abbrev pub new_seat : Seat
+abbrev pub new_seat : SeatNotes
 new_seat = record {
   ticket = None;
   stopped = None;

@@ -9,7 +9,7 @@ use Rattle.heap_model.proofs.CountingLemmas.{one_if_true}
 use Rattle.heap_model.proofs.BlockLemmas.{block_step}
 use Rattle.heap_model.proofs.SizeLemmas.{two_words}
 use Rattle.crash_core.specs.declared.owners.BlockPlace.{BlockPlace}
-use Rattle.crash_core.specs.declared.owners.Seat.{Seat}
+use Rattle.crash_core.specs.declared.owners.SeatNotes.{SeatNotes}
 use Rattle.crash_core.specs.declared.owners.Share.{Share}
 use Rattle.crash_core.specs.declared.state.CoreState.{CoreState}
 use Rattle.core_model.specs.Cells.{Cell, info_cell, anchor_cell, link_cell, root_cell, data_cell, cell_at, superblock_at}
@@ -17,7 +17,7 @@ use Rattle.core_model.specs.Memory.{info, memory_of}
 use Rattle.core_model.specs.View.{Setup, View, times_own, times_raw, times_large, times_block, times_within, times_in_classes}
 use Rattle.core_model.specs.Guards.{IsOwn}
 use Rattle.core_model.specs.Sound.{Good, IsCutBlock}
-use Rattle.crash_core.specs.Standing.{share_for, place_for, no_superblock, no_block, raw_in, split_in, cutting_in, classed_in, large_in, held_in, cached_in, batched_in, IsShare, IsPlace, IsKept, Keeps, memory_at}
+use Rattle.crash_core.specs.Standing.{share_for, place_for, no_superblock, no_block, raw_in, split_in, cutting_in, classed_in, large_in, held_in, cached_in, batched_in, IsShare, IsPlace, IsKept, KeepsViews, memory_at}
 use Rattle.core_model.proofs.PlaceLemmas.{and_is}
 use Rattle.core_model.proofs.TotalLemmas.{ne-eqb-none}
 use Rattle.core_model.proofs.OwnerLemmas.{in_blocks, covered, which_class}
@@ -42,7 +42,7 @@ in_classes_word word b class n [] from until there = absurd (omega arith)
 in_classes_word word b class zero (bs ∷ lists) from until there = let here = within_word (words_of_class class) word b bs there from (subst (λ c. word < b + words_of_class c) (let e : class + 0 ≡ class = omega arith in e) until) in omega arith
 in_classes_word word b class (suc n) (bs ∷ lists) from until there = let rest = in_classes_word word b (class + 1) n lists from (subst (λ c. word < b + words_of_class c) (let e : class + suc n ≡ class + 1 + n = omega arith in e) until) there in omega arith
 
-module _ (c : CoreState) (k : Setup) (views : List View) (i : ℕ) (v : View) (t : Seat) (keeps : Keeps c k views) (below : i < length views) (at : get_or views i v ≡ v)
+module _ (c : CoreState) (k : Setup) (views : List View) (i : ℕ) (v : View) (t : SeatNotes) (keeps : KeepsViews c k views) (below : i < length views) (at : get_or views i v ≡ v)
     (at_t : get_or c.seats.items i t ≡ t) where
   kept : IsKept c i t v
   kept = keeps.each i t v below at_t at

@@ -2,7 +2,7 @@
 use Rattle.std.proofs.Common.{◌≡◌, ◌≢◌, ℕ, zero, suc, ◌+◌, ◌<◌, ◌≤◌, ◌↔◌, inl, inr, Bool, true, false, cond, nat_eq, List, [], ◌∷◌, get_or, length, Some, refl, ap, sym, ◌∙◌, eq-eqb, eqb-true, true≢false, arith}
 use Rattle.std.proofs.lemmas.Bool.{cases_eq}
 use Rattle.heap_model.specs.Words.{head_first, anchor_state}
-use Rattle.crash_core.specs.declared.owners.Seat.{Seat}
+use Rattle.crash_core.specs.declared.owners.SeatNotes.{SeatNotes}
 use Rattle.crash_core.specs.declared.owners.Seen.{Seen}
 use Rattle.crash_core.specs.declared.owners.Share.{Share}
 use Rattle.crash_core.specs.declared.owners.Share.TheVariants as share
@@ -12,7 +12,7 @@ use Rattle.core_model.specs.Memory.{Memory, info, anchor, link, durable_used, me
 use Rattle.core_model.specs.View.{Setup, View, one_if_some, times_classed}
 use Rattle.core_model.specs.Effects.{seen_word, seen_of}
 use Rattle.core_model.specs.Guards.{MayList, as_free, of_its_class, MayPush}
-use Rattle.crash_core.specs.Standing.{share_for, no_superblock, raw_in, split_in, cutting_in, classed_in, IsKept, Keeps, memory_at}
+use Rattle.crash_core.specs.Standing.{share_for, no_superblock, raw_in, split_in, cutting_in, classed_in, IsKept, KeepsViews, memory_at}
 use Rattle.crash_core.proofs.StandingLemmas.{memory_in}
 use Rattle.crash_core.proofs.KeptFacts as facts
 
@@ -40,7 +40,7 @@ settled_cut (share.Large count) some = refl
 pub settled_some : (x : Share) → raw_in x + split_in x + classed_in x ≡ 0 → cutting_in x ≡ 0 → raw_in x + split_in x + cutting_in x + classed_in x ≡ 0
 settled_some x none cut = omega arith
 
-module _ (c : CoreState) (k : Setup) (views : List View) (i : ℕ) (v : View) (t : Seat) (keeps : Keeps c k views) (below : i < length views) (at : get_or views i v ≡ v)
+module _ (c : CoreState) (k : Setup) (views : List View) (i : ℕ) (v : View) (t : SeatNotes) (keeps : KeepsViews c k views) (below : i < length views) (at : get_or views i v ≡ v)
     (at_t : get_or c.seats.items i t ≡ t) (d : ℕ) where
   kept : IsKept c i t v
   kept = keeps.each i t v below at_t at

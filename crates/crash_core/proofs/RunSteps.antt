@@ -5,11 +5,11 @@ use Rattle.core_model.specs.declared.answer.StepAnswer.{StepAnswer}
 use Rattle.core_model.specs.declared.event.Event.{Event}
 use Rattle.crash_core.specs.declared.state.CoreState.{CoreState}
 use Rattle.core_model.specs.View.{Setup}
-use Rattle.core_model.specs.Steps.{State, StepsTo, Runs}
+use Rattle.core_model.specs.Steps.{TableState, StepsTo, Runs}
 use Rattle.crash_core.specs.Standing.{IsCore, Follows, RunsOn}
 
 -- one event more
-runs_more : (k : Setup) (s : State) (events : List (ℕ × Event)) (answers : List StepAnswer) (mid : State) (e : ℕ × Event) (answer : StepAnswer) (next : State) → Runs k s events answers mid → e.0 < length mid.views
+runs_more : (k : Setup) (s : TableState) (events : List (ℕ × Event)) (answers : List StepAnswer) (mid : TableState) (e : ℕ × Event) (answer : StepAnswer) (next : TableState) → Runs k s events answers mid → e.0 < length mid.views
     → StepsTo k mid e.0 e.1 answer next → Runs k s (events ++ e ∷ []) (answers ++ answer ∷ []) next
 runs_more k s [] [] mid e answer next runs below steps = (next, subst (λ x. e.0 < length x.views) (sym runs) below, subst (λ x. StepsTo k x e.0 e.1 answer next) (sym runs) steps, refl)
 runs_more k s [] (a ∷ answers) mid e answer next runs below steps = absurd runs

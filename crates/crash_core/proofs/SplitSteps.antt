@@ -5,7 +5,7 @@ use Rattle.std.specs.Prelude.{Vec, Option}
 use Rattle.std.specs.declared.alloc.Global.{Global}
 use Rattle.std.specs.Vec.{with_item}
 use Rattle.heap_model.specs.Geometry.{start_word}
-use Rattle.crash_core.specs.declared.owners.Seat.{Seat}
+use Rattle.crash_core.specs.declared.owners.SeatNotes.{SeatNotes}
 use Rattle.crash_core.specs.declared.owners.Seen.{Seen}
 use Rattle.crash_core.specs.declared.owners.Share.{Share}
 use Rattle.crash_core.specs.declared.owners.Share.TheVariants as share
@@ -17,7 +17,7 @@ use Rattle.core_model.specs.View.{Setup, View, Span, times_large}
 use Rattle.core_model.specs.Effects.{steps, cleared, span_count, without_span, after_split}
 use Rattle.core_model.specs.Guards.{MaySplit}
 use Rattle.core_model.specs.Sound.{Good}
-use Rattle.crash_core.specs.Standing.{share_for, no_superblock, raw_in, split_in, cutting_in, classed_in, class_in, large_in, count_in, IsShare, IsRange, IsKept, IsCore, Keeps, IsMoved, Decides, snapshot}
+use Rattle.crash_core.specs.Standing.{share_for, no_superblock, raw_in, split_in, cutting_in, classed_in, class_in, large_in, count_in, IsShare, IsRange, IsKept, IsCore, KeepsViews, IsMoved, Decides, snapshot}
 use Rattle.core_model.proofs.TotalLemmas.{total_at}
 use Rattle.core_model.proofs.FrameLemmas.{below_not}
 use Rattle.heap_model.proofs.ListLemmas.{times_append}
@@ -43,7 +43,7 @@ no_span e spans none = elim (cases_lt 0 (span_count e spans)) [
   | inr zero_count ↦ omega arith
 ]
 
-module _ (c : CoreState) (k : Setup) (views : List View) (i : ℕ) (v : View) (t : Seat) (keeps : Keeps c k views) (below_i : i < length views) (at : get_or views i v ≡ v)
+module _ (c : CoreState) (k : Setup) (views : List View) (i : ℕ) (v : View) (t : SeatNotes) (keeps : KeepsViews c k views) (below_i : i < length views) (at : get_or views i v ≡ v)
     (at_t : get_or c.seats.items i t ≡ t) (block : ℕ) where
   kept : IsKept c i t v
   kept = keeps.each i t v below_i at_t at
@@ -170,7 +170,7 @@ pub record SplitFits (c : CoreState) (i block : ℕ) : Type 0 where
   pub from : start_word c.geometry.capacity 0 ≤ block
   pub range : superblock_at c.geometry.capacity block + count_in (share_for i (get_or c.superblocks.items (superblock_at c.geometry.capacity block) no_superblock)) ≤ length c.superblocks.items
 
-pub split_fits : (c : CoreState) (i block : ℕ) (t : Seat) → IsCore c → i < length c.seats.items → get_or c.seats.items i t ≡ t → Decides c i (λ m v. MaySplit v block) true → SplitFits c i block
+pub split_fits : (c : CoreState) (i block : ℕ) (t : SeatNotes) → IsCore c → i < length c.seats.items → get_or c.seats.items i t ≡ t → Decides c i (λ m v. MaySplit v block) true → SplitFits c i block
 split_fits c i block t core less at_t may =
     let below_i : i < length core.views = subst (λ n. i < n) (sym core.keeps.seats) less in
     let here = entry_there core.views i below_i in

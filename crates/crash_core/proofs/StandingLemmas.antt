@@ -7,14 +7,14 @@ use Rattle.std.proofs.lemmas.Bool.{cases_eq}
 use Rattle.std.proofs.lemmas.List.{get_or-set_same, get_or-set_other}
 use Rattle.core_model.specs.declared.answer.StepAnswer.TheVariants.{Done, NotNow}
 use Rattle.core_model.specs.declared.event.Event.{Event}
-use Rattle.crash_core.specs.declared.owners.Seat.{Seat}
+use Rattle.crash_core.specs.declared.owners.SeatNotes.{SeatNotes}
 use Rattle.crash_core.specs.declared.state.CoreState.{CoreState}
 use Rattle.core_model.specs.Memory.{Memory, memory_of}
 use Rattle.core_model.specs.View.{Setup, View, one_if_some}
 use Rattle.core_model.specs.Guards.{IsAsSeen, IsReadyFor, HasTicketFor, MayStep}
 use Rattle.core_model.specs.Sound.{Sound}
 use Rattle.core_model.specs.Steps.{words_after, seat_after, state_after}
-use Rattle.crash_core.specs.Standing.{HasNotes, HasCaches, HasBatch, HasBlocksOf, HasSuperblocks, HasRoots, IsKept, Keeps, StandsFor, state_of, Steps, steps_done, steps_not}
+use Rattle.crash_core.specs.Standing.{HasNotes, HasCaches, HasBatch, HasBlocksOf, HasSuperblocks, HasRoots, IsKept, KeepsViews, StandsFor, state_of, Steps, steps_done, steps_not}
 use Rattle.core_model.proofs.StepLemmas.{Parts, parts}
 use Rattle.core_model.proofs.SoundLemmas.{sound_step}
 
@@ -29,11 +29,11 @@ pub record IsSameHeap (c c' : CoreState) : Type 0 where
   pub superblocks : length c'.superblocks.items ≡ length c.superblocks.items
   pub roots : c'.roots.items ≡ c.roots.items
 
-pub stands_after : (c c' : CoreState) (k : Setup) (views : List View) (i : ℕ) (v : View) (t t' : Seat) (event : Event) → Keeps c k views → i < length views → get_or views i v ≡ v
+pub stands_after : (c c' : CoreState) (k : Setup) (views : List View) (i : ℕ) (v : View) (t t' : SeatNotes) (event : Event) → KeepsViews c k views → i < length views → get_or views i v ≡ v
     → get_or c.seats.items i t ≡ t → MayStep (memory_in c k) v event
     → c'.words.items ≡ words_after k c.words.items v event → c'.seats.items ≡ set c.seats.items i t' → IsSameHeap c c'
     → IsKept c' i t' (seat_after (memory_in c k) v event)
-    → ((j : ℕ) (s : Seat) (u : View) → j ≢ i → j < length views → get_or views j u ≡ u → IsKept c j s u → IsKept c' j s u)
+    → ((j : ℕ) (s : SeatNotes) (u : View) → j ≢ i → j < length views → get_or views j u ≡ u → IsKept c j s u → IsKept c' j s u)
     → StandsFor c' k (state_after k (state_of c views) i v event)
 stands_after c c' k views i v t t' event keeps below at at_t may words seats same mine others = record {
   words = words;
@@ -67,12 +67,12 @@ pub may_step : (m : Memory) (v : View) (event : Event) → v.stopped ≡ None �
 may_step m v event going ticket ready = record { going = ap one_if_some going; ticket = ticket; ready = ready }
 
 -- the step is done
-pub step_done : (c c' : CoreState) (k : Setup) (views : List View) (i : ℕ) (v : View) (t t' : Seat) (event : Event) → Keeps c k views → i < length views → get_or views i v ≡ v
+pub step_done : (c c' : CoreState) (k : Setup) (views : List View) (i : ℕ) (v : View) (t t' : SeatNotes) (event : Event) → KeepsViews c k views → i < length views → get_or views i v ≡ v
     → get_or c.seats.items i t ≡ t → v.stopped ≡ None → HasTicketFor v event → IsReadyFor (memory_in c k) v event → IsAsSeen (memory_in c k) v event
     → (seat_after (memory_in c k) v event).stopped ≡ None
     → c'.words.items ≡ words_after k c.words.items v event → c'.seats.items ≡ set c.seats.items i t' → IsSameHeap c c'
     → IsKept c' i t' (seat_after (memory_in c k) v event)
-    → ((j : ℕ) (s : Seat) (u : View) → j ≢ i → j < length views → get_or views j u ≡ u → IsKept c j s u → IsKept c' j s u)
+    → ((j : ℕ) (s : SeatNotes) (u : View) → j ≢ i → j < length views → get_or views j u ≡ u → IsKept c j s u → IsKept c' j s u)
     → Steps c c' k views i v event Done
 step_done c c' k views i v t t' event keeps below at at_t going ticket ready seen on words seats same mine others =
     let may = may_step (memory_in c k) v event going ticket ready in
@@ -83,7 +83,7 @@ pub step_not : (c : CoreState) (k : Setup) (views : List View) (i : ℕ) (v : Vi
 step_not c k views i v event refused = steps_not (λ may. refused may.may.ready may.as_seen) refl
 
 -- a step that changes words, tickets and snapshots alone
-pub step_noted : (c : CoreState) (k : Setup) (views : List View) (i : ℕ) (v : View) (t t' : Seat) (words : Vec ℕ Global) (event : Event) → Keeps c k views → i < length views → get_or views i v ≡ v
+pub step_noted : (c : CoreState) (k : Setup) (views : List View) (i : ℕ) (v : View) (t t' : SeatNotes) (words : Vec ℕ Global) (event : Event) → KeepsViews c k views → i < length views → get_or views i v ≡ v
     → get_or c.seats.items i t ≡ t → v.stopped ≡ None → HasTicketFor v event → IsReadyFor (memory_in c k) v event → IsAsSeen (memory_in c k) v event
     → (seat_after (memory_in c k) v event).stopped ≡ None
     → words.items ≡ words_after k c.words.items v event
@@ -103,5 +103,5 @@ step_noted c k views i v t t' words event keeps below at at_t going ticket ready
     (λ j s u other less at_u h. record { notes = h.notes; caches = h.caches; batch = h.batch; blocks = h.blocks; superblocks = h.superblocks; roots = h.roots })
 
 -- the capacity of a seat is the core's
-pub seat_capacity : (c : CoreState) (k : Setup) (views : List View) (i : ℕ) (v : View) → Keeps c k views → i < length views → get_or views i v ≡ v → v.setup.capacity ≡ c.geometry.capacity
+pub seat_capacity : (c : CoreState) (k : Setup) (views : List View) (i : ℕ) (v : View) → KeepsViews c k views → i < length views → get_or views i v ≡ v → v.setup.capacity ≡ c.geometry.capacity
 seat_capacity c k views i v keeps below at = ap (λ (s : Setup). s.capacity) (keeps.sound.good.set_up i v below at).setup ∙ keeps.capacity

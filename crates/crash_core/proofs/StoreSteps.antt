@@ -7,7 +7,7 @@ use Rattle.core_model.specs.declared.answer.StepAnswer.TheVariants.{Done, NotNow
 use Rattle.core_model.specs.declared.event.Event.TheVariants.{Store, Settle}
 use Rattle.crash_core.specs.declared.owners.BlockPlace.{BlockPlace}
 use Rattle.crash_core.specs.declared.owners.BlockPlace.TheVariants as place
-use Rattle.crash_core.specs.declared.owners.Seat.{Seat}
+use Rattle.crash_core.specs.declared.owners.SeatNotes.{SeatNotes}
 use Rattle.crash_core.specs.declared.owners.Group.{Group}
 use Rattle.crash_core.specs.declared.owners.Share.{Share}
 use Rattle.crash_core.specs.declared.owners.Share.TheVariants as share
@@ -17,10 +17,10 @@ use Rattle.core_model.specs.Cells.{Cell, used_cell, head_cell, info_cell, anchor
 use Rattle.core_model.specs.Memory.{Memory, anchor, memory_of}
 use Rattle.core_model.specs.View.{Setup, View, Claim, Span, times_own, times_classed, times_large}
 use Rattle.core_model.specs.Effects.{claim_class, span_count, last_of, learn, used_up, stored, stored_anchor}
-use Rattle.core_model.specs.Guards.{IsThere, IsOwn, MayStore, MayAnchor, as_empty, as_full, MayChange}
+use Rattle.core_model.specs.Guards.{IsThere, IsOwn, MayStore, MayAnchor, as_empty, as_full, MayChangeWord}
 use Rattle.crash_core.specs.OwnWords.{IsPlain}
 use Rattle.core_model.specs.Sound.{Good}
-use Rattle.crash_core.specs.Standing.{HasBatch, share_for, place_for, cached_in, batched_in, no_superblock, no_block, anchored, split_in, cutting_in, classed_in, class_in, large_in, count_in, IsShare, HasSuperblocks, IsKept, Keeps, Steps, memory_at}
+use Rattle.crash_core.specs.Standing.{HasBatch, share_for, place_for, cached_in, batched_in, no_superblock, no_block, anchored, split_in, cutting_in, classed_in, class_in, large_in, count_in, IsShare, HasSuperblocks, IsKept, KeepsViews, Steps, memory_at}
 use Rattle.core_model.proofs.SoundLemmas.{in_table}
 use Rattle.core_model.proofs.PlaceLemmas.{index_at}
 use Rattle.core_model.proofs.TotalLemmas.{eq-eqb-one, ne-eqb-none}
@@ -114,7 +114,7 @@ anchored_going : (base : View) (d value : ℕ) → (stored_anchor base d value).
 anchored_going base d zero = refl
 anchored_going base d (suc value) = refl
 
-module _ (c : CoreState) (k : Setup) (views : List View) (i : ℕ) (v : View) (t : Seat) (keeps : Keeps c k views) (below : i < length views) (at : get_or views i v ≡ v)
+module _ (c : CoreState) (k : Setup) (views : List View) (i : ℕ) (v : View) (t : SeatNotes) (keeps : KeepsViews c k views) (below : i < length views) (at : get_or views i v ≡ v)
     (at_t : get_or c.seats.items i t ≡ t) (going : v.stopped ≡ None) where
   kept : IsKept c i t v
   kept = keeps.each i t v below at_t at
@@ -146,9 +146,9 @@ module _ (c : CoreState) (k : Setup) (views : List View) (i : ℕ) (v : View) (t
     own_index : IsOwn v (cell_at v.setup.capacity word) → index_of (cell_at v.setup.capacity word) ≡ word
     own_index own = index_at v.setup.capacity word (subst (λ n. is_cell n (cell_at v.setup.capacity word) ≡ true) (sym cap) (own_there own))
 
-    store_as : (c' : CoreState) (t' : Seat) → IsThere v.ticket → IsOwn v (cell_at v.setup.capacity word) → MayStore (memory_in c k) v cell value
+    store_as : (c' : CoreState) (t' : SeatNotes) → IsThere v.ticket → IsOwn v (cell_at v.setup.capacity word) → MayStore (memory_in c k) v cell value
         → c'.words.items ≡ set c.words.items word value → c'.seats.items ≡ set c.seats.items i t' → IsSameHeap c c' → (stored base cell value).stopped ≡ None → IsKept c' i t' (stored base cell value)
-        → ((j : ℕ) (s : Seat) (u : View) → j ≢ i → j < length views → get_or views j u ≡ u → IsKept c j s u → IsKept c' j s u)
+        → ((j : ℕ) (s : SeatNotes) (u : View) → j ≢ i → j < length views → get_or views j u ≡ u → IsKept c j s u → IsKept c' j s u)
         → Steps c c' k views i v (Store word value) Done
     store_as c' t' ticket own may words seats same on mine others =
         step_done c c' k views i v t t' (Store word value) keeps below at at_t going ticket (own, subst (λ x. MayStore (memory_in c k) v x value) (sym cell_is) may) tt
@@ -169,7 +169,7 @@ module _ (c : CoreState) (k : Setup) (views : List View) (i : ℕ) (v : View) (t
       roots = kept.roots;
     }
 
-    others_base : (j : ℕ) (s : Seat) (u : View) → j ≢ i → j < length views → get_or views j u ≡ u → IsKept c j s u → IsKept plainly j s u
+    others_base : (j : ℕ) (s : SeatNotes) (u : View) → j ≢ i → j < length views → get_or views j u ≡ u → IsKept c j s u → IsKept plainly j s u
     others_base j s u other less at_u h = record { notes = h.notes; caches = h.caches; batch = h.batch; blocks = h.blocks; superblocks = h.superblocks; roots = h.roots }
 
     pub plain : IsThere v.ticket → IsOwn v (cell_at v.setup.capacity word) → IsPlain cell → Steps c plainly k views i v (Store word value) Done
@@ -187,7 +187,7 @@ module _ (c : CoreState) (k : Setup) (views : List View) (i : ℕ) (v : View) (t
   pub no_link : (word value d : ℕ) → cell_at c.geometry.capacity word ≡ link_cell d → (x : Share) → x ≡ share_for i (get_or c.superblocks.items d no_superblock) → 0 < cutting_in x → Steps c c k views i v (Store word value) NotNow
   no_link word value d is x x_is some = not_stored word value (link_cell d) is (λ none. let o = (kept.superblocks d).is_cutting in let e = ap cutting_in x_is in omega arith)
 
-  pub data_stored : (word value : ℕ) (b : Group) → cell_at c.geometry.capacity word ≡ data_cell word → IsThere v.ticket → IsOwn v (cell_at v.setup.capacity word) → MayChange v word
+  pub data_stored : (word value : ℕ) (b : Group) → cell_at c.geometry.capacity word ≡ data_cell word → IsThere v.ticket → IsOwn v (cell_at v.setup.capacity word) → MayChangeWord v word
       → b ≡ record t.batch { linked = cond (nat_eq word t.batch.last) false t.batch.linked }
       → Steps c (record c { words = with_item c.words word value; seats = with_item c.seats i (record t { ticket = None; batch = b }) }) k views i v (Store word value) Done
   data_stored word value b is ticket own may b_is = store_as word value (data_cell word) is (record c { words = with_item c.words word value; seats = with_item c.seats i (record t { ticket = None; batch = b }) })
@@ -250,7 +250,7 @@ module _ (c : CoreState) (k : Setup) (views : List View) (i : ℕ) (v : View) (t
           roots = kept.roots;
         }
 
-module _ (c : CoreState) (k : Setup) (views : List View) (i : ℕ) (v : View) (t : Seat) (keeps : Keeps c k views) (below : i < length views) (at : get_or views i v ≡ v)
+module _ (c : CoreState) (k : Setup) (views : List View) (i : ℕ) (v : View) (t : SeatNotes) (keeps : KeepsViews c k views) (below : i < length views) (at : get_or views i v ≡ v)
     (at_t : get_or c.seats.items i t ≡ t) where
   kept_now : IsKept c i t v
   kept_now = keeps.each i t v below at_t at
@@ -285,13 +285,13 @@ module _ (c : CoreState) (k : Setup) (views : List View) (i : ℕ) (v : View) (t
     now = ap (λ n. anchor_state (anchor n d)) (sym same_now) ∙ ap anchor_state (sym word_is) ∙ sym state_is
 
   -- when a word may change
-  pub change_free : (word : ℕ) (p : BlockPlace) → p ≡ place_for i (get_or c.blocks.items word no_block) → cached_in p + batched_in p ≡ 0 → MayChange v word
+  pub change_free : (word : ℕ) (p : BlockPlace) → p ≡ place_for i (get_or c.blocks.items word no_block) → cached_in p + batched_in p ≡ 0 → MayChangeWord v word
   change_free word p is none = let o = kept_now.blocks word in let e = ap cached_in is in let f = ap batched_in is in record { uncached = (let g = o.cached in omega arith); in_batch = inl (let g = o.batched in omega arith) }
 
-  pub change_cached : (word : ℕ) → place.Cached ≡ place_for i (get_or c.blocks.items word no_block) → MayChange v word → ⊥
+  pub change_cached : (word : ℕ) → place.Cached ≡ place_for i (get_or c.blocks.items word no_block) → MayChangeWord v word → ⊥
   change_cached word is may = let o = kept_now.blocks word in let e = ap cached_in is in let g = o.cached in let u = may.uncached in omega arith
 
-  pub change_batched : (word : ℕ) → place.Batched ≡ place_for i (get_or c.blocks.items word no_block) → (nat_eq word t.batch.last ≡ true) ↔ MayChange v word
+  pub change_batched : (word : ℕ) → place.Batched ≡ place_for i (get_or c.blocks.items word no_block) → (nat_eq word t.batch.last ≡ true) ↔ MayChangeWord v word
   change_batched word is = let o = kept_now.blocks word in let e = ap cached_in is in let f = ap batched_in is in (
     λ same_word. record { uncached = (let g = o.cached in omega arith); in_batch = inr (eqb-true word t.batch.last same_word ∙ sym kept_now.batch.last) },
     λ may. eq-eqb word t.batch.last (elim may.in_batch [ inl none ↦ absurd (let g = o.batched in omega arith) | inr last ↦ last ∙ kept_now.batch.last ]),

@@ -11,7 +11,7 @@ use Rattle.core_model.specs.declared.answer.StepAnswer.TheVariants.{Done, NotNow
 use Rattle.core_model.specs.declared.event.Event.TheVariants.{TakeAll}
 use Rattle.crash_core.specs.declared.owners.BlockPlace.TheVariants as place
 use Rattle.crash_core.specs.declared.owners.BlockOwner.{BlockOwner}
-use Rattle.crash_core.specs.declared.owners.Seat.{Seat}
+use Rattle.crash_core.specs.declared.owners.SeatNotes.{SeatNotes}
 use Rattle.crash_core.specs.declared.owners.Seen.{Seen}
 use Rattle.crash_core.specs.declared.owners.Share.TheVariants as share
 use Rattle.crash_core.specs.declared.state.CoreState.{CoreState}
@@ -21,7 +21,7 @@ use Rattle.core_model.specs.Effects.{chain, seen_word, seen_of, claim_class, anc
 use Rattle.core_model.specs.Guards.{IsThere, MayTakeAll}
 use Rattle.core_model.specs.Sound.{tally_of, times_cut, IsAnchoredBy, IsCutBlock, Good}
 use Rattle.core_model.specs.Steps.{seat_after}
-use Rattle.crash_core.specs.Standing.{share_for, no_superblock, classed_in, IsShare, HasCaches, HasBlocksOf, HasNewOwner, IsKept, IsCore, Keeps, Steps, Decides, memory_at}
+use Rattle.crash_core.specs.Standing.{share_for, no_superblock, classed_in, IsShare, HasCaches, HasBlocksOf, HasNewOwner, IsKept, IsCore, KeepsViews, Steps, Decides, memory_at}
 use Rattle.core_model.proofs.SoundLemmas.{taken}
 use Rattle.core_model.proofs.PlaceLemmas.{pick}
 use Rattle.core_model.proofs.BlockLemmas.{walks_chain}
@@ -34,7 +34,7 @@ use Rattle.crash_core.proofs.MoveSteps.{no_cache}
 use Rattle.crash_core.proofs.ChainSteps.{chain_is, block_fits, none_of, walk_first, caches_given, blocks_given, blocks_theirs}
 use Rattle.crash_core.proofs.WordLemmas.{entry_is, entry_there}
 
-module _ (c : CoreState) (k : Setup) (views : List View) (i : ℕ) (v : View) (t : Seat) (keeps : Keeps c k views) (below : i < length views) (at : get_or views i v ≡ v)
+module _ (c : CoreState) (k : Setup) (views : List View) (i : ℕ) (v : View) (t : SeatNotes) (keeps : KeepsViews c k views) (below : i < length views) (at : get_or views i v ≡ v)
     (at_t : get_or c.seats.items i t ≡ t) (d : ℕ) where
   kept : IsKept c i t v
   kept = keeps.each i t v below at_t at
@@ -191,7 +191,7 @@ module _ (c : CoreState) (k : Setup) (views : List View) (i : ℕ) (v : View) (t
               roots = h.roots;
             })
           where
-            t' : Seat
+            t' : SeatNotes
             t' = record t { ticket = None; seen_anchor = None; caches = set t.caches class (record { first = first; count = count }) }
 
             c' : CoreState
@@ -224,7 +224,7 @@ pub record TakeFits (c : CoreState) (d found class : ℕ) : Type 0 where
   pub inside : (first count : ℕ) → first ≡ start_word c.geometry.capacity d + anchor_first found * words_of_class class → count ≡ anchor_count found
       → (b : ℕ) → 0 < times b (chain (λ n. get_or c.words.items n 0) first count) → (b < length c.blocks.items) × (b < length c.words.items)
 
-pub take_fits : (c : CoreState) (i d : ℕ) (t : Seat) (word : Seen) (found class : ℕ) → IsCore c → i < length c.seats.items → get_or c.seats.items i t ≡ t → t.seen_anchor ≡ Some word → Decides c i (λ m v. MayTakeAll v d) true
+pub take_fits : (c : CoreState) (i d : ℕ) (t : SeatNotes) (word : Seen) (found class : ℕ) → IsCore c → i < length c.seats.items → get_or c.seats.items i t ≡ t → t.seen_anchor ≡ Some word → Decides c i (λ m v. MayTakeAll v d) true
     → found ≡ anchor (memory_at c) d → found ≡ word.word → class ≡ info (memory_at c) d → TakeFits c d found class
 take_fits c i d t word found class core less at_t some decides found_is as_it_was class_is =
     let below : i < length core.views = subst (λ n. i < n) (sym core.keeps.seats) less in
@@ -235,7 +235,7 @@ take_fits c i d t word found class core less at_t some decides found_is as_it_wa
     }
 
 -- the class fits where the claim has one
-pub class_below : (c : CoreState) (i d : ℕ) (t : Seat) (class : ℕ) → IsCore c → i < length c.seats.items → get_or c.seats.items i t ≡ t → 0 < classed_in (share_for i (get_or c.superblocks.items d no_superblock)) → class ≡ info (memory_at c) d → class < 21
+pub class_below : (c : CoreState) (i d : ℕ) (t : SeatNotes) (class : ℕ) → IsCore c → i < length c.seats.items → get_or c.seats.items i t ≡ t → 0 < classed_in (share_for i (get_or c.superblocks.items d no_superblock)) → class ≡ info (memory_at c) d → class < 21
 class_below c i d t class core less at_t some class_is =
     let below : i < length core.views = subst (λ n. i < n) (sym core.keeps.seats) less in
     let here = entry_there core.views i below in take_class c core.setup core.views i here.0 t core.keeps below here.1 at_t d some class class_is

@@ -10,7 +10,7 @@ use Rattle.core_model.specs.declared.answer.StepAnswer.TheVariants.{Done, Stoppe
 use Rattle.core_model.specs.declared.event.Event.TheVariants.{Tick}
 use Rattle.core_model.specs.declared.event.Shift.{Shift}
 use Rattle.core_model.specs.declared.event.Shift.TheVariants.{Cut, Alloc, Free, Lift, Large, Split}
-use Rattle.crash_core.specs.declared.owners.Seat.{Seat}
+use Rattle.crash_core.specs.declared.owners.SeatNotes.{SeatNotes}
 use Rattle.crash_core.specs.declared.state.CoreState.{CoreState}
 use Rattle.core_model.specs.Cells.{superblock_at}
 use Rattle.core_model.specs.Memory.{Memory, info}
@@ -18,7 +18,7 @@ use Rattle.core_model.specs.View.{Setup, View}
 use Rattle.core_model.specs.Effects.{drew, stopped, shifted}
 use Rattle.core_model.specs.Guards.{MayShift, MayFree}
 use Rattle.core_model.specs.Steps.{seat_after}
-use Rattle.crash_core.specs.Standing.{held_in, place_for, no_block, HasBlocksOf, HasSuperblocks, HasRoots, IsKept, IsCore, Keeps, IsMoved, Moves, Decides, Steps, steps_stopped}
+use Rattle.crash_core.specs.Standing.{held_in, place_for, no_block, HasBlocksOf, HasSuperblocks, HasRoots, IsKept, IsCore, KeepsViews, IsMoved, Moves, Decides, Steps, steps_stopped}
 use Rattle.core_model.proofs.PlaceLemmas.{pick, skip, not-lt}
 use Rattle.core_model.proofs.OwnerLemmas.{in_lists_total}
 use Rattle.crash_core.proofs.StandingLemmas.{step_done, may_step, memory_in, stands_after}
@@ -41,7 +41,7 @@ free_held c i block core less decides =
     let o = ((core.keeps.each i seat.0 here.0 below seat.1 here.1).blocks block).held in omega arith
 
 -- a change says nothing of a ticket
-kept_with : (c c' : CoreState) (i : ℕ) (t : Seat) (m : Memory) (v : View) (shift : Shift) (found ticket : ℕ) → c'.blocks.items ≡ c.blocks.items → c'.superblocks.items ≡ c.superblocks.items → c'.roots.items ≡ c.roots.items
+kept_with : (c c' : CoreState) (i : ℕ) (t : SeatNotes) (m : Memory) (v : View) (shift : Shift) (found ticket : ℕ) → c'.blocks.items ≡ c.blocks.items → c'.superblocks.items ≡ c.superblocks.items → c'.roots.items ≡ c.roots.items
     → found ≡ ticket → IsKept c i t (shifted m v (Some shift)) → IsKept c' i (record t { ticket = Some ticket }) (shifted m (drew v found) (Some shift))
 kept_with c c' i t m v shift found ticket blocks superblocks roots is kept = by_shift shift kept where
   by_shift : (shift : Shift) → IsKept c i t (shifted m v (Some shift)) → IsKept c' i (record t { ticket = Some ticket }) (shifted m (drew v found) (Some shift))
@@ -102,7 +102,7 @@ going_on m v (Lift class) found = refl
 going_on m v (Large d n) found = refl
 going_on m v (Split block) found = refl
 
-module _ (c : CoreState) (k : Setup) (views : List View) (i : ℕ) (v : View) (t : Seat) (keeps : Keeps c k views) (below : i < length views) (at : get_or views i v ≡ v)
+module _ (c : CoreState) (k : Setup) (views : List View) (i : ℕ) (v : View) (t : SeatNotes) (keeps : KeepsViews c k views) (below : i < length views) (at : get_or views i v ≡ v)
     (at_t : get_or c.seats.items i t ≡ t) (shift : Shift) (may : MayShift (memory_in c k) v (Some shift)) (at_word ticket : ℕ) (here : at_word ≡ 2 * image_words c.geometry.capacity) (is : ticket ≡ get_or c.words.items at_word ticket) where
   kept : IsKept c i t v
   kept = keeps.each i t v below at_t at
@@ -128,7 +128,7 @@ module _ (c : CoreState) (k : Setup) (views : List View) (i : ℕ) (v : View) (t
         roots = kept.roots;
       }))
       (λ j s u other less at_u h. record { notes = h.notes; caches = h.caches; batch = h.batch; blocks = h.blocks; superblocks = h.superblocks; roots = h.roots })) where
-        t' : Seat
+        t' : SeatNotes
         t' = record t { ticket = None; stopped = Some ticket }
 
         c' : CoreState
@@ -137,7 +137,7 @@ module _ (c : CoreState) (k : Setup) (views : List View) (i : ℕ) (v : View) (t
         at_end : seat_after (memory_in c k) v (Tick (Some shift)) ≡ stopped v (memory_in c k).drawn
         at_end = skip (nat_lt (memory_in c k).drawn v.setup.budget) (shifted (memory_in c k) (drew v (memory_in c k).drawn) (Some shift)) (stopped v (memory_in c k).drawn) (not-lt (memory_in c k).drawn v.setup.budget (let f = found in let b = budget_is in omega arith))
 
-  pub draw_with : v.stopped ≡ None → ticket < c.budget → (new : CoreState) → IsMoved c new views i t (shifted (memory_in c k) v (Some shift)) → (changed : Seat) → changed ≡ get_or new.seats.items i changed
+  pub draw_with : v.stopped ≡ None → ticket < c.budget → (new : CoreState) → IsMoved c new views i t (shifted (memory_in c k) v (Some shift)) → (changed : SeatNotes) → changed ≡ get_or new.seats.items i changed
       → Steps c (record new { words = with_item new.words at_word (ticket + 1); seats = with_item new.seats i (record changed { ticket = Some ticket }) }) k views i v (Tick (Some shift)) Done
   draw_with going less new moved changed changed_is = step_done c c' k views i v t t' (Tick (Some shift)) keeps below at at_t going tt may tt
       (ap (λ (y : View). y.stopped) drawn ∙ going_on (memory_in c k) v shift (memory_in c k).drawn ∙ going)
@@ -146,7 +146,7 @@ module _ (c : CoreState) (k : Setup) (views : List View) (i : ℕ) (v : View) (t
       (record { capacity = ap (λ (g : Geometry). g.capacity) moved.geometry; budget = moved.budget; blocks = moved.blocks; superblocks = moved.superblocks; roots = moved.roots })
       (subst (IsKept c' i t') (sym drawn) (kept_with new c' i changed (memory_in c k) v shift (memory_in c k).drawn ticket refl refl refl found (subst (λ s. IsKept new i s (shifted (memory_in c k) v (Some shift))) (sym is_after) moved.mine)))
       (λ j s u other less_j at_u h. let o = moved.others j s u other less_j at_u h in record { notes = o.notes; caches = o.caches; batch = o.batch; blocks = o.blocks; superblocks = o.superblocks; roots = o.roots }) where
-        t' : Seat
+        t' : SeatNotes
         t' = record changed { ticket = Some ticket }
 
         c' : CoreState

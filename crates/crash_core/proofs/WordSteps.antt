@@ -6,7 +6,7 @@ use Rattle.heap_model.specs.Geometry.{image_words}
 use Rattle.heap_model.specs.Counting.{total}
 use Rattle.core_model.specs.declared.answer.StepAnswer.TheVariants.{Done, Stopped}
 use Rattle.core_model.specs.declared.event.Event.TheVariants.{Tick, Load, Settle}
-use Rattle.crash_core.specs.declared.owners.Seat.{Seat}
+use Rattle.crash_core.specs.declared.owners.SeatNotes.{SeatNotes}
 use Rattle.crash_core.specs.declared.state.CoreState.{CoreState}
 use Rattle.core_model.specs.Cells.{cell_at, is_cell, index_of}
 use Rattle.core_model.specs.Memory.{volatile_at}
@@ -15,7 +15,7 @@ use Rattle.core_model.specs.Effects.{drew, stopped}
 use Rattle.core_model.specs.Guards.{IsThere, IsOwn}
 use Rattle.core_model.specs.Sound.{Good}
 use Rattle.core_model.specs.Steps.{seat_after}
-use Rattle.crash_core.specs.Standing.{IsKept, IsCore, Keeps, Steps, steps_stopped, HasNotes}
+use Rattle.crash_core.specs.Standing.{IsKept, IsCore, KeepsViews, Steps, steps_stopped, HasNotes}
 use Rattle.core_model.proofs.StepLemmas.{parts}
 use Rattle.core_model.proofs.SoundLemmas.{in_table, own_cell}
 use Rattle.core_model.proofs.PlaceLemmas.{pick, skip, not-lt, index_at, index_within}
@@ -37,7 +37,7 @@ ticket_fits c at_word ticket core here is =
     let s = k.sound.good.adds.stopped in let m = stopped_most core.views in let few = k.few in let low = k.low in omega arith
 
 -- the ticket word has the count of draws, and a draw writes the next
-module _ (c : CoreState) (k : Setup) (views : List View) (keeps : Keeps c k views) (at_word ticket : ℕ) (here : at_word ≡ 2 * image_words c.geometry.capacity) (is : ticket ≡ get_or c.words.items at_word ticket) where
+module _ (c : CoreState) (k : Setup) (views : List View) (keeps : KeepsViews c k views) (at_word ticket : ℕ) (here : at_word ≡ 2 * image_words c.geometry.capacity) (is : ticket ≡ get_or c.words.items at_word ticket) where
   index : 2 * image_words k.capacity ≡ at_word
   index = let g = keeps.capacity in omega arith
 
@@ -47,7 +47,7 @@ module _ (c : CoreState) (k : Setup) (views : List View) (keeps : Keeps c k view
   pub drawn_more : set c.words.items at_word (ticket + 1) ≡ set c.words.items (2 * image_words k.capacity) ((memory_in c k).drawn + 1)
   drawn_more = ap₂ (λ n x. set c.words.items n (x + 1)) (sym index) (sym drawn_is)
 
-module _ (c : CoreState) (k : Setup) (views : List View) (i : ℕ) (v : View) (t : Seat) (keeps : Keeps c k views) (below : i < length views) (at : get_or views i v ≡ v)
+module _ (c : CoreState) (k : Setup) (views : List View) (i : ℕ) (v : View) (t : SeatNotes) (keeps : KeepsViews c k views) (below : i < length views) (at : get_or views i v ≡ v)
     (at_t : get_or c.seats.items i t ≡ t) (going : v.stopped ≡ None) where
   kept : IsKept c i t v
   kept = keeps.each i t v below at_t at
@@ -120,7 +120,7 @@ module _ (c : CoreState) (k : Setup) (views : List View) (i : ℕ) (v : View) (t
           roots = kept.roots;
         }))
         (λ j s u other less at_u h. record { notes = h.notes; caches = h.caches; batch = h.batch; blocks = h.blocks; superblocks = h.superblocks; roots = h.roots })) where
-          t' : Seat
+          t' : SeatNotes
           t' = record t { ticket = None; stopped = Some ticket }
 
           c' : CoreState

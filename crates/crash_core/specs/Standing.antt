@@ -15,7 +15,7 @@ use Rattle.crash_core.specs.declared.owners.SuperblockOwner.{SuperblockOwner}
 use Rattle.crash_core.specs.declared.owners.Seen.{Seen}
 use Rattle.crash_core.specs.declared.owners.Cache.{Cache}
 use Rattle.crash_core.specs.declared.owners.Group.{Group}
-use Rattle.crash_core.specs.declared.owners.Seat.{Seat}
+use Rattle.crash_core.specs.declared.owners.SeatNotes.{SeatNotes}
 use Rattle.crash_core.specs.declared.state.CoreState.{CoreState}
 use Rattle.heap_model.specs.Words.{anchor_state, empty_state, large_info}
 use Rattle.core_model.specs.Memory.{Memory, memory_of, info, anchor, durable_info}
@@ -23,7 +23,7 @@ use Rattle.core_model.specs.View.{Setup, View, Span, Claim, Batch, Snapshot, of_
 use Rattle.core_model.specs.Effects.{first_of, last_of, claim_class, span_count}
 use Rattle.core_model.specs.Guards.{IsThere, HasTicketFor, MayDo}
 use Rattle.core_model.specs.Sound.{Sound}
-use Rattle.core_model.specs.Steps.{State, StepsTo, Runs, state_after, seat_after}
+use Rattle.core_model.specs.Steps.{TableState, StepsTo, Runs, state_after, seat_after}
 
 -- where seat i has the block
 abbrev pub place_for : ℕ → BlockOwner → BlockPlace
@@ -98,7 +98,7 @@ snapshot None = None
 snapshot (Some s) = Some (record { of = s.of; word = s.word })
 
 -- the tickets and snapshots of a seat
-pub record HasNotes (t : Seat) (v : View) : Type 0 where
+pub record HasNotes (t : SeatNotes) (v : View) : Type 0 where
   pub ticket : v.ticket ≡ t.ticket
   pub stopped : v.stopped ≡ t.stopped
   pub seen_used : v.seen_used ≡ t.seen_used
@@ -151,7 +151,7 @@ pub record HasRoots (owners : List ℕ) (i : ℕ) (owned : List ℕ) : Type 0 wh
   pub is_owned : (n : ℕ) → times n owned ≡ one_if (nat_eq (get_or owners n (i + 1)) i)
 
 -- what is kept of seat i is of the view
-pub record IsKept (c : CoreState) (i : ℕ) (t : Seat) (v : View) : Type 0 where
+pub record IsKept (c : CoreState) (i : ℕ) (t : SeatNotes) (v : View) : Type 0 where
   pub notes : HasNotes t v
   pub caches : HasCaches t.caches v.caches
   pub batch : HasBatch t.batch v.batch
@@ -160,7 +160,7 @@ pub record IsKept (c : CoreState) (i : ℕ) (t : Seat) (v : View) : Type 0 where
   pub roots : HasRoots c.roots.items i v.roots
 
 -- what is kept of the words and of each view of a sound state
-pub record Keeps (c : CoreState) (k : Setup) (views : List View) : Type 0 where
+pub record KeepsViews (c : CoreState) (k : Setup) (views : List View) : Type 0 where
   pub sound : Sound k c.words.items views
   pub capacity : k.capacity ≡ c.geometry.capacity
   pub budget : k.budget ≡ c.budget
@@ -170,12 +170,12 @@ pub record Keeps (c : CoreState) (k : Setup) (views : List View) : Type 0 where
   pub blocks : length c.blocks.items ≡ image_words k.capacity
   pub superblocks : length c.superblocks.items ≡ k.capacity
   pub roots : length c.roots.items ≡ roots
-  pub each : (i : ℕ) (t : Seat) (v : View) → i < length views → get_or c.seats.items i t ≡ t → get_or views i v ≡ v → IsKept c i t v
+  pub each : (i : ℕ) (t : SeatNotes) (v : View) → i < length views → get_or c.seats.items i t ≡ t → get_or views i v ≡ v → IsKept c i t v
 
 -- the core stands for the state
-pub record StandsFor (c : CoreState) (k : Setup) (s : State) : Type 0 where
+pub record StandsFor (c : CoreState) (k : Setup) (s : TableState) : Type 0 where
   pub words : c.words.items ≡ s.words
-  pub keeps : Keeps c k s.views
+  pub keeps : KeepsViews c k s.views
 
 -- the owners of n superblocks from one on are another, and all others stay
 pub record IsRange (old new : List SuperblockOwner) (from n : ℕ) (owner : SuperblockOwner) : Type 0 where
@@ -197,10 +197,10 @@ memory_at c = memory_of c.geometry.capacity c.words.items
 pub record IsCore (c : CoreState) : Type 0 where
   pub setup : Setup
   pub views : List View
-  pub keeps : Keeps c setup views
+  pub keeps : KeepsViews c setup views
 
 -- the state that the words and views are
-abbrev pub state_of : CoreState → List View → State
+abbrev pub state_of : CoreState → List View → TableState
 state_of c views = record { words = c.words.items; views = views }
 
 -- of each state that the core stands for, the answer is what its step has, and then it stands for the state after the step
@@ -215,7 +215,7 @@ pub data Steps (old new : CoreState) (k : Setup) (views : List View) (i : ℕ) (
 
 -- the same, of a seat that has not stopped, and has a ticket where the event needs one
 abbrev pub Takes : CoreState → ℕ → Event → StepAnswer → CoreState → Type 0
-Takes old i event answer new = (k : Setup) (views : List View) (v : View) → Keeps old k views → i < length views
+Takes old i event answer new = (k : Setup) (views : List View) (v : View) → KeepsViews old k views → i < length views
     → get_or views i v ≡ v → v.stopped ≡ None → HasTicketFor v event → Steps old new k views i v event answer
 
 -- a ticket is there, where the event needs one
@@ -226,17 +226,17 @@ HasTicketAt ticket event = IsThere ticket
 
 -- of each state that the core stands for, the answer is what the event has there, and then it stands for what the event makes of the state
 abbrev pub Follows : CoreState → ℕ → Event → StepAnswer → CoreState → Type 0
-Follows old i event answer new = (k : Setup) (s : State) → StandsFor old k s
-    → (next : State) × StepsTo k s i event answer next × StandsFor new k next
+Follows old i event answer new = (k : Setup) (s : TableState) → StandsFor old k s
+    → (next : TableState) × StepsTo k s i event answer next × StandsFor new k next
 
 -- the same of a list of events, with an answer for each
 abbrev pub RunsOn : CoreState → List (ℕ × Event) → List StepAnswer → CoreState → Type 0
-RunsOn old events answers new = (k : Setup) (s : State) → StandsFor old k s
-    → (next : State) × Runs k s events answers next × StandsFor new k next
+RunsOn old events answers new = (k : Setup) (s : TableState) → StandsFor old k s
+    → (next : TableState) × Runs k s events answers next × StandsFor new k next
 
 -- of each state that the core stands for, a seat's parts have become those of another view; no word changed, nor its tickets
-pub record IsMoved (old new : CoreState) (views : List View) (i : ℕ) (t : Seat) (w : View) : Type 0 where
-  pub after : Seat
+pub record IsMoved (old new : CoreState) (views : List View) (i : ℕ) (t : SeatNotes) (w : View) : Type 0 where
+  pub after : SeatNotes
   pub seats : new.seats.items ≡ set old.seats.items i after
   pub ticket : after.ticket ≡ t.ticket
   pub stopped : after.stopped ≡ t.stopped
@@ -247,16 +247,16 @@ pub record IsMoved (old new : CoreState) (views : List View) (i : ℕ) (t : Seat
   pub superblocks : length new.superblocks.items ≡ length old.superblocks.items
   pub roots : new.roots.items ≡ old.roots.items
   pub mine : IsKept new i after w
-  pub others : (j : ℕ) (s : Seat) (u : View) → j ≢ i → j < length views → get_or views j u ≡ u
+  pub others : (j : ℕ) (s : SeatNotes) (u : View) → j ≢ i → j < length views → get_or views j u ≡ u
       → IsKept old j s u → IsKept new j s u
 
 abbrev pub Moves : CoreState → ℕ → (Memory → View → View) → CoreState → Type 0
-Moves old i change new = (k : Setup) (views : List View) (v : View) (t : Seat) → Keeps old k views → i < length views
+Moves old i change new = (k : Setup) (views : List View) (v : View) (t : SeatNotes) → KeepsViews old k views → i < length views
     → get_or views i v ≡ v → get_or old.seats.items i t ≡ t → IsMoved old new views i t (change (memory_of k.capacity old.words.items) v)
 
 -- the answer to whether a guard holds of the seat, in each state that the core stands for
 abbrev pub Decides : CoreState → ℕ → (Memory → View → Type 0) → Bool → Type 0
-Decides c i Guard answer = (k : Setup) (views : List View) (v : View) → Keeps c k views → i < length views → get_or views i v ≡ v
+Decides c i Guard answer = (k : Setup) (views : List View) (v : View) → KeepsViews c k views → i < length views → get_or views i v ≡ v
     → (answer ≡ true) ↔ Guard (memory_of k.capacity c.words.items) v
 
 -- superblock e may be one of the n from d on that become a large block

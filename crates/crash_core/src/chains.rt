@@ -6,7 +6,7 @@ ghost use Rattle.heap_model.specs.Geometry.{start_word};
 ghost use Rattle.heap_model.specs.Sizes.{IsClass, words_of_class};
 ghost use Rattle.heap_model.specs.Words.{anchor_first};
 ghost use Rattle.core_model.specs.declared.event.Event.TheVariants.{TakeAll, Give};
-ghost use Rattle.crash_core.specs.declared.owners.Seat.{Seat};
+ghost use Rattle.crash_core.specs.declared.owners.SeatNotes.{SeatNotes};
 ghost use Rattle.core_model.specs.Effects.{chain};
 ghost use Rattle.core_model.specs.Guards.{IsThere, MayTakeAll, MayGive};
 ghost use Rattle.crash_core.specs.Standing.{IsCore, HasNewOwner, Takes, Decides};
@@ -15,7 +15,7 @@ use crate::anchors::{
     FULL_ANCHOR, PARTIAL, anchor_after_give, anchor_after_take_all, anchor_count, anchor_first,
     anchor_state,
 };
-use crate::owners::{BlockOwner, BlockPlace, Cache, Group, Seat, Share, SuperblockOwner};
+use crate::owners::{BlockOwner, BlockPlace, Cache, Group, SeatNotes, Share, SuperblockOwner};
 use crate::reads::{anchor, info, next};
 use crate::shares::share;
 use crate::state::CoreState;
@@ -87,7 +87,7 @@ pub(crate) fn take_all(core: &mut CoreState, seat: usize, d: u64) -> StepAnswer
     };
     let mut caches = notes.caches;
     caches[class as usize] = Cache { first, count };
-    core.seats[seat] = Seat {
+    core.seats[seat] = SeatNotes {
         ticket: None,
         seen_anchor: None,
         caches,
@@ -127,7 +127,7 @@ fn may_take_all(core: &CoreState, seat: usize, d: u64) -> bool
 pub(crate) fn give(core: &mut CoreState, seat: usize, d: u64) -> StepAnswer
     requires core { IsCore core.old }
     requires seat { seat < length core.old.seats.items }
-    requires ticket { (t : Seat) → get_or core.old.seats.items seat t ≡ t → IsThere t.ticket }
+    requires ticket { (t : SeatNotes) → get_or core.old.seats.items seat t ≡ t → IsThere t.ticket }
     ensures { Takes core.old seat (Give d) result core.new }
 {
     let notes = core.seats[seat];
@@ -152,7 +152,7 @@ pub(crate) fn give(core: &mut CoreState, seat: usize, d: u64) -> StepAnswer
     let Group { first, count, .. } = batch;
     give_chain(&core.words, &mut core.blocks, first, count, owner);
     core.words[core.geometry.anchor(d) as usize] = given;
-    core.seats[seat] = Seat {
+    core.seats[seat] = SeatNotes {
         ticket: None,
         seen_anchor: None,
         batch: NO_BATCH,

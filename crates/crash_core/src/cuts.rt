@@ -10,7 +10,7 @@ ghost use Rattle.core_model.specs.Guards.{MayCut};
 ghost use Rattle.crash_core.specs.Standing.{IsCore, Decides, Moves, memory_at};
 
 use crate::chains::give_chain;
-use crate::owners::{BlockOwner, BlockPlace, Cache, Seat, Seen, Share, SuperblockOwner};
+use crate::owners::{BlockOwner, BlockPlace, Cache, SeatNotes, Seen, Share, SuperblockOwner};
 use crate::reads::{durable_info, durable_used, info, next};
 use crate::shares::share;
 use crate::state::CoreState;
@@ -88,7 +88,7 @@ pub(crate) fn cut(core: &mut CoreState, seat: usize, d: u64)
     };
     let mut caches = notes.caches;
     caches[class as usize] = Cache { first, count };
-    core.seats[seat] = Seat {
+    core.seats[seat] = SeatNotes {
         caches,
         seen_anchor: Seen::cleared(notes.seen_anchor, d, 1),
         ..notes

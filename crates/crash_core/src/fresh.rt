@@ -4,7 +4,7 @@ ghost use Rattle.std.specs.Prelude.{◌≡◌, ◌<◌, ◌≤◌, ◌+◌, leng
 ghost use Rattle.core_model.specs.declared.event.Event.TheVariants.{TakeFresh};
 ghost use Rattle.crash_core.specs.Standing.{IsCore, Takes, IsRange};
 
-use crate::owners::{Seat, Seen, Share, SuperblockOwner};
+use crate::owners::{SeatNotes, Seen, Share, SuperblockOwner};
 use crate::state::CoreState;
 use core_model::StepAnswer;
 use super_block::USED_WORD;
@@ -38,7 +38,7 @@ pub(crate) fn take_fresh(core: &mut CoreState, seat: usize, n: u64) -> StepAnswe
         share: Share::Raw,
     };
     give_range(&mut core.superblocks, used, n, owner);
-    core.seats[seat] = Seat {
+    core.seats[seat] = SeatNotes {
         ticket: None,
         seen_used: Some(used + n),
         seen_anchor: Seen::cleared(notes.seen_anchor, used, n),

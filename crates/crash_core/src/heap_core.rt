@@ -7,7 +7,7 @@ ghost use Rattle.core_model.specs.declared.event.Event.{Event};
 ghost use Rattle.core_model.specs.Held.{durable_image};
 ghost use Rattle.core_model.specs.Memory.{memory_of};
 ghost use Rattle.core_model.specs.Opening.{AreOwners, setup_of, opened_state};
-ghost use Rattle.core_model.specs.Steps.{State};
+ghost use Rattle.core_model.specs.Steps.{TableState};
 ghost use Rattle.core_model.specs.View.{Setup};
 ghost use Rattle.crash_core.specs.Standing.{StandsFor, Follows, RunsOn};
 
@@ -104,10 +104,10 @@ impl Core {
 
     /// An image that a crash may leave of the state.
     pub fn image<C: Chance>(&self, alloc: Global, scramble: &mut C) -> Result<Vec<u64>, AllocError>
-        ensures ok { IfOk result (λ image. (k : Setup) (s : State)
+        ensures ok { IfOk result (λ image. (k : Setup) (s : TableState)
             → StandsFor self.now.state k s
             → IsCrashImage (durable_image k.capacity s.words) (slice_index image.items)) }
-        ensures length { IfOk result (λ image. (k : Setup) (s : State)
+        ensures length { IfOk result (λ image. (k : Setup) (s : TableState)
             → StandsFor self.now.state k s → length image.items ≡ image_words k.capacity) }
     {
         crash_image(alloc, &self.state.words, self.state.geometry, scramble)
@@ -115,7 +115,7 @@ impl Core {
 
     /// How many tickets were drawn.
     pub fn tickets(&self) -> u64
-        ensures { (k : Setup) (s : State) → StandsFor self.now.state k s
+        ensures { (k : Setup) (s : TableState) → StandsFor self.now.state k s
             → result ≡ (memory_of k.capacity s.words).drawn }
     {
         self.state.words[(2 * self.state.geometry.length()) as usize]

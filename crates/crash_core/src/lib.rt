@@ -39,5 +39,5 @@ pub use laws::a_core_stands_for_a_sound_state;
 pub use opened::{NEW_SEAT, block_owners, superblock_owners};
 pub use opening::{Owners, opened_table};
 pub use own_words::part_at;
-pub use owners::{BlockOwner, BlockPlace, Cache, Group, Seat, Seen, Share, SuperblockOwner};
+pub use owners::{BlockOwner, BlockPlace, Cache, Group, SeatNotes, Seen, Share, SuperblockOwner};
 pub use part::Part;

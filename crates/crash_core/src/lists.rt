@@ -2,14 +2,14 @@
 
 ghost use Rattle.std.specs.Prelude.{◌≡◌, ◌<◌, length, get_or, true};
 ghost use Rattle.core_model.specs.declared.event.Event.TheVariants.{Pop, Push};
-ghost use Rattle.crash_core.specs.declared.owners.Seat.{Seat};
+ghost use Rattle.crash_core.specs.declared.owners.SeatNotes.{SeatNotes};
 ghost use Rattle.core_model.specs.Effects.{cleared};
 ghost use Rattle.core_model.specs.Guards.{IsThere, MayPush};
 ghost use Rattle.crash_core.specs.Standing.{IsCore, Takes, Decides, snapshot};
 
 use crate::anchors::{EMPTY, PARTIAL, anchor_state};
 use crate::heads::{head_after_pop, head_after_push, head_first};
-use crate::owners::{Seat, Seen, Share, SuperblockOwner};
+use crate::owners::{SeatNotes, Seen, Share, SuperblockOwner};
 use crate::reads::{anchor, durable_used, info, link};
 use crate::shares::share;
 use crate::state::CoreState;
@@ -35,7 +35,7 @@ impl Seen {
 pub(crate) fn pop(core: &mut CoreState, seat: usize) -> StepAnswer
     requires core { IsCore core.old }
     requires seat { seat < length core.old.seats.items }
-    requires ticket { (t : Seat) → get_or core.old.seats.items seat t ≡ t → IsThere t.ticket }
+    requires ticket { (t : SeatNotes) → get_or core.old.seats.items seat t ≡ t → IsThere t.ticket }
     ensures { Takes core.old seat Pop result core.new }
 {
     let notes = core.seats[seat];
@@ -55,7 +55,7 @@ pub(crate) fn pop(core: &mut CoreState, seat: usize) -> StepAnswer
         seat,
         share: Share::listed(head.of),
     };
-    core.seats[seat] = Seat {
+    core.seats[seat] = SeatNotes {
         ticket: None,
         seen_head: None,
         seen_link: None,
@@ -87,7 +87,7 @@ pub(crate) fn push(core: &mut CoreState, seat: usize, d: u64) -> StepAnswer
         seat,
         share: Share::Nothing,
     };
-    core.seats[seat] = Seat {
+    core.seats[seat] = SeatNotes {
         ticket: None,
         seen_head: None,
         seen_anchor: Seen::cleared(notes.seen_anchor, d, 1),

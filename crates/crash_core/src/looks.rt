@@ -6,7 +6,7 @@ ghost use Rattle.core_model.specs.Guards.{MayLookAt};
 ghost use Rattle.crash_core.specs.Standing.{IsCore, Takes, Decides};
 
 use crate::heads::head_first;
-use crate::owners::{Seat, Seen};
+use crate::owners::{SeatNotes, Seen};
 use crate::reads::anchor;
 use crate::shares::share;
 use crate::state::CoreState;
@@ -21,7 +21,7 @@ pub(crate) fn look_used(core: &mut CoreState, seat: usize) -> StepAnswer
 {
     let word = core.words[USED_WORD as usize];
     let notes = core.seats[seat];
-    core.seats[seat] = Seat {
+    core.seats[seat] = SeatNotes {
         ticket: None,
         seen_used: Some(word),
         ..notes
@@ -40,7 +40,7 @@ pub(crate) fn look_head(core: &mut CoreState, seat: usize, list: u64) -> StepAns
     }
     let word = core.words[(HEAD_WORD + list) as usize];
     let notes = core.seats[seat];
-    core.seats[seat] = Seat {
+    core.seats[seat] = SeatNotes {
         ticket: None,
         seen_head: Some(Seen { of: list, word }),
         seen_link: None,
@@ -64,7 +64,7 @@ pub(crate) fn look_link(core: &mut CoreState, seat: usize) -> StepAnswer
         return StepAnswer::NotNow;
     }
     let word = core.words[core.geometry.link(first - 1) as usize];
-    core.seats[seat] = Seat {
+    core.seats[seat] = SeatNotes {
         ticket: None,
         seen_link: Some(word),
         ..notes
@@ -84,7 +84,7 @@ pub(crate) fn keep_used(core: &mut CoreState, seat: usize) -> StepAnswer
     };
     let at = (core.geometry.length() + USED_WORD) as usize;
     core.words[at] = core.words[at].max(used);
-    core.seats[seat] = Seat {
+    core.seats[seat] = SeatNotes {
         ticket: None,
         ..notes
     };
@@ -102,7 +102,7 @@ pub(crate) fn look_anchor(core: &mut CoreState, seat: usize, d: u64) -> StepAnsw
         return StepAnswer::NotNow;
     }
     let word = anchor(core, d);
-    core.seats[seat] = Seat {
+    core.seats[seat] = SeatNotes {
         ticket: None,
         seen_anchor: Some(Seen { of: d, word }),
         ..notes

@@ -8,7 +8,7 @@ ghost use Rattle.core_model.specs.Effects.{after_alloc, after_free, after_lift};
 ghost use Rattle.core_model.specs.Guards.{MayAlloc, MayFree, MayLift};
 ghost use Rattle.crash_core.specs.Standing.{IsCore, Decides, Moves, memory_at, held_in, place_for, no_block};
 
-use crate::owners::{BlockOwner, BlockPlace, Cache, Group, Seat};
+use crate::owners::{BlockOwner, BlockPlace, Cache, Group, SeatNotes};
 use crate::reads::{info, next};
 use crate::shares::place;
 use crate::state::CoreState;
@@ -48,7 +48,7 @@ pub(crate) fn alloc(core: &mut CoreState, seat: usize, class: u64)
         first,
         count: cache.count - 1,
     };
-    core.seats[seat] = Seat { caches, ..notes };
+    core.seats[seat] = SeatNotes { caches, ..notes };
 }
 
 /// The class of a held block.
@@ -108,7 +108,7 @@ pub(crate) fn free(core: &mut CoreState, seat: usize, block: u64)
         first: block,
         count: cache.count + 1,
     };
-    core.seats[seat] = Seat { caches, ..notes };
+    core.seats[seat] = SeatNotes { caches, ..notes };
 }
 
 /// Whether the first block of the cache may go behind the batch: the batch is empty, or of the
@@ -164,7 +164,7 @@ pub(crate) fn lift(core: &mut CoreState, seat: usize, class: u64)
         count: notes.batch.count + 1,
         linked: true,
     };
-    core.seats[seat] = Seat {
+    core.seats[seat] = SeatNotes {
         caches,
         batch,
         ..notes

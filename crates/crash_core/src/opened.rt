@@ -9,7 +9,7 @@ ghost use Rattle.crash_core.specs.Standing.{StandsFor};
 use crate::chains::NO_BATCH;
 use crate::fresh::give_range;
 use crate::opening::{Owners, opened_table};
-use crate::owners::{BlockOwner, BlockPlace, Cache, Seat, Share, SuperblockOwner};
+use crate::owners::{BlockOwner, BlockPlace, Cache, SeatNotes, Share, SuperblockOwner};
 use crate::state::CoreState;
 use std::alloc::{AllocError, Global};
 use super_block::{Ready, SUPERBLOCK_WORDS};
@@ -27,7 +27,7 @@ const NO_SUPERBLOCK: SuperblockOwner = SuperblockOwner {
 };
 
 /// A seat that has done nothing yet.
-pub const NEW_SEAT: Seat = Seat {
+pub const NEW_SEAT: SeatNotes = SeatNotes {
     ticket: None,
     stopped: None,
     seen_used: None,

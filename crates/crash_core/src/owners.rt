@@ -72,7 +72,7 @@ pub struct Group {
 
 /// What the core keeps of a seat beside what is its own.
 #[derive(Clone, Copy)]
-pub struct Seat {
+pub struct SeatNotes {
     /// The ticket in hand, and the one at which it stopped.
     pub ticket: Option<u64>,
     pub stopped: Option<u64>,

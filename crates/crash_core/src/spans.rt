@@ -8,7 +8,7 @@ ghost use Rattle.crash_core.specs.Standing.{IsCore, Decides, Moves, MayJoin};
 
 use crate::anchors::{EMPTY, anchor_state};
 use crate::fresh::give_range;
-use crate::owners::{Seat, Seen, Share, SuperblockOwner};
+use crate::owners::{SeatNotes, Seen, Share, SuperblockOwner};
 use crate::reads::{anchor, durable_info, durable_used, info};
 use crate::shares::share;
 use crate::state::CoreState;
@@ -46,7 +46,7 @@ pub(crate) fn split(core: &mut CoreState, seat: usize, block: u64)
         share: Share::Split,
     };
     give_range(&mut core.superblocks, d, count, owner);
-    core.seats[seat] = Seat {
+    core.seats[seat] = SeatNotes {
         seen_anchor: Seen::cleared(notes.seen_anchor, d, count),
         ..notes
     };
@@ -69,7 +69,7 @@ pub(crate) fn hold_large(core: &mut CoreState, seat: usize, d: u64, n: u64)
         seat,
         share: Share::Large { count: n },
     };
-    core.seats[seat] = Seat {
+    core.seats[seat] = SeatNotes {
         seen_anchor: Seen::cleared(notes.seen_anchor, d, n),
         ..notes
     };

@@ -1,6 +1,6 @@
 //! What the core keeps of a state.
 
-use crate::owners::{BlockOwner, Seat, SuperblockOwner};
+use crate::owners::{BlockOwner, SeatNotes, SuperblockOwner};
 use super_block::Geometry;
 
 /// The words of the shared table, and what the core keeps of the seats' views: whose each block,
@@ -11,7 +11,7 @@ pub struct CoreState {
     pub geometry: Geometry,
     pub budget: u64,
     pub words: Vec<u64>,
-    pub seats: Vec<Seat>,
+    pub seats: Vec<SeatNotes>,
     pub blocks: Vec<BlockOwner>,
     pub superblocks: Vec<SuperblockOwner>,
     pub roots: Vec<u32>,

@@ -1,7 +1,7 @@
 //! One step of a seat, of whatever kind.
 
 ghost use Rattle.std.specs.Prelude.{◌≡◌, ◌↔◌, ◌<◌, length, get_or, true};
-ghost use Rattle.crash_core.specs.declared.owners.Seat.{Seat};
+ghost use Rattle.crash_core.specs.declared.owners.SeatNotes.{SeatNotes};
 ghost use Rattle.crash_core.specs.Standing.{IsCore, Takes, Follows, HasTicketAt};
 
 use crate::chains::{give, take_all};
@@ -47,7 +47,7 @@ fn has_ticket_for(ticket: Option<u64>, event: Event) -> bool
 fn take_step(core: &mut CoreState, seat: usize, event: Event) -> StepAnswer
     requires core { IsCore core.old }
     requires seat { seat < length core.old.seats.items }
-    requires ticket { (t : Seat) → get_or core.old.seats.items seat t ≡ t
+    requires ticket { (t : SeatNotes) → get_or core.old.seats.items seat t ≡ t
         → HasTicketAt t.ticket event }
     ensures { Takes core.old seat event result core.new }
 {

@@ -4,13 +4,13 @@ ghost use Rattle.std.specs.Prelude.{◌≡◌, ◌<◌, length, cond, nat_eq, tr
 ghost use Rattle.core_model.specs.declared.event.Event.TheVariants.{Store};
 ghost use Rattle.crash_core.specs.declared.part.Part.TheVariants.{Anchor, Link, Data};
 ghost use Rattle.core_model.specs.Cells.{cell_at, data_cell};
-ghost use Rattle.core_model.specs.Guards.{IsOwn, MayAnchor, MayChange};
+ghost use Rattle.core_model.specs.Guards.{IsOwn, MayAnchor, MayChangeWord};
 ghost use Rattle.crash_core.specs.OwnWords.{IsPart, IsPlain};
 ghost use Rattle.crash_core.specs.Standing.{IsCore, Takes, Decides};
 
 use crate::anchors::{EMPTY, FULL_ANCHOR, anchor_state};
 use crate::own_words::{is_own, part_at};
-use crate::owners::{BlockPlace, Group, Seat, Share, SuperblockOwner};
+use crate::owners::{BlockPlace, Group, SeatNotes, Share, SuperblockOwner};
 use crate::part::Part;
 use crate::reads::anchor;
 use crate::shares::{place, share};
@@ -46,7 +46,7 @@ fn store_plain(core: &mut CoreState, seat: usize, word: u64, value: u64) -> Step
 {
     let notes = core.seats[seat];
     core.words[word as usize] = value;
-    core.seats[seat] = Seat {
+    core.seats[seat] = SeatNotes {
         ticket: None,
         ..notes
     };
@@ -66,7 +66,7 @@ fn store_link(core: &mut CoreState, seat: usize, word: u64, d: u64, value: u64) 
         return StepAnswer::NotNow;
     }
     core.words[word as usize] = value;
-    core.seats[seat] = Seat {
+    core.seats[seat] = SeatNotes {
         ticket: None,
         ..notes
     };
@@ -90,7 +90,7 @@ fn store_anchor(core: &mut CoreState, seat: usize, word: u64, d: u64, value: u64
         seat,
         share: Share::anchored(value),
     };
-    core.seats[seat] = Seat {
+    core.seats[seat] = SeatNotes {
         ticket: None,
         ..notes
     };
@@ -134,7 +134,7 @@ fn store_data(core: &mut CoreState, seat: usize, word: u64, value: u64) -> StepA
         return StepAnswer::NotNow;
     }
     core.words[word as usize] = value;
-    core.seats[seat] = Seat {
+    core.seats[seat] = SeatNotes {
         ticket: None,
         batch: notes.batch.stored(word),
         ..notes
@@ -146,7 +146,7 @@ fn store_data(core: &mut CoreState, seat: usize, word: u64, value: u64) -> StepA
 fn may_change(core: &CoreState, seat: usize, word: u64) -> bool
     requires core { IsCore core.now }
     requires seat { seat < length core.now.seats.items }
-    ensures { Decides core.now seat (λ m v. MayChange v word) result }
+    ensures { Decides core.now seat (λ m v. MayChangeWord v word) result }
 {
     let last = core.seats[seat].batch.last;
     match place(core, seat, word) {

@@ -8,7 +8,7 @@ ghost use Rattle.crash_core.specs.Standing.{IsCore, Takes, Decides, Moves};
 
 use crate::cuts::{cut, may_cut};
 use crate::moves::{alloc, free, lift, may_alloc, may_free, may_lift};
-use crate::owners::Seat;
+use crate::owners::SeatNotes;
 use crate::spans::{hold_large, may_hold_large, may_split, split};
 use crate::state::CoreState;
 use crate::words::draw;
@@ -41,7 +41,7 @@ fn draw_with(core: &mut CoreState, seat: usize, shift: Shift) -> StepAnswer
     let ticket = core.words[at];
     if ticket >= core.budget {
         core.words[at] = ticket + 1;
-        core.seats[seat] = Seat {
+        core.seats[seat] = SeatNotes {
             ticket: None,
             stopped: Some(ticket),
             ..notes
@@ -51,7 +51,7 @@ fn draw_with(core: &mut CoreState, seat: usize, shift: Shift) -> StepAnswer
     make_shift(core, seat, shift);
     core.words[at] = ticket + 1;
     let changed = core.seats[seat];
-    core.seats[seat] = Seat {
+    core.seats[seat] = SeatNotes {
         ticket: Some(ticket),
         ..changed
     };

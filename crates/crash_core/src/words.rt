@@ -5,7 +5,7 @@ ghost use Rattle.core_model.specs.declared.event.Event.TheVariants.{Tick, Load, 
 ghost use Rattle.crash_core.specs.Standing.{IsCore, Takes};
 
 use crate::own_words::is_own;
-use crate::owners::Seat;
+use crate::owners::SeatNotes;
 use crate::state::CoreState;
 use core_model::StepAnswer;
 
@@ -19,7 +19,7 @@ pub(crate) fn load(core: &mut CoreState, seat: usize, word: u64) -> StepAnswer
     if !is_own(core, seat, word) {
         return StepAnswer::NotNow;
     }
-    core.seats[seat] = Seat {
+    core.seats[seat] = SeatNotes {
         ticket: None,
         ..notes
     };
@@ -54,14 +54,14 @@ pub(crate) fn draw(core: &mut CoreState, seat: usize) -> StepAnswer
     let ticket = core.words[at];
     core.words[at] = ticket + 1;
     if ticket >= core.budget {
-        core.seats[seat] = Seat {
+        core.seats[seat] = SeatNotes {
             ticket: None,
             stopped: Some(ticket),
             ..notes
         };
         return StepAnswer::Stopped { step: ticket };
     }
-    core.seats[seat] = Seat {
+    core.seats[seat] = SeatNotes {
         ticket: Some(ticket),
         ..notes
     };

@@ -1,8 +1,8 @@
 //! What must hold after each step, looked at slowly.
-use crate::fixtures::Always;
-use crate::plain::{Claim, Plain, anchor_word, at, head_word, link_word, put, sizes};
+use crate::plain::{ClaimKind, Plain, anchor_word, at, head_word, link_word, put, sizes};
 use crate::plain_guards::first_of;
 use crash_core::Core;
+use line_memory::ConstantChance;
 use region_header::read_header;
 use std::alloc::{AllocError, Global};
 use super_block::{Block, name};
@@ -31,7 +31,7 @@ fn names(image: &[u64], first_word: u64, words: u64) -> bool {
 
 /// Whether a crash leaves the durable words of the plain heap, by which each held block is named.
 pub fn keeps_held(alloc: Global, core: &Core, plain: &Plain) -> Result<bool, AllocError> {
-    let image = core.image(alloc, &mut Always(0))?;
+    let image = core.image(alloc, &mut ConstantChance(0))?;
     if image.as_slice() != crashed(alloc, plain)?.as_slice() {
         return Ok(false);
     }
@@ -75,7 +75,7 @@ fn places(alloc: Global, plain: &Plain) -> Result<(Vec<u64>, Vec<u64>), AllocErr
     for hand in &plain.hands {
         for (d, claim) in &hand.claims {
             match claim {
-                Claim::Classed(_) => classed.push(*d)?,
+                ClaimKind::Classed(_) => classed.push(*d)?,
                 _ => wholes.push(*d)?,
             }
         }

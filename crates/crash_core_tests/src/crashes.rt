@@ -2,13 +2,13 @@
 ghost use Rattle.std.specs.Prelude.{◌<◌, ℕ, Contains, IfOk};
 ghost use Rattle.core_model.specs.declared.event.Event.{Event};
 
-use crate::fixtures::{Always, DRAW, MANY, needs_ticket, opened, recovered, take_drawn};
+use crate::fixtures::{DRAW, MANY, needs_ticket, opened, recovered, take_drawn};
 use crate::pieces::ONE_FREE;
 use crate::schedules::parse;
 use crash_core::{Core, Event, StepAnswer, opened_table};
 use dictionary::{DictFilter, root_kinds};
 use heap_recover::{Was, recover};
-use line_memory::Chance;
+use line_memory::{Chance, ConstantChance};
 use std::alloc::Global;
 use std::process::Abort;
 use std::test::Fail;
@@ -63,7 +63,7 @@ fn steps_of_all_kinds_are_done_over_two_seats_and_eight(rt: HostRuntime) -> Resu
         for first in 0..seats {
             let mut core = opened(alloc, &heap, seats, MANY)?;
             run_all(&rt, &mut core, first)?;
-            let image = core.image(alloc, &mut Always(u64::MAX))?;
+            let image = core.image(alloc, &mut ConstantChance(u64::MAX))?;
             let left = recover(alloc, &image, &root_kinds(), &DictFilter)?;
             assert!(rt; left.was == Was::Dirty);
             let held = Block {

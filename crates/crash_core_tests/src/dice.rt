@@ -1,5 +1,5 @@
 //! Events that are drawn at random, many of which a seat may take.
-use crate::plain::{Claim, Hand, Plain, anchor_word, info_word, link_word};
+use crate::plain::{ClaimKind, PlainSeat, Plain, anchor_word, info_word, link_word};
 use crate::plain_guards::first_of;
 use crash_core::{Event, Shift};
 use rand_core::Rng;
@@ -30,7 +30,7 @@ impl Dice {
     }
 
     /// Any event, of numbers that mean something in a heap of three superblocks.
-    pub fn event(&mut self, plain: &Plain, hand: &Hand) -> Event {
+    pub fn event(&mut self, plain: &Plain, hand: &PlainSeat) -> Event {
         let d = match hand.claims.get(self.below(4) as usize) {
             Some((d, _)) => *d,
             None => self.below(4),
@@ -64,7 +64,7 @@ impl Dice {
     }
 
     /// Any change of what the seat has.
-    fn shift(&mut self, plain: &Plain, hand: &Hand, d: u64, class: u64) -> Shift {
+    fn shift(&mut self, plain: &Plain, hand: &PlainSeat, d: u64, class: u64) -> Shift {
         match self.below(6) {
             0 => Shift::Cut { d },
             1 => Shift::Alloc { class },
@@ -94,9 +94,9 @@ impl Dice {
     }
 
     /// A store that other events need, or any.
-    fn store(&mut self, plain: &Plain, hand: &Hand, d: u64) -> Event {
+    fn store(&mut self, plain: &Plain, hand: &PlainSeat, d: u64) -> Event {
         let i = self.below(4);
-        let is_cutting = hand.claim(d) == Some(Claim::Cutting);
+        let is_cutting = hand.claim(d) == Some(ClaimKind::Cutting);
         let choice = if is_cutting && self.below(8) != 0 {
             3
         } else {
@@ -126,7 +126,7 @@ impl Dice {
     }
 
     /// An event that the seat may take, if one is soon found.
-    pub fn allowed(&mut self, plain: &Plain, seat: usize, hand: &Hand) -> Event {
+    pub fn allowed(&mut self, plain: &Plain, seat: usize, hand: &PlainSeat) -> Event {
         for _ in 0..24 {
             let event = self.event(plain, hand);
             if plain.may(seat, event) {

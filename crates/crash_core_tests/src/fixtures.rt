@@ -18,16 +18,6 @@ pub const MANY: u64 = 1_000_000;
 /// A draw without a change.
 pub const DRAW: Event = Event::Tick { shift: None };
 
-/// A source that gives this number always.
-#[derive(Drop)]
-pub struct Always(pub u64);
-
-impl Chance for Always {
-    fn draw(&mut self) -> u64 {
-        self.0
-    }
-}
-
 /// Words of an image: at which word index, and what.
 pub type Words<'a> = &'a [(usize, u64)];
 

@@ -6,7 +6,7 @@ use super_block::Ready;
 
 /// How a seat claims a superblock.
 #[derive(Clone, Copy, PartialEq, Eq, Debug)]
-pub enum Claim {
+pub enum ClaimKind {
     Raw,
     Split,
     Cutting,
@@ -15,7 +15,7 @@ pub enum Claim {
 
 /// What a seat has, and what it saw. Blocks are told by their first words.
 #[derive(Drop)]
-pub struct Hand {
+pub struct PlainSeat {
     pub ticket: bool,
     pub held: Vec<u64>,
     pub cache_19: Vec<u64>,
@@ -23,7 +23,7 @@ pub struct Hand {
     pub batch: Vec<u64>,
     /// No store has changed the last block's link since it came into the batch.
     pub linked: bool,
-    pub claims: Vec<(u64, Claim)>,
+    pub claims: Vec<(u64, ClaimKind)>,
     /// The large blocks: the first superblock, and how many there are.
     pub large: Vec<(u64, u64)>,
     pub used: Option<u64>,
@@ -40,7 +40,7 @@ pub struct Plain {
     pub capacity: u64,
     pub words: Vec<u64>,
     pub durable: Vec<u64>,
-    pub hands: Vec<Hand>,
+    pub hands: Vec<PlainSeat>,
     pub tickets: u64,
 }
 
@@ -101,7 +101,7 @@ pub fn link_word(d: u64) -> u64 {
     info_word(d).wrapping_add(2)
 }
 
-impl Hand {
+impl PlainSeat {
     /// How many superblocks its large block takes that begins with superblock d; 0 where none does.
     pub fn large_count(&self, d: u64) -> u64 {
         for (first, count) in &self.large {
@@ -123,8 +123,8 @@ impl Hand {
     }
 
     /// A seat with nothing.
-    fn new(alloc: Global) -> Hand {
-        Hand {
+    fn new(alloc: Global) -> PlainSeat {
+        PlainSeat {
             ticket: false,
             held: Vec::new(alloc),
             cache_19: Vec::new(alloc),
@@ -157,7 +157,7 @@ impl Hand {
         }
     }
 
-    pub fn claim(&self, d: u64) -> Option<Claim> {
+    pub fn claim(&self, d: u64) -> Option<ClaimKind> {
         for (other, claim) in &self.claims {
             if *other == d {
                 return Some(*claim);
@@ -168,14 +168,14 @@ impl Hand {
 
     /// Whether it claims the superblock, and does not make its blocks.
     pub fn has_settled(&self, d: u64) -> bool {
-        !matches!(self.claim(d), None | Some(Claim::Cutting))
+        !matches!(self.claim(d), None | Some(ClaimKind::Cutting))
     }
 
     /// Whether it claims the superblock without a class.
     pub fn has_whole(&self, d: u64) -> bool {
         matches!(
             self.claim(d),
-            Some(Claim::Raw | Claim::Split | Claim::Cutting)
+            Some(ClaimKind::Raw | ClaimKind::Split | ClaimKind::Cutting)
         )
     }
 
@@ -187,7 +187,7 @@ impl Hand {
     }
 
     /// Claims a superblock that it did not claim.
-    pub fn add_claim(&mut self, d: u64, claim: Claim) -> Result<(), AllocError> {
+    pub fn add_claim(&mut self, d: u64, claim: ClaimKind) -> Result<(), AllocError> {
         self.moves(d, d.wrapping_add(1));
         self.claims.push((d, claim))?;
         Ok(())
@@ -205,7 +205,7 @@ impl Hand {
     }
 
     /// Claims the superblock in another way.
-    pub fn set_claim(&mut self, d: u64, claim: Claim) {
+    pub fn set_claim(&mut self, d: u64, claim: ClaimKind) {
         for entry in &mut self.claims {
             if entry.0 == d {
                 entry.1 = claim;
@@ -234,7 +234,7 @@ impl Plain {
             tickets: 0,
         };
         for seat in 0..seats {
-            let mut hand = Hand::new(alloc);
+            let mut hand = PlainSeat::new(alloc);
             for (i, block) in heap.held().iter().enumerate() {
                 if i.checked_rem(seats) != Some(seat) {
                     continue;

@@ -1,5 +1,5 @@
 //! When a seat of the plain heap may take a step.
-use crate::plain::{Claim, Hand, Plain, at, head_word, info_word, link_word, sizes};
+use crate::plain::{ClaimKind, PlainSeat, Plain, at, head_word, info_word, link_word, sizes};
 use crash_core::{Event, Shift};
 
 /// The first descriptor's number plus 1 of a head or a link.
@@ -37,7 +37,7 @@ impl Plain {
     }
 
     /// Whether a head was seen, and is still as it was.
-    fn is_seen_head(&self, hand: &Hand) -> bool {
+    fn is_seen_head(&self, hand: &PlainSeat) -> bool {
         let Some((list, head)) = hand.head else {
             return false;
         };
@@ -45,16 +45,16 @@ impl Plain {
     }
 
     /// Whether the superblock's anchor was seen, and is still as it was.
-    fn is_seen_anchor(&self, hand: &Hand, d: u64) -> bool {
+    fn is_seen_anchor(&self, hand: &PlainSeat, d: u64) -> bool {
         hand.anchor == Some((d, self.anchor(d)))
     }
 
-    fn has_batch_of(&self, hand: &Hand, d: u64) -> bool {
+    fn has_batch_of(&self, hand: &PlainSeat, d: u64) -> bool {
         matches!(hand.batch.first(), Some(block) if self.superblock(*block) == d)
     }
 
     /// Whether the word is the seat's own.
-    fn is_own(&self, hand: &Hand, seat: usize, word: u64) -> bool {
+    fn is_own(&self, hand: &PlainSeat, seat: usize, word: u64) -> bool {
         if word < 1_064 {
             let root = word.wrapping_sub(40) as usize;
             return 40 <= word && root.checked_rem(self.hands.len()) == Some(seat);
@@ -71,7 +71,7 @@ impl Plain {
     }
 
     /// Whether it is in a claimed superblock without a class, or in one of the seat's blocks.
-    fn is_own_data(&self, hand: &Hand, word: u64) -> bool {
+    fn is_own_data(&self, hand: &PlainSeat, word: u64) -> bool {
         let d = self.superblock(word);
         for (first, count) in &hand.large {
             if *first <= d && d < first.wrapping_add(*count) {
@@ -90,15 +90,15 @@ impl Plain {
     }
 
     /// Whether the own word may get the value.
-    fn may_store(&self, hand: &Hand, word: u64, value: u64) -> bool {
+    fn may_store(&self, hand: &PlainSeat, word: u64, value: u64) -> bool {
         if word < 1_064 {
             return true;
         }
         if word < self.start(0) {
             let claim = hand.claim(word.wrapping_sub(1_064) / 8);
             return match word % 8 {
-                1 => value == 0 || value == 2 && claim != Some(Claim::Cutting),
-                2 => claim != Some(Claim::Cutting),
+                1 => value == 0 || value == 2 && claim != Some(ClaimKind::Cutting),
+                2 => claim != Some(ClaimKind::Cutting),
                 _ => true,
             };
         }
@@ -108,7 +108,7 @@ impl Plain {
     }
 
     /// Whether the superblock may go to the list whose head was seen.
-    fn may_push(&self, hand: &Hand, d: u64) -> bool {
+    fn may_push(&self, hand: &PlainSeat, d: u64) -> bool {
         let Some((list, head)) = hand.head else {
             return false;
         };
@@ -120,19 +120,19 @@ impl Plain {
         if list == 0 {
             return state == 0;
         }
-        matches!(hand.claim(d), Some(Claim::Classed(_))) && self.info(d) == list && state <= 1
+        matches!(hand.claim(d), Some(ClaimKind::Classed(_))) && self.info(d) == list && state <= 1
     }
 
     /// Whether all free blocks may be taken, of the anchor that was seen.
-    fn may_take_all(&self, hand: &Hand, d: u64) -> bool {
-        let Some(Claim::Classed(class)) = hand.claim(d) else {
+    fn may_take_all(&self, hand: &PlainSeat, d: u64) -> bool {
+        let Some(ClaimKind::Classed(class)) = hand.claim(d) else {
             return false;
         };
         self.anchor(d) % 4 == 1 && hand.cache(class).is_empty()
     }
 
     /// Whether the batch may be given back, given the anchor that was seen.
-    fn may_give(&self, hand: &Hand, d: u64) -> bool {
+    fn may_give(&self, hand: &PlainSeat, d: u64) -> bool {
         let anchor = self.anchor(d);
         let Some(last) = hand.batch.last() else {
             return false;
@@ -141,7 +141,7 @@ impl Plain {
         self.has_batch_of(hand, d) && (anchor >> 33 == 0 || is_linked)
     }
 
-    fn may_shift(&self, hand: &Hand, shift: Shift) -> bool {
+    fn may_shift(&self, hand: &PlainSeat, shift: Shift) -> bool {
         match shift {
             Shift::Cut { d } => self.may_cut(hand, d),
             Shift::Alloc { class } => !hand.cache(class).is_empty(),
@@ -159,10 +159,10 @@ impl Plain {
         }
     }
 
-    fn may_cut(&self, hand: &Hand, d: u64) -> bool {
+    fn may_cut(&self, hand: &PlainSeat, d: u64) -> bool {
         let class = self.info(d);
         let (_, count) = sizes(class);
-        if hand.claim(d) != Some(Claim::Cutting) || count == 0 || at(&self.durable, 8) <= d {
+        if hand.claim(d) != Some(ClaimKind::Cutting) || count == 0 || at(&self.durable, 8) <= d {
             return false;
         }
         for i in 1..count {
@@ -173,7 +173,7 @@ impl Plain {
         at(&self.durable, info_word(d)) == class && hand.cache(class).is_empty()
     }
 
-    fn may_lift(&self, hand: &Hand, class: u64) -> bool {
+    fn may_lift(&self, hand: &PlainSeat, class: u64) -> bool {
         let Some(block) = hand.cache(class).first() else {
             return false;
         };
@@ -184,7 +184,7 @@ impl Plain {
         is_linked && self.has_batch_of(hand, self.superblock(*block))
     }
 
-    fn may_hold_large(&self, hand: &Hand, d: u64, n: u64) -> bool {
+    fn may_hold_large(&self, hand: &PlainSeat, d: u64, n: u64) -> bool {
         let until = d.wrapping_add(n);
         if n == 0 || until > at(&self.durable, 8) {
             return false;
@@ -196,8 +196,8 @@ impl Plain {
                 0
             };
             let is_empty = match hand.claim(e) {
-                Some(Claim::Raw) => self.anchor(e) % 4 == 0,
-                Some(Claim::Split) => true,
+                Some(ClaimKind::Raw) => self.anchor(e) % 4 == 0,
+                Some(ClaimKind::Split) => true,
                 _ => false,
             };
             let durable = at(&self.durable, info_word(e));

@@ -1,6 +1,6 @@
 //! What becomes of the plain heap by a step that a seat may take.
 use crate::plain::{
-    Claim, Hand, Plain, anchor_word, at, forget, head_word, link_word, put, sizes, take_first,
+    ClaimKind, PlainSeat, Plain, anchor_word, at, forget, head_word, link_word, put, sizes, take_first,
 };
 use crate::plain_guards::first_of;
 use crash_core::{Event, Shift};
@@ -56,9 +56,9 @@ impl Plain {
             hand.linked = hand.linked && hand.batch.last() != Some(&word);
         } else if word % 8 == 1 {
             let claim = if value == 0 {
-                Claim::Raw
+                ClaimKind::Raw
             } else {
-                Claim::Cutting
+                ClaimKind::Cutting
             };
             hand.set_claim(word.wrapping_sub(1_064) / 8, claim);
         }
@@ -74,7 +74,7 @@ impl Plain {
             Event::TakeFresh { n } => {
                 let until = used.wrapping_add(n);
                 for d in used..until {
-                    hand.add_claim(d, Claim::Raw)?;
+                    hand.add_claim(d, ClaimKind::Raw)?;
                 }
                 hand.used = Some(until);
                 put(&mut self.words, 8, until);
@@ -109,9 +109,9 @@ impl Plain {
                 let rest = first_of(hand.link.unwrap_or(0));
                 put(&mut self.words, place, (pops.wrapping_add(1) << 24) | rest);
                 let claim = if list == 0 {
-                    Claim::Raw
+                    ClaimKind::Raw
                 } else {
-                    Claim::Classed(list)
+                    ClaimKind::Classed(list)
                 };
                 hand.add_claim(d, claim)?;
                 hand.head = None;
@@ -180,7 +180,7 @@ impl Plain {
         hand.linked = false;
         hand.anchor = None;
         if anchor == 2 {
-            hand.add_claim(d, Claim::Classed(class))?;
+            hand.add_claim(d, ClaimKind::Classed(class))?;
         }
         Ok(())
     }
@@ -251,7 +251,7 @@ impl Plain {
         let count = hand.large_count(d);
         hand.drop_large(d);
         for e in d..d.wrapping_add(count) {
-            hand.add_claim(e, Claim::Split)?;
+            hand.add_claim(e, ClaimKind::Split)?;
         }
         Ok(())
     }

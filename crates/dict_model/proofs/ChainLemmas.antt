@@ -5,7 +5,7 @@ use Rattle.heap_model.specs.declared.block.Block.{Block}
 use Rattle.heap_model.specs.Image.{Image, words_from, bytes_of_words}
 use Rattle.heap_model.proofs.MemberLemmas.{in_none, in_head, in_rest, head_or_rest}
 use Rattle.dict_model.specs.Nodes.{largest_value, shard_of, bucket_of, key_in, length_in, value_in, value_words, IsNode, find}
-use Rattle.dict_model.specs.Shards.{Leading, LeadsOnce, link_behind, IsPath, IsChain}
+use Rattle.dict_model.specs.Shards.{Leading, LeadsOnce, link_behind, IsPath, IsBucketChain}
 use Rattle.dict_model.proofs.ShardLemmas.{find_first, find_behind, not_first, not_behind}
 
 -- the other image differs from the one in the word at p alone
@@ -164,11 +164,11 @@ Leads_along leads image at (b ∷ bs) = leads (image at) b × Leads_along leads 
 
 -- a chain begins with the blocks along which its links lead
 pub extends : (leads limit : Leading) → LeadsOnce leads → ((word : ℕ) (b : Block) → limit word b → leads word b) → (image : Image) (shard bucket at : ℕ) (xs ys : List Block)
-    → Leads_along leads image at xs → IsChain limit image shard bucket at ys → (zs : List Block) × (ys ≡ xs ++ zs)
+    → Leads_along leads image at xs → IsBucketChain limit image shard bucket at ys → (zs : List Block) × (ys ≡ xs ++ zs)
 extends leads limit once into image shard bucket at [] ys along chain = (ys, refl)
 extends leads limit once into image shard bucket at (x ∷ xs) [] along chain = absurd (once.null x (subst (λ w. leads w x) chain.ends along.0))
 extends leads limit once into image shard bucket at (x ∷ xs) (y ∷ ys) along chain =
     let same : x ≡ y = once.one (image at) x y along.0 (into (image at) y chain.path.0) in
     let rest = extends leads limit once into image shard bucket x.first_word xs ys along.1
-    (subst (λ (b : Block). IsChain limit image shard bucket b.first_word ys) (sym same) (record { path = chain.path.3; ends = chain.ends })) in
+    (subst (λ (b : Block). IsBucketChain limit image shard bucket b.first_word ys) (sym same) (record { path = chain.path.3; ends = chain.ends })) in
     (rest.0, let e = rest.1 in cc)

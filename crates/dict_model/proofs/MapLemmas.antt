@@ -9,7 +9,7 @@ use Rattle.heap_model.specs.Geometry.{root_word}
 use Rattle.heap_model.specs.Blocks.{IsIn}
 use Rattle.heap_model.proofs.MemberLemmas.{in_head, in_rest}
 use Rattle.dict_model.specs.Nodes.{buckets, shard_of, bucket_of}
-use Rattle.dict_model.specs.Shards.{Map, Leading, IsPath, IsChain, HasTable, HasChains, but, map_of, IsMap, is_empty, has_table}
+use Rattle.dict_model.specs.Shards.{Map, Leading, IsPath, IsBucketChain, HasTable, HasChains, but, map_of, IsMap, is_empty, has_table}
 use Rattle.dict_model.proofs.ChainLemmas.{SameNode, find_same, in_path}
 use Rattle.dict_model.proofs.SpliceLemmas.{ArePlaced, path_same}
 
@@ -46,7 +46,7 @@ module _ (held : Block → Type 0) (placed : ArePlaced held) (limit : Leading) (
     held_node k b below h =
         let found = in_path (but table limit) image shard k (table.first_word + k) (nodes k) b (chains k below).path h in into found.0.0 b found.0.1.0
 
-    chain_same : (k : ℕ) → k < buckets → IsChain (but table limit) other shard k (table.first_word + k) (nodes k) × ((b : Block) → Contains (nodes k) b → SameNode image other b)
+    chain_same : (k : ℕ) → k < buckets → IsBucketChain (but table limit) other shard k (table.first_word + k) (nodes k) × ((b : Block) → Contains (nodes k) b → SameNode image other b)
     chain_same k below =
         let link = alike table (into (image (root_word shard)) table there.leads_there) (table.first_word + k) (record { from = omega arith; until = omega (arith, there.size) }) in
         let same = path_same held placed (but table limit) (λ word b leads. into word b leads.0) image other shard k (table.first_word + k) (table.first_word + k) (nodes k) link

@@ -9,7 +9,7 @@ use Rattle.heap_model.specs.Geometry.{root_word}
 use Rattle.heap_model.specs.Pointers.{Leads}
 use Rattle.heap_model.proofs.ReachLemmas.{one_block, not_null}
 use Rattle.dict_model.specs.Nodes.{buckets, shard_of, bucket_of, key_in, value_in, find}
-use Rattle.dict_model.specs.Shards.{Map, Leading, link_behind, IsPath, IsChain, HasTable, HasChains, but, map_of, IsMap, is_empty, has_table, LeadsAstray, IsNext, IsBadAt, at_root, at_link, LeadsOnce, LeadsAlone}
+use Rattle.dict_model.specs.Shards.{Map, Leading, link_behind, IsPath, IsBucketChain, HasTable, HasChains, but, map_of, IsMap, is_empty, has_table, LeadsAstray, IsNext, IsBadAt, at_root, at_link, LeadsOnce, LeadsAlone}
 
 -- a key is found in the first node if that has it, and else behind
 pub find_first : (image : Image) (key : ℕ) (b : Block) (bs : List Block) → key_in image b ≡ key → find image key (b ∷ bs) ≡ Some (value_in image b)
@@ -63,7 +63,7 @@ module _ (leads : Leading) (once : LeadsOnce leads) (image : Image) (shard bucke
         }
 
   -- a chain is the only one
-  pub one_chain : (at : ℕ) (bs ys : List Block) → IsChain leads image shard bucket at bs → IsChain leads image shard bucket at ys → bs ≡ ys
+  pub one_chain : (at : ℕ) (bs ys : List Block) → IsBucketChain leads image shard bucket at bs → IsBucketChain leads image shard bucket at ys → bs ≡ ys
   one_chain at bs ys p q = elim (compare at bs ys p.path q.path) as (λ _. bs ≡ ys) [
     | inl one ↦ one
     | inr two ↦ elim two as (λ _. bs ≡ ys) [
@@ -74,7 +74,7 @@ module _ (leads : Leading) (once : LeadsOnce leads) (image : Image) (shard bucke
 
   -- where a path leads astray there is no chain
   pub no_chain : (at : ℕ) (bs ys : List Block) → IsPath leads image shard bucket at bs
-      → LeadsAstray leads (IsNext image shard bucket bs) (image (link_behind at bs)) → IsChain leads image shard bucket at ys → ⊥
+      → LeadsAstray leads (IsNext image shard bucket bs) (image (link_behind at bs)) → IsBucketChain leads image shard bucket at ys → ⊥
   no_chain at bs ys p astray q = elim (compare at bs ys p q.path) as (λ _. ⊥) [
     | inl one ↦ astray.not_null (subst (λ (xs : List Block). image (link_behind at xs) ≡ 0) (sym one) q.ends)
     | inr two ↦ elim two as (λ _. ⊥) [
@@ -129,7 +129,7 @@ module _ (leads : Leading) (once : LeadsOnce leads) (image : Image) (shard : ℕ
 
   no_chain_at : (table : Block) (k : ℕ) (before ys : List Block) → IsPath (but table leads) image shard k (table.first_word + k) before
       → LeadsAstray (but table leads) (IsNext image shard k before) (image (link_behind (table.first_word + k) before))
-      → IsChain (but table leads) image shard k (table.first_word + k) ys → ⊥
+      → IsBucketChain (but table leads) image shard k (table.first_word + k) ys → ⊥
   no_chain_at table k before ys = no_chain (but table leads) (but_once leads table once) image shard k (table.first_word + k) before ys
 
   -- a shard that is a map has no bad place

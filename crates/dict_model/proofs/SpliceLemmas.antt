@@ -12,7 +12,7 @@ use Rattle.heap_model.proofs.ReachLemmas.{one_offset, not_null}
 use Rattle.heap_model.proofs.MemberLemmas.{in_none, in_head, in_rest, head_or_rest}
 use Rattle.dict_model.specs.Links.{shards}
 use Rattle.dict_model.specs.Nodes.{buckets, shard_of, bucket_of, key_in, value_in, IsNode, find}
-use Rattle.dict_model.specs.Shards.{Map, Leading, LeadsOnce, LeadsTo, link_behind, IsPath, IsChain, HasTable, HasChains, but, map_of, IsMap, has_table}
+use Rattle.dict_model.specs.Shards.{Map, Leading, LeadsOnce, LeadsTo, link_behind, IsPath, IsBucketChain, HasTable, HasChains, but, map_of, IsMap, has_table}
 use Rattle.dict_model.proofs.ShardLemmas.{find_first}
 use Rattle.dict_model.proofs.ChainLemmas.{SameBut, SameNode, node_same, find_same, not_of, none_of, find_past, find_in_none, none_before, none_after, behind_both, behind_is, in_path, path_left, path_right, path_cross, path_both}
 
@@ -143,9 +143,9 @@ module _ (held : Block → Type 0) (placed : ArePlaced held) (image other : Imag
   unfolding ahead
   into word b leads = leads.0.0
 
-  chain_k : IsChain ahead image shard k (table.first_word + k) (before ++ (drop ++ rest))
+  chain_k : IsBucketChain ahead image shard k (table.first_word + k) (before ++ (drop ++ rest))
   unfolding ahead
-  chain_k = subst (λ (bs : List Block). IsChain (but table (LeadsTo held)) image shard k (table.first_word + k) bs) is (chains k below)
+  chain_k = subst (λ (bs : List Block). IsBucketChain (but table (LeadsTo held)) image shard k (table.first_word + k) bs) is (chains k below)
 
   table_held : held table
   table_held = there.leads_there.0
@@ -214,7 +214,7 @@ module _ (held : Block → Type 0) (placed : ArePlaced held) (image other : Imag
 
   -- and of those behind, wherever they are hung
   rest_stays : (to : ℕ) → other to ≡ image (link_behind p drop)
-      → IsChain ahead other shard k to rest × ((b : Block) → Contains rest b → SameNode image other b)
+      → IsBucketChain ahead other shard k to rest × ((b : Block) → Contains rest b → SameNode image other b)
   rest_stays to same =
       let path_p : IsPath ahead image shard k p (drop ++ rest) = subst (λ w. IsPath ahead image shard k w (drop ++ rest)) (sym at) (path_right ahead image shard k (table.first_word + k) before (drop ++ rest) chain_k.path) in
       let path = path_right ahead image shard k p drop rest path_p in
@@ -224,7 +224,7 @@ module _ (held : Block → Type 0) (placed : ArePlaced held) (image other : Imag
       (record { path = moved.0; ends = moved.2 ∙ ends }, moved.1)
 
   -- the chains of the other buckets
-  others_stay : (j : ℕ) → j < buckets → j ≢ k → IsChain ahead other shard j (table.first_word + j) (nodes j) × ((b : Block) → Contains (nodes j) b → SameNode image other b)
+  others_stay : (j : ℕ) → j < buckets → j ≢ k → IsBucketChain ahead other shard j (table.first_word + j) (nodes j) × ((b : Block) → Contains (nodes j) b → SameNode image other b)
   unfolding ahead
   others_stay j less differs =
       let link : other (table.first_word + j) ≡ image (table.first_word + j) = but_p.each (table.first_word + j) (λ e.
@@ -238,7 +238,7 @@ module _ (held : Block → Type 0) (placed : ArePlaced held) (image other : Imag
       (record { path = moved.0; ends = moved.2 ∙ (chains j less).ends }, moved.1)
 
   -- with another chain behind the link, and another value for one key
-  module _ (hung : IsChain ahead other shard k p (put ++ rest)) (same_rest : (b : Block) → Contains rest b → SameNode image other b)
+  module _ (hung : IsBucketChain ahead other shard k p (put ++ rest)) (same_rest : (b : Block) → Contains rest b → SameNode image other b)
       (key : ℕ) (new : Option (List ℕ)) (in_shard : shard_of key ≡ shard) (in_bucket : bucket_of key ≡ k)
       (none : find image key (before ++ rest) ≡ None) (dropped : (b : Block) → Contains drop b → key_in image b ≡ key) (added : (b : Block) → Contains put b → key_in other b ≡ key)
       (value : find other key (put ++ rest) ≡ new) where
@@ -248,7 +248,7 @@ module _ (held : Block → Type 0) (placed : ArePlaced held) (image other : Imag
       | inr late ↦ same_rest b late
     ]
 
-    spliced_chain : IsChain ahead other shard k (table.first_word + k) (before ++ (put ++ rest))
+    spliced_chain : IsBucketChain ahead other shard k (table.first_word + k) (before ++ (put ++ rest))
     spliced_chain = record {
       path = path_both ahead other shard k (table.first_word + k) before (put ++ rest) before_stays.0
           (subst (λ w. IsPath ahead other shard k w (put ++ rest)) at hung.path)
@@ -267,10 +267,10 @@ module _ (held : Block → Type 0) (placed : ArePlaced held) (image other : Imag
 
     spliced_chains : HasChains (LeadsTo held) other shard table buckets spliced_nodes
     unfolding spliced_nodes ahead
-    spliced_chains j less = elim (cases_eq j k) as (λ _. IsChain (but table (LeadsTo held)) other shard j (table.first_word + j) (chains_with nodes k (before ++ (put ++ rest)) j)) [
-      | inl same ↦ subst (λ i. IsChain (but table (LeadsTo held)) other shard i (table.first_word + i) (chains_with nodes k (before ++ (put ++ rest)) i)) (sym same)
-          (subst (λ (bs : List Block). IsChain (but table (LeadsTo held)) other shard k (table.first_word + k) bs) (sym (with_same nodes k (before ++ (put ++ rest)))) spliced_chain)
-      | inr differs ↦ subst (λ (bs : List Block). IsChain (but table (LeadsTo held)) other shard j (table.first_word + j) bs) (sym (with_other nodes k (before ++ (put ++ rest)) j differs)) (others_stay j less differs).0
+    spliced_chains j less = elim (cases_eq j k) as (λ _. IsBucketChain (but table (LeadsTo held)) other shard j (table.first_word + j) (chains_with nodes k (before ++ (put ++ rest)) j)) [
+      | inl same ↦ subst (λ i. IsBucketChain (but table (LeadsTo held)) other shard i (table.first_word + i) (chains_with nodes k (before ++ (put ++ rest)) i)) (sym same)
+          (subst (λ (bs : List Block). IsBucketChain (but table (LeadsTo held)) other shard k (table.first_word + k) bs) (sym (with_same nodes k (before ++ (put ++ rest)))) spliced_chain)
+      | inr differs ↦ subst (λ (bs : List Block). IsBucketChain (but table (LeadsTo held)) other shard j (table.first_word + j) bs) (sym (with_other nodes k (before ++ (put ++ rest)) j differs)) (others_stay j less differs).0
     ]
 
     in_bucket_k : (q : ℕ) → bucket_of q ≡ k → find other q (spliced_nodes (bucket_of q)) ≡ cond (nat_eq key q) new (find image q (nodes (bucket_of q)))
@@ -319,14 +319,14 @@ module _ (held : Block → Type 0) (placed : ArePlaced held) (image other : Imag
       let behind = rest_stays n.first_word linked in
       let fresh : find other (key_in other n) rest ≡ None =
       ap (λ q. find other q rest) key_is ∙ find_same image other key rest behind.1 ∙ none_after image key before rest none in
-      let hung : IsChain (but table (LeadsTo held)) other shard k p (n ∷ rest) = record { path = ((leads, n_other), is_node, fresh, behind.0.path); ends = behind.0.ends } in
+      let hung : IsBucketChain (but table (LeadsTo held)) other shard k p (n ∷ rest) = record { path = ((leads, n_other), is_node, fresh, behind.0.path); ends = behind.0.ends } in
       let value_there : find other key (n ∷ rest) ≡ Some value = find_first other key n rest key_is ∙ ap (λ v. Some v) value_is in
       let mine = λ (b : Block) (h : Contains put b).
       elim (head_or_rest n b [] (subst (λ (bs : List Block). Contains bs b) put_is h)) as (λ _. key_in other b ≡ key) [
         | inl e ↦ ap (key_in other) (sym e) ∙ key_is
         | inr none_left ↦ absurd (in_none b none_left)
       ] in
-      spliced (subst (λ (bs : List Block). IsChain (but table (LeadsTo held)) other shard k p (bs ++ rest)) (sym put_is) hung) behind.1 key (Some value)
+      spliced (subst (λ (bs : List Block). IsBucketChain (but table (LeadsTo held)) other shard k p (bs ++ rest)) (sym put_is) hung) behind.1 key (Some value)
       (ap shard_of (sym key_is) ∙ is_node.in_shard) (ap bucket_of (sym key_is) ∙ is_node.in_bucket) none dropped mine
       (subst (λ (bs : List Block). find other key (bs ++ rest) ≡ Some value) (sym put_is) value_there) map means
 
@@ -351,6 +351,6 @@ module _ (held : Block → Type 0) (placed : ArePlaced held) (image other : Imag
         | inl e ↦ ap (key_in image) (sym e)
         | inr none_left ↦ absurd (in_none c none_left)
       ] in
-      spliced (subst (λ (bs : List Block). IsChain (but table (LeadsTo held)) other shard k p (bs ++ rest)) (sym put_is) behind.0) behind.1 (key_in image b) None
+      spliced (subst (λ (bs : List Block). IsBucketChain (but table (LeadsTo held)) other shard k p (bs ++ rest)) (sym put_is) behind.0) behind.1 (key_in image b) None
       b_is.2.in_shard b_is.2.in_bucket none dropped (λ c h. absurd (in_none c (subst (λ (bs : List Block). Contains bs c) put_is h)))
       (subst (λ (bs : List Block). find other (key_in image b) (bs ++ rest) ≡ None) (sym put_is) (find_same image other (key_in image b) rest behind.1 ∙ none_behind)) map means

@@ -14,7 +14,7 @@ use Rattle.heap_model.specs.Reach.{ReachFrom, by_start}
 use Rattle.dict_model.specs.Links.{dict_links, root_kind}
 use Rattle.heap_model.proofs.ReachLemmas.{one_block, not_null, closure_least}
 use Rattle.dict_model.specs.Nodes.{shard_of, bucket_of, key_in, IsNode, find}
-use Rattle.dict_model.specs.Shards.{Map, IsChain, has_table, IsBadAt, at_root, at_link, BadShard, HasTable, HasChains, but, map_of, MapOf, LeadsAlone}
+use Rattle.dict_model.specs.Shards.{Map, IsBucketChain, has_table, IsBadAt, at_root, at_link, BadShard, HasTable, HasChains, but, map_of, MapOf, LeadsAlone}
 
 -- pointers to word 1080 and to word 9272
 abbrev pub to_table : ℕ
@@ -128,7 +128,7 @@ bad_second : IsBadAt (Leads (shard_with to_table to_node ((1081, to_node) ∷ []
 unfolding shard_with
 bad_second = at_link table (λ _. node ∷ []) 1 1081 [] (table_there to_node ((1081, to_node) ∷ [])) (omega arith)
     (λ k less. let first : k ≡ 0 = omega arith in
-    subst (λ j. IsChain (but table (Leads (shard_with to_table to_node ((1081, to_node) ∷ [])))) (shard_with to_table to_node ((1081, to_node) ∷ [])) 0 j (1080 + j) (node ∷ []))
+    subst (λ j. IsBucketChain (but table (Leads (shard_with to_table to_node ((1081, to_node) ∷ [])))) (shard_with to_table to_node ((1081, to_node) ∷ [])) 0 j (1080 + j) (node ∷ []))
     (sym first) (record {
       path = (
         (node_leads to_table to_node ((1081, to_node) ∷ []), apart),

@@ -37,7 +37,7 @@ IsPath leads image shard bucket at (b ∷ bs) =
     × IsPath leads image shard bucket b.first_word bs
 
 -- and the link behind the last of them is null
-pub record IsChain (leads : Leading) (image : Image) (shard bucket at : ℕ) (nodes : List Block) : Type 0 where
+pub record IsBucketChain (leads : Leading) (image : Image) (shard bucket at : ℕ) (nodes : List Block) : Type 0 where
   pub path : IsPath leads image shard bucket at nodes
   pub ends : image (link_behind at nodes) ≡ 0
 
@@ -53,7 +53,7 @@ but table leads word b = leads word b × (b ≢ table)
 -- the chain of each bucket below the limit
 abbrev pub HasChains : Leading → Image → ℕ → Block → ℕ → (ℕ → List Block) → Type 0
 HasChains leads image shard table limit nodes =
-    (k : ℕ) → k < limit → IsChain (but table leads) image shard k (table.first_word + k) (nodes k)
+    (k : ℕ) → k < limit → IsBucketChain (but table leads) image shard k (table.first_word + k) (nodes k)
 
 -- the map that the chains stand for: a key is looked for in its own bucket
 abbrev pub map_of : Image → ℕ → (ℕ → List Block) → Map

@@ -4,12 +4,12 @@ use Rattle.heap_model.specs.declared.block.Block.{Block}
 use Rattle.heap_model.specs.Geometry.{root_word}
 use Rattle.heap_model.specs.Blocks.{IsIn}
 use Rattle.heap_seat.specs.View.{View}
-use Rattle.heap_seat.specs.Words.{in_root, MayStore}
-use Rattle.heap_seat.specs.Free.{MayFree}
+use Rattle.heap_seat.specs.Words.{in_root, MayHaveStored}
+use Rattle.heap_seat.specs.Free.{MayHaveFreed}
 use Rattle.heap_seat.specs.Sound.{IsSeat}
 use Rattle.dict_model.specs.Links.{shards}
 use Rattle.dict_model.specs.Shards.{Map}
-use Rattle.dict_seat.specs.Maps.{Gives, KeepsTable, KeepsOthers}
+use Rattle.dict_seat.specs.Maps.{GivesMap, KeepsTable, KeepsOtherShards}
 use Rattle.dict_seat.specs.Reached.{MayReach, ReachesOnlyHeld}
 use Rattle.dict_seat.specs.Changes.{MayChange, Changes}
 use Rattle.dict_seat.proofs.GrownLemmas.{Grown, gives_grown, only_grown, others_grown, reached_before}
@@ -25,13 +25,13 @@ pub table_then : (shard : ℕ) (v u w : View) → (Contains v.roots shard → Co
 table_then shard v u w still a b = record { root = λ x owned seen some. b.root x (still owned) (a.root x owned seen some) some }
 
 -- where another word is stored to
-pub table_stored : (shard p x : ℕ) (u w : View) → (Contains u.roots shard → root_word shard ≡ p → ⊥) → MayStore p x u w → KeepsTable shard u w
+pub table_stored : (shard p x : ℕ) (u w : View) → (Contains u.roots shard → root_word shard ≡ p → ⊥) → MayHaveStored p x u w → KeepsTable shard u w
 table_stored shard p x u w other may = record {
   root = λ y owned seen some. (may.others (root_word shard) (in_root shard (root_word shard) owned refl) (other owned)).volatile y seen;
 }
 
 -- where a block is freed
-pub table_freed : (shard : ℕ) (w x : View) (b : Block) → shard < shards → IsSeat w → Contains w.held b → MayFree b w x → KeepsTable shard w x
+pub table_freed : (shard : ℕ) (w x : View) (b : Block) → shard < shards → IsSeat w → Contains w.held b → MayHaveFreed b w x → KeepsTable shard w x
 table_freed shard w x b small seat h may = record {
   root = λ y owned seen some. (may.words (root_word shard) (in_root shard (root_word shard) owned refl) outside).volatile y seen;
 } where
@@ -61,10 +61,10 @@ module _ (shard : ℕ) (after : Map → Map) where
   changes_after v u w grown changes = record { gives = λ map gives. changes.gives map (gives_grown v u grown shard map gives) }
 
   -- a block that is freed after the change, when nothing reaches it any more
-  pub freed : (u w x : View) (b : Block) (kind : ℕ) → shard < shards → IsSeat w → Contains w.roots shard → Contains w.held b → Changes shard after u w → ReachesOnlyHeld w → KeepsTable shard u w → KeepsOthers shard u w
-      → MayReach u shard b kind → ((root other : ℕ) → MayReach w root b other → ⊥) → MayFree b w x → Changes shard after u x × MayChange shard after u x
+  pub freed : (u w x : View) (b : Block) (kind : ℕ) → shard < shards → IsSeat w → Contains w.roots shard → Contains w.held b → Changes shard after u w → ReachesOnlyHeld w → KeepsTable shard u w → KeepsOtherShards shard u w
+      → MayReach u shard b kind → ((root other : ℕ) → MayReach w root b other → ⊥) → MayHaveFreed b w x → Changes shard after u x × MayChange shard after u x
   freed u w x b kind small seat owned h changes only table others reached unreached may =
-      let done : (map : Map) → Gives u shard map → Gives x shard (after map) =
+      let done : (map : Map) → GivesMap u shard map → GivesMap x shard (after map) =
       λ map gives. gives_freed w x b seat may only h unreached shard (after map) small owned (changes.gives map gives) in (
         record { gives = done },
         record {

@@ -8,16 +8,16 @@ use Rattle.heap_model.specs.Geometry.{root_word}
 use Rattle.heap_model.specs.Blocks.{IsIn}
 use Rattle.heap_model.proofs.MemberLemmas.{in_none, in_head, head_or_rest, in_rest}
 use Rattle.heap_seat.specs.View.{View}
-use Rattle.heap_seat.specs.Words.{MayRead, IsOwn, MayStore}
+use Rattle.heap_seat.specs.Words.{MayRead, IsOwn, MayHaveStored}
 use Rattle.heap_seat.specs.Sound.{IsSeat}
 use Rattle.dict_model.specs.Links.{shards, root_kind, table_kind, node_kind, IsLink, in_table, in_node}
 use Rattle.dict_model.specs.Nodes.{shard_of, bucket_of, key_in, IsNode}
 use Rattle.dict_model.specs.Shards.{Map, LeadsTo, IsPath, but, link_behind}
 use Rattle.dict_model.proofs.ChainLemmas.{in_path, path_left, path_cross, not_of, behind_is}
 use Rattle.dict_model.proofs.SpliceLemmas.{one_holder, first_in}
-use Rattle.dict_seat.specs.Maps.{Gives}
+use Rattle.dict_seat.specs.Maps.{GivesMap}
 use Rattle.dict_seat.specs.Reached.{MayReach, ReachesOnlyHeld}
-use Rattle.dict_seat.specs.Trails.{pointer_to, IsSettled, Trail, HasCome}
+use Rattle.dict_seat.specs.Trails.{pointer_to, IsDurableAt, Trail, HasCome}
 use Rattle.dict_seat.proofs.GrownLemmas.{are_placed, root_reach, link_reach}
 use Rattle.dict_seat.proofs.PublishLemmas.{IsLinkOf, is_link}
 use Rattle.dict_seat.proofs.TrailLemmas.{now_image, now_completes, leads_held, settled_in, is_along, bucket_below, first_own, settled_stays}
@@ -38,7 +38,7 @@ pub record IsFollowed (u : View) (shard at : ℕ) : Type 0 where
 
 module _ (u : View) (seat : IsSeat u) (shard : ℕ) (small : shard < shards) where
   -- a block to which such a link leads
-  next_reached : (at : ℕ) (b : Block) → IsFollowed u shard at → Contains u.held b → IsSettled u at (pointer_to b) → MayReach u shard b node_kind
+  next_reached : (at : ℕ) (b : Block) → IsFollowed u shard at → Contains u.held b → IsDurableAt u at (pointer_to b) → MayReach u shard b node_kind
   next_reached at b followed h settled =
       link_reach u shard followed.holder b followed.from followed.position node_kind (pointer_to b) followed.reached followed.is_link
       (subst (λ w. MayRead u w (pointer_to b)) followed.at_is (seen_read u at (pointer_to b) settled.seen)) (leads_held u b seat h)
@@ -54,7 +54,7 @@ module _ (u : View) (seat : IsSeat u) (shard : ℕ) (small : shard < shards) whe
   }
 
   -- what such a link leads to is null, or a block that the root may reach
-  pub followed_leads : (at x : ℕ) → IsFollowed u shard at → IsSettled u at x → ReachesOnlyHeld u → (x ≡ 0) ⊎ ((f : Block) × LeadsTo (Contains u.held) x f × MayReach u shard f node_kind)
+  pub followed_leads : (at x : ℕ) → IsFollowed u shard at → IsDurableAt u at x → ReachesOnlyHeld u → (x ≡ 0) ⊎ ((f : Block) × LeadsTo (Contains u.held) x f × MayReach u shard f node_kind)
   followed_leads at x followed settled only =
       let read = subst (λ w. MayRead u w x) followed.at_is (seen_read u at x settled.seen) in
       elim (only.links shard followed.holder followed.from followed.position node_kind x followed.reached followed.is_link read) as (λ _. (x ≡ 0) ⊎ ((f : Block) × LeadsTo (Contains u.held) x f × MayReach u shard f node_kind)) [
@@ -62,7 +62,7 @@ module _ (u : View) (seat : IsSeat u) (shard : ℕ) (small : shard < shards) whe
         | inr f ↦ inr (f.0, f.1, link_reach u shard followed.holder f.0 followed.from followed.position node_kind x followed.reached followed.is_link read f.1)
       ]
 
-  trail_reached : (at : ℕ) (bs : List Block) → IsFollowed u shard at → Trail (IsSettled u) u.held at bs
+  trail_reached : (at : ℕ) (bs : List Block) → IsFollowed u shard at → Trail (IsDurableAt u) u.held at bs
       → ((b : Block) → Contains bs b → MayReach u shard b node_kind) × IsFollowed u shard (link_behind at bs)
   trail_reached at [] followed trail = ((λ b h. absurd (in_none b h)), followed)
   trail_reached at (c ∷ bs) followed trail =
@@ -70,7 +70,7 @@ module _ (u : View) (seat : IsSeat u) (shard : ℕ) (small : shard < shards) whe
       let rest = trail_reached c.first_word bs (own_link_followed c trail.0 first) trail.2 in
       ((λ b h. elim (head_or_rest c b bs h) as (λ _. MayReach u shard b node_kind) [ inl same ↦ subst (λ (x : Block). MayReach u shard x node_kind) same first | inr r ↦ rest.0 b r ]), rest.1)
 
-module _ (u : View) (seat : IsSeat u) (key : ℕ) (small : shard_of key < shards) (table : Block) (before : List Block) (come : HasCome IsSettled u (shard_of key) key table before) where
+module _ (u : View) (seat : IsSeat u) (key : ℕ) (small : shard_of key < shards) (table : Block) (before : List Block) (come : HasCome IsDurableAt u (shard_of key) key table before) where
   pub table_is_reached : MayReach u (shard_of key) table (root_kind (shard_of key))
   table_is_reached = root_reach u (shard_of key) table (root_kind (shard_of key)) (pointer_to table) come.owned refl
       (seen_read u (root_word (shard_of key)) (pointer_to table) come.root.seen) (leads_held u table seat come.held_table)
@@ -95,19 +95,19 @@ module _ (u : View) (seat : IsSeat u) (key : ℕ) (small : shard_of key < shards
       is_link last.holder last.from last.position node_kind last.reached last.is_link last.at_is
 
   -- in a mixture they begin the chain of their bucket
-  pub begins_chain : (map : Map) → Gives u (shard_of key) map
+  pub begins_chain : (map : Map) → GivesMap u (shard_of key) map
       → IsPath (but table (LeadsTo (Contains u.held))) (now_image u) (shard_of key) (bucket_of key) (table.first_word + bucket_of key) before
   begins_chain map gives =
       let image = now_image u in
       let now = now_completes u in
-      let along = is_along IsSettled u image seat (shard_of key) key map table before (settled_in u image now.mixes) come (gives.each image now.mixes) in
+      let along = is_along IsDurableAt u image seat (shard_of key) key map table before (settled_in u image now.mixes) come (gives.each image now.mixes) in
       let k = bucket_of key in
       path_left (but table (LeadsTo (Contains u.held))) image (shard_of key) k (table.first_word + k) before along.rest
       (subst (λ (bs : List Block). IsPath (but table (LeadsTo (Contains u.held))) image (shard_of key) k (table.first_word + k) bs) along.is (along.chains k (bucket_below key)).path)
 
 -- of the last node of a trail: it is apart from the table and from the nodes before, so its words are none of their links
-module _ (u : View) (seat : IsSeat u) (key : ℕ) (small : shard_of key < shards) (map : Map) (gives : Gives u (shard_of key) map) (table b : Block) (before : List Block)
-    (come : HasCome IsSettled u (shard_of key) key table (before ++ (b ∷ []))) where
+module _ (u : View) (seat : IsSeat u) (key : ℕ) (small : shard_of key < shards) (map : Map) (gives : GivesMap u (shard_of key) map) (table b : Block) (before : List Block)
+    (come : HasCome IsDurableAt u (shard_of key) key table (before ++ (b ∷ []))) where
   path_all : IsPath (but table (LeadsTo (Contains u.held))) (now_image u) (shard_of key) (bucket_of key) (table.first_word + bucket_of key) (before ++ (b ∷ []))
   path_all = begins_chain u seat key small table (before ++ (b ∷ [])) come map gives
 
@@ -139,26 +139,26 @@ module _ (u : View) (seat : IsSeat u) (key : ℕ) (small : shard_of key < shards
         last_not_table (one_holder (Contains u.held) (are_placed u seat) b table word last_held come.held_table inside
         (subst (IsIn table) (sym (is ∙ only.1)) (record { from = omega arith; until = let below = bucket_below key in let size = come.size in omega arith })))
     | inr last ↦
-        let held = trail_held (IsSettled u) u.held (table.first_word + bucket_of key) (before ++ (b ∷ [])) last.0 come.trail (Contains-append_left before (b ∷ []) last.0 last.1) in
+        let held = trail_held (IsDurableAt u) u.held (table.first_word + bucket_of key) (before ++ (b ∷ [])) last.0 come.trail (Contains-append_left before (b ∷ []) last.0 last.1) in
         last_not_before last.0 last.1 (one_holder (Contains u.held) (are_placed u seat) last.0 b word held last_held
         (subst (IsIn last.0) (sym (is ∙ last.2)) (first_in (Contains u.held) (are_placed u seat) last.0 held)) inside)
   ]
 
 -- a link behind a trail lies behind the roots
-pub link_behind_roots : (u : View) (key : ℕ) (table : Block) (before : List Block) (root : ℕ) → IsSeat u → Contains u.roots root → HasCome IsSettled u (shard_of key) key table before
+pub link_behind_roots : (u : View) (key : ℕ) (table : Block) (before : List Block) (root : ℕ) → IsSeat u → Contains u.roots root → HasCome IsDurableAt u (shard_of key) key table before
     → root_word root ≢ link_behind (table.first_word + bucket_of key) before
 link_behind_roots u key table before root seat owned come is = elim (behind_is (table.first_word + bucket_of key) before) as (λ _. ⊥) [
   | inl only ↦ let behind = (seat.placed table come.held_table).behind in let below = seat.roots_are root owned in omega (arith, only.1)
   | inr last ↦
-      let held = trail_held (IsSettled u) u.held (table.first_word + bucket_of key) before last.0 come.trail last.1 in
+      let held = trail_held (IsDurableAt u) u.held (table.first_word + bucket_of key) before last.0 come.trail last.1 in
       let behind = (seat.placed last.0 held).behind in
       let below = seat.roots_are root owned in omega (arith, last.2)
 ]
 
 -- a trail whose last link is stored to is one up to that link
-pub trail_kept : (u w : View) (p x : ℕ) → IsSeat u → MayStore p x u w → (table : Block) (image : Image) (shard k at : ℕ) (bs : List Block) → p ≡ link_behind at bs
-    → ((c : Block) → Contains bs c → at ≢ c.first_word) → IsPath (but table (LeadsTo (Contains u.held))) image shard k at bs → IsOwn u.held u.roots at → Trail (IsSettled u) u.held at bs
-    → Trail (IsSettled w) w.held at bs
+pub trail_kept : (u w : View) (p x : ℕ) → IsSeat u → MayHaveStored p x u w → (table : Block) (image : Image) (shard k at : ℕ) (bs : List Block) → p ≡ link_behind at bs
+    → ((c : Block) → Contains bs c → at ≢ c.first_word) → IsPath (but table (LeadsTo (Contains u.held))) image shard k at bs → IsOwn u.held u.roots at → Trail (IsDurableAt u) u.held at bs
+    → Trail (IsDurableAt w) w.held at bs
 trail_kept u w p x seat may table image shard k at [] is apart path own trail = tt
 trail_kept u w p x seat may table image shard k at (b ∷ bs) is apart path own trail =
     let last : (c : Block) × Contains (b ∷ bs) c × (p ≡ c.first_word) =

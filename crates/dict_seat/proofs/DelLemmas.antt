@@ -17,7 +17,7 @@ use Rattle.dict_model.specs.Requests.{without_key}
 use Rattle.dict_model.specs.Shards.{Map, LeadsTo, IsPath, but}
 use Rattle.dict_model.proofs.ChainLemmas.{found_in, in_path}
 use Rattle.dict_seat.specs.declared.walk.Place.{Place}
-use Rattle.dict_seat.specs.Maps.{Gives}
+use Rattle.dict_seat.specs.Maps.{GivesMap}
 use Rattle.dict_seat.specs.Trails.{IsSettling, Completes}
 use Rattle.dict_seat.specs.Walks.{IsFoundPlace, IsQuietWalk}
 use Rattle.dict_seat.specs.Changes.{Changes}
@@ -28,8 +28,8 @@ use Rattle.dict_seat.proofs.TrailLemmas.{now_image, now_completes, settling_in, 
 use Rattle.dict_seat.proofs.RemovalLemmas.{found_held}
 
 -- maps with the same values are one
-pub gives_same : (v : View) (shard : ℕ) (a b : Map) → ((q : ℕ) → a q ≡ b q) → Gives v shard a → Gives v shard b
-gives_same v shard a b same gives = subst (Gives v shard) (one a b same) gives where
+pub gives_same : (v : View) (shard : ℕ) (a b : Map) → ((q : ℕ) → a q ≡ b q) → GivesMap v shard a → GivesMap v shard b
+gives_same v shard a b same gives = subst (GivesMap v shard) (one a b same) gives where
   one : (a b : Map) → ((q : ℕ) → a q ≡ b q) → a ≡ b
   one a b same i q = same q i
 
@@ -41,7 +41,7 @@ without_missing map key none q = elim (cases_eq key q) as (λ _. map q ≡ witho
 ]
 
 -- a key's node that was found is a node, and the map has its value
-pub found_is : (w : View) (key : ℕ) (place : Place) → IsSeat w → IsFoundPlace w key place → (map : Map) → Gives w (shard_of key) map
+pub found_is : (w : View) (key : ℕ) (place : Place) → IsSeat w → IsFoundPlace w key place → (map : Map) → GivesMap w (shard_of key) map
     → (image : Image) → Completes w image → (map key ≡ Some (value_in image place.node)) × IsNode image (shard_of key) (bucket_of key) place.node
 found_is w key place seat found map gives image completes =
     let node = place.node in
@@ -61,14 +61,14 @@ found_is w key place seat found map gives image completes =
     )
 
 -- the map has a key whose node was found
-pub found_has : (w : View) (key : ℕ) (place : Place) → IsSeat w → IsFoundPlace w key place → (map : Map) → Gives w (shard_of key) map → map key ≢ None
+pub found_has : (w : View) (key : ℕ) (place : Place) → IsSeat w → IsFoundPlace w key place → (map : Map) → GivesMap w (shard_of key) map → map key ≢ None
 found_has w key place seat found map gives none =
     let has = (found_is w key place seat found map gives (now_image w) (now_completes w)).0 in
     let clash : Some (value_in (now_image w) place.node) ≡ None = sym has ∙ none in
     absurd (cc)
 
 -- nothing was found, so nothing was to be done
-pub deletes_nothing : (v w : View) (key : ℕ) → KeepsOwn v w → Runs v w → ((map : Map) → Gives v (shard_of key) map → map key ≡ None) → Deletes key false v w
+pub deletes_nothing : (v w : View) (key : ℕ) → KeepsOwn v w → Runs v w → ((map : Map) → GivesMap v (shard_of key) map → map key ≡ None) → Deletes key false v w
 deletes_nothing v w key keeps runs none = record {
   runs = runs;
   gives = λ map gives.

@@ -10,7 +10,7 @@ use Rattle.heap_model.specs.Geometry.{root_word}
 use Rattle.heap_model.specs.Blocks.{IsIn}
 use Rattle.heap_model.proofs.MemberLemmas.{in_head}
 use Rattle.heap_seat.specs.View.{View, word_of}
-use Rattle.heap_seat.specs.Words.{IsOwn, in_root, in_block, MayRead, MixesOwn, MayStore}
+use Rattle.heap_seat.specs.Words.{IsOwn, in_root, in_block, MayRead, MixesOwn, MayHaveStored}
 use Rattle.heap_seat.specs.Sound.{IsSeat}
 use Rattle.heap_seat.proofs.CallerLemmas.{own_same}
 use Rattle.dict_model.specs.Links.{shards, node_kind, IsLink, in_node}
@@ -18,9 +18,9 @@ use Rattle.dict_model.specs.Nodes.{shard_of, bucket_of}
 use Rattle.dict_model.specs.Requests.{without_key}
 use Rattle.dict_model.specs.Shards.{Map, link_behind}
 use Rattle.dict_seat.specs.declared.walk.Place.{Place}
-use Rattle.dict_seat.specs.Maps.{IsMapIn, Gives}
+use Rattle.dict_seat.specs.Maps.{IsMapIn, GivesMap}
 use Rattle.dict_seat.specs.Reached.{MayReach, ReachesOnlyHeld}
-use Rattle.dict_seat.specs.Trails.{pointer_to, IsSettled, Trail, HasCome}
+use Rattle.dict_seat.specs.Trails.{pointer_to, IsDurableAt, Trail, HasCome}
 use Rattle.dict_seat.specs.Changes.{MayChange, IsReadPlace}
 use Rattle.dict_seat.proofs.GrownLemmas.{link_reach}
 use Rattle.dict_seat.proofs.ChangeLemmas.{table_stored}
@@ -41,10 +41,10 @@ seen_value v word a b p q = cc
 pub record IsFoundNode (u : View) (key : ℕ) (place : Place) (table : Block) (before : List Block) : Type 0 where
   pub held : Contains u.held place.node
   pub reached : MayReach u (shard_of key) place.node node_kind
-  pub come : HasCome IsSettled u (shard_of key) key table before
-  pub link : IsSettled u (word_of place.link) (pointer_to place.node)
+  pub come : HasCome IsDurableAt u (shard_of key) key table before
+  pub link : IsDurableAt u (word_of place.link) (pointer_to place.node)
 
-module _ (u : View) (seat : IsSeat u) (key : ℕ) (place : Place) (next : ℕ) (taken : IsReadPlace IsSettled u key place next) (map₀ : Map) (gives₀ : Gives u (shard_of key) map₀) where
+module _ (u : View) (seat : IsSeat u) (key : ℕ) (place : Place) (next : ℕ) (taken : IsReadPlace IsDurableAt u key place next) (map₀ : Map) (gives₀ : GivesMap u (shard_of key) map₀) where
   node : Block
   node = place.node
 
@@ -58,20 +58,20 @@ module _ (u : View) (seat : IsSeat u) (key : ℕ) (place : Place) (next : ℕ) (
   pub node_room : 3 ≤ place.node.words
   node_room = last_room u seat key (shard_below key) map₀ gives₀ taken.table place.node taken.before taken.come
 
-  pub come_to : HasCome IsSettled u (shard_of key) key taken.table taken.before
-  come_to = come_left IsSettled u (shard_of key) key taken.table taken.before (place.node ∷ []) taken.come
+  pub come_to : HasCome IsDurableAt u (shard_of key) key taken.table taken.before
+  come_to = come_left IsDurableAt u (shard_of key) key taken.table taken.before (place.node ∷ []) taken.come
 
   -- the link that leads to the node
   pub link_kind : IsLinkOf u (shard_of key) (word_of place.link) node_kind
   link_kind = subst (λ p. IsLinkOf u (shard_of key) p node_kind) (sym taken.at_is) (link_followed u seat key (shard_below key) taken.table taken.before come_to)
 
   pub link_own : IsOwn u.held u.roots (word_of place.link)
-  link_own = subst (IsOwn u.held u.roots) (sym taken.at_is) (behind_own IsSettled u (shard_of key) key taken.table taken.before seat come_to)
+  link_own = subst (IsOwn u.held u.roots) (sym taken.at_is) (behind_own IsDurableAt u (shard_of key) key taken.table taken.before seat come_to)
 
   -- it holds a pointer to the node
-  pub link_holds : IsSettled u (word_of place.link) (pointer_to place.node)
-  link_holds = subst (λ p. IsSettled u p (pointer_to place.node)) (sym taken.at_is) (last_settled taken.before (taken.table.first_word + bucket_of key) taken.come.trail) where
-    last_settled : (bs : List Block) (at : ℕ) → Trail (IsSettled u) u.held at (bs ++ (place.node ∷ [])) → IsSettled u (link_behind at bs) (pointer_to place.node)
+  pub link_holds : IsDurableAt u (word_of place.link) (pointer_to place.node)
+  link_holds = subst (λ p. IsDurableAt u p (pointer_to place.node)) (sym taken.at_is) (last_settled taken.before (taken.table.first_word + bucket_of key) taken.come.trail) where
+    last_settled : (bs : List Block) (at : ℕ) → Trail (IsDurableAt u) u.held at (bs ++ (place.node ∷ [])) → IsDurableAt u (link_behind at bs) (pointer_to place.node)
     last_settled [] at trail = trail.1
     last_settled (b ∷ bs) at trail = last_settled bs b.first_word trail.2
 
@@ -98,8 +98,8 @@ module _ (u : View) (seat : IsSeat u) (key : ℕ) (place : Place) (next : ℕ) (
         | inr f ↦ old f.0 f.1 (link_reach u (shard_of key) place.node f.0 node_kind 0 node_kind next node_reached is read f.1)
       ]
 
-  module _ (w : View) (may : MayStore (word_of place.link) next u w) where
-    out : (map : Map) → Gives u (shard_of key) map → (image : Image) → MixesOwn w image → image (word_of place.link) ≡ next → IsMapIn w image (shard_of key) (without_key map key)
+  module _ (w : View) (may : MayHaveStored (word_of place.link) next u w) where
+    out : (map : Map) → GivesMap u (shard_of key) map → (image : Image) → MixesOwn w image → image (word_of place.link) ≡ next → IsMapIn w image (shard_of key) (without_key map key)
     out map gives = take_out u w seat (shard_of key) key (shard_below key) map gives taken.table taken.before (place.node ∷ []) taken.come (word_of place.link) next (pointer_to place.node)
         taken.at_is link_holds may place.node refl taken.key_is (node_word_own (place.node.first_word + 1) key_in_node) taken.next_is (node_word_own place.node.first_word first_in_node)
 
@@ -114,16 +114,16 @@ module _ (u : View) (seat : IsSeat u) (key : ℕ) (place : Place) (next : ℕ) (
       others = others_after u w (shard_of key) (word_of place.link) next node_kind seat (shard_below key) may only link_kind (may_link only);
     }
 
-    pub unlinked : IsSettled w (word_of place.link) next → (map : Map) → Gives u (shard_of key) map → Gives w (shard_of key) (without_key map key)
+    pub unlinked : IsDurableAt w (word_of place.link) next → (map : Map) → GivesMap u (shard_of key) map → GivesMap w (shard_of key) (without_key map key)
     unlinked settled map gives =
         exactly u w seat (shard_of key) key (shard_below key) map gives taken.table taken.before (place.node ∷ []) taken.come (word_of place.link) next (pointer_to place.node)
         taken.at_is link_holds may (without_key map key) (out map gives) settled
 
     -- afterwards nothing reaches the node
-    pub unreached : IsSeat w → ReachesOnlyHeld u → IsSettled w (word_of place.link) next → (root kind : ℕ) → MayReach w root place.node kind → ⊥
+    pub unreached : IsSeat w → ReachesOnlyHeld u → IsDurableAt w (word_of place.link) next → (root kind : ℕ) → MayReach w root place.node kind → ⊥
     unreached seat_w only settled root kind reached = elim (cases_eq (shard_of key) root) as (λ _. ⊥) [
       | inl same ↦
-          let kept = λ (word : ℕ) (value : ℕ) (own : IsOwn u.held u.roots word) (differs : word ≢ word_of place.link) (was : IsSettled u word value).
+          let kept = λ (word : ℕ) (value : ℕ) (own : IsOwn u.held u.roots word) (differs : word ≢ word_of place.link) (was : IsDurableAt u word value).
           settled_stays u w word value (may.others word own differs) was in
           gone w seat_w (shard_of key) (without_key map₀ key) (unlinked settled map₀ gives₀) taken.table
           (subst (λ (rs : List ℕ). Contains rs (shard_of key)) (sym may.roots) taken.come.owned) (subst (λ (bs : List Block). Contains bs taken.table) (sym may.held) taken.come.held_table) taken.come.size
@@ -140,7 +140,7 @@ module _ (u : View) (seat : IsSeat u) (key : ℕ) (place : Place) (next : ℕ) (
           ]
     ]
 
-pub found_node : (u : View) → IsSeat u → (key : ℕ) (place : Place) (next : ℕ) (taken : IsReadPlace IsSettled u key place next) (map₀ : Map) → Gives u (shard_of key) map₀
+pub found_node : (u : View) → IsSeat u → (key : ℕ) (place : Place) (next : ℕ) (taken : IsReadPlace IsDurableAt u key place next) (map₀ : Map) → GivesMap u (shard_of key) map₀
     → IsFoundNode u key place taken.table taken.before
 found_node u seat key place next taken map₀ gives₀ = record {
   held = node_held u seat key place next taken map₀ gives₀;

@@ -5,8 +5,8 @@ use Rattle.heap_model.specs.declared.block.Block.{Block}
 use Rattle.heap_model.specs.Geometry.{root_word}
 use Rattle.heap_model.specs.Blocks.{IsIn}
 use Rattle.heap_seat.specs.View.{View, word_of}
-use Rattle.heap_seat.specs.Words.{in_root, KeepsOwn, MayStore}
-use Rattle.heap_seat.specs.Free.{MayFree}
+use Rattle.heap_seat.specs.Words.{in_root, KeepsOwn, MayHaveStored}
+use Rattle.heap_seat.specs.Free.{MayHaveFreed}
 use Rattle.heap_seat.specs.Sound.{IsSeat}
 use Rattle.dict_model.specs.Links.{node_kind}
 use Rattle.dict_model.specs.Nodes.{shard_of, bucket_of}
@@ -14,9 +14,9 @@ use Rattle.dict_model.specs.Shards.{Map, LeadsTo, IsPath, but, link_behind}
 use Rattle.dict_model.proofs.ChainLemmas.{in_path}
 use Rattle.dict_model.proofs.SpliceLemmas.{held_once, one_holder, first_in}
 use Rattle.dict_seat.specs.declared.walk.Place.{Place}
-use Rattle.dict_seat.specs.Maps.{Gives}
+use Rattle.dict_seat.specs.Maps.{GivesMap}
 use Rattle.dict_seat.specs.Reached.{MayReach, Reaches, ReachesOnlyHeld, ReachesAllHeld}
-use Rattle.dict_seat.specs.Trails.{pointer_to, IsSettled, HasCome}
+use Rattle.dict_seat.specs.Trails.{pointer_to, IsDurableAt, HasCome}
 use Rattle.dict_seat.specs.Changes.{IsReadPlace}
 use Rattle.dict_seat.proofs.GrownLemmas.{are_placed, stays_held, grown_keeps, only_grown}
 use Rattle.dict_seat.proofs.TrailLemmas.{now_image, settled_stays, leads_held, bucket_own, bucket_below}
@@ -35,8 +35,8 @@ all_quiet v u seat keeps all = record {
 }
 
 -- a settled way to a link stays one where the link is stored to
-pub come_kept : (u w : View) (key p x : ℕ) (table : Block) (before : List Block) (map : Map) → IsSeat u → Gives u (shard_of key) map → HasCome IsSettled u (shard_of key) key table before
-    → p ≡ link_behind (table.first_word + bucket_of key) before → MayStore p x u w → HasCome IsSettled w (shard_of key) key table before
+pub come_kept : (u w : View) (key p x : ℕ) (table : Block) (before : List Block) (map : Map) → IsSeat u → GivesMap u (shard_of key) map → HasCome IsDurableAt u (shard_of key) key table before
+    → p ≡ link_behind (table.first_word + bucket_of key) before → MayHaveStored p x u w → HasCome IsDurableAt w (shard_of key) key table before
 come_kept u w key p x table before map seat gives come at may = record {
   owned = subst (λ (rs : List ℕ). Contains rs (shard_of key)) (sym may.roots) come.owned;
   in_shard = come.in_shard;
@@ -55,7 +55,7 @@ come_kept u w key p x table before map seat gives come at may = record {
   path : IsPath (but table (LeadsTo (Contains u.held))) (now_image u) (shard_of key) (bucket_of key) (table.first_word + bucket_of key) before
   path = begins_chain u seat key (shard_below key) table before come map gives
 
-module _ (u w : View) (seat : IsSeat u) (seat_w : IsSeat w) (key : ℕ) (place : Place) (next : ℕ) (taken : IsReadPlace IsSettled u key place next) (map : Map) (gives : Gives u (shard_of key) map)
+module _ (u w : View) (seat : IsSeat u) (seat_w : IsSeat w) (key : ℕ) (place : Place) (next : ℕ) (taken : IsReadPlace IsDurableAt u key place next) (map : Map) (gives : GivesMap u (shard_of key) map)
     (only : ReachesOnlyHeld u) where
   held_u : Contains u.held place.node
   held_u = node_held u seat key place next taken map gives
@@ -85,7 +85,7 @@ module _ (u w : View) (seat : IsSeat u) (seat_w : IsSeat w) (key : ℕ) (place :
   not_root root owned e = link_behind_roots u key taken.table taken.before root seat owned (come_to u seat key place next taken map gives) (e ∙ taken.at_is)
 
   -- a node that is taken out and freed
-  pub all_removed : (may : MayStore (word_of place.link) next u w) → IsSettled w (word_of place.link) next → (x : View) → MayFree place.node w x → (Contains x.held place.node → ⊥) → ReachesOnlyHeld x
+  pub all_removed : (may : MayHaveStored (word_of place.link) next u w) → IsDurableAt w (word_of place.link) next → (x : View) → MayHaveFreed place.node w x → (Contains x.held place.node → ⊥) → ReachesOnlyHeld x
       → ReachesAllHeld u → ReachesAllHeld x
   all_removed may settled x freeing gone only_x all = record {
     only = only_x;

@@ -6,8 +6,8 @@ use Rattle.heap_model.specs.Geometry.{root_word}
 use Rattle.heap_model.specs.Reach.{by_start, by_link}
 use Rattle.heap_model.proofs.ReachLemmas.{closure_least, closure_included}
 use Rattle.heap_seat.specs.View.{View}
-use Rattle.heap_seat.specs.Words.{in_root, MayStore}
-use Rattle.heap_seat.specs.Free.{MayFree}
+use Rattle.heap_seat.specs.Words.{in_root, MayHaveStored}
+use Rattle.heap_seat.specs.Free.{MayHaveFreed}
 use Rattle.heap_seat.specs.Sound.{IsSeat}
 use Rattle.dict_model.specs.Links.{shards, root_kind, node_kind, IsLink, in_table, in_node}
 use Rattle.dict_model.specs.Nodes.{shard_of, bucket_of}
@@ -16,7 +16,7 @@ use Rattle.dict_model.proofs.LinkLemmas.{at_first}
 use Rattle.dict_model.proofs.SpliceLemmas.{one_holder}
 use Rattle.dict_seat.specs.Quiet.{Grown}
 use Rattle.dict_seat.specs.Reached.{Sees, RootReaches, LinkReaches, MayReach, Reaches, ReachesOnlyHeld}
-use Rattle.dict_seat.specs.Trails.{pointer_to, IsSettled, Trail, HasCome}
+use Rattle.dict_seat.specs.Trails.{pointer_to, IsDurableAt, Trail, HasCome}
 use Rattle.dict_seat.proofs.GrownLemmas.{stays_held, are_placed, link_own, link_in, link_to}
 use Rattle.dict_seat.proofs.PublishLemmas.{IsLinkOf, MayPublish, link_at_link}
 use Rattle.dict_seat.proofs.MapPublishLemmas.{seen_read}
@@ -87,13 +87,13 @@ node_link w shard b seat reached = record {
   at_is = omega arith;
 }
 
-trail_sees : (w : View) (shard : ℕ) → IsSeat w → (at : ℕ) (bs : List Block) → SeesLink w shard at → Trail (IsSettled w) w.held at bs → SeesLink w shard (link_behind at bs)
+trail_sees : (w : View) (shard : ℕ) → IsSeat w → (at : ℕ) (bs : List Block) → SeesLink w shard at → Trail (IsDurableAt w) w.held at bs → SeesLink w shard (link_behind at bs)
 trail_sees w shard seat at [] link trail = link
 trail_sees w shard seat at (b ∷ bs) link trail =
     trail_sees w shard seat b.first_word bs (node_link w shard b seat (target_sees w shard at (pointer_to b) b link trail.1.seen (leads_held w b seat trail.0))) trail.2
 
 -- the link behind a settled trail is one
-pub come_sees : (w : View) (key : ℕ) (table : Block) (before : List Block) → IsSeat w → HasCome IsSettled w (shard_of key) key table before → SeesLink w (shard_of key) (link_behind (table.first_word + bucket_of key) before)
+pub come_sees : (w : View) (key : ℕ) (table : Block) (before : List Block) → IsSeat w → HasCome IsDurableAt w (shard_of key) key table before → SeesLink w (shard_of key) (link_behind (table.first_word + bucket_of key) before)
 come_sees w key table before seat come = trail_sees w (shard_of key) seat (table.first_word + bucket_of key) before (record {
   holder = table;
   from = root_kind (shard_of key);
@@ -105,8 +105,8 @@ come_sees w key table before seat come = trail_sees w (shard_of key) seat (table
 }) come.trail
 
 -- after a store to a link of the shard all is reached that was, but what is old
-module _ (u w : View) (seat : IsSeat u) (shard p x y : ℕ) (small : shard < shards) (may : MayStore p x u w) (only : ReachesOnlyHeld u) (link : IsLinkOf u shard p node_kind) (publish : MayPublish u shard x node_kind)
-    (was : IsSettled u p y) (behind : (root : ℕ) → Contains u.roots root → root_word root ≢ p) (old : Block → Type 0)
+module _ (u w : View) (seat : IsSeat u) (shard p x y : ℕ) (small : shard < shards) (may : MayHaveStored p x u w) (only : ReachesOnlyHeld u) (link : IsLinkOf u shard p node_kind) (publish : MayPublish u shard x node_kind)
+    (was : IsDurableAt u p y) (behind : (root : ℕ) → Contains u.roots root → root_word root ≢ p) (old : Block → Type 0)
     (detour : (c : Block) → LeadsTo (Contains u.held) y c → old c ⊎ Reaches w shard c node_kind)
     (from_old : (a c : Block) (value : ℕ) → old a → u.volatile (a.first_word + 0) ≡ Some value → LeadsTo (Contains u.held) value c → old c ⊎ Reaches w shard c node_kind)
     (old_kind : (root : ℕ) (a : Block) (kind : ℕ) → old a → Reaches u root a kind → (root ≡ shard) × (kind ≡ node_kind)) where
@@ -136,7 +136,7 @@ module _ (u w : View) (seat : IsSeat u) (shard p x y : ℕ) (small : shard < sha
         (from_old a c l.value gone (subst (λ i. u.volatile (a.first_word + i) ≡ Some l.value) zero l.read) l.leads)
 
 -- after freeing what nothing reaches
-pub sees_freed : (w x : View) (b : Block) → IsSeat w → MayFree b w x → Contains w.held b → ((root kind : ℕ) → MayReach w root b kind → ⊥) → (root : ℕ) (c : Block) (k : ℕ) → Reaches w root c k → Reaches x root c k
+pub sees_freed : (w x : View) (b : Block) → IsSeat w → MayHaveFreed b w x → Contains w.held b → ((root kind : ℕ) → MayReach w root b kind → ⊥) → (root : ℕ) (c : Block) (k : ℕ) → Reaches w root c k → Reaches x root c k
 sees_freed w x b seat may h unreached root = closure_included
     (λ c k start. record {
       owned = subst (λ (rs : List ℕ). Contains rs root) (sym may.roots) start.owned;

@@ -7,7 +7,7 @@ use Rattle.heap_seat.specs.declared.fault.AllocFault.TheVariants.{Full, Stopped}
 use Rattle.heap_seat.specs.declared.look.Look.{Look}
 use Rattle.heap_seat.specs.declared.fault.Looks.{Looks}
 use Rattle.heap_seat.specs.View.{View}
-use Rattle.heap_seat.specs.Words.{IsOwn, KeepsOwn, MixesOwn, MayStore, in_block}
+use Rattle.heap_seat.specs.Words.{IsOwn, KeepsOwn, MixesOwn, MayHaveStored, in_block}
 use Rattle.heap_seat.specs.Tickets.{Runs}
 use Rattle.heap_seat.specs.Calls.{SameRefusals}
 use Rattle.heap_seat.specs.Alloc.{FailsBy}
@@ -18,9 +18,9 @@ use Rattle.heap_seat.proofs.RowLemmas.{runs_then, stops_then, same_refusals_then
 use Rattle.dict_model.specs.Nodes.{largest_value, shard_of, bucket_of}
 use Rattle.dict_model.specs.Requests.{with_key}
 use Rattle.dict_model.specs.Shards.{Map, LeadsTo}
-use Rattle.dict_seat.specs.Maps.{IsMapIn, Gives}
+use Rattle.dict_seat.specs.Maps.{IsMapIn, GivesMap}
 use Rattle.dict_seat.specs.Reached.{ReachesOnlyHeld, Reaches, ReachesAllHeld}
-use Rattle.dict_seat.specs.Trails.{pointer_to, IsSettled, IsSettling, HasCome}
+use Rattle.dict_seat.specs.Trails.{pointer_to, IsDurableAt, IsSettling, HasCome}
 use Rattle.dict_seat.specs.Quiet.{Grown, FollowsLink}
 use Rattle.dict_seat.specs.Nodes.{MakesNode}
 use Rattle.dict_seat.specs.Changes.{MayChange, Changes}
@@ -92,16 +92,16 @@ put_fails reads bytes (Stopped stopped) v u w runs before same taken after fails
 
 module _ (v t u w : View) (seat_t : IsSeat t) (seat : IsSeat u) (key first x : ℕ) (value : List ℕ) (table n : Block) (shard : IsShard v (shard_of key)) (missing : IsMissing v key table)
     (seat_v : IsSeat v) (keeps : KeepsOwn v t) (follows : FollowsLink (table.first_word + bucket_of key) first v t) (grown_u : Grown t u) (makes : MakesNode n key first value t u)
-    (short : length value ≤ largest_value) (small : (k : ℕ) → k < length value → get_or value k 0 < 256) (points : x ≡ pointer_to n) (may : MayStore (table.first_word + bucket_of key) x u w) where
-  settle : (word y : ℕ) → IsOwn t.held t.roots word → IsSettling t word y → IsSettled u word y
+    (short : length value ≤ largest_value) (small : (k : ℕ) → k < length value → get_or value k 0 < 256) (points : x ≡ pointer_to n) (may : MayHaveStored (table.first_word + bucket_of key) x u w) where
+  settle : (word y : ℕ) → IsOwn t.held t.roots word → IsSettling t word y → IsDurableAt u word y
   settle word y own settling = settles t u word y own (grown_u.words word own) makes.settles settling
 
   come_t : HasCome IsSettling t (shard_of key) key table []
   come_t = come_stays IsSettling IsSettling v t (shard_of key) key table [] seat_v (grown_keeps v t keeps)
       (λ word y own settling. still_settling v t word y own keeps follows.goes settling) missing.come
 
-  come_u : HasCome IsSettled u (shard_of key) key table []
-  come_u = come_stays IsSettling IsSettled t u (shard_of key) key table [] seat_t grown_u settle come_t
+  come_u : HasCome IsDurableAt u (shard_of key) key table []
+  come_u = come_stays IsSettling IsDurableAt t u (shard_of key) key table [] seat_t grown_u settle come_t
 
   own_t : IsOwn t.held t.roots (table.first_word + bucket_of key)
   own_t = bucket_own t table (bucket_of key) come_t.held_table come_t.size (bucket_below key)
@@ -118,13 +118,13 @@ module _ (v t u w : View) (seat_t : IsSeat t) (seat : IsSeat u) (key first x : �
   only_u : ReachesOnlyHeld u
   only_u = only_grown v u grown_all seat shard.only
 
-  was : IsSettled u (table.first_word + bucket_of key) first
+  was : IsDurableAt u (table.first_word + bucket_of key) first
   was = settle (table.first_word + bucket_of key) first own_t follows.settling
 
-  none_u : (map : Map) → Gives u (shard_of key) map → map key ≡ None
+  none_u : (map : Map) → GivesMap u (shard_of key) map → map key ≡ None
   none_u map gives = same_map u seat (shard_of key) map shard.map gives (gives_grown v u grown_all (shard_of key) shard.map shard.gives) key ∙ missing.none shard.map shard.gives
 
-  new_map : (map : Map) → Gives u (shard_of key) map → (image : Image) → MixesOwn w image → image (table.first_word + bucket_of key) ≡ x → IsMapIn w image (shard_of key) (with_key map key value)
+  new_map : (map : Map) → GivesMap u (shard_of key) map → (image : Image) → MixesOwn w image → image (table.first_word + bucket_of key) ≡ x → IsMapIn w image (shard_of key) (with_key map key value)
   new_map = new_key t u seat grown_u only_t key first value n makes.held makes.new makes.room short small makes.written
       (followed_leads u seat (shard_of key) (shard_below key) (table.first_word + bucket_of key) first (bucket_followed u seat key (shard_below key) table [] come_u) was only_u)
       w only_u table [] [] come_u come_u (table.first_word + bucket_of key) x first refl was may points own_t come_t.held_table was (own_grown t u (table.first_word + bucket_of key) grown_u own_t) refl none_u
@@ -135,14 +135,14 @@ module _ (v t u w : View) (seat_t : IsSeat t) (seat : IsSeat u) (key first x : �
       (followed_leads u seat (shard_of key) (shard_below key) (table.first_word + bucket_of key) first (bucket_followed u seat key (shard_below key) table [] come_u) was only_u)
       w only_u table [] [] come_u come_u (table.first_word + bucket_of key) x first refl was may points own_t come_t.held_table was (own_grown t u (table.first_word + bucket_of key) grown_u own_t) new_map)
 
-  pub first_done : IsSettled w (table.first_word + bucket_of key) x → Changes (shard_of key) (λ map. with_key map key value) v w
+  pub first_done : IsDurableAt w (table.first_word + bucket_of key) x → Changes (shard_of key) (λ map. with_key map key value) v w
   first_done settled = changes_after (shard_of key) (λ map. with_key map key value) v u w grown_all
       (put_done t u seat grown_u only_t key first value n makes.held makes.new makes.room short small makes.written
       (followed_leads u seat (shard_of key) (shard_below key) (table.first_word + bucket_of key) first (bucket_followed u seat key (shard_below key) table [] come_u) was only_u)
       w only_u table [] [] come_u come_u (table.first_word + bucket_of key) x first refl was may points own_t come_t.held_table was (own_grown t u (table.first_word + bucket_of key) grown_u own_t) new_map settled)
 
   -- all that is held is reached still, the new node in front of the bucket's others
-  pub all_first : IsSeat w → IsSettled w (table.first_word + bucket_of key) x → ReachesAllHeld v → ReachesAllHeld w
+  pub all_first : IsSeat w → IsDurableAt w (table.first_word + bucket_of key) x → ReachesAllHeld v → ReachesAllHeld w
   all_first seat_w settled all = record {
     only = first_left.only;
     all = λ c h. elim (makes.only c (subst (λ (bs : List Block). Contains bs c) may.held h)) as (λ _. (root : ℕ) × (kind : ℕ) × Reaches w root c kind) [

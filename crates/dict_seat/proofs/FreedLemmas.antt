@@ -9,7 +9,7 @@ use Rattle.heap_model.proofs.ReachLemmas.{closure_least}
 use Rattle.heap_model.proofs.MemberLemmas.{in_none, head_or_rest}
 use Rattle.heap_seat.specs.View.{View}
 use Rattle.heap_seat.specs.Words.{IsOwn, in_block, in_root, MayRead, MixesOwn}
-use Rattle.heap_seat.specs.Free.{MayFree}
+use Rattle.heap_seat.specs.Free.{MayHaveFreed}
 use Rattle.heap_seat.specs.Sound.{IsSeat}
 use Rattle.heap_seat.proofs.CallerLemmas.{read_before, keeps_word_then}
 use Rattle.dict_model.specs.Links.{shards, root_kind, table_kind, node_kind, IsLink, in_table, in_node}
@@ -17,7 +17,7 @@ use Rattle.dict_model.specs.Shards.{Map, LeadsTo, IsMap, HasTable, IsPath, but}
 use Rattle.dict_model.proofs.SpliceLemmas.{ArePlaced, one_holder}
 use Rattle.dict_model.proofs.MapLemmas.{IsUsed, as_table, as_node, map_wider, map_stays}
 use Rattle.dict_seat.specs.Reached.{MayReach, IsNullOrHeld, ReachesOnlyHeld}
-use Rattle.dict_seat.specs.Maps.{IsMapIn, Gives, KeepsOthers}
+use Rattle.dict_seat.specs.Maps.{IsMapIn, GivesMap, KeepsOtherShards}
 use Rattle.dict_seat.proofs.GrownLemmas.{are_placed, link_own, link_in, reached_held, root_reach, link_reach}
 use Rattle.dict_seat.proofs.TrailLemmas.{now_image, now_completes, first_own}
 
@@ -94,7 +94,7 @@ module _ (u : View) (shard : ℕ) (small : shard < shards) (owned : Contains u.r
         (mixes.each (table.first_word + k) (link_own u table (root_kind shard) k node_kind there.leads_there.0 is)) leads) seat b h,
   )
 
-module _ (u w : View) (b : Block) (seat : IsSeat u) (may : MayFree b u w) (only : ReachesOnlyHeld u) (h : Contains u.held b)
+module _ (u w : View) (b : Block) (seat : IsSeat u) (may : MayHaveFreed b u w) (only : ReachesOnlyHeld u) (h : Contains u.held b)
     (unreached : (root kind : ℕ) → MayReach u root b kind → ⊥) where
   roots_back : (root : ℕ) → Contains w.roots root → Contains u.roots root
   roots_back root owned = subst (λ (rs : List ℕ). Contains rs root) may.roots owned
@@ -156,7 +156,7 @@ module _ (u w : View) (b : Block) (seat : IsSeat u) (may : MayFree b u w) (only 
   }
 
   -- the map stays: it stands on other blocks
-  pub gives_freed : (shard : ℕ) (map : Map) → shard < shards → Contains u.roots shard → Gives u shard map → Gives w shard map
+  pub gives_freed : (shard : ℕ) (map : Map) → shard < shards → Contains u.roots shard → GivesMap u shard map → GivesMap w shard map
   gives_freed shard map small owned gives = record { each = λ image mixes. by_image image mixes } where
     kept : Block → Type 0
     kept c = Contains u.held c × (c ≢ b)
@@ -181,7 +181,7 @@ module _ (u w : View) (b : Block) (seat : IsSeat u) (may : MayFree b u w) (only 
         map_wider limit (LeadsTo (Contains w.held)) image shard map (λ word c used leads. (may.keeps c leads.0.0 leads.1, leads.0.1)) second
 
 -- all else stays where the freed block was one that the shard's root reached
-pub others_freed : (shard kind : ℕ) (v u w : View) (b : Block) → IsSeat u → Contains u.held b → MayReach v shard b kind → KeepsOthers shard v u → MayFree b u w → KeepsOthers shard v w
+pub others_freed : (shard kind : ℕ) (v u w : View) (b : Block) → IsSeat u → Contains u.held b → MayReach v shard b kind → KeepsOtherShards shard v u → MayHaveFreed b u w → KeepsOtherShards shard v w
 others_freed shard kind v u w b seat h reached keeps may = record {
   roots = may.roots ∙ keeps.roots;
   root_words = λ root owned differs.

@@ -8,7 +8,7 @@ use Rattle.heap_seat.proofs.RowLemmas.{runs_then}
 use Rattle.dict_model.specs.Nodes.{shard_of, value_in}
 use Rattle.dict_model.specs.Shards.{Map}
 use Rattle.dict_seat.specs.declared.walk.Place.{Place}
-use Rattle.dict_seat.specs.Maps.{Gives}
+use Rattle.dict_seat.specs.Maps.{GivesMap}
 use Rattle.dict_seat.specs.Walks.{IsFoundPlace, IsQuietWalk}
 use Rattle.dict_seat.specs.Gets.{IsAnswer, Gets, words_of, ReadsFew, ReadsValue, IsQuietRead}
 use Rattle.dict_seat.proofs.GrownLemmas.{grown_keeps, gives_grown}
@@ -16,7 +16,7 @@ use Rattle.dict_seat.proofs.TrailLemmas.{now_image, now_completes, completes_bef
 use Rattle.dict_seat.proofs.DelLemmas.{found_is, few_calls, few_quiet}
 
 -- the key is missing
-pub gets_nothing : (v u : View) (key : ℕ) (old : List ℕ) → Runs v u → ((map : Map) → Gives v (shard_of key) map → map key ≡ None) → Gets key None old old v u
+pub gets_nothing : (v u : View) (key : ℕ) (old : List ℕ) → Runs v u → ((map : Map) → GivesMap v (shard_of key) map → map key ≡ None) → Gets key None old old v u
 gets_nothing v u key old runs none = record {
   runs = runs;
   tells = λ map gives. subst (λ (o : Option (List ℕ)). IsAnswer o None old old) (sym (none map gives)) (refl, refl);
@@ -27,7 +27,7 @@ few_search key v u walk map gives = few_quiet (words_of (map key)) 0 (shard_of k
 
 module _ (v u w : View) (key : ℕ) (place : Place) (seat : IsSeat u) where
   -- what the map has of the key, by what loads see after the reading
-  has_value : KeepsOwn v u → IsFoundPlace u key place → IsQuietRead place.node u w → (map : Map) → Gives v (shard_of key) map → map key ≡ Some (value_in (now_image w) place.node)
+  has_value : KeepsOwn v u → IsFoundPlace u key place → IsQuietRead place.node u w → (map : Map) → GivesMap v (shard_of key) map → map key ≡ Some (value_in (now_image w) place.node)
   has_value keeps found read map gives =
       let later = completes_before u w (now_image w) (grown_keeps u w read.quiet.unchanged) (now_completes w) in
       (found_is u key place seat found map (gives_grown v u (grown_keeps v u keeps) (shard_of key) map gives) (now_image w) later).0

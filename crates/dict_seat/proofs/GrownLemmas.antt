@@ -7,7 +7,7 @@ use Rattle.heap_model.specs.Blocks.{IsIn}
 use Rattle.heap_model.specs.Reach.{by_start, by_link}
 use Rattle.heap_model.proofs.ReachLemmas.{closure_least, not_null}
 use Rattle.heap_seat.specs.View.{View}
-use Rattle.heap_seat.specs.Words.{IsOwn, in_block, in_root, MayRead, MixesOwn, KeepsWord, KeepsOwn, MayStore}
+use Rattle.heap_seat.specs.Words.{IsOwn, in_block, in_root, MayRead, MixesOwn, KeepsWord, KeepsOwn, MayHaveStored}
 use Rattle.heap_seat.specs.Alloc.{Allocates}
 use Rattle.heap_seat.specs.Sound.{IsSeat}
 use Rattle.heap_seat.proofs.CallerLemmas.{read_before, keeps_word_then}
@@ -17,7 +17,7 @@ use Rattle.dict_model.proofs.SpliceLemmas.{ArePlaced, held_once, one_holder}
 use Rattle.dict_model.proofs.MapLemmas.{map_wider}
 use Rattle.dict_seat.specs.Reached.{MayReach, IsNullOrHeld, ReachesOnlyHeld}
 pub use Rattle.dict_seat.specs.Quiet.{Grown}
-use Rattle.dict_seat.specs.Maps.{IsMapIn, Gives, KeepsOthers}
+use Rattle.dict_seat.specs.Maps.{IsMapIn, GivesMap, KeepsOtherShards}
 
 -- the blocks of a seat are apart, lie behind the roots and have words
 pub are_placed : (v : View) → IsSeat v → ArePlaced (Contains v.held)
@@ -82,7 +82,7 @@ pub grown_allocates : (bytes : ℕ) (b : Block) (v w : View) → Allocates bytes
 grown_allocates bytes b v w allocates = record { keeps = allocates.blocks.keeps; roots = allocates.blocks.roots; words = allocates.words }
 
 -- a store to a word that wasn't the seat's
-pub grown_store : (word value : ℕ) (v u w : View) → Grown v u → MayStore word value u w → (IsOwn v.held v.roots word → ⊥) → Grown v w
+pub grown_store : (word value : ℕ) (v u w : View) → Grown v u → MayHaveStored word value u w → (IsOwn v.held v.roots word → ⊥) → Grown v w
 grown_store word value v u w a may new = record {
   keeps = λ c h. stays_held u w may.held c (a.keeps c h);
   roots = may.roots ∙ a.roots;
@@ -109,7 +109,7 @@ module _ (v w : View) (grown : Grown v w) where
   pub map_grown : (image : Image) (shard : ℕ) (map : Map) → IsMapIn v image shard map → IsMapIn w image shard map
   map_grown image shard map is = map_wider (LeadsTo (Contains v.held)) (LeadsTo (Contains w.held)) image shard map (λ word b used leads. (grown.keeps b leads.0, leads.1)) is
 
-  pub gives_grown : (shard : ℕ) (map : Map) → Gives v shard map → Gives w shard map
+  pub gives_grown : (shard : ℕ) (map : Map) → GivesMap v shard map → GivesMap w shard map
   gives_grown shard map gives = record { each = λ image mixes. map_grown image shard map (gives.each image (mixes_grown image mixes)) }
 
   pub null_or_held : (value : ℕ) → IsNullOrHeld v value → IsNullOrHeld w value
@@ -152,7 +152,7 @@ module _ (v w : View) (grown : Grown v w) where
       alone = λ shard root b kind other small differs p q. only.alone shard root b kind other small differs (reached_before shard b kind p) (reached_before root b other q);
     }
 
-  pub others_grown : (shard : ℕ) → KeepsOthers shard v w
+  pub others_grown : (shard : ℕ) → KeepsOtherShards shard v w
   others_grown shard = record {
     roots = grown.roots;
     root_words = λ root owned differs. grown.words (root_word root) (in_root root (root_word root) owned refl);

@@ -14,7 +14,7 @@ use Rattle.heap_seat.proofs.CallerLemmas.{own_same, durable_then, keeps_word_the
 use Rattle.heap_seat.proofs.RowLemmas.{row_then, row_more, row_large, runs_then, same_refusals_then}
 use Rattle.dict_model.specs.Nodes.{value_words}
 use Rattle.dict_seat.specs.Quiet.{Grown}
-use Rattle.dict_seat.specs.Trails.{IsSettled, IsSettling}
+use Rattle.dict_seat.specs.Trails.{IsDurableAt, IsSettling}
 use Rattle.dict_seat.specs.Nodes.{StoresWithin, KeepsPendingBut, WritesNode, MakesNode}
 use Rattle.dict_seat.proofs.GrownLemmas.{stays_held, grown_allocates, own_grown, new_block_outside}
 use Rattle.dict_seat.proofs.TrailLemmas.{settles}
@@ -77,7 +77,7 @@ module _ (bytes : ℕ) (b : Block) (v u t : View) (seat : IsSeat u) (allocates :
     held_t : Contains t.held b
     held_t = subst (λ (bs : List Block). Contains bs b) (sym within.held) allocates.blocks.has
 
-    settled : (i x : ℕ) → i < 3 + value_words (length value) → IsSettling t (b.first_word + i) x → IsSettled w (b.first_word + i) x
+    settled : (i x : ℕ) → i < 3 + value_words (length value) → IsSettling t (b.first_word + i) x → IsDurableAt w (b.first_word + i) x
     settled i x less settling =
         let own : IsOwn t.held t.roots (b.first_word + i) = in_block b (b.first_word + i) held_t (record { from = omega arith; until = omega arith }) in
         settles t w (b.first_word + i) x own (quiet.words (b.first_word + i) own) (record { each = fences.durable }) settling

@@ -7,7 +7,7 @@ use Rattle.heap_model.specs.Counting.{put}
 use Rattle.heap_model.specs.Blocks.{IsIn}
 use Rattle.heap_model.proofs.MemberLemmas.{in_none, in_head, head_or_rest}
 use Rattle.heap_seat.specs.View.{View}
-use Rattle.heap_seat.specs.Words.{IsOwn, MayBe, MayRead, MixesOwn, MayStore}
+use Rattle.heap_seat.specs.Words.{IsOwn, MayBe, MayRead, MixesOwn, MayHaveStored}
 use Rattle.heap_seat.specs.Sound.{IsSeat}
 use Rattle.heap_seat.proofs.CallerLemmas.{read_before, own_same}
 use Rattle.dict_model.specs.Links.{shards}
@@ -16,9 +16,9 @@ use Rattle.dict_model.specs.Requests.{with_key, without_key}
 use Rattle.dict_model.specs.Shards.{Map, LeadsTo, IsMap, IsPath, but, link_behind}
 use Rattle.dict_model.proofs.ChainLemmas.{node_same, behind_is, none_of, not_of, path_cross, path_right, find_in_none}
 use Rattle.dict_model.proofs.SpliceLemmas.{put_node, take_node, first_in}
-use Rattle.dict_seat.specs.Maps.{IsMapIn, Gives, GivesEither}
+use Rattle.dict_seat.specs.Maps.{IsMapIn, GivesMap, GivesEither}
 use Rattle.dict_seat.specs.Reached.{Reading}
-use Rattle.dict_seat.specs.Trails.{pointer_to, IsSettled, Trail, HasCome}
+use Rattle.dict_seat.specs.Trails.{pointer_to, IsDurableAt, Trail, HasCome}
 use Rattle.dict_seat.proofs.GrownLemmas.{are_placed}
 use Rattle.dict_seat.proofs.PublishLemmas.{put_same, put_other, same_but_put}
 use Rattle.dict_seat.proofs.TrailLemmas.{first_own, bucket_own, bucket_below, leads_held, settled_in, IsAlong, is_along, found_at}
@@ -69,11 +69,11 @@ pub record IsNodeOf (image : Image) (shard key : ℕ) (value : List ℕ) (next :
   pub value_is : value_in image n ≡ value
   pub next_is : image n.first_word ≡ next
 
-module _ (u w : View) (seat : IsSeat u) (shard key : ℕ) (small : shard < shards) (map : Map) (gives : Gives u shard map) (table : Block) (before drop : List Block)
-    (come : HasCome IsSettled u shard key table (before ++ drop)) (p x y : ℕ) (at : p ≡ link_behind (table.first_word + bucket_of key) before) (was : IsSettled u p y)
-    (may : MayStore p x u w) where
+module _ (u w : View) (seat : IsSeat u) (shard key : ℕ) (small : shard < shards) (map : Map) (gives : GivesMap u shard map) (table : Block) (before drop : List Block)
+    (come : HasCome IsDurableAt u shard key table (before ++ drop)) (p x y : ℕ) (at : p ≡ link_behind (table.first_word + bucket_of key) before) (was : IsDurableAt u p y)
+    (may : MayHaveStored p x u w) where
   own_p : IsOwn u.held u.roots p
-  own_p = subst (IsOwn u.held u.roots) (sym at) (behind_own IsSettled u shard key table before seat (come_left IsSettled u shard key table before drop come))
+  own_p = subst (IsOwn u.held u.roots) (sym at) (behind_own IsDurableAt u shard key table before seat (come_left IsDurableAt u shard key table before drop come))
 
   -- a mixture afterwards, with the old value in the link, is one before
   pub old_mixes : (image : Image) → MixesOwn w image → MixesOwn u (put image p y)
@@ -88,7 +88,7 @@ module _ (u w : View) (seat : IsSeat u) (shard key : ℕ) (small : shard < shard
   old_along : (image : Image) → MixesOwn w image → IsAlong u (put image p y) shard key map table (before ++ drop)
   old_along image mixes =
       let old = old_mixes image mixes in
-      is_along IsSettled u (put image p y) seat shard key map table (before ++ drop) (settled_in u (put image p y) old) come (gives.each (put image p y) old)
+      is_along IsDurableAt u (put image p y) seat shard key map table (before ++ drop) (settled_in u (put image p y) old) come (gives.each (put image p y) old)
 
   in_w : (image : Image) (other : Map) → IsMapIn u image shard other → IsMapIn w image shard other
   in_w image other is = subst (λ (held : List Block). IsMap (LeadsTo (Contains held)) image shard other) (sym may.held) is
@@ -111,11 +111,11 @@ module _ (u w : View) (seat : IsSeat u) (shard key : ℕ) (small : shard < shard
     ];
   }
 
-  pub exactly : (other : Map) → ((image : Image) → MixesOwn w image → image p ≡ x → IsMapIn w image shard other) → IsSettled w p x → Gives w shard other
+  pub exactly : (other : Map) → ((image : Image) → MixesOwn w image → image p ≡ x → IsMapIn w image shard other) → IsDurableAt w p x → GivesMap w shard other
   exactly other new settled = record { each = λ image mixes. new image mixes (settled_in w image mixes p x (own_same u w p may.held may.roots own_p) settled) }
 
   module _ (n : Block) (value : List ℕ) (next : ℕ) (n_held : Contains u.held n) (apart : n ≢ table) (free : IsIn n p → ⊥) (outside : (word : ℕ) → IsIn n word → word ≢ p)
-      (is_node : (image : Image) → MixesOwn u image → IsNodeOf image shard key value next n) (points : x ≡ pointer_to n) (link : IsSettled u (link_behind p drop) next)
+      (is_node : (image : Image) → MixesOwn u image → IsNodeOf image shard key value next n) (points : x ≡ pointer_to n) (link : IsDurableAt u (link_behind p drop) next)
       (own_next : IsOwn u.held u.roots (link_behind p drop)) where
     put_in : (image : Image) (mixes : MixesOwn w image) (along : IsAlong u (put image p y) shard key map table (before ++ drop)) → image p ≡ x
         → find (put image p y) key (before ++ along.rest) ≡ None → ((b : Block) → Contains drop b → key_in (put image p y) b ≡ key)
@@ -144,7 +144,7 @@ module _ (u w : View) (seat : IsSeat u) (shard key : ℕ) (small : shard < shard
         (λ b h. absurd (in_none b (subst (λ (bs : List Block). Contains bs b) empty h)))
 
     -- a node of the key in whose place it is put
-    pub put_over : (b : Block) → drop ≡ b ∷ [] → IsSettled u (b.first_word + 1) key → IsOwn u.held u.roots (b.first_word + 1)
+    pub put_over : (b : Block) → drop ≡ b ∷ [] → IsDurableAt u (b.first_word + 1) key → IsOwn u.held u.roots (b.first_word + 1)
         → (image : Image) → MixesOwn w image → image p ≡ x → IsMapIn w image shard (with_key map key value)
     put_over b one key_there own image mixes stored =
         let along = old_along image mixes in
@@ -165,8 +165,8 @@ module _ (u w : View) (seat : IsSeat u) (shard key : ℕ) (small : shard < shard
         ])
 
   -- a node of the key that is taken out
-  pub take_out : (b : Block) → drop ≡ b ∷ [] → IsSettled u (b.first_word + 1) key → IsOwn u.held u.roots (b.first_word + 1)
-      → IsSettled u b.first_word x → IsOwn u.held u.roots b.first_word
+  pub take_out : (b : Block) → drop ≡ b ∷ [] → IsDurableAt u (b.first_word + 1) key → IsOwn u.held u.roots (b.first_word + 1)
+      → IsDurableAt u b.first_word x → IsOwn u.held u.roots b.first_word
       → (image : Image) → MixesOwn w image → image p ≡ x → IsMapIn w image shard (without_key map key)
   take_out b one key_there own next own_first image mixes stored =
       let along = old_along image mixes in

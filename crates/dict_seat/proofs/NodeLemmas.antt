@@ -6,7 +6,7 @@ use Rattle.heap_model.specs.Image.{image_of_bytes}
 use Rattle.heap_model.specs.Blocks.{IsIn}
 use Rattle.heap_seat.specs.declared.spot.Spot.TheVariants.{InBlock}
 use Rattle.heap_seat.specs.View.{View}
-use Rattle.heap_seat.specs.Words.{IsOwn, IsOwnSpot, in_block, KeepsOwn, MayStore}
+use Rattle.heap_seat.specs.Words.{IsOwn, IsOwnSpot, in_block, KeepsOwn, MayHaveStored}
 use Rattle.heap_seat.specs.Calls.{Stores, WritesBack, SameRefusals}
 use Rattle.heap_seat.specs.Rows.{IsRow}
 use Rattle.heap_seat.proofs.CallerLemmas.{own_same, keeps_word_then, spot_written}
@@ -19,7 +19,7 @@ use Rattle.dict_seat.proofs.GrownLemmas.{keeps_none}
 use Rattle.dict_seat.proofs.TrailLemmas.{settling_stays}
 
 -- a store, then its write-back
-pub writes : (b : Block) (index value : ℕ) (v u w : View) → IsOwnSpot v (InBlock b index) → MayStore (b.first_word + index) value v u → Stores (b.first_word + index) value v u
+pub writes : (b : Block) (index value : ℕ) (v u w : View) → IsOwnSpot v (InBlock b index) → MayHaveStored (b.first_word + index) value v u → Stores (b.first_word + index) value v u
     → KeepsOwn u w → WritesBack (InBlock b index) u w → Writes (b.first_word + index) value v w
 writes b index value v u w own may stored keeps written =
     let word = b.first_word + index in
@@ -53,7 +53,7 @@ within_then b m n k v u w few p q = record {
 }
 
 -- a word of the block that may be stored to
-pub within_word : (b : Block) (word value : ℕ) (v w : View) → IsIn b word → MayStore word value v w → IsRow 2 0 0 v w → SameRefusals v w → StoresWithin b 2 v w
+pub within_word : (b : Block) (word value : ℕ) (v w : View) → IsIn b word → MayHaveStored word value v w → IsRow 2 0 0 v w → SameRefusals v w → StoresWithin b 2 v w
 within_word b word value v w inside may row refusals = record {
   held = may.held;
   roots = may.roots;
@@ -72,13 +72,13 @@ pub pending_then : (b : Block) (v u w : View) → KeepsPendingBut b v u → Keep
 pending_then b v u w p q = record { runs = runs_then v u w p.runs q.runs; pending = λ word out h. q.pending word out (p.pending word out h) }
 
 -- what was settling before another word was written is so still
-pub settling_over : (v w : View) (word value other stored : ℕ) → word ≢ other → IsOwn v.held v.roots word → MayStore other stored v w → Writes other stored v w → IsSettling v word value → IsSettling w word value
+pub settling_over : (v w : View) (word value other stored : ℕ) → word ≢ other → IsOwn v.held v.roots word → MayHaveStored other stored v w → Writes other stored v w → IsSettling v word value → IsSettling w word value
 settling_over v w word value other stored differs own may writes settling =
     settling_stays v w word value (may.others word own differs) (λ h. inl (writes.pending word differs h)) settling
 
 -- one more word of a value
 module _ (b : Block) (value : List ℕ) (count : ℕ) (v u w : View) (held : Contains u.held b) (inside : 3 + count < b.words)
-    (may : MayStore (b.first_word + (3 + count)) (image_of_bytes value count) u w) where
+    (may : MayHaveStored (b.first_word + (3 + count)) (image_of_bytes value count) u w) where
   is_in : IsIn b (b.first_word + (3 + count))
   is_in = record { from = omega arith; until = omega arith }
 
@@ -110,7 +110,7 @@ writing_start b value v = record { within = within_none b v; done = inl refl; wo
 
 -- the head of a node behind its value: length, key and link, one after the other
 module _ (b : Block) (key next : ℕ) (value : List ℕ) (v u t s w : View) (held : Contains v.held b) (room : 3 + value_words (length value) ≤ b.words)
-    (within : StoresWithin b (2 * value_words (length value)) v u) (may_length : MayStore (b.first_word + 2) (length value) u t) where
+    (within : StoresWithin b (2 * value_words (length value)) v u) (may_length : MayHaveStored (b.first_word + 2) (length value) u t) where
   own_at : (x : View) → x.held ≡ v.held → x.roots ≡ v.roots → (i : ℕ) → i < 3 + value_words (length value) → IsOwn x.held x.roots (b.first_word + i)
   own_at x h r i less = in_block b (b.first_word + i) (subst (λ (bs : List Block). Contains bs b) (sym h) held) (record { from = omega arith; until = omega arith })
 
@@ -121,12 +121,12 @@ module _ (b : Block) (key next : ℕ) (value : List ℕ) (v u t s w : View) (hel
   within_length row refusals = within_then b (2 * value_words (length value)) 2 (2 * value_words (length value) + 2) v u t (omega arith) within
       (within_word b (b.first_word + 2) (length value) u t (in_at 2 (omega arith)) may_length row refusals)
 
-  module _ (may_key : MayStore (b.first_word + 1) key t s) (within_t : StoresWithin b (2 * value_words (length value) + 2) v t) where
+  module _ (may_key : MayHaveStored (b.first_word + 1) key t s) (within_t : StoresWithin b (2 * value_words (length value) + 2) v t) where
     pub within_key : IsRow 2 0 0 t s → SameRefusals t s → StoresWithin b (2 * value_words (length value) + 4) v s
     within_key row refusals = within_then b (2 * value_words (length value) + 2) 2 (2 * value_words (length value) + 4) v t s (omega arith) within_t
         (within_word b (b.first_word + 1) key t s (in_at 1 (omega arith)) may_key row refusals)
 
-    module _ (may_next : MayStore (b.first_word + 0) next s w) (within_s : StoresWithin b (2 * value_words (length value) + 4) v s) where
+    module _ (may_next : MayHaveStored (b.first_word + 0) next s w) (within_s : StoresWithin b (2 * value_words (length value) + 4) v s) where
       pub within_next : IsRow 2 0 0 s w → SameRefusals s w → StoresWithin b (2 * value_words (length value) + 6) v w
       within_next row refusals = within_then b (2 * value_words (length value) + 4) 2 (2 * value_words (length value) + 6) v s w (omega arith) within_s
           (within_word b (b.first_word + 0) next s w (in_at 0 (omega arith)) may_next row refusals)
@@ -162,7 +162,7 @@ module _ (b : Block) (key next : ℕ) (value : List ℕ) (v u t s w : View) (hel
             settling_over s w (b.first_word + i) x (b.first_word + 0) next (λ e. omega arith) (own_at s within_s.held within_s.roots i less) may_next last settling
 
 -- one more null word of a block
-module _ (b : Block) (count : ℕ) (v u w : View) (held : Contains u.held b) (inside : count < b.words) (may : MayStore (b.first_word + count) 0 u w) where
+module _ (b : Block) (count : ℕ) (v u w : View) (held : Contains u.held b) (inside : count < b.words) (may : MayHaveStored (b.first_word + count) 0 u w) where
   pub clear_more : (k : ℕ) → 2 * count + 2 ≤ k → IsClearing b count v u → IsRow 2 0 0 u w → SameRefusals u w → StoresWithin b k v w
   clear_more k few before row refusals = within_then b (2 * count) 2 k v u w few before.within
       (within_word b (b.first_word + count) 0 u w (record { from = omega arith; until = omega arith }) may row refusals)

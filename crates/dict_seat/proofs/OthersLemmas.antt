@@ -13,7 +13,7 @@ use Rattle.dict_model.specs.Links.{shards}
 use Rattle.dict_model.specs.Shards.{Map, LeadsTo, IsMap}
 use Rattle.dict_model.proofs.MapLemmas.{map_wider, map_stays}
 use Rattle.dict_model.proofs.SpliceLemmas.{ArePlaced}
-use Rattle.dict_seat.specs.Maps.{IsMapIn, Gives, KeepsOthers}
+use Rattle.dict_seat.specs.Maps.{IsMapIn, GivesMap, KeepsOtherShards}
 use Rattle.dict_seat.specs.Changes.{MayChange, Changes}
 use Rattle.dict_seat.specs.Reached.{MayReach, ReachesOnlyHeld}
 use Rattle.dict_seat.specs.Removal.{IsShard}
@@ -40,7 +40,7 @@ abbrev pick : {A : Type 0} → A ⊎ (A → ⊥) → ℕ → ℕ → ℕ
 pick (inl a) x y = x
 pick (inr un) x y = y
 
-module _ (v w : View) (shard other : ℕ) (seat : IsSeat v) (only : ReachesOnlyHeld v) (keeps : KeepsOthers shard v w)
+module _ (v w : View) (shard other : ℕ) (seat : IsSeat v) (only : ReachesOnlyHeld v) (keeps : KeepsOtherShards shard v w)
     (small : shard < shards) (small_other : other < shards) (differs : other ≢ shard) (owned : Contains v.roots other) where
   -- an image that the earlier view may read, and that has what the later image has where that may be read
   abbrev before : Image → Image
@@ -86,7 +86,7 @@ module _ (v w : View) (shard other : ℕ) (seat : IsSeat v) (only : ReachesOnlyH
       before_same image (root_word other) (read_before v w (root_word other) (image (root_word other)) (keeps.root_words other owned differs)
       (mixes.each (root_word other) (in_root other (root_word other) there refl)))
 
-  pub gives_others : (map : Map) → Gives v other map → Gives w other map
+  pub gives_others : (map : Map) → GivesMap v other map → GivesMap w other map
   gives_others map gives = record { each = λ image mixes. by_image image mixes } where
     by_image : (image : Image) → MixesOwn w image → IsMapIn w image other map
     by_image image mixes =
@@ -101,7 +101,7 @@ module _ (v w : View) (shard : ℕ) (may : Map → Map) (seat : IsSeat v) (small
   owned_on other owned = subst (λ (rs : List ℕ). Contains rs other) (sym change.others.roots) owned
 
   -- a request to one shard leaves the other its map, wherever it ends
-  pub others_give : (other : ℕ) (map : Map) → other < shards → other ≢ shard → IsShard v other → Gives v other map → Gives w other map
+  pub others_give : (other : ℕ) (map : Map) → other < shards → other ≢ shard → IsShard v other → GivesMap v other map → GivesMap w other map
   others_give other map below differs is = gives_others v w shard other seat is.only change.others small below differs is.owned map
 
   -- one that was answered leaves a map to each
@@ -114,7 +114,7 @@ module _ (v w : View) (shard : ℕ) (may : Map → Map) (seat : IsSeat v) (small
             owned = owned_on other is.owned;
             only = change.only;
             map = after is.map;
-            gives = subst (λ n. Gives w n (after is.map)) (sym same) (changes.gives is.map (subst (λ n. Gives v n is.map) same is.gives));
+            gives = subst (λ n. GivesMap w n (after is.map)) (sym same) (changes.gives is.map (subst (λ n. GivesMap v n is.map) same is.gives));
           }
           | inr differs ↦ record { owned = owned_on other is.owned; only = change.only; map = is.map; gives = others_give other is.map below differs is is.gives }
         ];

@@ -10,8 +10,8 @@ use Rattle.heap_model.proofs.MemberLemmas.{in_head}
 use Rattle.heap_seat.specs.declared.spot.Spot.{Spot}
 use Rattle.heap_seat.specs.declared.spot.Spot.TheVariants.{InBlock, Root}
 use Rattle.heap_seat.specs.View.{View, word_of}
-use Rattle.heap_seat.specs.Words.{IsOwn, IsOwnSpot, in_root, in_block, KeepsOwn, MixesOwn, MayStore}
-use Rattle.heap_seat.specs.Free.{MayFree}
+use Rattle.heap_seat.specs.Words.{IsOwn, IsOwnSpot, in_root, in_block, KeepsOwn, MixesOwn, MayHaveStored}
+use Rattle.heap_seat.specs.Free.{MayHaveFreed}
 use Rattle.heap_seat.specs.Sound.{IsSeat}
 use Rattle.heap_seat.proofs.CallerLemmas.{own_same, own_spot}
 use Rattle.dict_model.specs.Links.{node_kind}
@@ -21,9 +21,9 @@ use Rattle.dict_model.specs.Shards.{Map, LeadsTo, IsPath, but, link_behind}
 use Rattle.dict_model.proofs.ChainLemmas.{in_path}
 use Rattle.dict_model.proofs.SpliceLemmas.{one_holder, first_in}
 use Rattle.dict_seat.specs.declared.walk.Place.{Place}
-use Rattle.dict_seat.specs.Maps.{IsMapIn, Gives}
+use Rattle.dict_seat.specs.Maps.{IsMapIn, GivesMap}
 use Rattle.dict_seat.specs.Reached.{MayReach, ReachesOnlyHeld, Reaches, ReachesAllHeld}
-use Rattle.dict_seat.specs.Trails.{pointer_to, IsSettled, IsSettling, HasCome}
+use Rattle.dict_seat.specs.Trails.{pointer_to, IsDurableAt, IsSettling, HasCome}
 use Rattle.dict_seat.specs.Quiet.{Grown}
 use Rattle.dict_seat.specs.Nodes.{MakesNode}
 use Rattle.dict_seat.specs.Changes.{MayChange, Changes, IsReadPlace}
@@ -41,9 +41,9 @@ use Rattle.dict_seat.proofs.DeleteLemmas.{shard_below, IsFoundNode, found_node, 
 use Rattle.dict_seat.proofs.UnreachedLemmas.{replaced}
 
 -- what was taken stays where words settle and blocks come; its table, link and node were there before
-pub taken_made : (t u : View) (key next : ℕ) (place : Place) → IsSeat t → Grown t u → ((word value : ℕ) → IsOwn t.held t.roots word → IsSettling t word value → IsSettled u word value)
+pub taken_made : (t u : View) (key next : ℕ) (place : Place) → IsSeat t → Grown t u → ((word value : ℕ) → IsOwn t.held t.roots word → IsSettling t word value → IsDurableAt u word value)
     → IsReadPlace IsSettling t key place next
-    → (made : IsReadPlace IsSettled u key place next) × Contains t.held made.table × IsOwn t.held t.roots (word_of place.link) × Contains t.held place.node
+    → (made : IsReadPlace IsDurableAt u key place next) × Contains t.held made.table × IsOwn t.held t.roots (word_of place.link) × Contains t.held place.node
 taken_made t u key next place seat grown settle taken =
     let node = place.node in
     let held = trail_held (IsSettling t) t.held (taken.table.first_word + bucket_of key) (taken.before ++ (node ∷ [])) node taken.come.trail
@@ -53,7 +53,7 @@ taken_made t u key next place seat grown settle taken =
       record {
         table = taken.table;
         before = taken.before;
-        come = come_stays IsSettling IsSettled t u (shard_of key) key taken.table (taken.before ++ (node ∷ [])) seat grown settle taken.come;
+        come = come_stays IsSettling IsDurableAt t u (shard_of key) key taken.table (taken.before ++ (node ∷ [])) seat grown settle taken.come;
         at_is = taken.at_is;
         own = own_spot_grown t u place.link grown taken.own;
         room = taken.room;
@@ -69,9 +69,9 @@ taken_made t u key next place seat grown settle taken =
       own_spot_grown t u (Root i) grown h = subst (λ (rs : List ℕ). Contains rs i) (sym grown.roots) h
 
 module _ (v t u w : View) (seat_t : IsSeat t) (seat : IsSeat u) (key next x : ℕ) (value : List ℕ) (place : Place) (n : Block) (shard : IsShard v (shard_of key)) (keeps : KeepsOwn v t)
-    (taken : IsReadPlace IsSettled u key place next) (table_t : Contains t.held taken.table) (own_t : IsOwn t.held t.roots (word_of place.link)) (node_t : Contains t.held place.node)
+    (taken : IsReadPlace IsDurableAt u key place next) (table_t : Contains t.held taken.table) (own_t : IsOwn t.held t.roots (word_of place.link)) (node_t : Contains t.held place.node)
     (grown_u : Grown t u) (makes : MakesNode n key next value t u)
-    (short : length value ≤ largest_value) (small : (k : ℕ) → k < length value → get_or value k 0 < 256) (points : x ≡ pointer_to n) (may : MayStore (word_of place.link) x u w) where
+    (short : length value ≤ largest_value) (small : (k : ℕ) → k < length value → get_or value k 0 < 256) (points : x ≡ pointer_to n) (may : MayHaveStored (word_of place.link) x u w) where
   grown_all : Grown v u
   grown_all = grown_then v t u (grown_keeps v t keeps) grown_u
 
@@ -81,7 +81,7 @@ module _ (v t u w : View) (seat_t : IsSeat t) (seat : IsSeat u) (key next x : �
   only_u : ReachesOnlyHeld u
   only_u = only_grown v u grown_all seat shard.only
 
-  gives_u : Gives u (shard_of key) shard.map
+  gives_u : GivesMap u (shard_of key) shard.map
   gives_u = gives_grown v u grown_all (shard_of key) shard.map shard.gives
 
   found : IsFoundNode u key place taken.table taken.before
@@ -96,7 +96,7 @@ module _ (v t u w : View) (seat_t : IsSeat t) (seat : IsSeat u) (key next x : �
   key_word_own : IsOwn u.held u.roots (place.node.first_word + 1)
   key_word_own = node_word_own u seat key place next taken shard.map gives_u (place.node.first_word + 1) (key_in_node u seat key place next taken shard.map gives_u)
 
-  new_map : (map : Map) → Gives u (shard_of key) map → (image : Image) → MixesOwn w image → image (word_of place.link) ≡ x → IsMapIn w image (shard_of key) (with_key map key value)
+  new_map : (map : Map) → GivesMap u (shard_of key) map → (image : Image) → MixesOwn w image → image (word_of place.link) ≡ x → IsMapIn w image (shard_of key) (with_key map key value)
   new_map = old_key t u seat grown_u only_t key next value n makes.held makes.new makes.room short small makes.written next_leads
       w only_u taken.table taken.before (place.node ∷ []) taken.come found.come (word_of place.link) x (pointer_to place.node) taken.at_is found.link may points own_t table_t taken.next_is first_word_own
       place.node refl taken.key_is key_word_own
@@ -111,18 +111,18 @@ module _ (v t u w : View) (seat_t : IsSeat t) (seat : IsSeat u) (key next x : �
   pub old_still : Contains w.held place.node
   old_still = stays_held u w may.held place.node found.held
 
-  module _ (seat_w : IsSeat w) (settled : IsSettled w (word_of place.link) x) where
+  module _ (seat_w : IsSeat w) (settled : IsDurableAt w (word_of place.link) x) where
     done_here : Changes (shard_of key) (λ map. with_key map key value) u w
     done_here = put_done t u seat grown_u only_t key next value n makes.held makes.new makes.room short small makes.written next_leads
         w only_u taken.table taken.before (place.node ∷ []) taken.come found.come (word_of place.link) x (pointer_to place.node) taken.at_is found.link may points own_t table_t taken.next_is first_word_own new_map settled
 
-    kept : (word y : ℕ) → IsOwn u.held u.roots word → word ≢ word_of place.link → IsSettled u word y → IsSettled w word y
+    kept : (word y : ℕ) → IsOwn u.held u.roots word → word ≢ word_of place.link → IsDurableAt u word y → IsDurableAt w word y
     kept word y own differs was = settled_stays u w word y (may.others word own differs) was
 
     path : IsPath (but taken.table (LeadsTo (Contains u.held))) (now_image u) (shard_of key) (bucket_of key) (taken.table.first_word + bucket_of key) taken.before
     path = begins_chain u seat key (shard_below key) taken.table taken.before found.come shard.map gives_u
 
-    come_w : HasCome IsSettled w (shard_of key) key taken.table (taken.before ++ (n ∷ []))
+    come_w : HasCome IsDurableAt w (shard_of key) key taken.table (taken.before ++ (n ∷ []))
     come_w = record {
       owned = subst (λ (rs : List ℕ). Contains rs (shard_of key)) (sym may.roots) taken.come.owned;
       in_shard = refl;
@@ -130,7 +130,7 @@ module _ (v t u w : View) (seat_t : IsSeat t) (seat : IsSeat u) (key next x : �
       size = taken.come.size;
       root = kept (root_word (shard_of key)) (pointer_to taken.table) (in_root (shard_of key) (root_word (shard_of key)) taken.come.owned refl)
           (λ e. link_behind_roots u key taken.table taken.before (shard_of key) seat taken.come.owned found.come (e ∙ taken.at_is)) taken.come.root;
-      trail = trail_more (IsSettled w) w.held (taken.table.first_word + bucket_of key) taken.before n
+      trail = trail_more (IsDurableAt w) w.held (taken.table.first_word + bucket_of key) taken.before n
           (trail_kept u w (word_of place.link) x seat may taken.table (now_image u) (shard_of key) (bucket_of key) (taken.table.first_word + bucket_of key) taken.before taken.at_is
           (λ c h e.
           let c_is = (in_path (but taken.table (LeadsTo (Contains u.held))) (now_image u) (shard_of key) (bucket_of key) (taken.table.first_word + bucket_of key) taken.before c path h).0.1 in
@@ -138,7 +138,7 @@ module _ (v t u w : View) (seat_t : IsSeat t) (seat : IsSeat u) (key next x : �
           (subst (IsIn c) (sym e) (first_in (Contains u.held) (are_placed u seat) c c_is.0.0))
           (record { from = omega arith; until = let below = bucket_below key in let size = taken.come.size in omega arith })))
           path (bucket_own u taken.table (bucket_of key) taken.come.held_table taken.come.size (bucket_below key)) found.come.trail)
-          (subst (λ (bs : List Block). Contains bs n) (sym may.held) makes.held) (subst (IsSettled w (link_behind (taken.table.first_word + bucket_of key) taken.before)) points (subst (λ q. IsSettled w q x) taken.at_is settled));
+          (subst (λ (bs : List Block). Contains bs n) (sym may.held) makes.held) (subst (IsDurableAt w (link_behind (taken.table.first_word + bucket_of key) taken.before)) points (subst (λ q. IsDurableAt w q x) taken.at_is settled));
     }
 
     n_outside : (word : ℕ) → IsIn n word → word ≢ word_of place.link
@@ -170,14 +170,14 @@ module _ (v t u w : View) (seat_t : IsSeat t) (seat : IsSeat u) (key next x : �
           ]
     ]
 
-    pub over_freed : (y : View) → MayFree place.node w y → Changes (shard_of key) (λ map. with_key map key value) v y × MayChange (shard_of key) (λ map. with_key map key value) v y
+    pub over_freed : (y : View) → MayHaveFreed place.node w y → Changes (shard_of key) (λ map. with_key map key value) v y × MayChange (shard_of key) (λ map. with_key map key value) v y
     over_freed y freeing =
         let both = freed (shard_of key) (λ map. with_key map key value) u w y place.node node_kind (shard_below key) seat_w come_w.owned old_still done_here left_here.only left_here.table left_here.others
         found.reached unreached freeing in
         (changes_after (shard_of key) (λ map. with_key map key value) v u y grown_all both.0, change_after (shard_of key) (λ map. with_key map key value) v u y grown_all seat shard.only both.1)
 
     -- all that is held is reached still, the new node in the old one's place
-    pub all_over : (y : View) → MayFree place.node w y → (Contains y.held place.node → ⊥) → ReachesAllHeld v → ReachesAllHeld y
+    pub all_over : (y : View) → MayHaveFreed place.node w y → (Contains y.held place.node → ⊥) → ReachesAllHeld v → ReachesAllHeld y
     all_over y freeing gone all = record { only = (over_freed y freeing).1.only; all = reached } where
       n_reached : Reaches w (shard_of key) n node_kind
       n_reached = target_sees w (shard_of key) (word_of place.link) x n

@@ -9,7 +9,7 @@ use Rattle.heap_model.specs.Geometry.{root_word}
 use Rattle.heap_model.specs.Blocks.{IsIn}
 use Rattle.heap_model.proofs.ReachLemmas.{closure_least, not_null}
 use Rattle.heap_seat.specs.View.{View}
-use Rattle.heap_seat.specs.Words.{IsOwn, in_block, in_root, MayRead, MixesOwn, MayStore}
+use Rattle.heap_seat.specs.Words.{IsOwn, in_block, in_root, MayRead, MixesOwn, MayHaveStored}
 use Rattle.heap_seat.specs.Sound.{IsSeat}
 use Rattle.heap_seat.proofs.CallerLemmas.{read_before, keeps_word_then}
 use Rattle.dict_model.specs.Links.{shards, root_kind, IsLink}
@@ -17,7 +17,7 @@ use Rattle.dict_model.specs.Shards.{LeadsTo}
 use Rattle.dict_model.proofs.SpliceLemmas.{one_holder, held_once}
 use Rattle.dict_model.proofs.ChainLemmas.{SameBut}
 use Rattle.dict_seat.specs.Reached.{RootReaches, LinkReaches, MayReach, IsNullOrHeld, ReachesOnlyHeld}
-use Rattle.dict_seat.specs.Maps.{KeepsOthers}
+use Rattle.dict_seat.specs.Maps.{KeepsOtherShards}
 use Rattle.dict_seat.proofs.GrownLemmas.{are_placed, stays_held, link_to, link_own, link_in, reached_held, root_reach, link_reach}
 
 -- the word is a link that the root may be followed to, and what it leads to is of the kind
@@ -56,7 +56,7 @@ put_mixes u image p y may mixes = record {
   ];
 }
 
-module _ (u w : View) (shard p x kind : ℕ) (seat : IsSeat u) (small : shard < shards) (may : MayStore p x u w) (only : ReachesOnlyHeld u)
+module _ (u w : View) (shard p x kind : ℕ) (seat : IsSeat u) (small : shard < shards) (may : MayHaveStored p x u w) (only : ReachesOnlyHeld u)
     (link : IsLinkOf u shard p kind) (publish : MayPublish u shard x kind) where
   -- the link is the seat's own
   own_link : IsOwn u.held u.roots p
@@ -217,7 +217,7 @@ module _ (u w : View) (shard p x kind : ℕ) (seat : IsSeat u) (small : shard < 
   }
 
   -- all that the shard's root may not reach stays as it is
-  pub others_after : KeepsOthers shard u w
+  pub others_after : KeepsOtherShards shard u w
   others_after = record {
     roots = may.roots;
     root_words = λ root owned differs. may.others (root_word root) (in_root root (root_word root) owned refl) (λ at. differs (root_at_link root owned at).0);
@@ -236,7 +236,7 @@ module _ (u w : View) (shard p x kind : ℕ) (seat : IsSeat u) (small : shard < 
 
 -- what stays of what others have over two calls
 pub others_then : (shard : ℕ) (v u w : View) → ((b : Block) (kind : ℕ) → Contains v.held b → MayReach u shard b kind → MayReach v shard b kind)
-    → KeepsOthers shard v u → KeepsOthers shard u w → KeepsOthers shard v w
+    → KeepsOtherShards shard v u → KeepsOtherShards shard u w → KeepsOtherShards shard v w
 others_then shard v u w before a b = record {
   roots = b.roots ∙ a.roots;
   root_words = λ root owned differs. keeps_word_then v u w (root_word root) (a.root_words root owned differs)

@@ -4,15 +4,15 @@ use Rattle.heap_model.specs.declared.block.Block.{Block}
 use Rattle.heap_model.specs.Image.{Image, image_of_bytes, words_from, bytes_of_words}
 use Rattle.heap_model.specs.Blocks.{IsIn}
 use Rattle.heap_seat.specs.View.{View}
-use Rattle.heap_seat.specs.Words.{IsOwn, in_block, MayBe, MayRead, MixesOwn, MayStore}
+use Rattle.heap_seat.specs.Words.{IsOwn, in_block, MayBe, MayRead, MixesOwn, MayHaveStored}
 use Rattle.heap_seat.specs.Sound.{IsSeat}
 use Rattle.dict_model.specs.Links.{node_kind, IsLink, in_node, in_table}
 use Rattle.dict_model.specs.Nodes.{largest_value, shard_of, bucket_of, value_words, key_in, length_in}
 use Rattle.dict_model.specs.Requests.{with_key}
 use Rattle.dict_model.specs.Shards.{Map, LeadsTo, link_behind}
-use Rattle.dict_seat.specs.Maps.{IsMapIn, Gives}
+use Rattle.dict_seat.specs.Maps.{IsMapIn, GivesMap}
 use Rattle.dict_seat.specs.Reached.{MayReach, ReachesOnlyHeld}
-use Rattle.dict_seat.specs.Trails.{pointer_to, IsSettled, HasCome}
+use Rattle.dict_seat.specs.Trails.{pointer_to, IsDurableAt, HasCome}
 use Rattle.dict_seat.specs.Quiet.{Grown}
 use Rattle.dict_seat.specs.Nodes.{IsWrittenNode}
 use Rattle.dict_seat.specs.Changes.{MayChange, Changes}
@@ -26,13 +26,13 @@ use Rattle.dict_seat.proofs.ValueLemmas.{value_of_words}
 use Rattle.dict_seat.proofs.DeleteLemmas.{shard_below}
 
 -- a settled word is read as one value
-pub one_reading : (u : View) (word value read : ℕ) → IsSettled u word value → MayRead u word read → read ≡ value
+pub one_reading : (u : View) (word value read : ℕ) → IsDurableAt u word value → MayRead u word read → read ≡ value
 one_reading u word value read settled (inl may) = subst (λ (known : Option ℕ). MayBe known read) settled.seen may
 one_reading u word value read settled (inr may) = subst (λ (known : Option ℕ). MayBe known read) settled.left may
 
 -- a node that was written is one in every mixture
 pub node_in : (u : View) (image : Image) (n : Block) (key next : ℕ) (value : List ℕ) → MixesOwn u image → Contains u.held n → 3 + value_words (length value) ≤ n.words → length value ≤ largest_value
-    → ((k : ℕ) → k < length value → get_or value k 0 < 256) → IsWrittenNode (IsSettled u) n key next value → IsNodeOf image (shard_of key) key value next n
+    → ((k : ℕ) → k < length value → get_or value k 0 < 256) → IsWrittenNode (IsDurableAt u) n key next value → IsNodeOf image (shard_of key) key value next n
 node_in u image n key next value mixes held room short small written = record {
   node = record {
     in_shard = ap shard_of key_is;
@@ -46,7 +46,7 @@ node_in u image n key next value mixes held room short small written = record {
       (λ i less. let e : n.first_word + 3 + i ≡ n.first_word + (3 + i) = omega arith in ap image e ∙ word (3 + i) (image_of_bytes value i) (omega arith) (written.words i less));
   next_is = let e : n.first_word ≡ n.first_word + 0 = omega arith in ap image e ∙ word 0 next (omega arith) written.next_is;
 } where
-  word : (i x : ℕ) → i < 3 + value_words (length value) → IsSettled u (n.first_word + i) x → image (n.first_word + i) ≡ x
+  word : (i x : ℕ) → i < 3 + value_words (length value) → IsDurableAt u (n.first_word + i) x → image (n.first_word + i) ≡ x
   word i x less settled = settled_in u image mixes (n.first_word + i) x (in_block n (n.first_word + i) held (record { from = omega arith; until = omega arith })) settled
 
   key_is : key_in image n ≡ key
@@ -57,7 +57,7 @@ node_in u image n key next value mixes held room short small written = record {
 
 module _ (v u : View) (seat : IsSeat u) (grown : Grown v u) (only_v : ReachesOnlyHeld v) (key next : ℕ) (value : List ℕ) (n : Block) (held : Contains u.held n) (fresh : Contains v.held n → ⊥)
     (room : 3 + value_words (length value) ≤ n.words) (short : length value ≤ largest_value) (small : (k : ℕ) → k < length value → get_or value k 0 < 256)
-    (written : IsWrittenNode (IsSettled u) n key next value) (leads_on : (next ≡ 0) ⊎ ((f : Block) × LeadsTo (Contains u.held) next f × MayReach u (shard_of key) f node_kind)) where
+    (written : IsWrittenNode (IsDurableAt u) n key next value) (leads_on : (next ≡ 0) ⊎ ((f : Block) × LeadsTo (Contains u.held) next f × MayReach u (shard_of key) f node_kind)) where
   -- nothing reaches it yet
   pub is_fresh : IsFresh u (shard_of key) n node_kind
   is_fresh = record {
@@ -71,9 +71,9 @@ module _ (v u : View) (seat : IsSeat u) (grown : Grown v u) (only_v : ReachesOnl
         subst (λ x. (x ≡ 0) ⊎ ((f : Block) × LeadsTo (Contains u.held) x f × MayReach u (shard_of key) f node_kind)) (sym one) leads_on
     by_link _ _ _ read (in_table words position below) is may = absurd (omega arith)
 
-  module _ (w : View) (only : ReachesOnlyHeld u) (table : Block) (before drop : List Block) (come : HasCome IsSettled u (shard_of key) key table (before ++ drop)) (come_to : HasCome IsSettled u (shard_of key) key table before)
-      (p x y : ℕ) (at : p ≡ link_behind (table.first_word + bucket_of key) before) (was : IsSettled u p y) (may : MayStore p x u w) (points : x ≡ pointer_to n) (own_v : IsOwn v.held v.roots p)
-      (table_v : Contains v.held table) (behind : IsSettled u (link_behind p drop) next) (behind_own : IsOwn u.held u.roots (link_behind p drop)) where
+  module _ (w : View) (only : ReachesOnlyHeld u) (table : Block) (before drop : List Block) (come : HasCome IsDurableAt u (shard_of key) key table (before ++ drop)) (come_to : HasCome IsDurableAt u (shard_of key) key table before)
+      (p x y : ℕ) (at : p ≡ link_behind (table.first_word + bucket_of key) before) (was : IsDurableAt u p y) (may : MayHaveStored p x u w) (points : x ≡ pointer_to n) (own_v : IsOwn v.held v.roots p)
+      (table_v : Contains v.held table) (behind : IsDurableAt u (link_behind p drop) next) (behind_own : IsOwn u.held u.roots (link_behind p drop)) where
     not_table : n ≢ table
     not_table same = fresh (subst (Contains v.held) (sym same) table_v)
 
@@ -89,7 +89,7 @@ module _ (v u : View) (seat : IsSeat u) (grown : Grown v u) (only_v : ReachesOnl
     pub publish : MayPublish u (shard_of key) x node_kind
     publish = new n (subst (λ q. LeadsTo (Contains u.held) q n) (sym points) (leads_held u n seat held)) is_fresh
 
-    pub put_left : ((map : Map) → Gives u (shard_of key) map → (image : Image) → MixesOwn w image → image p ≡ x → IsMapIn w image (shard_of key) (with_key map key value))
+    pub put_left : ((map : Map) → GivesMap u (shard_of key) map → (image : Image) → MixesOwn w image → image p ≡ x → IsMapIn w image (shard_of key) (with_key map key value))
         → MayChange (shard_of key) (λ map. with_key map key value) u w
     put_left new_map = record {
       either = λ map gives. either u w seat (shard_of key) key (shard_below key) map gives table before drop come p x y at was may (with_key map key value) (new_map map gives);
@@ -98,20 +98,20 @@ module _ (v u : View) (seat : IsSeat u) (grown : Grown v u) (only_v : ReachesOnl
       others = others_after u w (shard_of key) p x node_kind seat (shard_below key) may only link publish;
     }
 
-    pub put_done : ((map : Map) → Gives u (shard_of key) map → (image : Image) → MixesOwn w image → image p ≡ x → IsMapIn w image (shard_of key) (with_key map key value)) → IsSettled w p x
+    pub put_done : ((map : Map) → GivesMap u (shard_of key) map → (image : Image) → MixesOwn w image → image p ≡ x → IsMapIn w image (shard_of key) (with_key map key value)) → IsDurableAt w p x
         → Changes (shard_of key) (λ map. with_key map key value) u w
     put_done new_map settled = record {
       gives = λ map gives. exactly u w seat (shard_of key) key (shard_below key) map gives table before drop come p x y at was may (with_key map key value) (new_map map gives) settled;
     }
 
     -- a key that wasn't there
-    pub new_key : drop ≡ [] → ((map : Map) → Gives u (shard_of key) map → map key ≡ None) → (map : Map) → Gives u (shard_of key) map
+    pub new_key : drop ≡ [] → ((map : Map) → GivesMap u (shard_of key) map → map key ≡ None) → (map : Map) → GivesMap u (shard_of key) map
         → (image : Image) → MixesOwn w image → image p ≡ x → IsMapIn w image (shard_of key) (with_key map key value)
     new_key empty none map gives = put_new u w seat (shard_of key) key (shard_below key) map gives table before drop come p x y at was may n value next held not_table free outside
         (λ image mixes. node_in u image n key next value mixes held room short small written) points behind behind_own empty (none map gives)
 
     -- a key whose node is replaced
-    pub old_key : (b : Block) → drop ≡ b ∷ [] → IsSettled u (b.first_word + 1) key → IsOwn u.held u.roots (b.first_word + 1) → (map : Map) → Gives u (shard_of key) map
+    pub old_key : (b : Block) → drop ≡ b ∷ [] → IsDurableAt u (b.first_word + 1) key → IsOwn u.held u.roots (b.first_word + 1) → (map : Map) → GivesMap u (shard_of key) map
         → (image : Image) → MixesOwn w image → image p ≡ x → IsMapIn w image (shard_of key) (with_key map key value)
     old_key b one key_there own map gives = put_over u w seat (shard_of key) key (shard_below key) map gives table before drop come p x y at was may n value next held not_table free outside
         (λ image mixes. node_in u image n key next value mixes held room short small written) points behind behind_own b one key_there own

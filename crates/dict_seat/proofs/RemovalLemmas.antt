@@ -5,19 +5,19 @@ use Rattle.heap_model.proofs.MemberLemmas.{in_head}
 use Rattle.heap_seat.specs.declared.spot.Spot.{Spot}
 use Rattle.heap_seat.specs.declared.spot.Spot.TheVariants.{InBlock, Root}
 use Rattle.heap_seat.specs.View.{View, word_of}
-use Rattle.heap_seat.specs.Words.{IsOwn, IsOwnSpot, in_block, KeepsOwn, MayStore}
+use Rattle.heap_seat.specs.Words.{IsOwn, IsOwnSpot, in_block, KeepsOwn, MayHaveStored}
 use Rattle.heap_seat.specs.Calls.{WritesBack}
 use Rattle.heap_seat.specs.Rows.{Settles}
-use Rattle.heap_seat.specs.Free.{MayFree}
+use Rattle.heap_seat.specs.Free.{MayHaveFreed}
 use Rattle.heap_seat.specs.Sound.{IsSeat}
 use Rattle.heap_seat.proofs.CallerLemmas.{own_same, spot_written, keeps_own_then}
 use Rattle.dict_model.specs.Links.{node_kind}
 use Rattle.dict_model.specs.Nodes.{shard_of, bucket_of}
 use Rattle.dict_model.specs.Requests.{without_key}
 use Rattle.dict_seat.specs.declared.walk.Place.{Place}
-use Rattle.dict_seat.specs.Maps.{Gives}
+use Rattle.dict_seat.specs.Maps.{GivesMap}
 use Rattle.dict_seat.specs.Reached.{ReachesOnlyHeld}
-use Rattle.dict_seat.specs.Trails.{IsSettled, IsSettling}
+use Rattle.dict_seat.specs.Trails.{IsDurableAt, IsSettling}
 use Rattle.dict_seat.specs.Quiet.{GoesPending, FollowsLink}
 use Rattle.dict_seat.specs.Walks.{IsFoundPlace}
 use Rattle.dict_seat.specs.Changes.{MayChange, Changes, IsReadPlace}
@@ -71,7 +71,7 @@ takes v u w key next place seat found keeps follows keeps' writes =
     }
 
 -- after a fence all of it is durable
-pub taken_settled : (u w : View) (key next : ℕ) (place : Place) → IsSeat u → KeepsOwn u w → Settles u w → IsReadPlace IsSettling u key place next → IsReadPlace IsSettled w key place next
+pub taken_settled : (u w : View) (key next : ℕ) (place : Place) → IsSeat u → KeepsOwn u w → Settles u w → IsReadPlace IsSettling u key place next → IsReadPlace IsDurableAt w key place next
 taken_settled u w key next place seat keeps settled taken =
     let node = place.node in
     let held = trail_held (IsSettling u) u.held (taken.table.first_word + bucket_of key) (taken.before ++ (node ∷ [])) node taken.come.trail
@@ -82,7 +82,7 @@ taken_settled u w key next place seat keeps settled taken =
     record {
       table = taken.table;
       before = taken.before;
-      come = come_stays IsSettling IsSettled u w (shard_of key) key taken.table (taken.before ++ (node ∷ [])) seat (grown_keeps u w keeps) settle taken.come;
+      come = come_stays IsSettling IsDurableAt u w (shard_of key) key taken.table (taken.before ++ (node ∷ [])) seat (grown_keeps u w keeps) settle taken.come;
       at_is = taken.at_is;
       own = still_own u w place.link keeps taken.own;
       room = taken.room;
@@ -91,14 +91,14 @@ taken_settled u w key next place seat keeps settled taken =
     }
 
 -- what the parts of a removal leave: before its link is stored to, by that store, and by freeing the node
-module _ (v u : View) (key : ℕ) (place : Place) (next : ℕ) (seat : IsSeat u) (shard : IsShard v (shard_of key)) (grown : Grown v u) (taken : IsReadPlace IsSettled u key place next) where
-  gives : Gives u (shard_of key) shard.map
+module _ (v u : View) (key : ℕ) (place : Place) (next : ℕ) (seat : IsSeat u) (shard : IsShard v (shard_of key)) (grown : Grown v u) (taken : IsReadPlace IsDurableAt u key place next) where
+  gives : GivesMap u (shard_of key) shard.map
   gives = gives_grown v u grown (shard_of key) shard.map shard.gives
 
   only : ReachesOnlyHeld u
   only = only_grown v u grown seat shard.only
 
-  module _ (w : View) (may : MayStore (word_of place.link) next u w) where
+  module _ (w : View) (may : MayHaveStored (word_of place.link) next u w) where
     left_here : MayChange (shard_of key) (λ map. without_key map key) u w
     left_here = unlink_left u seat key place next taken shard.map gives w may only
 
@@ -108,7 +108,7 @@ module _ (v u : View) (key : ℕ) (place : Place) (next : ℕ) (seat : IsSeat u)
     pub node_still : Contains w.held place.node
     node_still = stays_held u w may.held place.node (node_held u seat key place next taken shard.map gives)
 
-    pub left_freed : (x : View) → IsSeat w → IsSettled w (word_of place.link) next → MayFree place.node w x
+    pub left_freed : (x : View) → IsSeat w → IsDurableAt w (word_of place.link) next → MayHaveFreed place.node w x
         → Changes (shard_of key) (λ map. without_key map key) v x × MayChange (shard_of key) (λ map. without_key map key) v x
     left_freed x seat_w settled freeing =
         let both = freed (shard_of key) (λ map. without_key map key) u w x place.node node_kind (shard_below key) seat_w

@@ -7,7 +7,7 @@ use Rattle.heap_model.specs.Geometry.{root_word}
 use Rattle.heap_model.specs.Sizes.{IsClass, IsLeastClassFor, size_of, class_sizes}
 use Rattle.heap_model.proofs.SizeLemmas.{at_class}
 use Rattle.heap_seat.specs.View.{View}
-use Rattle.heap_seat.specs.Words.{IsOwn, in_root, in_block, MayRead, MixesOwn, MayStore}
+use Rattle.heap_seat.specs.Words.{IsOwn, in_root, in_block, MayRead, MixesOwn, MayHaveStored}
 use Rattle.heap_seat.specs.Alloc.{IsSizeFor, of_class, of_superblocks}
 use Rattle.heap_seat.specs.Sound.{IsSeat}
 use Rattle.heap_seat.proofs.CallerLemmas.{own_same, read_before}
@@ -16,9 +16,9 @@ use Rattle.dict_model.specs.Nodes.{buckets, shard_of}
 use Rattle.dict_model.specs.Shards.{Map, LeadsTo, IsMap}
 use Rattle.dict_model.proofs.MapLemmas.{table_made}
 use Rattle.dict_model.proofs.SpliceLemmas.{held_once}
-use Rattle.dict_seat.specs.Maps.{IsMapIn, Gives}
+use Rattle.dict_seat.specs.Maps.{IsMapIn, GivesMap}
 use Rattle.dict_seat.specs.Reached.{MayReach, ReachesOnlyHeld, Reaches, ReachesAllHeld}
-use Rattle.dict_seat.specs.Trails.{pointer_to, IsSettled}
+use Rattle.dict_seat.specs.Trails.{pointer_to, IsDurableAt}
 use Rattle.dict_seat.specs.Quiet.{Grown}
 use Rattle.dict_seat.specs.Changes.{MayChange}
 use Rattle.dict_seat.specs.Puts.{IsMissing}
@@ -31,8 +31,8 @@ use Rattle.dict_seat.proofs.DeleteLemmas.{seen_value}
 use Rattle.dict_seat.proofs.PutLemmas.{one_reading}
 
 module _ (v u w : View) (seat : IsSeat u) (seat_w : IsSeat w) (grown : Grown v u) (only_v : ReachesOnlyHeld v) (shard x : ℕ) (table : Block) (small : shard < shards) (owned : Contains v.roots shard)
-    (held : Contains u.held table) (fresh : Contains v.held table → ⊥) (size : table.words ≡ buckets) (nulls : (i : ℕ) → i < buckets → IsSettled u (table.first_word + i) 0)
-    (points : x ≡ pointer_to table) (may : MayStore (root_word shard) x u w) (empty : (map : Map) → Gives v shard map → (key : ℕ) → map key ≡ None) where
+    (held : Contains u.held table) (fresh : Contains v.held table → ⊥) (size : table.words ≡ buckets) (nulls : (i : ℕ) → i < buckets → IsDurableAt u (table.first_word + i) 0)
+    (points : x ≡ pointer_to table) (may : MayHaveStored (root_word shard) x u w) (empty : (map : Map) → GivesMap v shard map → (key : ℕ) → map key ≡ None) where
   only_u : ReachesOnlyHeld u
   only_u = only_grown v u grown seat only_v
 
@@ -56,7 +56,7 @@ module _ (v u w : View) (seat : IsSeat u) (seat_w : IsSeat w) (grown : Grown v u
   publish = new table (subst (λ q. LeadsTo (Contains u.held) q table) (sym points) (leads_held u table seat held)) is_fresh_table
 
   -- every mixture gives the map as before
-  pub table_gives : (map : Map) → Gives v shard map → Gives w shard map
+  pub table_gives : (map : Map) → GivesMap v shard map → GivesMap w shard map
   table_gives map gives = record {
     each = λ image mixes. by_root image mixes (may.stored (image (root_word shard)) (mixes.each (root_word shard)
         (own_same u w (root_word shard) may.held may.roots (in_root shard (root_word shard) owned_u refl))));
@@ -139,14 +139,14 @@ module _ (v u w : View) (seat : IsSeat u) (seat_w : IsSeat w) (grown : Grown v u
 
 -- the table has no key
 pub table_missing : (v w : View) (key x : ℕ) (table : Block) → IsSeat w → Contains w.roots (shard_of key) → Contains w.held table → table.words ≡ buckets → x ≡ pointer_to table
-    → IsSettled w (root_word (shard_of key)) x → (map₀ : Map) → Gives w (shard_of key) map₀ → ((q : ℕ) → map₀ q ≡ None) → IsMissing w key table
+    → IsDurableAt w (root_word (shard_of key)) x → (map₀ : Map) → GivesMap w (shard_of key) map₀ → ((q : ℕ) → map₀ q ≡ None) → IsMissing w key table
 table_missing v w key x table seat owned held size points settled map₀ gives₀ empty = record {
   come = record {
     owned = owned;
     in_shard = refl;
     held_table = held;
     size = size;
-    root = let at = subst (IsSettled w (root_word (shard_of key))) points settled in record { seen = at.seen; coming = inr at.left };
+    root = let at = subst (IsDurableAt w (root_word (shard_of key))) points settled in record { seen = at.seen; coming = inr at.left };
     trail = tt;
   };
   none = λ map gives. same_map w seat (shard_of key) map map₀ gives gives₀ key ∙ empty key;

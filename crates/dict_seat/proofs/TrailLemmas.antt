@@ -18,8 +18,8 @@ use Rattle.dict_model.proofs.ShardLemmas.{one_map}
 use Rattle.dict_model.proofs.SpliceLemmas.{held_once}
 use Rattle.dict_model.proofs.ChainLemmas.{Leads_along, extends, behind_both}
 use Rattle.dict_seat.specs.Reached.{Reading}
-use Rattle.dict_seat.specs.Maps.{IsMapIn, Gives}
-use Rattle.dict_seat.specs.Trails.{pointer_to, IsSettled, IsSettling, Trail, Completes, HasCome}
+use Rattle.dict_seat.specs.Maps.{IsMapIn, GivesMap}
+use Rattle.dict_seat.specs.Trails.{pointer_to, IsDurableAt, IsSettling, Trail, Completes, HasCome}
 use Rattle.dict_seat.proofs.GrownLemmas.{Grown, are_placed, own_grown, mixes_grown}
 
 -- what loads see of each word, and 0 where that is not known
@@ -92,7 +92,7 @@ along reads v image seat is at (b ∷ bs) own trail = (
   along reads v image seat is b.first_word bs (first_own v b seat trail.0) trail.2,
 )
 
-pub settled_in : (v : View) (image : Image) → MixesOwn v image → (word value : ℕ) → IsOwn v.held v.roots word → IsSettled v word value → image word ≡ value
+pub settled_in : (v : View) (image : Image) → MixesOwn v image → (word value : ℕ) → IsOwn v.held v.roots word → IsDurableAt v word value → image word ≡ value
 settled_in v image mixes word value own settled = durable_in v word value image own settled.seen settled.left mixes
 
 pub settling_in : (v : View) (image : Image) → Completes v image → (word value : ℕ) → IsOwn v.held v.roots word → IsSettling v word value → image word ≡ value
@@ -137,13 +137,13 @@ found_at map image shard key nodes means in_shard =
     means key ∙ cond-true (nat_eq (shard_of key) shard) (find image key (nodes (bucket_of key))) None (eq-eqb (shard_of key) shard in_shard)
 
 -- two maps of one seat are one
-pub same_map : (v : View) → IsSeat v → (shard : ℕ) (a b : Map) → Gives v shard a → Gives v shard b → (q : ℕ) → a q ≡ b q
+pub same_map : (v : View) → IsSeat v → (shard : ℕ) (a b : Map) → GivesMap v shard a → GivesMap v shard b → (q : ℕ) → a q ≡ b q
 same_map v seat shard a b p q =
     let now = now_completes v in
     one_map (LeadsTo (Contains v.held)) (held_once (Contains v.held) (are_placed v seat)) (now_image v) shard a b (p.each (now_image v) now.mixes) (q.each (now_image v) now.mixes)
 
 -- settled and settling words over calls that don't store to them
-pub settled_stays : (v w : View) (word value : ℕ) → KeepsWord v w word → IsSettled v word value → IsSettled w word value
+pub settled_stays : (v w : View) (word value : ℕ) → KeepsWord v w word → IsDurableAt v word value → IsDurableAt w word value
 settled_stays v w word value keeps settled = record { seen = keeps.volatile value settled.seen; left = stays_durable v w word value keeps settled.seen settled.left }
 
 pub settling_stays : (v w : View) (word value : ℕ) → KeepsWord v w word → (Contains v.pending word → Contains w.pending word ⊎ IsDurable w word) → IsSettling v word value → IsSettling w word value
@@ -163,7 +163,7 @@ settling_stays v w word value keeps pending settling = record {
 }
 
 -- a fence settles them
-pub settles : (v w : View) (word value : ℕ) → IsOwn v.held v.roots word → KeepsWord v w word → Settles v w → IsSettling v word value → IsSettled w word value
+pub settles : (v w : View) (word value : ℕ) → IsOwn v.held v.roots word → KeepsWord v w word → Settles v w → IsSettling v word value → IsDurableAt w word value
 settles v w word value own keeps all settling = record {
   seen = keeps.volatile value settling.seen;
   left = elim settling.coming as (λ _. w.durable word ≡ Some value) [

@@ -17,9 +17,9 @@ use Rattle.dict_model.specs.Shards.{Map, Leading, LeadsTo, is_empty, has_table, 
 use Rattle.dict_model.proofs.LinkLemmas.{at_first}
 use Rattle.dict_model.proofs.ChainLemmas.{Leads_along, extends, path_left, in_path, found_in, own_key}
 use Rattle.dict_model.proofs.SpliceLemmas.{held_once, one_holder, first_in, path_kept}
-use Rattle.dict_seat.specs.Maps.{IsMapIn, Gives}
+use Rattle.dict_seat.specs.Maps.{IsMapIn, GivesMap}
 use Rattle.dict_seat.specs.Reached.{RootReaches, LinkReaches, MayReach}
-use Rattle.dict_seat.specs.Trails.{pointer_to, IsSettled, HasCome}
+use Rattle.dict_seat.specs.Trails.{pointer_to, IsDurableAt, HasCome}
 use Rattle.dict_seat.proofs.GrownLemmas.{are_placed, link_inside, link_to}
 use Rattle.dict_seat.proofs.PublishLemmas.{put_same, put_other, put_mixes}
 use Rattle.dict_seat.proofs.TrailLemmas.{now_image, now_completes, leads_held, settled_in, is_along, found_at, behind_more}
@@ -33,8 +33,8 @@ along_more : (leads : Leading) (image : Image) (at : ℕ) (bs : List Block) (c :
 along_more leads image at [] c along there = (there, tt)
 along_more leads image at (b ∷ bs) c along there = (along.0, along_more leads image b.first_word bs c along.1 there)
 
-module _ (u : View) (seat : IsSeat u) (shard : ℕ) (map : Map) (gives : Gives u shard map) (table : Block) (owned : Contains u.roots shard) (table_held : Contains u.held table)
-    (size : table.words ≡ buckets) (root : IsSettled u (root_word shard) (pointer_to table)) where
+module _ (u : View) (seat : IsSeat u) (shard : ℕ) (map : Map) (gives : GivesMap u shard map) (table : Block) (owned : Contains u.roots shard) (table_held : Contains u.held table)
+    (size : table.words ≡ buckets) (root : IsDurableAt u (root_word shard) (pointer_to table)) where
   -- the table and the chains of a mixture
   record HasNodes (image : Image) : Type 0 where
     nodes : ℕ → List Block
@@ -128,7 +128,7 @@ module _ (u : View) (seat : IsSeat u) (shard : ℕ) (map : Map) (gives : Gives u
     by_case (on_chain is_node k image before below mixes path) = is_node
 
   -- a node of a key that the map hasn't is reached no more
-  pub gone : (b : Block) (key kind : ℕ) → b ≢ table → IsSettled u (b.first_word + 1) key → IsOwn u.held u.roots (b.first_word + 1) → map key ≡ None → MayReach u shard b kind → ⊥
+  pub gone : (b : Block) (key kind : ℕ) → b ≢ table → IsDurableAt u (b.first_word + 1) key → IsOwn u.held u.roots (b.first_word + 1) → map key ≡ None → MayReach u shard b kind → ⊥
   gone b key kind apart key_there own none reached = by_case (hangs b kind reached) where
     by_case : HangsOn b kind → ⊥
     by_case (is_table same) = apart same
@@ -149,13 +149,13 @@ module _ (u : View) (seat : IsSeat u) (shard : ℕ) (map : Map) (gives : Gives u
         absurd (cc)
 
   -- a node whose key stands in another one is reached no more
-  pub replaced : (b n : Block) (key kind : ℕ) (before : List Block) → b ≢ table → b ≢ n → IsSettled u (b.first_word + 1) key → IsOwn u.held u.roots (b.first_word + 1)
-      → IsSettled u (n.first_word + 1) key → IsOwn u.held u.roots (n.first_word + 1) → HasCome IsSettled u shard key table (before ++ (n ∷ [])) → MayReach u shard b kind → ⊥
+  pub replaced : (b n : Block) (key kind : ℕ) (before : List Block) → b ≢ table → b ≢ n → IsDurableAt u (b.first_word + 1) key → IsOwn u.held u.roots (b.first_word + 1)
+      → IsDurableAt u (n.first_word + 1) key → IsOwn u.held u.roots (n.first_word + 1) → HasCome IsDurableAt u shard key table (before ++ (n ∷ [])) → MayReach u shard b kind → ⊥
   replaced b n key kind ahead apart differs key_there own n_there n_own come reached = by_case (hangs b kind reached) where
     by_case : HangsOn b kind → ⊥
     by_case (is_table same) = apart same
     by_case (on_chain is_node k image before below mixes path) =
-        let along = is_along IsSettled u image seat shard key map table (ahead ++ (n ∷ [])) (settled_in u image mixes) come (gives.each image mixes) in
+        let along = is_along IsDurableAt u image seat shard key map table (ahead ++ (n ∷ [])) (settled_in u image mixes) come (gives.each image mixes) in
         let more = extends (LeadsTo (Contains u.held)) (but table (LeadsTo (Contains u.held))) (held_once (Contains u.held) (are_placed u seat)) (λ word b leads. leads.0) image shard k (table.first_word + k) (before ++ (b ∷ []))
         (along.nodes k) (path_along table (LeadsTo (Contains u.held)) image shard k (table.first_word + k) (before ++ (b ∷ [])) path) (along.chains k below) in
         let b_in : Contains (along.nodes k) b = subst (λ (ys : List Block). Contains ys b) (sym more.1)

@@ -9,11 +9,11 @@ use Rattle.heap_seat.specs.Sound.{IsSeat}
 use Rattle.heap_seat.specs.Calls.{Loads}
 use Rattle.heap_seat.proofs.CallerLemmas.{own_same}
 use Rattle.dict_model.specs.Nodes.{shard_of, bucket_of, key_in, find}
-use Rattle.dict_model.specs.Shards.{Map, LeadsTo, IsChain, but, link_behind}
+use Rattle.dict_model.specs.Shards.{Map, LeadsTo, IsBucketChain, but, link_behind}
 use Rattle.dict_model.proofs.ChainLemmas.{path_right, find_in_none}
 use Rattle.dict_model.proofs.ShardLemmas.{find_behind}
 use Rattle.dict_model.proofs.SpliceLemmas.{held_once}
-use Rattle.dict_seat.specs.Maps.{Gives}
+use Rattle.dict_seat.specs.Maps.{GivesMap}
 use Rattle.dict_seat.specs.Reached.{IsNullOrHeld}
 use Rattle.dict_seat.specs.Trails.{pointer_to, IsSettling, Completes, HasCome}
 use Rattle.dict_seat.specs.Quiet.{IsQuiet, GoesPending, FollowsLink}
@@ -47,8 +47,8 @@ module _ (v : View) (key at : ℕ) (table : Block) (seat : IsSeat v) (walk : IsW
       let along = along_now image completes in
       let k = bucket_of key in
       let x_is : image at ≡ x = (now_completes w).seen at x (own_grown v w at (grown_keeps v w keeps) own_at) seen in
-      by_rest image along.rest (subst (λ (bs : List Block). IsChain (but table (LeadsTo (Contains v.held))) image (shard_of key) k (table.first_word + k) bs) along.is (along.chains k (bucket_below key))) x_is where
-        by_rest : (image : Image) (rest : List Block) → IsChain (but table (LeadsTo (Contains v.held))) image (shard_of key) (bucket_of key) (table.first_word + bucket_of key) (walk.before ++ rest)
+      by_rest image along.rest (subst (λ (bs : List Block). IsBucketChain (but table (LeadsTo (Contains v.held))) image (shard_of key) k (table.first_word + k) bs) along.is (along.chains k (bucket_below key))) x_is where
+        by_rest : (image : Image) (rest : List Block) → IsBucketChain (but table (LeadsTo (Contains v.held))) image (shard_of key) (bucket_of key) (table.first_word + bucket_of key) (walk.before ++ rest)
             → image at ≡ x → (x ≡ 0) ⊎ ((b : Block) × IsLinked v x b)
         by_rest image [] chain x_is =
             inl (sym x_is ∙ ap image walk.at_is ∙ ap (λ (bs : List Block). image (link_behind (table.first_word + bucket_of key) bs)) (sym (append-nil walk.before)) ∙ chain.ends)
@@ -121,17 +121,17 @@ walk_on v key at x table b seat walk node seen other = record {
 }
 
 -- at the end of its bucket the key is not there
-pub walk_ends : (v : View) (key at : ℕ) (table : Block) → IsSeat v → IsWalk v key table at → v.volatile at ≡ Some 0 → (map : Map) → Gives v (shard_of key) map → map key ≡ None
+pub walk_ends : (v : View) (key at : ℕ) (table : Block) → IsSeat v → IsWalk v key table at → v.volatile at ≡ Some 0 → (map : Map) → GivesMap v (shard_of key) map → map key ≡ None
 walk_ends v key at table seat walk seen map gives =
     let image = now_image v in
     let completes = now_completes v in
     let along = is_along IsSettling v image seat (shard_of key) key map table walk.before (settling_in v image completes) walk.come (gives.each image completes.mixes) in
     let k = bucket_of key in
     let null : image at ≡ 0 = completes.seen at 0 (own_at v key at table seat walk) seen in
-    let chain = subst (λ (bs : List Block). IsChain (but table (LeadsTo (Contains v.held))) image (shard_of key) k (table.first_word + k) bs) along.is (along.chains k (bucket_below key)) in
+    let chain = subst (λ (bs : List Block). IsBucketChain (but table (LeadsTo (Contains v.held))) image (shard_of key) k (table.first_word + k) bs) along.is (along.chains k (bucket_below key)) in
     found_at map image (shard_of key) key along.nodes along.means refl ∙ ap (λ (bs : List Block). find image key bs) along.is
     ∙ find_in_none image key walk.before along.rest (walk.past.none image completes) (by_rest along.rest chain null) where
-      by_rest : (rest : List Block) → IsChain (but table (LeadsTo (Contains v.held))) (now_image v) (shard_of key) (bucket_of key) (table.first_word + bucket_of key) (walk.before ++ rest)
+      by_rest : (rest : List Block) → IsBucketChain (but table (LeadsTo (Contains v.held))) (now_image v) (shard_of key) (bucket_of key) (table.first_word + bucket_of key) (walk.before ++ rest)
           → now_image v at ≡ 0 → find (now_image v) key rest ≡ None
       by_rest [] chain null = refl
       by_rest (b ∷ rest) chain null =
@@ -213,7 +213,7 @@ module _ (v u w : View) (key : ℕ) (table : Block) (link : Spot) (seat : IsSeat
   }
 
 -- a walk begins at its bucket
-pub walking_start : (v : View) (key : ℕ) (table : Block) (map : Map) → Gives v (shard_of key) map → HasCome IsSettling v (shard_of key) key table [] → IsWalking key table (InBlock table (bucket_of key)) v v
+pub walking_start : (v : View) (key : ℕ) (table : Block) (map : Map) → GivesMap v (shard_of key) map → HasCome IsSettling v (shard_of key) key table [] → IsWalking key table (InBlock table (bucket_of key)) v v
 walking_start v key table map gives come = record {
   walk = record { map = map; gives = gives; before = []; come = come; past = record { none = λ image completes. refl }; at_is = refl };
   own = (come.held_table, let below = bucket_below key in let size = come.size in omega arith);

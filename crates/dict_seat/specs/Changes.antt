@@ -6,20 +6,20 @@ use Rattle.heap_seat.specs.Words.{IsOwnSpot}
 use Rattle.dict_model.specs.Nodes.{shard_of, bucket_of}
 use Rattle.dict_model.specs.Shards.{Map, link_behind}
 use Rattle.dict_seat.specs.declared.walk.Place.{Place}
-use Rattle.dict_seat.specs.Maps.{Gives, GivesEither, KeepsTable, KeepsOthers}
+use Rattle.dict_seat.specs.Maps.{GivesMap, GivesEither, KeepsTable, KeepsOtherShards}
 use Rattle.dict_seat.specs.Reached.{Reading, ReachesOnlyHeld}
 use Rattle.dict_seat.specs.Trails.{HasCome}
 
 -- every mixture gives the map before or the map after, only held blocks are reached, the shard keeps its table, and what other roots have stays
 pub record MayChange (shard : ℕ) (after : Map → Map) (v w : View) : Type 0 where
-  pub either : (map : Map) → Gives v shard map → GivesEither w shard map (after map)
+  pub either : (map : Map) → GivesMap v shard map → GivesEither w shard map (after map)
   pub only : ReachesOnlyHeld w
   pub table : KeepsTable shard v w
-  pub others : KeepsOthers shard v w
+  pub others : KeepsOtherShards shard v w
 
 -- every mixture gives the map after
 pub record Changes (shard : ℕ) (after : Map → Map) (v w : View) : Type 0 where
-  pub gives : (map : Map) → Gives v shard map → Gives w shard (after map)
+  pub gives : (map : Map) → GivesMap v shard map → GivesMap w shard (after map)
 
 -- a key's node whose links and key are read: the link that leads to it, and the one that leads from it
 pub record IsReadPlace (reads : View → Reading) (v : View) (key : ℕ) (place : Place) (next : ℕ) : Type 0 where

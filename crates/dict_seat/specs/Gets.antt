@@ -6,7 +6,7 @@ use Rattle.heap_seat.specs.View.{View}
 use Rattle.heap_seat.specs.Tickets.{Runs}
 use Rattle.dict_model.specs.Nodes.{shard_of, value_words, value_in}
 use Rattle.dict_model.specs.Shards.{Map}
-use Rattle.dict_seat.specs.Maps.{Gives}
+use Rattle.dict_seat.specs.Maps.{GivesMap}
 use Rattle.dict_seat.specs.Answers.{MakesFew}
 use Rattle.dict_seat.specs.Quiet.{IsQuiet}
 use Rattle.dict_seat.specs.Trails.{Completes}
@@ -27,7 +27,7 @@ a_long_value = (refl, refl)
 -- a get was done, and answered what the map has
 pub record Gets (key : ℕ) (answer : Option ℕ) (old new : List ℕ) (v w : View) : Type 0 where
   pub runs : Runs v w
-  pub tells : (map : Map) → Gives v (shard_of key) map → IsAnswer (map key) answer old new
+  pub tells : (map : Map) → GivesMap v (shard_of key) map → IsAnswer (map key) answer old new
 
 -- the words of what the map has of the key
 abbrev pub words_of : Option (List ℕ) → ℕ
@@ -36,7 +36,7 @@ words_of (Some value) = value_words (length value)
 
 -- calls that are few for what the map has of the key, and take no superblock
 abbrev pub ReadsFew : ℕ → View → View → Type 0
-ReadsFew key v w = (map : Map) → Gives v (shard_of key) map → MakesFew (words_of (map key)) 0 (shard_of key) v w
+ReadsFew key v w = (map : Map) → GivesMap v (shard_of key) map → MakesFew (words_of (map key)) 0 (shard_of key) v w
 
 -- the first words of a node's value were read, so many, and their bytes stand in the output
 pub record HasRead (b : Block) (count : ℕ) (old new : List ℕ) (w : View) : Type 0 where

@@ -14,7 +14,7 @@ abbrev pub IsMapIn : View → Image → ℕ → Map → Type 0
 IsMapIn v image shard = IsMap (LeadsTo (Contains v.held)) image shard
 
 -- every mixture of the seat's words gives the shard this map
-pub record Gives (v : View) (shard : ℕ) (map : Map) : Type 0 where
+pub record GivesMap (v : View) (shard : ℕ) (map : Map) : Type 0 where
   pub each : (image : Image) → MixesOwn v image → IsMapIn v image shard map
 
 -- every mixture gives it the one map or the other
@@ -26,7 +26,7 @@ pub record KeepsTable (shard : ℕ) (v w : View) : Type 0 where
   pub root : (x : ℕ) → Contains v.roots shard → v.volatile (root_word shard) ≡ Some x → x ≢ 0 → w.volatile (root_word shard) ≡ Some x
 
 -- all that other roots reach is held with its words: they are not stored to
-pub record KeepsOthers (shard : ℕ) (v w : View) : Type 0 where
+pub record KeepsOtherShards (shard : ℕ) (v w : View) : Type 0 where
   pub roots : w.roots ≡ v.roots
   pub root_words : (root : ℕ) → Contains v.roots root → root ≢ shard → KeepsWord v w (root_word root)
   pub blocks : (b : Block) → Contains v.held b → ((kind : ℕ) → MayReach v shard b kind → ⊥)

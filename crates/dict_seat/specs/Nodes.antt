@@ -10,7 +10,7 @@ use Rattle.heap_seat.specs.Calls.{SameRefusals}
 use Rattle.heap_seat.specs.Rows.{IsRow, Settles}
 use Rattle.dict_model.specs.Nodes.{value_words}
 use Rattle.dict_seat.specs.Reached.{Reading}
-use Rattle.dict_seat.specs.Trails.{IsSettled, IsSettling}
+use Rattle.dict_seat.specs.Trails.{IsDurableAt, IsSettling}
 
 -- at most so many small calls, which store to words of the block alone
 pub record StoresWithin (b : Block) (small : ℕ) (v w : View) : Type 0 where
@@ -66,5 +66,5 @@ pub record MakesNode (b : Block) (key next : ℕ) (value : List ℕ) (v w : View
   pub only : (a : Block) → Contains w.held a → (a ≡ b) ⊎ Contains v.held a
   pub room : 3 + value_words (length value) ≤ b.words
   pub settles : Settles v w
-  pub written : IsWrittenNode (IsSettled w) b key next value
+  pub written : IsWrittenNode (IsDurableAt w) b key next value
   pub refusals : SameRefusals v w

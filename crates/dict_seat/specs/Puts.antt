@@ -13,13 +13,13 @@ use Rattle.heap_seat.specs.Calls.{SameRefusals}
 use Rattle.heap_seat.specs.Looks.{FoundNoRoom}
 use Rattle.dict_model.specs.Nodes.{shard_of, table_bytes}
 use Rattle.dict_model.specs.Shards.{Map}
-use Rattle.dict_seat.specs.Maps.{Gives}
+use Rattle.dict_seat.specs.Maps.{GivesMap}
 use Rattle.dict_seat.specs.Trails.{IsSettling, HasCome}
 
 -- the table has no node of the key
 pub record IsMissing (v : View) (key : ℕ) (table : Block) : Type 0 where
   pub come : HasCome IsSettling v (shard_of key) key table []
-  pub none : (map : Map) → Gives v (shard_of key) map → map key ≡ None
+  pub none : (map : Map) → GivesMap v (shard_of key) map → map key ≡ None
 
 -- a request of so many bytes was refused in this call, the only one: it is the last refusal, and had these looks; the call took at most so many superblocks
 pub record IsRefused (reads : ℕ → Type 0) (bytes most : ℕ) (looks : Looks) (v w : View) : Type 0 where
@@ -54,7 +54,7 @@ pub data PutRefused (reads : ℕ → Type 0) (bytes shard : ℕ) (looks : Looks)
 
 -- why a put answers a fault: a request was refused, and every mixture gives the map as before; or the seat stopped
 abbrev pub PutAnswers : (ℕ → Type 0) → ℕ → ℕ → AllocFault → View → View → Type 0
-PutAnswers reads bytes shard (Full looks) v w = PutRefused reads bytes shard looks v w × ((map : Map) → Gives v shard map → Gives w shard map)
+PutAnswers reads bytes shard (Full looks) v w = PutRefused reads bytes shard looks v w × ((map : Map) → GivesMap v shard map → GivesMap w shard map)
 PutAnswers reads bytes shard (Stopped stopped) v w = Stops stopped.step v w × SameRefusals v w
 
 -- the superblocks that a put took: for its node, and for a table where there was none

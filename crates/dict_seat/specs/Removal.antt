@@ -3,7 +3,7 @@ use Rattle.std.specs.Prelude.{ℕ, Contains}
 use Rattle.heap_seat.specs.View.{View}
 use Rattle.dict_model.specs.Shards.{Map}
 use Rattle.dict_seat.specs.declared.walk.Place.{Place}
-use Rattle.dict_seat.specs.Maps.{Gives}
+use Rattle.dict_seat.specs.Maps.{GivesMap}
 use Rattle.dict_seat.specs.Reached.{ReachesOnlyHeld}
 use Rattle.dict_seat.specs.Trails.{IsSettling}
 use Rattle.dict_seat.specs.Quiet.{GoesPending}
@@ -14,7 +14,7 @@ pub record IsShard (v : View) (shard : ℕ) : Type 0 where
   pub owned : Contains v.roots shard
   pub only : ReachesOnlyHeld v
   pub map : Map
-  pub gives : Gives v shard map
+  pub gives : GivesMap v shard map
 
 -- the links round a key's node and its key were followed
 pub record Takes (key : ℕ) (place : Place) (next : ℕ) (v w : View) : Type 0 where

@@ -7,7 +7,7 @@ use Rattle.dict_model.specs.Nodes.{buckets, shard_of}
 use Rattle.dict_model.specs.Shards.{Map}
 use Rattle.dict_seat.specs.declared.search.SearchEnd.{SearchEnd}
 use Rattle.dict_seat.specs.declared.search.SearchEnd.TheVariants.{NoTable, Missing, Found}
-use Rattle.dict_seat.specs.Maps.{Gives}
+use Rattle.dict_seat.specs.Maps.{GivesMap}
 use Rattle.dict_seat.specs.Trails.{pointer_to, IsSettling, HasCome}
 use Rattle.dict_seat.specs.Quiet.{GoesPending}
 use Rattle.dict_seat.specs.Walks.{IsFoundPlace}
@@ -22,7 +22,7 @@ pub record HasRoot (w : View) (shard : ℕ) (table : Block) : Type 0 where
 -- the root is null: the shard has no keys
 pub record HasNoRoot (shard : ℕ) (v w : View) : Type 0 where
   pub root : IsSettling w (root_word shard) 0
-  pub empty : (map : Map) → Gives v shard map → (key : ℕ) → map key ≡ None
+  pub empty : (map : Map) → GivesMap v shard map → (key : ℕ) → map key ≡ None
 
 -- the root was followed
 pub record FindsTable (shard : ℕ) (table : Option Block) (v w : View) : Type 0 where
@@ -34,7 +34,7 @@ pub record FindsTable (shard : ℕ) (table : Option Block) (v w : View) : Type 0
 abbrev pub EndsAt : ℕ → View → View → SearchEnd → Type 0
 EndsAt key v w NoTable = HasNoRoot (shard_of key) v w
 EndsAt key v w (Missing table) =
-    HasCome IsSettling w (shard_of key) key table [] × ((map : Map) → Gives v (shard_of key) map → map key ≡ None)
+    HasCome IsSettling w (shard_of key) key table [] × ((map : Map) → GivesMap v (shard_of key) map → map key ≡ None)
 EndsAt key v w (Found place) = IsFoundPlace w key place
 
 pub record Searches (key : ℕ) (search : SearchEnd) (v w : View) : Type 0 where

@@ -6,7 +6,7 @@ use Rattle.heap_seat.specs.Tickets.{Runs}
 use Rattle.heap_seat.specs.Calls.{SameRefusals}
 use Rattle.dict_model.specs.Nodes.{shard_of}
 use Rattle.dict_model.specs.Shards.{Map}
-use Rattle.dict_seat.specs.Maps.{Gives}
+use Rattle.dict_seat.specs.Maps.{GivesMap}
 use Rattle.dict_seat.specs.Reached.{Reading, MayReach}
 use Rattle.dict_seat.specs.Trails.{IsSettling}
 use Rattle.dict_seat.specs.Nodes.{StoresWithin, KeepsPendingBut}
@@ -26,6 +26,6 @@ pub record IsClearing (b : Block) (count : ℕ) (v w : View) : Type 0 where
 pub record MakesTable (key : ℕ) (table : Block) (v w : View) : Type 0 where
   pub runs : Runs v w
   pub missing : IsMissing w key table
-  pub gives : (map : Map) → Gives v (shard_of key) map → Gives w (shard_of key) map
+  pub gives : (map : Map) → GivesMap v (shard_of key) map → GivesMap w (shard_of key) map
   pub reached : (b : Block) (kind : ℕ) → Contains v.held b → MayReach w (shard_of key) b kind → MayReach v (shard_of key) b kind
   pub refusals : SameRefusals v w

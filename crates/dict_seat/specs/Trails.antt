@@ -13,7 +13,7 @@ abbrev pub pointer_to : Block → ℕ
 pointer_to b = pointer_tag + 8 * b.first_word
 
 -- loads see the value, and it is durable
-pub record IsSettled (v : View) (word value : ℕ) : Type 0 where
+pub record IsDurableAt (v : View) (word value : ℕ) : Type 0 where
   pub seen : v.volatile word ≡ Some value
   pub left : v.durable word ≡ Some value
 

@@ -9,14 +9,14 @@ use Rattle.dict_model.specs.Shards.{Map, link_behind}
 use Rattle.dict_seat.specs.declared.walk.Place.{Place}
 use Rattle.dict_seat.specs.declared.walk.Next.{Next}
 use Rattle.dict_seat.specs.declared.walk.Next.TheVariants.{End, Key, Other}
-use Rattle.dict_seat.specs.Maps.{Gives}
+use Rattle.dict_seat.specs.Maps.{GivesMap}
 use Rattle.dict_seat.specs.Trails.{pointer_to, IsSettling, HasCome, IsPast}
 use Rattle.dict_seat.specs.Quiet.{IsQuiet, GoesPending}
 
 -- the shard is a map, and a walk has come to the link `at` past nodes that don't have the key
 pub record IsWalk (v : View) (key : ℕ) (table : Block) (at : ℕ) : Type 0 where
   pub map : Map
-  pub gives : Gives v (shard_of key) map
+  pub gives : GivesMap v (shard_of key) map
   pub before : List Block
   pub come : HasCome IsSettling v (shard_of key) key table before
   pub past : IsPast v key before
@@ -52,14 +52,14 @@ pub record IsFoundPlace (w : View) (key : ℕ) (place : Place) : Type 0 where
 -- the shard's map has no other keys than these
 pub record ListsKeys (v : View) (shard : ℕ) (keys : List ℕ) : Type 0 where
   pub map : Map
-  pub gives : Gives v shard map
+  pub gives : GivesMap v shard map
   pub all : (key : ℕ) → map key ≢ None → Contains keys key
 
 -- a walk was done: it found the key's node, or the map hasn't the key
 pub record Walks (key : ℕ) (found : Option Place) (v w : View) : Type 0 where
   pub goes : GoesPending v w
   pub some : IfSome found (IsFoundPlace w key)
-  pub none : IfNone found ((map : Map) → Gives v (shard_of key) map → map key ≡ None)
+  pub none : IfNone found ((map : Map) → GivesMap v (shard_of key) map → map key ≡ None)
 
 -- quiet calls, three for each key of the shard and some more
 pub record IsQuietWalk (more shard : ℕ) (v w : View) : Type 0 where

@@ -9,7 +9,7 @@ ghost use Rattle.heap_seat.specs.Words.{NamesAll};
 ghost use Rattle.dict_model.specs.Links.{shards, root_kind, dict_links};
 ghost use Rattle.dict_model.specs.Shards.{Map, MapOf, WalkOf};
 ghost use Rattle.dict_seat.specs.Changes.{MayChange, Changes};
-ghost use Rattle.dict_seat.specs.Maps.{Gives, GivesEither};
+ghost use Rattle.dict_seat.specs.Maps.{GivesMap, GivesEither};
 ghost use Rattle.dict_seat.specs.Removal.{IsShard};
 ghost use Rattle.dict_seat.specs.Seats.{ShareHeap, MixesSeats};
 ghost use Rattle.dict_seat.specs.Shards.{HasShards};
@@ -21,7 +21,7 @@ use heap_seat::HeapSeat;
 pub fn images_have_the_map<H: HeapSeat>(_seat: &H)
     ensures names { (image : Image) → H.images _seat.now image
         → NamesAll image (H.view _seat.now).held }
-    ensures gives { (shard : ℕ) (map : Map) → Gives (H.view _seat.now) shard map
+    ensures gives { (shard : ℕ) (map : Map) → GivesMap (H.view _seat.now) shard map
         → (image : Image) → H.images _seat.now image → WalkOf image shard map }
     ensures either { (shard : ℕ) (one other : Map) → GivesEither (H.view _seat.now) shard one other
         → (image : Image) → H.images _seat.now image
@@ -37,7 +37,7 @@ pub fn a_shard_of_a_seat_is_a_shard_of_the_heap()
         → WalkOf image shard map ↔ MapOf image shard map }
     ensures gives { (count : ℕ) (seats : ℕ → View) (image : Image) → ShareHeap count seats
         → MixesSeats count seats image → (i shard : ℕ) (map : Map) → i < count → shard < shards
-        → Gives (seats i) shard map → MapOf image shard map }
+        → GivesMap (seats i) shard map → MapOf image shard map }
     ensures either { (count : ℕ) (seats : ℕ → View) (image : Image) → ShareHeap count seats
         → MixesSeats count seats image → (i shard : ℕ) (one other : Map) → i < count
         → shard < shards → GivesEither (seats i) shard one other
@@ -51,7 +51,7 @@ pub fn a_shard_of_a_seat_is_a_shard_of_the_heap()
 pub fn requests_go_on_from_shard_to_shard()
     ensures others { (v w : View) (shard other : ℕ) (may : Map → Map) (map : Map) → IsSeat v
         → MayChange shard may v w → shard < shards → other < shards → other ≢ shard
-        → IsShard v other → Gives v other map → Gives w other map }
+        → IsShard v other → GivesMap v other map → GivesMap w other map }
     ensures goes_on { (v w : View) (shard : ℕ) (may after : Map → Map) → IsSeat v
         → MayChange shard may v w → shard < shards → HasShards v → Changes shard after v w
         → HasShards w }

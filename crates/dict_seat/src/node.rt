@@ -3,7 +3,7 @@ ghost use Rattle.std.specs.Prelude.{◌≡◌, ℕ, ◌+◌, ◌*◌, ◌<◌, �
 ghost use Rattle.std.specs.Prelude.{OnOk, IfOk, IfErr, Contains};
 ghost use Rattle.heap_model.specs.declared.block.Block.{Block};
 ghost use Rattle.heap_seat.specs.View.{View};
-ghost use Rattle.heap_seat.specs.Words.{KeepsOwn, MayStore};
+ghost use Rattle.heap_seat.specs.Words.{KeepsOwn, MayHaveStored};
 ghost use Rattle.heap_seat.specs.declared.fault.AllocFault.TheVariants.{Full};
 ghost use Rattle.heap_seat.specs.declared.fault.Looks.{Looks};
 ghost use Rattle.heap_seat.specs.Tickets.{Stops};
@@ -34,7 +34,7 @@ pub(crate) fn write_word<H: HeapSeat>(
     ensures ok { OnOk result (Writes (block.first_word + index) value
         (H.view seat.old) (H.view seat.new)) }
     ensures cause { IfErr result (λ e. Stops e.step (H.view seat.old) (H.view seat.new)) }
-    ensures crash { MayStore (block.first_word + index) value
+    ensures crash { MayHaveStored (block.first_word + index) value
         (H.view seat.old) (H.view seat.new) }
     ensures calls { IsRow 2 0 0 (H.view seat.old) (H.view seat.new) }
     ensures refusals { SameRefusals (H.view seat.old) (H.view seat.new) }

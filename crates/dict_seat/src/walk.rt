@@ -11,7 +11,7 @@ ghost use Rattle.dict_seat.specs.Quiet.{IsQuiet, FollowsLink};
 ghost use Rattle.dict_seat.specs.Walks.{IsWalk, StepsAlong, Walks, IsQuietWalk};
 ghost use Rattle.dict_model.specs.Nodes.{shard_of, bucket_of};
 ghost use Rattle.dict_seat.specs.Trails.{IsSettling, HasCome};
-ghost use Rattle.dict_seat.specs.Maps.{Gives};
+ghost use Rattle.dict_seat.specs.Maps.{GivesMap};
 
 use heap_model::Block;
 use heap_seat::{HeapSeat, Spot};
@@ -97,7 +97,7 @@ pub(crate) fn walk<H: HeapSeat>(
     key: u64,
 ) -> Result<Option<Place>, Stopped>
     requires start { HasCome IsSettling (H.view seat.old) (shard_of key) key table [] }
-    requires map { (map : Map) × Gives (H.view seat.old) (shard_of key) map }
+    requires map { (map : Map) × GivesMap (H.view seat.old) (shard_of key) map }
     ensures ok { IfOk result (λ found. Walks key found (H.view seat.old) (H.view seat.new)) }
     ensures cause { IfErr result (λ e. Stops e.step (H.view seat.old) (H.view seat.new)) }
     ensures quiet { IsQuietWalk 3 (shard_of key) (H.view seat.old) (H.view seat.new) }

@@ -17,7 +17,7 @@ use Rattle.dictionary.specs.Laws.{are_inside}
 use Rattle.dictionary.specs.Reading.{RecoversTo}
 use Rattle.dict_model.specs.Links.{all_to_nodes, dict_links, root_kind, shards}
 use Rattle.dict_model.specs.Nodes.{buckets, shard_of, bucket_of, key_in, length_in, value_in, value_words, IsNode, find}
-use Rattle.dict_model.specs.Shards.{Map, link_behind, IsPath, IsChain, HasTable, HasChains, but, is_empty, has_table, at_root, at_link, LeadsAlone, MapOf, BadShard}
+use Rattle.dict_model.specs.Shards.{Map, link_behind, IsPath, IsBucketChain, HasTable, HasChains, but, is_empty, has_table, at_root, at_link, LeadsAlone, MapOf, BadShard}
 
 -- a table links each of its words, a node its first
 all_listed : (from : ℕ) (words : List ℕ) (k : ℕ) → k < length words → Contains (all_to_nodes from words) (from + k, 2)
@@ -171,10 +171,10 @@ module _ (old new : Image) (alike : TracesAlike old new AnyRoot root_kind dict_l
         }
 
     record IsSameChain (at : ℕ) (bs : List Block) : Type 0 where
-      chain : IsChain (but table (LeadsAlone old shard)) old shard bucket at bs
+      chain : IsBucketChain (but table (LeadsAlone old shard)) old shard bucket at bs
       same : AreSame bs
 
-    same_chain : (at : ℕ) (bs : List Block) → IsOnWay at 2 → IsChain (but table (LeadsAlone new shard)) new shard bucket at bs → IsSameChain at bs
+    same_chain : (at : ℕ) (bs : List Block) → IsOnWay at 2 → IsBucketChain (but table (LeadsAlone new shard)) new shard bucket at bs → IsSameChain at bs
     same_chain at bs way chain =
         let path = same_path at bs way chain.path in
         record { chain = record { path = path.path; ends = null_old (link_behind at bs) 2 path.way chain.ends }; same = path.same }

@@ -9,7 +9,7 @@ use Rattle.heap_model.specs.declared.block.Block.{Block}
 use Rattle.heap_model.specs.Image.{Image}
 use Rattle.dict_model.specs.Links.{shards}
 use Rattle.dict_model.specs.Nodes.{buckets, shard_of, bucket_of, key_in, value_in, IsNode, find}
-use Rattle.dict_model.specs.Shards.{Map, Leading, LeadsOnce, LeadsAstray, HasTable, HasChains, IsChain, IsPath, link_behind, but, map_of, IsMap, MapOf, has_table, IsBadAt, at_link, BadShard as IsBadShard}
+use Rattle.dict_model.specs.Shards.{Map, Leading, LeadsOnce, LeadsAstray, HasTable, HasChains, IsBucketChain, IsPath, link_behind, but, map_of, IsMap, MapOf, has_table, IsBadAt, at_link, BadShard as IsBadShard}
 use Rattle.dict_model.proofs.ShardLemmas.{find_first, find_behind, not_first, not_behind}
 use Rattle.dict_model.proofs.SpliceLemmas.{chains_with, with_same, with_other}
 use Rattle.dictionary.specs.declared.fault.MapFault.{MapFault}
@@ -79,7 +79,7 @@ module _ (leads : Leading) (image : Image) (shard : ℕ) (table : Block) where
     pub chain_ends : (at : ℕ) (map : Map) → IsMapBefore leads image shard table k at map → image at ≡ 0 → IsMapUpTo leads image shard table (k + 1) map
     chain_ends at map before null = record {
       nodes = before.nodes;
-      chains = below_more (λ j. IsChain (but table leads) image shard j (table.first_word + j) (before.nodes j)) k before.read.chains
+      chains = below_more (λ j. IsBucketChain (but table leads) image shard j (table.first_word + j) (before.nodes j)) k before.read.chains
           (record { path = before.read.path; ends = subst (λ w. image w ≡ 0) before.at_is null });
       rest = λ j above. before.read.rest j (omega arith);
       means = before.read.means;
@@ -120,7 +120,7 @@ module _ (leads : Leading) (image : Image) (shard : ℕ) (table : Block) where
       more_chains : HasChains leads image shard table k nodes → HasChains leads image shard table k further
       unfolding further
       more_chains chains j below =
-          subst (λ bs. IsChain (but table leads) image shard j (table.first_word + j) bs) (sym (with_other nodes k (nodes k ++ b ∷ []) j (λ e. omega arith))) (chains j below)
+          subst (λ bs. IsBucketChain (but table leads) image shard j (table.first_word + j) bs) (sym (with_other nodes k (nodes k ++ b ∷ []) j (λ e. omega arith))) (chains j below)
 
     pub chain_step : (at : ℕ) (old new : BTreeMap ℕ (List ℕ)) (b : Block) → IsMapBefore leads image shard table k at (get nat_cmp old)
         → but table leads (image at) b → IsNode image shard k b → AddsNode image b old new → IsMapBefore leads image shard table k b.first_word (get nat_cmp new)

@@ -6,7 +6,7 @@ mod runs;
 mod standing;
 
 pub use runs::run_text;
-pub use standing::{Always, Standing};
+pub use standing::Standing;
 
 #[cfg(test)]
 mod bad_shards;

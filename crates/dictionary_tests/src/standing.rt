@@ -11,16 +11,6 @@ use std::alloc::Global;
 use std::marker::Model;
 use std::test::Fail;
 
-/// A source that gives this number always: 0 writes nothing back early, and 1 the latest store.
-#[derive(Drop)]
-pub struct Always(pub u64);
-
-impl Chance for Always {
-    fn draw(&mut self) -> u64 {
-        self.0
-    }
-}
-
 /// A dictionary on a heap for one thread. Once it has stopped it is asked nothing more.
 #[derive(Drop)]
 pub struct Standing<C: Chance> {

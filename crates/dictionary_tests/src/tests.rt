@@ -1,8 +1,9 @@
 //! What the requests answer, and what is read back from the images that are left.
 
-use crate::standing::{Always, Standing, recovered};
+use crate::standing::{Standing, recovered};
 use block_heap::{AllocFault, Closed, Looks};
 use dictionary::{read_map, read_maps};
+use line_memory::ConstantChance;
 use region_header::format;
 use std::alloc::{AllocError, Global};
 use std::collections::BTreeMap;
@@ -38,7 +39,7 @@ fn value_of(alloc: Global, len: usize, byte: u8) -> Result<Vec<u8>, AllocError> 
 /// Sets the key, and tells whether it was done: if not, the heap stopped.
 fn set(
     alloc: Global,
-    heap: &mut Standing<Always>,
+    heap: &mut Standing<ConstantChance>,
     (key, len, byte): (u64, usize, u8),
 ) -> Result<bool, Fail> {
     let value = value_of(alloc, len, byte)?;
@@ -51,7 +52,7 @@ fn set(
 
 /// Takes the key out of the heap and of the model, and tells whether it was done.
 fn unset(
-    heap: &mut Standing<Always>,
+    heap: &mut Standing<ConstantChance>,
     model: &mut BTreeMap<u64, (usize, u8)>,
     key: u64,
 ) -> Result<bool, Fail> {
@@ -74,7 +75,7 @@ fn run(
     if budget > MANY {
         return Err("the budget is too large".into());
     }
-    let mut heap = Standing::open(alloc, image, budget, Always(number))?;
+    let mut heap = Standing::open(alloc, image, budget, ConstantChance(number))?;
     let mut model = BTreeMap::new(alloc);
     let mut answered: usize = 0;
     for ask in asks {
@@ -130,7 +131,7 @@ fn held_in(alloc: Global, image: &[u64]) -> Result<usize, Fail> {
 fn a_put_without_room_for_its_node_leaves_a_table(rt: HostRuntime) -> Result<(), Fail> {
     let alloc = rt.alloc();
     let image = format(alloc, 1)?;
-    let mut heap = Standing::open(alloc, &image, MANY, Always(0))?;
+    let mut heap = Standing::open(alloc, &image, MANY, ConstantChance(0))?;
     let full = AllocFault::Full(Looks {
         class_head: 0,
         free_head: 0,
@@ -204,7 +205,7 @@ fn get_puts_as_much_of_a_value_as_fits(rt: HostRuntime) -> Result<(), Fail> {
     let alloc = rt.alloc();
     let image = format(alloc, 16)?;
     for key in [0, u64::MAX] {
-        let mut heap = Standing::open(alloc, &image, MANY, Always(0))?;
+        let mut heap = Standing::open(alloc, &image, MANY, ConstantChance(0))?;
         for len in LENGTHS {
             set(alloc, &mut heap, (key, len, 1))?;
             for room in [0, len / 2, len, len.wrapping_add(9)] {

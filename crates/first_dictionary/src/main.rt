@@ -6,9 +6,10 @@ ghost use Rattle.std.specs.Prelude.{IfOk};
 ghost use Rattle.block_heap.specs.SeqState.{seat_of};
 ghost use Rattle.dict_seat.specs.Shards.{HasShards};
 
-use block_heap::{Chance, SeqHeap};
+use block_heap::SeqHeap;
 use dictionary::{DictFilter, PutFault, Shard, read_maps, root_kinds};
 use heap_recover::recover;
+use line_memory::ConstantChance;
 use region_header::format;
 use std::alloc::Global;
 use std::str;
@@ -17,23 +18,13 @@ use std::test::Fail;
 /// How many steps the heap takes before it stops.
 const BUDGET: u64 = 2_720;
 
-/// Chance that writes nothing back early: a crash leaves what was made durable, and no more.
-#[derive(Drop)]
-struct Never;
-
-impl Chance for Never {
-    fn draw(&mut self) -> u64 {
-        0
-    }
-}
-
 /// Opens what recovery makes of an image whose shards are maps.
-fn open(alloc: Global, image: &[u64]) -> Result<SeqHeap<Never>, Fail>
+fn open(alloc: Global, image: &[u64]) -> Result<SeqHeap<ConstantChance>, Fail>
     ensures { IfOk result (λ heap. HasShards (seat_of heap)) }
 {
     let recovered = recover(alloc, image, &root_kinds(), &DictFilter)?;
     read_maps(alloc, &recovered)?;
-    Ok(SeqHeap::new(alloc, recovered.heap, BUDGET, Never)?)
+    Ok(SeqHeap::new(alloc, recovered.heap, BUDGET, ConstantChance(0))?)
 }
 
 fn main(rt: HostRuntime) -> Result<(), Fail> {

@@ -8,7 +8,7 @@ use Rattle.line_memory.specs.View.{View, volatile_at, durable_at, IsPending, IsS
 use Rattle.line_memory.specs.Crash.{AddsNothing}
 use Rattle.line_memory.specs.Steps.{Takes, Refuses, after_draw, IsStore, IsWriteBack, IsFence}
 use Rattle.line_memory.proofs.CallerLemmas.{store_leaves, write_back_adds, fence_adds, refused_adds, refused_stopped, contains_or_not, draw_adds}
-use Rattle.heap_recover.specs.InPlace.{differences, Has, IsBetween, IsStoredTo, IsCutOff, IsStoppedAt, Differ}
+use Rattle.heap_recover.specs.InPlace.{differences, HoldsDurably, IsBetween, IsStoredTo, IsStoppedBetween, IsStoppedAt, Differ}
 
 plus_none : (n : ℕ) → n + 0 ≡ n
 plus_none n = omega arith
@@ -59,7 +59,7 @@ same_lists (x ∷ xs) [] long same = absurd (omega arith)
 same_lists (x ∷ xs) (y ∷ ys) long same = ap (λ h. h ∷ xs) (same 0) ∙ ap (λ t. y ∷ t) (same_lists xs ys (omega arith) (λ i. same (suc i)))
 
 -- an image before its first word is stored
-pub none_stored : (old new : List ℕ) (v : View) → Has old v → IsStoredTo old new 0 0 v
+pub none_stored : (old new : List ℕ) (v : View) → HoldsDurably old v → IsStoredTo old new 0 0 v
 none_stored old new v has = record {
   count = ap (λ (xs : List ℕ). length xs) has.volatile;
   stored = λ word below. absurd (omega arith);
@@ -179,7 +179,7 @@ module _ (old new : List ℕ) (settled done : ℕ) (v : View) (so_far : IsStored
   }
 
   -- a fence, behind the last word: each is the new one
-  pub fence_stores : (w : View) → settled ≡ length old → done ≡ length old → length new ≡ length old → IsSound w → Takes IsFence v w → Has new w
+  pub fence_stores : (w : View) → settled ≡ length old → done ≡ length old → length new ≡ length old → IsSound w → Takes IsFence v w → HoldsDurably new w
   fence_stores w all end same sound takes = record {
     volatile = seen_new;
     durable = same_lists w.durable new (sound.lengths ∙ ap (λ (xs : List ℕ). length xs) seen_new) durable_new;
@@ -238,7 +238,7 @@ stopped_at most ticket v w sound stopped same few = record {
 
 -- a call is refused after few tickets
 pub refused_cut : (old new : List ℕ) (settled done most : ℕ) (v u w : View) (ticket : ℕ) → IsStoredTo old new settled done u → Refuses ticket u w
-    → u.budget ≡ v.budget → u.drawn + 1 ≤ v.drawn + most → IsCutOff old new most ticket v w
+    → u.budget ≡ v.budget → u.drawn + 1 ≤ v.drawn + most → IsStoppedBetween old new most ticket v w
 refused_cut old new settled done most v u w ticket so_far refuses same few = record {
   stopped = refused_stopped (λ _. ⊤) ticket u w refuses;
   between = adds_between old new settled done u so_far w (refused_adds (λ _. ⊤) ticket u w refuses);
@@ -260,5 +260,5 @@ pub write_back_draws : (line : ℕ) (v w : View) → Takes (IsWriteBack line) v 
 write_back_draws line v w takes = takes.done.tickets.drawn
 
 -- where a step behind another cuts off, so many tickets were drawn in all
-pub cut_later : (old new : List ℕ) (few most ticket : ℕ) (v u w : View) → IsCutOff old new few ticket u w → u.budget ≡ v.budget → u.drawn + few ≤ v.drawn + most → IsCutOff old new most ticket v w
+pub cut_later : (old new : List ℕ) (few most ticket : ℕ) (v u w : View) → IsStoppedBetween old new few ticket u w → u.budget ≡ v.budget → u.drawn + few ≤ v.drawn + most → IsStoppedBetween old new most ticket v w
 cut_later old new few most ticket v u w cut same less = record { stopped = cut.stopped; between = cut.between; budget = cut.budget ∙ same; drawn = let d = cut.drawn in omega arith }

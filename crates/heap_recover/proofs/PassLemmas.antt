@@ -17,7 +17,7 @@ use Rattle.heap_recover.specs.declared.roles.Role.{Role}
 use Rattle.heap_recover.specs.declared.roles.Role.TheVariants.{Free, Partial, Full, Large}
 use Rattle.heap_recover.specs.Marked.{KeepsBlocks, IsKeptIn, IsKeptBelow, GoOnTo}
 use Rattle.heap_recover.specs.Roles.{IsRole, is_free, is_partial, is_full, is_large}
-use Rattle.heap_recover.specs.Rebuilt.{IsOf, is_info, is_anchor, is_link, is_inside, HasSpares, HasInfo, IsDescribed, KeepsInside, IsRebuilt, IsDone, AreDone, AreCleared}
+use Rattle.heap_recover.specs.Rebuilt.{IsOf, is_info, is_anchor, is_link, is_inside, HasSpares, HasInfo, IsDescribed, KeepsInside, IsRebuiltAs, IsRebuiltInRole, AreDone, AreCleared}
 use Rattle.heap_recover.proofs.AscendingLemmas.{ascending_none, ascending_append}
 use Rattle.heap_recover.proofs.SuperblockLemmas.{walks_same, spares_inside}
 
@@ -130,7 +130,7 @@ described_same old new other d spares (Partial class) has same is = record {
 described_same old new other d spares (Full class) has same is = record { info_is = same.info ∙ is.info_is; anchor_is = same.anchor ∙ is.anchor_is }
 described_same old new other d spares Large has same is = record { info_is = same.info ∙ is.info_is; anchor_is = same.anchor ∙ is.anchor_is }
 
-pub done_same : (old new other : Image) (kept : Block → Type 0) (d : ℕ) (role : Role) → SameIn new other (capacity_of old) d → IsDone old new kept d role → IsDone old other kept d role
+pub done_same : (old new other : Image) (kept : Block → Type 0) (d : ℕ) (role : Role) → SameIn new other (capacity_of old) d → IsRebuiltInRole old new kept d role → IsRebuiltInRole old other kept d role
 done_same old new other kept d role same is = record {
   spares = is.spares;
   has_role = is.has_role;
@@ -169,7 +169,7 @@ goes_on_none l kept blocks = record {
 -- the next superblock is rebuilt
 pub done_next : (old mid new : Image) (kept : Block → Type 0) (d : ℕ) (held more : List Block) (roles : List Role) (role : Role) (spares : List ℕ) → d < capacity_of old
     → AreDone old mid kept d held roles → IsRole (layout_of old) kept d role spares → AreAscending (λ (b : Block). b.first_word) (IsKeptIn (capacity_of old) kept d) more
-    → IsRebuilt mid new (capacity_of old) d role spares → AreDone old new kept (d + 1) (held ++ more) (roles ++ role ∷ [])
+    → IsRebuiltAs mid new (capacity_of old) d role spares → AreDone old new kept (d + 1) (held ++ more) (roles ++ role ∷ [])
 done_next old mid new kept d held more roles role spares below first has_role in_d rebuilt = record {
   long = length-append roles (role ∷ []) ∙ ap (λ n. n + 1) first.long;
   each = each;
@@ -195,7 +195,7 @@ done_next old mid new kept d held more roles role spares below first has_role in
   stays : (e word : ℕ) → e < d → IsOf (capacity_of old) e word → new word ≡ mid word
   stays e word less owned = rebuilt.others word (λ other. let same = one_owner (capacity_of old) e d word (omega arith) below owned other in omega arith)
 
-  here_done : IsDone old new kept d role
+  here_done : IsRebuiltInRole old new kept d role
   here_done = record {
     spares = spares;
     has_role = has_role;
@@ -203,9 +203,9 @@ done_next old mid new kept d held more roles role spares below first has_role in
     inside = record { each = λ word low high unlinked. rebuilt.inside.each word low high unlinked ∙ fresh word (is_inside word low high) };
   }
 
-  each : (e : ℕ) → e < d + 1 → IsDone old new kept e (slice_index_or (roles ++ role ∷ []) e Large)
-  each e less = elim (cases_lt e d) as (λ _. IsDone old new kept e (slice_index_or (roles ++ role ∷ []) e Large)) [
-    | inl lower ↦ subst (λ r. IsDone old new kept e r) (sym (get_or-append roles (role ∷ []) Large e (let long = first.long in omega arith)))
+  each : (e : ℕ) → e < d + 1 → IsRebuiltInRole old new kept e (slice_index_or (roles ++ role ∷ []) e Large)
+  each e less = elim (cases_lt e d) as (λ _. IsRebuiltInRole old new kept e (slice_index_or (roles ++ role ∷ []) e Large)) [
+    | inl lower ↦ subst (λ r. IsRebuiltInRole old new kept e r) (sym (get_or-append roles (role ∷ []) Large e (let long = first.long in omega arith)))
         (done_same old mid new kept e (slice_index_or roles e Large) (record {
           info = stays e (info_word e) lower (is_info (info_word e) refl);
           anchor = stays e (anchor_word e) lower (is_anchor (anchor_word e) refl);
@@ -213,7 +213,7 @@ done_next old mid new kept d held more roles role spares below first has_role in
         }) (first.each e lower))
     | inr past ↦ let same : d ≡ e = omega arith in
         let seam : slice_index_or (roles ++ role ∷ []) e Large ≡ role = subst (λ i. slice_index_or (roles ++ role ∷ []) i Large ≡ role) (first.long ∙ same) (get_or-append_seam roles role [] Large) in
-        subst (λ r. IsDone old new kept e r) (sym seam) (subst (λ i. IsDone old new kept i role) same here_done)
+        subst (λ r. IsRebuiltInRole old new kept e r) (sym seam) (subst (λ i. IsRebuiltInRole old new kept i role) same here_done)
   ]
 
   links : (e : ℕ) → e < d + 1 → new (link_word e) ≡ 0
@@ -232,7 +232,7 @@ cleared_none old capacity used = record {
 }
 
 -- the next superblock is cleared
-pub cleared_next : (old mid new : Image) (capacity used d : ℕ) → used ≤ d → d < capacity → AreCleared old mid capacity used d → IsRebuilt mid new capacity d Free [] → AreCleared old new capacity used (d + 1)
+pub cleared_next : (old mid new : Image) (capacity used d : ℕ) → used ≤ d → d < capacity → AreCleared old mid capacity used d → IsRebuiltAs mid new capacity d Free [] → AreCleared old new capacity used (d + 1)
 cleared_next old mid new capacity used d from below first rebuilt = record { each = each; links = links; inside = inside; others = others } where
   stays : (e word : ℕ) → e < d → IsOf capacity e word → new word ≡ mid word
   stays e word less owned = rebuilt.others word (λ other. let same = one_owner capacity e d word (omega arith) below owned other in omega arith)

@@ -17,7 +17,7 @@ use Rattle.heap_recover.specs.declared.roles.Role.{Role}
 use Rattle.heap_recover.specs.declared.roles.Role.TheVariants.{Large}
 use Rattle.heap_recover.specs.Marked.{KeepsBlocks, IsKeptBelow}
 use Rattle.heap_recover.specs.Roles.{IsRole, is_free, is_partial, is_full, is_large, IsMember}
-use Rattle.heap_recover.specs.Rebuilt.{IsOf, is_info, is_anchor, is_link, is_inside, IsDescribed, IsDone, AreDone, AreCleared, AreListed, IsRebuild}
+use Rattle.heap_recover.specs.Rebuilt.{IsOf, is_info, is_anchor, is_link, is_inside, IsDescribed, IsRebuiltInRole, AreDone, AreCleared, AreListed, IsRebuild}
 use Rattle.heap_recover.proofs.AscendingLemmas.{ascending_same}
 use Rattle.heap_model.proofs.ListLemmas.{follows_same}
 use Rattle.heap_recover.proofs.SurveyLemmas.{none_of}
@@ -59,7 +59,7 @@ module _ (old done cleared listed new : Image) (kept : Block → Type 0) (held :
   abbrev role_of : ℕ → Role
   role_of d = slice_index_or roles d Large
 
-  taken_done : (d : ℕ) → d < used_of old → IsDone old new kept d (slice_index_or roles d Large)
+  taken_done : (d : ℕ) → d < used_of old → IsRebuiltInRole old new kept d (slice_index_or roles d Large)
   taken_done d below = done_same old done new kept d (slice_index_or roles d Large) (record {
     info = info_left d ∙ taken_left d (info_word d) below (is_info (info_word d) refl);
     anchor = anchor_left d ∙ taken_left d (anchor_word d) below (is_anchor (anchor_word d) refl);

@@ -12,7 +12,7 @@ use Rattle.heap_model.specs.Chains.{Walks}
 use Rattle.heap_model.proofs.SizeLemmas.{two_words, few_blocks}
 use Rattle.heap_recover.specs.declared.roles.Role.{Role}
 use Rattle.heap_recover.specs.declared.roles.Role.TheVariants.{Free, Partial, Full, Large}
-use Rattle.heap_recover.specs.Rebuilt.{IsChained, IsOf, is_info, is_anchor, is_link, is_inside, AreSpares, HasSpares, HasInfo, IsAnchorOf, IsWrittenAs, IsDescribed, IsRebuilt}
+use Rattle.heap_recover.specs.Rebuilt.{IsChained, IsOf, is_info, is_anchor, is_link, is_inside, AreSpares, HasSpares, HasInfo, IsAnchorOf, IsWrittenAs, IsDescribed, IsRebuiltAs}
 use Rattle.heap_recover.proofs.SurveyLemmas.{class_inside, none_of}
 
 -- a member of all but the last is a member
@@ -118,7 +118,7 @@ module _ (old chained new : Image) (capacity d : ℕ) (spares : List ℕ) (ancho
     inside_kept : (word : ℕ) → start_word capacity d ≤ word → new word ≡ chained word
     inside_kept word low = written.others word (λ same. omega arith) (λ same. omega arith) (λ same. omega arith)
 
-    pub rebuilt : IsDescribed old new d spares role → IsRebuilt old new capacity d role spares
+    pub rebuilt : IsDescribed old new d spares role → IsRebuiltAs old new capacity d role spares
     rebuilt described = record {
       described = described;
       link = written.link_is;

@@ -25,7 +25,7 @@ pub record IsRecoveryOf (old : List ℕ) (kinds : ℕ → ℕ) (links : Links) (
   pub words_are : IsRecovered (slice_index old) (slice_index new) (IsReached (slice_index old) kinds links)
 
 -- a memory that has the image, each word of it durable
-pub record Has (words : List ℕ) (v : View) : Type 0 where
+pub record HoldsDurably (words : List ℕ) (v : View) : Type 0 where
   pub volatile : v.volatile ≡ words
   pub durable : v.durable ≡ words
 
@@ -55,7 +55,7 @@ pub record IsStoredTo (old new : List ℕ) (settled done : ℕ) (v : View) : Typ
   pub settling : (word : ℕ) → word < settled → (durable_at v word ≡ slice_index new word) ⊎ IsPending v word
 
 -- it stopped at this ticket, and drew so many tickets at most
-pub record IsCutOff (old new : List ℕ) (most ticket : ℕ) (v w : View) : Type 0 where
+pub record IsStoppedBetween (old new : List ℕ) (most ticket : ℕ) (v w : View) : Type 0 where
   pub stopped : w.stopped ≡ Some ticket
   pub between : IsBetween old new w
   pub budget : w.budget ≡ v.budget

@@ -87,14 +87,14 @@ pub record KeepsInside (old new : Image) (capacity d : ℕ) (spares : List ℕ) 
   pub each : (word : ℕ) → start_word capacity d ≤ word → word < start_word capacity (d + 1) → (Contains (but_last spares) word → ⊥) → new word ≡ old word
 
 -- superblock d is rebuilt in its role, and no word of another changes
-pub record IsRebuilt (old new : Image) (capacity d : ℕ) (role : Role) (spares : List ℕ) : Type 0 where
+pub record IsRebuiltAs (old new : Image) (capacity d : ℕ) (role : Role) (spares : List ℕ) : Type 0 where
   pub described : IsDescribed old new d spares role
   pub link : new (link_word d) ≡ 0
   pub inside : KeepsInside old new capacity d spares
   pub others : (word : ℕ) → (IsOf capacity d word → ⊥) → new word ≡ old word
 
 -- superblock d has this role, and is rebuilt in it
-pub record IsDone (old new : Image) (kept : Block → Type 0) (d : ℕ) (role : Role) : Type 0 where
+pub record IsRebuiltInRole (old new : Image) (kept : Block → Type 0) (d : ℕ) (role : Role) : Type 0 where
   pub spares : List ℕ
   pub has_role : IsRole (layout_of old) kept d role spares
   pub described : IsDescribed old new d spares role
@@ -103,7 +103,7 @@ pub record IsDone (old new : Image) (kept : Block → Type 0) (d : ℕ) (role : 
 -- the superblocks below d are rebuilt, each in its role
 pub record AreDone (old new : Image) (kept : Block → Type 0) (d : ℕ) (held : List Block) (roles : List Role) : Type 0 where
   pub long : length roles ≡ d
-  pub each : (e : ℕ) → e < d → IsDone old new kept e (slice_index_or roles e Large)
+  pub each : (e : ℕ) → e < d → IsRebuiltInRole old new kept e (slice_index_or roles e Large)
   pub links : (e : ℕ) → e < d → new (link_word e) ≡ 0
   pub in_order : AreAscending (λ (b : Block). b.first_word) (IsKeptBelow (capacity_of old) kept d) held
   pub others : (word : ℕ) → ((e : ℕ) → e < d → IsOf (capacity_of old) e word → ⊥) → new word ≡ old word

@@ -5,7 +5,7 @@ ghost use Rattle.heap_model.specs.Geometry.{roots};
 ghost use Rattle.heap_model.specs.Image.{Image};
 ghost use Rattle.heap_model.specs.Durability.{Mixes, IsCrashImage};
 ghost use Rattle.line_memory.specs.View.{View, word_count};
-ghost use Rattle.heap_recover.specs.InPlace.{differences, Has, IsRecoveryOf, RecoversAlike, IsBetween, IsStoredTo, IsCutOff, IsStoppedAt, Differ};
+ghost use Rattle.heap_recover.specs.InPlace.{differences, HoldsDurably, IsRecoveryOf, RecoversAlike, IsBetween, IsStoredTo, IsStoppedBetween, IsStoppedAt, Differ};
 
 use filter_trace::Filter;
 use line_memory::{LineMemory, Stopped};
@@ -33,7 +33,7 @@ fn store_line<M: LineMemory>(
         + differences (slice_index old.now) (slice_index new.now) (8 * line)
         ≡ (M.view memory.old).drawn
         + differences (slice_index old.now) (slice_index new.now) (8 * line + 8)) }
-    ensures cut_off { IfErr result (λ e. IsCutOff old.now new.now
+    ensures cut_off { IfErr result (λ e. IsStoppedBetween old.now new.now
         (1 + (differences (slice_index old.now) (slice_index new.now) (8 * line + 8)
         - differences (slice_index old.now) (slice_index new.now) (8 * line))) e.step
         (M.view memory.old) (M.view memory.new)) }
@@ -59,7 +59,7 @@ fn store_differences<M: LineMemory>(memory: &mut M, old: &[u64], new: &[u64]) ->
     ensures budget { (M.view memory.new).budget ≡ (M.view memory.old).budget }
     ensures drawn { OnOk result ((M.view memory.new).drawn ≤ (M.view memory.old).drawn
         + 2 * differences (slice_index old.now) (slice_index new.now) (length old.now)) }
-    ensures cut_off { IfErr result (λ e. IsCutOff old.now new.now
+    ensures cut_off { IfErr result (λ e. IsStoppedBetween old.now new.now
         (1 + 2 * differences (slice_index old.now) (slice_index new.now) (length old.now)) e.step
         (M.view memory.old) (M.view memory.new)) }
 {
@@ -75,8 +75,8 @@ fn store_differences<M: LineMemory>(memory: &mut M, old: &[u64], new: &[u64]) ->
 fn store_image<M: LineMemory>(memory: &mut M, old: &[u64], new: &[u64]) -> Result<(), Stopped>
     requires lengths { length new.now ≡ length old.now }
     requires whole { 8 * (length old.now / 8) ≡ length old.now }
-    requires before { Has old.now (M.view memory.old) }
-    ensures ok { OnOk result (Has new.now (M.view memory.new)) }
+    requires before { HoldsDurably old.now (M.view memory.old) }
+    ensures ok { OnOk result (HoldsDurably new.now (M.view memory.new)) }
     ensures stopped { IfErr result (λ e. IsStoppedAt (1 + 2 * differences (slice_index old.now)
         (slice_index new.now) (length old.now)) e.step (M.view memory.old) (M.view memory.new)) }
     ensures between { IsBetween old.now new.now (M.view memory.new) }
@@ -101,10 +101,10 @@ pub fn rebuild<M: LineMemory, F: Filter>(
     filter: &F,
     to: &Ready,
 ) -> Result<(), Stopped>
-    requires memory { Has x.now (M.view memory.old) }
+    requires memory { HoldsDurably x.now (M.view memory.old) }
     requires recovered { IsRecoveryOf x.now (slice_index kinds.now) (F.links_of filter.now)
         to.now.words to.now.held }
-    ensures ok { OnOk result (Has to.now.words (M.view memory.new)) }
+    ensures ok { OnOk result (HoldsDurably to.now.words (M.view memory.new)) }
     ensures stopped { IfErr result (λ e. IsStoppedAt (1 + 2 * differences (slice_index x.now)
         (slice_index to.now.words) (length x.now)) e.step (M.view memory.old) (M.view memory.new)) }
     ensures drawn { (M.view memory.new).drawn ≤ (M.view memory.old).drawn

@@ -4,22 +4,11 @@ ghost use Rattle.std.specs.Prelude.{◌≡◌, IfOk};
 
 use super::*;
 use crate::tests::{Pairs, kinds, write};
-use line_memory::{Chance, Closed, PlainMemory};
+use line_memory::{Closed, ConstantChance, PlainMemory};
 use std::alloc::Global;
 use std::process::Abort;
 use std::test::Fail;
 use super_block::{Block, CLEAN, DIRTY, MAGIC, VERSION};
-
-/// A chance that always gives the same number: by 0 nothing is made durable early, by 1 each store
-/// is at the next step.
-#[derive(Drop)]
-struct Constant(u64);
-
-impl Chance for Constant {
-    fn draw(&mut self) -> u64 {
-        self.0
-    }
-}
 
 /// What a recovery in place has come to: what it recovers, and what it leaves.
 #[derive(Drop)]
@@ -35,7 +24,7 @@ fn in_place(alloc: Global, image: &[u64], budget: u64, number: u64) -> Result<In
     let kinds = kinds(alloc)?;
     let found = recover(alloc, image, &kinds, &Pairs)?;
     let words = Vec::from_slice(alloc, image)?;
-    let mut memory = PlainMemory::new(alloc, words, budget, Constant(number))?;
+    let mut memory = PlainMemory::new(alloc, words, budget, ConstantChance(number))?;
     let stopped = rebuild(&mut memory, image, &kinds, &Pairs, &found.heap).is_err();
     let Closed { now, kept } = memory.finish();
     Ok(InPlace {

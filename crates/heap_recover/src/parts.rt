@@ -9,7 +9,7 @@ use super_block::{Block, Geometry, block_at};
 
 /// The blocks of a superblock of a class.
 #[derive(Drop)]
-pub struct Parts {
+pub struct SuperblockBlocks {
     /// The kept ones.
     pub held: Vec<Block>,
     /// The first words of the others.
@@ -23,7 +23,7 @@ pub fn part_blocks(
     d: u64,
     class: u8,
     marks: &Marks,
-) -> Result<Parts, AllocError>
+) -> Result<SuperblockBlocks, AllocError>
     requires superblock { d < geometry.now.capacity }
     requires class { IsClass class }
     ensures ok { IfOk result (λ parts. AreParted (IsMarked marks.now) geometry.now.capacity class d
@@ -39,5 +39,5 @@ pub fn part_blocks(
             spares.push(block.first_word)?;
         }
     }
-    Ok(Parts { held, spares })
+    Ok(SuperblockBlocks { held, spares })
 }

@@ -2,7 +2,7 @@
 ghost use Rattle.std.specs.Prelude.{◌≡◌, ◌<◌, ◌≤◌, length, slice_index};
 ghost use Rattle.heap_model.specs.Geometry.{image_words, info_word};
 ghost use Rattle.heap_model.specs.Header.{capacity_of};
-ghost use Rattle.heap_recover.specs.Rebuilt.{HasSpares, HasInfo, IsAnchorOf, IsWrittenAs, IsRebuilt};
+ghost use Rattle.heap_recover.specs.Rebuilt.{HasSpares, HasInfo, IsAnchorOf, IsWrittenAs, IsRebuiltAs};
 
 use crate::chains::link_chain;
 use crate::roles::Role;
@@ -24,7 +24,7 @@ pub fn rebuild_superblock(
     requires superblock { d < geometry.now.capacity }
     requires info { HasInfo (slice_index words.old (info_word d)) role }
     requires spares { HasSpares geometry.now.capacity d spares.now role }
-    ensures { IsRebuilt (slice_index words.old) (slice_index words.new)
+    ensures { IsRebuiltAs (slice_index words.old) (slice_index words.new)
         geometry.now.capacity d role spares.now }
 {
     link_chain(words, spares);

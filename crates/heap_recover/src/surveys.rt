@@ -5,7 +5,7 @@ ghost use Rattle.heap_model.specs.Blocks.{layout_of};
 ghost use Rattle.heap_recover.specs.Marked.{IsMarked, KeepsBlocks, GoOnTo};
 ghost use Rattle.heap_recover.specs.Roles.{IsSurvey, RoleOfParts};
 
-use crate::parts::{Parts, part_blocks};
+use crate::parts::{SuperblockBlocks, part_blocks};
 use crate::roles::Role;
 use filter_trace::Marks;
 use std::alloc::{AllocError, Global};
@@ -68,13 +68,13 @@ pub fn survey_superblock(
 }
 
 /// The survey of a superblock of the class with these blocks.
-fn survey_parts(alloc: Global, class: u8, parts: Parts, end: u64) -> Survey
+fn survey_parts(alloc: Global, class: u8, parts: SuperblockBlocks, end: u64) -> Survey
     ensures role { RoleOfParts class parts.held.items parts.spares.items
         result.role result.spares.items }
     ensures held { result.held.items ≡ parts.held.items }
     ensures end { result.end ≡ end }
 {
-    let Parts { held, spares } = parts;
+    let SuperblockBlocks { held, spares } = parts;
     if held.is_empty() {
         return Survey::without_blocks(alloc, Role::Free, end);
     }

@@ -16,9 +16,9 @@ use Rattle.core_model.specs.Sound.{IsCutBlock}
 use Rattle.core_model.proofs.BlockLemmas.{first_there}
 use Rattle.core_model.proofs.GiveLemmas as gives
 use Rattle.core_model.proofs.SoundLemmas.{batched}
-use Rattle.crash_core.specs.declared.owners.Seat.{Seat}
+use Rattle.crash_core.specs.declared.owners.SeatNotes.{SeatNotes}
 use Rattle.crash_core.proofs.GiveSteps.{empty_group}
-use Rattle.heap_rule.specs.Plays.{Has, IsEvent}
+use Rattle.heap_rule.specs.Plays.{HasSoundState, IsEvent}
 use Rattle.heap_rule.specs.Seated.{Fits, IsKeptOf, IsExchange}
 use Rattle.heap_rule.specs.Shown.{CanGive}
 use Rattle.heap_rule.proofs.FreshLemmas.{hit, missed}
@@ -35,7 +35,7 @@ block_index capacity class d b is cut =
     let index_is : (b - start_word capacity d) / words_of_class class ≡ cut.index = ap (λ n. n / words_of_class class) e ∙ mul-div_cancel cut.index {n = words_of_class class} (omega arith) in
     let l = cut.below in let few = few_blocks class is in omega arith
 
-module _ (v : View) (s : Has v) (d : ℕ) (of_d : v.batch.descriptor ≡ d) (some : 1 ≤ length v.batch.blocks) where
+module _ (v : View) (s : HasSoundState v) (d : ℕ) (of_d : v.batch.descriptor ≡ d) (some : 1 ≤ length v.batch.blocks) where
   abbrev m : Memory
   m = memory_of v.setup.capacity s.words
 
@@ -65,7 +65,7 @@ module _ (v : View) (s : Has v) (d : ℕ) (of_d : v.batch.descriptor ≡ d) (som
   batch_below = batched v.setup m s.views s.seat v s.below s.at s.sound.good d of_d some
 
 -- where the anchor is as it was seen it has room for the batch, and becomes what is said
-pub give_exchange : (notes : Seat) (v : View) (d word new : ℕ) → IsKeptOf notes v → CanGive v d → IsThere v.ticket → seen_word v.seen_anchor ≡ word
+pub give_exchange : (notes : SeatNotes) (v : View) (d word new : ℕ) → IsKeptOf notes v → CanGive v d → IsThere v.ticket → seen_word v.seen_anchor ≡ word
     → (anchor_state word ≢ 3 → notes.batch.count + anchor_count word ≤ blocks_of notes.batch.class
     → new ≡ given_anchor word ((notes.batch.first - start_word v.setup.capacity d) / words_of_class notes.batch.class) notes.batch.count (blocks_of notes.batch.class))
     → IsExchange (Give d) v word new
@@ -93,14 +93,14 @@ give_exchange notes v d word new kept can ticket is new_is s found found_is = by
   by_case (inr other) = missed found (seen_word v.seen_anchor) (batch_anchor v d) found (λ e. other (e ∙ is)) ∙ sym (missed found word new found other)
 
 -- what is kept of a seat that knows less of words
-pub trims : (notes : Seat) (v : View) → Fits notes v → Fits notes (trimmed v)
+pub trims : (notes : SeatNotes) (v : View) → Fits notes v → Fits notes (trimmed v)
 trims notes v f = record {
   notes_are = record { ticket = f.notes_are.ticket; stopped = f.notes_are.stopped; seen_used = f.notes_are.seen_used; seen_head = f.notes_are.seen_head; seen_link = f.notes_are.seen_link; seen_anchor = f.notes_are.seen_anchor };
   caches = f.caches;
   batch = f.batch;
 }
 
-pub batch_given : (notes : Seat) (v w : View) (d found word : ℕ) → IsKeptOf notes v → IsEvent (Give d) v found w → Has w → seen_word v.seen_anchor ≡ word → found ≡ word
+pub batch_given : (notes : SeatNotes) (v w : View) (d found word : ℕ) → IsKeptOf notes v → IsEvent (Give d) v found w → HasSoundState w → seen_word v.seen_anchor ≡ word → found ≡ word
     → IsKeptOf (record notes { ticket = None; seen_anchor = None; batch = empty_group }) w
 batch_given notes v w d found word kept event has is same =
     keep_fits _ _ w (event.after ∙ hit found (seen_word v.seen_anchor) (given v d) _ (same ∙ sym is)) has (trims _ _ (by_state (nat_eq (seen_word v.seen_anchor) full_anchor))) where
@@ -118,7 +118,7 @@ batch_given notes v w d found word kept event has is same =
       by_state true = claims _ x d v.batch.class fits
       by_state false = fits
 
-pub give_lost : (notes : Seat) (v w : View) (d found word : ℕ) → IsKeptOf notes v → IsEvent (Give d) v found w → Has w → seen_word v.seen_anchor ≡ word → found ≢ word
+pub give_lost : (notes : SeatNotes) (v w : View) (d found word : ℕ) → IsKeptOf notes v → IsEvent (Give d) v found w → HasSoundState w → seen_word v.seen_anchor ≡ word → found ≢ word
     → IsKeptOf (record notes { ticket = None; seen_anchor = None }) w
 give_lost notes v w d found word kept event has is other = keep_fits _ _ w (event.after ∙ missed found (seen_word v.seen_anchor) (given v d) _ (λ e. other (e ∙ is))) has (record {
   notes_are = record { ticket = refl; stopped = kept.notes_are.stopped; seen_used = kept.notes_are.seen_used; seen_head = kept.notes_are.seen_head; seen_link = kept.notes_are.seen_link; seen_anchor = refl };

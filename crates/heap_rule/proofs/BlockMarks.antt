@@ -11,7 +11,7 @@ use Rattle.core_model.proofs.FrameLemmas.{times_append, times_without}
 use Rattle.core_model.proofs.OwnerLemmas.{in_lists_total}
 use Rattle.core_model.proofs.ShiftLemmas.{first_rest}
 use Rattle.core_model.proofs.TotalLemmas.{ne-eqb-none}
-use Rattle.heap_rule.specs.Owned.{Parts, IsMarking, AreMarked, AreClasses, times_had}
+use Rattle.heap_rule.specs.Owned.{OwnedParts, IsMarking, AreMarked, AreClasses, times_had}
 
 -- marks of counts that are alike
 pub marked_alike : (marks : List Bool) (f g : ℕ → ℕ) → ((n : ℕ) → g n ≡ f n) → AreMarked marks f → AreMarked marks g
@@ -44,7 +44,7 @@ in_set lists class xs c b less some = elim (cases_eq c class) [
   | inr other ↦ inr (subst (λ l. 0 < times b l) (of_class_other lists class xs c other) some)
 ]
 
-module _ (p : Parts) (class : ℕ) (less_small : class < length p.small) (less : class < length p.caches) (some : 1 ≤ length (of_class p.caches class)) where
+module _ (p : OwnedParts) (class : ℕ) (less_small : class < length p.small) (less : class < length p.caches) (some : 1 ≤ length (of_class p.caches class)) where
   abbrev cs : List ℕ
   cs = of_class p.caches class
 
@@ -55,7 +55,7 @@ module _ (p : Parts) (class : ℕ) (less_small : class < length p.small) (less :
   in_cache b = let e = ap (times b) (first_rest cs some) in omega arith
 
   -- the first block of a cache is held, or behind the batch
-  abbrev pub alloc_parts : Parts
+  abbrev pub alloc_parts : OwnedParts
   alloc_parts = record p { small = set p.small class (first ∷ of_class p.small class); caches = set p.caches class (rest_of cs) }
 
   pub alloc_times : (b : ℕ) → times_had b alloc_parts ≡ times_had b p
@@ -77,7 +77,7 @@ module _ (p : Parts) (class : ℕ) (less_small : class < length p.small) (less :
     batched = are.batched;
   }
 
-  abbrev pub lift_parts : Parts
+  abbrev pub lift_parts : OwnedParts
   lift_parts = record p { caches = set p.caches class (rest_of cs); batch = p.batch ++ first ∷ []; batch_class = class }
 
   pub lift_times : (b : ℕ) → times_had b lift_parts ≡ times_had b p
@@ -101,8 +101,8 @@ module _ (p : Parts) (class : ℕ) (less_small : class < length p.small) (less :
     member_some b (x ∷ xs) there = omega arith
 
 -- a held block is in front of the cache of its class
-module _ (p : Parts) (class : ℕ) (block : ℕ) (less_small : class < length p.small) (less : class < length p.caches) (held : 0 < times block (of_class p.small class)) where
-  abbrev pub free_parts : Parts
+module _ (p : OwnedParts) (class : ℕ) (block : ℕ) (less_small : class < length p.small) (less : class < length p.caches) (held : 0 < times block (of_class p.small class)) where
+  abbrev pub free_parts : OwnedParts
   free_parts = record p { small = set p.small class (without block (of_class p.small class)); caches = set p.caches class (block ∷ of_class p.caches class) }
 
   pub free_times : (b : ℕ) → times_had b free_parts ≡ times_had b p
@@ -126,8 +126,8 @@ module _ (p : Parts) (class : ℕ) (block : ℕ) (less_small : class < length p.
   }
 
 -- blocks of a superblock of which the seat had none come into an empty cache
-module _ (p : Parts) (class d : ℕ) (xs : List ℕ) (less : class < length p.caches) (empty : of_class p.caches class ≡ []) where
-  abbrev pub cached_parts : Parts
+module _ (p : OwnedParts) (class d : ℕ) (xs : List ℕ) (less : class < length p.caches) (empty : of_class p.caches class ≡ []) where
+  abbrev pub cached_parts : OwnedParts
   cached_parts = record p { caches = set p.caches class xs }
 
   pub cached_times : (b : ℕ) → times_had b cached_parts ≡ times_had b p + times b xs

@@ -8,7 +8,7 @@ use Rattle.core_model.specs.View.{View, of_class, times_block}
 use Rattle.core_model.specs.Effects.{first_of}
 use Rattle.core_model.proofs.OwnerLemmas.{in_lists_total}
 use Rattle.crash_core.proofs.WordLemmas.{read_is}
-use Rattle.heap_rule.specs.Plays.{Has}
+use Rattle.heap_rule.specs.Plays.{HasSoundState}
 use Rattle.heap_rule.proofs.MarkLemmas.{entry_times}
 use Rattle.heap_rule.proofs.ViewLemmas.{block_cell, block_range}
 
@@ -23,7 +23,7 @@ pub first_at : (bs : List ℕ) (b : ℕ) → 1 ≤ length bs → b ≡ first_of 
 first_at [] b some is = absurd (omega arith)
 first_at (x ∷ bs) b some is = sym is
 
-module _ (v : View) (class : ℕ) (s : Has v) (i b : ℕ) (less : i < length (of_class v.caches class)) (at : get_or (of_class v.caches class) i b ≡ b) where
+module _ (v : View) (class : ℕ) (s : HasSoundState v) (i b : ℕ) (less : i < length (of_class v.caches class)) (at : get_or (of_class v.caches class) i b ≡ b) where
   own : 0 < times_block b v
   own = let t = in_lists_total b class v.caches (entry_times (of_class v.caches class) i b less at) in omega arith
 

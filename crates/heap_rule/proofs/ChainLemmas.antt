@@ -10,21 +10,21 @@ use Rattle.core_model.specs.View.{View, times_classed}
 use Rattle.core_model.specs.Effects.{seen_word, claim_class, chain, first_of, anchored_blocks, taken_all}
 use Rattle.core_model.proofs.SoundLemmas.{taken}
 use Rattle.crash_core.specs.declared.owners.Cache.{Cache}
-use Rattle.crash_core.specs.declared.owners.Seat.{Seat}
+use Rattle.crash_core.specs.declared.owners.SeatNotes.{SeatNotes}
 use Rattle.crash_core.specs.Standing.{HasCaches}
 use Rattle.crash_core.proofs.CacheLemmas.{cache_set}
 use Rattle.crash_core.proofs.WordLemmas.{read_is}
-use Rattle.heap_rule.specs.Plays.{Has, IsEvent}
+use Rattle.heap_rule.specs.Plays.{HasSoundState, IsEvent}
 use Rattle.heap_rule.specs.Seated.{IsKeptOf}
 use Rattle.heap_rule.proofs.SeatLemmas.{keep_fits}
 use Rattle.heap_rule.proofs.FreshLemmas.{hit, missed}
 
 -- the info that is read
-pub info_read : (v : View) (s : Has v) (d place found : ℕ) → d < v.setup.capacity → place ≡ info_word d → found ≡ get_or s.words place 0 → found ≡ info (memory_of v.setup.capacity s.words) d
+pub info_read : (v : View) (s : HasSoundState v) (d place found : ℕ) → d < v.setup.capacity → place ≡ info_word d → found ≡ get_or s.words place 0 → found ≡ info (memory_of v.setup.capacity s.words) d
 info_read v s d place found less place_is found_is = found_is ∙ ap (λ n. get_or s.words n 0) place_is ∙ sym (read_is v.setup.capacity s.words (volatile_at (info_cell d)) (lt-ltb d v.setup.capacity less))
 
 -- that of a claimed superblock is the claim's class
-pub class_read : (v : View) (s : Has v) (d place found : ℕ) → 0 < times_classed d v.classed → place ≡ info_word d → found ≡ get_or s.words place 0 → (found ≡ claim_class d v.classed) × IsClass (claim_class d v.classed)
+pub class_read : (v : View) (s : HasSoundState v) (d place found : ℕ) → 0 < times_classed d v.classed → place ≡ info_word d → found ≡ get_or s.words place 0 → (found ≡ claim_class d v.classed) × IsClass (claim_class d v.classed)
 class_read v s d place found claimed place_is found_is =
     let claim = (s.sound.good.claims s.seat v s.below s.at).is_classed d claimed in
     let less = taken v.setup (memory_of v.setup.capacity s.words) s.views s.seat v s.below s.at s.sound.good d (omega arith) in
@@ -39,7 +39,7 @@ pub chain_first : (f : ℕ → ℕ) (from n : ℕ) → 1 ≤ length (chain f fro
 chain_first f from zero some = absurd (omega arith)
 chain_first f from (suc n) some = refl
 
-pub all_taken : (notes : Seat) (v w : View) (d found anchor class : ℕ) (cache : Cache) → IsKeptOf notes v → IsEvent (TakeAll d) v found w → Has w → seen_word v.seen_anchor ≡ anchor → found ≡ anchor
+pub all_taken : (notes : SeatNotes) (v w : View) (d found anchor class : ℕ) (cache : Cache) → IsKeptOf notes v → IsEvent (TakeAll d) v found w → HasSoundState w → seen_word v.seen_anchor ≡ anchor → found ≡ anchor
     → class ≡ claim_class d v.classed → IsClass class → cache.first ≡ start_word v.setup.capacity d + anchor_first anchor * words_of_class class → cache.count ≡ anchor_count anchor
     → IsKeptOf (record notes { ticket = None; seen_anchor = None; caches = set notes.caches class cache }) w
 all_taken notes v w d found anchor class cache kept event has is same class_is is_class first_is count_is =
@@ -66,7 +66,7 @@ all_taken notes v w d found anchor class cache kept event has is same class_is i
       long : class < length v.caches
       long = let l = (kept.has.sound.good.set_up kept.has.seat v kept.has.below kept.has.at).caches in let b = less in omega arith
 
-pub take_all_lost : (notes : Seat) (v w : View) (d found anchor : ℕ) → IsKeptOf notes v → IsEvent (TakeAll d) v found w → Has w → seen_word v.seen_anchor ≡ anchor → found ≢ anchor
+pub take_all_lost : (notes : SeatNotes) (v w : View) (d found anchor : ℕ) → IsKeptOf notes v → IsEvent (TakeAll d) v found w → HasSoundState w → seen_word v.seen_anchor ≡ anchor → found ≢ anchor
     → IsKeptOf (record notes { ticket = None; seen_anchor = None }) w
 take_all_lost notes v w d found anchor kept event has is other =
     keep_fits _ _ w (event.after ∙ missed found (seen_word v.seen_anchor) (taken_all (memory_of v.setup.capacity event.before.words) v d) _ (λ e. other (e ∙ is))) has (record {

@@ -25,15 +25,15 @@ use Rattle.heap_rule.specs.declared.owned.Change.{Change}
 use Rattle.heap_rule.specs.declared.owned.Change.TheVariants as change
 use Rattle.heap_rule.specs.declared.owned.Owned.{Owned}
 use Rattle.heap_rule.specs.Changed.{IsChanged, FitsChange}
-use Rattle.heap_rule.specs.Owned.{Parts, HasOwned, parts_of}
-use Rattle.heap_rule.specs.Plays.{Has, IsEvent}
+use Rattle.heap_rule.specs.Owned.{OwnedParts, HasOwned, parts_of}
+use Rattle.heap_rule.specs.Plays.{HasSoundState, IsEvent}
 use Rattle.heap_rule.specs.Shown.{CanFree, CanLift, CanCut, CanHoldLarge}
 use Rattle.heap_rule.proofs.OwnedShifts.{alloc_owned, free_owned, lift_owned, cut_owned, large_owned, split_owned}
 use Rattle.heap_rule.proofs.OwnedSteps.{quiet, taken_below}
 use Rattle.heap_rule.proofs.TickLemmas.{drawn, spent}
 use Rattle.heap_rule.proofs.ViewLemmas.{below_capacity, block_cut, block_once}
 
-as_is : (o o' : Owned) (p : Parts) → o' ≡ o → HasOwned o p → HasOwned o' p
+as_is : (o o' : Owned) (p : OwnedParts) → o' ≡ o → HasOwned o p → HasOwned o' p
 as_is o o' p same own = subst (λ x. HasOwned x p) (sym same) own
 
 pub none_change : (v : View) → FitsChange change.Nothing v None
@@ -46,7 +46,7 @@ pub free_change : (v : View) (block : ℕ) → CanFree v block → FitsChange ch
 free_change v block can o own = (tt, λ s found o' same. as_is o o' _ same (free_owned v s o own found block can))
 
 -- a batch to which a block comes has no more blocks than a superblock
-batch_room : (v : View) → Has v → (class : ℕ) → CanLift v class → length v.batch.blocks < 4096
+batch_room : (v : View) → HasSoundState v → (class : ℕ) → CanLift v class → length v.batch.blocks < 4096
 batch_room v s class can = let short = chain_short v.setup.capacity class d (first ∷ v.batch.blocks) can.is_class cut once in let few = few_blocks class can.is_class in omega arith where
   m : Memory
   m = memory_of v.setup.capacity s.words
@@ -96,13 +96,13 @@ batch_room v s class can = let short = chain_short v.setup.capacity class d (fir
     | inr other ↦ let z = ne-eqb-none first b other in omega arith
   ]
 
-pub lift_change : (v : View) → Has v → (class block : ℕ) → CanLift v class → block ≡ first_of (of_class v.caches class) → FitsChange (change.Lifted block) v (Some (Lift class))
+pub lift_change : (v : View) → HasSoundState v → (class block : ℕ) → CanLift v class → block ≡ first_of (of_class v.caches class) → FitsChange (change.Lifted block) v (Some (Lift class))
 lift_change v has class block can block_is o own = (
   (let r = batch_room v has class can in let l = ap length own.batch in let k = own.room in omega arith),
   λ s found o' is. as_is _ o' _ is.others (lift_owned v s o own found class o'.batch can (is.batch ∙ ap (λ b. o.batch.items ++ b ∷ []) block_is) is.room),
 )
 
-pub cut_change : (v : View) → Has v → (d class : ℕ) (can : CanCut v d) → class ≡ can.class → FitsChange (change.Cut d class) v (Some (Cut d))
+pub cut_change : (v : View) → HasSoundState v → (d class : ℕ) (can : CanCut v d) → class ≡ can.class → FitsChange (change.Cut d class) v (Some (Cut d))
 cut_change v has d class can class_is o own = (
   record {
     is_class = is;
@@ -121,13 +121,13 @@ cut_change v has d class can class_is o own = (
   less : d < v.setup.capacity
   less = taken_below v has d (let c = can.cutting in omega arith)
 
-pub large_change : (v : View) → Has v → (d n : ℕ) → CanHoldLarge v d n → FitsChange (change.Large d n) v (Some (Large d n))
+pub large_change : (v : View) → HasSoundState v → (d n : ℕ) → CanHoldLarge v d n → FitsChange (change.Large d n) v (Some (Large d n))
 large_change v has d n can o own = (
   (can.some, (let some = can.some in let low = can.durable in let l = below_capacity v has (d + n - 1) (omega arith) in let k = own.stakes_long in omega arith)),
   λ s found o' is. as_is _ o' _ is.others (large_owned v s o own found d n is.rest o'.stakes can is.staking is.first),
 )
 
-pub split_change : (v : View) → Has v → (block d n : ℕ) → MaySplit v block → d ≡ superblock_at v.setup.capacity block → n ≡ span_count d v.large → FitsChange (change.Split d n) v (Some (Split block))
+pub split_change : (v : View) → HasSoundState v → (block d n : ℕ) → MaySplit v block → d ≡ superblock_at v.setup.capacity block → n ≡ span_count d v.large → FitsChange (change.Split d n) v (Some (Split block))
 split_change v has block d n may d_is n_is o own = (
   (let n_some = some in let last = span_covers d (d + n - 1) v.large (omega arith) (omega arith) (omega arith) in let t = taken_below v has (d + n - 1) (omega arith) in let k = own.stakes_long in omega arith),
   λ s found o' is. as_is _ o' _ is.others (split_owned v s o own found block d n o'.stakes may d_is n_is is.staking),

@@ -9,7 +9,7 @@ use Rattle.core_model.specs.Held.{volatile_image, durable_image}
 use Rattle.core_model.specs.Sound.{Each, Sound}
 use Rattle.core_model.specs.View.{Setup, View}
 use Rattle.heap_rule.specs.Images.{HasRecorded, IsImageOf}
-use Rattle.heap_rule.specs.Plays.{Has}
+use Rattle.heap_rule.specs.Plays.{HasSoundState}
 use Rattle.heap_rule.specs.Seats.{IsClosedSound}
 use Rattle.heap_rule.proofs.ImageLemmas.{volatile_is, durable_is}
 use Rattle.heap_rule.proofs.SeatImageLemmas.{state_recorded}
@@ -32,7 +32,7 @@ module _ (k : Setup) (now kept : List ℕ) (views : List View) (closed : IsClose
       ∙ behind_now (image_words k.capacity + 0) ∙ ap (λ n. get_or (kept ++ (closed.drawn ∷ [])) (n + 0) 0) (sym closed.kept_long) ∙ get_or-append-add kept (closed.drawn ∷ []) 0 0
 
   -- the sound state that it is, in which each seat has its last view
-  abbrev pub last_state : (i : ℕ) (v : View) → i < length views → get_or views i v ≡ v → Has v
+  abbrev pub last_state : (i : ℕ) (v : View) → i < length views → get_or views i v ≡ v → HasSoundState v
   last_state i v below at = record {
     words = words;
     views = views;

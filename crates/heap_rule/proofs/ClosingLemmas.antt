@@ -8,7 +8,7 @@ use Rattle.heap_model.specs.Geometry.{image_words}
 use Rattle.core_model.specs.View.{Setup, View}
 use Rattle.core_model.specs.Sound.{Sound}
 use Rattle.heap_rule.specs.Joint.{Joint, all_views}
-use Rattle.heap_rule.specs.Rule.{Opening, Keeps, Holds, setup_for}
+use Rattle.heap_rule.specs.Rule.{Opening, HasAllSeats, Holds, setup_for}
 use Rattle.heap_rule.specs.Seated.{SeatView}
 use Rattle.heap_rule.specs.Seats.{views_of, IsClosedSound}
 
@@ -69,7 +69,7 @@ closed_sound o words slots id n joint final count half = record {
   drawn = get_or (drop n (drop n words)) 0 0;
   sound = sound;
 } where
-  keeps : Keeps o final.0.words final.0.views
+  keeps : HasAllSeats o final.0.words final.0.views
   keeps = final.1.0
 
   views_are : all_views final.0.views ≡ joint

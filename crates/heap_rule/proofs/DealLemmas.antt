@@ -10,7 +10,7 @@ use Rattle.heap_model.proofs.MemberLemmas.{in_none}
 use Rattle.core_model.specs.View.{View}
 use Rattle.core_model.proofs.OrderLemmas.{AreReordered, reordered}
 use Rattle.heap_rule.specs.Joint.{Joint, all_views}
-use Rattle.heap_rule.specs.Rule.{Opening, Keeps, Holds, setup_for}
+use Rattle.heap_rule.specs.Rule.{Opening, HasAllSeats, Holds, setup_for}
 
 total_append : (f : View → ℕ) (xs ys : List View) → total f (xs ++ ys) ≡ total f xs + total f ys
 total_append f [] ys = omega arith
@@ -69,7 +69,7 @@ of_last joints last v p = let found = of_all (joints ++ last ∷ []) v p in
     ]
 
 -- the rule holds of the same seats in another order
-keeps_reordered : (o : Opening) (words : List ℕ) (old new : List Joint) → AreReordered (all_views old) (all_views new) → Keeps o words old → Keeps o words new
+keeps_reordered : (o : Opening) (words : List ℕ) (old new : List Joint) → AreReordered (all_views old) (all_views new) → HasAllSeats o words old → HasAllSeats o words new
 keeps_reordered o words old new same keeps = record {
   sound = reordered (setup_for o) words (all_views old) (all_views new) same keeps.sound;
   count = length_total (all_views new) ∙ same.sums (λ (v : View). 1) ∙ sym (length_total (all_views old)) ∙ keeps.count;
@@ -122,7 +122,7 @@ joined o id mine other theirs s holds at apart at_other = keeps_reordered o s.wo
   ]
 
 -- a new seat of the table that stands for no seat changes nothing
-pub entered : (o : Opening) (words : List ℕ) (joints : List Joint) → Keeps o words joints → Keeps o words (joints ++ [] ∷ [])
+pub entered : (o : Opening) (words : List ℕ) (joints : List Joint) → HasAllSeats o words joints → HasAllSeats o words (joints ++ [] ∷ [])
 entered o words joints keeps = keeps_reordered o words joints (joints ++ [] ∷ []) record {
   sums = λ f. let a = total_last f joints [] in omega arith;
   members = λ v p. elim (of_last joints [] v p) [ inl before ↦ before | inr none ↦ absurd (in_none v none) ];

@@ -16,7 +16,7 @@ use Rattle.core_model.proofs.SpanLemmas.{block_of}
 use Rattle.core_model.proofs.TotalLemmas.{eq-eqb-one}
 use Rattle.heap_model.specs.Counting.{times}
 use Rattle.heap_rule.specs.Fences.{SettlesOwn, is_own, not_own, SettlesEarly, no_store, a_store}
-use Rattle.heap_rule.specs.Plays.{Has, IsEvent}
+use Rattle.heap_rule.specs.Plays.{HasSoundState, IsEvent}
 use Rattle.heap_rule.specs.Shown.{Shows, ShowsDurable, ShowsEmpty, by_claim, by_anchor, by_look, ShowsLinks, CanShift, Can}
 use Rattle.heap_rule.specs.Seated.{SeatView}
 use Rattle.heap_rule.proofs.SettleLemmas.{own_below}
@@ -52,7 +52,7 @@ module _ (v w : View) (word found : ℕ) (event : IsEvent (Settle word) v found 
     | inr other ↦ get_or-set_other v.durable word (index_of cell) (Some x) None other ∙ durable
   ]
 
-  abbrev s : Has v
+  abbrev s : HasSoundState v
   s = event.before
 
   empty_made : (d : ℕ) → d < v.setup.capacity → ShowsEmpty v d → ShowsEmpty made d

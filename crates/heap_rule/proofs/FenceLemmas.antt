@@ -12,7 +12,7 @@ use Rattle.core_model.specs.View.{Setup, View, known}
 use Rattle.core_model.proofs.FrameLemmas.{times_append}
 use Rattle.core_model.proofs.QuietLemmas.{own_same}
 use Rattle.core_model.proofs.TotalLemmas.{eq-eqb-one, ne-eqb-none}
-use Rattle.heap_rule.specs.Fences.{Owns, Settles, IsDurable, KeepsRecords, IsFence, SettlesOwn, is_own, not_own}
+use Rattle.heap_rule.specs.Fences.{Owns, Settles, IsRecordedDurable, KeepsRecords, IsSeatFence, SettlesOwn, is_own, not_own}
 use Rattle.heap_rule.specs.Plays.{IsEvent}
 use Rattle.heap_rule.specs.Seated.{SeatView}
 use Rattle.heap_rule.proofs.SettleLemmas.{own_there, own_index, own_below}
@@ -44,8 +44,8 @@ module _ (v w : View) (word found : ℕ) (event : IsEvent (Settle word) v found 
   long_durable : word < length v.durable
   long_durable = let s = event.before in let l = (s.sound.good.set_up s.seat v s.below s.at).durable in let b = own_below v word event.may.ready in omega arith
 
-  pub is_durable : IsDurable w word
-  is_durable = subst (λ u. IsDurable u word) (sym event.after) (record {
+  pub is_durable : IsRecordedDurable w word
+  is_durable = subst (λ u. IsRecordedDurable u word) (sym event.after) (record {
     value = x;
     volatile = ap (λ n. get_or (set v.volatile word (Some x)) n None) (own_index v word event.may.ready) ∙ get_or-set_same v.volatile word (Some x) None long_volatile;
     durable = ap (λ n. get_or (set v.durable word (Some x)) n None) (own_index v word event.may.ready) ∙ get_or-set_same v.durable word (Some x) None long_durable;
@@ -58,9 +58,9 @@ module _ (v w : View) (word found : ℕ) (event : IsEvent (Settle word) v found 
     durable = ap (λ n. get_or (set v.durable word (Some x)) n None) (own_index v k own) ∙ get_or-set_other v.durable word k (Some x) None other ∙ sym (ap (λ n. get_or v.durable n None) (own_index v k own));
   })
 
-  pub stays_durable : (k : ℕ) → Owns v k → IsDurable v k → IsDurable w k
-  stays_durable k own before = elim (cases_eq k word) as (λ _. IsDurable w k) [
-    | inl same ↦ subst (IsDurable w) (sym same) is_durable
+  pub stays_durable : (k : ℕ) → Owns v k → IsRecordedDurable v k → IsRecordedDurable w k
+  stays_durable k own before = elim (cases_eq k word) as (λ _. IsRecordedDurable w k) [
+    | inl same ↦ subst (IsRecordedDurable w) (sym same) is_durable
     | inr other ↦ let kept = other_kept k other own in record {
       value = before.value;
       volatile = subst (λ (s : Setup). Shows w (cell_at s.capacity k) before.value) (sym settle_setup) (kept.volatile ∙ before.volatile);
@@ -105,7 +105,7 @@ rest_then v u w a b = b ∙ ap (λ (z : View). record z { volatile = w.volatile;
 pub record IsRow (v w : SeatView) (words : List ℕ) : Type 0 where
   pub settles : Settles v.view words w.view
   pub own : (k : ℕ) → Owns w.view k ↔ Owns v.view k
-  pub in_row : (k : ℕ) → 0 < times k words → IsMarked v.marks k × Owns v.view k × IsDurable w.view k
+  pub in_row : (k : ℕ) → 0 < times k words → IsMarked v.marks k × Owns v.view k × IsRecordedDurable w.view k
   pub seen : (k value : ℕ) → Owns v.view k → Shows v.view (cell_at v.view.setup.capacity k) value → Shows w.view (cell_at v.view.setup.capacity k) value
   pub others : (k : ℕ) → Owns v.view k → (IsMarked v.marks k → ⊥) → KeepsRecords v.view w.view k
   pub rest : w.view ≡ record v.view { volatile = w.view.volatile; durable = w.view.durable }
@@ -139,7 +139,7 @@ module _ (v u w : SeatView) (words : List ℕ) (word : ℕ) (row : IsRow v u wor
       in_row = λ k some. elim (cases_lt 0 (times k words)) [
         | inl old ↦ let r = row.in_row k old in (r.0, r.1, stays_durable u.view w.view word found event k ((row.own k).1 r.1) r.2)
         | inr none ↦ let here = is_word k (let a = times_append k words (word ∷ []) in omega arith) in
-            (subst (IsMarked v.marks) here (row.left word marked), subst (Owns v.view) here ((row.own word).0 own), subst (IsDurable w.view) here (is_durable u.view w.view word found event))
+            (subst (IsMarked v.marks) here (row.left word marked), subst (Owns v.view) here ((row.own word).0 own), subst (IsRecordedDurable w.view) here (is_durable u.view w.view word found event))
       ];
       seen = λ k value owned is. subst (λ (s : Setup). Shows w.view (cell_at s.capacity k) value) same_setup
           (stays_seen u.view w.view word found event k value ((row.own k).1 owned) (subst (λ (s : Setup). Shows u.view (cell_at s.capacity k) value) (sym same_setup) (row.seen k value owned is)));
@@ -170,7 +170,7 @@ module _ (v u w : SeatView) (words : List ℕ) (word : ℕ) (row : IsRow v u wor
     record {
       settles = subst (λ z. Settles v.view words z) (sym same) row.settles;
       own = λ k. subst (λ z. Owns z k ↔ Owns v.view k) (sym same) (row.own k);
-      in_row = λ k some. let r = row.in_row k some in (r.0, r.1, subst (λ z. IsDurable z k) (sym same) r.2);
+      in_row = λ k some. let r = row.in_row k some in (r.0, r.1, subst (λ z. IsRecordedDurable z k) (sym same) r.2);
       seen = λ k value owned is. subst (λ z. Shows z (cell_at v.view.setup.capacity k) value) (sym same) (row.seen k value owned is);
       others = λ k owned none. subst (λ z. KeepsRecords v.view z k) (sym same) (row.others k owned none);
       rest = subst (λ (z : View). z ≡ record v.view { volatile = z.volatile; durable = z.durable }) (sym same) row.rest;
@@ -187,7 +187,7 @@ module _ (v u w : SeatView) (words : List ℕ) (word : ℕ) (row : IsRow v u wor
     },
   )
 
-pub row_whole : (v w : SeatView) (words : List ℕ) → IsRow v w words → ((k : ℕ) → mark_at w.marks k ≡ false) → IsFence v w
+pub row_whole : (v w : SeatView) (words : List ℕ) → IsRow v w words → ((k : ℕ) → mark_at w.marks k ≡ false) → IsSeatFence v w
 row_whole v w words row clear = record {
   words = words;
   settles = row.settles;

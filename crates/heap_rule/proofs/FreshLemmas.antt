@@ -3,10 +3,10 @@ use Rattle.std.proofs.Common.{◌≡◌, ◌≢◌, ℕ, ◌+◌, Option, None, 
 use Rattle.core_model.specs.declared.event.Event.TheVariants.{TakeFresh}
 use Rattle.core_model.specs.View.{View}
 use Rattle.core_model.specs.Effects.{seen, cleared, taken_fresh}
-use Rattle.crash_core.specs.declared.owners.Seat.{Seat}
+use Rattle.crash_core.specs.declared.owners.SeatNotes.{SeatNotes}
 use Rattle.crash_core.specs.declared.owners.Seen.{Seen}
 use Rattle.crash_core.specs.Standing.{snapshot}
-use Rattle.heap_rule.specs.Plays.{Has, IsEvent}
+use Rattle.heap_rule.specs.Plays.{HasSoundState, IsEvent}
 use Rattle.heap_rule.specs.Seated.{IsKeptOf}
 use Rattle.heap_rule.proofs.SeatLemmas.{keep_fits}
 
@@ -18,7 +18,7 @@ pub missed : {A : Type 0} (found seen : ℕ) (x y : A) → found ≢ seen → co
 missed found seen x y other = ap (λ b. cond b x y) (ne_eqb found seen other)
 
 -- after the mark is exchanged
-pub fresh_taken : (notes : Seat) (v w : View) (n found used new : ℕ) (anchor : Option Seen) → IsKeptOf notes v → IsEvent (TakeFresh n) v found w → Has w → seen v.seen_used ≡ used → found ≡ used → new ≡ used + n
+pub fresh_taken : (notes : SeatNotes) (v w : View) (n found used new : ℕ) (anchor : Option Seen) → IsKeptOf notes v → IsEvent (TakeFresh n) v found w → HasSoundState w → seen v.seen_used ≡ used → found ≡ used → new ≡ used + n
     → snapshot anchor ≡ cleared used n (snapshot notes.seen_anchor) → IsKeptOf (record notes { ticket = None; seen_used = Some new; seen_anchor = anchor }) w
 fresh_taken notes v w n found used new anchor kept event has is same new_is cleared_is = keep_fits _ _ w (event.after ∙ hit found (seen v.seen_used) (taken_fresh v n) _ (same ∙ sym is)) has (record {
   notes_are = record {
@@ -33,7 +33,7 @@ fresh_taken notes v w n found used new anchor kept event has is same new_is clea
   batch = kept.batch;
 })
 
-pub fresh_lost : (notes : Seat) (v w : View) (n found used : ℕ) → IsKeptOf notes v → IsEvent (TakeFresh n) v found w → Has w → seen v.seen_used ≡ used → found ≢ used
+pub fresh_lost : (notes : SeatNotes) (v w : View) (n found used : ℕ) → IsKeptOf notes v → IsEvent (TakeFresh n) v found w → HasSoundState w → seen v.seen_used ≡ used → found ≢ used
     → IsKeptOf (record notes { ticket = None; seen_used = None }) w
 fresh_lost notes v w n found used kept event has is other = keep_fits _ _ w (event.after ∙ missed found (seen v.seen_used) (taken_fresh v n) _ (λ e. other (e ∙ is))) has (record {
   notes_are = record {

@@ -10,17 +10,17 @@ use Rattle.core_model.specs.Effects.{seen_word, seen_of, before, cleared, claime
 use Rattle.core_model.specs.Guards.{IsThere}
 use Rattle.core_model.proofs.TotalLemmas.{total_at}
 use Rattle.core_model.proofs.ListLemmas.{number_once}
-use Rattle.crash_core.specs.declared.owners.Seat.{Seat}
+use Rattle.crash_core.specs.declared.owners.SeatNotes.{SeatNotes}
 use Rattle.crash_core.specs.declared.owners.Seen.{Seen}
 use Rattle.crash_core.specs.Standing.{snapshot}
 use Rattle.crash_core.proofs.KeptFacts.{total_member}
-use Rattle.heap_rule.specs.Plays.{Has, IsEvent}
+use Rattle.heap_rule.specs.Plays.{HasSoundState, IsEvent}
 use Rattle.heap_rule.specs.Seated.{Fits, IsKeptOf}
 use Rattle.heap_rule.proofs.SeatLemmas.{keep_fits}
 use Rattle.heap_rule.proofs.FreshLemmas.{hit, missed}
 
 -- a head that was seen may count one pop more
-pub pops_below : (v : View) → Has v → v.setup.budget < 1099511627776 → IsThere v.ticket → IsThere v.seen_head → head_pops (seen_word v.seen_head) < 1099511627775
+pub pops_below : (v : View) → HasSoundState v → v.setup.budget < 1099511627776 → IsThere v.ticket → IsThere v.seen_head → head_pops (seen_word v.seen_head) < 1099511627775
 pops_below v s low ticket some =
     let knows = (s.sound.good.knows s.seat v s.below s.at).seen_head some in
     let b = s.sound.good.adds.budget in
@@ -29,7 +29,7 @@ pops_below v s low ticket some =
     let p = knows.pops in omega arith
 
 -- what is kept of a seat that claims a descriptor
-pub claims : (notes : Seat) (v : View) (d list : ℕ) → Fits notes v → Fits notes (claimed v d list)
+pub claims : (notes : SeatNotes) (v : View) (d list : ℕ) → Fits notes v → Fits notes (claimed v d list)
 claims notes v d zero f = record { notes_are = record { ticket = f.notes_are.ticket; stopped = f.notes_are.stopped; seen_used = f.notes_are.seen_used; seen_head = f.notes_are.seen_head; seen_link = f.notes_are.seen_link; seen_anchor = f.notes_are.seen_anchor }; caches = f.caches; batch = f.batch }
 claims notes v d (suc class) f = record { notes_are = record { ticket = f.notes_are.ticket; stopped = f.notes_are.stopped; seen_used = f.notes_are.seen_used; seen_head = f.notes_are.seen_head; seen_link = f.notes_are.seen_link; seen_anchor = f.notes_are.seen_anchor }; caches = f.caches; batch = f.batch }
 
@@ -37,7 +37,7 @@ pub before_is : (n : ℕ) → before n ≡ n - 1
 before_is zero = refl
 before_is (suc n) = let e : n ≡ suc n - 1 = omega arith in e
 
-pub head_popped : (notes : Seat) (v w : View) (found head_word first d : ℕ) (anchor : Option Seen) → IsKeptOf notes v → IsEvent Pop v found w → Has w → seen_word v.seen_head ≡ head_word → found ≡ head_word
+pub head_popped : (notes : SeatNotes) (v w : View) (found head_word first d : ℕ) (anchor : Option Seen) → IsKeptOf notes v → IsEvent Pop v found w → HasSoundState w → seen_word v.seen_head ≡ head_word → found ≡ head_word
     → first ≡ head_first head_word → d ≡ first - 1 → snapshot anchor ≡ cleared d 1 (snapshot notes.seen_anchor) → IsKeptOf (record notes { ticket = None; seen_head = None; seen_link = None; seen_anchor = anchor }) w
 head_popped notes v w found head_word first d anchor kept event has is same first_is d_is cleared_is =
     keep_fits _ _ w (event.after ∙ hit found (seen_word v.seen_head) (popped v (before (head_first (seen_word v.seen_head)))) _ (same ∙ sym is)) has
@@ -55,7 +55,7 @@ head_popped notes v w found head_word first d anchor kept event has is same firs
       batch = kept.batch;
     }))
 
-pub pop_lost : (notes : Seat) (v w : View) (found head_word : ℕ) → IsKeptOf notes v → IsEvent Pop v found w → Has w → seen_word v.seen_head ≡ head_word → found ≢ head_word
+pub pop_lost : (notes : SeatNotes) (v w : View) (found head_word : ℕ) → IsKeptOf notes v → IsEvent Pop v found w → HasSoundState w → seen_word v.seen_head ≡ head_word → found ≢ head_word
     → IsKeptOf (record notes { ticket = None; seen_head = None }) w
 pop_lost notes v w found head_word kept event has is other =
     keep_fits _ _ w (event.after ∙ missed found (seen_word v.seen_head) (popped v (before (head_first (seen_word v.seen_head)))) _ (λ e. other (e ∙ is))) has (record {
@@ -64,7 +64,7 @@ pop_lost notes v w found head_word kept event has is other =
       batch = kept.batch;
     })
 
-pub head_pushed : (notes : Seat) (v w : View) (d found head_word : ℕ) (anchor : Option Seen) → IsKeptOf notes v → IsEvent (Push d) v found w → Has w → seen_word v.seen_head ≡ head_word → found ≡ head_word
+pub head_pushed : (notes : SeatNotes) (v w : View) (d found head_word : ℕ) (anchor : Option Seen) → IsKeptOf notes v → IsEvent (Push d) v found w → HasSoundState w → seen_word v.seen_head ≡ head_word → found ≡ head_word
     → snapshot anchor ≡ cleared d 1 (snapshot notes.seen_anchor) → IsKeptOf (record notes { ticket = None; seen_head = None; seen_anchor = anchor }) w
 head_pushed notes v w d found head_word anchor kept event has is same cleared_is =
     keep_fits _ _ w (event.after ∙ hit found (seen_word v.seen_head) (pushed v d) _ (same ∙ sym is)) has (by_claim (nat_lt 0 (times d v.raw + times d v.split))) where
@@ -80,7 +80,7 @@ head_pushed notes v w d found head_word anchor kept event has is same cleared_is
         batch = kept.batch;
       }
 
-pub push_lost : (notes : Seat) (v w : View) (d found head_word : ℕ) → IsKeptOf notes v → IsEvent (Push d) v found w → Has w → seen_word v.seen_head ≡ head_word → found ≢ head_word
+pub push_lost : (notes : SeatNotes) (v w : View) (d found head_word : ℕ) → IsKeptOf notes v → IsEvent (Push d) v found w → HasSoundState w → seen_word v.seen_head ≡ head_word → found ≢ head_word
     → IsKeptOf (record notes { ticket = None; seen_head = None }) w
 push_lost notes v w d found head_word kept event has is other = keep_fits _ _ w (event.after ∙ missed found (seen_word v.seen_head) (pushed v d) _ (λ e. other (e ∙ is))) has (record {
   notes_are = record { ticket = refl; stopped = kept.notes_are.stopped; seen_used = kept.notes_are.seen_used; seen_head = refl; seen_link = kept.notes_are.seen_link; seen_anchor = kept.notes_are.seen_anchor };

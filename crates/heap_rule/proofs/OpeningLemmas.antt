@@ -13,13 +13,13 @@ use Rattle.core_model.proofs.OpenLemmas.{length_tabulate, tabulate_at}
 use Rattle.core_model.proofs.OpenedLemmas.{opened}
 use Rattle.crash_core.proofs.OpenedCore.{new_seat, no_caches}
 use Rattle.heap_rule.specs.Joint.{Joint, first_view, other_views}
-use Rattle.heap_rule.specs.Rule.{Opening, Keeps, IsOpened, setup_for, most_seats, first_joint, opened_view_of}
-use Rattle.heap_rule.specs.Seated.{SharedView, SeatView, IsSeat}
+use Rattle.heap_rule.specs.Rule.{Opening, HasAllSeats, HasOpenedWords, setup_for, most_seats, first_joint, opened_view_of}
+use Rattle.heap_rule.specs.Seated.{SharedView, SeatView, IsSingleSeat}
 use Rattle.heap_rule.specs.Seats.{AreOpenedSeats, dealt_seats}
 
 -- a heap at rest keeps the rule at the opening
 pub opened_keeps : (o : Opening) (words : List ℕ) → IsReady o.words o.held → AreOwners o.held o.seats o.block_owners o.root_owners → o.seats ≤ most_seats → o.budget < 1099511627776
-    → words ≡ o.words ++ (o.words ++ (0 ∷ [])) → Keeps o words (first_joint o ∷ [])
+    → words ≡ o.words ++ (o.words ++ (0 ∷ [])) → HasAllSeats o words (first_joint o ∷ [])
 opened_keeps o words ready owners few low are = record {
   sound = subst (Sound (setup_for o) words) (sym (append-nil (first_joint o)))
       (subst (λ ws. Sound (setup_for o) ws (first_joint o)) (sym are) (opened o.words o.held o.budget o.seats o.block_owners o.root_owners ready owners));
@@ -58,8 +58,8 @@ one_more table views words n seat same view_is stores marks =
       is = λ j. record { table = same j; view = view_at j; stores = stores j; marks = marks j }
 
 -- a seat as it is opened
-pub is_seat : (o : Opening) (i capacity budget : ℕ) (me : Me ℕ Joint) → IsOpened o → i < o.seats → me ≡ (opened_view_of o i ∷ [], []) → capacity ≡ (setup_for o).capacity → budget ≡ (setup_for o).budget → IsSeat me new_seat capacity budget
-is_seat o i capacity budget me is less me_is capacity_is budget_is = subst (λ m. IsSeat m new_seat capacity budget) (sym me_is) (record {
+pub is_seat : (o : Opening) (i capacity budget : ℕ) (me : Me ℕ Joint) → HasOpenedWords o → i < o.seats → me ≡ (opened_view_of o i ∷ [], []) → capacity ≡ (setup_for o).capacity → budget ≡ (setup_for o).budget → IsSingleSeat me new_seat capacity budget
+is_seat o i capacity budget me is less me_is capacity_is budget_is = subst (λ m. IsSingleSeat m new_seat capacity budget) (sym me_is) (record {
   single = refl;
   no_slots = refl;
   kept = record {
@@ -110,7 +110,7 @@ opened_seats table key o words seats same are = are_opened (record { table = tab
 
 -- the key of the table, which is made of the same parts, keeps the rule too
 pub key_keeps : (key o : Opening) (words : List ℕ) → key.words ≡ o.words → key.held ≡ o.held → key.block_owners ≡ o.block_owners → key.root_owners ≡ o.root_owners → key.seats ≡ o.seats → key.budget ≡ o.budget
-    → Keeps o words (first_joint o ∷ []) → Keeps key words (first_joint key ∷ [])
-key_keeps key o words words_are held block_owners root_owners seats budget keeps = subst (λ k. Keeps k words (first_joint k ∷ [])) (sym same) keeps where
+    → HasAllSeats o words (first_joint o ∷ []) → HasAllSeats key words (first_joint key ∷ [])
+key_keeps key o words words_are held block_owners root_owners seats budget keeps = subst (λ k. HasAllSeats k words (first_joint k ∷ [])) (sym same) keeps where
   same : key ≡ o
   same = λ j. record { words = words_are j; held = held j; block_owners = block_owners j; root_owners = root_owners j; seats = seats j; budget = budget j }

@@ -15,10 +15,10 @@ use Rattle.crash_core.proofs.ClaimLemmas.{without_at, without_off, class_absent}
 use Rattle.crash_core.proofs.SplitSteps.{no_span}
 use Rattle.heap_rule.specs.declared.owned.Stake.{Stake}
 use Rattle.heap_rule.specs.declared.owned.Stake.TheVariants as stake
-use Rattle.heap_rule.specs.Owned.{listed, Parts, IsStake, IsStaking}
+use Rattle.heap_rule.specs.Owned.{listed, OwnedParts, IsStake, IsStaking}
 
 -- all stakes, after that in superblock d has become another
-pub stake_at : (stakes : List Stake) (p q : Parts) (d : ℕ) (x : Stake) → d < length stakes → ((e : ℕ) → IsStake e (get_or stakes e stake.Nothing) p) → IsStake d x q
+pub stake_at : (stakes : List Stake) (p q : OwnedParts) (d : ℕ) (x : Stake) → d < length stakes → ((e : ℕ) → IsStake e (get_or stakes e stake.Nothing) p) → IsStake d x q
     → ((e : ℕ) (y : Stake) → e ≢ d → IsStake e y p → IsStake e y q) → (e : ℕ) → IsStake e (get_or (set stakes d x) e stake.Nothing) q
 stake_at stakes p q d x less old here others e = elim (cases_eq e d) as (λ _. IsStake e (get_or (set stakes d x) e stake.Nothing) q) [
   | inl same ↦ subst (λ n. IsStake n (get_or (set stakes d x) n stake.Nothing) q) (sym same) (subst (λ y. IsStake d y q) (sym (get_or-set_same stakes d x stake.Nothing less)) here)
@@ -26,7 +26,7 @@ stake_at stakes p q d x less old here others e = elim (cases_eq e d) as (λ _. I
 ]
 
 -- the same of a range
-pub stakes_in : (old new : List Stake) (p q : Parts) (from n : ℕ) (x : Stake) → IsStaking old new from n x → ((e : ℕ) → IsStake e (get_or old e stake.Nothing) p)
+pub stakes_in : (old new : List Stake) (p q : OwnedParts) (from n : ℕ) (x : Stake) → IsStaking old new from n x → ((e : ℕ) → IsStake e (get_or old e stake.Nothing) p)
     → ((e : ℕ) → from ≤ e → e < from + n → IsStake e x q) → ((e : ℕ) (y : Stake) → (from ≤ e → e < from + n → ⊥) → IsStake e y p → IsStake e y q)
     → (e : ℕ) → IsStake e (get_or new e stake.Nothing) q
 stakes_in old new p q from n x staking before inside outside e = elim (cases_range from n e) as (λ _. IsStake e (get_or new e stake.Nothing) q) [
@@ -35,21 +35,21 @@ stakes_in old new p q from n x staking before inside outside e = elim (cases_ran
 ]
 
 -- nothing is there
-no_stake : (d : ℕ) (x : Stake) (p : Parts) → IsStake d x p → times d p.raw + times d p.split + times d p.cutting ≡ 0 → times_classed d p.classed ≡ 0 → times_large d p.large ≡ 0 → x ≡ stake.Nothing
+no_stake : (d : ℕ) (x : Stake) (p : OwnedParts) → IsStake d x p → times d p.raw + times d p.split + times d p.cutting ≡ 0 → times_classed d p.classed ≡ 0 → times_large d p.large ≡ 0 → x ≡ stake.Nothing
 no_stake d stake.Nothing p is a b e = refl
 no_stake d stake.Unclassed p is a b e = absurd (let n = is.unclassed in omega arith)
 no_stake d (stake.Classed class) p is a b e = absurd (let n = is.is_classed in omega arith)
 no_stake d (stake.Large count) p is a b e = absurd (let n = is.is_large in omega arith)
 
 -- a claim without a class has no other part of the superblock
-unclassed_only : (d : ℕ) (x : Stake) (p : Parts) → IsStake d x p → 0 < times d p.raw + times d p.split + times d p.cutting → x ≡ stake.Unclassed
+unclassed_only : (d : ℕ) (x : Stake) (p : OwnedParts) → IsStake d x p → 0 < times d p.raw + times d p.split + times d p.cutting → x ≡ stake.Unclassed
 unclassed_only d stake.Nothing p is some = absurd (let n = is.unclassed in omega arith)
 unclassed_only d stake.Unclassed p is some = refl
 unclassed_only d (stake.Classed class) p is some = absurd (let n = is.unclassed in omega arith)
 unclassed_only d (stake.Large count) p is some = absurd (let n = is.unclassed in omega arith)
 
 -- superblocks that were never taken, and are claimed
-pub fresh_stakes : (old new : List Stake) (p : Parts) (u n : ℕ) → IsStaking old new u n stake.Unclassed → ((e : ℕ) → IsStake e (get_or old e stake.Nothing) p)
+pub fresh_stakes : (old new : List Stake) (p : OwnedParts) (u n : ℕ) → IsStaking old new u n stake.Unclassed → ((e : ℕ) → IsStake e (get_or old e stake.Nothing) p)
     → ((e : ℕ) → u ≤ e → e < u + n → (times e p.raw + times e p.split + times e p.cutting ≡ 0) × (times_classed e p.classed ≡ 0) × (times_large e p.large ≡ 0))
     → (e : ℕ) → IsStake e (get_or new e stake.Nothing) (record p { raw = p.raw ++ steps u 1 n })
 fresh_stakes old new p u n staking before none = stakes_in old new p (record p { raw = p.raw ++ steps u 1 n }) u n stake.Unclassed staking before
@@ -69,11 +69,11 @@ fresh_stakes old new p u n staking before none = stakes_in old new p (record p {
     })
 
 -- what becomes of the parts with a claim of a superblock from a list
-abbrev pub with_claim : Parts → ℕ → ℕ → Parts
+abbrev pub with_claim : OwnedParts → ℕ → ℕ → OwnedParts
 with_claim p d zero = record p { raw = d ∷ p.raw }
 with_claim p d (suc class) = record p { classed = record { descriptor = d; class = suc class } ∷ p.classed }
 
-pub claim_stakes : (stakes : List Stake) (p : Parts) (d list : ℕ) (x : Stake) → x ≡ listed list → d < length stakes → ((e : ℕ) → IsStake e (get_or stakes e stake.Nothing) p)
+pub claim_stakes : (stakes : List Stake) (p : OwnedParts) (d list : ℕ) (x : Stake) → x ≡ listed list → d < length stakes → ((e : ℕ) → IsStake e (get_or stakes e stake.Nothing) p)
     → (times d p.raw + times d p.split + times d p.cutting ≡ 0) × (times_classed d p.classed ≡ 0) × (times_large d p.large ≡ 0)
     → (e : ℕ) → IsStake e (get_or (set stakes d x) e stake.Nothing) (with_claim p d list)
 claim_stakes stakes p d list x is less before none = by list x is where
@@ -113,7 +113,7 @@ claim_stakes stakes p d list x is less before none = by list x is where
       })
 
 -- a claim without a class that is given up
-pub raw_stakes : (stakes : List Stake) (p : Parts) (d : ℕ) → d < length stakes → 0 < times d p.raw + times d p.split → ((e : ℕ) → IsStake e (get_or stakes e stake.Nothing) p)
+pub raw_stakes : (stakes : List Stake) (p : OwnedParts) (d : ℕ) → d < length stakes → 0 < times d p.raw + times d p.split → ((e : ℕ) → IsStake e (get_or stakes e stake.Nothing) p)
     → (e : ℕ) → IsStake e (get_or (set stakes d stake.Nothing) e stake.Nothing) (record p { raw = without d p.raw; split = without d p.split })
 raw_stakes stakes p d less some before =
     let o = subst (λ y. IsStake d y p) (unclassed_only d (get_or stakes d stake.Nothing) p (before d) (omega arith)) (before d) in
@@ -134,7 +134,7 @@ raw_stakes stakes p d less some before =
     })
 
 -- a claim whose blocks were made, that is given up
-pub cut_stakes : (stakes : List Stake) (p : Parts) (d : ℕ) → d < length stakes → 0 < times d p.cutting → ((e : ℕ) → IsStake e (get_or stakes e stake.Nothing) p)
+pub cut_stakes : (stakes : List Stake) (p : OwnedParts) (d : ℕ) → d < length stakes → 0 < times d p.cutting → ((e : ℕ) → IsStake e (get_or stakes e stake.Nothing) p)
     → (e : ℕ) → IsStake e (get_or (set stakes d stake.Nothing) e stake.Nothing) (record p { cutting = without d p.cutting })
 cut_stakes stakes p d less some before =
     let o = subst (λ y. IsStake d y p) (unclassed_only d (get_or stakes d stake.Nothing) p (before d) (omega arith)) (before d) in
@@ -155,7 +155,7 @@ cut_stakes stakes p d less some before =
     })
 
 -- a claim with a class that is given up
-pub classed_stakes : (stakes : List Stake) (p : Parts) (d : ℕ) → d < length stakes → 0 < times_classed d p.classed → ((e : ℕ) → IsStake e (get_or stakes e stake.Nothing) p)
+pub classed_stakes : (stakes : List Stake) (p : OwnedParts) (d : ℕ) → d < length stakes → 0 < times_classed d p.classed → ((e : ℕ) → IsStake e (get_or stakes e stake.Nothing) p)
     → (e : ℕ) → IsStake e (get_or (set stakes d stake.Nothing) e stake.Nothing) (record p { classed = without_claim d p.classed })
 classed_stakes stakes p d less some before =
     stake_at stakes p q d stake.Nothing less before (gone (get_or stakes d stake.Nothing) (before d))
@@ -166,7 +166,7 @@ classed_stakes stakes p d less some before =
       is_large = b.is_large;
       count = b.count;
     }) where
-      q : Parts
+      q : OwnedParts
       q = record p { classed = without_claim d p.classed }
 
       gone : (x : Stake) → IsStake d x p → IsStake d stake.Nothing q
@@ -178,7 +178,7 @@ classed_stakes stakes p d less some before =
         none = let n = times_without_claim d d p.classed some in let one = eq-eqb-one d d refl in let a = o.is_classed in omega arith
 
 -- claims that become a large block
-pub large_stakes : (old new : List Stake) (p : Parts) (d n : ℕ) → 1 ≤ n → d < length new → IsStaking old new d n (stake.Large 0) → ((e : ℕ) → IsStake e (get_or old e stake.Nothing) p)
+pub large_stakes : (old new : List Stake) (p : OwnedParts) (d n : ℕ) → 1 ≤ n → d < length new → IsStaking old new d n (stake.Large 0) → ((e : ℕ) → IsStake e (get_or old e stake.Nothing) p)
     → ((e : ℕ) → d ≤ e → e < d + n → 0 < times e p.raw + times e p.split)
     → (e : ℕ) → IsStake e (get_or (set new d (stake.Large n)) e stake.Nothing)
     (record p { large = record { first = d; count = n } ∷ p.large; raw = without_range d n p.raw; split = without_range d n p.split })
@@ -190,7 +190,7 @@ large_stakes old new p d n some less staking before claimed e = elim (cases_eq e
   span : Span
   span = record { first = d; count = n }
 
-  q : Parts
+  q : OwnedParts
   q = record p { large = span ∷ p.large; raw = without_range d n p.raw; split = without_range d n p.split }
 
   mine : (e : ℕ) → d ≤ e → e < d + n → IsStake e stake.Unclassed p
@@ -220,14 +220,14 @@ large_stakes old new p d n some less staking before claimed e = elim (cases_eq e
     })
   ]
 
-large_only : (d : ℕ) (x : Stake) (p : Parts) → IsStake d x p → 0 < times_large d p.large → (times d p.raw + times d p.split + times d p.cutting ≡ 0) × (times_classed d p.classed ≡ 0) × (claim_class d p.classed ≡ 0) × (times_large d p.large ≡ 1)
+large_only : (d : ℕ) (x : Stake) (p : OwnedParts) → IsStake d x p → 0 < times_large d p.large → (times d p.raw + times d p.split + times d p.cutting ≡ 0) × (times_classed d p.classed ≡ 0) × (claim_class d p.classed ≡ 0) × (times_large d p.large ≡ 1)
 large_only d stake.Nothing p is some = absurd (let n = is.is_large in omega arith)
 large_only d stake.Unclassed p is some = absurd (let n = is.is_large in omega arith)
 large_only d (stake.Classed class) p is some = absurd (let n = is.is_large in omega arith)
 large_only d (stake.Large count) p is some = (is.unclassed, is.is_classed, is.class, is.is_large)
 
 -- a large block that is split
-pub split_stakes : (old new : List Stake) (p : Parts) (d n : ℕ) → n ≡ span_count d p.large → 1 ≤ n → IsStaking old new d n stake.Unclassed → ((e : ℕ) → IsStake e (get_or old e stake.Nothing) p)
+pub split_stakes : (old new : List Stake) (p : OwnedParts) (d n : ℕ) → n ≡ span_count d p.large → 1 ≤ n → IsStaking old new d n stake.Unclassed → ((e : ℕ) → IsStake e (get_or old e stake.Nothing) p)
     → (e : ℕ) → IsStake e (get_or new e stake.Nothing) (record p { large = without_span d p.large; split = p.split ++ steps d 1 n })
 split_stakes old new p d n n_is some staking before = stakes_in old new p (record p { large = without_span d p.large; split = p.split ++ steps d 1 n }) d n stake.Unclassed staking before
     (λ e low high.

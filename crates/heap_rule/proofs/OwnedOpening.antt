@@ -26,14 +26,14 @@ use Rattle.crash_core.proofs.OwnDecision.{one_true}
 use Rattle.crash_core.proofs.PickedLemmas.{roots_of}
 use Rattle.heap_rule.specs.declared.owned.Stake.TheVariants as stake
 use Rattle.heap_rule.specs.declared.owned.Owned.{Owned}
-use Rattle.heap_rule.specs.Owned.{most_blocks, stake_for, opened_parts, parts_of, Parts, IsStake, HasOwned, times_had}
+use Rattle.heap_rule.specs.Owned.{most_blocks, stake_for, opened_parts, parts_of, OwnedParts, IsStake, HasOwned, times_had}
 use Rattle.heap_rule.specs.Rule.{opening_of, opened_view_of}
-use Rattle.heap_rule.specs.Plays.{Has}
+use Rattle.heap_rule.specs.Plays.{HasSoundState}
 use Rattle.heap_rule.proofs.ViewLemmas.{block_below}
 
 -- the view of a seat of the opened heap is one of a sound state
 opened_has : (heap : Contents) (owners : OwnerLists) (seats seat : ℕ) → IsReady heap.words heap.held → AreOwners heap.held seats owners.held owners.roots → seat < seats
-    → Has (opened_view (setup_of heap.words 0) heap.held owners.held owners.roots seat)
+    → HasSoundState (opened_view (setup_of heap.words 0) heap.held owners.held owners.roots seat)
 opened_has heap owners seats seat ready are less = record {
   words = (opened_state (setup_of heap.words 0) heap.held owners.held owners.roots seats).words;
   views = tabulate V 0 seats;
@@ -50,7 +50,7 @@ pub opened_parts_are : (heap : Contents) (owners : OwnerLists) (seats budget i :
 opened_parts_are heap owners seats budget i = refl
 
 -- a share of a heap at rest as a stake
-stake_of_share : (d : ℕ) (x : Share) (p : Parts) → IsShare d x p.raw p.split p.cutting p.classed p.large → IsStake d (stake_for x) p
+stake_of_share : (d : ℕ) (x : Share) (p : OwnedParts) → IsShare d x p.raw p.split p.cutting p.classed p.large → IsStake d (stake_for x) p
 stake_of_share d share.Nothing p is = record { unclassed = (let a = is.is_raw in let b = is.is_split in let c = is.is_cutting in omega arith); is_classed = is.is_classed; class = is.class; is_large = is.is_large; count = is.count }
 stake_of_share d share.Raw p is = record { unclassed = (let a = is.is_raw in let b = is.is_split in let c = is.is_cutting in omega arith); is_classed = is.is_classed; class = is.class; is_large = is.is_large; count = is.count }
 stake_of_share d share.Split p is = record { unclassed = (let a = is.is_raw in let b = is.is_split in let c = is.is_cutting in omega arith); is_classed = is.is_classed; class = is.class; is_large = is.is_large; count = is.count }
@@ -92,7 +92,7 @@ gathered heap owners seats seat blocks superblocks o ready are less are_blocks a
   batch = g.batch;
   room = g.room;
 } where
-  p : Parts
+  p : OwnedParts
   p = opened_parts heap owners seat
 
   v : View

@@ -28,12 +28,12 @@ use Rattle.heap_rule.specs.declared.owned.Stake.{Stake}
 use Rattle.heap_rule.specs.declared.owned.Stake.TheVariants as stake
 use Rattle.heap_rule.specs.declared.owned.Owned.{Owned}
 use Rattle.heap_rule.specs.Owned.{unclassed_in, classed_in, class_in, large_in, count_in, IsStake, HasOwned, parts_of}
-use Rattle.heap_rule.specs.Plays.{Has}
+use Rattle.heap_rule.specs.Plays.{HasSoundState}
 use Rattle.heap_rule.proofs.OwnedSteps.{class_kept, taken_below}
 use Rattle.heap_rule.proofs.ShiftLemmas.{span_below}
 use Rattle.heap_rule.proofs.ViewLemmas.{block_cut, block_class, block_below, block_range}
 
-module _ (v : View) (s : Has v) (o : Owned) (own : HasOwned o (parts_of v)) where
+module _ (v : View) (s : HasSoundState v) (o : Owned) (own : HasOwned o (parts_of v)) where
   abbrev m : Memory
   m = memory_of v.setup.capacity s.words
 
@@ -168,7 +168,7 @@ pub record IsBlockAt (v : View) (d count class : ℕ) (b : Block) : Type 0 where
   pub large : 0 < count → b.words ≡ superblock_words * count
   pub small : count ≡ 0 → (b.words ≡ words_of_class class) × IsClass class
 
-pub block_there : (v : View) (s : Has v) (o : Owned) (own : HasOwned o (parts_of v)) (b : Block) (d count : ℕ) (x : Stake) → IsHeld v b → d ≡ superblock_at v.setup.capacity b.first_word → (d < v.setup.capacity → x ≡ get_or o.stakes.items d x)
+pub block_there : (v : View) (s : HasSoundState v) (o : Owned) (own : HasOwned o (parts_of v)) (b : Block) (d count : ℕ) (x : Stake) → IsHeld v b → d ≡ superblock_at v.setup.capacity b.first_word → (d < v.setup.capacity → x ≡ get_or o.stakes.items d x)
     → count ≡ count_in x → IsBlockAt v d count (get_or o.classes.items d 0) b
 block_there v s o own b d count x (a_small class first there) d_is x_is count_is =
     let owned : 0 < times_block first v = (let t = in_lists_total first class v.small there in omega arith) in

@@ -17,8 +17,8 @@ use Rattle.core_model.proofs.TotalLemmas.{total_at}
 use Rattle.heap_rule.specs.declared.owned.Stake.{Stake}
 use Rattle.heap_rule.specs.declared.owned.Stake.TheVariants as stake
 use Rattle.heap_rule.specs.declared.owned.Owned.{Owned}
-use Rattle.heap_rule.specs.Owned.{Parts, parts_of, IsStake, IsStaking, IsMarking, AreClasses, HasOwned, times_had}
-use Rattle.heap_rule.specs.Plays.{Has}
+use Rattle.heap_rule.specs.Owned.{OwnedParts, parts_of, IsStake, IsStaking, IsMarking, AreClasses, HasOwned, times_had}
+use Rattle.heap_rule.specs.Plays.{HasSoundState}
 use Rattle.heap_rule.specs.Shown.{CanFree, CanLift, CanCut, CanHoldLarge}
 use Rattle.heap_rule.proofs.BlockMarks.{marked_alike, marked_more, alloc_times, alloc_classes, lift_times, lift_classes, free_times, free_classes, cached_times, cached_classes}
 use Rattle.heap_rule.proofs.OwnedLemmas.{cut_stakes, large_stakes, split_stakes}
@@ -27,7 +27,7 @@ use Rattle.heap_rule.proofs.ShiftLemmas.{free_info, free_class, cut_info}
 use Rattle.heap_rule.proofs.ViewLemmas.{block_cut}
 
 -- where blocks go from one place to another, and the seat's are the same
-moved : (o : Owned) (batch : Vec ℕ Global) (p : Parts) (small caches : List (List ℕ)) (blocks : List ℕ) (class : ℕ) → HasOwned o p
+moved : (o : Owned) (batch : Vec ℕ Global) (p : OwnedParts) (small caches : List (List ℕ)) (blocks : List ℕ) (class : ℕ) → HasOwned o p
     → ((b : ℕ) → times_had b (record p { small = small; caches = caches; batch = blocks; batch_class = class }) ≡ times_had b p)
     → AreClasses o.classes.items (record p { small = small; caches = caches; batch = blocks; batch_class = class }) → batch.items ≡ blocks → vec_capacity batch ≡ vec_capacity o.batch
     → HasOwned (record o { batch = batch }) (record p { small = small; caches = caches; batch = blocks; batch_class = class })
@@ -44,7 +44,7 @@ moved o batch p small caches blocks class own same classes batch_is room = recor
   room = (let r = own.room in omega arith);
 }
 
-module _ (v : View) (s : Has v) (o : Owned) (own : HasOwned o (parts_of v)) (found : ℕ) where
+module _ (v : View) (s : HasSoundState v) (o : Owned) (own : HasOwned o (parts_of v)) (found : ℕ) where
   abbrev m : Memory
   m = memory_of v.setup.capacity s.words
 

@@ -26,8 +26,8 @@ use Rattle.crash_core.proofs.ClaimLemmas.{without_at, without_off}
 use Rattle.heap_rule.specs.declared.owned.Stake.{Stake}
 use Rattle.heap_rule.specs.declared.owned.Stake.TheVariants as stake
 use Rattle.heap_rule.specs.declared.owned.Owned.{Owned}
-use Rattle.heap_rule.specs.Owned.{listed, Parts, parts_of, IsStake, IsStaking, IsMarking, AreClasses, HasOwned, times_had}
-use Rattle.heap_rule.specs.Plays.{Has, IsEvent}
+use Rattle.heap_rule.specs.Owned.{listed, OwnedParts, parts_of, IsStake, IsStaking, IsMarking, AreClasses, HasOwned, times_had}
+use Rattle.heap_rule.specs.Plays.{HasSoundState, IsEvent}
 use Rattle.heap_rule.proofs.BlockMarks.{marked_more, marked_less, cached_times, cached_classes}
 use Rattle.heap_rule.proofs.ChainLemmas.{chain_length, chain_first}
 use Rattle.heap_rule.proofs.FreshLemmas.{hit, missed}
@@ -40,7 +40,7 @@ pub quiet : (o : Owned) (v w : View) → parts_of w ≡ parts_of v → HasOwned 
 quiet o v w same own = subst (HasOwned o) (sym same) own
 
 -- where the stakes alone are others
-pub staked : (o : Owned) (stakes : Vec Stake Global) (p : Parts) (raw split cutting : List ℕ) (classed : List Claim) (large : List Span) → HasOwned o p → length stakes.items ≡ length o.stakes.items
+pub staked : (o : Owned) (stakes : Vec Stake Global) (p : OwnedParts) (raw split cutting : List ℕ) (classed : List Claim) (large : List Span) → HasOwned o p → length stakes.items ≡ length o.stakes.items
     → ((e : ℕ) → IsStake e (get_or stakes.items e stake.Nothing) (record p { raw = raw; split = split; cutting = cutting; classed = classed; large = large }))
     → HasOwned (record o { stakes = stakes }) (record p { raw = raw; split = split; cutting = cutting; classed = classed; large = large })
 staked o stakes p raw split cutting classed large own long are = record {
@@ -63,7 +63,7 @@ anchor_owned o v x d value same some own = by value where
   old = quiet o v x same own
 
   some_x : 0 < times_raw d x
-  some_x = subst (λ (p : Parts). 0 < times d p.raw + times d p.split + times d p.cutting) (sym same) some
+  some_x = subst (λ (p : OwnedParts). 0 < times d p.raw + times d p.split + times d p.cutting) (sym same) some
 
   once : (y : Stake) → IsStake d y (parts_of x) → times_raw d x ≤ 1
   once stake.Nothing is = let u = is.unclassed in omega arith
@@ -105,7 +105,7 @@ stored_owned o v x (root_cell i) value same is own = quiet o v x same own
 stored_owned o v x (data_cell word) value same is own = quiet o v (stored x (data_cell word) value) same own
 stored_owned o v x no_cell value same is own = quiet o v x same own
 
-module _ (v : View) (s : Has v) where
+module _ (v : View) (s : HasSoundState v) where
   abbrev m : Memory
   m = memory_of v.setup.capacity s.words
 
@@ -161,7 +161,7 @@ claimed_parts : (v : View) (d list : ℕ) → parts_of (claimed v d list) ≡ wi
 claimed_parts v d zero = refl
 claimed_parts v d (suc class) = refl
 
-claim_owned : (o : Owned) (stakes : Vec Stake Global) (p : Parts) (d list : ℕ) (x : Stake) → HasOwned o p → x ≡ listed list → stakes.items ≡ set o.stakes.items d x → d < p.capacity
+claim_owned : (o : Owned) (stakes : Vec Stake Global) (p : OwnedParts) (d list : ℕ) (x : Stake) → HasOwned o p → x ≡ listed list → stakes.items ≡ set o.stakes.items d x → d < p.capacity
     → (times d p.raw + times d p.split + times d p.cutting ≡ 0) × (times_classed d p.classed ≡ 0) × (times_large d p.large ≡ 0) → HasOwned (record o { stakes = stakes }) (with_claim p d list)
 claim_owned o stakes p d list x own x_is items less none = by list (claim_stakes o.stakes.items p d list x x_is (let l = own.stakes_long in omega arith) own.stakes none) where
   by : (list : ℕ) → ((e : ℕ) → IsStake e (get_or (set o.stakes.items d x) e stake.Nothing) (with_claim p d list)) → HasOwned (record o { stakes = stakes }) (with_claim p d list)

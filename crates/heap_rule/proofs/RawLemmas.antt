@@ -6,18 +6,18 @@ use Rattle.heap_model.specs.Geometry.{image_words}
 use Rattle.core_model.specs.declared.event.Event.TheVariants.{Store, Settle}
 use Rattle.core_model.specs.Cells.{Cell, used_cell, head_cell, info_cell, anchor_cell, link_cell, root_cell, data_cell, no_cell, cell_at, superblock_at}
 use Rattle.core_model.specs.Effects.{learn, stored, stored_anchor, used_up}
-use Rattle.core_model.specs.Guards.{MayChange}
+use Rattle.core_model.specs.Guards.{MayChangeWord}
 use Rattle.core_model.specs.Memory.{Memory, memory_of, used}
 use Rattle.core_model.specs.View.{View, times_raw, times_block}
 use Rattle.core_model.proofs.OwnLemmas.{one_at_most}
 use Rattle.core_model.proofs.SoundLemmas.{taken}
 use Rattle.core_model.proofs.TotalLemmas.{total_at}
-use Rattle.heap_rule.specs.Plays.{Has, IsEvent}
+use Rattle.heap_rule.specs.Plays.{HasSoundState, IsEvent}
 use Rattle.heap_rule.specs.Shown.{Shows}
 use Rattle.heap_rule.proofs.SettleLemmas.{own_there, own_index, own_below}
 use Rattle.heap_rule.proofs.ViewLemmas.{block_cut, shown}
 
-module _ (v : View) (s : Has v) where
+module _ (v : View) (s : HasSoundState v) where
   abbrev m : Memory
   m = memory_of v.setup.capacity s.words
 
@@ -36,7 +36,7 @@ module _ (v : View) (s : Has v) where
     | inr none ↦ omega arith
   ]
 
-  pub raw_blank : (word : ℕ) → 0 < times_raw (superblock_at v.setup.capacity word) v → MayChange v word
+  pub raw_blank : (word : ℕ) → 0 < times_raw (superblock_at v.setup.capacity word) v → MayChangeWord v word
   raw_blank word raw = let none = no_block word raw in record { uncached = omega arith; in_batch = inl (omega arith) }
 
   pub volatile_long : length v.volatile ≡ image_words v.setup.capacity

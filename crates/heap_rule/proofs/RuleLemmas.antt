@@ -18,12 +18,12 @@ use Rattle.core_model.proofs.PlaceLemmas.{pick, cell_there, index_at}
 use Rattle.core_model.proofs.OwnStepLemmas.{learns}
 use Rattle.crash_core.proofs.WordLemmas.{read_is}
 use Rattle.heap_rule.specs.Joint.{Joint, IsSingle, all_views}
-use Rattle.heap_rule.specs.Rule.{Opening, Keeps, Holds, setup_for}
-use Rattle.heap_rule.specs.Plays.{Has, IsStepAt, Did, DidStore, DidRead, DidLearn, learned}
+use Rattle.heap_rule.specs.Rule.{Opening, HasAllSeats, Holds, setup_for}
+use Rattle.heap_rule.specs.Plays.{HasSoundState, IsStepAt, Did, DidStore, DidRead, DidLearn, learned}
 use Rattle.heap_rule.proofs.JointLemmas.{offset, offset_below, at_offset, set_offset, same_seats}
 
 -- the state of the table, as one in which the seat has the view
-abbrev pub state_with : (o : Opening) (words : List ℕ) (joints : List Joint) (id : ℕ) (joint : Joint) (v : View) → v.setup ≡ setup_for o → Keeps o words joints → get_elem? joints id ≡ some joint → IsSingle joint v → Has v
+abbrev pub state_with : (o : Opening) (words : List ℕ) (joints : List Joint) (id : ℕ) (joint : Joint) (v : View) → v.setup ≡ setup_for o → HasAllSeats o words joints → get_elem? joints id ≡ some joint → IsSingle joint v → HasSoundState v
 state_with o words joints id joint v setup holds at single = record {
   words = words;
   views = all_views joints;
@@ -37,7 +37,7 @@ pub allowed : (o : Opening) (count id : ℕ) (joint : Joint) (slots : List (ℕ 
     → Allows (Holds o) count id (joint, slots) place f (λ found after. Did event (joint, slots) found after)
 allowed o count id joint slots v event place f single is s holds none at fits =
     (w ∷ [], keeps, tt, kept, did) where
-      has : Has v
+      has : HasSoundState v
       has = state_with o s.words s.views id joint v is.setup holds at single
 
       step : MayStep (memory_of v.setup.capacity s.words) v event
@@ -64,7 +64,7 @@ allowed o count id joint slots v event place f single is s holds none at fits =
       words_are = ap (λ n. set s.words n (left_there (memory_of v.setup.capacity s.words) v event (found_by (memory_of v.setup.capacity s.words) v event))) (sym is.place_is)
           ∙ ap (λ x. set s.words place x) (ap (left_there (memory_of v.setup.capacity s.words) v event) (sym found_is) ∙ sym (is.leaves s.words s.views holds has refl refl))
 
-      kept : Keeps o (set s.words place (f found)) (set s.views id (w ∷ []))
+      kept : HasAllSeats o (set s.words place (f found)) (set s.views id (w ∷ []))
       kept = record {
         sound = subst (λ vs. Sound (setup_for o) (set s.words place (f found)) vs) (sym (set_offset s.views id joint v w at single))
             (subst (λ ws. Sound (setup_for o) ws (set (all_views s.views) has.seat w)) words_are (subst (λ k. Sound k (words_after v.setup s.words v event) (set (all_views s.views) has.seat w)) is.setup sound));
@@ -96,7 +96,7 @@ allowed_read o count id joint slots v place single setup s holds none at fits = 
   joint,
   keeps,
   tt,
-  subst (λ ws. Keeps o ws (set s.views id joint)) (sym (set-get_or s.words place 0)) (subst (λ js. Keeps o s.words js) (sym (set_again s.views id joint at)) holds),
+  subst (λ ws. HasAllSeats o ws (set s.views id joint)) (sym (set-get_or s.words place 0)) (subst (λ js. HasAllSeats o s.words js) (sym (set_again s.views id joint at)) holds),
   record { same = refl; view = v; single = single; has = state_with o s.words s.views id joint v setup holds at single; found_is = refl },
 )
 
@@ -105,7 +105,7 @@ pub allowed_learn : (o : Opening) (count id : ℕ) (joint : Joint) (slots : List
     → Allows (Holds o) count id (joint, slots) word (λ n. n) (λ found after. DidLearn word (joint, slots) found after)
 allowed_learn o count id joint slots v word single setup own s holds none at fits =
     (w ∷ [], keeps, tt, kept, record { view = v; single = single; now = refl; before = has; found_is = refl; has = has_w }) where
-      has : Has v
+      has : HasSoundState v
       has = state_with o s.words s.views id joint v setup holds at single
 
       m : Memory
@@ -134,7 +134,7 @@ allowed_learn o count id joint slots v word single setup own s holds none at fit
         good = subst (λ x. Good v.setup m (set (all_views s.views) has.seat (learned v word x))) (sym value_is) (learns v.setup m (all_views s.views) has.seat v has.below has.at has.sound.good word own);
       }
 
-      kept : Keeps o (set s.words word found) (set s.views id (w ∷ []))
+      kept : HasAllSeats o (set s.words word found) (set s.views id (w ∷ []))
       kept = record {
         sound = subst (λ ws. Sound (setup_for o) ws (all_views (set s.views id (w ∷ [])))) (sym (set-get_or s.words word 0))
             (subst (λ vs. Sound (setup_for o) s.words vs) (sym (set_offset s.views id joint v w at single)) (subst (λ k. Sound k s.words (set (all_views s.views) has.seat w)) setup sound));
@@ -143,7 +143,7 @@ allowed_learn o count id joint slots v word single setup own s holds none at fit
         low = holds.low;
       }
 
-      has_w : Has w
+      has_w : HasSoundState w
       has_w = record {
         words = s.words;
         views = set (all_views s.views) has.seat w;

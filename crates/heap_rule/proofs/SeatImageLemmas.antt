@@ -14,8 +14,8 @@ use Rattle.core_model.specs.View.{Setup, View}
 use Rattle.core_model.proofs.HeaderLemmas.{header_of}
 use Rattle.core_model.proofs.HeldLemmas.{firm}
 use Rattle.core_model.proofs.PlaceLemmas.{pick}
-use Rattle.heap_rule.specs.Images.{Agrees, HasPicked, HasRecorded, IsImageOf, KeepsFixed, MixesRecorded}
-use Rattle.heap_rule.specs.Plays.{Has}
+use Rattle.heap_rule.specs.Images.{Agrees, HasPickedRecords, HasRecorded, IsImageOf, HasFixedWords, MixesRecorded}
+use Rattle.heap_rule.specs.Plays.{HasSoundState}
 use Rattle.heap_rule.proofs.SettleLemmas.{own_there, own_index, own_below}
 use Rattle.heap_rule.proofs.ViewLemmas.{shown, shown_durable}
 
@@ -39,7 +39,7 @@ module _ (k : Setup) (words : List ℕ) (views : List View) (sound : Sound k wor
     | inr durable ↦ durable ∙ (sound.fixed word fixed).1
   ]
 
-  pub mixed_fixed : KeepsFixed k image
+  pub mixed_fixed : HasFixedWords k image
   mixed_fixed = record { each = opened_is }
 
   pub mixed_header : IsWellFormed (8 * length k.opened) (slice_index k.opened) → header_fault (8 * image_words k.capacity) image ≡ None
@@ -53,7 +53,7 @@ picked : (test : Bool) (a b : ℕ) → (cond test a b ≡ a) ⊎ (cond test a b 
 picked true a b = inl refl
 picked false a b = inr refl
 
-module _ (v : View) (s : Has v) where
+module _ (v : View) (s : HasSoundState v) where
   -- each own word has its recorded values
   pub now_recorded : (word : ℕ) → IsOwn v (cell_at v.setup.capacity word) → Agrees v.volatile (cell_at v.setup.capacity word) (volatile_image v.setup.capacity s.words word)
   now_recorded word own value shows = let there = own_there v word own in
@@ -76,7 +76,7 @@ module _ (v : View) (s : Has v) where
   picked_words : (ℕ → Bool) → Image
   picked_words choice word = cond (choice word) (volatile_image v.setup.capacity s.words word) (durable_image v.setup.capacity s.words word)
 
-  pub picked_image : (choice : ℕ → Bool) → (image : Image) × IsImageOf v image × HasPicked v choice image
+  pub picked_image : (choice : ℕ → Bool) → (image : Image) × IsImageOf v image × HasPickedRecords v choice image
   unfolding picked_words
   picked_image choice = (
     picked_words choice,
@@ -104,7 +104,7 @@ module _ (v : View) (image : Image) (is : IsImageOf v image) where
     ];
   }
 
-  pub image_fixed : KeepsFixed v.setup image
+  pub image_fixed : HasFixedWords v.setup image
   image_fixed = mixed_fixed v.setup is.has.words is.has.views is.has.sound image is.mixed
 
   pub image_header : IsWellFormed (8 * length v.setup.opened) (slice_index v.setup.opened) → header_fault (8 * image_words v.setup.capacity) image ≡ None

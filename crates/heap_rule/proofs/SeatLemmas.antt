@@ -5,19 +5,19 @@ use Rattle.core_model.specs.declared.event.Event.TheVariants.{Load, LookLink, Lo
 use Rattle.atomic_table.specs.Seated.{TableId}
 use Rattle.atomic_table.specs.Table.{Me}
 use Rattle.core_model.specs.View.{Setup, View}
-use Rattle.crash_core.specs.declared.owners.Seat.{Seat}
+use Rattle.crash_core.specs.declared.owners.SeatNotes.{SeatNotes}
 use Rattle.core_model.specs.Effects.{used_up}
 use Rattle.crash_core.specs.Standing.{HasNotes}
 use Rattle.heap_rule.specs.declared.owned.Owned.{Owned}
-use Rattle.heap_rule.specs.Plays.{Has, IsEvent}
-use Rattle.heap_rule.specs.Seated.{SharedView, Fits, IsKeptOf, IsSeat, IsWhole, IsAt}
+use Rattle.heap_rule.specs.Plays.{HasSoundState, IsEvent}
+use Rattle.heap_rule.specs.Seated.{SharedView, Fits, IsKeptOf, IsSingleSeat, IsWholeSeat, IsAt}
 use Rattle.heap_rule.specs.Joint.{Joint, view_in}
 use Rattle.heap_rule.proofs.StepLemmas.{has_after}
 
-pub keep_fits : (notes : Seat) (v w : View) → w ≡ v → Has w → Fits notes v → IsKeptOf notes w
-keep_fits notes v w same has fits = subst (λ u. Has u → IsKeptOf notes u) (sym same) (λ h. record { has = h; notes_are = fits.notes_are; caches = fits.caches; batch = fits.batch }) has
+pub keep_fits : (notes : SeatNotes) (v w : View) → w ≡ v → HasSoundState w → Fits notes v → IsKeptOf notes w
+keep_fits notes v w same has fits = subst (λ u. HasSoundState u → IsKeptOf notes u) (sym same) (λ h. record { has = h; notes_are = fits.notes_are; caches = fits.caches; batch = fits.batch }) has
 
-pub looked_anchor : (notes : Seat) (v w : View) (d found : ℕ) → IsKeptOf notes v → IsEvent (LookAnchor d) v found w → Has w
+pub looked_anchor : (notes : SeatNotes) (v w : View) (d found : ℕ) → IsKeptOf notes v → IsEvent (LookAnchor d) v found w → HasSoundState w
     → IsKeptOf (record notes { ticket = None; seen_anchor = Some (record { of = d; word = found }) }) w
 looked_anchor notes v w d found kept event has = keep_fits _ _ w event.after has (record {
   notes_are = record {
@@ -32,7 +32,7 @@ looked_anchor notes v w d found kept event has = keep_fits _ _ w event.after has
   batch = kept.batch;
 })
 
-pub looked_link : (notes : Seat) (v w : View) (found : ℕ) → IsKeptOf notes v → IsEvent LookLink v found w → Has w → IsKeptOf (record notes { ticket = None; seen_link = Some found }) w
+pub looked_link : (notes : SeatNotes) (v w : View) (found : ℕ) → IsKeptOf notes v → IsEvent LookLink v found w → HasSoundState w → IsKeptOf (record notes { ticket = None; seen_link = Some found }) w
 looked_link notes v w found kept event has = keep_fits _ _ w event.after has (record {
   notes_are = record {
     ticket = refl;
@@ -47,8 +47,8 @@ looked_link notes v w found kept event has = keep_fits _ _ w event.after has (re
 })
 
 -- a seat after an event, once what is kept of it is that of the new view
-pub seat_after : (me me' : Me ℕ Joint) (notes notes' : Seat) (capacity : ℕ) {budget : ℕ} (event : Event) (found : ℕ) (shared : SharedView) (table : TableId) → IsSeat me notes capacity budget → IsAt shared table me' (view_in me'.0)
-    → IsEvent event (view_in me.0) found (view_in me'.0) → IsKeptOf notes' (view_in me'.0) → IsSeat me' notes' capacity budget
+pub seat_after : (me me' : Me ℕ Joint) (notes notes' : SeatNotes) (capacity : ℕ) {budget : ℕ} (event : Event) (found : ℕ) (shared : SharedView) (table : TableId) → IsSingleSeat me notes capacity budget → IsAt shared table me' (view_in me'.0)
+    → IsEvent event (view_in me.0) found (view_in me'.0) → IsKeptOf notes' (view_in me'.0) → IsSingleSeat me' notes' capacity budget
 seat_after me me' notes notes' capacity event found shared table old at event_is kept =
     let same : (view_in me'.0).setup ≡ (view_in me.0).setup = (has_after event (view_in me.0) found (view_in me'.0) event_is).1 in record {
       single = at.single;
@@ -60,7 +60,7 @@ seat_after me me' notes notes' capacity event found shared table old at event_is
     }
 
 -- a step that uses the ticket up, and changes nothing else that is kept
-pub used : (notes : Seat) (v : View) → IsKeptOf notes v → HasNotes (record notes { ticket = None }) (used_up v)
+pub used : (notes : SeatNotes) (v : View) → IsKeptOf notes v → HasNotes (record notes { ticket = None }) (used_up v)
 used notes v kept = record {
   ticket = refl;
   stopped = kept.notes_are.stopped;
@@ -70,7 +70,7 @@ used notes v kept = record {
   seen_anchor = kept.notes_are.seen_anchor;
 }
 
-pub loaded : (notes : Seat) (v w : View) (word found : ℕ) → IsKeptOf notes v → IsEvent (Load word) v found w → Has w → IsKeptOf (record notes { ticket = None }) w
+pub loaded : (notes : SeatNotes) (v w : View) (word found : ℕ) → IsKeptOf notes v → IsEvent (Load word) v found w → HasSoundState w → IsKeptOf (record notes { ticket = None }) w
 loaded notes v w word found kept event has = keep_fits _ _ w event.after has (record {
   notes_are = let u = used notes v kept in record { ticket = refl; stopped = u.stopped; seen_used = u.seen_used; seen_head = u.seen_head; seen_link = u.seen_link; seen_anchor = u.seen_anchor };
   caches = kept.caches;
@@ -78,5 +78,5 @@ loaded notes v w word found kept event has = keep_fits _ _ w event.after has (re
 })
 
 -- a seat that stands for the same views
-pub whole_at : (me me' : Me ℕ Joint) (notes : Seat) (owned : Owned) (marks : List Bool) (capacity budget : ℕ) → me' ≡ me → IsWhole me notes owned marks capacity budget → IsWhole me' notes owned marks capacity budget
-whole_at me me' notes owned marks capacity budget same whole = subst (λ m. IsWhole m notes owned marks capacity budget) (sym same) whole
+pub whole_at : (me me' : Me ℕ Joint) (notes : SeatNotes) (owned : Owned) (marks : List Bool) (capacity budget : ℕ) → me' ≡ me → IsWholeSeat me notes owned marks capacity budget → IsWholeSeat me' notes owned marks capacity budget
+whole_at me me' notes owned marks capacity budget same whole = subst (λ m. IsWholeSeat m notes owned marks capacity budget) (sym same) whole

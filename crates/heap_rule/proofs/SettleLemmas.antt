@@ -13,12 +13,12 @@ use Rattle.core_model.proofs.SoundLemmas.{sound_step}
 use Rattle.core_model.specs.Guards.{IsOwn, MayStep}
 use Rattle.core_model.proofs.PlaceLemmas.{pick, cell_there, index_at, index_within}
 use Rattle.core_model.proofs.QuietLemmas.{own_same}
-use Rattle.crash_core.specs.declared.owners.Seat.{Seat}
-use Rattle.heap_rule.specs.Plays.{Has, IsEvent, learned}
+use Rattle.crash_core.specs.declared.owners.SeatNotes.{SeatNotes}
+use Rattle.heap_rule.specs.Plays.{HasSoundState, IsEvent, learned}
 use Rattle.atomic_table.specs.Seated.{TableId}
 use Rattle.atomic_table.specs.Table.{Me}
 use Rattle.heap_rule.specs.Joint.{Joint, view_in}
-use Rattle.heap_rule.specs.Seated.{SharedView, IsKeptOf, IsSeat, IsAt, IsStore}
+use Rattle.heap_rule.specs.Seated.{SharedView, IsKeptOf, IsSingleSeat, IsAt, IsStore}
 use Rattle.heap_rule.specs.Shown.{Can}
 use Rattle.heap_rule.proofs.SeatLemmas.{keep_fits}
 use Rattle.heap_rule.proofs.StepLemmas.{has_after}
@@ -53,15 +53,15 @@ settle_store v word value own s found =
       less : word < length v.volatile
       less = let l = (s.sound.good.set_up s.seat (learned v word value) s.below s.at).volatile in let n = length-set v.volatile word (Some value) in let b = own_below v word own in omega arith
 
-pub settled_kept : (notes : Seat) (v w : View) (word value found : ℕ) → IsKeptOf notes v → IsEvent (Settle word) (learned v word value) found w → Has w → IsKeptOf notes w
+pub settled_kept : (notes : SeatNotes) (v w : View) (word value found : ℕ) → IsKeptOf notes v → IsEvent (Settle word) (learned v word value) found w → HasSoundState w → IsKeptOf notes w
 settled_kept notes v w word value found kept event has = keep_fits _ _ w event.after has (record {
   notes_are = let n = kept.notes_are in record { ticket = n.ticket; stopped = n.stopped; seen_used = n.seen_used; seen_head = n.seen_head; seen_link = n.seen_link; seen_anchor = n.seen_anchor };
   caches = kept.caches;
   batch = kept.batch;
 })
 
-pub settled_seat : (me me' : Me ℕ Joint) (notes : Seat) (capacity : ℕ) {budget : ℕ} (word value found : ℕ) (shared : SharedView) (table : TableId) → IsSeat me notes capacity budget → IsAt shared table me' (view_in me'.0)
-    → IsEvent (Settle word) (learned (view_in me.0) word value) found (view_in me'.0) → IsSeat me' notes capacity budget
+pub settled_seat : (me me' : Me ℕ Joint) (notes : SeatNotes) (capacity : ℕ) {budget : ℕ} (word value found : ℕ) (shared : SharedView) (table : TableId) → IsSingleSeat me notes capacity budget → IsAt shared table me' (view_in me'.0)
+    → IsEvent (Settle word) (learned (view_in me.0) word value) found (view_in me'.0) → IsSingleSeat me' notes capacity budget
 settled_seat me me' notes capacity word value found shared table old at event =
     let same : (view_in me'.0).setup ≡ (view_in me.0).setup = (has_after (Settle word) (learned (view_in me.0) word value) found (view_in me'.0) event).1 in record {
       single = at.single;
@@ -78,7 +78,7 @@ set_again (x ∷ values) zero a = refl
 set_again (x ∷ values) (suc i) a = ap (λ l. x ∷ l) (set_again values i a)
 
 -- the word that is read, recorded and then stored as the durable one: this is the event of the view before, in the state in which it was read
-pub settled_event : (v w : View) (word value found : ℕ) (s : Has v) → value ≡ get_or s.words word 0 → Can v (Settle word) → IsEvent (Settle word) (learned v word value) found w → (n : ℕ) × IsEvent (Settle word) v n w
+pub settled_event : (v w : View) (word value found : ℕ) (s : HasSoundState v) → value ≡ get_or s.words word 0 → Can v (Settle word) → IsEvent (Settle word) (learned v word value) found w → (n : ℕ) × IsEvent (Settle word) v n w
 settled_event v w word value found s value_is can event = (
   found_by m v (Settle word),
   record {

@@ -16,7 +16,7 @@ use Rattle.core_model.proofs.BlockLemmas.{first_there}
 use Rattle.core_model.proofs.OwnerLemmas.{in_lists_total}
 use Rattle.core_model.proofs.PlaceLemmas.{index_within}
 use Rattle.crash_core.specs.declared.owners.Cache.{Cache}
-use Rattle.crash_core.specs.declared.owners.Seat.{Seat}
+use Rattle.crash_core.specs.declared.owners.SeatNotes.{SeatNotes}
 use Rattle.crash_core.specs.declared.owners.Seen.{Seen}
 use Rattle.crash_core.specs.Standing.{HasCaches, snapshot}
 use Rattle.crash_core.proofs.CacheLemmas.{cache_set}
@@ -24,17 +24,17 @@ use Rattle.crash_core.proofs.LiftSteps.{first_append, last_append, length_append
 use Rattle.crash_core.proofs.SplitSteps.{no_span}
 use Rattle.crash_core.proofs.MoveSteps.{no_cache, rest_length, rest_first}
 use Rattle.crash_core.proofs.WordLemmas.{entry_is, read_is}
-use Rattle.heap_rule.specs.Plays.{Has}
+use Rattle.heap_rule.specs.Plays.{HasSoundState}
 use Rattle.heap_rule.specs.Seated.{IsKeptOf, FitsShift}
 use Rattle.heap_rule.specs.Shown.{CanFree, CanCut}
 use Rattle.heap_rule.proofs.ChainLemmas.{info_read}
 use Rattle.heap_rule.proofs.ViewLemmas.{shown, below_capacity, first_step, block_class, block_cell, block_range, batch_short, cache_short}
 
 -- a view has a cache for each class
-pub long_caches : (v : View) → Has v → (class : ℕ) → class < lists → class < length v.caches
+pub long_caches : (v : View) → HasSoundState v → (class : ℕ) → class < lists → class < length v.caches
 long_caches v s class less = let l = (s.sound.good.set_up s.seat v s.below s.at).caches in let b = less in omega arith
 
-module _ (notes : Seat) (v : View) (kept : IsKeptOf notes v) (class : ℕ) where
+module _ (notes : SeatNotes) (v : View) (kept : IsKeptOf notes v) (class : ℕ) where
   abbrev cache : Cache
   cache = get_or notes.caches class no_cache
 
@@ -66,7 +66,7 @@ module _ (notes : Seat) (v : View) (kept : IsKeptOf notes v) (class : ℕ) where
     pub cached_inside : cache.first < table_length v.setup.capacity
     cached_inside = let w = index_within v.setup.capacity (data_cell (first_of cs)) (block_cell v kept.has (first_of cs) cached_own) in let e = first_is in omega arith
 
-    pub next_read : (s : Has v) (found : ℕ) → found ≡ get_or s.words cache.first 0 → 1 ≤ length (rest_of cs) → first_of (rest_of cs) ≡ found
+    pub next_read : (s : HasSoundState v) (found : ℕ) → found ≡ get_or s.words cache.first 0 → 1 ≤ length (rest_of cs) → first_of (rest_of cs) ≡ found
     next_read s found found_is some =
         rest_first (next (memory_of v.setup.capacity s.words)) cs ((s.sound.good.blocks s.seat v s.below s.at).cache_linked class) some
         ∙ read_is v.setup.capacity s.words (volatile_at (data_cell (first_of cs))) (block_cell v s (first_of cs) cached_own)
@@ -102,14 +102,14 @@ module _ (notes : Seat) (v : View) (kept : IsKeptOf notes v) (class : ℕ) where
       }
 
 -- one more block counts
-pub batch_fits : (notes : Seat) (v : View) → IsKeptOf notes v → notes.batch.count + 1 < 18446744073709551616
+pub batch_fits : (notes : SeatNotes) (v : View) → IsKeptOf notes v → notes.batch.count + 1 < 18446744073709551616
 batch_fits notes v kept = let b = batch_short v kept.has in let n = kept.batch.count in let small = kept.has.sound.good.small in let fits = largest_capacity_fits in omega arith
 
-pub count_fits : (notes : Seat) (v : View) (kept : IsKeptOf notes v) (class : ℕ) → class < lists → (get_or notes.caches class no_cache).count + 1 < 18446744073709551616
+pub count_fits : (notes : SeatNotes) (v : View) (kept : IsKeptOf notes v) (class : ℕ) → class < lists → (get_or notes.caches class no_cache).count + 1 < 18446744073709551616
 count_fits notes v kept class less = let b = cache_short v kept.has class in let n = cache_count notes v kept class less in let small = kept.has.sound.good.small in let fits = largest_capacity_fits in omega arith
 
 -- a held block that may be freed is of the class of its list
-module _ (v : View) (s : Has v) (block : ℕ) (can : CanFree v block) where
+module _ (v : View) (s : HasSoundState v) (block : ℕ) (can : CanFree v block) where
   pub free_own : 0 < times_block block v
   free_own = let held = in_lists_total block can.class v.small can.held in omega arith
 
@@ -119,7 +119,7 @@ module _ (v : View) (s : Has v) (block : ℕ) (can : CanFree v block) where
   pub free_class : IsClass can.class
   free_class = subst IsClass free_info (block_class v s block free_own)
 
-pub free_fits : (notes : Seat) (v : View) (kept : IsKeptOf notes v) (block : ℕ) (can : CanFree v block) (class : ℕ) → class ≡ can.class
+pub free_fits : (notes : SeatNotes) (v : View) (kept : IsKeptOf notes v) (block : ℕ) (can : CanFree v block) (class : ℕ) → class ≡ can.class
     → FitsShift (record notes { caches = set notes.caches class (record { first = block; count = (get_or notes.caches class no_cache).count + 1 }) }) v (Some (Free block))
 free_fits notes v kept block can class class_is = λ s found. record {
   notes_are = record { ticket = refl; stopped = kept.notes_are.stopped; seen_used = kept.notes_are.seen_used; seen_head = kept.notes_are.seen_head; seen_link = kept.notes_are.seen_link; seen_anchor = kept.notes_are.seen_anchor };
@@ -139,7 +139,7 @@ pub info_inside : (capacity d place : ℕ) → d < capacity → place ≡ info_w
 info_inside capacity d place less place_is = let w = index_within capacity (info_cell d) (lt-ltb d capacity less) in omega arith
 
 -- a held large block lies in the image, and its info says how many superblocks it takes
-module _ (v : View) (s : Has v) (d : ℕ) (some : 1 ≤ span_count d v.large) where
+module _ (v : View) (s : HasSoundState v) (d : ℕ) (some : 1 ≤ span_count d v.large) where
   pub span_below : d < v.setup.capacity
   span_below = elim (cases_lt 0 (times_large d v.large)) [
     | inl takes ↦ let t = total_at (λ (u : View). times_large d u.large) s.views s.seat v s.below s.at in let low = s.sound.good.shaped.durable.below d (omega arith) in
@@ -150,7 +150,7 @@ module _ (v : View) (s : Has v) (d : ℕ) (some : 1 ≤ span_count d v.large) wh
   pub span_read : (place found : ℕ) → place ≡ info_word d → found ≡ get_or s.words place 0 → found ≡ 255 + 256 * span_count d v.large
   span_read place found place_is found_is = info_read v s d place found span_below place_is found_is ∙ ((s.sound.good.claims s.seat v s.below s.at).is_large d some).0
 
-pub split_fits : (notes : Seat) (v : View) (block d count : ℕ) (anchor : Option Seen) → IsKeptOf notes v → d ≡ superblock_at v.setup.capacity block → count ≡ span_count d v.large
+pub split_fits : (notes : SeatNotes) (v : View) (block d count : ℕ) (anchor : Option Seen) → IsKeptOf notes v → d ≡ superblock_at v.setup.capacity block → count ≡ span_count d v.large
     → snapshot anchor ≡ cleared d count (snapshot notes.seen_anchor) → FitsShift (record notes { seen_anchor = anchor }) v (Some (Split block))
 split_fits notes v block d count anchor kept d_is count_is cleared_is = λ s found. record {
   notes_are = record {
@@ -167,14 +167,14 @@ split_fits notes v block d count anchor kept d_is count_is cleared_is = λ s fou
 }
 
 -- a superblock that was made ready is of the class that its info says
-module _ (v : View) (s : Has v) (d : ℕ) (can : CanCut v d) where
+module _ (v : View) (s : HasSoundState v) (d : ℕ) (can : CanCut v d) where
   pub cut_below : d < v.setup.capacity
   cut_below = below_capacity v s d can.durable
 
   pub cut_info : info (memory_of v.setup.capacity s.words) d ≡ can.class
   cut_info = shown v s (info_cell d) can.class (lt-ltb d v.setup.capacity cut_below) can.info_is
 
-pub cut_fits : (notes : Seat) (v : View) (d : ℕ) (can : CanCut v d) (class first count : ℕ) (anchor : Option Seen) → IsKeptOf notes v → class ≡ can.class → IsClass class → first ≡ start_word v.setup.capacity d → count ≡ blocks_of class
+pub cut_fits : (notes : SeatNotes) (v : View) (d : ℕ) (can : CanCut v d) (class first count : ℕ) (anchor : Option Seen) → IsKeptOf notes v → class ≡ can.class → IsClass class → first ≡ start_word v.setup.capacity d → count ≡ blocks_of class
     → snapshot anchor ≡ cleared d 1 (snapshot notes.seen_anchor) → FitsShift (record notes { seen_anchor = anchor; caches = set notes.caches class (record { first = first; count = count }) }) v (Some (Cut d))
 cut_fits notes v d can class first count anchor kept class_is is_class first_is count_is cleared_is = λ s found. record {
   notes_are = record { ticket = refl; stopped = kept.notes_are.stopped; seen_used = kept.notes_are.seen_used; seen_head = kept.notes_are.seen_head; seen_link = kept.notes_are.seen_link; seen_anchor = ap (cleared d 1) kept.notes_are.seen_anchor ∙ sym cleared_is };

@@ -8,12 +8,12 @@ use Rattle.core_model.specs.View.{View, one_if_some}
 use Rattle.core_model.specs.Effects.{place_of}
 use Rattle.core_model.specs.Guards.{IsReadyFor}
 use Rattle.core_model.proofs.SoundLemmas.{in_length}
-use Rattle.heap_rule.specs.Plays.{Has, May}
+use Rattle.heap_rule.specs.Plays.{HasSoundState, May}
 use Rattle.heap_rule.specs.Shown.{Can, IsShownFor}
 use Rattle.heap_rule.proofs.GuardLemmas.{store_may, push_may, give_may}
 use Rattle.heap_rule.proofs.GuardShiftLemmas.{shift_may}
 
-module _ (v : View) (s : Has v) where
+module _ (v : View) (s : HasSoundState v) where
   ready_for : (event : Event) → IsShownFor v event → IsReadyFor (memory_of v.setup.capacity s.words) v event
   ready_for (Tick shift) shown = shift_may v s shift shown
   ready_for (Load word) shown = shown
@@ -38,6 +38,6 @@ may_of v event can s = record {
 }
 
 -- its word is one of the table
-pub can_place : (v : View) (event : Event) → Has v → Can v event → table_index v.setup.capacity (place_of v event) < table_length v.setup.capacity
+pub can_place : (v : View) (event : Event) → HasSoundState v → Can v event → table_index v.setup.capacity (place_of v event) < table_length v.setup.capacity
 can_place v event s can = subst (λ n. table_index v.setup.capacity (place_of v event) < n) s.sound.long
     (in_length v.setup (record { words = s.words; views = s.views }) s.seat v event s.below s.at s.sound (may_of v event can s))

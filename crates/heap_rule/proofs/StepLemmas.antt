@@ -15,14 +15,14 @@ use Rattle.core_model.specs.Steps.{found_by, words_after}
 use Rattle.core_model.proofs.SoundLemmas.{in_length, in_table, taken, batched}
 use Rattle.core_model.specs.Guards.{MayLookAt}
 use Rattle.heap_rule.specs.Joint.{Joint, IsSingle, all_views, view_in, nobody}
-use Rattle.heap_rule.specs.Rule.{Opening, Keeps, setup_for}
-use Rattle.heap_rule.specs.Plays.{Has, May, IsEvent, IsStepAt, Did}
+use Rattle.heap_rule.specs.Rule.{Opening, HasAllSeats, setup_for}
+use Rattle.heap_rule.specs.Plays.{HasSoundState, May, IsEvent, IsStepAt, Did}
 use Rattle.crash_core.proofs.WordLemmas.{read_is}
 use Rattle.crash_core.proofs.WordSteps.{stopped_most}
 use Rattle.heap_rule.specs.Seated.{SharedView, IsAt, IsLook, IsDraw, IsRaise, IsExchange, IsStore}
 
 -- the place of a step is one of the table
-pub place_below : (v : View) (event : Event) (place : ℕ) → Has v → May v event → place ≡ table_index v.setup.capacity (place_of v event) → place < table_length v.setup.capacity
+pub place_below : (v : View) (event : Event) (place : ℕ) → HasSoundState v → May v event → place ≡ table_index v.setup.capacity (place_of v event) → place < table_length v.setup.capacity
 place_below v event place has may place_is =
     let below = in_length v.setup (record { words = has.words; views = has.views }) has.seat v event has.below has.at has.sound (may has) in
     let long = has.sound.long in omega (arith, place_is, below, long)
@@ -32,7 +32,7 @@ pub the_view : (joint : Joint) (v : View) → IsSingle joint v → view_in joint
 the_view joint v single = ap (λ vs. get_or vs 0 nobody) single
 
 -- after the event some sound state has the new view, of the same heap
-pub has_after : (event : Event) (v : View) (found : ℕ) (w : View) → IsEvent event v found w → Has w × (w.setup ≡ v.setup)
+pub has_after : (event : Event) (v : View) (found : ℕ) (w : View) → IsEvent event v found w → HasSoundState w × (w.setup ≡ v.setup)
 has_after event v found w e = (
   record {
     words = words_after v.setup e.before.words v event;
@@ -73,7 +73,7 @@ after_did shared table table' event me found me' at same did = record {
   event_is : IsEvent event (view_in me.0) found (view_in me'.0)
   event_is = subst (λ u. IsEvent event u found (view_in me'.0)) (sym view_is) (subst (λ u. IsEvent event did.view found u) (sym left_is) did.event_is)
 
-  after : Has (view_in me'.0) × ((view_in me'.0).setup ≡ (view_in me.0).setup)
+  after : HasSoundState (view_in me'.0) × ((view_in me'.0).setup ≡ (view_in me.0).setup)
   after = has_after event (view_in me.0) found (view_in me'.0) event_is
 
   single : IsSingle me'.0 (view_in me'.0)
@@ -89,14 +89,14 @@ look_at o v event place setup may place_is look = record {
 }
 
 -- a superblock that a seat may look at is one of the image
-pub look_below : (v : View) (d : ℕ) → Has v → MayLookAt v d → d < v.setup.capacity
+pub look_below : (v : View) (d : ℕ) → HasSoundState v → MayLookAt v d → d < v.setup.capacity
 look_below v d s look = elim look [
   | inl claimed ↦ taken v.setup (memory_of v.setup.capacity s.words) s.views s.seat v s.below s.at s.sound.good d (let c = claimed.claimed in omega arith)
   | inr batch ↦ batched v.setup (memory_of v.setup.capacity s.words) s.views s.seat v s.below s.at s.sound.good d batch.0 batch.1
 ]
 
 -- a draw does not wrap: fewer tickets are drawn than the budget and the seats
-drawn_below : (o : Opening) (words : List ℕ) (joints : List Joint) → Keeps o words joints → get_or words (2 * image_words (setup_for o).capacity) 0 + 1 < 18446744073709551616
+drawn_below : (o : Opening) (words : List ℕ) (joints : List Joint) → HasAllSeats o words joints → get_or words (2 * image_words (setup_for o).capacity) 0 + 1 < 18446744073709551616
 drawn_below o words joints keeps = let d = keeps.sound.good.adds.stopped in let most = stopped_most (all_views joints) in let c = keeps.count in let f = keeps.few in let l = keeps.low in omega arith
 
 pub draw_at : (o : Opening) (v : View) (event : Event) (place : ℕ) → v.setup ≡ setup_for o → May v event → place ≡ table_index v.setup.capacity (place_of v event) → IsDraw event → IsStepAt o v event place (λ n. (n + 1) % 2 ^ 64)

@@ -8,9 +8,9 @@ use Rattle.core_model.specs.Effects.{last_of, learn, stored, used_up}
 use Rattle.core_model.specs.Guards.{IsOwn}
 use Rattle.core_model.proofs.PlaceLemmas.{cell_at_index, index_at, cell_there}
 use Rattle.crash_core.specs.declared.owners.Group.{Group}
-use Rattle.crash_core.specs.declared.owners.Seat.{Seat}
+use Rattle.crash_core.specs.declared.owners.SeatNotes.{SeatNotes}
 use Rattle.crash_core.specs.Standing.{HasCaches, HasBatch}
-use Rattle.heap_rule.specs.Plays.{Has, IsEvent}
+use Rattle.heap_rule.specs.Plays.{HasSoundState, IsEvent}
 use Rattle.heap_rule.specs.Seated.{Fits, IsKeptOf}
 use Rattle.heap_rule.proofs.SeatLemmas.{keep_fits}
 use Rattle.heap_rule.proofs.ViewLemmas.{block_cell}
@@ -22,7 +22,7 @@ of_none [] e = refl
 of_none (b ∷ bs) e = absurd (omega arith)
 
 -- an own word that is no block's first word is not that of the batch's last block
-not_last : (v : View) → Has v → (word : ℕ) (cell : Cell) → cell_at v.setup.capacity word ≡ cell → IsOwn v cell → ((at : ℕ) → cell ≢ data_cell at) → last_of v.batch.blocks ≢ word
+not_last : (v : View) → HasSoundState v → (word : ℕ) (cell : Cell) → cell_at v.setup.capacity word ≡ cell → IsOwn v cell → ((at : ℕ) → cell ≢ data_cell at) → last_of v.batch.blocks ≢ word
 not_last v s word cell is own other last = elim (cases_lt 0 (length v.batch.blocks)) [
   | inl some ↦
       let there = last_there v.batch.blocks some in
@@ -33,7 +33,7 @@ not_last v s word cell is own other last = elim (cases_lt 0 (length v.batch.bloc
       let z : 0 < times_own v (cell_at v.setup.capacity 0) = subst (λ n. 0 < times_own v (cell_at v.setup.capacity n)) zero_word o in omega arith)
 ]
 
-pub word_stored : (notes : Seat) (v w : View) (word value found : ℕ) (batch : Group) → IsKeptOf notes v → IsEvent (Store word value) v found w → Has w → IsOwn v (cell_at v.setup.capacity word)
+pub word_stored : (notes : SeatNotes) (v w : View) (word value found : ℕ) (batch : Group) → IsKeptOf notes v → IsEvent (Store word value) v found w → HasSoundState w → IsOwn v (cell_at v.setup.capacity word)
     → batch ≡ record notes.batch { linked = cond (nat_eq word notes.batch.last) false notes.batch.linked } → IsKeptOf (record notes { ticket = None; batch = batch }) w
 word_stored notes v w word value found batch kept event has own batch_is =
     keep_fits _ _ w event.after has (by_cell (cell_at v.setup.capacity word) refl own) where

@@ -7,8 +7,8 @@ use Rattle.core_model.specs.View.{View}
 use Rattle.core_model.specs.Effects.{drew, stopped, shifted}
 use Rattle.core_model.proofs.PlaceLemmas.{pick, skip, not-lt}
 use Rattle.crash_core.proofs.TickSteps.{going_on}
-use Rattle.crash_core.specs.declared.owners.Seat.{Seat}
-use Rattle.heap_rule.specs.Plays.{Has, IsEvent}
+use Rattle.crash_core.specs.declared.owners.SeatNotes.{SeatNotes}
+use Rattle.heap_rule.specs.Plays.{HasSoundState, IsEvent}
 use Rattle.heap_rule.specs.Seated.{IsKeptOf, FitsShift}
 use Rattle.heap_rule.proofs.SeatLemmas.{keep_fits}
 
@@ -30,10 +30,10 @@ module _ (v w : View) (shift : Option Shift) (found : ℕ) (event : IsEvent (Tic
   pub draw_stopped : v.setup.budget ≤ found → w.stopped ≡ Some found
   draw_stopped past = ap (λ (u : View). u.stopped) (spent past)
 
-  pub draw_kept : (changed : Seat) → FitsShift changed v shift → Has w → found < v.setup.budget → IsKeptOf (record changed { ticket = Some found }) w
+  pub draw_kept : (changed : SeatNotes) → FitsShift changed v shift → HasSoundState w → found < v.setup.budget → IsKeptOf (record changed { ticket = Some found }) w
   draw_kept changed fits has less = keep_fits _ _ w (drawn less) has (fits event.before found)
 
-  pub stop_kept : (notes : Seat) → IsKeptOf notes v → Has w → v.setup.budget ≤ found → IsKeptOf (record notes { ticket = None; stopped = Some found }) w
+  pub stop_kept : (notes : SeatNotes) → IsKeptOf notes v → HasSoundState w → v.setup.budget ≤ found → IsKeptOf (record notes { ticket = None; stopped = Some found }) w
   stop_kept notes kept has past = keep_fits _ _ w (spent past) has (record {
     notes_are = record { ticket = refl; stopped = refl; seen_used = kept.notes_are.seen_used; seen_head = kept.notes_are.seen_head; seen_link = kept.notes_are.seen_link; seen_anchor = kept.notes_are.seen_anchor };
     caches = kept.caches;

@@ -20,7 +20,7 @@ use Rattle.core_model.proofs.SoundLemmas.{taken}
 use Rattle.core_model.proofs.OwnerLemmas.{in_lists_total}
 use Rattle.crash_core.proofs.ChainSteps.{cut_range}
 use Rattle.crash_core.proofs.FreeSteps.{short, list_at_most}
-use Rattle.heap_rule.specs.Plays.{Has}
+use Rattle.heap_rule.specs.Plays.{HasSoundState}
 use Rattle.heap_rule.specs.Shown.{Shows, ShowsDurable, ShowsEmpty, by_claim, by_anchor, by_look, ShowsLinks}
 
 -- a block of a superblock of the image begins in the image
@@ -34,7 +34,7 @@ pub first_step : (from apart n : ℕ) → 1 ≤ n → first_of (steps from apart
 first_step from apart zero some = absurd (omega arith)
 first_step from apart (suc n) some = refl
 
-module _ (v : View) (s : Has v) where
+module _ (v : View) (s : HasSoundState v) where
   abbrev m : Memory
   m = memory_of v.setup.capacity s.words
 

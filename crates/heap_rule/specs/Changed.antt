@@ -13,7 +13,7 @@ use Rattle.heap_rule.specs.declared.owned.Change.{Change}
 use Rattle.heap_rule.specs.declared.owned.Change.TheVariants as change
 use Rattle.heap_rule.specs.declared.owned.Owned.{Owned}
 use Rattle.heap_rule.specs.Owned.{IsMarking, IsStaking, HasOwned, parts_of}
-use Rattle.heap_rule.specs.Plays.{Has}
+use Rattle.heap_rule.specs.Plays.{HasSoundState}
 
 -- a superblock of the image that may be cut for the class
 pub record CanCutIn (o : Owned) (capacity d class : ℕ) : Type 0 where
@@ -62,5 +62,5 @@ IsChanged (change.Split d n) capacity o o' = IsSplitIn o o' d n
 
 -- the change may be done, and then what is kept is that of the view after a draw with the shift
 abbrev pub FitsChange : Change → View → Option Shift → Type 0
-FitsChange c v shift = (o : Owned) → HasOwned o (parts_of v) → CanChange c v.setup.capacity o × ((s : Has v) (found : ℕ) (o' : Owned)
+FitsChange c v shift = (o : Owned) → HasOwned o (parts_of v) → CanChange c v.setup.capacity o × ((s : HasSoundState v) (found : ℕ) (o' : Owned)
     → IsChanged c v.setup.capacity o o' → HasOwned o' (parts_of (shifted (memory_of v.setup.capacity s.words) (drew v found) shift)))

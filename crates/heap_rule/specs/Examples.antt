@@ -6,7 +6,7 @@ use Rattle.line_memory.specs.Marks.{mark_at}
 use Rattle.core_model.specs.Cells.{info_cell, link_cell}
 use Rattle.core_model.specs.View.{View, known}
 use Rattle.heap_rule.specs.Joint.{nobody, first_view, other_views, joined_views}
-use Rattle.heap_rule.specs.Seated.{SeatView, Tells, IsStored}
+use Rattle.heap_rule.specs.Seated.{SeatView, Tells, HasNewStore}
 use Rattle.heap_rule.specs.Shown.{Shows, ShowsEmpty, CanAnchor, CanPush, CanStore, as_empty, as_full, as_free, by_claim, by_anchor}
 
 -- a seat that has nothing, of a heap of two superblocks
@@ -65,7 +65,7 @@ never_lost_as_seen told = told.1 refl
 abbrev pub at_work : SeatView → SeatView
 at_work v = record v { stores = take 16 (9 ∷ v.stores); marks = slice_set v.marks 9 false }
 
-pub is_stored : (v : SeatView) → IsStored 9 v (at_work v)
+pub is_stored : (v : SeatView) → HasNewStore 9 v (at_work v)
 is_stored v = record { stores = refl; marks = refl }
 
 pub seventeenth : take {A = ℕ} 16 (9 ∷ replicate 16 8) ≡ 9 ∷ replicate 15 8

@@ -29,7 +29,7 @@ Settles v [] w = w ≡ v
 Settles v (word ∷ words) w = (u : View) × ((found : ℕ) × IsEvent (Settle word) v found u) × Settles u words w
 
 -- what loads see of the word and what a crash leaves are both recorded, and the same
-pub record IsDurable (v : View) (word : ℕ) : Type 0 where
+pub record IsRecordedDurable (v : View) (word : ℕ) : Type 0 where
   pub value : ℕ
   pub volatile : Shows v (cell_at v.setup.capacity word) value
   pub durable : ShowsDurable v (cell_at v.setup.capacity word) value
@@ -40,11 +40,11 @@ pub record KeepsRecords (v w : View) (word : ℕ) : Type 0 where
   pub durable : known w.durable (cell_at v.setup.capacity word) ≡ known v.durable (cell_at v.setup.capacity word)
 
 -- the words that are marked and own are settled, and none is marked any more: each of them is durable, with the value that was recorded; of other own words, and of all else, the seat's view stays
-pub record IsFence (v w : SeatView) : Type 0 where
+pub record IsSeatFence (v w : SeatView) : Type 0 where
   pub words : List ℕ
   pub settles : Settles v.view words w.view
   pub exactly : (word : ℕ) → (0 < times word words) ↔ (IsMarked v.marks word × Owns v.view word)
-  pub durable : (word : ℕ) → IsMarked v.marks word → Owns v.view word → IsDurable w.view word
+  pub durable : (word : ℕ) → IsMarked v.marks word → Owns v.view word → IsRecordedDurable w.view word
   pub seen : (word value : ℕ) → Owns v.view word → Shows v.view (cell_at v.view.setup.capacity word) value
       → Shows w.view (cell_at v.view.setup.capacity word) value
   pub others : (word : ℕ) → Owns v.view word → (IsMarked v.marks word → ⊥) → KeepsRecords v.view w.view word

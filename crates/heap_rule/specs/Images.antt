@@ -7,10 +7,10 @@ use Rattle.core_model.specs.Cells.{Cell, cell_at}
 use Rattle.core_model.specs.Guards.{IsOwn}
 use Rattle.core_model.specs.Held.{volatile_image, durable_image}
 use Rattle.core_model.specs.View.{Setup, View, known}
-use Rattle.heap_rule.specs.Plays.{Has}
+use Rattle.heap_rule.specs.Plays.{HasSoundState}
 
 -- the words that no step changes are as they were opened
-pub record KeepsFixed (k : Setup) (image : Image) : Type 0 where
+pub record HasFixedWords (k : Setup) (image : Image) : Type 0 where
   pub each : (word : ℕ) → IsFixed k.capacity word → image word ≡ slice_index k.opened word
 
 -- the number is what is recorded of the word, if anything is
@@ -24,7 +24,7 @@ pub record HasRecorded (now kept : Image) (v : View) : Type 0 where
 
 -- a mixture of the volatile and the durable words of some sound state in which a seat has the view
 pub record IsImageOf (v : View) (image : Image) : Type 0 where
-  pub has : Has v
+  pub has : HasSoundState v
   pub mixed : Mixes (volatile_image v.setup.capacity has.words) (durable_image v.setup.capacity has.words) image
 
 -- each own word has its recorded volatile value, or its recorded durable one
@@ -33,6 +33,6 @@ pub record MixesRecorded (v : View) (image : Image) : Type 0 where
       → Agrees v.volatile (cell_at v.setup.capacity word) (image word) ⊎ Agrees v.durable (cell_at v.setup.capacity word) (image word)
 
 -- each own word has the one of them that is picked: the volatile one for true
-pub record HasPicked (v : View) (pick : ℕ → Bool) (image : Image) : Type 0 where
+pub record HasPickedRecords (v : View) (pick : ℕ → Bool) (image : Image) : Type 0 where
   pub each : (word : ℕ) → IsOwn v (cell_at v.setup.capacity word)
       → Agrees (cond (pick word) v.volatile v.durable) (cell_at v.setup.capacity word) (image word)

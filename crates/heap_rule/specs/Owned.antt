@@ -42,7 +42,7 @@ listed zero = stake.Unclassed
 listed (suc n) = stake.Classed (suc n)
 
 -- of a view, what tells which words are its own
-pub record Parts : Type 0 where
+pub record OwnedParts : Type 0 where
   pub capacity : ℕ
   pub small : List (List ℕ)
   pub caches : List (List ℕ)
@@ -55,7 +55,7 @@ pub record Parts : Type 0 where
   pub large : List Span
   pub roots : List ℕ
 
-abbrev pub parts_of : View → Parts
+abbrev pub parts_of : View → OwnedParts
 parts_of v = record {
   capacity = v.setup.capacity;
   small = v.small;
@@ -71,11 +71,11 @@ parts_of v = record {
 }
 
 -- how often a small block is the seat's
-abbrev pub times_had : ℕ → Parts → ℕ
+abbrev pub times_had : ℕ → OwnedParts → ℕ
 times_had b p = total (times b) p.small + total (times b) p.caches + times b p.batch
 
 -- the stake in superblock d is as it is said
-pub record IsStake (d : ℕ) (x : Stake) (p : Parts) : Type 0 where
+pub record IsStake (d : ℕ) (x : Stake) (p : OwnedParts) : Type 0 where
   pub unclassed : times d p.raw + times d p.split + times d p.cutting ≡ unclassed_in x
   pub is_classed : times_classed d p.classed ≡ classed_in x
   pub class : claim_class d p.classed ≡ class_in x
@@ -83,7 +83,7 @@ pub record IsStake (d : ℕ) (x : Stake) (p : Parts) : Type 0 where
   pub count : span_count d p.large ≡ count_in x
 
 -- each block of the seat's is in a superblock of its class
-pub record AreClasses (classes : List ℕ) (p : Parts) : Type 0 where
+pub record AreClasses (classes : List ℕ) (p : OwnedParts) : Type 0 where
   pub held : (class b : ℕ) → 0 < times b (of_class p.small class) → get_or classes (superblock_at p.capacity b) 0 ≡ class
   pub cached : (class b : ℕ) → 0 < times b (of_class p.caches class) → get_or classes (superblock_at p.capacity b) 0 ≡ class
   pub batched : (b : ℕ) → 0 < times b p.batch → get_or classes (superblock_at p.capacity b) 0 ≡ p.batch_class
@@ -96,7 +96,7 @@ AreMarked marks counts = (n : ℕ) → (get_or marks n false ≡ true) ↔ (0 < 
 abbrev pub most_blocks : ℕ
 most_blocks = 4096
 
-pub record HasOwned (o : Owned) (p : Parts) : Type 0 where
+pub record HasOwned (o : Owned) (p : OwnedParts) : Type 0 where
   pub words_long : length o.blocks.items ≡ image_words p.capacity
   pub classes_long : length o.classes.items ≡ p.capacity
   pub stakes_long : length o.stakes.items ≡ p.capacity
@@ -130,5 +130,5 @@ stake_for (share.Classed class) = stake.Classed class
 stake_for (share.Large count) = stake.Large count
 
 -- the parts of a seat as a heap at rest is opened, whatever the budget
-abbrev pub opened_parts : Contents → OwnerLists → ℕ → Parts
+abbrev pub opened_parts : Contents → OwnerLists → ℕ → OwnedParts
 opened_parts heap owners seat = parts_of (opened_view (setup_of heap.words 0) heap.held owners.held owners.roots seat)

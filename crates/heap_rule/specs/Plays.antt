@@ -7,12 +7,12 @@ use Rattle.core_model.specs.View.{View}
 use Rattle.core_model.specs.Effects.{place_of, left_there, view_after, learn}
 use Rattle.core_model.specs.Guards.{MayStep}
 use Rattle.core_model.specs.Sound.{Sound}
-use Rattle.core_model.specs.Steps.{State, found_by, words_after}
+use Rattle.core_model.specs.Steps.{TableState, found_by, words_after}
 use Rattle.heap_rule.specs.Joint.{Joint, IsSingle, all_views}
-use Rattle.heap_rule.specs.Rule.{Opening, Keeps, setup_for}
+use Rattle.heap_rule.specs.Rule.{Opening, HasAllSeats, setup_for}
 
 -- a sound state in which a seat has the view
-pub record Has (v : View) : Type 0 where
+pub record HasSoundState (v : View) : Type 0 where
   pub words : List ℕ
   pub views : List View
   pub seat : ℕ
@@ -21,19 +21,19 @@ pub record Has (v : View) : Type 0 where
   pub at : get_or views seat v ≡ v
 
 -- that state, and one with other words in which the seat has another view
-abbrev pub state_before : {v : View} → Has v → State
+abbrev pub state_before : {v : View} → HasSoundState v → TableState
 state_before s = record { words = s.words; views = s.views }
 
-abbrev pub state_with : {v : View} → Has v → List ℕ → View → State
+abbrev pub state_with : {v : View} → HasSoundState v → List ℕ → View → TableState
 state_with s words w = record { words = words; views = set s.views s.seat w }
 
 -- in every such state the seat may do the step
 abbrev pub May : View → Event → Type 0
-May v event = (s : Has v) → MayStep (memory_of v.setup.capacity s.words) v event
+May v event = (s : HasSoundState v) → MayStep (memory_of v.setup.capacity s.words) v event
 
 -- the event in some such state: it finds this word, and leaves the view w; the state is sound again
 pub record IsEvent (event : Event) (v : View) (found : ℕ) (w : View) : Type 0 where
-  pub before : Has v
+  pub before : HasSoundState v
   pub may : MayStep (memory_of v.setup.capacity before.words) v event
   pub found_is : found ≡ found_by (memory_of v.setup.capacity before.words) v event
   pub after : w ≡ view_after (memory_of v.setup.capacity before.words) v event found
@@ -57,7 +57,7 @@ pub record IsStepAt (o : Opening) (v : View) (event : Event) (place : ℕ) (f : 
   pub setup : v.setup ≡ setup_for o
   pub may : May v event
   pub place_is : place ≡ table_index v.setup.capacity (place_of v event)
-  pub leaves : (words : List ℕ) (joints : List Joint) → Keeps o words joints → (s : Has v) → s.words ≡ words → s.views ≡ all_views joints
+  pub leaves : (words : List ℕ) (joints : List Joint) → HasAllSeats o words joints → (s : HasSoundState v) → s.words ≡ words → s.views ≡ all_views joints
       → f (get_or words place 0) ≡ left_there (memory_of v.setup.capacity words) v event (get_or words place 0)
 
 -- a word is read, and nothing changes: it is that word of some sound state in which the seat has its view
@@ -65,7 +65,7 @@ pub record DidRead (place : ℕ) (me : Me ℕ Joint) (found : ℕ) (me' : Me ℕ
   pub same : me' ≡ me
   pub view : View
   pub single : IsSingle me.0 view
-  pub has : Has view
+  pub has : HasSoundState view
   pub found_is : found ≡ get_or has.words place 0
 
 -- the view of a seat that has recorded what loads see of a word
@@ -77,6 +77,6 @@ pub record DidLearn (word : ℕ) (me : Me ℕ Joint) (found : ℕ) (me' : Me ℕ
   pub view : View
   pub single : IsSingle me.0 view
   pub now : me' ≡ (learned view word found ∷ [], me.1)
-  pub before : Has view
+  pub before : HasSoundState view
   pub found_is : found ≡ get_or before.words word 0
-  pub has : Has (learned view word found)
+  pub has : HasSoundState (learned view word found)

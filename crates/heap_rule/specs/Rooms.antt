@@ -2,10 +2,10 @@
 use Rattle.std.specs.Prelude.{◌≡◌, false, [], replicate}
 use Rattle.heap_model.specs.Geometry.{image_words}
 use Rattle.heap_rule.specs.declared.owned_opening.Room.{Room}
-use Rattle.heap_rule.specs.Owned.{Parts, HasOwned}
+use Rattle.heap_rule.specs.Owned.{OwnedParts, HasOwned}
 
 -- it tells the own words of these parts, and there are no stores and no marks
-pub record IsOpenedRoom (room : Room) (p : Parts) : Type 0 where
+pub record IsOpenedRoom (room : Room) (p : OwnedParts) : Type 0 where
   pub owned : HasOwned room.owned p
   pub stores : room.recent ≡ []
   pub marks : room.pending ≡ replicate (image_words p.capacity) false

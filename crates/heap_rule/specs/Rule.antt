@@ -36,7 +36,7 @@ abbrev pub most_seats : ℕ
 most_seats = 8
 
 -- the state is sound, and all the seats are there
-pub record Keeps (o : Opening) (words : List ℕ) (joints : List Joint) : Type 0 where
+pub record HasAllSeats (o : Opening) (words : List ℕ) (joints : List Joint) : Type 0 where
   pub sound : Sound (setup_for o) words (all_views joints)
   pub count : length (all_views joints) ≡ o.seats
   pub few : o.seats ≤ most_seats
@@ -44,7 +44,7 @@ pub record Keeps (o : Opening) (words : List ℕ) (joints : List Joint) : Type 0
 
 -- the rule of the table, which has no slots
 abbrev pub Holds : Opening → State ℕ Joint → Type 0
-Holds o s = Keeps o s.words s.views
+Holds o s = HasAllSeats o s.words s.views
 
 -- the first seat of the table stands for all seats; the others are split off it
 abbrev pub first_joint : Opening → Joint
@@ -55,7 +55,7 @@ abbrev pub opened_view_of : Opening → ℕ → View
 opened_view_of o = opened_view (setup_for o) o.held o.block_owners o.root_owners
 
 -- the words at the opening, volatile and durable the same and no ticket drawn, and the seats keep the rule
-pub record IsOpened (o : Opening) : Type 0 where
+pub record HasOpenedWords (o : Opening) : Type 0 where
   pub words : List ℕ
   pub words_are : words ≡ o.words ++ (o.words ++ (0 ∷ []))
-  pub keeps : Keeps o words (first_joint o ∷ [])
+  pub keeps : HasAllSeats o words (first_joint o ∷ [])

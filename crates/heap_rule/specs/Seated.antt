@@ -10,12 +10,12 @@ use Rattle.core_model.specs.Effects.{place_of, left_there, shifted, drew}
 use Rattle.core_model.specs.Memory.{Memory, memory_of, tickets}
 use Rattle.core_model.specs.View.{Setup, View}
 use Rattle.core_model.specs.Steps.{found_by}
-use Rattle.crash_core.specs.declared.owners.Seat.{Seat}
+use Rattle.crash_core.specs.declared.owners.SeatNotes.{SeatNotes}
 use Rattle.crash_core.specs.Standing.{HasNotes, HasCaches, HasBatch}
 use Rattle.heap_rule.specs.declared.owned.Owned.{Owned}
 use Rattle.heap_rule.specs.Owned.{HasOwned, parts_of}
 use Rattle.heap_rule.specs.Joint.{Joint, IsSingle, view_in}
-use Rattle.heap_rule.specs.Plays.{Has}
+use Rattle.heap_rule.specs.Plays.{HasSoundState}
 
 -- which table it is, what is the same of all its seats, and for how many it was opened
 pub record SharedView : Type 0 where
@@ -36,7 +36,7 @@ pub record KeepsStores (v w : SeatView) : Type 0 where
   pub marks : w.marks ≡ v.marks
 
 -- a store comes before the last ones, and its word is marked no more
-pub record IsStored (word : ℕ) (v w : SeatView) : Type 0 where
+pub record HasNewStore (word : ℕ) (v w : SeatView) : Type 0 where
   pub stores : w.stores ≡ take 16 (word ∷ v.stores)
   pub marks : w.marks ≡ slice_set v.marks word false
 
@@ -46,24 +46,24 @@ pub record IsSeatOf (shared : SharedView) (seat : SeatView) : Type 0 where
   pub setup : seat.view.setup ≡ shared.setup
 
 -- notes, caches and batch of a view, whatever state has it
-pub record Fits (notes : Seat) (v : View) : Type 0 where
+pub record Fits (notes : SeatNotes) (v : View) : Type 0 where
   pub notes_are : HasNotes notes v
   pub caches : HasCaches notes.caches v.caches
   pub batch : HasBatch notes.batch v.batch
 
 -- once a ticket is drawn with the shift, this is what is kept, in each state that has the view
-abbrev pub FitsShift : Seat → View → Option Shift → Type 0
-FitsShift notes v shift = (s : Has v) (found : ℕ) → Fits (record notes { ticket = Some found }) (shifted (memory_of v.setup.capacity s.words) (drew v found) shift)
+abbrev pub FitsShift : SeatNotes → View → Option Shift → Type 0
+FitsShift notes v shift = (s : HasSoundState v) (found : ℕ) → Fits (record notes { ticket = Some found }) (shifted (memory_of v.setup.capacity s.words) (drew v found) shift)
 
 -- some sound state has the seat's view, and what is kept of it is so
-pub record IsKeptOf (notes : Seat) (v : View) : Type 0 where
-  pub has : Has v
+pub record IsKeptOf (notes : SeatNotes) (v : View) : Type 0 where
+  pub has : HasSoundState v
   pub notes_are : HasNotes notes v
   pub caches : HasCaches notes.caches v.caches
   pub batch : HasBatch notes.batch v.batch
 
 -- a single seat at the table, of a heap of the layout's capacity and of the budget, and what is kept of it
-pub record IsSeat (me : Me ℕ Joint) (notes : Seat) (capacity budget : ℕ) : Type 0 where
+pub record IsSingleSeat (me : Me ℕ Joint) (notes : SeatNotes) (capacity budget : ℕ) : Type 0 where
   pub single : IsSingle me.0 (view_in me.0)
   pub no_slots : me.1 ≡ []
   pub kept : IsKeptOf notes (view_in me.0)
@@ -72,8 +72,8 @@ pub record IsSeat (me : Me ℕ Joint) (notes : Seat) (capacity budget : ℕ) : T
   pub low : (view_in me.0).setup.budget < 1099511627776
 
 -- the same, with what tells which words are its own, and with a mark for each word
-pub record IsWhole (me : Me ℕ Joint) (notes : Seat) (owned : Owned) (marks : List Bool) (capacity budget : ℕ) : Type 0 where
-  pub seat : IsSeat me notes capacity budget
+pub record IsWholeSeat (me : Me ℕ Joint) (notes : SeatNotes) (owned : Owned) (marks : List Bool) (capacity budget : ℕ) : Type 0 where
+  pub seat : IsSingleSeat me notes capacity budget
   pub marks_long : length marks ≡ image_words capacity
   pub own : HasOwned owned (parts_of (view_in me.0))
 
@@ -83,7 +83,7 @@ pub record IsAt (shared : SharedView) (table : TableId) (me : Me ℕ Joint) (v :
   pub single : IsSingle me.0 v
   pub no_slots : me.1 ≡ []
   pub setup : v.setup ≡ shared.setup
-  pub has : Has v
+  pub has : HasSoundState v
 
 -- what the event leaves of the word that it finds: the word itself; the next ticket; the greater of it and a value; in each state that has the view, a new word, where it is the one that was seen, and a value
 abbrev pub IsLook : Event → Type 0
@@ -96,11 +96,11 @@ abbrev pub IsRaise : Event → View → ℕ → Type 0
 IsRaise event v value = (m : Memory) (found : ℕ) → left_there m v event found ≡ max found value
 
 abbrev pub IsExchange : Event → View → ℕ → ℕ → Type 0
-IsExchange event v seen new = (s : Has v) (found : ℕ) → found ≡ found_by (memory_of v.setup.capacity s.words) v event
+IsExchange event v seen new = (s : HasSoundState v) (found : ℕ) → found ≡ found_by (memory_of v.setup.capacity s.words) v event
     → left_there (memory_of v.setup.capacity s.words) v event found ≡ cond (nat_eq found seen) new found
 
 abbrev pub IsStore : Event → View → ℕ → Type 0
-IsStore event v value = (s : Has v) (found : ℕ) → left_there (memory_of v.setup.capacity s.words) v event found ≡ value
+IsStore event v value = (s : HasSoundState v) (found : ℕ) → left_there (memory_of v.setup.capacity s.words) v event found ≡ value
 
 -- an exchange tells that it was done exactly where the word was as it was seen, and else the word
 abbrev pub Tells : ℕ → ℕ → Result ⊤ ℕ → Type 0

@@ -11,7 +11,7 @@ use Rattle.core_model.specs.declared.event.Shift.TheVariants.{Cut, Alloc, Free, 
 use Rattle.core_model.specs.Cells.{Cell, info_cell, anchor_cell, link_cell, data_cell, cell_at, superblock_at}
 use Rattle.core_model.specs.View.{View, of_class, times_classed, known}
 use Rattle.core_model.specs.Effects.{seen_word, seen_of, claim_class, class_blocks, first_of, last_of}
-use Rattle.core_model.specs.Guards.{IsThere, IsOwn, IsFreelyClaimed, MayChange, MayTake, MayLink, MayPop, MayLookAt, MayTakeAll, MayAlloc, MaySplit, HasTicketFor}
+use Rattle.core_model.specs.Guards.{IsThere, IsOwn, IsFreelyClaimed, MayChangeWord, MayTake, MayLink, MayPop, MayLookAt, MayTakeAll, MayAlloc, MaySplit, HasTicketFor}
 
 -- the seat knows that loads see this value of the word, and that a crash leaves it
 abbrev pub Shows : View → Cell → ℕ → Type 0
@@ -41,7 +41,7 @@ pub data CanAnchor (v : View) (d : ℕ) : ℕ → Type 0 where
 abbrev pub CanStore : View → Cell → ℕ → Type 0
 CanStore v (anchor_cell d) value = CanAnchor v d value
 CanStore v (link_cell d) value = times d v.cutting ≡ 0
-CanStore v (data_cell word) value = MayChange v word
+CanStore v (data_cell word) value = MayChangeWord v word
 CanStore v cell value = ⊤
 
 -- a claimed superblock goes to the list of the free ones, or to that of its class

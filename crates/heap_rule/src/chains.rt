@@ -21,7 +21,7 @@ use crate::shared::Shared;
 use crate::steps::{exchange, read};
 use core_model::Event;
 use crash_core::{
-    Cache, Group, NO_BATCH, Seat as Notes, anchor_after_give, anchor_after_take_all, anchor_count,
+    Cache, Group, NO_BATCH, SeatNotes, anchor_after_give, anchor_after_take_all, anchor_count,
     anchor_state, first_free,
 };
 use size_table::{blocks_of, size_of};
@@ -61,7 +61,7 @@ impl Seat {
         let new = anchor_after_take_all();
         let found = exchange(shared, &mut self.bare, place, anchor.word, new, event);
         if found != anchor.word {
-            self.notes = Notes {
+            self.notes = SeatNotes {
                 ticket: None,
                 seen_anchor: None,
                 ..self.notes
@@ -72,7 +72,7 @@ impl Seat {
         let count = anchor_count(anchor.word);
         let mut caches = self.notes.caches;
         caches[class as usize] = Cache { first, count };
-        self.notes = Notes {
+        self.notes = SeatNotes {
             ticket: None,
             seen_anchor: None,
             caches,
@@ -108,14 +108,14 @@ impl Seat {
         let new = anchor_with_batch(self.geometry, d, self.notes.batch, anchor.word);
         let found = exchange(shared, &mut self.bare, place, anchor.word, new, event);
         if found != anchor.word {
-            self.notes = Notes {
+            self.notes = SeatNotes {
                 ticket: None,
                 seen_anchor: None,
                 ..self.notes
             };
             return Err(found);
         }
-        self.notes = Notes {
+        self.notes = SeatNotes {
             ticket: None,
             seen_anchor: None,
             batch: NO_BATCH,

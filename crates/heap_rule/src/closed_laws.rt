@@ -9,7 +9,7 @@ ghost use Rattle.heap_model.specs.Header.{IsWellFormed, header_fault};
 ghost use Rattle.heap_model.specs.Image.{Image};
 ghost use Rattle.core_model.specs.Sound.{Each};
 ghost use Rattle.core_model.specs.View.{Setup, View};
-ghost use Rattle.heap_rule.specs.Images.{HasRecorded, IsImageOf, KeepsFixed};
+ghost use Rattle.heap_rule.specs.Images.{HasRecorded, IsImageOf, HasFixedWords};
 ghost use Rattle.heap_rule.specs.Seats.{IsClosedSound};
 
 /// Of each own word a seat has recorded what a close left: the volatile value and the durable one.
@@ -23,7 +23,7 @@ pub fn a_closed_heap_has_the_recorded_words()
 pub fn a_closed_heap_has_the_opened_header()
     ensures fixed { (k : Setup) (now kept : List ℕ) (views : List View)
         → IsClosedSound k now kept views
-        → (image : Image) → Mixes (slice_index now) (slice_index kept) image → KeepsFixed k image }
+        → (image : Image) → Mixes (slice_index now) (slice_index kept) image → HasFixedWords k image }
     ensures header { (k : Setup) (now kept : List ℕ) (views : List View)
         → IsClosedSound k now kept views
         → IsWellFormed (8 * length k.opened) (slice_index k.opened)

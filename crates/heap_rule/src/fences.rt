@@ -2,7 +2,7 @@
 
 ghost use Rattle.std.specs.Prelude.{◌≡◌, None};
 ghost use Rattle.core_model.specs.declared.event.Event.TheVariants.{Settle};
-ghost use Rattle.heap_rule.specs.Fences.{IsLineMarked, IsFence, SettlesOwn};
+ghost use Rattle.heap_rule.specs.Fences.{IsLineMarked, IsSeatFence, SettlesOwn};
 ghost use Rattle.heap_rule.specs.Seated.{KeepsStores, IsSeatOf};
 ghost use Rattle.heap_rule.specs.Shown.{Can};
 
@@ -28,7 +28,7 @@ impl Seat {
     pub fn fence(&mut self, shared: &Shared)
         requires seat { IsSeatOf shared.now self.old }
         requires going { self.old.view.stopped ≡ None }
-        ensures fence { IsFence self.old self.new }
+        ensures fence { IsSeatFence self.old self.new }
         ensures seat { IsSeatOf shared.now self.new }
     {
         while let Some(word) = self.pending.take_marked() {

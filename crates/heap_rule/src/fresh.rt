@@ -12,7 +12,7 @@ use crate::seat::Seat;
 use crate::shared::Shared;
 use crate::steps::{exchange, raise};
 use core_model::Event;
-use crash_core::{Seat as Notes, Seen};
+use crash_core::{SeatNotes, Seen};
 use super_block::USED_WORD;
 
 impl Seat {
@@ -31,14 +31,14 @@ impl Seat {
         let event = Event::TakeFresh { n };
         let found = exchange(shared, &mut self.bare, USED_WORD, used, used + n, event);
         if found != used {
-            self.notes = Notes {
+            self.notes = SeatNotes {
                 ticket: None,
                 seen_used: None,
                 ..self.notes
             };
             return Err(found);
         }
-        self.notes = Notes {
+        self.notes = SeatNotes {
             ticket: None,
             seen_used: Some(used + n),
             seen_anchor: Seen::cleared(self.notes.seen_anchor, used, n),
@@ -61,7 +61,7 @@ impl Seat {
         };
         let place = self.geometry.length() + USED_WORD;
         raise(shared, &mut self.bare, place, used, Event::KeepUsed);
-        self.notes = Notes {
+        self.notes = SeatNotes {
             ticket: None,
             ..self.notes
         };

@@ -9,8 +9,8 @@ ghost use Rattle.heap_model.specs.Header.{IsWellFormed, header_fault};
 ghost use Rattle.heap_model.specs.Image.{Image};
 ghost use Rattle.core_model.specs.Held.{IsHeld};
 ghost use Rattle.core_model.specs.View.{View};
-ghost use Rattle.heap_rule.specs.Images.{HasPicked, IsImageOf, KeepsFixed, MixesRecorded};
-ghost use Rattle.heap_rule.specs.Plays.{Has};
+ghost use Rattle.heap_rule.specs.Images.{HasPickedRecords, IsImageOf, HasFixedWords, MixesRecorded};
+ghost use Rattle.heap_rule.specs.Plays.{HasSoundState};
 
 /// Each image of a seat names each block that the seat holds, has one of the two recorded values of
 /// each own word, and has the words that no step changes as they were opened: so its header is
@@ -19,7 +19,7 @@ pub fn an_image_of_a_seat_has_its_blocks_and_words()
     ensures named { (v : View) (image : Image) → IsImageOf v image
         → (b : Block) → IsHeld v b → Names image (8 * b.first_word) b }
     ensures mixed { (v : View) (image : Image) → IsImageOf v image → MixesRecorded v image }
-    ensures fixed { (v : View) (image : Image) → IsImageOf v image → KeepsFixed v.setup image }
+    ensures fixed { (v : View) (image : Image) → IsImageOf v image → HasFixedWords v.setup image }
     ensures header { (v : View) (image : Image) → IsImageOf v image
         → IsWellFormed (8 * length v.setup.opened) (slice_index v.setup.opened)
         → header_fault (8 * image_words v.setup.capacity) image ≡ None }
@@ -28,6 +28,6 @@ pub fn an_image_of_a_seat_has_its_blocks_and_words()
 /// However one of the two recorded values of each own word is picked, a seat whose view some sound
 /// state has has an image with them.
 pub fn each_choice_of_words_is_an_image_of_the_seat()
-    ensures { (v : View) (pick : ℕ → Bool) → Has v
-        → (image : Image) × IsImageOf v image × HasPicked v pick image }
+    ensures { (v : View) (pick : ℕ → Bool) → HasSoundState v
+        → (image : Image) × IsImageOf v image × HasPickedRecords v pick image }
 {}

@@ -12,7 +12,7 @@ use crate::seat::Seat;
 use crate::shared::Shared;
 use crate::steps::exchange;
 use core_model::Event;
-use crash_core::{Seat as Notes, Seen, head_after_pop, head_after_push, head_first};
+use crash_core::{SeatNotes, Seen, head_after_pop, head_after_push, head_first};
 use super_block::HEAD_WORD;
 
 impl Seat {
@@ -36,7 +36,7 @@ impl Seat {
         let new = head_after_pop(head.word, link);
         let found = exchange(shared, &mut self.bare, place, head.word, new, Event::Pop);
         if found != head.word {
-            self.notes = Notes {
+            self.notes = SeatNotes {
                 ticket: None,
                 seen_head: None,
                 ..self.notes
@@ -44,7 +44,7 @@ impl Seat {
             return Err(found);
         }
         let d = head_first(head.word).saturating_sub(1);
-        self.notes = Notes {
+        self.notes = SeatNotes {
             ticket: None,
             seen_head: None,
             seen_link: None,
@@ -73,14 +73,14 @@ impl Seat {
         let event = Event::Push { d };
         let found = exchange(shared, &mut self.bare, place, head.word, new, event);
         if found != head.word {
-            self.notes = Notes {
+            self.notes = SeatNotes {
                 ticket: None,
                 seen_head: None,
                 ..self.notes
             };
             return Err(found);
         }
-        self.notes = Notes {
+        self.notes = SeatNotes {
             ticket: None,
             seen_head: None,
             seen_anchor: Seen::cleared(self.notes.seen_anchor, d, 1),

@@ -9,7 +9,7 @@ use crate::seat::Seat;
 use crate::shared::Shared;
 use crate::steps::look;
 use core_model::Event;
-use crash_core::{Seat as Notes, Seen, head_first};
+use crash_core::{SeatNotes, Seen, head_first};
 use super_block::{HEAD_WORD, USED_WORD};
 
 impl Seat {
@@ -22,7 +22,7 @@ impl Seat {
         ensures stores { KeepsStores self.old self.new }
     {
         let found = look(shared, &mut self.bare, USED_WORD, Event::LookUsed);
-        self.notes = Notes {
+        self.notes = SeatNotes {
             ticket: None,
             seen_used: Some(found),
             ..self.notes
@@ -40,7 +40,7 @@ impl Seat {
     {
         let event = Event::LookHead { list };
         let found = look(shared, &mut self.bare, HEAD_WORD + list, event);
-        self.notes = Notes {
+        self.notes = SeatNotes {
             ticket: None,
             seen_head: Some(Seen {
                 of: list,
@@ -61,7 +61,7 @@ impl Seat {
         ensures stores { KeepsStores self.old self.new }
     {
         let found = look(shared, &mut self.bare, word, Event::Load { word });
-        self.notes = Notes {
+        self.notes = SeatNotes {
             ticket: None,
             ..self.notes
         };
@@ -81,7 +81,7 @@ impl Seat {
         };
         let place = self.geometry.link(head_first(head.word) - 1);
         let found = look(shared, &mut self.bare, place, Event::LookLink);
-        self.notes = Notes {
+        self.notes = SeatNotes {
             ticket: None,
             seen_link: Some(found),
             ..self.notes
@@ -99,7 +99,7 @@ impl Seat {
     {
         let event = Event::LookAnchor { d };
         let found = look(shared, &mut self.bare, self.geometry.anchor(d), event);
-        self.notes = Notes {
+        self.notes = SeatNotes {
             ticket: None,
             seen_anchor: Some(Seen { of: d, word: found }),
             ..self.notes

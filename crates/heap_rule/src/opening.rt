@@ -7,7 +7,7 @@ ghost use Rattle.heap_model.specs.Geometry.{image_words};
 ghost use Rattle.heap_rule.specs.declared.owned_opening.Room.{Room};
 ghost use Rattle.heap_rule.specs.Owned.{parts_of};
 ghost use Rattle.heap_rule.specs.Rooms.{IsOpenedRoom};
-ghost use Rattle.heap_rule.specs.Rule.{IsOpened, opening_of, setup_for, first_joint, opened_view_of};
+ghost use Rattle.heap_rule.specs.Rule.{HasOpenedWords, opening_of, setup_for, first_joint, opened_view_of};
 ghost use Rattle.heap_rule.specs.Seats.{AreOpenedSeats, dealt_seats};
 
 use crate::owned_opening::{Room, opened_rooms};
@@ -68,7 +68,7 @@ fn open_table(
     requires few { seats ≤ 8 }
     requires budget { budget < 1099511627776 }
     ensures key { IfOk result (λ t. t.0.shared.key ≡ opening_of heap owners.now seats budget) }
-    ensures opened { IfOk result (λ t. IsOpened t.0.shared.key) }
+    ensures opened { IfOk result (λ t. HasOpenedWords t.0.shared.key) }
     ensures words { IfOk result (λ t. t.0.shared.table_id.words
         ≡ table_length (setup_for t.0.shared.key).capacity) }
     ensures slots { IfOk result (λ t. t.0.shared.table_id.slots ≡ 0) }
@@ -99,7 +99,7 @@ fn deal(
     budget: u64,
     mut rooms: VecDeque<Room>,
 ) -> Result<Vec<Seat>, AllocError>
-    requires opened { IsOpened shared.now.key }
+    requires opened { HasOpenedWords shared.now.key }
     requires table { dealer.table_id ≡ shared.now.table_id }
     requires words { 0 < shared.now.table_id.words }
     requires first { dealer.me ≡ (first_joint shared.now.key, []) }

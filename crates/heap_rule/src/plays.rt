@@ -39,11 +39,11 @@ impl<J: Told> Play<u8, Known> for Does<J> {
 }
 
 /// What a store tells its caller: that it was this event.
-pub struct Stores<J: Told> {
+pub struct StoreDoes<J: Told> {
     marker: PhantomData<J>,
 }
 
-impl<J: Told> Play<u8, Known> for Stores<J> {
+impl<J: Told> Play<u8, Known> for StoreDoes<J> {
     ghost use Rattle.heap_rule.specs.Plays.{DidStore};
 
     ghost then = { λ _ me _ after. DidStore J.event me after };
@@ -172,5 +172,5 @@ pub(crate) fn store_as<J: Told>(
     ensures did { DidStore _event bare.old.me bare.new.me }
     ensures table { bare.new.table_id ≡ bare.old.table_id }
 {
-    shared.store::<Stores<J>>(bare, place, value);
+    shared.store::<StoreDoes<J>>(bare, place, value);
 }

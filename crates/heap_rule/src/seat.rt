@@ -2,7 +2,7 @@
 
 use crate::owned::Owned;
 use crate::rule::Bare;
-use crash_core::Seat as Notes;
+use crash_core::SeatNotes;
 use line_memory::{Pending, RecentStores};
 use std::marker::Model;
 use super_block::Geometry;
@@ -11,7 +11,7 @@ use super_block::Geometry;
 #[derive(Drop)]
 pub struct Seat {
     pub(crate) bare: Bare,
-    pub(crate) notes: Notes,
+    pub(crate) notes: SeatNotes,
     pub(crate) geometry: Geometry,
     pub(crate) budget: u64,
     pub(crate) owned: Owned,
@@ -21,7 +21,7 @@ pub struct Seat {
 
 impl Model for Seat {
     ghost use Rattle.heap_rule.specs.Joint.{view_in};
-    ghost use Rattle.heap_rule.specs.Seated.{SeatView, IsWhole};
+    ghost use Rattle.heap_rule.specs.Seated.{SeatView, IsWholeSeat};
 
     ghost Value = { SeatView };
 
@@ -32,5 +32,5 @@ impl Model for Seat {
       marks = a.pending;
     } };
 
-    ghost invariant = { λ a. IsWhole a.bare.me a.notes a.owned a.pending a.geometry.capacity a.budget };
+    ghost invariant = { λ a. IsWholeSeat a.bare.me a.notes a.owned a.pending a.geometry.capacity a.budget };
 }

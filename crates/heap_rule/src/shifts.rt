@@ -11,13 +11,13 @@ use crate::owned::Change;
 use crate::seat::Seat;
 use crate::shared::Shared;
 use core_model::Shift;
-use crash_core::{Cache, Group, Seat as Notes, Seen};
+use crash_core::{Cache, Group, SeatNotes, Seen};
 use size_table::blocks_of;
 use super_block::SUPERBLOCK_WORDS;
 
 impl Seat {
     /// The first block of the cache is held.
-    fn after_alloc(&mut self, shared: &Shared, class: u64) -> (Notes, Change)
+    fn after_alloc(&mut self, shared: &Shared, class: u64) -> (SeatNotes, Change)
         requires seat { IsSeatOf shared.now self.old }
         requires may { MayAlloc self.old.view class }
         ensures same { self.new ≡ self.old }
@@ -28,7 +28,7 @@ impl Seat {
         let mut caches = self.notes.caches;
         let count = caches[class as usize].count - 1;
         caches[class as usize] = Cache { first, count };
-        let after = Notes {
+        let after = SeatNotes {
             caches,
             ..self.notes
         };
@@ -36,7 +36,7 @@ impl Seat {
     }
 
     /// The first block of the cache is behind the batch.
-    fn after_lift(&mut self, shared: &Shared, class: u64) -> (Notes, Change)
+    fn after_lift(&mut self, shared: &Shared, class: u64) -> (SeatNotes, Change)
         requires seat { IsSeatOf shared.now self.old }
         requires can { CanLift self.old.view class }
         ensures same { self.new ≡ self.old }
@@ -57,7 +57,7 @@ impl Seat {
             count: old.count + 1,
             linked: true,
         };
-        let after = Notes {
+        let after = SeatNotes {
             caches,
             batch,
             ..self.notes
@@ -66,12 +66,12 @@ impl Seat {
     }
 
     /// Superblocks are held as a large block.
-    fn after_large(&self, d: u64, n: u64) -> (Notes, Change)
+    fn after_large(&self, d: u64, n: u64) -> (SeatNotes, Change)
         requires can { CanHoldLarge self.now.view d n }
         ensures fits { FitsShift result.0 self.now.view (Some (Large d n)) }
         ensures change { FitsChange result.1 self.now.view (Some (Large d n)) }
     {
-        let after = Notes {
+        let after = SeatNotes {
             seen_anchor: Seen::cleared(self.notes.seen_anchor, d, n),
             ..self.notes
         };
@@ -79,7 +79,7 @@ impl Seat {
     }
 
     /// A held block is in front of the cache of its class.
-    fn after_free(&self, block: u64) -> (Notes, Change)
+    fn after_free(&self, block: u64) -> (SeatNotes, Change)
         requires can { CanFree self.now.view block }
         ensures fits { FitsShift result.0 self.now.view (Some (Free block)) }
         ensures change { FitsChange result.1 self.now.view (Some (Free block)) }
@@ -91,7 +91,7 @@ impl Seat {
             first: block,
             count,
         };
-        let after = Notes {
+        let after = SeatNotes {
             caches,
             ..self.notes
         };
@@ -99,14 +99,14 @@ impl Seat {
     }
 
     /// The superblocks of a held large block are claimed.
-    fn after_split(&self, block: u64) -> (Notes, Change)
+    fn after_split(&self, block: u64) -> (SeatNotes, Change)
         requires may { MaySplit self.now.view block }
         ensures fits { FitsShift result.0 self.now.view (Some (Split block)) }
         ensures change { FitsChange result.1 self.now.view (Some (Split block)) }
     {
         let d = (block - self.geometry.start(0)) / SUPERBLOCK_WORDS;
         let n = self.span_length(d);
-        let after = Notes {
+        let after = SeatNotes {
             seen_anchor: Seen::cleared(self.notes.seen_anchor, d, n),
             ..self.notes
         };
@@ -114,7 +114,7 @@ impl Seat {
     }
 
     /// All blocks of a superblock that was made ready are in the cache of its class.
-    fn after_cut(&mut self, shared: &Shared, d: u64) -> (Notes, Change)
+    fn after_cut(&mut self, shared: &Shared, d: u64) -> (SeatNotes, Change)
         requires seat { IsSeatOf shared.now self.old }
         requires can { CanCut self.old.view d }
         ensures same { self.new ≡ self.old }
@@ -126,7 +126,7 @@ impl Seat {
         let count = blocks_of(class as u8);
         let mut caches = self.notes.caches;
         caches[class as usize] = Cache { first, count };
-        let after = Notes {
+        let after = SeatNotes {
             seen_anchor: Seen::cleared(self.notes.seen_anchor, d, 1),
             caches,
             ..self.notes
@@ -135,7 +135,7 @@ impl Seat {
     }
 
     /// What is kept once the change is done.
-    pub(crate) fn after_shift(&mut self, shared: &Shared, shift: Shift) -> (Notes, Change)
+    pub(crate) fn after_shift(&mut self, shared: &Shared, shift: Shift) -> (SeatNotes, Change)
         requires seat { IsSeatOf shared.now self.old }
         requires can { CanShift self.old.view (Some shift) }
         ensures same { self.new ≡ self.old }

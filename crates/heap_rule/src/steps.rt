@@ -6,7 +6,7 @@ ghost use Rattle.core_model.specs.Effects.{place_of};
 ghost use Rattle.core_model.specs.Guards.{IsOwn};
 ghost use Rattle.core_model.specs.Memory.{table_index, table_length};
 ghost use Rattle.heap_rule.specs.Joint.{view_in};
-ghost use Rattle.heap_rule.specs.Plays.{Has, IsEvent, May, learned};
+ghost use Rattle.heap_rule.specs.Plays.{HasSoundState, IsEvent, May, learned};
 ghost use Rattle.heap_rule.specs.Seated.{IsAt, IsLook, IsDraw, IsRaise, IsExchange, IsStore};
 
 use crate::plays::{draw_as, exchange_as, learn_as, load_as, raise_as, read_as, store_as};
@@ -21,7 +21,7 @@ pub(crate) fn read(shared: &Shared, bare: &mut Bare, place: u64) -> u64
     requires inside { place < table_length (view_in bare.old.me.0).setup.capacity }
     ensures same { bare.new.me ≡ bare.old.me }
     ensures table { bare.new.table_id ≡ bare.old.table_id }
-    ensures found { (s : Has (view_in bare.old.me.0)) × (result ≡ get_or s.words place 0) }
+    ensures found { (s : HasSoundState (view_in bare.old.me.0)) × (result ≡ get_or s.words place 0) }
 {
     read_as(&shared.table.shared, bare, place as usize)
 }
@@ -33,7 +33,7 @@ pub(crate) fn learn(shared: &Shared, bare: &mut Bare, word: u64) -> u64
         (cell_at (view_in bare.old.me.0).setup.capacity word) }
     ensures at { IsAt shared.now bare.new.table_id bare.new.me (view_in bare.new.me.0) }
     ensures view { view_in bare.new.me.0 ≡ learned (view_in bare.old.me.0) word result }
-    ensures found { (s : Has (view_in bare.old.me.0)) × (result ≡ get_or s.words word 0) }
+    ensures found { (s : HasSoundState (view_in bare.old.me.0)) × (result ≡ get_or s.words word 0) }
 {
     learn_as(&shared.table.shared, bare, word as usize)
 }

@@ -12,7 +12,7 @@ use crate::seat::Seat;
 use crate::shared::Shared;
 use crate::steps::draw;
 use core_model::{Event, Shift};
-use crash_core::Seat as Notes;
+use crash_core::SeatNotes;
 use line_memory::Stopped;
 
 impl Seat {
@@ -71,7 +71,7 @@ impl Seat {
         &mut self,
         shared: &Shared,
         shift: Option<Shift>,
-        changed: Notes,
+        changed: SeatNotes,
         change: Change,
     ) -> Result<(), Stopped>
         requires seat { IsSeatOf shared.now self.old }
@@ -87,14 +87,14 @@ impl Seat {
         let event = Event::Tick { shift };
         let ticket = draw(shared, &mut self.bare, place, event);
         if ticket >= self.budget {
-            self.notes = Notes {
+            self.notes = SeatNotes {
                 ticket: None,
                 stopped: Some(ticket),
                 ..self.notes
             };
             return Err(Stopped { step: ticket });
         }
-        self.notes = Notes {
+        self.notes = SeatNotes {
             ticket: Some(ticket),
             ..changed
         };

@@ -4,7 +4,7 @@ ghost use Rattle.std.specs.Prelude.{◌≡◌, length, None};
 ghost use Rattle.heap_model.specs.Sizes.{IsClass};
 ghost use Rattle.core_model.specs.Effects.{first_of};
 ghost use Rattle.core_model.specs.View.{of_class};
-ghost use Rattle.heap_rule.specs.Plays.{Has};
+ghost use Rattle.heap_rule.specs.Plays.{HasSoundState};
 ghost use Rattle.heap_rule.specs.Seated.{IsSeatOf};
 
 use crate::seat::Seat;
@@ -13,7 +13,7 @@ use crate::shared::Shared;
 impl Seat {
     /// There is a sound state in which the seat has its view.
     pub fn has_a_sound_state(&self)
-        ensures { Has self.now.view }
+        ensures { HasSoundState self.now.view }
     {
         let _opened = self.geometry;
     }

@@ -3,14 +3,14 @@
 ghost use Rattle.std.specs.Prelude.{ℕ};
 ghost use Rattle.core_model.specs.declared.event.Event.TheVariants.{Store, Settle};
 ghost use Rattle.heap_rule.specs.Plays.{IsEvent};
-ghost use Rattle.heap_rule.specs.Seated.{KeepsStores, IsSeatOf, IsStored};
+ghost use Rattle.heap_rule.specs.Seated.{KeepsStores, IsSeatOf, HasNewStore};
 ghost use Rattle.heap_rule.specs.Shown.{Can};
 
 use crate::seat::Seat;
 use crate::shared::Shared;
 use crate::steps::{learn, store};
 use core_model::Event;
-use crash_core::Seat as Notes;
+use crash_core::SeatNotes;
 
 impl Seat {
     /// Stores to a word of its own.
@@ -19,11 +19,11 @@ impl Seat {
         requires can { Can self.old.view (Store word value) }
         ensures event { (found : ℕ) × IsEvent (Store word value) self.old.view found self.new.view }
         ensures seat { IsSeatOf shared.now self.new }
-        ensures stores { IsStored word self.old self.new }
+        ensures stores { HasNewStore word self.old self.new }
     {
         let event = Event::Store { word, value };
         store(shared, &mut self.bare, word, value, event);
-        self.notes = Notes {
+        self.notes = SeatNotes {
             ticket: None,
             batch: self.notes.batch.stored(word),
             ..self.notes

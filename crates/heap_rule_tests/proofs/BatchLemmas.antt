@@ -16,14 +16,14 @@ use Rattle.core_model.proofs.PlaceLemmas.{and_is, cell_at_index, not-eq, pick}
 use Rattle.core_model.proofs.QuietLemmas.{own_same}
 use Rattle.crash_core.proofs.OwnDecision.{within_word}
 use Rattle.heap_rule.specs.Parts.{KeepsParts}
-use Rattle.heap_rule.specs.Plays.{Has, IsEvent}
+use Rattle.heap_rule.specs.Plays.{HasSoundState, IsEvent}
 use Rattle.heap_rule.specs.Shown.{Can, CanGive, CanStore, Shows}
 use Rattle.heap_rule.proofs.LeftLemmas.{draw_done, give_lost, give_won}
 use Rattle.heap_rule.proofs.PartLemmas.{left_as, one_more}
 use Rattle.crash_core.proofs.LiftSteps.{last_there}
 use Rattle.heap_rule.proofs.ViewLemmas.{block_below, block_class, block_once, block_range}
-use Rattle.heap_rule_tests.specs.declared.refusal.Refusal.{Refusal}
-use Rattle.heap_rule_tests.specs.declared.refusal.Refusal.TheVariants.{Nothing, Lost, Stopped}
+use Rattle.heap_rule_tests.specs.declared.refusal.NotDone.{NotDone}
+use Rattle.heap_rule_tests.specs.declared.refusal.NotDone.TheVariants.{Nothing, Lost, Stopped}
 use Rattle.heap_rule_tests.specs.Batches.{GivesNone, GivesSeen, HasGiven, HasLifted, HasLinkedLast, IsBatchOf, IsNotGiven, with_last, without_batch}
 use Rattle.heap_rule_tests.specs.Draws.{HasDrawn}
 use Rattle.heap_rule_tests.specs.Partials.{HasLostAnchor, HasSeenAnchor}
@@ -42,7 +42,7 @@ lifted v w class ticket event going = record {
 }
 
 -- the last block of the batch may lead to any other
-module _ (v : View) (has : Has v) (d class last : ℕ) (batch : IsBatchOf d class last v) where
+module _ (v : View) (has : HasSoundState v) (d class last : ℕ) (batch : IsBatchOf d class last v) where
   there : 0 < times last v.batch.blocks
   there = subst (λ b. 0 < times b v.batch.blocks) batch.last_is (last_there v.batch.blocks batch.some)
 
@@ -221,12 +221,12 @@ module _ (v t : View) (d class last found : ℕ) (batch : IsBatchOf d class last
   given_full w full gives = gives_later v t w d class true seen.parts
       (subst (λ test. GivesSeen d class test t w) (eq-eqb (seen_word t.seen_anchor) full_anchor (word_is ∙ full)) (subst (λ n. GivesSeen d n (nat_eq (seen_word t.seen_anchor) full_anchor) t w) batch_still.class_is gives))
 
-  not_given_then : (refusal : Refusal) (w : View) → IsNotGiven refusal t w → IsNotGiven refusal v w
+  not_given_then : (refusal : NotDone) (w : View) → IsNotGiven refusal t w → IsNotGiven refusal v w
   not_given_then Nothing w none = none
   not_given_then (Lost word) w lost = record { parts = one_more v t w seen.parts lost.parts; going = lost.going; unseen = lost.unseen; losses = lost.losses ∙ ap (λ n. n + 1) seen.losses }
   not_given_then (Stopped e) w stop = stopped_later v t w e.step seen.parts stop
 
-  pub none_given : (refusal : Refusal) (w : View) → IsNotGiven refusal t w → GivesNone last refusal v w
+  pub none_given : (refusal : NotDone) (w : View) → IsNotGiven refusal t w → GivesNone last refusal v w
   none_given refusal w none = inl (not_given_then refusal w none)
 
   -- some were, and the last one of the batch leads to the first of them
@@ -256,12 +256,12 @@ module _ (v t : View) (d class last found : ℕ) (batch : IsBatchOf d class last
           (subst (λ n. GivesSeen d n (nat_eq (seen_word x.seen_anchor) full_anchor) x w) (ap (λ b. b.class) last_kept.batch ∙ batch.class_is) gives)),
     )
 
-    not_given_last : (refusal : Refusal) (w : View) → IsNotGiven refusal x w → IsNotGiven refusal (with_last v last first) w
+    not_given_last : (refusal : NotDone) (w : View) → IsNotGiven refusal x w → IsNotGiven refusal (with_last v last first) w
     not_given_last Nothing w none = none
     not_given_last (Lost word) w lost = record { parts = one_more (with_last v last first) x w last_kept lost.parts; going = lost.going; unseen = lost.unseen; losses = lost.losses ∙ ap (λ n. n + 1) (linked.losses ∙ seen.losses) }
     not_given_last (Stopped e) w stop = stopped_later (with_last v last first) x w e.step last_kept stop
 
-    pub none_given_last : (refusal : Refusal) (w : View) → IsNotGiven refusal x w → GivesNone last refusal v w
+    pub none_given_last : (refusal : NotDone) (w : View) → IsNotGiven refusal x w → GivesNone last refusal v w
     none_given_last refusal w none = inr (first, not_given_last refusal w none)
 
 -- said of the view before the anchor was seen
@@ -270,19 +270,19 @@ module _ (v t : View) (d class last found : ℕ) (seen : HasSeenAnchor d found v
   given_later w true gives = gives_later v t w d class true seen.parts gives
   given_later w false gives = (gives.0, gives_later (with_last v last gives.0) (with_last t last gives.0) w d class false (last_alike v t last gives.0 seen.parts) gives.1)
 
-  not_given_later : (refusal : Refusal) (a b w : View) → KeepsParts a b → b.losses ≡ a.losses → IsNotGiven refusal b w → IsNotGiven refusal a w
+  not_given_later : (refusal : NotDone) (a b w : View) → KeepsParts a b → b.losses ≡ a.losses → IsNotGiven refusal b w → IsNotGiven refusal a w
   not_given_later Nothing a b w p losses none = none
   not_given_later (Lost word) a b w p losses lost = record { parts = one_more a b w p lost.parts; going = lost.going; unseen = lost.unseen; losses = lost.losses ∙ ap (λ n. n + 1) losses }
   not_given_later (Stopped e) a b w p losses stop = stopped_later a b w e.step p stop
 
-  pub none_given_later : (refusal : Refusal) (w : View) → GivesNone last refusal t w → GivesNone last refusal v w
+  pub none_given_later : (refusal : NotDone) (w : View) → GivesNone last refusal t w → GivesNone last refusal v w
   none_given_later refusal w (inl none) = inl (not_given_later refusal v t w seen.parts seen.losses none)
   none_given_later refusal w (inr none) = inr (none.0, not_given_later refusal (with_last v last none.0) (with_last t last none.0) w (last_alike v t last none.0 seen.parts) seen.losses none.1)
 
-pub given_ok_later : (v t w : View) (d class last found : ℕ) (result : Result Bool Refusal) → HasSeenAnchor d found v t → IfOk result (λ full. HasGiven d class last full t w) → IfOk result (λ full. HasGiven d class last full v w)
+pub given_ok_later : (v t w : View) (d class last found : ℕ) (result : Result Bool NotDone) → HasSeenAnchor d found v t → IfOk result (λ full. HasGiven d class last full t w) → IfOk result (λ full. HasGiven d class last full v w)
 given_ok_later v t w d class last found (Ok full) seen gives = given_later v t d class last found seen w full gives
 given_ok_later v t w d class last found (Err e) seen gives = tt
 
-pub given_err_later : (v t w : View) (d class last found : ℕ) (result : Result Bool Refusal) → HasSeenAnchor d found v t → IfErr result (λ refusal. GivesNone last refusal t w) → IfErr result (λ refusal. GivesNone last refusal v w)
+pub given_err_later : (v t w : View) (d class last found : ℕ) (result : Result Bool NotDone) → HasSeenAnchor d found v t → IfErr result (λ refusal. GivesNone last refusal t w) → IfErr result (λ refusal. GivesNone last refusal v w)
 given_err_later v t w d class last found (Ok full) seen none = tt
 given_err_later v t w d class last found (Err e) seen none = none_given_later v t d class last found seen e w none

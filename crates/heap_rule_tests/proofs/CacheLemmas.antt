@@ -9,18 +9,18 @@ use Rattle.core_model.specs.declared.event.Shift.TheVariants.{Alloc}
 use Rattle.core_model.specs.Effects.{after_alloc, class_blocks, drew, first_of, stopped}
 use Rattle.core_model.specs.View.{Setup, View, of_class}
 use Rattle.core_model.proofs.TotalLemmas.{eq-eqb-one}
-use Rattle.heap_rule.specs.Plays.{Has, IsEvent}
+use Rattle.heap_rule.specs.Plays.{HasSoundState, IsEvent}
 use Rattle.heap_rule.proofs.LeftLemmas.{draw_done, draw_stops}
 use Rattle.heap_rule.proofs.PartLemmas.{left_as}
 use Rattle.heap_rule.proofs.ToldLemmas.{stop_told}
 use Rattle.heap_rule_tests.specs.Caches.{HasAllocated, HasFilled, FillsNone}
-use Rattle.heap_rule_tests.specs.declared.refusal.Refusal.{Refusal}
-use Rattle.heap_rule_tests.specs.declared.refusal.Refusal.TheVariants.{Nothing, Lost, Stopped}
+use Rattle.heap_rule_tests.specs.declared.refusal.NotDone.{NotDone}
+use Rattle.heap_rule_tests.specs.declared.refusal.NotDone.TheVariants.{Nothing, Lost, Stopped}
 use Rattle.heap_rule_tests.specs.Cuts.{HasMade}
-use Rattle.heap_rule_tests.specs.Draws.{HasStopped}
+use Rattle.heap_rule_tests.specs.Draws.{HasStoppedAt}
 use Rattle.heap_rule_tests.specs.Takes.{HasTaken, TakesNone}
 
-pub allocated : (v w : View) (class ticket : ℕ) → Has v → IsClass class → IsEvent (Tick (Some (Alloc class))) v ticket w → w.stopped ≡ None
+pub allocated : (v w : View) (class ticket : ℕ) → HasSoundState v → IsClass class → IsEvent (Tick (Some (Alloc class))) v ticket w → w.stopped ≡ None
     → HasAllocated (first_of (of_class v.caches class)) class v w
 allocated v w class ticket has is event going = let after = draw_done (Some (Alloc class)) v w ticket event going in record {
   parts = left_as (after_alloc v class) (after_alloc (drew v ticket) class) w after (record {
@@ -47,7 +47,7 @@ allocated v w class ticket has is event going = let after = draw_done (Some (All
 }
 
 -- a draw with a change that stops the seat
-pub stopped_at : (shift : Option Shift) (v w : View) (ticket step : ℕ) → IsEvent (Tick shift) v ticket w → v.stopped ≡ None → w.stopped ≡ Some step → HasStopped step v w
+pub stopped_at : (shift : Option Shift) (v w : View) (ticket step : ℕ) → IsEvent (Tick shift) v ticket w → v.stopped ≡ None → w.stopped ≡ Some step → HasStoppedAt step v w
 stopped_at shift v w ticket step event going stop = record {
   parts = left_as v (stopped v step) w (draw_stops shift v w ticket step event going stop) (record {
     setup = refl;
@@ -90,7 +90,7 @@ filled v t w d class taken made = let p = taken.parts in record {
   floor = let a = p.floor in let b = made.floor in omega arith;
 }
 
-pub none_filled : (refusal : Refusal) (v w : View) → TakesNone refusal v w → FillsNone refusal v w
+pub none_filled : (refusal : NotDone) (v w : View) → TakesNone refusal v w → FillsNone refusal v w
 none_filled Nothing v w full = full
 none_filled (Lost found) v w lost = lost
 none_filled (Stopped e) v w (inl stop) = stop.at

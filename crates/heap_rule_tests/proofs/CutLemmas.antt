@@ -20,16 +20,16 @@ use Rattle.core_model.specs.Sound.{IsCutBlock}
 use Rattle.core_model.proofs.BlockLemmas.{inside_of, superblock_is}
 use Rattle.crash_core.proofs.ChainSteps.{cut_range}
 use Rattle.heap_rule.specs.Parts.{KeepsParts, cut_for}
-use Rattle.heap_rule.specs.Plays.{Has, IsEvent}
+use Rattle.heap_rule.specs.Plays.{HasSoundState, IsEvent}
 use Rattle.heap_rule.specs.Shown.{Shows, ShowsLinks, by_claim, as_full, Can, CanCut, CanStore}
 use Rattle.heap_rule.proofs.LeftLemmas.{draw_cuts}
 use Rattle.heap_rule.proofs.RawLemmas.{no_block, raw_blank, raw_inside, raw_once, store_shown, settle_left, volatile_long, durable_long}
 use Rattle.heap_rule.proofs.StoredLemmas.{of_none}
 use Rattle.crash_core.proofs.LiftSteps.{last_there}
-use Rattle.heap_rule_tests.specs.Cuts.{HasBegun, HasClass, HasLinked, HasLinks, HasMade, KeepsHeld, with_making}
-use Rattle.heap_rule_tests.specs.Draws.{HasDrawn, HasStopped}
+use Rattle.heap_rule_tests.specs.Cuts.{HasBegun, HasClass, HasLinked, HasLinks, HasMade, KeepsHeldBlocks, with_making}
+use Rattle.heap_rule_tests.specs.Draws.{HasDrawn, HasStoppedAt}
 
-module _ (v : View) (has : Has v) (word : ℕ) (from : start_word v.setup.capacity 0 ≤ word) (until : word < image_words v.setup.capacity) (raw : 0 < times_raw (superblock_at v.setup.capacity word) v) where
+module _ (v : View) (has : HasSoundState v) (word : ℕ) (from : start_word v.setup.capacity 0 ≤ word) (until : word < image_words v.setup.capacity) (raw : 0 < times_raw (superblock_at v.setup.capacity word) v) where
   cell_is : cell_at v.setup.capacity word ≡ data_cell word
   cell_is = cell_at_index v.setup.capacity (data_cell word) (and_is (nat_le (start_word v.setup.capacity 0) word) (nat_lt word (image_words v.setup.capacity))
       (le-leb (start_word v.setup.capacity 0) word from) (lt-ltb word (image_words v.setup.capacity) until))
@@ -140,7 +140,7 @@ parts_more v t w word value p q = record {
 }
 
 -- stopped after links
-pub stopped_more : (v t w : View) (step : ℕ) → KeepsParts (record v { volatile = t.volatile }) t → HasStopped step t w → HasStopped step (record v { volatile = w.volatile }) w
+pub stopped_more : (v t w : View) (step : ℕ) → KeepsParts (record v { volatile = t.volatile }) t → HasStoppedAt step t w → HasStoppedAt step (record v { volatile = w.volatile }) w
 stopped_more v t w step p stop = let q = stop.parts in record {
   parts = record {
     setup = q.setup ∙ p.setup;
@@ -181,7 +181,7 @@ linked_more v w start words n block value from to linked some before =
     (subst (λ b. Shows w (data_cell (start + n * words)) b) to (subst (λ a. Shows w (data_cell a) value) from linked.link)) before
 
 -- the anchor of a claimed superblock becomes full
-module _ (v : View) (has : Has v) (d : ℕ) (raw : 0 < times d v.raw) where
+module _ (v : View) (has : HasSoundState v) (d : ℕ) (raw : 0 < times d v.raw) where
   inside : d < v.setup.capacity
   inside = raw_inside v has d (omega arith)
 
@@ -225,7 +225,7 @@ module _ (v : View) (has : Has v) (d : ℕ) (raw : 0 < times d v.raw) where
       ∙ ap (λ (cell : Cell). stored (record (used_up (drew v drawn.ticket)) { volatile = learn v.volatile (anchor_word d) full_anchor }) cell full_anchor) anchor_is)
 
 -- the info of a claimed superblock says the class
-module _ (v : View) (has : Has v) (d : ℕ) (raw : 0 < times_raw d v) where
+module _ (v : View) (has : HasSoundState v) (d : ℕ) (raw : 0 < times_raw d v) where
   class_inside : d < v.setup.capacity
   class_inside = raw_inside v has d raw
 
@@ -340,23 +340,23 @@ module _ (v t x y : View) (d class : ℕ) (begun : HasBegun d v t) (set_is : Has
   made w is low empty event going = let e = event links.going in made_from e.0 w going (draw_cuts d y w e.0 e.1 going (cut_can is low empty))
 
 -- what is held stays where parts do, and where the blocks of a superblock are cut off or not
-pub held_kept : (v w : View) → KeepsParts v w → KeepsHeld v w
+pub held_kept : (v w : View) → KeepsParts v w → KeepsHeldBlocks v w
 held_kept v w p = record { small = p.small; large = p.large; roots = p.roots }
 
-pub held_then : (u v w : View) → KeepsHeld u v → KeepsHeld v w → KeepsHeld u w
+pub held_then : (u v w : View) → KeepsHeldBlocks u v → KeepsHeldBlocks v w → KeepsHeldBlocks u w
 held_then u v w p q = record { small = q.small ∙ p.small; large = q.large ∙ p.large; roots = q.roots ∙ p.roots }
 
-pub held_begun : (v w : View) (d : ℕ) → HasBegun d v w → KeepsHeld v w
+pub held_begun : (v w : View) (d : ℕ) → HasBegun d v w → KeepsHeldBlocks v w
 held_begun v w d begun = record { small = begun.parts.small; large = begun.parts.large; roots = begun.parts.roots }
 
-pub held_set : (v w : View) (d class : ℕ) → HasClass d class v w → KeepsHeld v w
+pub held_set : (v w : View) (d class : ℕ) → HasClass d class v w → KeepsHeldBlocks v w
 held_set v w d class set = record { small = set.parts.small; large = set.parts.large; roots = set.parts.roots }
 
-pub held_linked : (v w : View) (d class : ℕ) → HasLinks d class v w → KeepsHeld v w
+pub held_linked : (v w : View) (d class : ℕ) → HasLinks d class v w → KeepsHeldBlocks v w
 held_linked v w d class linked = record { small = linked.parts.small; large = linked.parts.large; roots = linked.parts.roots }
 
-pub held_cut : (v w : View) (d found : ℕ) → IsEvent (Tick (Some (Cut d))) v found w → KeepsHeld v w
+pub held_cut : (v w : View) (d found : ℕ) → IsEvent (Tick (Some (Cut d))) v found w → KeepsHeldBlocks v w
 held_cut v w d found event = by_budget (nat_lt found v.setup.budget) event.after where
-  by_budget : (below : Bool) → w ≡ cond below (after_cut (memory_of v.setup.capacity event.before.words) (drew v found) d) (stopped v found) → KeepsHeld v w
+  by_budget : (below : Bool) → w ≡ cond below (after_cut (memory_of v.setup.capacity event.before.words) (drew v found) d) (stopped v found) → KeepsHeldBlocks v w
   by_budget true after = record { small = ap (λ (x : View). x.small) after; large = ap (λ (x : View). x.large) after; roots = ap (λ (x : View). x.roots) after }
   by_budget false after = record { small = ap (λ (x : View). x.small) after; large = ap (λ (x : View). x.large) after; roots = ap (λ (x : View). x.roots) after }

@@ -4,12 +4,12 @@ use Rattle.core_model.specs.declared.event.Event.TheVariants.{Tick}
 use Rattle.std.specs.Bool.{⊤}
 use Rattle.line_memory.specs.declared.memory.Stopped.{Stopped}
 use Rattle.core_model.specs.View.{View, one_if_some}
-use Rattle.heap_rule.specs.Plays.{Has, IsEvent}
+use Rattle.heap_rule.specs.Plays.{HasSoundState, IsEvent}
 use Rattle.heap_rule.specs.Seated.{SeatView, TellsDraw}
 use Rattle.heap_rule.proofs.LeftLemmas.{draw_done}
 use Rattle.heap_rule.proofs.PartLemmas.{drawn, left_as, none_changed}
 use Rattle.heap_rule.proofs.ToldLemmas.{stop_told}
-use Rattle.heap_rule_tests.specs.Draws.{HasDrawn, HasStopped}
+use Rattle.heap_rule_tests.specs.Draws.{HasDrawn, HasStoppedAt}
 
 -- some step, and none, are not one
 pub not_both : {o : Option ℕ} {step : ℕ} → o ≡ Some step → o ≡ None → {A : Type 0} → A
@@ -22,9 +22,9 @@ module _ (s t : SeatView) (event : s.view.stopped ≡ None → (found : ℕ) × 
     by_stop None none = let e = event none in record { went = none; ticket = e.0; left = draw_done None s.view t.view e.0 e.1 going; going = going }
     by_stop (Some step) stop = not_both (ap (λ (x : SeatView). x.view.stopped) (idle step stop) ∙ stop) going
 
-  pub draw_stopped : Has s.view → (step : ℕ) → t.view.stopped ≡ Some step → HasStopped step s.view t.view
+  pub draw_stopped : HasSoundState s.view → (step : ℕ) → t.view.stopped ≡ Some step → HasStoppedAt step s.view t.view
   draw_stopped has step stop = by_stop s.view.stopped refl where
-    by_stop : (o : Option ℕ) → s.view.stopped ≡ o → HasStopped step s.view t.view
+    by_stop : (o : Option ℕ) → s.view.stopped ≡ o → HasStoppedAt step s.view t.view
     by_stop None none = let e = event none in let told = stop_told None s.view t.view e.0 step e.1 none stop in
         record { parts = drawn s.view t.view e.0 e.1; at = stop; budget = (let most = told.1 in let same = told.0 in omega arith) }
     by_stop (Some before) stopped = let same : t.view ≡ s.view = ap (λ (x : SeatView). x.view) (idle before stopped) in record {
@@ -37,7 +37,7 @@ module _ (s t : SeatView) (event : s.view.stopped ≡ None → (found : ℕ) × 
   told_ok (Ok x) told = draw_ok told
   told_ok (Err e) told = tt
 
-  pub told_stopped : (result : Result ⊤ Stopped) → TellsDraw t.view result → Has s.view → IfErr result (λ e. HasStopped e.step s.view t.view)
+  pub told_stopped : (result : Result ⊤ Stopped) → TellsDraw t.view result → HasSoundState s.view → IfErr result (λ e. HasStoppedAt e.step s.view t.view)
   told_stopped (Ok x) told has = tt
   told_stopped (Err e) told has = draw_stopped has e.step told
 

@@ -21,12 +21,12 @@ use Rattle.core_model.proofs.TotalLemmas.{eq-eqb-one}
 use Rattle.crash_core.proofs.FreeSteps.{list_at_most}
 use Rattle.crash_core.proofs.OwnDecision.{in_classes_word}
 use Rattle.heap_rule.specs.Parts.{KeepsParts}
-use Rattle.heap_rule.specs.Plays.{Has, IsEvent}
+use Rattle.heap_rule.specs.Plays.{HasSoundState, IsEvent}
 use Rattle.heap_rule.specs.Shown.{Can, CanFree, CanStore, Shows}
 use Rattle.heap_rule.proofs.LeftLemmas.{draw_frees}
 use Rattle.crash_core.proofs.LiftSteps.{last_there}
 use Rattle.heap_rule.proofs.ViewLemmas.{block_once, block_range}
-use Rattle.heap_rule_tests.specs.Draws.{HasDrawn, HasStopped}
+use Rattle.heap_rule_tests.specs.Draws.{HasDrawn, HasStoppedAt}
 use Rattle.heap_rule_tests.specs.Frees.{FreesNone, HasFreed, HasWay, linked_before, with_way}
 use Rattle.heap_rule_tests.specs.Stores.{HasStored}
 use Rattle.line_memory.specs.declared.memory.Stopped.{Stopped}
@@ -37,7 +37,7 @@ use Rattle.heap_rule_tests.proofs.PopLemmas.{stopped_later}
 use Rattle.heap_rule_tests.proofs.StoreLemmas.{can_store, stored_left}
 
 -- a held block is the seat's once, and so neither cached nor in the batch
-module _ (v : View) (has : Has v) (class block : ℕ) (is : IsClass class) (held : 0 < times block (of_class v.small class)) where
+module _ (v : View) (has : HasSoundState v) (class block : ℕ) (is : IsClass class) (held : 0 < times block (of_class v.small class)) where
   had : 0 < times_block block v
   had = let small = in_lists_total block class v.small held in omega arith
 
@@ -107,7 +107,7 @@ no_way v u block class drawn none = record {
   empty : length (of_class v.caches class) ≡ 0
   empty = ap (λ (x : View). length (of_class x.caches class)) (sym drawn.left) ∙ none
 
-module _ (v : View) (has : Has v) (class block : ℕ) (is : IsClass class) (held : 0 < times block (of_class v.small class)) where
+module _ (v : View) (has : HasSoundState v) (class block : ℕ) (is : IsClass class) (held : 0 < times block (of_class v.small class)) where
   pub can_lead : (u : View) (value : ℕ) → HasDrawn v u → Can u (Store block value)
   can_lead u value drawn = can_store v u block value drawn (own_block v has class block is held) (can_block v has class block is held value)
 
@@ -155,7 +155,7 @@ module _ (v t : View) (class block : ℕ) (is : IsClass class) (held : 0 < times
     floor = p.floor;
   }
 
-  pub freed_left : (w : View) (ticket : ℕ) → Has v → IsEvent (Tick (Some (Free block))) t ticket w → w.stopped ≡ None → HasFreed block class v w
+  pub freed_left : (w : View) (ticket : ℕ) → HasSoundState v → IsEvent (Tick (Some (Free block))) t ticket w → w.stopped ≡ None → HasFreed block class v w
   freed_left w ticket has event going = record {
     parts = subst (KeepsParts (after_free (with_way v class block) class block)) (sym after) (freed_parts ticket);
     going = going;
@@ -177,7 +177,7 @@ module _ (v t : View) (class block : ℕ) (is : IsClass class) (held : 0 < times
     top : class ≤ 20
     top = is.last
 
-pub frees_none : (v t w : View) (class block step : ℕ) → HasWay block class v t → HasStopped step t w → FreesNone block class step v w
+pub frees_none : (v t w : View) (class block step : ℕ) → HasWay block class v t → HasStoppedAt step t w → FreesNone block class step v w
 frees_none v t w class block step way stop = inr (stopped_later (with_way v class block) t w step way.parts stop)
 
 -- the draw with the change stops the seat

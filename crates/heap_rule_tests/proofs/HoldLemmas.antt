@@ -14,7 +14,7 @@ use Rattle.core_model.specs.View.{Setup, View, of_class}
 use Rattle.core_model.proofs.FrameLemmas.{below_is, below_not, times_append, times_steps}
 use Rattle.core_model.proofs.TotalLemmas.{eq-eqb-one}
 use Rattle.heap_rule.specs.Fences.{Settles}
-use Rattle.heap_rule.specs.Plays.{Has}
+use Rattle.heap_rule.specs.Plays.{HasSoundState}
 use Rattle.heap_rule.specs.Shown.{Can}
 use Rattle.heap_rule_tests.specs.Large.{AreClaimed, HasLarge, HasSplit}
 use Rattle.heap_rule_tests.specs.Pops.{HasPopped}
@@ -36,10 +36,10 @@ large_there v first may = (
 )
 
 -- a store to a held block, and what is made durable, leave it held
-pub held_then : (v w : View) (block value : ℕ) → Has v → 0 < times block (of_class v.small 20) → HasStored block value v w → 0 < times block (of_class w.small 20)
+pub held_then : (v w : View) (block value : ℕ) → HasSoundState v → 0 < times block (of_class v.small 20) → HasStored block value v w → 0 < times block (of_class w.small 20)
 held_then v w block value has held stored = subst (λ l. 0 < times block (of_class l 20)) (sym (block_stored v has 20 block is_20 held value w stored).small) held
 
-pub can_settle : (w : View) (block : ℕ) → Has w → w.stopped ≡ None → 0 < times block (of_class w.small 20) → Can w (Settle block)
+pub can_settle : (w : View) (block : ℕ) → HasSoundState w → w.stopped ≡ None → 0 < times block (of_class w.small 20) → Can w (Settle block)
 can_settle w block has going held = record { going = going; ticket = tt; shown = own_block w has 20 block is_20 held }
 
 pub settled_small : (v w : View) (words : List ℕ) → Settles v words w → w.small ≡ v.small

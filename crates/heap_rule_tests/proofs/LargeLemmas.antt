@@ -13,14 +13,14 @@ use Rattle.core_model.specs.Effects.{after_large, after_split, cleared, drew, le
 use Rattle.core_model.specs.View.{Setup, View, times_raw}
 use Rattle.core_model.proofs.PlaceLemmas.{pick}
 use Rattle.heap_rule.specs.Parts.{KeepsParts}
-use Rattle.heap_rule.specs.Plays.{Has, IsEvent}
+use Rattle.heap_rule.specs.Plays.{HasSoundState, IsEvent}
 use Rattle.heap_rule.specs.Seated.{SeatView, TellsDraw}
 use Rattle.heap_rule.specs.Shown.{CanHoldLarge, CanJoin, Shows, ShowsDurable, by_claim}
 use Rattle.heap_rule.proofs.LeftLemmas.{draw_done}
 use Rattle.heap_rule.proofs.PartLemmas.{left_as, none_changed}
 use Rattle.line_memory.specs.declared.memory.Stopped.{Stopped}
 use Rattle.heap_rule_tests.specs.Cuts.{HasClass}
-use Rattle.heap_rule_tests.specs.Draws.{HasStopped}
+use Rattle.heap_rule_tests.specs.Draws.{HasStoppedAt}
 use Rattle.heap_rule_tests.specs.Large.{AreClaimed, HasLarge, HasSplit, HaveInfos, info_in, with_known}
 use Rattle.heap_rule_tests.proofs.CacheLemmas.{stopped_at}
 use Rattle.heap_rule_tests.proofs.DrawLemmas.{not_both}
@@ -44,7 +44,7 @@ known_more v t w p q = record {
   floor = let a = p.floor in let b = q.floor in omega arith;
 }
 
-pub known_stopped : (v t w : View) (step : ℕ) → KeepsParts (with_known v t) t → HasStopped step t w → HasStopped step (with_known v w) w
+pub known_stopped : (v t w : View) (step : ℕ) → KeepsParts (with_known v t) t → HasStoppedAt step t w → HasStoppedAt step (with_known v w) w
 known_stopped v t w step p stop = record {
   parts = known_more v t w p (let q = stop.parts in record { setup = q.setup; small = q.small; large = q.large; roots = q.roots; caches = q.caches; batch = q.batch; raw = q.raw; split = q.split; cutting = q.cutting; classed = q.classed; volatile = refl; durable = refl; floor = q.floor });
   at = stop.at;
@@ -143,9 +143,9 @@ module _ (shift : Option Shift) (s t : SeatView) (event : s.view.stopped ≡ Non
     by_stop None none = none
     by_stop (Some step) stop = not_both (ap (λ (x : SeatView). x.view.stopped) (idle step stop) ∙ stop) going
 
-  shift_stopped : Has s.view → (step : ℕ) → t.view.stopped ≡ Some step → HasStopped step s.view t.view
+  shift_stopped : HasSoundState s.view → (step : ℕ) → t.view.stopped ≡ Some step → HasStoppedAt step s.view t.view
   shift_stopped has step stop = by_stop s.view.stopped refl where
-    by_stop : (o : Option ℕ) → s.view.stopped ≡ o → HasStopped step s.view t.view
+    by_stop : (o : Option ℕ) → s.view.stopped ≡ o → HasStoppedAt step s.view t.view
     by_stop None none = let e = event none in stopped_at shift s.view t.view e.0 step e.1 none stop
     by_stop (Some before) stopped = let same : t.view ≡ s.view = ap (λ (x : SeatView). x.view) (idle before stopped) in record {
       parts = left_as s.view s.view t.view same (none_changed s.view);
@@ -153,7 +153,7 @@ module _ (shift : Option Shift) (s t : SeatView) (event : s.view.stopped ≡ Non
       budget = ((has.sound.good.tickets has.seat s.view has.below has.at).state.stopping step (sym (ap (λ (x : View). x.stopped) same) ∙ stop)).0;
     }
 
-  pub told_stop : (result : Result ⊤ Stopped) → TellsDraw t.view result → Has s.view → IfErr result (λ e. HasStopped e.step s.view t.view)
+  pub told_stop : (result : Result ⊤ Stopped) → TellsDraw t.view result → HasSoundState s.view → IfErr result (λ e. HasStoppedAt e.step s.view t.view)
   told_stop (Ok x) told has = tt
   told_stop (Err e) told has = shift_stopped has e.step told
 

@@ -19,8 +19,8 @@ use Rattle.heap_rule.specs.Shown.{Can, by_look}
 use Rattle.heap_rule.proofs.ChainLemmas.{chain_length}
 use Rattle.heap_rule.proofs.LeftLemmas.{take_all_lost, take_all_won}
 use Rattle.heap_rule.proofs.PartLemmas.{none_changed, one_more}
-use Rattle.heap_rule_tests.specs.declared.refusal.Refusal.{Refusal}
-use Rattle.heap_rule_tests.specs.declared.refusal.Refusal.TheVariants.{Nothing, Lost, Stopped}
+use Rattle.heap_rule_tests.specs.declared.refusal.NotDone.{NotDone}
+use Rattle.heap_rule_tests.specs.declared.refusal.NotDone.TheVariants.{Nothing, Lost, Stopped}
 use Rattle.heap_rule_tests.specs.Draws.{HasDrawn}
 use Rattle.heap_rule_tests.specs.Partials.{HasLostAnchor, HasSeenAnchor, HasTakenBlocks, IsAllFree, SeesAnchor, TakesNoBlocks, with_cache}
 use Rattle.heap_rule_tests.specs.Pushes.{IsClaimOf}
@@ -160,7 +160,7 @@ sees_then v t d found seen = record { going = seen.going; is_seen = seen.is_seen
 pub uncached_then : (v t : View) (d class found : ℕ) → HasSeenAnchor d found v t → of_class v.caches class ≡ [] → of_class t.caches class ≡ []
 uncached_then v t d class found seen empty = ap (λ l. of_class l class) seen.parts.caches ∙ empty
 
-pub none_later : (refusal : Refusal) (v t w : View) (d found : ℕ) → HasSeenAnchor d found v t → TakesNoBlocks d refusal t w → TakesNoBlocks d refusal v w
+pub none_later : (refusal : NotDone) (v t w : View) (d found : ℕ) → HasSeenAnchor d found v t → TakesNoBlocks d refusal t w → TakesNoBlocks d refusal v w
 none_later Nothing v t w d found seen free = record { parts = one_more v t w seen.parts free.parts; going = free.going; empty = free.empty }
 none_later (Lost word) v t w d found seen lost = record { parts = one_more v t w seen.parts lost.parts; going = lost.going; unseen = lost.unseen; losses = lost.losses ∙ ap (λ n. n + 1) seen.losses }
 none_later (Stopped e) v t w d found seen stop = stopped_later v t w e.step seen.parts stop

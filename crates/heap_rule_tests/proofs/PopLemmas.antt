@@ -8,13 +8,13 @@ use Rattle.heap_rule.specs.Parts.{KeepsParts}
 use Rattle.heap_rule.specs.Plays.{IsEvent}
 use Rattle.heap_rule.proofs.LeftLemmas.{pop_won, pop_lost}
 use Rattle.heap_rule.proofs.PartLemmas.{one_more}
-use Rattle.heap_rule_tests.specs.declared.refusal.Refusal.{Refusal}
-use Rattle.heap_rule_tests.specs.declared.refusal.Refusal.TheVariants.{Nothing, Lost, Stopped}
-use Rattle.heap_rule_tests.specs.Draws.{HasDrawn, HasStopped}
+use Rattle.heap_rule_tests.specs.declared.refusal.NotDone.{NotDone}
+use Rattle.heap_rule_tests.specs.declared.refusal.NotDone.TheVariants.{Nothing, Lost, Stopped}
+use Rattle.heap_rule_tests.specs.Draws.{HasDrawn, HasStoppedAt}
 use Rattle.heap_rule_tests.specs.Pops.{HasLostHead, HasPoppedFrom, HasSeenFirst, IsNotPoppedFrom, SeesFirst, with_claim}
 
 -- a stop, said of an earlier view
-pub stopped_later : (v t w : View) (step : ℕ) → KeepsParts v t → HasStopped step t w → HasStopped step v w
+pub stopped_later : (v t w : View) (step : ℕ) → KeepsParts v t → HasStoppedAt step t w → HasStoppedAt step v w
 stopped_later v t w step parts stop = record {
   parts = one_more v t w parts stop.parts;
   at = stop.at;
@@ -70,7 +70,7 @@ popped_later v t w list d seen popped = record {
 }
 
 -- why there is none, said of an earlier view
-pub not_popped_later : (refusal : Refusal) (v t w : View) (list d : ℕ) → HasSeenFirst list d v t → IsNotPoppedFrom list refusal t w → IsNotPoppedFrom list refusal v w
+pub not_popped_later : (refusal : NotDone) (v t w : View) (list d : ℕ) → HasSeenFirst list d v t → IsNotPoppedFrom list refusal t w → IsNotPoppedFrom list refusal v w
 not_popped_later Nothing v t w list d seen empty = record {
   parts = one_more v t w seen.parts empty.parts;
   going = empty.going;

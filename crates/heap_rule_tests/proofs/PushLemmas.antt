@@ -20,13 +20,13 @@ use Rattle.core_model.proofs.SoundLemmas.{taken}
 use Rattle.core_model.proofs.QuietLemmas.{own_same}
 use Rattle.core_model.proofs.TotalLemmas.{total_at, eq-eqb-one}
 use Rattle.heap_rule.specs.Parts.{KeepsParts}
-use Rattle.heap_rule.specs.Plays.{Has, IsEvent}
+use Rattle.heap_rule.specs.Plays.{HasSoundState, IsEvent}
 use Rattle.heap_rule.specs.Shown.{Can, CanList, CanStore, Shows, ShowsEmpty, by_claim, by_anchor, as_free, of_its_class}
 use Rattle.heap_rule.proofs.LeftLemmas.{push_won, push_lost}
 use Rattle.heap_rule.proofs.PartLemmas.{one_more}
 use Rattle.heap_rule.proofs.RawLemmas.{store_shown}
-use Rattle.heap_rule_tests.specs.declared.refusal.Refusal.{Refusal}
-use Rattle.heap_rule_tests.specs.declared.refusal.Refusal.TheVariants.{Nothing, Lost, Stopped}
+use Rattle.heap_rule_tests.specs.declared.refusal.NotDone.{NotDone}
+use Rattle.heap_rule_tests.specs.declared.refusal.NotDone.TheVariants.{Nothing, Lost, Stopped}
 use Rattle.heap_rule_tests.specs.Draws.{HasDrawn}
 use Rattle.heap_rule_tests.specs.Pops.{HasLostHead, HasPopped, HasSeenHead}
 use Rattle.heap_rule_tests.specs.Pushes.{HasPushed, HasPushedOfClass, HasSetLink, IsClaimOf, IsEmptyClaim, as_raw, as_split, IsNotPushed, PushesNone, SeesLinked, unclaimed, unclaimed_of_class, with_link}
@@ -39,17 +39,17 @@ is_claimed v d (as_raw raw) = omega arith
 is_claimed v d (as_split split anchor shows empty) = omega arith
 
 -- what is claimed once is claimed nowhere else
-pub claimed_once : (v : View) → Has v → (d : ℕ) → times_raw d v + times_classed d v.classed ≤ 1
+pub claimed_once : (v : View) → HasSoundState v → (d : ℕ) → times_raw d v + times_classed d v.classed ≤ 1
 claimed_once v s d =
     let raw = total_at (times_raw d) s.views s.seat v s.below s.at in
     let classed = total_at (λ (x : View). times_classed d x.classed) s.views s.seat v s.below s.at in
     let p = s.sound.good.shaped.placed.one_place d in
     let one = one_at_most (nat_lt d (used (memory_of v.setup.capacity s.words))) in omega arith
 
-pub freely_empty : (v : View) → Has v → (d : ℕ) → IsEmptyClaim v d → IsFreelyClaimed v d
+pub freely_empty : (v : View) → HasSoundState v → (d : ℕ) → IsEmptyClaim v d → IsFreelyClaimed v d
 freely_empty v has d empty = let some = is_claimed v d empty in let once = claimed_once v has d in record { claimed = omega arith; not_cutting = omega arith }
 
-pub freely_of_class : (v : View) → Has v → (class d : ℕ) → IsClaimOf class d v → IsFreelyClaimed v d
+pub freely_of_class : (v : View) → HasSoundState v → (class d : ℕ) → IsClaimOf class d v → IsFreelyClaimed v d
 freely_of_class v has class d claim = let some = claim.claimed in let once = claimed_once v has d in record { claimed = omega arith; not_cutting = omega arith }
 
 pub freely_still : (v w : View) (d : ℕ) → KeepsParts v w → IsFreelyClaimed v d → IsFreelyClaimed w d
@@ -66,7 +66,7 @@ shows_empty v d (as_raw raw) = by_claim raw
 shows_empty v d (as_split split anchor shows empty) = by_anchor anchor shows empty
 
 -- the link of a claimed superblock leads to another
-module _ (v : View) (has : Has v) (d : ℕ) (free : IsFreelyClaimed v d) where
+module _ (v : View) (has : HasSoundState v) (d : ℕ) (free : IsFreelyClaimed v d) where
   pub link_inside : d < v.setup.capacity
   link_inside = taken v.setup (memory_of v.setup.capacity has.words) has.views has.seat v has.below has.at has.sound.good d free.claimed
 
@@ -110,7 +110,7 @@ still_list v ticket d list (as_free free empty) = as_free (record { claimed = fr
 still_list v ticket d list (of_its_class class is classed of) = of_its_class class is classed of
 
 -- a superblock that was claimed once is not claimed any more
-module _ (v : View) (has : Has v) (d : ℕ) where
+module _ (v : View) (has : HasSoundState v) (d : ℕ) where
   link_gone : 0 < times d v.raw + times d v.split → times_own (unclaimed v d) (link_cell d) ≡ 0
   link_gone some = let once = claimed_once v has d in let one = eq-eqb-one d d refl in elim (cases_lt 0 (times d v.raw)) [
     | inl raw ↦ let a = times_without d d v.raw raw in let b = without_none d d v.split (omega arith) in omega arith
@@ -277,7 +277,7 @@ module _ (v t x : View) (list d head first : ℕ) (first_is : first ≡ head_fir
       ∙ get_or-set_other v.volatile (link_word d) (anchor_word d) (Some first) None (λ same. omega (arith, same)) ∙ shows)
 
   -- it may go to the list of the free ones, or to that of its class
-  pub may_free : IsEmptyClaim v d → Has v → CanList x d 0
+  pub may_free : IsEmptyClaim v d → HasSoundState v → CanList x d 0
   may_free empty has = as_free (freely_still (with_link v d first) x d link_kept (let free = freely_empty v has d empty in record { claimed = free.claimed; not_cutting = free.not_cutting })) (shows_empty x d (empty_then empty))
 
   pub claim_kept : 0 < times_classed d v.classed → 0 < times_classed d x.classed
@@ -286,7 +286,7 @@ module _ (v t x : View) (list d head first : ℕ) (first_is : first ≡ head_fir
   pub may_class : (class : ℕ) → IsClaimOf class d v → CanList x d class
   may_class class claim = of_its_class class claim.is_class (claim_kept claim.claimed) (ap (claim_class d) link_kept.classed ∙ claim.of)
 
-  pub not_pushed_later : (refusal : Refusal) (w : View) → IsNotPushed refusal x w → PushesNone d refusal v w
+  pub not_pushed_later : (refusal : NotDone) (w : View) → IsNotPushed refusal x w → PushesNone d refusal v w
   not_pushed_later Nothing w none = none
   not_pushed_later (Lost found) w lost = (
     first,
@@ -300,15 +300,15 @@ module _ (v t x : View) (list d head first : ℕ) (first_is : first ≡ head_fir
   not_pushed_later (Stopped e) w stop = inr (first, stopped_later (with_link v d first) x w e.step link_kept stop)
 
 -- what a call tells, of an earlier view
-pub ok_later : {P Q : Type 0} (result : Result ⊤ Refusal) → (P → Q) → OnOk result P → OnOk result Q
+pub ok_later : {P Q : Type 0} (result : Result ⊤ NotDone) → (P → Q) → OnOk result P → OnOk result Q
 ok_later (Ok x) later p = later p
 ok_later (Err e) later p = tt
 
-pub err_later : {A : Type 0} {P Q : Refusal → Type 0} (result : Result A Refusal) → ((refusal : Refusal) → P refusal → Q refusal) → IfErr result P → IfErr result Q
+pub err_later : {A : Type 0} {P Q : NotDone → Type 0} (result : Result A NotDone) → ((refusal : NotDone) → P refusal → Q refusal) → IfErr result P → IfErr result Q
 err_later (Ok x) later p = tt
 err_later (Err e) later p = later e p
 
-pub if_ok_later : {A : Type 0} {P Q : A → Type 0} (result : Result A Refusal) → ((x : A) → P x → Q x) → IfOk result P → IfOk result Q
+pub if_ok_later : {A : Type 0} {P Q : A → Type 0} (result : Result A NotDone) → ((x : A) → P x → Q x) → IfOk result P → IfOk result Q
 if_ok_later (Ok x) later p = later x p
 if_ok_later (Err e) later p = tt
 

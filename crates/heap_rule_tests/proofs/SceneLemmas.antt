@@ -11,17 +11,17 @@ use Rattle.core_model.proofs.PlaceLemmas.{pick}
 use Rattle.core_model.proofs.BlockLemmas.{first_there}
 use Rattle.core_model.proofs.TotalLemmas.{eq-eqb-one}
 use Rattle.heap_rule.specs.Parts.{KeepsParts}
-use Rattle.heap_rule.specs.Plays.{Has}
+use Rattle.heap_rule.specs.Plays.{HasSoundState}
 use Rattle.heap_rule.specs.Shown.{CanLift}
 use Rattle.heap_rule.proofs.ViewLemmas.{block_range}
-use Rattle.heap_rule_tests.specs.declared.refusal.Refusal.{Refusal}
-use Rattle.heap_rule_tests.specs.declared.refusal.Refusal.TheVariants.{Nothing, Lost, Stopped}
+use Rattle.heap_rule_tests.specs.declared.refusal.NotDone.{NotDone}
+use Rattle.heap_rule_tests.specs.declared.refusal.NotDone.TheVariants.{Nothing, Lost, Stopped}
 use Rattle.heap_rule_tests.specs.Batches.{GivesNone, HasGiven, HasLifted, IsBatchOf, IsNotGiven, with_last}
 use Rattle.heap_rule_tests.specs.Caches.{HasFilled}
 use Rattle.heap_rule_tests.specs.Partials.{HasSeenAnchor, HasTakenBlocks, TakesNoBlocks}
 use Rattle.heap_rule_tests.specs.Pops.{HasPoppedFrom}
 use Rattle.heap_rule_tests.specs.Pushes.{HasPushedOfClass, IsClaimOf}
-use Rattle.heap_rule_tests.specs.Scenes.{HasGivenOne, HasLiftedOne, IsFresh, IsIdle}
+use Rattle.heap_rule_tests.specs.Scenes.{HasGivenOne, HasLiftedOne, HasNoSpareBlocks, IsIdle}
 use Rattle.heap_rule_tests.proofs.PartialLemmas.{claim_still}
 
 is_20 : IsClass 20
@@ -47,7 +47,7 @@ may_lift v idle some = record {
   no more = let e = ap length idle.batch in omega (arith, more)
 
 -- the first cached block begins among the words of superblocks
-pub first_from : (v : View) → Has v → 1 ≤ length (of_class v.caches 20) → start_word v.setup.capacity 0 ≤ first_of (of_class v.caches 20)
+pub first_from : (v : View) → HasSoundState v → 1 ≤ length (of_class v.caches 20) → start_word v.setup.capacity 0 ≤ first_of (of_class v.caches 20)
 first_from v has some = (block_range v has (first_of (of_class v.caches 20))
     (let there = first_there (of_class v.caches 20) some in let all = in_lists_total (first_of (of_class v.caches 20)) 20 v.caches there in omega arith)).0
 
@@ -88,16 +88,16 @@ given_one t w d block false gives = record {
 pub popped_claim : (v w : View) (d : ℕ) → HasPoppedFrom 20 d v w → IsClaimOf 20 d w
 popped_claim v w d popped = claimed_now d v.classed w popped.parts.classed
 
-pub popped_uncached : (v w : View) (d : ℕ) → IsFresh v → HasPoppedFrom 20 d v w → of_class w.caches 20 ≡ []
+pub popped_uncached : (v w : View) (d : ℕ) → HasNoSpareBlocks v → HasPoppedFrom 20 d v w → of_class w.caches 20 ≡ []
 popped_uncached v w d fresh popped = ap (λ l. of_class l 20) popped.parts.caches ∙ fresh.caches 20
 
-pub taken_idle : (v t w : View) (d count : ℕ) → IsFresh v → HasPoppedFrom 20 d v t → HasTakenBlocks d 20 count t w → IsIdle w
+pub taken_idle : (v t w : View) (d count : ℕ) → HasNoSpareBlocks v → HasPoppedFrom 20 d v t → HasTakenBlocks d 20 count t w → IsIdle w
 taken_idle v t w d count fresh popped taken = record {
   going = taken.going;
   batch = ap (λ b. b.blocks) (taken.parts.batch ∙ popped.parts.batch) ∙ fresh.batch;
 }
 
-pub filled_idle : (v w : View) (d : ℕ) → IsFresh v → HasFilled d 20 v w → IsIdle w
+pub filled_idle : (v w : View) (d : ℕ) → HasNoSpareBlocks v → HasFilled d 20 v w → IsIdle w
 filled_idle v w d fresh filled = record { going = filled.going; batch = ap (λ b. b.blocks) filled.batch ∙ fresh.batch }
 
 pub pushed_idle : (v w : View) (d : ℕ) → IsIdle v → HasPushedOfClass d v w → IsIdle w
@@ -118,23 +118,23 @@ looked_batch v w d e block anchor seen batch = batch_same v w d block seen.parts
 pub may_look_batch : (v : View) (d block : ℕ) → IsBatchOf d 20 block v → MayLookAt v d
 may_look_batch v d block batch = inr (batch.descriptor, batch.some)
 
-kept_batch : (refusal : Refusal) (v w : View) (d block : ℕ) → IsNotGiven refusal v w → IsBatchOf d 20 block v → IsBatchOf d 20 block w
+kept_batch : (refusal : NotDone) (v w : View) (d block : ℕ) → IsNotGiven refusal v w → IsBatchOf d 20 block v → IsBatchOf d 20 block w
 kept_batch Nothing v w d block none batch = absurd none
 kept_batch (Lost word) v w d block lost batch = batch_same v w d block lost.parts batch
 kept_batch (Stopped e) v w d block stop batch = batch_same v w d block stop.parts batch
 
-pub late_batch : (refusal : Refusal) (v w : View) (d block : ℕ) → GivesNone block refusal v w → IsBatchOf d 20 block v → IsBatchOf d 20 block w
+pub late_batch : (refusal : NotDone) (v w : View) (d block : ℕ) → GivesNone block refusal v w → IsBatchOf d 20 block v → IsBatchOf d 20 block w
 late_batch refusal v w d block (inl none) batch = kept_batch refusal v w d block none batch
 late_batch refusal v w d block (inr none) batch = kept_batch refusal (with_last v block none.0) w d block none.1
     (record { descriptor = batch.descriptor; class_is = batch.class_is; some = batch.some; last_is = batch.last_is })
 
-pub late_parts : (refusal : Refusal) (v w : View) (d : ℕ) → TakesNoBlocks d refusal v w → KeepsParts v w
+pub late_parts : (refusal : NotDone) (v w : View) (d : ℕ) → TakesNoBlocks d refusal v w → KeepsParts v w
 late_parts Nothing v w d free = free.parts
 late_parts (Lost word) v w d lost = lost.parts
 late_parts (Stopped e) v w d stop = stop.parts
 
-pub late_claim : (refusal : Refusal) (v w : View) (d : ℕ) → TakesNoBlocks d refusal v w → IsClaimOf 20 d v → IsClaimOf 20 d w
+pub late_claim : (refusal : NotDone) (v w : View) (d : ℕ) → TakesNoBlocks d refusal v w → IsClaimOf 20 d v → IsClaimOf 20 d w
 late_claim refusal v w d none claim = claim_still v w d 20 (late_parts refusal v w d none) claim
 
-pub late_uncached : (refusal : Refusal) (v w : View) (d : ℕ) → TakesNoBlocks d refusal v w → of_class v.caches 20 ≡ [] → of_class w.caches 20 ≡ []
+pub late_uncached : (refusal : NotDone) (v w : View) (d : ℕ) → TakesNoBlocks d refusal v w → of_class v.caches 20 ≡ [] → of_class w.caches 20 ≡ []
 late_uncached refusal v w d none empty = ap (λ l. of_class l 20) (late_parts refusal v w d none).caches ∙ empty

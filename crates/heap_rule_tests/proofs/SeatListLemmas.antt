@@ -10,7 +10,7 @@ use Rattle.core_model.specs.View.{Setup, View, of_class}
 use Rattle.heap_rule.specs.Seated.{SharedView, SeatView, IsSeatOf}
 use Rattle.heap_rule.specs.Seats.{AreOpenedSeats, AreSeatsOf}
 use Rattle.heap_rule_tests.specs.Caches.{AreEmpty}
-use Rattle.heap_rule_tests.specs.Scenes.{AreFresh, IsFresh}
+use Rattle.heap_rule_tests.specs.Scenes.{HaveNoSpareBlocks, HasNoSpareBlocks}
 
 pub seat_there : (shared : SharedView) (seats : List SeatView) (i : ℕ) (seat : SeatView) → AreSeatsOf shared seats → i < length seats → seat ≡ get_or seats i seat → IsSeatOf shared seat
 seat_there shared seats i seat all less at = all.each seat (i, less, sym at)
@@ -49,7 +49,7 @@ pair_of shared first second two one other = record { count = sym two; each = λ 
 
 -- no batch either
 pub opened_fresh : (shared : SharedView) (setup : Setup) (held : List Block) (block_owners root_owners : List ℕ) (seats : List SeatView)
-    → AreOpenedSeats shared (opened_view setup held block_owners root_owners) seats → AreFresh seats
+    → AreOpenedSeats shared (opened_view setup held block_owners root_owners) seats → HaveNoSpareBlocks seats
 opened_fresh shared setup held block_owners root_owners seats opened = record {
   each = λ seat p. record {
     caches = λ class. ap (λ (v : View). of_class v.caches class) (opened.each p.0 seat p.1 p.2).1 ∙ none_among 21 class;
@@ -71,8 +71,8 @@ last_seat shared all rest last are split = are.each last (last_in all rest last 
 pub other_seat : (shared : SharedView) (all rest fewer : List SeatView) (last other : SeatView) → AreSeatsOf shared all → all ≡ rest ++ last ∷ [] → rest ≡ fewer ++ other ∷ [] → IsSeatOf shared other
 other_seat shared all rest fewer last other are split again = are.each other (other_in all rest fewer last other split again)
 
-pub last_fresh : (all rest : List SeatView) (last : SeatView) → AreFresh all → all ≡ rest ++ last ∷ [] → IsFresh last.view
+pub last_fresh : (all rest : List SeatView) (last : SeatView) → HaveNoSpareBlocks all → all ≡ rest ++ last ∷ [] → HasNoSpareBlocks last.view
 last_fresh all rest last are split = are.each last (last_in all rest last split)
 
-pub other_fresh : (all rest fewer : List SeatView) (last other : SeatView) → AreFresh all → all ≡ rest ++ last ∷ [] → rest ≡ fewer ++ other ∷ [] → IsFresh other.view
+pub other_fresh : (all rest fewer : List SeatView) (last other : SeatView) → HaveNoSpareBlocks all → all ≡ rest ++ last ∷ [] → rest ≡ fewer ++ other ∷ [] → HasNoSpareBlocks other.view
 other_fresh all rest fewer last other are split again = are.each other (other_in all rest fewer last other split again)

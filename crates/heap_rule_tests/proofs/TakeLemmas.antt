@@ -7,9 +7,9 @@ use Rattle.heap_rule.specs.Parts.{KeepsParts}
 use Rattle.heap_rule.specs.Plays.{IsEvent}
 use Rattle.heap_rule.proofs.LeftLemmas.{fresh_won, fresh_lost}
 use Rattle.heap_rule.proofs.PartLemmas.{one_more}
-use Rattle.heap_rule_tests.specs.declared.refusal.Refusal.{Refusal}
-use Rattle.heap_rule_tests.specs.declared.refusal.Refusal.TheVariants.{Nothing, Lost, Stopped}
-use Rattle.heap_rule_tests.specs.Draws.{HasDrawn, HasStopped}
+use Rattle.heap_rule_tests.specs.declared.refusal.NotDone.{NotDone}
+use Rattle.heap_rule_tests.specs.declared.refusal.NotDone.TheVariants.{Nothing, Lost, Stopped}
+use Rattle.heap_rule_tests.specs.Draws.{HasDrawn, HasStoppedAt}
 use Rattle.heap_rule_tests.specs.Takes.{HasFresh, HasKept, HasLostMark, HasSeenMark, HasTaken, IsNotTaken, TakesNone, with_fresh}
 
 -- of the view with a ticket in hand
@@ -51,7 +51,7 @@ mark_lost v u w found drawn event other =
     lost_from v w drawn.ticket drawn.went (fresh_lost 1 u w found event other ∙ ap (λ (x : View). record (lost x) { seen_used = None }) drawn.left)
 
 -- why there is none, said of an earlier view
-pub not_taken_later : (refusal : Refusal) (v u w : View) (used : ℕ) → HasSeenMark used v u → IsNotTaken refusal u w → IsNotTaken refusal v w
+pub not_taken_later : (refusal : NotDone) (v u w : View) (used : ℕ) → HasSeenMark used v u → IsNotTaken refusal u w → IsNotTaken refusal v w
 not_taken_later Nothing v u w used seen full = record {
   parts = one_more v u w seen.parts full.parts;
   going = full.going;
@@ -94,13 +94,13 @@ taken_then v t u w d p fresh kept = record {
   durable = let low = kept.durable in omega arith;
 }
 
-pub none_taken : (refusal : Refusal) (v w : View) → IsNotTaken refusal v w → TakesNone refusal v w
+pub none_taken : (refusal : NotDone) (v w : View) → IsNotTaken refusal v w → TakesNone refusal v w
 none_taken Nothing v w full = full
 none_taken (Lost found) v w lost = lost
 none_taken (Stopped e) v w stop = inl stop
 
 -- stopped before the mark is durable
-pub stopped_with : (v t u w : View) (d step : ℕ) → KeepsParts v t → HasFresh d t u → HasStopped step u w → HasStopped step (with_fresh v d) w
+pub stopped_with : (v t u w : View) (d step : ℕ) → KeepsParts v t → HasFresh d t u → HasStoppedAt step u w → HasStoppedAt step (with_fresh v d) w
 stopped_with v t u w d step p fresh stop = record {
   parts = one_more (with_fresh v d) u w (one_more (with_fresh v d) (with_fresh t d) u (fresh_keeps v t d p) fresh.parts) stop.parts;
   at = stop.at;

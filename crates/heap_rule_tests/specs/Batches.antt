@@ -5,9 +5,9 @@ use Rattle.core_model.specs.Effects.{after_lift, first_of, last_of, learn, trimm
 use Rattle.core_model.specs.View.{View, no_batch, of_class}
 use Rattle.heap_rule.specs.Parts.{KeepsParts}
 use Rattle.heap_rule.specs.Shown.{Shows}
-use Rattle.heap_rule_tests.specs.declared.refusal.Refusal.{Refusal}
-use Rattle.heap_rule_tests.specs.declared.refusal.Refusal.TheVariants.{Nothing, Lost, Stopped}
-use Rattle.heap_rule_tests.specs.Draws.{HasStopped}
+use Rattle.heap_rule_tests.specs.declared.refusal.NotDone.{NotDone}
+use Rattle.heap_rule_tests.specs.declared.refusal.NotDone.TheVariants.{Nothing, Lost, Stopped}
+use Rattle.heap_rule_tests.specs.Draws.{HasStoppedAt}
 use Rattle.heap_rule_tests.specs.Partials.{HasLostAnchor}
 use Rattle.heap_rule_tests.specs.Pops.{with_claim}
 
@@ -52,11 +52,11 @@ HasGiven d class last true v w = GivesSeen d class true v w
 HasGiven d class last false v w = (first : ℕ) × GivesSeen d class false (with_last v last first) w
 
 -- why the batch was not given: the seat has its parts in each case
-abbrev pub IsNotGiven : Refusal → View → View → Type 0
+abbrev pub IsNotGiven : NotDone → View → View → Type 0
 IsNotGiven Nothing v w = ⊥
 IsNotGiven (Lost found) v w = HasLostAnchor v w
-IsNotGiven (Stopped e) v w = HasStopped e.step v w
+IsNotGiven (Stopped e) v w = HasStoppedAt e.step v w
 
 -- the same of the whole row, by which the last block may lead to the first free one already
-abbrev pub GivesNone : ℕ → Refusal → View → View → Type 0
+abbrev pub GivesNone : ℕ → NotDone → View → View → Type 0
 GivesNone last refusal v w = IsNotGiven refusal v w ⊎ ((first : ℕ) × IsNotGiven refusal (with_last v last first) w)

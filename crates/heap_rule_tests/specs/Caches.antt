@@ -5,8 +5,8 @@ use Rattle.core_model.specs.Effects.{after_alloc, class_blocks, first_of}
 use Rattle.core_model.specs.View.{View, of_class}
 use Rattle.heap_rule.specs.Parts.{KeepsParts}
 use Rattle.heap_rule.specs.Seated.{SeatView}
-use Rattle.heap_rule_tests.specs.declared.refusal.Refusal.{Refusal}
-use Rattle.heap_rule_tests.specs.declared.refusal.Refusal.TheVariants.{Nothing, Lost, Stopped}
+use Rattle.heap_rule_tests.specs.declared.refusal.NotDone.{NotDone}
+use Rattle.heap_rule_tests.specs.declared.refusal.NotDone.TheVariants.{Nothing, Lost, Stopped}
 use Rattle.heap_rule_tests.specs.Takes.{IsFull, HasLostMark}
 
 -- the first block of the cache is held
@@ -30,7 +30,7 @@ pub record HasFilled (d class : ℕ) (v w : View) : Type 0 where
   pub floor : v.floor ≤ w.floor
 
 -- why the cache is as it was: but a seat that stopped may have claimed a superblock
-abbrev pub FillsNone : Refusal → View → View → Type 0
+abbrev pub FillsNone : NotDone → View → View → Type 0
 FillsNone Nothing v w = IsFull v w
 FillsNone (Lost found) v w = HasLostMark v w
 FillsNone (Stopped e) v w = w.stopped ≡ Some e.step

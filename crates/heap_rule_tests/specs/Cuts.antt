@@ -45,7 +45,7 @@ pub record HasLinks (d class : ℕ) (v w : View) : Type 0 where
   pub links : ShowsLinks w (class_blocks v.setup.capacity class d)
 
 -- it holds the same blocks, and owns the same roots
-pub record KeepsHeld (v w : View) : Type 0 where
+pub record KeepsHeldBlocks (v w : View) : Type 0 where
   pub small : w.small ≡ v.small
   pub large : w.large ≡ v.large
   pub roots : w.roots ≡ v.roots

@@ -12,7 +12,7 @@ pub record HasDrawn (v w : View) : Type 0 where
   pub going : w.stopped ≡ None
 
 -- the seat has stopped at the step, now or before, which is not below the budget, and has its parts
-pub record HasStopped (step : ℕ) (v w : View) : Type 0 where
+pub record HasStoppedAt (step : ℕ) (v w : View) : Type 0 where
   pub parts : KeepsParts v w
   pub at : w.stopped ≡ Some step
   pub budget : v.setup.budget ≤ step

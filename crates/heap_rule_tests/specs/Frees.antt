@@ -6,7 +6,7 @@ use Rattle.core_model.specs.Effects.{after_free, first_of, learn}
 use Rattle.core_model.specs.View.{View, of_class}
 use Rattle.heap_rule.specs.Parts.{KeepsParts}
 use Rattle.heap_rule.specs.Shown.{Shows}
-use Rattle.heap_rule_tests.specs.Draws.{HasStopped}
+use Rattle.heap_rule_tests.specs.Draws.{HasStoppedAt}
 
 -- what is known of words once a block leads to the first one of a cache, where there is one
 abbrev pub linked_before : List ℕ → ℕ → List (Option ℕ) → List (Option ℕ)
@@ -31,4 +31,4 @@ pub record HasFreed (block class : ℕ) (v w : View) : Type 0 where
 
 -- a seat that stopped has its parts, and the block may lead to the first one of the cache already
 abbrev pub FreesNone : ℕ → ℕ → ℕ → View → View → Type 0
-FreesNone block class step v w = HasStopped step v w ⊎ HasStopped step (with_way v class block) w
+FreesNone block class step v w = HasStoppedAt step v w ⊎ HasStoppedAt step (with_way v class block) w

@@ -4,9 +4,9 @@ use Rattle.core_model.specs.Effects.{trimmed, without_claim}
 use Rattle.core_model.specs.View.{Snapshot, View, of_class}
 use Rattle.heap_rule.specs.Parts.{KeepsParts}
 use Rattle.heap_rule.specs.Shown.{ShowsEmpty}
-use Rattle.heap_rule_tests.specs.declared.refusal.Refusal.{Refusal}
-use Rattle.heap_rule_tests.specs.declared.refusal.Refusal.TheVariants.{Nothing, Lost, Stopped}
-use Rattle.heap_rule_tests.specs.Draws.{HasStopped}
+use Rattle.heap_rule_tests.specs.declared.refusal.NotDone.{NotDone}
+use Rattle.heap_rule_tests.specs.declared.refusal.NotDone.TheVariants.{Nothing, Lost, Stopped}
+use Rattle.heap_rule_tests.specs.Draws.{HasStoppedAt}
 
 -- what is seen of a superblock whose anchor is this word
 abbrev pub anchor_seen : ℕ → ℕ → Option Snapshot
@@ -51,7 +51,7 @@ pub record HasLostAnchor (v w : View) : Type 0 where
   pub losses : w.losses ≡ v.losses + 1
 
 -- why no blocks were taken: the seat has its parts in each case
-abbrev pub TakesNoBlocks : ℕ → Refusal → View → View → Type 0
+abbrev pub TakesNoBlocks : ℕ → NotDone → View → View → Type 0
 TakesNoBlocks d Nothing v w = IsAllFree d v w
 TakesNoBlocks d (Lost found) v w = HasLostAnchor v w
-TakesNoBlocks d (Stopped e) v w = HasStopped e.step v w
+TakesNoBlocks d (Stopped e) v w = HasStoppedAt e.step v w

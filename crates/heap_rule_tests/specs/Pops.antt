@@ -4,9 +4,9 @@ use Rattle.heap_model.specs.Words.{head_first}
 use Rattle.core_model.specs.Guards.{IsThere}
 use Rattle.core_model.specs.View.{Snapshot, View}
 use Rattle.heap_rule.specs.Parts.{KeepsParts}
-use Rattle.heap_rule_tests.specs.declared.refusal.Refusal.{Refusal}
-use Rattle.heap_rule_tests.specs.declared.refusal.Refusal.TheVariants.{Nothing, Lost, Stopped}
-use Rattle.heap_rule_tests.specs.Draws.{HasStopped}
+use Rattle.heap_rule_tests.specs.declared.refusal.NotDone.{NotDone}
+use Rattle.heap_rule_tests.specs.declared.refusal.NotDone.TheVariants.{Nothing, Lost, Stopped}
+use Rattle.heap_rule_tests.specs.Draws.{HasStoppedAt}
 
 -- what is seen of a list where its head is this word: list 0 has the free superblocks, any other those of a class with free blocks
 abbrev pub list_head : ℕ → ℕ → Option Snapshot
@@ -73,10 +73,10 @@ pub record HasLostHead (v w : View) : Type 0 where
   pub losses : w.losses ≡ v.losses + 1
 
 -- why there is no superblock of the list: the seat has its parts in each case
-abbrev pub IsNotPoppedFrom : ℕ → Refusal → View → View → Type 0
+abbrev pub IsNotPoppedFrom : ℕ → NotDone → View → View → Type 0
 IsNotPoppedFrom list Nothing v w = IsEmptyList list v w
 IsNotPoppedFrom list (Lost found) v w = HasLostHead v w
-IsNotPoppedFrom list (Stopped e) v w = HasStopped e.step v w
+IsNotPoppedFrom list (Stopped e) v w = HasStoppedAt e.step v w
 
-abbrev pub IsNotPopped : Refusal → View → View → Type 0
+abbrev pub IsNotPopped : NotDone → View → View → Type 0
 IsNotPopped refusal v w = IsNotPoppedFrom 0 refusal v w

@@ -9,9 +9,9 @@ use Rattle.core_model.specs.Effects.{claim_class, learn, trimmed, without_claim}
 use Rattle.core_model.specs.View.{View, times_classed}
 use Rattle.heap_rule.specs.Parts.{KeepsParts}
 use Rattle.heap_rule.specs.Shown.{Shows}
-use Rattle.heap_rule_tests.specs.declared.refusal.Refusal.{Refusal}
-use Rattle.heap_rule_tests.specs.declared.refusal.Refusal.TheVariants.{Nothing, Lost, Stopped}
-use Rattle.heap_rule_tests.specs.Draws.{HasStopped}
+use Rattle.heap_rule_tests.specs.declared.refusal.NotDone.{NotDone}
+use Rattle.heap_rule_tests.specs.declared.refusal.NotDone.TheVariants.{Nothing, Lost, Stopped}
+use Rattle.heap_rule_tests.specs.Draws.{HasStoppedAt}
 use Rattle.heap_rule_tests.specs.Pops.{HasLostHead, list_head}
 
 -- all blocks of the superblock, which is claimed without a class, are free: since it is raw, or was split and its own anchor says so
@@ -61,13 +61,13 @@ pub record IsClaimOf (class d : ℕ) (v : View) : Type 0 where
   pub of : claim_class d v.classed ≡ class
 
 -- why it was not pushed: the seat has its parts in each case
-abbrev pub IsNotPushed : Refusal → View → View → Type 0
+abbrev pub IsNotPushed : NotDone → View → View → Type 0
 IsNotPushed Nothing v w = ⊥
 IsNotPushed (Lost found) v w = HasLostHead v w
-IsNotPushed (Stopped e) v w = HasStopped e.step v w
+IsNotPushed (Stopped e) v w = HasStoppedAt e.step v w
 
 -- the same of the whole row, whose superblock may lead to the first of the list already
-abbrev pub PushesNone : ℕ → Refusal → View → View → Type 0
+abbrev pub PushesNone : ℕ → NotDone → View → View → Type 0
 PushesNone d Nothing v w = ⊥
 PushesNone d (Lost found) v w = (first : ℕ) × HasLostHead (with_link v d first) w
-PushesNone d (Stopped e) v w = HasStopped e.step v w ⊎ ((first : ℕ) × HasStopped e.step (with_link v d first) w)
+PushesNone d (Stopped e) v w = HasStoppedAt e.step v w ⊎ ((first : ℕ) × HasStoppedAt e.step (with_link v d first) w)

@@ -6,13 +6,13 @@ use Rattle.heap_rule_tests.specs.Batches.{HasLifted, IsBatchOf}
 use Rattle.heap_rule_tests.specs.Pushes.{IsClaimOf}
 
 -- the seat has no cached blocks, and none in its batch
-pub record IsFresh (v : View) : Type 0 where
+pub record HasNoSpareBlocks (v : View) : Type 0 where
   pub caches : (class : ℕ) → of_class v.caches class ≡ []
   pub batch : v.batch.blocks ≡ []
 
 -- each seat, as the heap is opened
-pub record AreFresh (seats : List SeatView) : Type 0 where
-  pub each : (seat : SeatView) → Contains seats seat → IsFresh seat.view
+pub record HaveNoSpareBlocks (seats : List SeatView) : Type 0 where
+  pub each : (seat : SeatView) → Contains seats seat → HasNoSpareBlocks seat.view
 
 -- a seat that has not stopped has no batch
 pub record IsIdle (v : View) : Type 0 where

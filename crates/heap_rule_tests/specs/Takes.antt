@@ -3,9 +3,9 @@ use Rattle.std.specs.Prelude.{◌≡◌, ◌≤◌, ◌<◌, ◌+◌, ◌⊎◌,
 use Rattle.core_model.specs.Effects.{learn_fresh}
 use Rattle.core_model.specs.View.{View}
 use Rattle.heap_rule.specs.Parts.{KeepsParts}
-use Rattle.heap_rule_tests.specs.declared.refusal.Refusal.{Refusal}
-use Rattle.heap_rule_tests.specs.declared.refusal.Refusal.TheVariants.{Nothing, Lost, Stopped}
-use Rattle.heap_rule_tests.specs.Draws.{HasStopped}
+use Rattle.heap_rule_tests.specs.declared.refusal.NotDone.{NotDone}
+use Rattle.heap_rule_tests.specs.declared.refusal.NotDone.TheVariants.{Nothing, Lost, Stopped}
+use Rattle.heap_rule_tests.specs.Draws.{HasStoppedAt}
 
 -- the mark was seen, and the seat has its parts
 pub record HasSeenMark (used : ℕ) (v w : View) : Type 0 where
@@ -55,13 +55,13 @@ pub record HasLostMark (v w : View) : Type 0 where
   pub losses : w.losses ≡ v.losses + 1
 
 -- why there is no superblock: the seat has its parts in each case
-abbrev pub IsNotTaken : Refusal → View → View → Type 0
+abbrev pub IsNotTaken : NotDone → View → View → Type 0
 IsNotTaken Nothing v w = IsFull v w
 IsNotTaken (Lost found) v w = HasLostMark v w
-IsNotTaken (Stopped e) v w = HasStopped e.step v w
+IsNotTaken (Stopped e) v w = HasStoppedAt e.step v w
 
 -- the same of the whole row: a seat that stops before the mark is durable may have the superblock
-abbrev pub TakesNone : Refusal → View → View → Type 0
+abbrev pub TakesNone : NotDone → View → View → Type 0
 TakesNone Nothing v w = IsFull v w
 TakesNone (Lost found) v w = HasLostMark v w
-TakesNone (Stopped e) v w = HasStopped e.step v w ⊎ ((d : ℕ) × HasStopped e.step (with_fresh v d) w)
+TakesNone (Stopped e) v w = HasStoppedAt e.step v w ⊎ ((d : ℕ) × HasStoppedAt e.step (with_fresh v d) w)

@@ -6,12 +6,12 @@ ghost use Rattle.heap_model.specs.Words.{full_anchor};
 ghost use Rattle.heap_rule.specs.Seated.{IsSeatOf};
 ghost use Rattle.heap_rule.specs.Shown.{CanGive, CanLift};
 ghost use Rattle.heap_rule_tests.specs.Batches.{GivesNone, GivesSeen, HasGiven, HasLifted, HasLinkedLast, IsBatchOf, IsNotGiven};
-ghost use Rattle.heap_rule_tests.specs.Draws.{HasStopped};
+ghost use Rattle.heap_rule_tests.specs.Draws.{HasStoppedAt};
 ghost use Rattle.heap_rule_tests.specs.Partials.{SeesAnchor};
 
 use crate::draws::draw;
 use crate::partials::look_anchor;
-use crate::refusal::Refusal;
+use crate::refusal::NotDone;
 use core_model::Shift;
 use crash_core::{anchor_after_take_all, first_free};
 use heap_rule::{Seat, Shared};
@@ -24,7 +24,7 @@ pub fn lift_cached(seat: &mut Seat, shared: &Shared, class: u8) -> Result<u64, S
     requires going { seat.old.view.stopped ≡ None }
     requires can { CanLift seat.old.view class }
     ensures lifted { IfOk result (λ block. HasLifted block class seat.old.view seat.new.view) }
-    ensures stopped { IfErr result (λ e. HasStopped e.step seat.old.view seat.new.view) }
+    ensures stopped { IfErr result (λ e. HasStoppedAt e.step seat.old.view seat.new.view) }
     ensures seat { IsSeatOf shared.now seat.new }
 {
     let (first, _) = seat.cache(shared, class);
@@ -42,7 +42,7 @@ fn link_last(seat: &mut Seat, shared: &Shared, last: u64, first: u64) -> Result<
     requires seat { IsSeatOf shared.now seat.old }
     requires batch { (d : ℕ) × ((class : ℕ) × IsBatchOf d class last seat.old.view) }
     ensures linked { OnOk result (HasLinkedLast last first seat.old.view seat.new.view) }
-    ensures stopped { IfErr result (λ e. HasStopped e.step seat.old.view seat.new.view) }
+    ensures stopped { IfErr result (λ e. HasStoppedAt e.step seat.old.view seat.new.view) }
     ensures seat { IsSeatOf shared.now seat.new }
 {
     seat.has_a_sound_state();
@@ -53,7 +53,7 @@ fn link_last(seat: &mut Seat, shared: &Shared, last: u64, first: u64) -> Result<
 
 /// Gives a batch whose superblock's anchor was seen, and whose last block leads to the first free
 /// one, where there is one.
-fn give_seen(seat: &mut Seat, shared: &Shared, d: u64) -> Result<(), Refusal>
+fn give_seen(seat: &mut Seat, shared: &Shared, d: u64) -> Result<(), NotDone>
     requires seat { IsSeatOf shared.now seat.old }
     requires can { CanGive seat.old.view d }
     ensures given { OnOk result (GivesSeen d seat.old.view.batch.class
@@ -65,7 +65,7 @@ fn give_seen(seat: &mut Seat, shared: &Shared, d: u64) -> Result<(), Refusal>
     draw(seat, shared)?;
     match seat.try_give(shared, d) {
         Ok(()) => Ok(()),
-        Err(found) => Err(Refusal::Lost { found }),
+        Err(found) => Err(NotDone::Lost { found }),
     }
 }
 
@@ -77,7 +77,7 @@ pub(crate) fn give_looked(
     class: u8,
     last: u64,
     anchor: u64,
-) -> Result<bool, Refusal>
+) -> Result<bool, NotDone>
     requires seat { IsSeatOf shared.now seat.old }
     requires batch { IsBatchOf d class last seat.old.view }
     requires sees { SeesAnchor d anchor seat.old.view }
@@ -108,7 +108,7 @@ pub fn give_batch(
     d: u64,
     class: u8,
     last: u64,
-) -> Result<bool, Refusal>
+) -> Result<bool, NotDone>
     requires seat { IsSeatOf shared.now seat.old }
     requires batch { IsBatchOf d class last seat.old.view }
     ensures given { IfOk result (λ full. HasGiven d class last full

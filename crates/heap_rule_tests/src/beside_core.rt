@@ -7,7 +7,7 @@ use crate::fixtures::{MANY, close_pair, opened, pair, recovered};
 use crate::giving::TRADED;
 use crate::scenes::trade;
 use core_model::{Event, Shift, StepAnswer};
-use line_memory::Chance;
+use line_memory::ConstantChance;
 use std::alloc::{AllocError, Global};
 use std::test::Fail;
 use super_block::{HEAD_WORD, LISTS};
@@ -176,16 +176,6 @@ fn played(alloc: Global, seats: usize) -> Result<Played, Fail>
     Ok((events, answers))
 }
 
-/// A source of nothing but 0.
-#[derive(Drop)]
-struct Zeros;
-
-impl Chance for Zeros {
-    fn draw(&mut self) -> u64 {
-        0
-    }
-}
-
 /// What a crash leaves of the durable words of one superblock, where it leaves 0 in heads, anchor
 /// and link.
 fn crashed(alloc: Global, kept: &[u64]) -> Result<Vec<u64>, AllocError> {
@@ -213,7 +203,7 @@ fn seats_do_what_the_core_does(rt: HostRuntime) -> Result<(), Fail> {
     let (table, mut a, mut b, seats) = pair(alloc, heap, MANY)?;
     assert_eq!(rt; trade(&mut a, &mut b, &table), Ok(TRADED));
     let left = close_pair(alloc, table, a, b, seats)?;
-    let image = core.image(alloc, &mut Zeros)?;
+    let image = core.image(alloc, &mut ConstantChance(0))?;
     assert!(rt; image == crashed(alloc, &left.kept)?);
     Ok(())
 }

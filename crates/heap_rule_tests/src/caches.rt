@@ -5,17 +5,17 @@ ghost use Rattle.heap_model.specs.Sizes.{IsClass};
 ghost use Rattle.core_model.specs.View.{of_class};
 ghost use Rattle.heap_rule.specs.Seated.{IsSeatOf};
 ghost use Rattle.heap_rule_tests.specs.Caches.{HasAllocated, HasFilled, FillsNone};
-ghost use Rattle.heap_rule_tests.specs.Draws.{HasStopped};
+ghost use Rattle.heap_rule_tests.specs.Draws.{HasStoppedAt};
 
 use crate::cuts::make_blocks;
-use crate::refusal::Refusal;
+use crate::refusal::NotDone;
 use crate::takes::take_one;
 use core_model::Shift;
 use heap_rule::{Seat, Shared};
 use line_memory::Stopped;
 
 /// Fills an empty cache with the blocks of a superblock that was never taken, which it answers.
-pub fn fill_cache(seat: &mut Seat, shared: &Shared, class: u8) -> Result<u64, Refusal>
+pub fn fill_cache(seat: &mut Seat, shared: &Shared, class: u8) -> Result<u64, NotDone>
     requires seat { IsSeatOf shared.now seat.old }
     requires class { IsClass class }
     requires empty { of_class seat.old.view.caches class ≡ [] }
@@ -36,7 +36,7 @@ pub fn alloc_cached(seat: &mut Seat, shared: &Shared, class: u8) -> Result<u64, 
     requires cached { 1 ≤ length (of_class seat.old.view.caches class) }
     ensures allocated { IfOk result (λ block. HasAllocated block class
         seat.old.view seat.new.view) }
-    ensures stopped { IfErr result (λ e. HasStopped e.step seat.old.view seat.new.view) }
+    ensures stopped { IfErr result (λ e. HasStoppedAt e.step seat.old.view seat.new.view) }
     ensures seat { IsSeatOf shared.now seat.new }
 {
     seat.has_a_sound_state();

@@ -8,8 +8,8 @@ ghost use Rattle.core_model.specs.Cells.{info_cell, superblock_at};
 ghost use Rattle.core_model.specs.View.{of_class, times_raw};
 ghost use Rattle.heap_rule.specs.Seated.{IsSeatOf};
 ghost use Rattle.heap_rule.specs.Shown.{Shows};
-ghost use Rattle.heap_rule_tests.specs.Cuts.{HasBegun, HasClass, HasLinked, HasLinks, HasMade, KeepsHeld};
-ghost use Rattle.heap_rule_tests.specs.Draws.{HasStopped};
+ghost use Rattle.heap_rule_tests.specs.Cuts.{HasBegun, HasClass, HasLinked, HasLinks, HasMade, KeepsHeldBlocks};
+ghost use Rattle.heap_rule_tests.specs.Draws.{HasStoppedAt};
 
 use crate::draws::draw;
 use core_model::Shift;
@@ -26,7 +26,7 @@ fn link_block(seat: &mut Seat, shared: &Shared, word: u64, value: u64) -> Result
     requires until { word < image_words seat.old.view.setup.capacity }
     requires raw { 0 < times_raw (superblock_at seat.old.view.setup.capacity word) seat.old.view }
     ensures linked { OnOk result (HasLinked word value seat.old.view seat.new.view) }
-    ensures stopped { IfErr result (λ e. HasStopped e.step seat.old.view seat.new.view) }
+    ensures stopped { IfErr result (λ e. HasStoppedAt e.step seat.old.view seat.new.view) }
     ensures seat { IsSeatOf shared.now seat.new }
 {
     seat.has_a_sound_state();
@@ -42,7 +42,7 @@ fn link_blocks(seat: &mut Seat, shared: &Shared, d: u64, class: u8) -> Result<()
     requires raw { 0 < times_raw d seat.old.view }
     requires info { Shows seat.old.view (info_cell d) class }
     ensures linked { OnOk result (HasLinks d class seat.old.view seat.new.view) }
-    ensures stopped { IfErr result (λ e. HasStopped e.step
+    ensures stopped { IfErr result (λ e. HasStoppedAt e.step
         (record seat.old.view { volatile = seat.new.view.volatile }) seat.new.view) }
     ensures seat { IsSeatOf shared.now seat.new }
 {
@@ -61,7 +61,7 @@ fn begin(seat: &mut Seat, shared: &Shared, d: u64) -> Result<(), Stopped>
     requires seat { IsSeatOf shared.now seat.old }
     requires raw { 0 < times d seat.old.view.raw }
     ensures begun { OnOk result (HasBegun d seat.old.view seat.new.view) }
-    ensures stopped { IfErr result (λ e. HasStopped e.step seat.old.view seat.new.view) }
+    ensures stopped { IfErr result (λ e. HasStoppedAt e.step seat.old.view seat.new.view) }
     ensures seat { IsSeatOf shared.now seat.new }
 {
     seat.has_a_sound_state();
@@ -77,7 +77,7 @@ pub(crate) fn set_info(seat: &mut Seat, shared: &Shared, d: u64, info: u64) -> R
     requires seat { IsSeatOf shared.now seat.old }
     requires raw { 0 < times_raw d seat.old.view }
     ensures set { OnOk result (HasClass d info seat.old.view seat.new.view) }
-    ensures stopped { IfErr result (λ e. HasStopped e.step seat.old.view seat.new.view) }
+    ensures stopped { IfErr result (λ e. HasStoppedAt e.step seat.old.view seat.new.view) }
     ensures seat { IsSeatOf shared.now seat.new }
 {
     seat.has_a_sound_state();
@@ -97,7 +97,7 @@ pub fn make_blocks(seat: &mut Seat, shared: &Shared, d: u64, class: u8) -> Resul
     requires durable { d < seat.old.view.floor }
     requires uncached { of_class seat.old.view.caches class ≡ [] }
     ensures made { OnOk result (HasMade d class seat.old.view seat.new.view) }
-    ensures held { KeepsHeld seat.old.view seat.new.view }
+    ensures held { KeepsHeldBlocks seat.old.view seat.new.view }
     ensures stopped { IfErr result (λ e. seat.new.view.stopped ≡ Some e.step) }
     ensures seat { IsSeatOf shared.now seat.new }
 {

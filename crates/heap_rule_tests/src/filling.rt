@@ -1,14 +1,14 @@
 //! A cache is filled from a superblock that was never taken, by one of two seats.
 
 use crate::fixtures::{MANY, fill_by, recovered, shared};
-use crate::refusal::Refusal;
+use crate::refusal::NotDone;
 use heap_rule::close_shared;
 use line_memory::Stopped;
 use std::test::Fail;
 
 /// The budget, what a seat is answered that fills its cache of class 20, with four blocks of 1,792
 /// words in a superblock, and words that are left: the mark, the info, the anchor, and the links.
-const FILLS: [(u64, Result<u64, Refusal>, &[(usize, u64)]); 3] = [
+const FILLS: [(u64, Result<u64, NotDone>, &[(usize, u64)]); 3] = [
     (
         MANY,
         Ok(0),
@@ -24,12 +24,12 @@ const FILLS: [(u64, Result<u64, Refusal>, &[(usize, u64)]); 3] = [
     // The last ticket goes with the cut.
     (
         8,
-        Err(Refusal::Stopped(Stopped { step: 8 })),
+        Err(NotDone::Stopped(Stopped { step: 8 })),
         &[(1_064, 20), (1_065, 2), (4_664, 6_456)],
     ),
     (
         6,
-        Err(Refusal::Stopped(Stopped { step: 6 })),
+        Err(NotDone::Stopped(Stopped { step: 6 })),
         &[(1_064, 20), (1_065, 2), (1_080, 2_872), (2_872, 0)],
     ),
 ];

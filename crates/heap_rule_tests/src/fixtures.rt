@@ -8,12 +8,12 @@ ghost use Rattle.heap_rule.specs.Seats.{AreSeatsOf};
 ghost use Rattle.heap_rule_tests.specs.Caches.{AreEmpty};
 ghost use Rattle.heap_rule_tests.specs.Pops.{SeesFirst};
 ghost use Rattle.heap_rule_tests.specs.Pushes.{IsEmptyClaim};
-ghost use Rattle.heap_rule_tests.specs.Scenes.{AreFresh, IsFresh};
+ghost use Rattle.heap_rule_tests.specs.Scenes.{HaveNoSpareBlocks, HasNoSpareBlocks};
 
 use crate::caches::fill_cache;
 use crate::pops::{pop_free, pop_seen};
 use crate::pushes::push_free;
-use crate::refusal::Refusal;
+use crate::refusal::NotDone;
 use crate::takes::take_one;
 use crash_core::{Core, Owners};
 use dictionary::{DictFilter, root_kinds};
@@ -73,7 +73,7 @@ pub fn shared(
     ensures all { IfOk result (λ r. AreSeatsOf r.0 r.1.items) }
     ensures count { IfOk result (λ r. length r.1.items ≡ seats) }
     ensures empty { IfOk result (λ r. AreEmpty r.1.items) }
-    ensures fresh { IfOk result (λ r. AreFresh r.1.items) }
+    ensures fresh { IfOk result (λ r. HaveNoSpareBlocks r.1.items) }
 {
     let held = in_turn(alloc, heap.held().len(), seats)?;
     let roots = in_turn(alloc, ROOTS as usize, seats)?;
@@ -93,7 +93,7 @@ pub fn opened(alloc: Global, heap: &Ready, seats: usize, budget: u64) -> Result<
 }
 
 /// A seat of the heap takes a superblock that was never taken.
-pub fn take_by(shared: &Shared, seats: &mut Vec<Seat>, who: usize) -> Result<u64, Refusal>
+pub fn take_by(shared: &Shared, seats: &mut Vec<Seat>, who: usize) -> Result<u64, NotDone>
     requires all { AreSeatsOf shared.now seats.old.items }
     requires who { who < length seats.old.items }
     ensures all { AreSeatsOf shared.now seats.new.items }
@@ -108,7 +108,7 @@ pub fn fill_by(
     seats: &mut Vec<Seat>,
     who: usize,
     class: u8,
-) -> Result<u64, Refusal>
+) -> Result<u64, NotDone>
     requires all { AreSeatsOf shared.now seats.old.items }
     requires who { who < length seats.old.items }
     requires class { IsClass class }
@@ -129,8 +129,8 @@ pub fn pair(
     ensures count { IfOk result (λ r. r.0.seats ≡ 2) }
     ensures first { IfOk result (λ r. IsSeatOf r.0 r.1) }
     ensures second { IfOk result (λ r. IsSeatOf r.0 r.2) }
-    ensures first_fresh { IfOk result (λ r. IsFresh r.1.view) }
-    ensures second_fresh { IfOk result (λ r. IsFresh r.2.view) }
+    ensures first_fresh { IfOk result (λ r. HasNoSpareBlocks r.1.view) }
+    ensures second_fresh { IfOk result (λ r. HasNoSpareBlocks r.2.view) }
     ensures none { IfOk result (λ r. r.3.items ≡ []) }
     ensures empty { IfOk result (λ r. vec_len r.3 ≡ 0) }
     ensures room { IfOk result (λ r. 2 ≤ vec_capacity r.3) }
@@ -169,8 +169,8 @@ pub fn close_pair(
 pub fn pop_looked(
     seat: &mut Seat,
     shared: &Shared,
-    looked: Result<u64, Refusal>,
-) -> Result<(), Refusal>
+    looked: Result<u64, NotDone>,
+) -> Result<(), NotDone>
     requires seat { IsSeatOf shared.now seat.old }
     requires seen { IfOk looked (λ d. SeesFirst 0 d seat.old.view) }
     ensures seat { IsSeatOf shared.now seat.new }
@@ -180,7 +180,7 @@ pub fn pop_looked(
 }
 
 /// A seat pops a superblock, which it may push again.
-pub fn pop_by(seat: &mut Seat, shared: &Shared) -> Result<u64, Refusal>
+pub fn pop_by(seat: &mut Seat, shared: &Shared) -> Result<u64, NotDone>
     requires seat { IsSeatOf shared.now seat.old }
     ensures empty { IfOk result (λ d. IsEmptyClaim seat.new.view d) }
     ensures durable { IfOk result (λ d. d < seat.new.view.floor) }
@@ -193,8 +193,8 @@ pub fn pop_by(seat: &mut Seat, shared: &Shared) -> Result<u64, Refusal>
 pub fn push_popped(
     seat: &mut Seat,
     shared: &Shared,
-    popped: Result<u64, Refusal>,
-) -> Result<(), Refusal>
+    popped: Result<u64, NotDone>,
+) -> Result<(), NotDone>
     requires seat { IsSeatOf shared.now seat.old }
     requires empty { IfOk popped (λ d. IsEmptyClaim seat.old.view d) }
     requires durable { IfOk popped (λ d. d < seat.old.view.floor) }

@@ -5,7 +5,7 @@ ghost use Rattle.heap_model.specs.Counting.{times};
 ghost use Rattle.heap_model.specs.Sizes.{IsClass};
 ghost use Rattle.core_model.specs.View.{of_class};
 ghost use Rattle.heap_rule.specs.Seated.{IsSeatOf};
-ghost use Rattle.heap_rule_tests.specs.Draws.{HasStopped};
+ghost use Rattle.heap_rule_tests.specs.Draws.{HasStoppedAt};
 ghost use Rattle.heap_rule_tests.specs.Frees.{FreesNone, HasFreed, HasWay};
 
 use crate::draws::draw;
@@ -20,7 +20,7 @@ fn lead_to_cache(seat: &mut Seat, shared: &Shared, block: u64, class: u8) -> Res
     requires class { IsClass class }
     requires held { 0 < times block (of_class seat.old.view.small class) }
     ensures way { OnOk result (HasWay block class seat.old.view seat.new.view) }
-    ensures stopped { IfErr result (λ e. HasStopped e.step seat.old.view seat.new.view) }
+    ensures stopped { IfErr result (λ e. HasStoppedAt e.step seat.old.view seat.new.view) }
     ensures seat { IsSeatOf shared.now seat.new }
 {
     seat.has_a_sound_state();

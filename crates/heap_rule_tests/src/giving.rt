@@ -1,7 +1,7 @@
 //! Blocks of one superblock are given back and taken by two seats of one thread.
 
 use crate::fixtures::{MANY, close_pair, pair, recovered};
-use crate::refusal::Refusal;
+use crate::refusal::NotDone;
 use crate::scenes::{Traded, trade};
 use line_memory::Stopped;
 use std::test::Fail;
@@ -15,8 +15,8 @@ const THREE_FREE: u64 = 25_769_803_785;
 /// What the seats are answered where none stops.
 pub const TRADED: Traded = (
     1,
-    (0, Refusal::Lost { found: ONE_FREE }, false),
-    (Refusal::Lost { found: THREE_FREE }, 3),
+    (0, NotDone::Lost { found: ONE_FREE }, false),
+    (NotDone::Lost { found: THREE_FREE }, 3),
 );
 
 /// Words that are left: the mark, the head of the list of the class, then info, anchor and link of
@@ -58,7 +58,7 @@ fn a_seat_stops_at_each_kind_of_draw_of_a_trade(rt: HostRuntime) -> Result<(), F
     for budget in STOPS {
         let heap = recovered(alloc, 1, &[])?;
         let (table, mut a, mut b, seats) = pair(alloc, heap, budget)?;
-        let stopped = Refusal::Stopped(Stopped { step: budget });
+        let stopped = NotDone::Stopped(Stopped { step: budget });
         assert_eq!(rt; trade(&mut a, &mut b, &table), Err(stopped), "{budget}");
         close_pair(alloc, table, a, b, seats)?;
     }

@@ -4,12 +4,12 @@ ghost use Rattle.std.specs.Prelude.{◌≡◌, ◌<◌, IfOk};
 ghost use Rattle.heap_model.specs.Counting.{times};
 ghost use Rattle.core_model.specs.View.{of_class};
 ghost use Rattle.heap_rule.specs.Seated.{IsSeatOf};
-ghost use Rattle.heap_rule_tests.specs.Scenes.{IsFresh};
+ghost use Rattle.heap_rule_tests.specs.Scenes.{HasNoSpareBlocks};
 
 use crate::caches::{alloc_cached, fill_cache};
 use crate::fixtures::{MANY, close_pair, pair, recovered};
 use crate::frees::free_block;
-use crate::refusal::Refusal;
+use crate::refusal::NotDone;
 use crate::scenes::{CLASS, block_at};
 use crate::stores::store_own;
 use heap_rule::{Seat, Shared};
@@ -18,16 +18,16 @@ use std::test::Fail;
 use super_block::Block;
 
 /// A seat fills its cache and holds the first block of it, whose first word it answers.
-fn hold_one(seat: &mut Seat, shared: &Shared) -> Result<u64, Refusal>
+fn hold_one(seat: &mut Seat, shared: &Shared) -> Result<u64, NotDone>
     requires seat { IsSeatOf shared.now seat.old }
-    requires fresh { IsFresh seat.old.view }
+    requires fresh { HasNoSpareBlocks seat.old.view }
     ensures held { IfOk result (λ block. 0 < times block (of_class seat.new.view.small 20)) }
     ensures seat { IsSeatOf shared.now seat.new }
 {
     fill_cache(seat, shared, CLASS)?;
     let (_, count) = seat.cache(shared, CLASS);
     if count == 0 {
-        return Err(Refusal::Nothing);
+        return Err(NotDone::Nothing);
     }
     let block = alloc_cached(seat, shared, CLASS)?;
     Ok(block)
@@ -57,9 +57,9 @@ fn store_durably(
 
 /// A seat holds a block, stores to it, and frees it. It answers the block, and which word it stored
 /// to last before that.
-fn hold_and_free(seat: &mut Seat, shared: &Shared) -> Result<(Block, Option<u64>), Refusal>
+fn hold_and_free(seat: &mut Seat, shared: &Shared) -> Result<(Block, Option<u64>), NotDone>
     requires seat { IsSeatOf shared.now seat.old }
-    requires fresh { IsFresh seat.old.view }
+    requires fresh { HasNoSpareBlocks seat.old.view }
     ensures seat { IsSeatOf shared.now seat.new }
 {
     let first = hold_one(seat, shared)?;
@@ -78,10 +78,10 @@ const HELD: Block = Block {
 /// The budget, what the seat is answered, and what loads see of the block's first word, and what a
 /// crash leaves: the block is held by the tenth ticket, stored to by the next, and linked to the
 /// next block and freed by the last two.
-const ROWS: [(u64, Result<(Block, Option<u64>), Refusal>, u64, u64); 4] = [
-    (10, Err(Refusal::Stopped(Stopped { step: 10 })), 2_864, 0),
-    (11, Err(Refusal::Stopped(Stopped { step: 11 })), 7, 7),
-    (12, Err(Refusal::Stopped(Stopped { step: 12 })), 2_864, 7),
+const ROWS: [(u64, Result<(Block, Option<u64>), NotDone>, u64, u64); 4] = [
+    (10, Err(NotDone::Stopped(Stopped { step: 10 })), 2_864, 0),
+    (11, Err(NotDone::Stopped(Stopped { step: 11 })), 7, 7),
+    (12, Err(NotDone::Stopped(Stopped { step: 12 })), 2_864, 7),
     (MANY, Ok((HELD, Some(HELD.first_word))), 2_864, 7),
 ];
 
@@ -114,9 +114,9 @@ impl Chance for Counted {
 }
 
 /// A seat stores to a held block, and draws by chance, also where it has stopped.
-fn store_by_chance(seat: &mut Seat, shared: &Shared, chance: &mut Counted) -> Result<(), Refusal>
+fn store_by_chance(seat: &mut Seat, shared: &Shared, chance: &mut Counted) -> Result<(), NotDone>
     requires seat { IsSeatOf shared.now seat.old }
-    requires fresh { IsFresh seat.old.view }
+    requires fresh { HasNoSpareBlocks seat.old.view }
     ensures seat { IsSeatOf shared.now seat.new }
 {
     let block = hold_one(seat, shared)?;

@@ -4,7 +4,7 @@ ghost use Rattle.std.specs.Prelude.{◌≡◌, ◌≤◌, ◌+◌, None, IfOk, O
 ghost use Rattle.heap_rule.specs.Parts.{KeepsParts};
 ghost use Rattle.core_model.specs.Guards.{MaySplit};
 ghost use Rattle.heap_rule.specs.Seated.{IsSeatOf};
-ghost use Rattle.heap_rule_tests.specs.Draws.{HasStopped};
+ghost use Rattle.heap_rule_tests.specs.Draws.{HasStoppedAt};
 ghost use Rattle.heap_rule_tests.specs.Large.{AreClaimed, HasLarge, HasSplit, HaveInfos, info_in, with_known};
 
 use crate::cuts::set_info;
@@ -31,7 +31,7 @@ fn set_infos(seat: &mut Seat, shared: &Shared, d: u64, n: u64) -> Result<(), Sto
     ensures set { OnOk result (HaveInfos d n (d + n) seat.new.view
         × KeepsParts (with_known seat.old.view seat.new.view) seat.new.view
         × (seat.new.view.stopped ≡ None)) }
-    ensures stopped { IfErr result (λ e. HasStopped e.step
+    ensures stopped { IfErr result (λ e. HasStoppedAt e.step
         (with_known seat.old.view seat.new.view) seat.new.view) }
     ensures seat { IsSeatOf shared.now seat.new }
 {
@@ -47,7 +47,7 @@ pub fn hold_large(seat: &mut Seat, shared: &Shared, d: u64, n: u64) -> Result<u6
     requires seat { IsSeatOf shared.now seat.old }
     requires claimed { AreClaimed d n seat.old.view }
     ensures held { IfOk result (λ block. HasLarge d n block seat.old.view seat.new.view) }
-    ensures stopped { IfErr result (λ e. HasStopped e.step
+    ensures stopped { IfErr result (λ e. HasStoppedAt e.step
         (with_known seat.old.view seat.new.view) seat.new.view) }
     ensures seat { IsSeatOf shared.now seat.new }
 {
@@ -62,7 +62,7 @@ pub fn split_large(seat: &mut Seat, shared: &Shared, block: u64) -> Result<(), S
     requires seat { IsSeatOf shared.now seat.old }
     requires may { MaySplit seat.old.view block }
     ensures split { OnOk result (HasSplit block seat.old.view seat.new.view) }
-    ensures stopped { IfErr result (λ e. HasStopped e.step seat.old.view seat.new.view) }
+    ensures stopped { IfErr result (λ e. HasStoppedAt e.step seat.old.view seat.new.view) }
     ensures seat { IsSeatOf shared.now seat.new }
 {
     seat.has_a_sound_state();

@@ -24,7 +24,7 @@ pub use large::{hold_large, split_large};
 pub use partials::take_free_blocks;
 pub use pops::{pop_class, pop_free};
 pub use pushes::{push_class, push_free};
-pub use refusal::Refusal;
+pub use refusal::NotDone;
 pub use stores::{load_own, store_own};
 pub use takes::take_one;
 

@@ -2,7 +2,7 @@
 
 use crate::fixtures::{MANY, Words, close_pair, pair, pop_by, pop_looked, push_popped, recovered};
 use crate::pops::{FREE_LIST, look_first, look_list, pop_free};
-use crate::refusal::Refusal;
+use crate::refusal::NotDone;
 use line_memory::Stopped;
 use std::test::Fail;
 use super_block::HEAD_WORD;
@@ -20,7 +20,7 @@ fn superblocks_are_popped_and_pushed_in_turn(rt: HostRuntime) -> Result<(), Fail
     let popped = pop_by(&mut a, &table);
     assert_eq!(rt; popped, Ok(0));
     assert_eq!(rt; pop_free(&mut b, &table), Ok(1));
-    assert_eq!(rt; pop_free(&mut b, &table), Err(Refusal::Nothing));
+    assert_eq!(rt; pop_free(&mut b, &table), Err(NotDone::Nothing));
     assert_eq!(rt; look_list(&mut b, &table, FREE_LIST), Ok(33_554_432));
     assert_eq!(rt; push_popped(&mut a, &table, popped), Ok(()));
     assert_eq!(rt; look_list(&mut b, &table, FREE_LIST), Ok(33_554_433));
@@ -39,7 +39,7 @@ fn a_pop_is_lost_where_another_seat_popped(rt: HostRuntime) -> Result<(), Fail> 
     let looked = look_first(&mut a, &table, FREE_LIST);
     assert_eq!(rt; looked, Ok(0));
     assert_eq!(rt; pop_free(&mut b, &table), Ok(0));
-    let lost = Err(Refusal::Lost { found: 16_777_218 });
+    let lost = Err(NotDone::Lost { found: 16_777_218 });
     assert_eq!(rt; pop_looked(&mut a, &table, looked), lost);
     assert_eq!(rt; pop_free(&mut a, &table), Ok(1));
     let left = close_pair(alloc, table, a, b, seats)?;
@@ -63,7 +63,7 @@ const HEADS: [(u64, u64); 7] = [
 fn a_seat_stops_at_each_draw_of_a_pop_and_a_push(rt: HostRuntime) -> Result<(), Fail> {
     let alloc = rt.alloc();
     for (step, head) in HEADS {
-        let stop = Refusal::Stopped(Stopped { step });
+        let stop = NotDone::Stopped(Stopped { step });
         let (table, mut a, b, seats) = pair(alloc, recovered(alloc, 2, BOTH_FREE)?, step)?;
         let popped = pop_by(&mut a, &table);
         assert_eq!(rt; popped, if step < 3 { Err(stop) } else { Ok(0) });

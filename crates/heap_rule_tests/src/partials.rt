@@ -6,12 +6,12 @@ ghost use Rattle.core_model.specs.Guards.{MayLookAt, MayTakeAll};
 ghost use Rattle.core_model.specs.View.{of_class, times_classed};
 ghost use Rattle.heap_model.specs.Words.{anchor_count, anchor_state};
 ghost use Rattle.heap_rule.specs.Seated.{IsSeatOf};
-ghost use Rattle.heap_rule_tests.specs.Draws.{HasStopped};
+ghost use Rattle.heap_rule_tests.specs.Draws.{HasStoppedAt};
 ghost use Rattle.heap_rule_tests.specs.Partials.{HasSeenAnchor, HasTakenBlocks, SeesAnchor, TakesNoBlocks};
 ghost use Rattle.heap_rule_tests.specs.Pushes.{IsClaimOf};
 
 use crate::draws::draw;
-use crate::refusal::Refusal;
+use crate::refusal::NotDone;
 use crash_core::{anchor_count, anchor_state};
 use heap_rule::{Seat, Shared};
 use line_memory::Stopped;
@@ -26,7 +26,7 @@ pub(crate) fn look_anchor(seat: &mut Seat, shared: &Shared, d: u64) -> Result<u6
     ensures seen { IfOk result (λ anchor. HasSeenAnchor d anchor seat.old.view seat.new.view) }
     ensures of_class { IfOk result (λ anchor. 0 < times_classed d seat.old.view.classed
         → anchor_state anchor < 2) }
-    ensures stopped { IfErr result (λ e. HasStopped e.step seat.old.view seat.new.view) }
+    ensures stopped { IfErr result (λ e. HasStoppedAt e.step seat.old.view seat.new.view) }
     ensures seat { IsSeatOf shared.now seat.new }
 {
     draw(seat, shared)?;
@@ -34,7 +34,7 @@ pub(crate) fn look_anchor(seat: &mut Seat, shared: &Shared, d: u64) -> Result<u6
 }
 
 /// Takes all free blocks of a claimed superblock whose anchor was seen, and says there are some.
-fn take_seen(seat: &mut Seat, shared: &Shared, d: u64) -> Result<(), Refusal>
+fn take_seen(seat: &mut Seat, shared: &Shared, d: u64) -> Result<(), NotDone>
     requires seat { IsSeatOf shared.now seat.old }
     requires may { MayTakeAll seat.old.view d }
     ensures taken { OnOk result ((class : ℕ) → IsClaimOf class d seat.old.view
@@ -47,7 +47,7 @@ fn take_seen(seat: &mut Seat, shared: &Shared, d: u64) -> Result<(), Refusal>
     draw(seat, shared)?;
     match seat.try_take_all(shared, d) {
         Ok(()) => Ok(()),
-        Err(found) => Err(Refusal::Lost { found }),
+        Err(found) => Err(NotDone::Lost { found }),
     }
 }
 
@@ -58,7 +58,7 @@ pub(crate) fn take_looked(
     d: u64,
     class: u8,
     anchor: u64,
-) -> Result<u64, Refusal>
+) -> Result<u64, NotDone>
     requires seat { IsSeatOf shared.now seat.old }
     requires claim { IsClaimOf class d seat.old.view }
     requires uncached { of_class seat.old.view.caches class ≡ [] }
@@ -72,7 +72,7 @@ pub(crate) fn take_looked(
 {
     let _class = class;
     if anchor_state(anchor) != PARTIAL {
-        return Err(Refusal::Nothing);
+        return Err(NotDone::Nothing);
     }
     take_seen(seat, shared, d)?;
     Ok(anchor_count(anchor))
@@ -81,7 +81,7 @@ pub(crate) fn take_looked(
 /// Takes all free blocks of a superblock that is claimed with a class, whose cache is empty: they
 /// are in the cache then, and it answers how many there are. One try: where another seat was
 /// faster, that is told. Nothing is taken of a superblock all of whose blocks are free.
-pub fn take_free_blocks(seat: &mut Seat, shared: &Shared, d: u64, class: u8) -> Result<u64, Refusal>
+pub fn take_free_blocks(seat: &mut Seat, shared: &Shared, d: u64, class: u8) -> Result<u64, NotDone>
     requires seat { IsSeatOf shared.now seat.old }
     requires claim { IsClaimOf class d seat.old.view }
     requires uncached { of_class seat.old.view.caches class ≡ [] }

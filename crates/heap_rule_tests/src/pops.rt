@@ -6,12 +6,12 @@ ghost use Rattle.core_model.specs.Guards.{MayLink};
 ghost use Rattle.heap_model.specs.Geometry.{lists};
 ghost use Rattle.heap_model.specs.Sizes.{IsClass};
 ghost use Rattle.heap_rule.specs.Seated.{IsSeatOf};
-ghost use Rattle.heap_rule_tests.specs.declared.refusal.Refusal.TheVariants.{Lost};
-ghost use Rattle.heap_rule_tests.specs.Draws.{HasStopped};
+ghost use Rattle.heap_rule_tests.specs.declared.refusal.NotDone.TheVariants.{Lost};
+ghost use Rattle.heap_rule_tests.specs.Draws.{HasStoppedAt};
 ghost use Rattle.heap_rule_tests.specs.Pops.{HasPopped, HasPoppedFrom, HasSeenFirst, HasSeenHead, HasSeenLink, IsNotPopped, IsNotPoppedFrom, SeesFirst};
 
 use crate::draws::draw;
-use crate::refusal::Refusal;
+use crate::refusal::NotDone;
 use crash_core::head_first;
 use heap_rule::{Seat, Shared};
 use line_memory::Stopped;
@@ -24,7 +24,7 @@ pub(crate) fn look_list(seat: &mut Seat, shared: &Shared, list: u64) -> Result<u
     requires seat { IsSeatOf shared.now seat.old }
     requires list { list < lists }
     ensures seen { IfOk result (λ head. HasSeenHead list head seat.old.view seat.new.view) }
-    ensures stopped { IfErr result (λ e. HasStopped e.step seat.old.view seat.new.view) }
+    ensures stopped { IfErr result (λ e. HasStoppedAt e.step seat.old.view seat.new.view) }
     ensures seat { IsSeatOf shared.now seat.new }
 {
     draw(seat, shared)?;
@@ -36,7 +36,7 @@ fn look_link(seat: &mut Seat, shared: &Shared) -> Result<(), Stopped>
     requires seat { IsSeatOf shared.now seat.old }
     requires some { MayLink seat.old.view }
     ensures seen { OnOk result (HasSeenLink seat.old.view seat.new.view) }
-    ensures stopped { IfErr result (λ e. HasStopped e.step seat.old.view seat.new.view) }
+    ensures stopped { IfErr result (λ e. HasStoppedAt e.step seat.old.view seat.new.view) }
     ensures seat { IsSeatOf shared.now seat.new }
 {
     draw(seat, shared)?;
@@ -45,7 +45,7 @@ fn look_link(seat: &mut Seat, shared: &Shared) -> Result<(), Stopped>
 }
 
 /// Reads which superblock is the first of a list, which it answers, and its link.
-pub(crate) fn look_first(seat: &mut Seat, shared: &Shared, list: u64) -> Result<u64, Refusal>
+pub(crate) fn look_first(seat: &mut Seat, shared: &Shared, list: u64) -> Result<u64, NotDone>
     requires seat { IsSeatOf shared.now seat.old }
     requires list { list < lists }
     ensures seen { IfOk result (λ d. HasSeenFirst list d seat.old.view seat.new.view) }
@@ -56,14 +56,14 @@ pub(crate) fn look_first(seat: &mut Seat, shared: &Shared, list: u64) -> Result<
     let head = look_list(seat, shared, list)?;
     let first = head_first(head);
     if first == 0 {
-        return Err(Refusal::Nothing);
+        return Err(NotDone::Nothing);
     }
     look_link(seat, shared)?;
     Ok(first - 1)
 }
 
 /// Pops the superblock that was seen to be the first of a list.
-pub(crate) fn pop_seen(seat: &mut Seat, shared: &Shared) -> Result<(), Refusal>
+pub(crate) fn pop_seen(seat: &mut Seat, shared: &Shared) -> Result<(), NotDone>
     requires seat { IsSeatOf shared.now seat.old }
     requires seen { (list : ℕ) × ((d : ℕ) × SeesFirst list d seat.old.view) }
     ensures popped { OnOk result ((list d : ℕ) → SeesFirst list d seat.old.view
@@ -77,12 +77,12 @@ pub(crate) fn pop_seen(seat: &mut Seat, shared: &Shared) -> Result<(), Refusal>
     draw(seat, shared)?;
     match seat.try_pop(shared) {
         Ok(()) => Ok(()),
-        Err(found) => Err(Refusal::Lost { found }),
+        Err(found) => Err(NotDone::Lost { found }),
     }
 }
 
 /// Pops the first superblock of a list, in one try.
-fn pop_from(seat: &mut Seat, shared: &Shared, list: u64) -> Result<u64, Refusal>
+fn pop_from(seat: &mut Seat, shared: &Shared, list: u64) -> Result<u64, NotDone>
     requires seat { IsSeatOf shared.now seat.old }
     requires list { list < lists }
     ensures popped { IfOk result (λ d. HasPoppedFrom list d seat.old.view seat.new.view) }
@@ -97,7 +97,7 @@ fn pop_from(seat: &mut Seat, shared: &Shared, list: u64) -> Result<u64, Refusal>
 
 /// Pops the first superblock of the list of the free ones, which is claimed then. One try: where
 /// another seat was faster, that is told.
-pub fn pop_free(seat: &mut Seat, shared: &Shared) -> Result<u64, Refusal>
+pub fn pop_free(seat: &mut Seat, shared: &Shared) -> Result<u64, NotDone>
     requires { IsSeatOf shared.now seat.old }
     ensures popped { IfOk result (λ d. HasPopped d seat.old.view seat.new.view) }
     ensures refused { IfErr result (λ refusal. IsNotPopped refusal seat.old.view seat.new.view) }
@@ -108,7 +108,7 @@ pub fn pop_free(seat: &mut Seat, shared: &Shared) -> Result<u64, Refusal>
 
 /// Pops the first superblock of the list of a class, some of whose blocks are free: it is claimed
 /// with the class then. One try, as above.
-pub fn pop_class(seat: &mut Seat, shared: &Shared, class: u8) -> Result<u64, Refusal>
+pub fn pop_class(seat: &mut Seat, shared: &Shared, class: u8) -> Result<u64, NotDone>
     requires seat { IsSeatOf shared.now seat.old }
     requires class { IsClass class }
     ensures popped { IfOk result (λ d. HasPoppedFrom class d seat.old.view seat.new.view) }

@@ -7,13 +7,13 @@ ghost use Rattle.core_model.specs.View.{times_classed};
 ghost use Rattle.heap_model.specs.Counting.{times};
 ghost use Rattle.heap_rule.specs.Seated.{IsSeatOf};
 ghost use Rattle.heap_rule.specs.Shown.{CanList};
-ghost use Rattle.heap_rule_tests.specs.declared.refusal.Refusal.TheVariants.{Lost};
-ghost use Rattle.heap_rule_tests.specs.Draws.{HasStopped};
+ghost use Rattle.heap_rule_tests.specs.declared.refusal.NotDone.TheVariants.{Lost};
+ghost use Rattle.heap_rule_tests.specs.Draws.{HasStoppedAt};
 ghost use Rattle.heap_rule_tests.specs.Pushes.{HasPushed, HasPushedOfClass, HasSetLink, IsClaimOf, IsEmptyClaim, IsNotPushed, PushesNone, SeesLinked};
 
 use crate::draws::draw;
 use crate::pops::{FREE_LIST, look_list};
-use crate::refusal::Refusal;
+use crate::refusal::NotDone;
 use crash_core::head_first;
 use heap_rule::{Seat, Shared};
 use line_memory::Stopped;
@@ -24,7 +24,7 @@ fn set_link(seat: &mut Seat, shared: &Shared, d: u64, first: u64) -> Result<(), 
     requires seat { IsSeatOf shared.now seat.old }
     requires claimed { IsFreelyClaimed seat.old.view d }
     ensures linked { OnOk result (HasSetLink d first seat.old.view seat.new.view) }
-    ensures stopped { IfErr result (λ e. HasStopped e.step seat.old.view seat.new.view) }
+    ensures stopped { IfErr result (λ e. HasStoppedAt e.step seat.old.view seat.new.view) }
     ensures seat { IsSeatOf shared.now seat.new }
 {
     seat.has_a_sound_state();
@@ -36,7 +36,7 @@ fn set_link(seat: &mut Seat, shared: &Shared, d: u64, first: u64) -> Result<(), 
 
 /// Pushes a claimed superblock that leads to the first one that was seen in the list, where it may
 /// go to that list.
-fn push_seen(seat: &mut Seat, shared: &Shared, d: u64) -> Result<(), Refusal>
+fn push_seen(seat: &mut Seat, shared: &Shared, d: u64) -> Result<(), NotDone>
     requires seat { IsSeatOf shared.now seat.old }
     requires durable { d < seat.old.view.floor }
     requires listed { (list : ℕ) × SeesLinked list d seat.old.view × CanList seat.old.view d list }
@@ -53,13 +53,13 @@ fn push_seen(seat: &mut Seat, shared: &Shared, d: u64) -> Result<(), Refusal>
     draw(seat, shared)?;
     match seat.try_push(shared, d) {
         Ok(()) => Ok(()),
-        Err(found) => Err(Refusal::Lost { found }),
+        Err(found) => Err(NotDone::Lost { found }),
     }
 }
 
 /// Pushes a claimed superblock, all whose blocks are free, on the list of the free ones: it is not
 /// claimed any more then. One try: where another seat was faster, that is told.
-pub fn push_free(seat: &mut Seat, shared: &Shared, d: u64) -> Result<(), Refusal>
+pub fn push_free(seat: &mut Seat, shared: &Shared, d: u64) -> Result<(), NotDone>
     requires seat { IsSeatOf shared.now seat.old }
     requires empty { IsEmptyClaim seat.old.view d }
     requires durable { d < seat.old.view.floor }
@@ -75,7 +75,7 @@ pub fn push_free(seat: &mut Seat, shared: &Shared, d: u64) -> Result<(), Refusal
 }
 
 /// Pushes a superblock that is claimed with a class on the list of the class. One try, as above.
-pub fn push_class(seat: &mut Seat, shared: &Shared, d: u64, class: u8) -> Result<(), Refusal>
+pub fn push_class(seat: &mut Seat, shared: &Shared, d: u64, class: u8) -> Result<(), NotDone>
     requires seat { IsSeatOf shared.now seat.old }
     requires claim { IsClaimOf class d seat.old.view }
     requires durable { d < seat.old.view.floor }

@@ -9,7 +9,7 @@ ghost use Rattle.heap_rule.specs.Seated.{IsSeatOf};
 ghost use Rattle.heap_rule_tests.specs.Batches.{IsBatchOf};
 ghost use Rattle.heap_rule_tests.specs.Partials.{SeesAnchor};
 ghost use Rattle.heap_rule_tests.specs.Pushes.{IsClaimOf};
-ghost use Rattle.heap_rule_tests.specs.Scenes.{HasGivenOne, HasLiftedOne, IsFresh, IsIdle};
+ghost use Rattle.heap_rule_tests.specs.Scenes.{HasGivenOne, HasLiftedOne, HasNoSpareBlocks, IsIdle};
 ghost use Rattle.heap_model.specs.Words.{anchor_state};
 
 use crate::batches::{give_batch, give_looked, lift_cached};
@@ -17,7 +17,7 @@ use crate::caches::fill_cache;
 use crate::partials::{look_anchor, take_free_blocks, take_looked};
 use crate::pops::pop_class;
 use crate::pushes::push_class;
-use crate::refusal::Refusal;
+use crate::refusal::NotDone;
 use heap_rule::{Seat, Shared};
 use super_block::{Block, Geometry, SUPERBLOCK_WORDS};
 
@@ -26,7 +26,7 @@ pub const CLASS: u8 = 20;
 
 /// A seat lifts the first block of its cache into its empty batch. It answers the superblock and
 /// the block.
-pub fn lift_one(seat: &mut Seat, shared: &Shared) -> Result<(u64, u64), Refusal>
+pub fn lift_one(seat: &mut Seat, shared: &Shared) -> Result<(u64, u64), NotDone>
     requires seat { IsSeatOf shared.now seat.old }
     requires idle { IsIdle seat.old.view }
     ensures lifted { IfOk result (λ r. HasLiftedOne r.0 r.1 seat.old.view seat.new.view) }
@@ -35,7 +35,7 @@ pub fn lift_one(seat: &mut Seat, shared: &Shared) -> Result<(u64, u64), Refusal>
     seat.has_a_sound_state();
     let (first, count) = seat.cache(shared, CLASS);
     if count == 0 {
-        return Err(Refusal::Nothing);
+        return Err(NotDone::Nothing);
     }
     let start = Geometry::new(seat.capacity(shared)).start(0);
     let d = (first - start) / SUPERBLOCK_WORDS;
@@ -45,7 +45,7 @@ pub fn lift_one(seat: &mut Seat, shared: &Shared) -> Result<(u64, u64), Refusal>
 
 /// A seat gives the first block of its cache back. It answers the superblock, and whether none of
 /// its blocks was free before.
-pub fn give_one(seat: &mut Seat, shared: &Shared) -> Result<(u64, bool), Refusal>
+pub fn give_one(seat: &mut Seat, shared: &Shared) -> Result<(u64, bool), NotDone>
     requires seat { IsSeatOf shared.now seat.old }
     requires idle { IsIdle seat.old.view }
     ensures given { IfOk result (λ r. HasGivenOne r.0 r.1 seat.new.view) }
@@ -57,7 +57,7 @@ pub fn give_one(seat: &mut Seat, shared: &Shared) -> Result<(u64, bool), Refusal
 }
 
 /// The same of a superblock none of whose blocks was free, which the seat claims then.
-pub fn give_first(seat: &mut Seat, shared: &Shared) -> Result<u64, Refusal>
+pub fn give_first(seat: &mut Seat, shared: &Shared) -> Result<u64, NotDone>
     requires seat { IsSeatOf shared.now seat.old }
     requires idle { IsIdle seat.old.view }
     ensures idle { IfOk result (λ d. IsIdle seat.new.view) }
@@ -67,16 +67,16 @@ pub fn give_first(seat: &mut Seat, shared: &Shared) -> Result<u64, Refusal>
 {
     let (d, full) = give_one(seat, shared)?;
     if !full {
-        return Err(Refusal::Nothing);
+        return Err(NotDone::Nothing);
     }
     Ok(d)
 }
 
 /// A seat pops the first superblock of the list of the class, and takes its free blocks, which it
 /// counts.
-pub fn take_class(seat: &mut Seat, shared: &Shared) -> Result<u64, Refusal>
+pub fn take_class(seat: &mut Seat, shared: &Shared) -> Result<u64, NotDone>
     requires seat { IsSeatOf shared.now seat.old }
-    requires fresh { IsFresh seat.old.view }
+    requires fresh { HasNoSpareBlocks seat.old.view }
     ensures idle { IfOk result (λ count. IsIdle seat.new.view) }
     ensures seat { IsSeatOf shared.now seat.new }
 {
@@ -85,11 +85,11 @@ pub fn take_class(seat: &mut Seat, shared: &Shared) -> Result<u64, Refusal>
 }
 
 /// One seat makes the blocks of a superblock, and gives one back; the other gets that one.
-pub fn share_blocks(a: &mut Seat, b: &mut Seat, shared: &Shared) -> Result<u64, Refusal>
+pub fn share_blocks(a: &mut Seat, b: &mut Seat, shared: &Shared) -> Result<u64, NotDone>
     requires a { IsSeatOf shared.now a.old }
     requires b { IsSeatOf shared.now b.old }
-    requires a_fresh { IsFresh a.old.view }
-    requires b_fresh { IsFresh b.old.view }
+    requires a_fresh { HasNoSpareBlocks a.old.view }
+    requires b_fresh { HasNoSpareBlocks b.old.view }
     ensures a_idle { IfOk result (λ count. IsIdle a.new.view) }
     ensures b_idle { IfOk result (λ count. IsIdle b.new.view) }
     ensures a { IsSeatOf shared.now a.new }
@@ -103,7 +103,7 @@ pub fn share_blocks(a: &mut Seat, b: &mut Seat, shared: &Shared) -> Result<u64, 
 
 /// A seat gives its batch by an anchor that it looked at some time ago. It answers why that was not
 /// done.
-fn give_late(seat: &mut Seat, shared: &Shared, d: u64, block: u64, anchor: u64) -> Option<Refusal>
+fn give_late(seat: &mut Seat, shared: &Shared, d: u64, block: u64, anchor: u64) -> Option<NotDone>
     requires seat { IsSeatOf shared.now seat.old }
     requires batch { IsBatchOf d 20 block seat.old.view }
     requires sees { SeesAnchor d anchor seat.old.view }
@@ -123,7 +123,7 @@ pub fn lose_a_give(
     a: &mut Seat,
     b: &mut Seat,
     shared: &Shared,
-) -> Result<(u64, Refusal, bool), Refusal>
+) -> Result<(u64, NotDone, bool), NotDone>
     requires a { IsSeatOf shared.now a.old }
     requires b { IsSeatOf shared.now b.old }
     requires a_idle { IsIdle a.old.view }
@@ -138,7 +138,7 @@ pub fn lose_a_give(
     let anchor = look_anchor(a, shared, d)?;
     let claimed = give_first(b, shared)?;
     let Some(lost) = give_late(a, shared, d, block, anchor) else {
-        return Err(Refusal::Nothing);
+        return Err(NotDone::Nothing);
     };
     let full = give_batch(a, shared, d, CLASS, block)?;
     Ok((claimed, lost, full))
@@ -146,7 +146,7 @@ pub fn lose_a_give(
 
 /// A seat takes all free blocks by an anchor that it looked at some time ago. It answers why that
 /// was not done.
-fn take_late(seat: &mut Seat, shared: &Shared, d: u64, anchor: u64) -> Option<Refusal>
+fn take_late(seat: &mut Seat, shared: &Shared, d: u64, anchor: u64) -> Option<NotDone>
     requires seat { IsSeatOf shared.now seat.old }
     requires claim { IsClaimOf 20 d seat.old.view }
     requires uncached { of_class seat.old.view.caches 20 ≡ [] }
@@ -169,7 +169,7 @@ pub fn lose_a_take(
     b: &mut Seat,
     shared: &Shared,
     d: u64,
-) -> Result<(Refusal, u64), Refusal>
+) -> Result<(NotDone, u64), NotDone>
     requires a { IsSeatOf shared.now a.old }
     requires b { IsSeatOf shared.now b.old }
     requires a_idle { IsIdle a.old.view }
@@ -181,12 +181,12 @@ pub fn lose_a_take(
     b.has_a_sound_state();
     let (_, count) = b.cache(shared, CLASS);
     if count > 0 {
-        return Err(Refusal::Nothing);
+        return Err(NotDone::Nothing);
     }
     let anchor = look_anchor(b, shared, d)?;
     give_one(a, shared)?;
     let Some(lost) = take_late(b, shared, d, anchor) else {
-        return Err(Refusal::Nothing);
+        return Err(NotDone::Nothing);
     };
     let taken = take_free_blocks(b, shared, d, CLASS)?;
     Ok((lost, taken))
@@ -194,14 +194,14 @@ pub fn lose_a_take(
 
 /// What two seats are answered that trade blocks: how many the second one gets at first; then as
 /// `lose_a_give` and `lose_a_take` say.
-pub type Traded = (u64, (u64, Refusal, bool), (Refusal, u64));
+pub type Traded = (u64, (u64, NotDone, bool), (NotDone, u64));
 
 /// Two seats trade the blocks of a superblock that was never taken.
-pub fn trade(a: &mut Seat, b: &mut Seat, shared: &Shared) -> Result<Traded, Refusal>
+pub fn trade(a: &mut Seat, b: &mut Seat, shared: &Shared) -> Result<Traded, NotDone>
     requires a { IsSeatOf shared.now a.old }
     requires b { IsSeatOf shared.now b.old }
-    requires a_fresh { IsFresh a.old.view }
-    requires b_fresh { IsFresh b.old.view }
+    requires a_fresh { HasNoSpareBlocks a.old.view }
+    requires b_fresh { HasNoSpareBlocks b.old.view }
     ensures a { IsSeatOf shared.now a.new }
     ensures b { IsSeatOf shared.now b.new }
 {
@@ -212,12 +212,12 @@ pub fn trade(a: &mut Seat, b: &mut Seat, shared: &Shared) -> Result<Traded, Refu
 }
 
 /// The block that a seat holds from a word on.
-pub fn block_at(seat: &Seat, shared: &Shared, first_word: u64) -> Result<Block, Refusal>
+pub fn block_at(seat: &Seat, shared: &Shared, first_word: u64) -> Result<Block, NotDone>
     requires seat { IsSeatOf shared.now seat.now }
     requires held { (b : Block) × IsHeld seat.now.view b × (b.first_word ≡ first_word) }
 {
     let Some(offset) = first_word.checked_mul(8) else {
-        return Err(Refusal::Nothing);
+        return Err(NotDone::Nothing);
     };
     Ok(seat.block(shared, offset))
 }

@@ -5,7 +5,7 @@ ghost use Rattle.heap_rule.specs.Seated.{IsSeatOf};
 use crate::fixtures::{MANY, Words, close_pair, pair, recovered};
 use crate::large::{hold_large, split_large};
 use crate::pops::pop_free;
-use crate::refusal::Refusal;
+use crate::refusal::NotDone;
 use crate::scenes::block_at;
 use heap_rule::{Seat, Shared};
 use line_memory::Stopped;
@@ -17,14 +17,14 @@ const BOTH_FREE: Words<'_> = &[(8, 2)];
 
 /// A seat claims two superblocks, holds them as a large block, splits it, and holds the first one
 /// alone. It answers the two large blocks.
-fn hold_and_split(seat: &mut Seat, shared: &Shared) -> Result<(Block, Block), Refusal>
+fn hold_and_split(seat: &mut Seat, shared: &Shared) -> Result<(Block, Block), NotDone>
     requires { IsSeatOf shared.now seat.old }
     ensures { IsSeatOf shared.now seat.new }
 {
     let d = pop_free(seat, shared)?;
     let other = pop_free(seat, shared)?;
     if other.checked_sub(1) != Some(d) {
-        return Err(Refusal::Nothing);
+        return Err(NotDone::Nothing);
     }
     let first_word = hold_large(seat, shared, d, 2)?;
     let both = block_at(seat, shared, first_word)?;
@@ -36,13 +36,13 @@ fn hold_and_split(seat: &mut Seat, shared: &Shared) -> Result<(Block, Block), Re
 
 /// The budget, what the seat is answered, and the infos that are left of both superblocks, which a
 /// crash leaves too.
-const ROWS: [(u64, Result<(Block, Block), Refusal>, u64, u64); 7] = [
-    (6, Err(Refusal::Stopped(Stopped { step: 6 })), 0, 0),
-    (7, Err(Refusal::Stopped(Stopped { step: 7 })), 767, 0),
-    (8, Err(Refusal::Stopped(Stopped { step: 8 })), 767, 0),
-    (9, Err(Refusal::Stopped(Stopped { step: 9 })), 767, 0),
-    (10, Err(Refusal::Stopped(Stopped { step: 10 })), 767, 0),
-    (11, Err(Refusal::Stopped(Stopped { step: 11 })), 511, 0),
+const ROWS: [(u64, Result<(Block, Block), NotDone>, u64, u64); 7] = [
+    (6, Err(NotDone::Stopped(Stopped { step: 6 })), 0, 0),
+    (7, Err(NotDone::Stopped(Stopped { step: 7 })), 767, 0),
+    (8, Err(NotDone::Stopped(Stopped { step: 8 })), 767, 0),
+    (9, Err(NotDone::Stopped(Stopped { step: 9 })), 767, 0),
+    (10, Err(NotDone::Stopped(Stopped { step: 10 })), 767, 0),
+    (11, Err(NotDone::Stopped(Stopped { step: 11 })), 511, 0),
     (
         MANY,
         Ok((

@@ -5,7 +5,7 @@ ghost use Rattle.core_model.specs.Cells.{cell_at};
 ghost use Rattle.core_model.specs.Guards.{IsOwn};
 ghost use Rattle.heap_rule.specs.Seated.{IsSeatOf};
 ghost use Rattle.heap_rule.specs.Shown.{CanStore};
-ghost use Rattle.heap_rule_tests.specs.Draws.{HasStopped};
+ghost use Rattle.heap_rule_tests.specs.Draws.{HasStoppedAt};
 ghost use Rattle.heap_rule_tests.specs.Stores.{HasLoaded, HasStored};
 
 use crate::draws::draw;
@@ -18,7 +18,7 @@ pub fn store_own(seat: &mut Seat, shared: &Shared, word: u64, value: u64) -> Res
     requires own { IsOwn seat.old.view (cell_at seat.old.view.setup.capacity word) }
     requires can { CanStore seat.old.view (cell_at seat.old.view.setup.capacity word) value }
     ensures stored { OnOk result (HasStored word value seat.old.view seat.new.view) }
-    ensures stopped { IfErr result (λ e. HasStopped e.step seat.old.view seat.new.view) }
+    ensures stopped { IfErr result (λ e. HasStoppedAt e.step seat.old.view seat.new.view) }
     ensures seat { IsSeatOf shared.now seat.new }
 {
     draw(seat, shared)?;
@@ -31,7 +31,7 @@ pub fn load_own(seat: &mut Seat, shared: &Shared, word: u64) -> Result<u64, Stop
     requires seat { IsSeatOf shared.now seat.old }
     requires own { IsOwn seat.old.view (cell_at seat.old.view.setup.capacity word) }
     ensures loaded { IfOk result (λ value. HasLoaded word value seat.old.view seat.new.view) }
-    ensures stopped { IfErr result (λ e. HasStopped e.step seat.old.view seat.new.view) }
+    ensures stopped { IfErr result (λ e. HasStoppedAt e.step seat.old.view seat.new.view) }
     ensures seat { IsSeatOf shared.now seat.new }
 {
     draw(seat, shared)?;

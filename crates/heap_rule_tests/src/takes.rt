@@ -2,11 +2,11 @@
 
 ghost use Rattle.std.specs.Prelude.{◌≡◌, ◌<◌, ℕ, Some, IfOk, OnOk, IfErr};
 ghost use Rattle.heap_rule.specs.Seated.{IsSeatOf};
-ghost use Rattle.heap_rule_tests.specs.Draws.{HasStopped};
+ghost use Rattle.heap_rule_tests.specs.Draws.{HasStoppedAt};
 ghost use Rattle.heap_rule_tests.specs.Takes.{HasSeenMark, HasFresh, HasTaken, HasKept, IsNotTaken, TakesNone};
 
 use crate::draws::draw;
-use crate::refusal::Refusal;
+use crate::refusal::NotDone;
 use heap_rule::{Seat, Shared};
 use line_memory::Stopped;
 
@@ -14,7 +14,7 @@ use line_memory::Stopped;
 fn look_mark(seat: &mut Seat, shared: &Shared) -> Result<u64, Stopped>
     requires { IsSeatOf shared.now seat.old }
     ensures seen { IfOk result (λ used. HasSeenMark used seat.old.view seat.new.view) }
-    ensures stopped { IfErr result (λ e. HasStopped e.step seat.old.view seat.new.view) }
+    ensures stopped { IfErr result (λ e. HasStoppedAt e.step seat.old.view seat.new.view) }
     ensures seat { IsSeatOf shared.now seat.new }
 {
     draw(seat, shared)?;
@@ -22,7 +22,7 @@ fn look_mark(seat: &mut Seat, shared: &Shared) -> Result<u64, Stopped>
 }
 
 /// Takes the superblock at the mark that was seen.
-fn take_seen(seat: &mut Seat, shared: &Shared) -> Result<(), Refusal>
+fn take_seen(seat: &mut Seat, shared: &Shared) -> Result<(), NotDone>
     requires seat { IsSeatOf shared.now seat.old }
     requires room { (used : ℕ) × (seat.old.view.seen_used ≡ Some used)
         × (used < seat.old.view.setup.capacity) }
@@ -34,7 +34,7 @@ fn take_seen(seat: &mut Seat, shared: &Shared) -> Result<(), Refusal>
     draw(seat, shared)?;
     match seat.try_take_fresh(shared, 1) {
         Ok(()) => Ok(()),
-        Err(found) => Err(Refusal::Lost { found }),
+        Err(found) => Err(NotDone::Lost { found }),
     }
 }
 
@@ -44,7 +44,7 @@ fn keep_mark(seat: &mut Seat, shared: &Shared) -> Result<(), Stopped>
     requires seen { (used : ℕ) × (seat.old.view.seen_used ≡ Some used) }
     ensures kept { OnOk result ((used : ℕ) → seat.old.view.seen_used ≡ Some used
         → HasKept used seat.old.view seat.new.view) }
-    ensures stopped { IfErr result (λ e. HasStopped e.step seat.old.view seat.new.view) }
+    ensures stopped { IfErr result (λ e. HasStoppedAt e.step seat.old.view seat.new.view) }
     ensures seat { IsSeatOf shared.now seat.new }
 {
     draw(seat, shared)?;
@@ -54,7 +54,7 @@ fn keep_mark(seat: &mut Seat, shared: &Shared) -> Result<(), Stopped>
 
 /// Takes a superblock that was never taken, and makes the mark durable behind it. A seat that
 /// stops in between may have the superblock all the same.
-pub fn take_one(seat: &mut Seat, shared: &Shared) -> Result<u64, Refusal>
+pub fn take_one(seat: &mut Seat, shared: &Shared) -> Result<u64, NotDone>
     requires { IsSeatOf shared.now seat.old }
     ensures taken { IfOk result (λ d. HasTaken d seat.old.view seat.new.view) }
     ensures refused { IfErr result (λ refusal. TakesNone refusal seat.old.view seat.new.view) }
@@ -62,7 +62,7 @@ pub fn take_one(seat: &mut Seat, shared: &Shared) -> Result<u64, Refusal>
 {
     let used = look_mark(seat, shared)?;
     if used == seat.capacity(shared) {
-        return Err(Refusal::Nothing);
+        return Err(NotDone::Nothing);
     }
     take_seen(seat, shared)?;
     keep_mark(seat, shared)?;

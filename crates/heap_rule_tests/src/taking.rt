@@ -1,7 +1,7 @@
 //! Superblocks that were never taken are taken, by one thread with several seats.
 
 use crate::fixtures::{MANY, recovered, shared, take_by};
-use crate::refusal::Refusal;
+use crate::refusal::NotDone;
 use heap_rule::close_shared;
 use line_memory::Stopped;
 use std::test::Fail;
@@ -9,15 +9,15 @@ use super_block::USED_WORD;
 
 /// Of how many superblocks a heap is, its budget, which seats take one in turn, and what they are
 /// answered.
-const TURNS: [(u64, u64, &[(usize, Result<u64, Refusal>)], u64); 3] = [
+const TURNS: [(u64, u64, &[(usize, Result<u64, NotDone>)], u64); 3] = [
     (
         2,
         MANY,
         &[
             (0, Ok(0)),
             (1, Ok(1)),
-            (0, Err(Refusal::Nothing)),
-            (1, Err(Refusal::Nothing)),
+            (0, Err(NotDone::Nothing)),
+            (1, Err(NotDone::Nothing)),
         ],
         2,
     ),
@@ -27,14 +27,14 @@ const TURNS: [(u64, u64, &[(usize, Result<u64, Refusal>)], u64); 3] = [
         4,
         &[
             (0, Ok(0)),
-            (1, Err(Refusal::Stopped(Stopped { step: 4 }))),
-            (1, Err(Refusal::Stopped(Stopped { step: 4 }))),
-            (0, Err(Refusal::Stopped(Stopped { step: 5 }))),
+            (1, Err(NotDone::Stopped(Stopped { step: 4 }))),
+            (1, Err(NotDone::Stopped(Stopped { step: 4 }))),
+            (0, Err(NotDone::Stopped(Stopped { step: 5 }))),
         ],
         1,
     ),
     // A seat that stops before the mark is durable has the superblock all the same.
-    (3, 2, &[(1, Err(Refusal::Stopped(Stopped { step: 2 })))], 1),
+    (3, 2, &[(1, Err(NotDone::Stopped(Stopped { step: 2 })))], 1),
 ];
 
 #[test]

@@ -10,15 +10,15 @@ use Rattle.core_model.proofs.OwnerLemmas.{in_lists_total}
 use Rattle.core_model.proofs.PlaceLemmas.{pick}
 use Rattle.core_model.proofs.TotalLemmas.{eq-eqb-one}
 use Rattle.heap_rule.specs.Parts.{KeepsParts}
-use Rattle.heap_rule.specs.Plays.{Has}
+use Rattle.heap_rule.specs.Plays.{HasSoundState}
 use Rattle.heap_rule.specs.Shown.{CanLift}
 use Rattle.heap_rule.proofs.ViewLemmas.{block_range}
-use Rattle.heap_rule_tests.specs.declared.refusal.Refusal.{Refusal}
-use Rattle.heap_rule_tests.specs.declared.refusal.Refusal.TheVariants.{Nothing, Lost, Stopped}
+use Rattle.heap_rule_tests.specs.declared.refusal.NotDone.{NotDone}
+use Rattle.heap_rule_tests.specs.declared.refusal.NotDone.TheVariants.{Nothing, Lost, Stopped}
 use Rattle.heap_rule_tests.specs.Batches.{GivesNone, HasGiven, HasLifted, IsBatchOf, IsNotGiven, with_last}
 use Rattle.heap_rule_tests.specs.Pops.{HasPoppedFrom}
 use Rattle.heap_rule_tests.specs.Pushes.{IsClaimOf}
-use Rattle.heap_rule_threads.specs.Hands.{HasBatch, HasClassed, HasNoBatch, KeepsHeld}
+use Rattle.heap_rule_threads.specs.Hands.{HasBatchInHand, HasClassed, HasNoBatch, KeepsSmallBlocks}
 
 -- the same batch
 pub batch_still : (v w : View) (d class last : ℕ) → w.batch ≡ v.batch → IsBatchOf d class last v → IsBatchOf d class last w
@@ -50,7 +50,7 @@ popped_classed v w d (suc class) is none popped = record {
   none = none_still v w popped.parts.batch none;
 }
 
-pub popped_keeps : (v w : View) (d class : ℕ) → HasPoppedFrom class d v w → KeepsHeld v w
+pub popped_keeps : (v w : View) (d class : ℕ) → HasPoppedFrom class d v w → KeepsSmallBlocks v w
 popped_keeps v w d zero popped = record { small = popped.parts.small; roots = popped.parts.roots }
 popped_keeps v w d (suc class) popped = record { small = popped.parts.small; roots = popped.parts.roots }
 
@@ -67,12 +67,12 @@ may_lift v class is none some = record {
   no more = let e = ap length none in omega (arith, more)
 
 -- the first cached block begins among the words of superblocks
-pub first_from : (v : View) (class : ℕ) → Has v → 1 ≤ length (of_class v.caches class) → start_word v.setup.capacity 0 ≤ first_of (of_class v.caches class)
+pub first_from : (v : View) (class : ℕ) → HasSoundState v → 1 ≤ length (of_class v.caches class) → start_word v.setup.capacity 0 ≤ first_of (of_class v.caches class)
 first_from v class has some = (block_range v has (first_of (of_class v.caches class))
     (let there = first_there (of_class v.caches class) some in let all = in_lists_total (first_of (of_class v.caches class)) class v.caches there in omega arith)).0
 
 pub lifted_batch : (v w : View) (d class block : ℕ) → IsClass class → HasNoBatch v → HasLifted block class v w → d ≡ superblock_at v.setup.capacity (first_of (of_class v.caches class))
-    → HasBatch d class block w
+    → HasBatchInHand d class block w
 lifted_batch v w d class block is none lifted at = record {
   is_class = is;
   batch = record {
@@ -97,22 +97,22 @@ given_classed v w d (suc class) last is given = record {
 pub given_empty : (v w : View) (d class last : ℕ) → HasGiven d class last false v w → HasNoBatch w
 given_empty v w d class last given = ap (λ b. b.blocks) given.1.parts.batch
 
-pub given_keeps : (v w : View) (d class last : ℕ) (full : Bool) → HasGiven d class last full v w → KeepsHeld v w
+pub given_keeps : (v w : View) (d class last : ℕ) (full : Bool) → HasGiven d class last full v w → KeepsSmallBlocks v w
 given_keeps v w d zero last true given = record { small = given.parts.small; roots = given.parts.roots }
 given_keeps v w d (suc class) last true given = record { small = given.parts.small; roots = given.parts.roots }
 given_keeps v w d class last false given = record { small = given.1.parts.small; roots = given.1.parts.roots }
 
 -- it was not given: where another seat was faster, or the seat stopped
-refused_parts : (refusal : Refusal) (v w : View) → IsNotGiven refusal v w → KeepsParts v w
+refused_parts : (refusal : NotDone) (v w : View) → IsNotGiven refusal v w → KeepsParts v w
 refused_parts Nothing v w none = absurd none
 refused_parts (Lost found) v w lost = lost.parts
 refused_parts (Stopped e) v w stop = stop.parts
 
-pub refused_keeps : (refusal : Refusal) (v w : View) (last : ℕ) → GivesNone last refusal v w → KeepsHeld v w
+pub refused_keeps : (refusal : NotDone) (v w : View) (last : ℕ) → GivesNone last refusal v w → KeepsSmallBlocks v w
 refused_keeps refusal v w last (inl none) = let p = refused_parts refusal v w none in record { small = p.small; roots = p.roots }
 refused_keeps refusal v w last (inr none) = let p = refused_parts refusal (with_last v last none.0) w none.1 in record { small = p.small; roots = p.roots }
 
-pub refused_batch : (refusal : Refusal) (v w : View) (d class last : ℕ) → GivesNone last refusal v w → HasBatch d class last v → HasBatch d class last w
+pub refused_batch : (refusal : NotDone) (v w : View) (d class last : ℕ) → GivesNone last refusal v w → HasBatchInHand d class last v → HasBatchInHand d class last w
 refused_batch refusal v w d class last (inl none) has = record { is_class = has.is_class; batch = batch_still v w d class last (refused_parts refusal v w none).batch has.batch }
 refused_batch refusal v w d class last (inr none) has = record {
   is_class = has.is_class;

@@ -11,7 +11,7 @@ use Rattle.heap_rule_tests.specs.Cuts as cuts
 use Rattle.heap_rule_threads.proofs.BatchLemmas.{batch_still, none_still}
 use Rattle.heap_rule_threads.specs.declared.hands.Hand.{Hand}
 use Rattle.heap_rule_threads.specs.declared.hands.Hand.TheVariants.{Empty, Raw, Classed, Batch}
-use Rattle.heap_rule_threads.specs.Hands.{KeepsHeld, KeepsClaims, Stays, Holds}
+use Rattle.heap_rule_threads.specs.Hands.{KeepsSmallBlocks, KeepsClaims, Stays, Holds}
 
 -- parts that are kept
 pub parts_stay : (v w : View) → KeepsParts v w → Stays v w
@@ -20,7 +20,7 @@ parts_stay v w p = record {
   claims = record { roots = p.roots; raw = p.raw; classed = p.classed; batch = p.batch; floor = p.floor };
 }
 
-pub holds_kept : (v w : View) → cuts.KeepsHeld v w → KeepsHeld v w
+pub holds_kept : (v w : View) → cuts.KeepsSmallBlocks v w → KeepsSmallBlocks v w
 holds_kept v w p = record { small = p.small; roots = p.roots }
 
 pub stays_more : (u v w : View) → Stays u v → Stays v w → Stays u w

@@ -6,7 +6,7 @@ use Rattle.core_model.specs.Cells.{Cell, cell_at, root_cell}
 use Rattle.core_model.specs.Effects.{drew, learn, stored, used_up}
 use Rattle.core_model.specs.View.{View}
 use Rattle.core_model.proofs.PlaceLemmas.{cell_at_index}
-use Rattle.heap_rule.specs.Fences.{IsFence, IsLineMarked, Settles, SettlesEarly, is_own, not_own, no_store, a_store}
+use Rattle.heap_rule.specs.Fences.{IsSeatFence, IsLineMarked, Settles, SettlesEarly, is_own, not_own, no_store, a_store}
 use Rattle.heap_rule.specs.Plays.{IsEvent}
 use Rattle.heap_rule.specs.Seated.{SeatView}
 use Rattle.heap_rule.proofs.PartLemmas.{drawn, none_changed}
@@ -68,7 +68,7 @@ turn_stays s a b d w root value inside drawn found load again before store =
     (stays_more b d w (draw_stays b d again) (stored_stays d root value inside w before store)))
 
 -- a root is stored to, marked, and settled with all that is marked
-module _ (s d t m w : SeatView) (root value : ℕ) (inside : root < roots) (draw : HasDrawn s.view d.view) (found : ℕ) (event : IsEvent (Store (root_word root) value) d.view found t.view) (marked : IsLineMarked (root_word root) t m) (fence : IsFence m w) where
+module _ (s d t m w : SeatView) (root value : ℕ) (inside : root < roots) (draw : HasDrawn s.view d.view) (found : ℕ) (event : IsEvent (Store (root_word root) value) d.view found t.view) (marked : IsLineMarked (root_word root) t m) (fence : IsSeatFence m w) where
   pub published_stays : Stays s.view w.view
   published_stays = stays_more s.view d.view w.view (draw_stays s.view d.view draw)
       (stays_more d.view t.view w.view (stored_stays d.view root value inside t.view found event)

@@ -5,14 +5,14 @@ use Rattle.heap_model.specs.Counting.{one_if, times, without}
 use Rattle.heap_model.specs.Sizes.{IsClass}
 use Rattle.core_model.specs.View.{View, of_class}
 use Rattle.core_model.proofs.TotalLemmas.{eq-eqb-one, total_at, total_set}
-use Rattle.heap_rule.specs.Plays.{Has}
+use Rattle.heap_rule.specs.Plays.{HasSoundState}
 use Rattle.heap_rule_threads.specs.declared.slots.HeldBlock.{HeldBlock}
 use Rattle.heap_rule_threads.specs.declared.slots.Slot.{Slot}
 use Rattle.heap_rule_threads.specs.Hands.{AreSlots, HasClass, HoldsSame, IsRoot, IsSlot, KeepsClaims, Turns, times_held}
 use Rattle.heap_rule_threads.proofs.HandLemmas.{one_freed}
 
 -- a block is freed
-pub freed_turns : (v u w : View) (held : HeldBlock) → Has u → IsClass held.class → 0 < times held.block (of_class v.small held.class) → u.small ≡ v.small
+pub freed_turns : (v u w : View) (held : HeldBlock) → HasSoundState u → IsClass held.class → 0 < times held.block (of_class v.small held.class) → u.small ≡ v.small
     → w.small ≡ set u.small held.class (without held.block (of_class u.small held.class)) → Turns (Some held) None v w
 freed_turns v u w held has is some same freed = λ class block.
     let there : held.class < length u.small = (let long = (has.sound.good.set_up has.seat u has.below has.at).small in let last = is.last in omega arith) in

@@ -12,7 +12,7 @@ use Rattle.heap_rule_threads.specs.declared.slots.HeldBlock.{HeldBlock}
 use Rattle.heap_rule_threads.specs.declared.slots.Slot.{Slot}
 
 -- the seat holds the same small blocks, and owns the same roots
-pub record KeepsHeld (v w : View) : Type 0 where
+pub record KeepsSmallBlocks (v w : View) : Type 0 where
   pub small : w.small ≡ v.small
   pub roots : w.roots ≡ v.roots
 
@@ -26,7 +26,7 @@ pub record KeepsClaims (v w : View) : Type 0 where
 
 -- both
 pub record Stays (v w : View) : Type 0 where
-  pub held : KeepsHeld v w
+  pub held : KeepsSmallBlocks v w
   pub claims : KeepsClaims v w
 
 -- the batch is empty
@@ -46,7 +46,7 @@ pub record HasClassed (d class : ℕ) (v : View) : Type 0 where
   pub none : HasNoBatch v
 
 -- there is a batch, of a class
-pub record HasBatch (d class last : ℕ) (v : View) : Type 0 where
+pub record HasBatchInHand (d class last : ℕ) (v : View) : Type 0 where
   pub is_class : IsClass class
   pub batch : IsBatchOf d class last v
 
@@ -55,7 +55,7 @@ abbrev pub Holds : Hand → View → Type 0
 Holds Empty v = HasNoBatch v
 Holds (Raw d) v = HasRaw d v
 Holds (Classed d class) v = HasClassed d class v
-Holds (Batch d class last) v = HasBatch d class last v
+Holds (Batch d class last) v = HasBatchInHand d class last v
 
 -- how often a block of a class is held
 abbrev pub times_held : ℕ → ℕ → Option HeldBlock → ℕ

@@ -5,7 +5,7 @@ ghost use Rattle.heap_rule.specs.Seated.{IsSeatOf};
 ghost use Rattle.heap_rule_threads.specs.Hands.{AreSlots, HasNoBatch, Holds, HoldsSame, Stays};
 
 use crate::changes::change_hand;
-use crate::dice::Dice;
+use crate::dice::RandomNumbers;
 use crate::hands::{Hand, Tried};
 use crate::slots::Slot;
 use crate::turns::turn_slot;
@@ -14,7 +14,7 @@ use heap_rule_tests::draw;
 use line_memory::Stopped;
 
 /// Draws a ticket by chance, at which the word of one of the last stores may become durable.
-fn draw_by_chance(seat: &mut Seat, shared: &Shared, dice: &mut Dice) -> Result<(), Stopped>
+fn draw_by_chance(seat: &mut Seat, shared: &Shared, dice: &mut RandomNumbers) -> Result<(), Stopped>
     requires seat { IsSeatOf shared.now seat.old }
     ensures going { OnOk result (seat.new.view.stopped ≡ None) }
     ensures stays { Stays seat.old.view seat.new.view }
@@ -30,7 +30,7 @@ fn act(
     shared: &Shared,
     slots: &mut Vec<Slot>,
     hand: Hand,
-    dice: &mut Dice,
+    dice: &mut RandomNumbers,
 ) -> Result<Tried, Stopped>
     requires seat { IsSeatOf shared.now seat.old }
     requires going { seat.old.view.stopped ≡ None }
@@ -62,7 +62,7 @@ pub fn act_again(
     seat: &mut Seat,
     shared: &Shared,
     slots: &mut Vec<Slot>,
-    dice: &mut Dice,
+    dice: &mut RandomNumbers,
     times: u64,
     losses: &mut u64,
 ) -> Result<(), Stopped>

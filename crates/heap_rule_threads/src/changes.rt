@@ -3,10 +3,10 @@
 ghost use Rattle.std.specs.Prelude.{◌≡◌, None, OnOk, IfOk};
 ghost use Rattle.heap_model.specs.Sizes.{IsClass};
 ghost use Rattle.heap_rule.specs.Seated.{IsSeatOf};
-ghost use Rattle.heap_rule_threads.specs.Hands.{HasNoBatch, Holds, KeepsHeld};
+ghost use Rattle.heap_rule_threads.specs.Hands.{HasNoBatch, Holds, KeepsSmallBlocks};
 
 use crate::claims::{make, pop_listed, push_back, take_fresh};
-use crate::dice::Dice;
+use crate::dice::RandomNumbers;
 use crate::hands::{Hand, Tried};
 use crate::sharing::{give, lift, pop_of_class, push_of_class, take_free};
 use heap_rule::{Seat, Shared};
@@ -21,7 +21,7 @@ fn get_one(seat: &mut Seat, shared: &Shared, class: u8, choice: u64) -> Result<T
     requires none { HasNoBatch seat.old.view }
     ensures going { OnOk result (seat.new.view.stopped ≡ None) }
     ensures hand { IfOk result (λ tried. Holds tried.hand seat.new.view) }
-    ensures held { KeepsHeld seat.old.view seat.new.view }
+    ensures held { KeepsSmallBlocks seat.old.view seat.new.view }
     ensures seat { IsSeatOf shared.now seat.new }
 {
     match choice {
@@ -37,14 +37,14 @@ pub fn change_hand(
     seat: &mut Seat,
     shared: &Shared,
     hand: Hand,
-    dice: &mut Dice,
+    dice: &mut RandomNumbers,
 ) -> Result<Tried, Stopped>
     requires seat { IsSeatOf shared.now seat.old }
     requires going { seat.old.view.stopped ≡ None }
     requires hand { Holds hand seat.old.view }
     ensures going { OnOk result (seat.new.view.stopped ≡ None) }
     ensures hand { IfOk result (λ tried. Holds tried.hand seat.new.view) }
-    ensures held { KeepsHeld seat.old.view seat.new.view }
+    ensures held { KeepsSmallBlocks seat.old.view seat.new.view }
     ensures seat { IsSeatOf shared.now seat.new }
 {
     let one = dice.class();

@@ -3,11 +3,11 @@
 ghost use Rattle.std.specs.Prelude.{◌≡◌, None, OnOk, IfOk};
 ghost use Rattle.heap_model.specs.Sizes.{IsClass};
 ghost use Rattle.heap_rule.specs.Seated.{IsSeatOf};
-ghost use Rattle.heap_rule_threads.specs.Hands.{HasNoBatch, HasRaw, Holds, KeepsHeld};
+ghost use Rattle.heap_rule_threads.specs.Hands.{HasNoBatch, HasRaw, Holds, KeepsSmallBlocks};
 
 use crate::hands::{Hand, Tried};
 use heap_rule::{Seat, Shared};
-use heap_rule_tests::{Refusal, make_blocks, pop_free, push_free, take_one};
+use heap_rule_tests::{NotDone, make_blocks, pop_free, push_free, take_one};
 use line_memory::Stopped;
 
 /// Claims a superblock that was never taken, if there is one and no other seat is faster.
@@ -16,14 +16,14 @@ pub fn take_fresh(seat: &mut Seat, shared: &Shared) -> Result<Tried, Stopped>
     requires none { HasNoBatch seat.old.view }
     ensures going { OnOk result (seat.new.view.stopped ≡ None) }
     ensures hand { IfOk result (λ tried. Holds tried.hand seat.new.view) }
-    ensures held { KeepsHeld seat.old.view seat.new.view }
+    ensures held { KeepsSmallBlocks seat.old.view seat.new.view }
     ensures seat { IsSeatOf shared.now seat.new }
 {
     match take_one(seat, shared) {
         Ok(d) => Ok(Tried::done(Hand::Raw { d })),
-        Err(Refusal::Nothing) => Ok(Tried::done(Hand::Empty)),
-        Err(Refusal::Lost { found: _ }) => Ok(Tried::lost(Hand::Empty)),
-        Err(Refusal::Stopped(e)) => Err(e),
+        Err(NotDone::Nothing) => Ok(Tried::done(Hand::Empty)),
+        Err(NotDone::Lost { found: _ }) => Ok(Tried::lost(Hand::Empty)),
+        Err(NotDone::Stopped(e)) => Err(e),
     }
 }
 
@@ -34,14 +34,14 @@ pub fn pop_listed(seat: &mut Seat, shared: &Shared) -> Result<Tried, Stopped>
     requires none { HasNoBatch seat.old.view }
     ensures going { OnOk result (seat.new.view.stopped ≡ None) }
     ensures hand { IfOk result (λ tried. Holds tried.hand seat.new.view) }
-    ensures held { KeepsHeld seat.old.view seat.new.view }
+    ensures held { KeepsSmallBlocks seat.old.view seat.new.view }
     ensures seat { IsSeatOf shared.now seat.new }
 {
     match pop_free(seat, shared) {
         Ok(d) => Ok(Tried::done(Hand::Raw { d })),
-        Err(Refusal::Nothing) => Ok(Tried::done(Hand::Empty)),
-        Err(Refusal::Lost { found: _ }) => Ok(Tried::lost(Hand::Empty)),
-        Err(Refusal::Stopped(e)) => Err(e),
+        Err(NotDone::Nothing) => Ok(Tried::done(Hand::Empty)),
+        Err(NotDone::Lost { found: _ }) => Ok(Tried::lost(Hand::Empty)),
+        Err(NotDone::Stopped(e)) => Err(e),
     }
 }
 
@@ -51,14 +51,14 @@ pub fn push_back(seat: &mut Seat, shared: &Shared, d: u64) -> Result<Tried, Stop
     requires raw { HasRaw d seat.old.view }
     ensures going { OnOk result (seat.new.view.stopped ≡ None) }
     ensures hand { IfOk result (λ tried. Holds tried.hand seat.new.view) }
-    ensures held { KeepsHeld seat.old.view seat.new.view }
+    ensures held { KeepsSmallBlocks seat.old.view seat.new.view }
     ensures seat { IsSeatOf shared.now seat.new }
 {
     match push_free(seat, shared, d) {
         Ok(()) => Ok(Tried::done(Hand::Empty)),
-        Err(Refusal::Nothing) => Ok(Tried::done(Hand::Raw { d })),
-        Err(Refusal::Lost { found: _ }) => Ok(Tried::lost(Hand::Raw { d })),
-        Err(Refusal::Stopped(e)) => Err(e),
+        Err(NotDone::Nothing) => Ok(Tried::done(Hand::Raw { d })),
+        Err(NotDone::Lost { found: _ }) => Ok(Tried::lost(Hand::Raw { d })),
+        Err(NotDone::Stopped(e)) => Err(e),
     }
 }
 
@@ -70,7 +70,7 @@ pub fn make(seat: &mut Seat, shared: &Shared, d: u64, class: u8) -> Result<Tried
     requires class { IsClass class }
     ensures going { OnOk result (seat.new.view.stopped ≡ None) }
     ensures hand { IfOk result (λ tried. Holds tried.hand seat.new.view) }
-    ensures held { KeepsHeld seat.old.view seat.new.view }
+    ensures held { KeepsSmallBlocks seat.old.view seat.new.view }
     ensures seat { IsSeatOf shared.now seat.new }
 {
     let (_, count) = seat.cache(shared, class);

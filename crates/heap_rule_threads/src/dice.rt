@@ -16,14 +16,14 @@ const CLASSES: u64 = 9;
 
 /// A source of numbers.
 #[derive(Drop)]
-pub struct Dice {
+pub struct RandomNumbers {
     generator: Lcg64Xsh32,
 }
 
-impl Dice {
+impl RandomNumbers {
     /// The numbers that follow from the seed.
-    pub fn new(seed: u64) -> Dice {
-        Dice {
+    pub fn new(seed: u64) -> RandomNumbers {
+        RandomNumbers {
             generator: Lcg64Xsh32::new(seed, 0),
         }
     }
@@ -44,7 +44,7 @@ impl Dice {
     }
 }
 
-impl Chance for Dice {
+impl Chance for RandomNumbers {
     fn draw(&mut self) -> u64 {
         self.generator.next_u64()
     }

@@ -7,7 +7,7 @@ ghost use Rattle.heap_rule.specs.Seated.{IsSeatOf};
 ghost use Rattle.heap_rule_threads.specs.Jobs.{AreFreshSlots, AreTold, HaveRoots, IsJobOf, IsUnbatched, IsWorkedOf};
 
 use crate::slots::Slot;
-use crate::working::{Job, Order, Task, Told, Worked};
+use crate::working::{Job, Order, Task, WorkReport, Worked};
 use crash_core::Owners;
 use heap_rule::{Seat, Shared};
 use std::alloc::{AllocError, Global};
@@ -114,7 +114,7 @@ pub fn deal_jobs(
 pub struct Report {
     /// Its roots, and the blocks that it holds.
     pub slots: Vec<Slot>,
-    pub told: Told,
+    pub told: WorkReport,
 }
 
 /// The seats, and what the threads tell.

@@ -19,7 +19,7 @@ mod working;
 pub use jobs::{Plan, Report};
 pub use slots::{HeldBlock, Slot};
 pub use together::{Ended, work_together};
-pub use working::{Task, Told};
+pub use working::{Task, WorkReport};
 
 #[cfg(test)]
 mod plain;

@@ -4,7 +4,7 @@ ghost use Rattle.std.specs.Prelude.{◌<◌};
 ghost use Rattle.heap_model.specs.Counting.{times};
 ghost use Rattle.heap_model.specs.Geometry.{roots};
 ghost use Rattle.heap_rule.specs.Seated.{IsSeatOf};
-ghost use Rattle.heap_rule_threads.specs.Hands.{HasNoBatch, KeepsHeld, Stays};
+ghost use Rattle.heap_rule_threads.specs.Hands.{HasNoBatch, KeepsSmallBlocks, Stays};
 
 use crate::claims::{pop_listed, push_back};
 use crate::hands::Hand;
@@ -47,7 +47,7 @@ pub fn pop_and_push(
 ) -> Result<(), Stopped>
     requires seat { IsSeatOf shared.now seat.old }
     requires none { HasNoBatch seat.old.view }
-    ensures held { KeepsHeld seat.old.view seat.new.view }
+    ensures held { KeepsSmallBlocks seat.old.view seat.new.view }
     ensures seat { IsSeatOf shared.now seat.new }
 {
     let mut hand = Hand::Empty;

@@ -4,11 +4,11 @@
 ghost use Rattle.std.specs.Prelude.{◌≡◌, None, OnOk, IfOk};
 ghost use Rattle.heap_model.specs.Sizes.{IsClass};
 ghost use Rattle.heap_rule.specs.Seated.{IsSeatOf};
-ghost use Rattle.heap_rule_threads.specs.Hands.{HasBatch, HasClassed, HasNoBatch, Holds, KeepsHeld};
+ghost use Rattle.heap_rule_threads.specs.Hands.{HasBatchInHand, HasClassed, HasNoBatch, Holds, KeepsSmallBlocks};
 
 use crate::hands::{Hand, Tried};
 use heap_rule::{Seat, Shared};
-use heap_rule_tests::{Refusal, give_batch, lift_cached, pop_class, push_class, take_free_blocks};
+use heap_rule_tests::{NotDone, give_batch, lift_cached, pop_class, push_class, take_free_blocks};
 use line_memory::Stopped;
 use super_block::{Geometry, SUPERBLOCK_WORDS};
 
@@ -19,14 +19,14 @@ pub fn pop_of_class(seat: &mut Seat, shared: &Shared, class: u8) -> Result<Tried
     requires none { HasNoBatch seat.old.view }
     ensures going { OnOk result (seat.new.view.stopped ≡ None) }
     ensures hand { IfOk result (λ tried. Holds tried.hand seat.new.view) }
-    ensures held { KeepsHeld seat.old.view seat.new.view }
+    ensures held { KeepsSmallBlocks seat.old.view seat.new.view }
     ensures seat { IsSeatOf shared.now seat.new }
 {
     match pop_class(seat, shared, class) {
         Ok(d) => Ok(Tried::done(Hand::Classed { d, class })),
-        Err(Refusal::Nothing) => Ok(Tried::done(Hand::Empty)),
-        Err(Refusal::Lost { found: _ }) => Ok(Tried::lost(Hand::Empty)),
-        Err(Refusal::Stopped(e)) => Err(e),
+        Err(NotDone::Nothing) => Ok(Tried::done(Hand::Empty)),
+        Err(NotDone::Lost { found: _ }) => Ok(Tried::lost(Hand::Empty)),
+        Err(NotDone::Stopped(e)) => Err(e),
     }
 }
 
@@ -36,14 +36,14 @@ pub fn push_of_class(seat: &mut Seat, shared: &Shared, d: u64, class: u8) -> Res
     requires classed { HasClassed d class seat.old.view }
     ensures going { OnOk result (seat.new.view.stopped ≡ None) }
     ensures hand { IfOk result (λ tried. Holds tried.hand seat.new.view) }
-    ensures held { KeepsHeld seat.old.view seat.new.view }
+    ensures held { KeepsSmallBlocks seat.old.view seat.new.view }
     ensures seat { IsSeatOf shared.now seat.new }
 {
     match push_class(seat, shared, d, class) {
         Ok(()) => Ok(Tried::done(Hand::Empty)),
-        Err(Refusal::Nothing) => Ok(Tried::done(Hand::Classed { d, class })),
-        Err(Refusal::Lost { found: _ }) => Ok(Tried::lost(Hand::Classed { d, class })),
-        Err(Refusal::Stopped(e)) => Err(e),
+        Err(NotDone::Nothing) => Ok(Tried::done(Hand::Classed { d, class })),
+        Err(NotDone::Lost { found: _ }) => Ok(Tried::lost(Hand::Classed { d, class })),
+        Err(NotDone::Stopped(e)) => Err(e),
     }
 }
 
@@ -55,7 +55,7 @@ pub fn take_free(seat: &mut Seat, shared: &Shared, d: u64, class: u8) -> Result<
     requires classed { HasClassed d class seat.old.view }
     ensures going { OnOk result (seat.new.view.stopped ≡ None) }
     ensures hand { IfOk result (λ tried. Holds tried.hand seat.new.view) }
-    ensures held { KeepsHeld seat.old.view seat.new.view }
+    ensures held { KeepsSmallBlocks seat.old.view seat.new.view }
     ensures seat { IsSeatOf shared.now seat.new }
 {
     let (_, count) = seat.cache(shared, class);
@@ -64,9 +64,9 @@ pub fn take_free(seat: &mut Seat, shared: &Shared, d: u64, class: u8) -> Result<
     }
     match take_free_blocks(seat, shared, d, class) {
         Ok(_) => Ok(Tried::done(Hand::Empty)),
-        Err(Refusal::Nothing) => Ok(Tried::done(Hand::Classed { d, class })),
-        Err(Refusal::Lost { found: _ }) => Ok(Tried::lost(Hand::Classed { d, class })),
-        Err(Refusal::Stopped(e)) => Err(e),
+        Err(NotDone::Nothing) => Ok(Tried::done(Hand::Classed { d, class })),
+        Err(NotDone::Lost { found: _ }) => Ok(Tried::lost(Hand::Classed { d, class })),
+        Err(NotDone::Stopped(e)) => Err(e),
     }
 }
 
@@ -78,7 +78,7 @@ pub fn lift(seat: &mut Seat, shared: &Shared, class: u8) -> Result<Tried, Stoppe
     requires none { HasNoBatch seat.old.view }
     ensures going { OnOk result (seat.new.view.stopped ≡ None) }
     ensures hand { IfOk result (λ tried. Holds tried.hand seat.new.view) }
-    ensures held { KeepsHeld seat.old.view seat.new.view }
+    ensures held { KeepsSmallBlocks seat.old.view seat.new.view }
     ensures seat { IsSeatOf shared.now seat.new }
 {
     seat.has_a_sound_state();
@@ -102,17 +102,17 @@ pub fn give(
     last: u64,
 ) -> Result<Tried, Stopped>
     requires seat { IsSeatOf shared.now seat.old }
-    requires batch { HasBatch d class last seat.old.view }
+    requires batch { HasBatchInHand d class last seat.old.view }
     ensures going { OnOk result (seat.new.view.stopped ≡ None) }
     ensures hand { IfOk result (λ tried. Holds tried.hand seat.new.view) }
-    ensures held { KeepsHeld seat.old.view seat.new.view }
+    ensures held { KeepsSmallBlocks seat.old.view seat.new.view }
     ensures seat { IsSeatOf shared.now seat.new }
 {
     match give_batch(seat, shared, d, class, last) {
         Ok(true) => Ok(Tried::done(Hand::Classed { d, class })),
         Ok(false) => Ok(Tried::done(Hand::Empty)),
-        Err(Refusal::Nothing) => Ok(Tried::done(Hand::Batch { d, class, last })),
-        Err(Refusal::Lost { found: _ }) => Ok(Tried::lost(Hand::Batch { d, class, last })),
-        Err(Refusal::Stopped(e)) => Err(e),
+        Err(NotDone::Nothing) => Ok(Tried::done(Hand::Batch { d, class, last })),
+        Err(NotDone::Lost { found: _ }) => Ok(Tried::lost(Hand::Batch { d, class, last })),
+        Err(NotDone::Stopped(e)) => Err(e),
     }
 }

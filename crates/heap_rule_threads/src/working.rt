@@ -5,7 +5,7 @@ ghost use Rattle.heap_rule.specs.Seated.{IsSeatOf};
 ghost use Rattle.heap_rule_threads.specs.Hands.{AreSlots, HasNoBatch, HoldsSame, Stays};
 
 use crate::acts::act_again;
-use crate::dice::Dice;
+use crate::dice::RandomNumbers;
 use crate::rounds::{load_and_store, pop_and_push};
 use crate::slots::Slot;
 use heap_rule::{Seat, Shared};
@@ -46,12 +46,12 @@ pub struct Job {
 pub struct Worked {
     pub seat: Seat,
     pub slots: Vec<Slot>,
-    pub told: Told,
+    pub told: WorkReport,
 }
 
 /// What a thread tells of its work.
 #[derive(Clone, Copy, Debug, PartialEq, Eq)]
-pub struct Told {
+pub struct WorkReport {
     /// Whether it has done its task as often as it was to. Else its seat has stopped.
     pub done: bool,
     /// How many exchanges it has lost.
@@ -76,7 +76,7 @@ fn do_task(
 {
     match order.task {
         Task::Act => {
-            let mut dice = Dice::new(order.seed);
+            let mut dice = RandomNumbers::new(order.seed);
             act_again(seat, shared, slots, &mut dice, order.times, losses)
         }
         Task::LoadAndStore => load_and_store_first(seat, shared, slots, order.times),
@@ -120,6 +120,6 @@ pub fn work(job: Job, shared: &Shared) -> Worked
     } = job;
     let mut losses = 0;
     let done = do_task(&mut seat, shared, &mut slots, &order, &mut losses).is_ok();
-    let told = Told { done, losses };
+    let told = WorkReport { done, losses };
     Worked { seat, slots, told }
 }

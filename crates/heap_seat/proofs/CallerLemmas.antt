@@ -6,10 +6,10 @@ use Rattle.heap_model.specs.Geometry.{root_word}
 use Rattle.heap_seat.specs.declared.spot.Spot.{Spot}
 use Rattle.heap_seat.specs.declared.spot.Spot.TheVariants.{InBlock, Root}
 use Rattle.heap_seat.specs.View.{View, word_of}
-use Rattle.heap_seat.specs.Words.{IsOwn, in_block, in_root, IsOwnSpot, MayBe, MayRead, MixesOwn, KeepsWord, KeepsOwn, MayStore, IsDurable, KeepsPending}
+use Rattle.heap_seat.specs.Words.{IsOwn, in_block, in_root, IsOwnSpot, MayBe, MayRead, MixesOwn, KeepsWord, KeepsOwn, MayHaveStored, IsDurable, KeepsPending}
 use Rattle.heap_model.specs.Image.{Image}
 use Rattle.heap_seat.specs.Alloc.{Adds}
-use Rattle.heap_seat.specs.Free.{MayFree}
+use Rattle.heap_seat.specs.Free.{MayHaveFreed}
 use Rattle.heap_seat.specs.Calls.{IsWrittenWith, Stores, WritesBack, Fences}
 use Rattle.heap_seat.specs.Rows.{Settles}
 use Rattle.std.proofs.lemmas.Bool.{cases_eq}
@@ -50,7 +50,7 @@ keeps_own_then v u w a b =
     }
 
 -- a store, and then a call that stores nothing
-pub store_then : (word value : ℕ) (v u w : View) → IsOwn v.held v.roots word → MayStore word value v u → KeepsOwn u w → MayStore word value v w
+pub store_then : (word value : ℕ) (v u w : View) → IsOwn v.held v.roots word → MayHaveStored word value v u → KeepsOwn u w → MayHaveStored word value v w
 store_then word value v u w owns a b =
     record {
       held = b.held ∙ a.held;
@@ -60,7 +60,7 @@ store_then word value v u w owns a b =
     }
 
 -- a call that stores nothing, and then a store
-pub then_store : (word value : ℕ) (v u w : View) → IsOwn v.held v.roots word → KeepsOwn v u → MayStore word value u w → MayStore word value v w
+pub then_store : (word value : ℕ) (v u w : View) → IsOwn v.held v.roots word → KeepsOwn v u → MayHaveStored word value u w → MayHaveStored word value v w
 then_store word value v u w owns a b =
     record {
       held = b.held ∙ a.held;
@@ -82,7 +82,7 @@ pub own_added : (b : Block) (v w : View) (word : ℕ) → Adds b v w → IsOwn v
 own_added b v w _ adds (in_block a word holds inside) = in_block a word (adds.keeps a holds) inside
 own_added b v w _ adds (in_root i word has at) = in_root i word (subst (λ (roots : List ℕ). Contains roots i) (sym adds.roots) has) at
 
-pub own_left : (b : Block) (v w : View) (word : ℕ) → MayFree b v w → (IsIn b word → ⊥) → IsOwn v.held v.roots word → IsOwn w.held w.roots word
+pub own_left : (b : Block) (v w : View) (word : ℕ) → MayHaveFreed b v w → (IsIn b word → ⊥) → IsOwn v.held v.roots word → IsOwn w.held w.roots word
 own_left b v w _ frees outside (in_block a word holds inside) =
     in_block a word (frees.keeps a holds (λ same. outside (subst (λ (x : Block). IsIn x word) same inside))) inside
 own_left b v w _ frees outside (in_root i word has at) = in_root i word (subst (λ (roots : List ℕ). Contains roots i) (sym frees.roots) has) at
@@ -150,7 +150,7 @@ pub not_new : (v : View) (a b : Block) → Contains v.held a → (Contains v.hel
 not_new v a b has new e = new (subst (λ (x : Block). Contains v.held x) e has)
 
 -- a store that is written back and fenced settles its own word, and what was pending before it
-pub publish_settles : (s : Spot) (value : ℕ) (v u t w : View) → IsOwnSpot v s → MayStore (word_of s) value v u → Stores (word_of s) value v u → KeepsOwn u t → WritesBack s u t
+pub publish_settles : (s : Spot) (value : ℕ) (v u t w : View) → IsOwnSpot v s → MayHaveStored (word_of s) value v u → Stores (word_of s) value v u → KeepsOwn u t → WritesBack s u t
     → Fences t w → Settles v w
 publish_settles s value v u t w at may stored keeps written fenced = record {
   each = λ word own pending. fenced.durable word

@@ -8,7 +8,7 @@ use Rattle.heap_seat.specs.Tickets.{Runs}
 use Rattle.heap_seat.specs.Calls.{SameRefusals}
 
 -- at most this block is held no more, and no own word outside it is stored to
-pub record MayFree (b : Block) (v w : View) : Type 0 where
+pub record MayHaveFreed (b : Block) (v w : View) : Type 0 where
   pub only : (a : Block) → Contains w.held a → Contains v.held a
   pub keeps : (a : Block) → Contains v.held a → a ≢ b → Contains w.held a
   pub roots : w.roots ≡ v.roots

@@ -47,7 +47,7 @@ pub record KeepsOwn (v w : View) : Type 0 where
   pub words : (word : ℕ) → IsOwn v.held v.roots word → KeepsWord v w word
 
 -- the one word may get the value, and no other is stored to; the same blocks are held
-pub record MayStore (word value : ℕ) (v w : View) : Type 0 where
+pub record MayHaveStored (word value : ℕ) (v w : View) : Type 0 where
   pub held : w.held ≡ v.held
   pub roots : w.roots ≡ v.roots
   pub others : (other : ℕ) → IsOwn v.held v.roots other → other ≢ word → KeepsWord v w other

@@ -1,7 +1,7 @@
 //! What a caller of any open heap does to publish a word.
 ghost use Rattle.std.specs.Prelude.{◌≡◌, ℕ, OnOk, IfErr, Some};
 ghost use Rattle.heap_seat.specs.View.{View, word_of};
-ghost use Rattle.heap_seat.specs.Words.{IsOwnSpot, MayStore};
+ghost use Rattle.heap_seat.specs.Words.{IsOwnSpot, MayHaveStored};
 ghost use Rattle.heap_seat.specs.Tickets.{Runs, Stops};
 ghost use Rattle.heap_seat.specs.Calls.{SameRefusals};
 ghost use Rattle.heap_seat.specs.Rows.{IsRow, Settles};
@@ -25,7 +25,7 @@ pub fn persist<H: HeapSeat>(heap: &mut H, s: Spot, value: u64) -> Result<(), Sto
     ensures kept { H.keeps heap.old heap.new }
 
     // At every exit a crash leaves what it could before, or the value in the word.
-    ensures crash { MayStore (word_of s) value (H.view heap.old) (H.view heap.new) }
+    ensures crash { MayHaveStored (word_of s) value (H.view heap.old) (H.view heap.new) }
 {
     heap.store(s, value)?;
     heap.write_back(s)?;

@@ -6,11 +6,11 @@ ghost use Rattle.heap_model.specs.Sizes.{span_of};
 ghost use Rattle.heap_seat.specs.declared.fault.AllocFault.TheVariants.{Full};
 ghost use Rattle.heap_seat.specs.declared.fault.Looks.{Looks};
 ghost use Rattle.heap_seat.specs.View.{View, word_of};
-ghost use Rattle.heap_seat.specs.Words.{IsOwnSpot, KeepsOwn, MayStore, MixesOwn, NamesAll, HasPicked};
+ghost use Rattle.heap_seat.specs.Words.{IsOwnSpot, KeepsOwn, MayHaveStored, MixesOwn, NamesAll, HasPicked};
 ghost use Rattle.heap_seat.specs.Tickets.{Stops};
 ghost use Rattle.heap_seat.specs.Calls.{IsSmallCall, IsLargeCall, Loads, Stores, WritesBack, Fences};
 ghost use Rattle.heap_seat.specs.Alloc.{Allocates, FailsBy};
-ghost use Rattle.heap_seat.specs.Free.{MayFree, Frees};
+ghost use Rattle.heap_seat.specs.Free.{MayHaveFreed, Frees};
 ghost use Rattle.heap_seat.specs.Sound.{IsSeat};
 
 use crate::fault::AllocFault;
@@ -66,7 +66,7 @@ pub trait HeapSeat {
         ensures ok { OnOk result (Frees b (view self.old) (view self.new)) }
         ensures given { OnOk result (gives_back self.old self.new b) }
         ensures stopped { IfErr result (λ e. Stops e.step (view self.old) (view self.new)) }
-        ensures others { MayFree b (view self.old) (view self.new) }
+        ensures others { MayHaveFreed b (view self.old) (view self.new) }
         ensures counted { IsLargeCall 0 (view self.old) (view self.new) }
         ensures idle { (ticket : ℕ) → (view self.old).stopped ≡ Some ticket
             → self.new ≡ self.old }
@@ -90,7 +90,7 @@ pub trait HeapSeat {
         ensures ok { OnOk result (Stores (word_of s) value (view self.old) (view self.new)) }
         ensures stopped { IfErr result (λ e. Stops e.step (view self.old) (view self.new)) }
         ensures unchanged { OnErr result (KeepsOwn (view self.old) (view self.new)) }
-        ensures crash { MayStore (word_of s) value (view self.old) (view self.new) }
+        ensures crash { MayHaveStored (word_of s) value (view self.old) (view self.new) }
         ensures counted { IsSmallCall (view self.old) (view self.new) }
         ensures idle { (ticket : ℕ) → (view self.old).stopped ≡ Some ticket
             → self.new ≡ self.old }

@@ -13,7 +13,7 @@ use Rattle.heap_model.proofs.BlockLemmas.{block_step}
 use Rattle.heap_model.proofs.MemberLemmas.{in_none, in_head, in_rest, head_or_rest}
 use Rattle.heap_model.proofs.CountingLemmas.{one_if_true, one_if_false, one_if_some}
 use Rattle.heap_shape.specs.Shape.{Place, in_list, is_full, in_large, is_new, Shape, stands_in, with_at}
-use Rattle.heap_shape.specs.Standing.{first_of, IsFirstOf, IsOfClass, IsListed, IsFullSuperblock, IsFree, IsAs}
+use Rattle.heap_shape.specs.Standing.{first_of, IsFirstOf, IsOfClass, HasFreeBlocks, IsFullSuperblock, IsFree, IsAs}
 use Rattle.heap_shape.specs.Whole.{IsShape}
 use Rattle.heap_shape.specs.Effects.{IsInSuperblock}
 use Rattle.heap_model.proofs.ListLemmas.{one_at_most, times_of}
@@ -122,7 +122,7 @@ module _ (capacity : ℕ) (image : Image) (held : List Block) (s : Shape) (shape
       (place_is (s.place d) list (omega arith), follows_below (λ e. image (link_word e)) capacity (head_first (image (head_word list))) (s.listed list) d (shape.follows list below) p)
 
   -- a superblock in the list of a class has free blocks of it
-  pub in_class_list : (class d : ℕ) → IsClass class → d < capacity → s.place d ≡ in_list class → IsListed capacity image s held class d
+  pub in_class_list : (class d : ℕ) → IsClass class → d < capacity → s.place d ≡ in_list class → HasFreeBlocks capacity image s held class d
   in_class_list zero d is within place = absurd (let some = is.some in omega arith)
   in_class_list (suc c) d is within place = subst (IsAs capacity image s held d) place (shape.places d within)
 

@@ -16,7 +16,7 @@ use Rattle.heap_model.proofs.CountingLemmas.{times_none, one_if_true, one_if_fal
 use Rattle.heap_model.proofs.PartLemmas.{part_taken}
 use Rattle.heap_model.proofs.PlaceLemmas.{same_there}
 use Rattle.heap_shape.specs.Shape.{Place, in_list, is_full, is_new, Shape, stands_in, with_at}
-use Rattle.heap_shape.specs.Standing.{first_of, IsFirstOf, HasOneOwner, times_free, IsOfClass, IsListed, IsFree, IsAs}
+use Rattle.heap_shape.specs.Standing.{first_of, IsFirstOf, HasOneOwner, times_free, IsOfClass, HasFreeBlocks, IsFree, IsAs}
 use Rattle.heap_shape.specs.Whole.{layout_at, IsShape}
 use Rattle.heap_shape.specs.Effects.{IsPushedOn, IsInSuperblock, IsGivenBack}
 use Rattle.heap_shape.specs.Moves.{after_give, after_give_full, after_give_all}
@@ -43,7 +43,7 @@ walk_joined image new from (x ∷ before) last rest chain same walks tail = (
 )
 
 -- a superblock with free blocks of a class is as the list of that class says
-listed_as : (capacity : ℕ) (image : Image) (s : Shape) (held : List Block) (class d : ℕ) → IsClass class → IsListed capacity image s held class d → IsAs capacity image s held d (in_list class)
+listed_as : (capacity : ℕ) (image : Image) (s : Shape) (held : List Block) (class d : ℕ) → IsClass class → HasFreeBlocks capacity image s held class d → IsAs capacity image s held d (in_list class)
 listed_as capacity image s held zero d is listed = absurd (let some = is.some in omega arith)
 listed_as capacity image s held (suc c) d is listed = listed
 
@@ -185,7 +185,7 @@ module _ (capacity class d : ℕ) (image new : Image) (held : List Block) (s : S
 
       -- it has free blocks, all or some
       given_listed : ((state ≡ empty_state) × (length blocks + length (s.chain d) ≡ blocks_of class)) ⊎ ((state ≡ partial_state) × (length blocks + length (s.chain d) < blocks_of class))
-          → IsListed capacity new after held class d
+          → HasFreeBlocks capacity new after held class d
       given_listed cases =
           let at : length (with_at s.chain d chain d) ≡ length blocks + length (s.chain d) = ap length chain_at ∙ length-append blocks (s.chain d) in
           let given = length-append before (last ∷ []) in

@@ -16,7 +16,7 @@ use Rattle.heap_model.proofs.MemberLemmas.{in_head, in_rest, head_or_rest}
 use Rattle.heap_model.proofs.PartLemmas.{cases_of_part, part_taken}
 use Rattle.heap_model.proofs.PlaceLemmas.{class_block, same_there}
 use Rattle.heap_shape.specs.Shape.{Place, in_list, is_full, in_large, is_new, Shape, with_at}
-use Rattle.heap_shape.specs.Standing.{first_of, IsFirstOf, HoldsAt, HasOneOwner, a_free, a_held, times_free, IsOfClass, IsListed, IsFullSuperblock, HasNoHeld, IsAs}
+use Rattle.heap_shape.specs.Standing.{first_of, IsFirstOf, HoldsAt, HasOneOwner, a_free, a_held, times_free, IsOfClass, HasFreeBlocks, IsFullSuperblock, HasNoHeld, IsAs}
 use Rattle.heap_shape.specs.Whole.{layout_at, IsCachedIn, IsShape}
 use Rattle.heap_shape.specs.Effects.{IsSet, IsInSuperblock}
 use Rattle.heap_shape.specs.Moves.{with_cache, AddsTo, TakesFrom}
@@ -104,7 +104,7 @@ replaced : (capacity : ℕ) (image new : Image) (s t : Shape) (held now : List B
     → IsAs capacity image s held d p → IsAs capacity new t now d p
 replaced capacity image new s t held now class d (in_list zero) place is info anchor chain of free =
     absurd (elim place as (λ _. ⊥) [ inl e ↦ let none : 0 ≡ class = cc in let some = is.some in omega arith | inr both ↦ cc ])
-replaced capacity image new s t held now class d (in_list (suc c)) place is info anchor chain of listed = elim place as (λ _. IsListed capacity new t now (suc c) d) [
+replaced capacity image new s t held now class d (in_list (suc c)) place is info anchor chain of listed = elim place as (λ _. HasFreeBlocks capacity new t now (suc c) d) [
   | inl e ↦ let same : suc c ≡ class = cc in record {
     of_class = subst (λ k. IsOfClass capacity new t now k d) (sym same) of;
     some = subst (λ xs. 1 ≤ length xs) (sym chain) listed.some;

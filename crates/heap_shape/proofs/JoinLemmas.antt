@@ -13,7 +13,7 @@ use Rattle.heap_model.specs.Chains.{Follows}
 use Rattle.heap_model.proofs.BlockLemmas.{block_inside}
 use Rattle.heap_model.proofs.PartLemmas.{part_taken}
 use Rattle.heap_shape.specs.Shape.{in_list, is_full, in_large, is_new, Shape, stands_in}
-use Rattle.heap_shape.specs.Standing.{HoldsAt, IsInLarge, IsNew, IsAs}
+use Rattle.heap_shape.specs.Standing.{HoldsAt, IsTakenByLarge, IsNew, IsAs}
 use Rattle.heap_shape.specs.Whole.{layout_at, IsCachedIn, IsShape}
 use Rattle.heap_shape.specs.Effects.{IsSet, IsInSuperblock}
 use Rattle.heap_shape.specs.Moves.{after_join, AddsTo}
@@ -149,7 +149,7 @@ join capacity n d image middle new held now s shape past some within set info ad
         by_side (inr behind) is = let raised = used in omega arith
 
   -- each of them is taken by the large block
-  is_taken : (e : ℕ) → d ≤ e → e < d + n → IsInLarge new e
+  is_taken : (e : ℕ) → d ≤ e → e < d + n → IsTakenByLarge new e
   is_taken e from until = record {
     taken = let raised = used in omega arith;
     no_class = λ is. let last = is.last in let least = is.some in elim (cases_eq e d) as (λ _. ⊥) [

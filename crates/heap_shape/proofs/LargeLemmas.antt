@@ -15,7 +15,7 @@ use Rattle.heap_model.proofs.CountingLemmas.{one_if_true, one_if_false}
 use Rattle.heap_model.proofs.PartLemmas.{part_taken, long_takes}
 use Rattle.heap_model.proofs.PlaceLemmas.{same_there}
 use Rattle.heap_shape.specs.Shape.{Place, in_list, is_full, in_large, is_new, Shape, stands_in, with_at}
-use Rattle.heap_shape.specs.Standing.{HasNoHeld, IsFree, IsInLarge, IsAs}
+use Rattle.heap_shape.specs.Standing.{HasNoHeld, IsFree, IsTakenByLarge, IsAs}
 use Rattle.heap_shape.specs.Whole.{layout_at, IsCachedIn, IsShape}
 use Rattle.heap_shape.specs.Effects.{IsSet, IsPushedOn}
 use Rattle.heap_shape.specs.Moves.{after_split, TakesFrom}
@@ -127,7 +127,7 @@ Leads image = Follows (λ e. image (link_word e))
 module _ (capacity d : ℕ) (image middle new : Image) (held : List Block) (s : Shape) (shape : IsShape capacity image held s)
     (within : d < capacity) (place : s.place d ≡ in_large) (set : IsSet image middle (anchor_word d) 0) (pushed : IsPushedOn middle new 0 d) where
   -- the superblock is taken
-  large : IsInLarge image d
+  large : IsTakenByLarge image d
   large = subst (λ p. IsAs capacity image s held d p) place (shape.places d within)
 
   -- three words change

@@ -16,7 +16,7 @@ use Rattle.heap_model.proofs.CountingLemmas.{total_some, one_if_true, one_if_fal
 use Rattle.heap_model.proofs.PartLemmas.{long_takes}
 use Rattle.heap_model.proofs.LeftLemmas.{counts_large}
 use Rattle.heap_shape.specs.Shape.{Place, in_list, is_full, in_large, is_new, Shape, stands_in}
-use Rattle.heap_shape.specs.Standing.{first_of, IsFirstOf, HasOneOwner, a_free, a_held, IsListed, IsFullSuperblock, IsAs}
+use Rattle.heap_shape.specs.Standing.{first_of, IsFirstOf, HasOneOwner, a_free, a_held, HasFreeBlocks, IsFullSuperblock, IsAs}
 use Rattle.heap_shape.specs.Whole.{IsShape}
 use Rattle.heap_shape.specs.Draining.{HasUse, for_class, for_held, for_later, IsAccounted}
 use Rattle.heap_shape.proofs.CountLemmas.{few_members}
@@ -178,7 +178,7 @@ module _ (image : Image) (held : List Block) (shaped : IsShaped image held) (nam
 
   -- a superblock in the list of a class
   listed_at_rest : (class : ℕ) → IsClass class → 0 < times d (shaped.descriptors class) → d < used_of image
-      → IsListed (capacity_of image) image (shape_of image held shaped) held class d
+      → HasFreeBlocks (capacity_of image) image (shape_of image held shaped) held class d
   listed_at_rest class is some taken =
       let of = shaped.in_class class d is some in
       let anchored = of.2 in

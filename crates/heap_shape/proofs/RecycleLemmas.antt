@@ -11,7 +11,7 @@ use Rattle.heap_model.specs.Counting.{times}
 use Rattle.heap_model.proofs.MemberLemmas.{in_none}
 use Rattle.heap_model.proofs.PlaceLemmas.{same_there}
 use Rattle.heap_shape.specs.Shape.{in_list, Shape, stands_in, with_at}
-use Rattle.heap_shape.specs.Standing.{IsFirstOf, IsListed, HasNoHeld, IsNew, IsAs}
+use Rattle.heap_shape.specs.Standing.{IsFirstOf, HasFreeBlocks, HasNoHeld, IsNew, IsAs}
 use Rattle.heap_shape.specs.Whole.{layout_at, IsCachedIn, IsShape}
 use Rattle.heap_shape.specs.Effects.{IsPoppedOf, IsPushedOn}
 use Rattle.heap_shape.specs.Moves.{after_recycle}
@@ -42,7 +42,7 @@ recycle capacity class d image middle new held s ds is shape list state popped p
   at : (s.place d ≡ in_list class) × (d < capacity) × (times d ds ≡ 0)
   at = first_place capacity image held s shape class d ds below list
 
-  there : IsListed capacity image s held class d
+  there : HasFreeBlocks capacity image s held class d
   there = in_class_list capacity image held s shape class d is at.1 at.0
 
   -- all its blocks are in its chain

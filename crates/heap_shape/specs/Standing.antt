@@ -46,7 +46,7 @@ pub record IsOfClass (capacity : ℕ) (image : Image) (s : Shape) (held : List B
   pub count : anchor_count (image (anchor_word d)) ≡ length (s.chain d)
 
 -- it has free blocks in its chain: all, or some
-pub record IsListed (capacity : ℕ) (image : Image) (s : Shape) (held : List Block) (class d : ℕ) : Type 0 where
+pub record HasFreeBlocks (capacity : ℕ) (image : Image) (s : Shape) (held : List Block) (class d : ℕ) : Type 0 where
   pub of_class : IsOfClass capacity image s held class d
   pub some : 1 ≤ length (s.chain d)
   pub state : ((anchor_state (image (anchor_word d)) ≡ empty_state) × (length (s.chain d) ≡ blocks_of class))
@@ -69,7 +69,7 @@ pub record IsFree (capacity : ℕ) (image : Image) (held : List Block) (d : ℕ)
   pub none : HasNoHeld capacity held d
 
 -- a large block takes it
-pub record IsInLarge (image : Image) (d : ℕ) : Type 0 where
+pub record IsTakenByLarge (image : Image) (d : ℕ) : Type 0 where
   pub taken : d < image used_word
   pub no_class : IsClass (image (info_word d)) → ⊥
 
@@ -83,7 +83,7 @@ pub record IsNew (image : Image) (d : ℕ) : Type 0 where
 -- what its place says of superblock d: list 0 has the free ones, the list of a class those with free blocks
 abbrev pub IsAs : ℕ → Image → Shape → List Block → ℕ → Place → Type 0
 IsAs capacity image s held d (in_list zero) = IsFree capacity image held d
-IsAs capacity image s held d (in_list (suc c)) = IsListed capacity image s held (suc c) d
+IsAs capacity image s held d (in_list (suc c)) = HasFreeBlocks capacity image s held (suc c) d
 IsAs capacity image s held d is_full = IsFullSuperblock capacity image s held d
-IsAs capacity image s held d in_large = IsInLarge image d
+IsAs capacity image s held d in_large = IsTakenByLarge image d
 IsAs capacity image s held d is_new = IsNew image d

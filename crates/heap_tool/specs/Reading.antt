@@ -3,7 +3,7 @@ use Rattle.std.specs.Prelude.{◌≡◌, ◌≤◌, ℕ, List, ◌++◌, length,
 use Rattle.std.specs.Io.KnownBytes.{Consumes}
 
 -- at most `room` bytes went from the front of what the reader had left to the end of the image
-pub record ReadsOn (room : ℕ) (left_old left_new : Option (List ℕ)) (image_old image_new : List ℕ)
+pub record ReadsPiece (room : ℕ) (left_old left_new : Option (List ℕ)) (image_old image_new : List ℕ)
     : Type 0 where
   pub bytes : List ℕ
   pub few : length bytes ≤ room

@@ -2,7 +2,7 @@
 ghost use Rattle.std.specs.Prelude.{◌≡◌, ◌↔◌, ◌<◌, ◌≤◌, ◌+◌, [], None, false, length, IfOk, IsOkAnd, IfSome, OnOk, IsErrOf, IsErrAnd, take};
 ghost use Rattle.std.specs.IoError.{error_kind};
 ghost use Rattle.std.specs.Io.KnownBytes.{IsAtEnd};
-ghost use Rattle.heap_tool.specs.Reading.{ReadsOn};
+ghost use Rattle.heap_tool.specs.Reading.{ReadsPiece};
 ghost use Rattle.tool_ports.specs.Calls.{no_calls};
 
 use crate::replacing::put_file;
@@ -147,7 +147,7 @@ fn read_piece<F: Read>(
 ) -> Result<bool, GetFault>
     requires room { 0 < room }
     requires piece { 0 < length piece.old }
-    ensures ok { OnOk result (ReadsOn room (F.remaining file.old) (F.remaining file.new)
+    ensures ok { OnOk result (ReadsPiece room (F.remaining file.old) (F.remaining file.new)
         image.old.items image.new.items) }
     ensures short { OnOk result (length image.new.items ≤ length image.old.items + room) }
     ensures end { result ≡ Ok false → IsAtEnd (F.remaining file.new) }

@@ -7,10 +7,10 @@ use Rattle.heap_model.specs.Image.{Image}
 use Rattle.heap_model.specs.Durability.{Mixes, IsCrashImage, IsTransient}
 use Rattle.heap_model.specs.Recovery.{in_header}
 use Rattle.heap_model.proofs.HeaderLemmas.{no_fault}
-use Rattle.heap_recover.specs.InPlace.{differences, IsRecoveryOf, RecoversAlike, IsBetween, Has, IsStoppedAt}
+use Rattle.heap_recover.specs.InPlace.{differences, IsRecoveryOf, RecoversAlike, IsBetween, HoldsDurably, IsStoppedAt}
 use Rattle.line_memory.specs.View.{View}
 use Rattle.dict_model.specs.Links.{dict_links, root_kind}
-use Rattle.trace_run.specs.Left.{IsWhole}
+use Rattle.trace_run.specs.Left.{AreWholeImage}
 use Rattle.image_rebuild.specs.Rebuilding.{IsRebuilt}
 
 -- a list of the roots' kinds reads as their kinds
@@ -33,7 +33,7 @@ module _ (old new : List ℕ) (held : List Block) (is : IsRecoveryOf old root_ki
     | inr e ↦ e ∙ capacity_new
   ]
 
-  pub durable_whole : (v : View) → length v.durable ≡ length v.volatile → IsBetween old new v → IsWhole v.durable
+  pub durable_whole : (v : View) → length v.durable ≡ length v.volatile → IsBetween old new v → AreWholeImage v.durable
   durable_whole v lengths between =
       let same = durable_capacity v between in
       let count = between.count in
@@ -44,7 +44,7 @@ module _ (old new : List ℕ) (held : List Block) (is : IsRecoveryOf old root_ki
       }
 
   -- it was done
-  pub rebuilt_done : (budget : ℕ) (now : List ℕ) (v : View) → v.volatile ≡ now → Has new v
+  pub rebuilt_done : (budget : ℕ) (now : List ℕ) (v : View) → v.volatile ≡ now → HoldsDurably new v
       → ((image : Image) → Mixes (slice_index v.volatile) (slice_index v.durable) image → RecoversAlike (8 * length old) (slice_index old) image root_kind dict_links)
       → IsRebuilt (slice_index old) (length old) budget false now
   rebuilt_done budget now v now_is has mixed =

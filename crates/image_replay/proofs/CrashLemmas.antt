@@ -12,7 +12,7 @@ use Rattle.core_model.specs.Memory.{memory_of}
 use Rattle.core_model.specs.View.{Setup}
 use Rattle.core_model.specs.Held.{durable_image}
 use Rattle.core_model.specs.Opening.{AreOwners, opened_state}
-use Rattle.core_model.specs.Steps.{State, Runs}
+use Rattle.core_model.specs.Steps.{TableState, Runs}
 use Rattle.core_model.proofs.OpenedLemmas.{opened}
 use Rattle.core_model.proofs.SoundLemmas.{sound_runs}
 use Rattle.core_model.proofs.HeaderLemmas.{crash_header}
@@ -40,9 +40,9 @@ first_owns held seats some = record {
 pub replayed : (words : List ℕ) (held : List Block) (seats : ℕ) (lines : List (ℕ × Event)) (block_owners root_owners : List ℕ) (events : List (ℕ × Event)) (answers : List StepAnswer) (tickets : ℕ)
     (left : List ℕ) (old new : CoreState) → block_owners ≡ replicate (length held) 0 → root_owners ≡ replicate roots 0 → events ≡ events_of lines
     → StandsFor old (replay_setup words) (opened_state (replay_setup words) held block_owners root_owners seats) → RunsOn old events answers new
-    → ((k : Setup) (s : State) → StandsFor new k s → tickets ≡ (memory_of k.capacity s.words).drawn)
-    → ((k : Setup) (s : State) → StandsFor new k s → IsCrashImage (durable_image k.capacity s.words) (slice_index left))
-    → ((k : Setup) (s : State) → StandsFor new k s → length left ≡ image_words k.capacity)
+    → ((k : Setup) (s : TableState) → StandsFor new k s → tickets ≡ (memory_of k.capacity s.words).drawn)
+    → ((k : Setup) (s : TableState) → StandsFor new k s → IsCrashImage (durable_image k.capacity s.words) (slice_index left))
+    → ((k : Setup) (s : TableState) → StandsFor new k s → length left ≡ image_words k.capacity)
     → IsReplayed words held seats lines answers tickets left
 replayed words held seats lines block_owners root_owners events answers tickets left old new blocks_are roots_are events_are stands runs drawn crash long =
     let here = subst (λ (l : List ℕ). StandsFor old (replay_setup words) (opened_state (replay_setup words) held l (replicate roots 0) seats)) blocks_are

@@ -7,7 +7,7 @@ use Rattle.core_model.specs.declared.answer.StepAnswer.{StepAnswer}
 use Rattle.core_model.specs.declared.event.Event.{Event}
 use Rattle.core_model.specs.declared.event.Event.TheVariants.{Tick}
 use Rattle.core_model.specs.View.{Setup}
-use Rattle.core_model.specs.Steps.{State, Runs}
+use Rattle.core_model.specs.Steps.{TableState, Runs}
 use Rattle.image_replay.specs.Replaying.{draws_before, events_by, events_of}
 
 abbrev Line : Type 0
@@ -31,7 +31,7 @@ seats_below n (line ∷ lines) below e has = elim (Contains-append_cases (events
   first = below line (0, omega arith, refl)
 
 -- each event has an answer
-pub answered : (k : Setup) (s s' : State) (events : List Line) (answers : List StepAnswer) → Runs k s events answers s' → length answers ≡ length events
+pub answered : (k : Setup) (s s' : TableState) (events : List Line) (answers : List StepAnswer) → Runs k s events answers s' → length answers ≡ length events
 answered k s s' [] [] runs = refl
 answered k s s' [] (answer ∷ answers) runs = absurd runs
 answered k s s' (e ∷ events) [] runs = absurd runs

@@ -10,7 +10,7 @@ use Rattle.core_model.specs.declared.answer.StepAnswer.{StepAnswer}
 use Rattle.core_model.specs.declared.event.Event.{Event}
 use Rattle.core_model.specs.Memory.{memory_of}
 use Rattle.core_model.specs.Held.{durable_image}
-use Rattle.core_model.specs.Steps.{State}
+use Rattle.core_model.specs.Steps.{TableState}
 use Rattle.core_model.proofs.OutcomeLemmas.{one_run}
 use Rattle.core_model.proofs.AlikeLemmas.{same_layout, same_reach, same_outside}
 use Rattle.heap_recover.proofs.AscendingLemmas.{ascending_one}
@@ -29,11 +29,11 @@ module _ (words : List ℕ) (held : List Block) (seats : ℕ) (lines : List (ℕ
   one_answers = sym one.0
 
   pub one_tickets : tickets' ≡ tickets
-  one_tickets = too.tickets_are ∙ ap (λ (s : State). (memory_of (capacity_of (slice_index words)) s.words).drawn) (sym one.1) ∙ sym is.tickets_are
+  one_tickets = too.tickets_are ∙ ap (λ (s : TableState). (memory_of (capacity_of (slice_index words)) s.words).drawn) (sym one.1) ∙ sym is.tickets_are
 
   -- both images are what a crash may leave of one state
   left_too : IsCrashImage (durable_image (capacity_of (slice_index words)) is.state.words) (slice_index left')
-  left_too = subst (λ (s : State). IsCrashImage (durable_image (capacity_of (slice_index words)) s.words) (slice_index left')) (sym one.1) too.left_is
+  left_too = subst (λ (s : TableState). IsCrashImage (durable_image (capacity_of (slice_index words)) s.words) (slice_index left')) (sym one.1) too.left_is
 
   pub one_outside : (at : ℕ) → PointsOutside (slice_index left) at → PointsOutside (slice_index left') at × (slice_index left' at ≡ slice_index left at)
   one_outside = same_outside (durable_image (capacity_of (slice_index words)) is.state.words) (slice_index left) (slice_index left') is.left_is left_too root_kind dict_links

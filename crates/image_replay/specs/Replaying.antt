@@ -14,7 +14,7 @@ use Rattle.core_model.specs.View.{Setup}
 use Rattle.core_model.specs.Memory.{memory_of}
 use Rattle.core_model.specs.Held.{durable_image}
 use Rattle.core_model.specs.Opening.{setup_of, opened_state}
-use Rattle.core_model.specs.Steps.{State, Runs}
+use Rattle.core_model.specs.Steps.{TableState, Runs}
 use Rattle.trace_text.specs.Answered.{answers_text_of, tickets_line_of}
 use Rattle.image_run.specs.declared.options.TheConstants.{MOST_BUDGET}
 use Rattle.image_run.specs.Reporting.{PointsOutside, TellsHeap}
@@ -50,13 +50,13 @@ pub record CanBeReplayed (seats : ℕ) (lines : List (ℕ × Event)) : Type 0 wh
 abbrev pub replay_setup : List ℕ → Setup
 replay_setup words = setup_of words MOST_BUDGET
 
-abbrev pub replay_opening : List ℕ → List Block → ℕ → State
+abbrev pub replay_opening : List ℕ → List Block → ℕ → TableState
 replay_opening words held seats = opened_state (replay_setup words) held (replicate (length held) 0) (replicate roots 0) seats
 
 -- what the heap's seats come to by the events of the lines, with these answers: so many tickets are drawn, and a crash leaves this image
 pub record IsReplayed (words : List ℕ) (held : List Block) (seats : ℕ) (lines : List (ℕ × Event)) (answers : List StepAnswer)
     (tickets : ℕ) (left : List ℕ) : Type 0 where
-  pub state : State
+  pub state : TableState
   pub runs : Runs (replay_setup words) (replay_opening words held seats) (events_of lines) answers state
   pub tickets_are : tickets ≡ (memory_of (capacity_of (slice_index words)) state.words).drawn
   pub left_is : IsCrashImage (durable_image (capacity_of (slice_index words)) state.words) (slice_index left)

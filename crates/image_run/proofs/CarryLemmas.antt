@@ -17,7 +17,7 @@ use Rattle.dictionary.specs.Reading.{AreMaps, RecoversTo}
 use Rattle.dictionary.proofs.SameLemmas.{traced_alike, map_kept}
 use Rattle.trace_run.specs.Stands.{IsOtherRoot}
 use Rattle.trace_run.specs.Needs.{ListsKeysOf}
-use Rattle.image_run.specs.Running.{Options, Leaves, Runs}
+use Rattle.image_run.specs.Running.{Options, Leaves, RunsRequests}
 use Rattle.trace_run.specs.Said.{Told}
 
 module _ (old new : Image) (to : RecoversTo old new) (maps : List (BTreeMap ℕ (List ℕ))) (are : AreMaps new shards maps) where
@@ -82,7 +82,7 @@ module _ (old new : Image) (to : RecoversTo old new) (maps : List (BTreeMap ℕ 
     state = leaves.state;
   }
 
-  pub runs_carried : (requests : List Request) (options : Options) (put text : List ℕ) → Runs new requests options put text → Runs old requests options put text
+  pub runs_carried : (requests : List Request) (options : Options) (put text : List ℕ) → RunsRequests new requests options put text → RunsRequests old requests options put text
   runs_carried requests options put text runs = record {
     told = runs.told;
     stopped = runs.stopped;

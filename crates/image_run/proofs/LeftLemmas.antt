@@ -18,7 +18,7 @@ use Rattle.dictionary.proofs.SameLemmas.{bad_kept}
 use Rattle.heap_recover.specs.declared.answer.Recovered.{Recovered}
 use Rattle.heap_recover.specs.declared.answer.Was.TheVariants.{Clean}
 use Rattle.trace_run.specs.Opened.{CanBeRun}
-use Rattle.image_run.specs.Reporting.{IsRecoveryOf}
+use Rattle.image_run.specs.Reporting.{IsRecoveredHeap}
 
 -- what recovery with the kinds of roots makes of words
 RecoversWith : Image → (ℕ → ℕ) → Recovered → Type 0
@@ -34,7 +34,7 @@ module _ (words kinds : List ℕ) (kinds_are : (i : ℕ) → slice_index kinds i
       → AreAscending (λ d. d) (IsFreeSuperblock (layout_of (slice_index words)) (IsReached (slice_index words) (slice_index kinds) dict_links)) answer.free.items
       → IsRecovered (slice_index words) (slice_index answer.heap.words) (IsReached (slice_index words) (slice_index kinds) dict_links)
       → ((answer.was ≡ Clean) ↔ (state_of (slice_index words) ≡ clean))
-      → IsRecoveryOf (slice_index words) answer
+      → IsRecoveredHeap (slice_index words) answer
   unfolding RecoversWith
   recovery_of_words answer held free left was =
       let here : RecoversWith (slice_index words) (slice_index kinds) answer = (held, free, left, was) in

@@ -8,7 +8,7 @@ use Rattle.trace_run.specs.Said.{replies_of}
 use Rattle.trace_run.proofs.AgainLemmas.{can_be_run}
 use Rattle.region_header.specs.Words.{AreWordsOf}
 use Rattle.image_run.specs.Reporting.{fault_of, PointsOutside}
-use Rattle.image_run.specs.Running.{Options, Runs}
+use Rattle.image_run.specs.Running.{Options, RunsRequests}
 
 -- bytes are read as the image of the words that they stand for
 pub image_of_words : (words bytes : List ℕ) → AreWordsOf words bytes → slice_index words ≡ image_of_bytes bytes
@@ -20,7 +20,7 @@ good_bytes words bytes are good =
     subst (λ n. header_fault n (image_of_bytes bytes) ≡ None) are.count
     (subst (λ (image : Image). header_fault (8 * length words) image ≡ None) (image_of_words words bytes are) good)
 
-module _ (image : Image) (requests : List Request) (options : Options) (put text : List ℕ) (have : HasMaps image) (runs : Runs image requests options put text) where
+module _ (image : Image) (requests : List Request) (options : Options) (put text : List ℕ) (have : HasMaps image) (runs : RunsRequests image requests options put text) where
   left_again : CanBeRun (length runs.left) (slice_index runs.left)
   left_again =
       can_be_run image (slice_index runs.left) requests (replies_of runs.told) runs.stopped (length runs.left) have

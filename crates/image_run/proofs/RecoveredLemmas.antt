@@ -7,10 +7,10 @@ use Rattle.heap_recover.specs.declared.answer.Recovered.{Recovered}
 use Rattle.dict_model.specs.Links.{shards}
 use Rattle.dictionary.specs.Reading.{AreMaps, RecoversTo}
 use Rattle.dictionary.proofs.SameLemmas.{map_kept}
-use Rattle.image_run.specs.Reporting.{IsRecoveryOf, PointsOutside}
+use Rattle.image_run.specs.Reporting.{IsRecoveredHeap, PointsOutside}
 
 -- recovery makes the heap's words of the image
-pub recovers_to : (image : Image) (recovered : Recovered) → IsRecoveryOf image recovered → ((at : ℕ) → PointsOutside image at → ⊥)
+pub recovers_to : (image : Image) (recovered : Recovered) → IsRecoveredHeap image recovered → ((at : ℕ) → PointsOutside image at → ⊥)
     → IsReady recovered.heap.words recovered.heap.held → RecoversTo image (slice_index recovered.heap.words)
 recovers_to image recovered is inside ready = record {
   recovered = is.recovers.words_are;

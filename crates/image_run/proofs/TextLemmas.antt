@@ -17,7 +17,7 @@ use Rattle.trace_text.specs.Report.{report_of}
 use Rattle.trace_text.specs.HeapMap.{map_of}
 use Rattle.trace_text.specs.Keys.{TellsKeys, IsReport}
 use Rattle.trace_text.specs.Recovered.{is_clean}
-use Rattle.image_run.specs.Reporting.{IsRecoveryOf, TellsHeap, IsTextOf, Reports, text_of, shown_text}
+use Rattle.image_run.specs.Reporting.{IsRecoveredHeap, TellsHeap, IsTextOf, Reports, text_of, shown_text}
 use Rattle.image_run.proofs.EntryLemmas.{entries_ascend}
 
 -- a test that holds exactly where two numbers are equal
@@ -26,7 +26,7 @@ same_test Clean m n is = sym (eq-eqb m n (is.0 refl))
 same_test Dirty m n is = sym (ne_eqb m n (λ e. let yes : Dirty ≡ Clean = is.1 e in absurd (cc)))
 
 -- the text on a recovered heap is that on the image
-same_text : (image : Image) (recovered : Recovered) (keys : List ℕ) (with_map : Bool) → IsRecoveryOf image recovered
+same_text : (image : Image) (recovered : Recovered) (keys : List ℕ) (with_map : Bool) → IsRecoveredHeap image recovered
     → text_of recovered keys with_map ≡ shown_text image with_map keys recovered.heap.held recovered.free.items (slice_index recovered.heap.words)
 same_text image recovered keys with_map is =
     let capacity : slice_index recovered.heap.words capacity_word ≡ image capacity_word = is.recovers.words_are.same capacity_word (in_header capacity_word (inr (inr (inl refl)))) in
@@ -35,7 +35,7 @@ same_text image recovered keys with_map is =
     ∙ ap (λ b. report_of (capacity_of image) b keys recovered.heap.held ++ (if with_map then map_of (slice_index recovered.heap.words) recovered.heap.held recovered.free.items else [])) state
 
 -- so it is the report on the image, where the maps are those of the image
-pub reports : (image : Image) (recovered : Recovered) (maps : List (BTreeMap ℕ (List ℕ))) (with_sum with_map : Bool) (text : List ℕ) → IsRecoveryOf image recovered
+pub reports : (image : Image) (recovered : Recovered) (maps : List (BTreeMap ℕ (List ℕ))) (with_sum with_map : Bool) (text : List ℕ) → IsRecoveredHeap image recovered
     → AreMaps image shards maps → IsTextOf recovered maps with_sum with_map text → Reports image with_sum with_map text
 reports image recovered maps with_sum with_map text is are text_is =
     let told : TellsKeys (Some maps) with_sum text_is.keys = text_is.keys_are in
@@ -52,7 +52,7 @@ reports image recovered maps with_sum with_map text is are text_is =
     }
 
 -- the report on a recovered heap without keys is that on the image
-pub tells_heap : (image : Image) (recovered : Recovered) (text : List ℕ) → IsRecoveryOf image recovered
+pub tells_heap : (image : Image) (recovered : Recovered) (text : List ℕ) → IsRecoveredHeap image recovered
     → IsReport (capacity_of (slice_index recovered.heap.words)) (is_clean recovered.was) None false recovered.heap.held text → TellsHeap image text
 tells_heap image recovered text is report = record {
   held = recovered.heap.held;

@@ -38,7 +38,7 @@ pub record Recovers (image : Image) (held : List Block) (free : List ℕ) (words
   pub words_are : IsRecovered image words (IsKept image)
 
 -- the heap is what recovery of the image gives
-pub record IsRecoveryOf (image : Image) (recovered : Recovered) : Type 0 where
+pub record IsRecoveredHeap (image : Image) (recovered : Recovered) : Type 0 where
   pub recovers : Recovers image recovered.heap.held recovered.free.items (slice_index recovered.heap.words)
   pub was : (recovered.was ≡ Clean) ↔ (state_of image ≡ clean)
 

@@ -38,7 +38,7 @@ pub record Leaves (image : Image) (requests : List Request) (budget : ℕ) (told
   pub state : LeavesState stopped (slice_index left)
 
 -- a run of the requests over the image puts these bytes, those of the image that is left, which are read again as its words, and prints this text: the replies, and then the report on the image that is left
-pub record Runs (image : Image) (requests : List Request) (options : Options) (put text : List ℕ) : Type 0 where
+pub record RunsRequests (image : Image) (requests : List Request) (options : Options) (put text : List ℕ) : Type 0 where
   pub told : List Told
   pub stopped : Bool
   pub left : List ℕ

@@ -8,27 +8,27 @@ ghost use Rattle.dict_model.specs.Requests.{Request};
 ghost use Rattle.dictionary.specs.Reading.{RecoversTo, AreMaps};
 ghost use Rattle.trace_run.specs.Opened.{HasMaps};
 ghost use Rattle.image_run.specs.Reporting.{fault_of, PointsOutside, Recovers};
-ghost use Rattle.image_run.specs.Running.{Options, Runs};
+ghost use Rattle.image_run.specs.Running.{Options, RunsRequests};
 
 /// A run over what recovery leaves of an image is one over the image itself.
 pub fn a_run_over_what_recovery_leaves_is_one_over_the_image()
     ensures { (image words : Image) (maps : List (BTreeMap ℕ (List ℕ)))
         → RecoversTo image words → AreMaps words shards maps
         → (requests : List Request) (options : Options) (put text : List ℕ)
-        → Runs words requests options put text → Runs image requests options put text }
+        → RunsRequests words requests options put text → RunsRequests image requests options put text }
 {}
 
 /// What a run over an image whose shards are maps puts is accepted by the next run: its bytes are
 /// not malformed, nothing in it is outside, and each of its shards is a map.
 pub fn what_a_run_puts_can_be_run_again()
     ensures well_formed { (image : Image) (requests : List Request) (options : Options)
-        (put text : List ℕ) → HasMaps image → Runs image requests options put text
+        (put text : List ℕ) → HasMaps image → RunsRequests image requests options put text
         → fault_of put ≡ None }
     ensures nothing_outside { (image : Image) (requests : List Request) (options : Options)
-        (put text : List ℕ) → HasMaps image → Runs image requests options put text
+        (put text : List ℕ) → HasMaps image → RunsRequests image requests options put text
         → (at : ℕ) → PointsOutside (image_of_bytes put) at → ⊥ }
     ensures maps { (image : Image) (requests : List Request) (options : Options)
-        (put text : List ℕ) → HasMaps image → Runs image requests options put text
+        (put text : List ℕ) → HasMaps image → RunsRequests image requests options put text
         → HasMaps (image_of_bytes put) }
 {}
 

@@ -1,9 +1,9 @@
 //! Runs a trace over a recovered heap, and makes what is put and printed.
 ghost use Rattle.std.specs.Prelude.{◌≡◌, length, IfOk, Contains, slice_index};
 ghost use Rattle.trace_run.specs.Opened.{IsDictionary, CanBeRun};
-ghost use Rattle.trace_run.specs.Said.{requests_of, AreShort};
-ghost use Rattle.image_run.specs.Reporting.{Reports, IsRecoveryOf};
-ghost use Rattle.image_run.specs.Running.{Runs, options_of};
+ghost use Rattle.trace_run.specs.Said.{requests_of, ValuesAreShort};
+ghost use Rattle.image_run.specs.Reporting.{Reports, IsRecoveredHeap};
+ghost use Rattle.image_run.specs.Running.{RunsRequests, options_of};
 
 use crate::options::RunOptions;
 use crate::reporting::recovered_text;
@@ -37,8 +37,8 @@ pub fn run_image<R, G: Gate + Sync, C: Chances>(
     chances: &mut C,
 ) -> Result<RunProduct, AllocError>
     requires dictionary { IsDictionary (slice_index heap.words) (Contains heap.held) }
-    requires short { AreShort (requests_of requests.now) }
-    ensures ok { IfOk result (λ product. Runs (slice_index heap.words)
+    requires short { ValuesAreShort (requests_of requests.now) }
+    ensures ok { IfOk result (λ product. RunsRequests (slice_index heap.words)
         (requests_of requests.now) (options_of options) product.image product.text) }
 {
     chances.seed(options.seed);
@@ -73,7 +73,7 @@ fn left_text(alloc: Global, words: &[u64], options: RunOptions) -> Result<Bytes,
 // Recovers such an image, which is never refused.
 fn recover_left(alloc: Global, words: &[u64]) -> Result<Recovered, AllocError>
     requires { CanBeRun (length words.now) (slice_index words.now) }
-    ensures { IfOk result (IsRecoveryOf (slice_index words.now)) }
+    ensures { IfOk result (IsRecoveredHeap (slice_index words.now)) }
 {
     match recover(alloc, words, &root_kinds(), &DictFilter) {
         Ok(recovered) => Ok(recovered),

@@ -5,7 +5,7 @@ use Rattle.std.proofs.lemmas.Bool.{cases_eq, cases_lt}
 use Rattle.std.proofs.lemmas.Grind.{get_or-set_at}
 use Rattle.std.proofs.lemmas.List.{set_past}
 use Rattle.line_memory.specs.View.{View, volatile_at, word_count}
-use Rattle.line_memory.specs.Crash.{IsValueOf, OnlyWritesBack, AddsNothing, MayStore}
+use Rattle.line_memory.specs.Crash.{IsValueOf, OnlyWritesBack, AddsNothing, MayLeaveStore}
 use Rattle.line_memory.specs.Steps.{TakesBy, RefusesBy, IsLoad, IsStore, IsWriteBack, IsFence, after_draw, written_back, early_word}
 
 -- a list has the number or hasn't
@@ -120,7 +120,7 @@ allowed_not_refused gives ticket v w running allowed h =
     ]
 
 -- what adds nothing stores nothing
-pub adds_may_store : (word value : ℕ) (v w : View) → AddsNothing v w → MayStore word value v w
+pub adds_may_store : (word value : ℕ) (v w : View) → AddsNothing v w → MayLeaveStore word value v w
 adds_may_store word value v w a =
     record {
       words = ap (λ (x : List ℕ). length x) a.volatile;
@@ -134,7 +134,7 @@ pub store_leaves : (gives : ℕ → Type 0) (word value : ℕ) (v w : View) → 
 store_leaves gives word value v w t = λ other.
     subst (λ (x : List ℕ). IsValueOf v other (get_or x other 0)) (sym t.done.durable) ((draw_adds t.number v).durable other)
 
-pub store_may_store : (gives : ℕ → Type 0) (word value : ℕ) (v w : View) → word < word_count v → TakesBy gives (IsStore word value) v w → MayStore word value v w
+pub store_may_store : (gives : ℕ → Type 0) (word value : ℕ) (v w : View) → word < word_count v → TakesBy gives (IsStore word value) v w → MayLeaveStore word value v w
 store_may_store gives word value v w l t =
     record {
       words = ap (λ (x : List ℕ). length x) t.done.volatile ∙ length-set v.volatile word value;
@@ -145,7 +145,7 @@ store_may_store gives word value v w l t =
     }
 
 -- a store, and then what adds nothing
-pub may_store_then : (word value : ℕ) (v u w : View) → MayStore word value v u → AddsNothing u w → MayStore word value v w
+pub may_store_then : (word value : ℕ) (v u w : View) → MayLeaveStore word value v u → AddsNothing u w → MayLeaveStore word value v w
 may_store_then word value v u w m a =
     let stays : volatile_at w word ≡ volatile_at u word = ap (λ (x : List ℕ). get_or x word 0) a.volatile in
     record {

@@ -4,7 +4,7 @@ use Rattle.std.proofs.lemmas.List.Elements.{Contains-append_left, Contains-push,
 use Rattle.std.proofs.lemmas.Bool.{cases_eq, cases_Bool}
 use Rattle.std.proofs.lemmas.List.{get_or_default}
 use Rattle.std.proofs.lemmas.Grind.{elements, get_or-set_at}
-use Rattle.line_memory.specs.Marks.{IsListed, IsMarked, mark_count}
+use Rattle.line_memory.specs.Marks.{ListsLines, IsMarked, mark_count}
 use Rattle.line_memory.specs.Marked.{is_marked_within}
 
 -- no more marks than places
@@ -38,12 +38,12 @@ mark_count-unset (true ∷ marks) (suc k) = let h = mark_count-unset marks k in 
 mark_count-unset (false ∷ marks) (suc k) = mark_count-unset marks k
 
 -- a line that isn't listed has room
-pub has_room : (words lines : List Bool) (list : List ℕ) (capacity line : ℕ) → IsListed words lines list capacity → line < length lines → get_or lines line false ≡ false → length list < capacity
+pub has_room : (words lines : List Bool) (list : List ℕ) (capacity line : ℕ) → ListsLines words lines list capacity → line < length lines → get_or lines line false ≡ false → length list < capacity
 has_room words lines list capacity line h l e =
     let m = mark_count-below lines line l e in omega (arith, h.room, h.few)
 
 -- a line in the memory has its place among the lines
-pub line_within : (words lines : List Bool) (list : List ℕ) (capacity line : ℕ) → IsListed words lines list capacity → 8 * line < length words → line < length lines
+pub line_within : (words lines : List Bool) (list : List ℕ) (capacity line : ℕ) → ListsLines words lines list capacity → 8 * line < length words → line < length lines
 line_within words lines list capacity line h l = omega (arith, h.reach)
 
 -- a set mark stays, whichever other is set
@@ -71,7 +71,7 @@ each_popped : (list : List ℕ) (line bound : ℕ) → ((k : ℕ) → k < length
 each_popped list line bound each k lt = let h = each k (omega (arith, length-append {A = ℕ})) in grind (arith, elements, h)
 
 -- the list once the line is added
-pub list_line : (words lines : List Bool) (list : List ℕ) (capacity room line : ℕ) → IsListed words lines list capacity → capacity ≤ room → 8 * line < length words → get_or lines line false ≡ false → IsListed words (set lines line true) (list ++ line ∷ []) room
+pub list_line : (words lines : List Bool) (list : List ℕ) (capacity room line : ℕ) → ListsLines words lines list capacity → capacity ≤ room → 8 * line < length words → get_or lines line false ≡ false → ListsLines words (set lines line true) (list ++ line ∷ []) room
 list_line words lines list capacity room line h more l e =
     let within : line < length lines = line_within words lines list capacity line h l in
     record {
@@ -88,7 +88,7 @@ list_line words lines list capacity room line h more l e =
     }
 
 -- the marks of the words of a listed line may change
-pub remark : (words new lines : List Bool) (list : List ℕ) (capacity line : ℕ) → IsListed words lines list capacity → length new ≡ length words → IsMarked lines line → ((k : ℕ) → k / 8 ≢ line → get_or new k false ≡ get_or words k false) → IsListed new lines list capacity
+pub remark : (words new lines : List Bool) (list : List ℕ) (capacity line : ℕ) → ListsLines words lines list capacity → length new ≡ length words → IsMarked lines line → ((k : ℕ) → k / 8 ≢ line → get_or new k false ≡ get_or words k false) → ListsLines new lines list capacity
 remark words new lines list capacity line h len on same =
     record {
       reach = omega (arith, h.reach);
@@ -119,7 +119,7 @@ unset_all lines list line other all m =
     ]
 
 -- the list once its last line is taken, whose words have no mark any more
-pub unlist_line : (words new lines : List Bool) (list : List ℕ) (capacity line : ℕ) → IsListed words lines (list ++ line ∷ []) capacity → length new ≡ length words → ((k : ℕ) → k / 8 ≡ line → get_or new k false ≡ false) → ((k : ℕ) → k / 8 ≢ line → get_or new k false ≡ get_or words k false) → IsListed new (set lines line false) list capacity
+pub unlist_line : (words new lines : List Bool) (list : List ℕ) (capacity line : ℕ) → ListsLines words lines (list ++ line ∷ []) capacity → length new ≡ length words → ((k : ℕ) → k / 8 ≡ line → get_or new k false ≡ false) → ((k : ℕ) → k / 8 ≢ line → get_or new k false ≡ get_or words k false) → ListsLines new (set lines line false) list capacity
 unlist_line words new lines list capacity line h len clear same =
     record {
       reach = omega (arith, h.reach, length-set {A = Bool});
@@ -135,7 +135,7 @@ unlist_line words new lines list capacity line h len clear same =
     }
 
 -- with no line listed no word is marked
-pub no_marks : (words lines : List Bool) (capacity : ℕ) → IsListed words lines [] capacity → (k : ℕ) → get_or words k false ≡ false
+pub no_marks : (words lines : List Bool) (capacity : ℕ) → ListsLines words lines [] capacity → (k : ℕ) → get_or words k false ≡ false
 no_marks words lines capacity h k =
     elim (cases_Bool (get_or words k false)) [
       | inl m ↦ let c = h.all (k / 8) (h.covers k m) in absurd (omega (arith, c.1))
@@ -147,23 +147,23 @@ pub read_is : (xs : List Bool) (i : ℕ) (read value : Bool) → i < length xs �
 read_is xs i read value l e r = get_or_default xs i false read l ∙ sym e ∙ r
 
 -- the marks of a line that was listed are set
-pub marked_again : (words slice new lines : List Bool) (list : List ℕ) (capacity line : ℕ) → IsListed words lines list capacity → slice ≡ words → length new ≡ length slice → ((k : ℕ) → k / 8 ≢ line → get_or new k false ≡ get_or slice k false) → IsMarked lines line → IsListed new lines list capacity
+pub marked_again : (words slice new lines : List Bool) (list : List ℕ) (capacity line : ℕ) → ListsLines words lines list capacity → slice ≡ words → length new ≡ length slice → ((k : ℕ) → k / 8 ≢ line → get_or new k false ≡ get_or slice k false) → IsMarked lines line → ListsLines new lines list capacity
 marked_again words slice new lines list capacity line h s len same on =
     remark words new lines list capacity line h (len ∙ ap length s) on
     (λ k ne. same k ne ∙ ap (λ (x : List Bool). get_or x k false) s)
 
 -- the marks of a line that wasn't listed are set, and the line is listed
-pub marked_first : (words slice new lines : List Bool) (list pushed : List ℕ) (capacity room line : ℕ) → IsListed words lines list capacity → slice ≡ words → length new ≡ length slice → ((k : ℕ) → k / 8 ≢ line → get_or new k false ≡ get_or slice k false) → get_or lines line false ≡ false → 8 * line < length words → capacity ≤ room → pushed ≡ list ++ line ∷ [] → IsListed new (set lines line true) pushed room
+pub marked_first : (words slice new lines : List Bool) (list pushed : List ℕ) (capacity room line : ℕ) → ListsLines words lines list capacity → slice ≡ words → length new ≡ length slice → ((k : ℕ) → k / 8 ≢ line → get_or new k false ≡ get_or slice k false) → get_or lines line false ≡ false → 8 * line < length words → capacity ≤ room → pushed ≡ list ++ line ∷ [] → ListsLines new (set lines line true) pushed room
 marked_first words slice new lines list pushed capacity room line h s len same off l more p =
     let within = line_within words lines list capacity line h l in
     let there = list_line words lines list capacity room line h more l off in
-    subst (λ (x : List ℕ). IsListed new (set lines line true) x room) (sym p)
+    subst (λ (x : List ℕ). ListsLines new (set lines line true) x room) (sym p)
     (marked_again words slice new (set lines line true) (list ++ line ∷ []) room line there s len same (get_or-set_same lines line true false within))
 
 -- the last line of the list is completed
-pub completed_last : (words slice new lines : List Bool) (list all : List ℕ) (capacity room line : ℕ) → IsListed words lines all capacity → all ≡ list ++ line ∷ [] → room ≡ capacity → slice ≡ words → length new ≡ length slice → ((k : ℕ) → k / 8 ≡ line → get_or new k false ≡ false) → ((k : ℕ) → k / 8 ≢ line → get_or new k false ≡ get_or slice k false) → IsListed new (set lines line false) list room
+pub completed_last : (words slice new lines : List Bool) (list all : List ℕ) (capacity room line : ℕ) → ListsLines words lines all capacity → all ≡ list ++ line ∷ [] → room ≡ capacity → slice ≡ words → length new ≡ length slice → ((k : ℕ) → k / 8 ≡ line → get_or new k false ≡ false) → ((k : ℕ) → k / 8 ≢ line → get_or new k false ≡ get_or slice k false) → ListsLines new (set lines line false) list room
 completed_last words slice new lines list all capacity room line h p r s len clear same =
-    let there = subst (λ (x : List ℕ). IsListed words lines x capacity) p h in
-    let more = subst (λ (x : ℕ). IsListed words lines (list ++ line ∷ []) x) (sym r) there in
+    let there = subst (λ (x : List ℕ). ListsLines words lines x capacity) p h in
+    let more = subst (λ (x : ℕ). ListsLines words lines (list ++ line ∷ []) x) (sym r) there in
     unlist_line words new lines list room line more (len ∙ ap length s) clear
     (λ k ne. same k ne ∙ ap (λ (x : List Bool). get_or x k false) s)

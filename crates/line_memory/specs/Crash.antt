@@ -16,7 +16,7 @@ pub record AddsNothing (v w : View) : Type 0 where
   pub durable : OnlyWritesBack v w
 
 -- no word gets a new value, but that the one word may get this value
-pub record MayStore (word value : ℕ) (v w : View) : Type 0 where
+pub record MayLeaveStore (word value : ℕ) (v w : View) : Type 0 where
   pub words : word_count w ≡ word_count v
   pub others : (other : ℕ) → other ≢ word → volatile_at w other ≡ volatile_at v other
   pub others_durable : (other : ℕ) → other ≢ word → IsValueOf v other (durable_at w other)

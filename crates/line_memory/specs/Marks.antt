@@ -31,7 +31,7 @@ completed_at marks volatile durable word =
     cond (mark_at marks word) (slice_index volatile word) (slice_index durable word)
 
 -- the marks of words, whether each line is listed, and the list of these, with room for every line
-pub record IsListed (words lines : List Bool) (list : List ℕ) (capacity : ℕ) : Type 0 where
+pub record ListsLines (words lines : List Bool) (list : List ℕ) (capacity : ℕ) : Type 0 where
   pub reach : length words ≤ 8 * length lines
   pub room : length lines ≤ capacity
   pub few : length list ≤ mark_count lines

@@ -10,3 +10,14 @@ pub trait Chance: Drop {
     fn draw(&mut self) -> u64
         ensures { draw_gives self.old result self.new };
 }
+
+/// A chance that always gives the same number: by 0 nothing is made durable early, by 1 the latest
+/// store is, at each next step.
+#[derive(Clone, Copy, Drop)]
+pub struct ConstantChance(pub u64);
+
+impl Chance for ConstantChance {
+    fn draw(&mut self) -> u64 {
+        self.0
+    }
+}

@@ -10,7 +10,7 @@ mod pending;
 mod plain;
 mod recent;
 
-pub use chance::Chance;
+pub use chance::{Chance, ConstantChance};
 pub use closed::Closed;
 pub use memory::{LineMemory, Stopped, only_stores_add, persist};
 pub use pending::Pending;

@@ -1,7 +1,7 @@
 //! What every memory of lines promises.
 ghost use Rattle.std.specs.Prelude.{◌≡◌, ◌≢◌, ℕ, ◌+◌, ◌<◌, ◌≤◌, ◌⊎◌, Some, OnOk, IfOk, IfErr, ⊤};
 ghost use Rattle.line_memory.specs.View.{View, IsSound, word_count, HasLine, volatile_at, durable_at};
-ghost use Rattle.line_memory.specs.Crash.{AddsNothing, OnlyWritesBack, MayStore};
+ghost use Rattle.line_memory.specs.Crash.{AddsNothing, OnlyWritesBack, MayLeaveStore};
 ghost use Rattle.line_memory.specs.Steps.{Takes, Refuses, IsLoad, IsStore, IsWriteBack, IsFence};
 
 /// How many words a line has.
@@ -57,7 +57,7 @@ pub fn persist<M: LineMemory>(memory: &mut M, word: u64, value: u64) -> Result<(
     ensures budget { (M.view memory.new).budget ≡ (M.view memory.old).budget }
 
     // At every exit a crash leaves what it could before, or the value in the word.
-    ensures crash { MayStore word value (M.view memory.old) (M.view memory.new) }
+    ensures crash { MayLeaveStore word value (M.view memory.old) (M.view memory.new) }
 {
     memory.store(word, value)?;
     memory.write_back(word / LINE)?;

@@ -21,14 +21,14 @@ pub struct Pending {
 impl Model for Pending {
     ghost use Rattle.std.specs.Prelude.{List, Bool};
     ghost use Rattle.std.specs.Vec.{vec_capacity};
-    ghost use Rattle.line_memory.specs.Marks.{IsListed};
+    ghost use Rattle.line_memory.specs.Marks.{ListsLines};
 
     ghost Value = { List Bool };
 
     ghost view = { λ p. p.marks.items };
 
     ghost invariant = { λ p.
-        IsListed p.marks.items p.listed.items p.lines.items (vec_capacity p.lines) };
+        ListsLines p.marks.items p.listed.items p.lines.items (vec_capacity p.lines) };
 }
 
 impl Pending {

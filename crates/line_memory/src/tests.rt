@@ -2,23 +2,13 @@
 ghost use Rattle.std.specs.Prelude.{◌≡◌, ℕ};
 ghost use Rattle.line_memory.specs.View.{word_count};
 
-use crate::{Chance, LineMemory, PlainMemory, Stopped, persist};
+use crate::{Chance, ConstantChance, LineMemory, PlainMemory, Stopped, persist};
 use std::alloc::{AllocError, Global};
 use std::process::Abort;
 use std::test::Fail;
 
 /// The memory of each test: three lines, the last with four words.
 const WORDS: usize = 20;
-
-/// Constant(1) the same number: 0 writes nothing back early, and 1 the latest store at each draw.
-#[derive(Drop)]
-struct Constant(u64);
-
-impl Chance for Constant {
-    fn draw(&mut self) -> u64 {
-        self.0
-    }
-}
 
 /// Counts up, so that each of the recent stores has its turn.
 #[derive(Drop)]
@@ -217,17 +207,17 @@ fn agree(rt: &impl Abort, real: &Outcome, naive: &Outcome) {
 fn each_stop_of_twenty_steps_leaves_what_the_rules_say(rt: HostRuntime) -> Result<(), Fail> {
     let alloc = rt.alloc();
     for budget in 0..22 {
-        let real = run(alloc, Constant(0), budget, &SCRIPT)?;
+        let real = run(alloc, ConstantChance(0), budget, &SCRIPT)?;
         agree(
             &rt,
             &real,
-            &run_naively(alloc, Constant(0), budget, &SCRIPT)?,
+            &run_naively(alloc, ConstantChance(0), budget, &SCRIPT)?,
         );
-        let real = run(alloc, Constant(1), budget, &SCRIPT)?;
+        let real = run(alloc, ConstantChance(1), budget, &SCRIPT)?;
         agree(
             &rt,
             &real,
-            &run_naively(alloc, Constant(1), budget, &SCRIPT)?,
+            &run_naively(alloc, ConstantChance(1), budget, &SCRIPT)?,
         );
         for next in 0..32 {
             let real = run(alloc, Counted { next }, budget, &SCRIPT)?;
@@ -243,7 +233,7 @@ fn each_stop_of_twenty_steps_leaves_what_the_rules_say(rt: HostRuntime) -> Resul
 
 /// What is left of words 3, 4 and 9 after the steps, with nothing written back early.
 fn left(alloc: Global, budget: u64, script: &[Step]) -> Result<[Option<u64>; 3], AllocError> {
-    let durable = run(alloc, Constant(0), budget, script)?.durable;
+    let durable = run(alloc, ConstantChance(0), budget, script)?.durable;
     Ok([3, 4, 9].map(|word| durable.get(word).copied()))
 }
 
@@ -284,7 +274,7 @@ fn a_line_is_written_back_whole_and_no_other(rt: HostRuntime) -> Result<(), Fail
 fn a_memory_stops_at_its_budget_and_stays_so(rt: HostRuntime) -> Result<(), Fail> {
     let alloc = rt.alloc();
     for budget in 0..4 {
-        let outcome = run(alloc, Constant(0), budget, &SCRIPT)?;
+        let outcome = run(alloc, ConstantChance(0), budget, &SCRIPT)?;
         let stopped = outcome
             .answers
             .iter()
@@ -305,7 +295,7 @@ fn written_back_early(alloc: Global, number: u64) -> Result<(usize, Option<u64>)
     for word in 0..17 {
         script.push(Step::Store(word, 9))?;
     }
-    let durable = run(alloc, Constant(number), 17, &script)?.durable;
+    let durable = run(alloc, ConstantChance(number), 17, &script)?.durable;
     Ok((
         durable.iter().filter(|value| **value == 9).count(),
         durable.get(0).copied(),
@@ -336,7 +326,7 @@ fn an_odd_number_names_one_of_the_last_sixteen_stores(rt: HostRuntime) -> Result
 #[test]
 fn a_word_that_is_persisted_is_durable(rt: HostRuntime) -> Result<(), Fail> {
     let alloc = rt.alloc();
-    let mut memory = PlainMemory::new(alloc, vec![in alloc; 0; WORDS]?, 3, Constant(0))?;
+    let mut memory = PlainMemory::new(alloc, vec![in alloc; 0; WORDS]?, 3, ConstantChance(0))?;
     assert_eq!(rt; persist(&mut memory, 17, 5), Ok(()));
     assert_eq!(rt; persist(&mut memory, 18, 6), Err(Stopped { step: 3 }));
     let closed = memory.finish();

@@ -1,6 +1,7 @@
 //! A recovery of an image of two superblocks, in which one block of 64 bytes is held, stopped at
 //! each of its steps: what each stop left is recovered to the same.
-use crate::in_place::{Constant, holds, in_place, torn, write};
+use crate::in_place::{holds, in_place, torn, write};
+use line_memory::ConstantChance;
 use std::alloc::Global;
 use std::process::Abort;
 use std::test::Fail;
@@ -34,7 +35,7 @@ fn image(alloc: Global) -> Result<Vec<u64>, Fail> {
 }
 
 /// Stops the recovery at each step until it is done, and makes the recovery of what each stop left.
-fn goes_on_from_each_stop(rt: &(impl Abort + AllocGlobal), chance: Constant) -> Result<(), Fail> {
+fn goes_on_from_each_stop(rt: &(impl Abort + AllocGlobal), chance: ConstantChance) -> Result<(), Fail> {
     let alloc = rt.alloc();
     let image = image(alloc)?;
     for budget in 0..10_000 {
@@ -58,10 +59,10 @@ fn goes_on_from_each_stop(rt: &(impl Abort + AllocGlobal), chance: Constant) -> 
 
 #[test]
 fn each_stop_with_nothing_written_back_early(rt: HostRuntime) -> Result<(), Fail> {
-    goes_on_from_each_stop(&rt, Constant(0))
+    goes_on_from_each_stop(&rt, ConstantChance(0))
 }
 
 #[test]
 fn each_stop_with_each_store_written_back(rt: HostRuntime) -> Result<(), Fail> {
-    goes_on_from_each_stop(&rt, Constant(1))
+    goes_on_from_each_stop(&rt, ConstantChance(1))
 }

@@ -3,21 +3,10 @@ ghost use Rattle.std.specs.Prelude.{◌≡◌, IfOk};
 
 use dictionary::{DictFilter, root_kinds};
 use heap_recover::{Recovered, rebuild, recover};
-use line_memory::{Chance, Closed, PlainMemory};
+use line_memory::{Closed, ConstantChance, PlainMemory};
 use std::alloc::Global;
 use std::test::Fail;
 use super_block::{Block, DIRTY};
-
-/// A chance that always gives the same number: by 0 nothing is made durable early, by 1 each store
-/// is at the next step.
-#[derive(Clone, Copy, Drop)]
-pub struct Constant(pub u64);
-
-impl Chance for Constant {
-    fn draw(&mut self) -> u64 {
-        self.0
-    }
-}
 
 /// What a recovery in place has come to: what it recovers, and what is then durable.
 #[derive(Drop)]
@@ -32,7 +21,7 @@ pub fn in_place(
     alloc: Global,
     image: &[u64],
     budget: u64,
-    chance: Constant,
+    chance: ConstantChance,
 ) -> Result<InPlace, Fail> {
     let kinds = root_kinds();
     let found = recover(alloc, image, &kinds, &DictFilter)?;

@@ -1,7 +1,8 @@
 //! A recovery of an image of one superblock of the last class, in which two blocks are held, stopped
 //! at each of its steps; the recovery of what each stop left, stopped at each of its steps; and the
 //! recovery of what that left.
-use crate::in_place::{Constant, holds, in_place, torn, write};
+use crate::in_place::{holds, in_place, torn, write};
+use line_memory::ConstantChance;
 use std::alloc::Global;
 use std::process::Abort;
 use std::test::Fail;
@@ -47,7 +48,7 @@ fn image(alloc: Global) -> Result<Vec<u64>, Fail> {
 fn stops_again(
     rt: &(impl Abort + AllocGlobal),
     crashed: &[u64],
-    chance: Constant,
+    chance: ConstantChance,
 ) -> Result<(), Fail> {
     for budget in 0..1_000 {
         let second = in_place(rt.alloc(), crashed, budget, chance)?;
@@ -71,7 +72,7 @@ fn stops_again(
 fn what_each_stop_left_may_be_stopped_at_each_step(rt: HostRuntime) -> Result<(), Fail> {
     let image = image(rt.alloc())?;
     for number in [0, 1] {
-        let chance = Constant(number);
+        let chance = ConstantChance(number);
         for budget in 0..100 {
             let first = in_place(rt.alloc(), &image, budget, chance)?;
             assert!(rt; holds(&first.found, &HELD, &WORDS), "{budget}");

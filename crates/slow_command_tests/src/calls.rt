@@ -1,5 +1,5 @@
 //! Calls of the tool over an image in memory, and what is wanted of them.
-use line_memory::Chance;
+use line_memory::ConstantChance;
 use std::alloc::{AllocError, Global};
 use std::process::Abort;
 use std::test::Fail;
@@ -8,31 +8,6 @@ use tool_run::run_tool;
 
 /// Room for the longest text of a test.
 const ROOM: usize = 1 << 12;
-
-/// A chance that always gives the same number: by 0 nothing is made durable early, by 1 each store
-/// is at the next step. Words that a crash leaves with any value have all bits.
-#[derive(Clone, Copy, Drop)]
-pub struct Constant(pub u64);
-
-impl Chance for Constant {
-    fn draw(&mut self) -> u64 {
-        self.0
-    }
-}
-
-impl Chances for Constant {
-    type One = Constant;
-
-    fn seed(&mut self, _: u64) {}
-
-    fn chance(&mut self, _: usize) -> Constant {
-        *self
-    }
-
-    fn word(&mut self) -> u64 {
-        u64::MAX
-    }
-}
 
 /// A store with this image under the name h. None of its calls fails.
 pub fn store_with(alloc: Global, image: &[u8]) -> Result<MapStore, Fail> {
@@ -72,7 +47,7 @@ pub fn make<C: Chances>(
 pub fn formatted(alloc: Global, superblocks: &str) -> Result<Vec<u8>, Fail> {
     let mut images = store_with(alloc, b"")?;
     let line = format!(in alloc; "format h {superblocks}")?;
-    make(alloc, &line, Vec::new(alloc), &mut images, &mut Constant(0))?;
+    make(alloc, &line, Vec::new(alloc), &mut images, &mut ConstantChance(0))?;
     Ok(Vec::from_slice(alloc, images.image("h").unwrap_or(&[]))?)
 }
 

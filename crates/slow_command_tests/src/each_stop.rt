@@ -1,5 +1,6 @@
 //! The command `rebuild` stopped at each of its steps: what it prints, and that it is gone on with.
-use crate::calls::{Constant, formatted, make, runs, store_with};
+use crate::calls::{formatted, make, runs, store_with};
+use line_memory::ConstantChance;
 use std::alloc::Global;
 use std::process::Abort;
 use std::test::Fail;
@@ -61,12 +62,12 @@ fn is_told_at_each_stop<C: Chances>(
 
 #[test]
 fn each_stop_with_nothing_written_back_early(rt: HostRuntime) -> Result<(), Fail> {
-    is_told_at_each_stop(&rt, &mut Constant(0))
+    is_told_at_each_stop(&rt, &mut ConstantChance(0))
 }
 
 #[test]
 fn each_stop_with_each_store_written_back(rt: HostRuntime) -> Result<(), Fail> {
-    is_told_at_each_stop(&rt, &mut Constant(1))
+    is_told_at_each_stop(&rt, &mut ConstantChance(1))
 }
 
 #[test]

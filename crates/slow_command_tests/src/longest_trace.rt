@@ -1,5 +1,6 @@
 //! Traces of 16,777,216 bytes, the most that a run takes.
-use crate::calls::{Constant, formatted, runs, store_with};
+use crate::calls::{formatted, runs, store_with};
+use line_memory::ConstantChance;
 use std::alloc::{AllocError, Global};
 use std::test::Fail;
 
@@ -22,7 +23,7 @@ fn the_longest_trace_is_worked_off(rt: HostRuntime) -> Result<(), Fail> {
     runs(
         &rt,
         &mut images,
-        &mut Constant(0),
+        &mut ConstantChance(0),
         "run h --workers 1 --sum",
         longest_trace(alloc)?,
         0,
@@ -43,7 +44,7 @@ fn a_line_of_the_longest_length_is_outside_the_grammar(rt: HostRuntime) -> Resul
     ] {
         let trace = vec![in alloc; b'x'; length]?;
         let line = "run h --workers 1";
-        runs(&rt, &mut images, &mut Constant(0), line, trace, 10, text)?;
+        runs(&rt, &mut images, &mut ConstantChance(0), line, trace, 10, text)?;
     }
     assert!(rt; images.image("h") == Some(image.as_slice()));
     Ok(())

@@ -1,5 +1,5 @@
 //! Where the numbers come from that decide what a crash leaves.
-use line_memory::Chance;
+use line_memory::{Chance, ConstantChance};
 
 /// A source of chance for each worker, and of words for what a crash leaves at random. Nothing is
 /// promised of any number.
@@ -15,4 +15,19 @@ pub trait Chances {
 
     /// The next word for what a crash leaves at random.
     fn word(&mut self) -> u64;
+}
+
+/// The same number for each worker; words that a crash leaves with any value have all bits.
+impl Chances for ConstantChance {
+    type One = ConstantChance;
+
+    fn seed(&mut self, _: u64) {}
+
+    fn chance(&mut self, _: usize) -> ConstantChance {
+        *self
+    }
+
+    fn word(&mut self) -> u64 {
+        u64::MAX
+    }
 }

@@ -6,7 +6,7 @@ use Rattle.tool_run.specs.declared.fault.Fault.{Fault}
 use Rattle.tool_run.specs.declared.fault.Fault.TheVariants.{Memory, ReadFault, Absent, Malformed, Outside, BadShard}
 use Rattle.tool_run.specs.Examples.{one_command}
 use Rattle.tool_run.specs.Inside.{Refuses, IsCarriedOut, IsStopped, status_of}
-use Rattle.tool_run.specs.Making.{Makes, Gets}
+use Rattle.tool_run.specs.Making.{Makes, GetsImage}
 use Rattle.tool_run.specs.Outcome.{AsksToGet}
 use Rattle.tool_run.specs.Status.{out_of_memory, read_fault, no_image}
 use Rattle.tool_run.proofs.OutsideLemmas.{of_told}
@@ -19,7 +19,7 @@ not_there contents n name bytes named none holds =
 
 -- nothing is made then
 not_made : (command : Command) (contents : Contents) (name : List ℕ) (left image : Option (List ℕ)) (text : List ℕ)
-    → Gets command → image_name command ≡ name → told_of contents name ≡ Some None → Makes command contents left image text → ⊥
+    → GetsImage command → image_name command ≡ name → told_of contents name ≡ Some None → Makes command contents left image text → ⊥
 not_made (format_image n capacity) contents name left image text gets named none made = gets
 not_made (gen_trace requests seed) contents name left image text gets named none made = gets
 not_made (show_image n with_map) contents name left image text gets named none made = not_there contents n name made.1.bytes named none made.1.is_there
@@ -55,7 +55,7 @@ stops_absent words command old new left store_failed source_failed sink_failed t
       | inl (inl why, untouched) ↦ refused command old name store_failed status fault named none is why
       | inl (inr (inl trace), untouched) ↦ absurd (not_there old (image_name command) name trace.mapped.bytes named none trace.mapped.is_there)
       | inl (inr (inr replay), untouched) ↦ absurd (not_there old (image_name command) name replay.image.bytes named none replay.image.is_there)
-      | inr (image, text, made, why) ↦ absurd (not_made command old name left image text (subst Gets same asks.gets) named none made)
+      | inr (image, text, made, why) ↦ absurd (not_made command old name left image text (subst GetsImage same asks.gets) named none made)
     ]
 
 -- so it is not done
@@ -63,4 +63,4 @@ pub not_done_absent : (words : List (List ℕ)) (command : Command) (old new : C
     → (name : List ℕ) → AsksToGet words name → told_of old name ≡ Some None → (status ≡ no_image) ⊎ (status ≡ out_of_memory) ⊎ (status ≡ read_fault)
 not_done_absent words command old new left taken taken' status asked done name asks none =
     let same : asks.command ≡ command = one_command words asks.command command asks.asked asked in
-    absurd (not_made command old name left done.image done.text (subst Gets same asks.gets) (subst (λ (c : Command). image_name c ≡ name) same asks.is_named) none done.made)
+    absurd (not_made command old name left done.image done.text (subst GetsImage same asks.gets) (subst (λ (c : Command). image_name c ≡ name) same asks.is_named) none done.made)

@@ -9,7 +9,7 @@ use Rattle.tool_run.specs.Command.{Command, format_image, show_image, drain_imag
 use Rattle.tool_run.specs.declared.fault.Fault.{Fault}
 use Rattle.tool_run.specs.declared.fault.Fault.TheVariants.{Usage, Memory, ReadFault, WriteFault, Absent, Malformed, Outside, BadShard, BadLine, BadStep, TooLong}
 use Rattle.tool_run.specs.Inside.{DeliveryFails, IsStopped, Refuses, RefusesEither, status_of}
-use Rattle.tool_run.specs.Making.{Makes, Gets, PutsBack}
+use Rattle.tool_run.specs.Making.{Makes, GetsImage, PutsBack}
 use Rattle.tool_run.specs.Outcome.{IsCutOff, while_putting, while_printing}
 
 -- a count that rose after an earlier moment rose since then, and before a later one too
@@ -62,8 +62,8 @@ if_error P Q (Ok x) is next = tt
 if_error P Q (Err e) is next = next e is
 
 -- what a failed recovery is for the command that asked for it
-pub refuses : (command : Command) (name : List ℕ) (contents : Contents) (get_failed : Type 0) (fault cause : Fault) → fault ≡ cause → Gets command → image_name command ≡ name
-    → ((other : Command) → Gets other → image_name other ≡ name → Refuses other contents get_failed cause) → Refuses command contents get_failed fault
+pub refuses : (command : Command) (name : List ℕ) (contents : Contents) (get_failed : Type 0) (fault cause : Fault) → fault ≡ cause → GetsImage command → image_name command ≡ name
+    → ((other : Command) → GetsImage other → image_name other ≡ name → Refuses other contents get_failed cause) → Refuses command contents get_failed fault
 refuses command name contents get_failed fault cause is gets named why =
     subst (λ (f : Fault). Refuses command contents get_failed f) (sym is) (why command gets named)
 

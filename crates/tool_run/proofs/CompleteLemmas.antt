@@ -9,7 +9,7 @@ use Rattle.tool_run.specs.declared.fault.Fault.{Fault}
 use Rattle.tool_run.specs.declared.fault.Fault.TheVariants.{Usage, Memory, ReadFault, WriteFault, Absent, Malformed, Outside, BadShard, BadLine, BadStep, TooLong}
 use Rattle.tool_run.specs.Examples.{one_command}
 use Rattle.tool_run.specs.Inside.{Refuses, IsTraceFault, IsReplayFault, DeliveryFails, IsStopped, status_of}
-use Rattle.tool_run.specs.Making.{Gets, Reads, RunsATrace, ReplaysASchedule, ReadsSource, PointsOutside, HasBadStep, HasTooMuch, fault_of, longest_trace}
+use Rattle.tool_run.specs.Making.{GetsImage, Reads, RunsATrace, ReplaysASchedule, ReadsSource, PointsOutside, HasBadStep, HasTooMuch, fault_of, longest_trace}
 use Rattle.tool_run.specs.Outcome.{HoldsGood, HoldsMaps, HoldsTrace, HoldsSchedule, HoldsReplay, CanBeDone, IsCutOff, while_putting, while_printing}
 use Rattle.tool_run.specs.Status.{done, out_of_memory}
 use Rattle.trace_text.specs.Trace.{lines_of, AreLines}
@@ -20,7 +20,7 @@ use Rattle.tool_run.proofs.OutsideLemmas.{of_told, same_bytes}
 use Rattle.tool_run.proofs.TraceLemmas.{of_left}
 
 -- what the store has for such a command
-good_of : (command : Command) (contents : Contents) (left : Option (List ℕ)) → Gets command → CanBeDone command contents left → HoldsGood contents (image_name command)
+good_of : (command : Command) (contents : Contents) (left : Option (List ℕ)) → GetsImage command → CanBeDone command contents left → HoldsGood contents (image_name command)
 good_of (format_image image capacity) contents left gets can = absurd gets
 good_of (show_image image with_map) contents left gets can = record { bytes = can.bytes; held = can.held; good = can.good; inside = can.inside }
 good_of (drain_image image class) contents left gets can = can

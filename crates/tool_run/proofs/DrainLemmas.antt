@@ -14,10 +14,10 @@ use Rattle.heap_shape.specs.Draining.{IsDrainable, IsToDrain}
 use Rattle.heap_shape.proofs.RecoveredLemmas.{recovered_drainable, recovered_drains}
 use Rattle.heap_recover.specs.declared.answer.Recovered.{Recovered}
 use Rattle.tool_ports.specs.Contents.{Contents}
-use Rattle.tool_run.specs.Making.{IsKept, IsOffsetDrained, Drains}
-use Rattle.tool_run.specs.Recovering.{IsRecovered, IsDrainableAtRest, IsGiven, IsOffsetGiven, IsGivenText}
+use Rattle.tool_run.specs.Making.{IsKept, IsOffsetDrained, TellsDrained}
+use Rattle.tool_run.specs.Recovering.{IsRecoveredHeapOf, IsDrainableAtRest, IsGiven, IsOffsetGiven, IsGivenText}
 
-module _ (contents : Contents) (name : List ℕ) (recovered : Recovered) (is : IsRecovered contents name recovered) where
+module _ (contents : Contents) (name : List ℕ) (recovered : Recovered) (is : IsRecoveredHeapOf contents name recovered) where
   abbrev image : Image
   image = image_of_bytes is.bytes
 
@@ -54,7 +54,7 @@ module _ (contents : Contents) (name : List ℕ) (recovered : Recovered) (is : I
   offset_given class offset of = record { block = of.block; is_given = (given class of.block).0 of.is_drained; at = of.at }
 
   -- the text on what the heap gives is that on what the image must give
-  pub drains : (class : ℕ) (text : List ℕ) → IsGivenText recovered.heap.words recovered.heap.held class text → Drains contents name class text
+  pub drains : (class : ℕ) (text : List ℕ) → IsGivenText recovered.heap.words recovered.heap.held class text → TellsDrained contents name class text
   drains class text gives = record {
     bytes = is.bytes;
     is_there = is.is_there;

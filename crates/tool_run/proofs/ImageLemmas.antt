@@ -22,8 +22,8 @@ use Rattle.tool_run.specs.declared.fault.Fault.TheVariants.{Malformed}
 use Rattle.tool_run.specs.Calls.{get_limit}
 use Rattle.tool_run.specs.Command.{Command, image_name}
 use Rattle.tool_run.specs.Inside.{Refuses, fault_of_recovery, fault_of_get}
-use Rattle.tool_run.specs.Making.{Gets, fault_of, Shows, IsMalformed, HasOutside, PointsOutside}
-use Rattle.tool_run.specs.Recovering.{IsRecovered, IsRecoveredFrom, IsRecoveryOf, IsRecoveryFault, IsTextOf}
+use Rattle.tool_run.specs.Making.{GetsImage, fault_of, Shows, IsMalformed, HasOutside, PointsOutside}
+use Rattle.tool_run.specs.Recovering.{IsRecoveredHeapOf, IsRecoveredFrom, IsRecoveredHeap, IsRecoveryFault, IsTextOf}
 use Rattle.std.specs.BTreeMap.{BTreeMap}
 use Rattle.heap_model.specs.Rest.{IsReady}
 use Rattle.dict_model.specs.Links.{shards}
@@ -118,7 +118,7 @@ whole_shown contents name got shown first are good = whole_image contents name g
 -- what the tool tells of a recovery that failed, where a command gets the image
 pub is_refused : (contents : Contents) (name got shown : List ℕ) (get_failed : Type 0) (cause : RecoverFault) (fault : Fault)
     → fault ≡ fault_of_recovery cause → IsWhole contents name got → shown ≡ got → IsRecoveryFault (image_of_bytes shown) cause
-    → (command : Command) → Gets command → image_name command ≡ name → Refuses command contents get_failed fault
+    → (command : Command) → GetsImage command → image_name command ≡ name → Refuses command contents get_failed fault
 is_refused contents name got shown get_failed (Header cause) fault is whole are why command gets named = absurd why
 is_refused contents name got shown get_failed RecoverMemory fault is whole are why command gets named =
     subst (λ (f : Fault). Refuses command contents get_failed f) (sym is) tt
@@ -131,7 +131,7 @@ is_refused contents name got shown get_failed (OutsideFound at value) fault is w
 -- the same of a failed get
 pub is_not_got : (contents : Contents) (name : List ℕ) (get_failed : Type 0) (cause : GetFault) (fault : Fault)
     → fault ≡ fault_of_get cause → (cause ≡ NoSuchImage → Lacks contents name) → (cause ≡ GetFailed → get_failed)
-    → (command : Command) → Gets command → image_name command ≡ name → Refuses command contents get_failed fault
+    → (command : Command) → GetsImage command → image_name command ≡ name → Refuses command contents get_failed fault
 is_not_got contents name get_failed NoSuchImage fault is lacks failed command gets named =
     subst (λ (f : Fault). Refuses command contents get_failed f) (sym is) (gets, subst (λ (n : List ℕ). Lacks contents n) (sym named) (lacks refl))
 is_not_got contents name get_failed GetFailed fault is lacks failed command gets named =
@@ -141,18 +141,18 @@ is_not_got contents name get_failed GetMemory fault is lacks failed command gets
 
 -- an image that was recovered
 pub is_recovered : (contents : Contents) (name got shown : List ℕ) (recovered : Recovered) → IsWhole contents name got → shown ≡ got
-    → IsRecoveryOf (image_of_bytes shown) recovered → ((at : ℕ) → PointsOutside (image_of_bytes shown) at → ⊥) → IsRecovered contents name recovered
+    → IsRecoveredHeap (image_of_bytes shown) recovered → ((at : ℕ) → PointsOutside (image_of_bytes shown) at → ⊥) → IsRecoveredHeapOf contents name recovered
 is_recovered contents name got shown recovered whole are is inside = record {
   bytes = got;
   is_there = whole.is_there;
   good = whole.good;
   inside = subst (λ (l : List ℕ). (at : ℕ) → PointsOutside (image_of_bytes l) at → ⊥) are inside;
-  is = subst (λ (l : List ℕ). IsRecoveryOf (image_of_bytes l) recovered) are is;
+  is = subst (λ (l : List ℕ). IsRecoveredHeap (image_of_bytes l) recovered) are is;
 }
 
 -- and its words beside it
 pub is_recovered_from : (contents : Contents) (name got shown words : List ℕ) (recovered : Recovered) → IsWhole contents name got → shown ≡ got
-    → IsRecoveryOf (image_of_bytes shown) recovered → ((at : ℕ) → PointsOutside (image_of_bytes shown) at → ⊥)
+    → IsRecoveredHeap (image_of_bytes shown) recovered → ((at : ℕ) → PointsOutside (image_of_bytes shown) at → ⊥)
     → AreWordsOf words shown → length recovered.heap.words ≡ length words → IsRecoveredFrom contents name words recovered
 unfolding is_recovered
 is_recovered_from contents name got shown words recovered whole are is inside words_are long = record {
@@ -162,7 +162,7 @@ is_recovered_from contents name got shown words recovered whole are is inside wo
 }
 
 -- the report on it
-pub shows : (contents : Contents) (name text : List ℕ) (maps : List (BTreeMap ℕ (List ℕ))) (with_map : Bool) (recovered : Recovered) → IsRecovered contents name recovered
+pub shows : (contents : Contents) (name text : List ℕ) (maps : List (BTreeMap ℕ (List ℕ))) (with_map : Bool) (recovered : Recovered) → IsRecoveredHeapOf contents name recovered
     → IsReady recovered.heap.words recovered.heap.held → AreMaps (slice_index recovered.heap.words) shards maps
     → IsTextOf recovered maps false with_map text → Shows contents name with_map text
 shows contents name text maps with_map recovered is ready are text_is =
@@ -179,7 +179,7 @@ shows contents name text maps with_map recovered is ready are text_is =
 -- the cause of a bad header, where a command gets the image
 pub is_malformed : (contents : Contents) (name got shown : List ℕ) (get_failed : Type 0) (cause : BadHeader) (fault : Fault) → fault ≡ Malformed cause
     → HoldsFirst contents name get_limit got → shown ≡ got → Some cause ≡ fault_of shown
-    → (command : Command) → Gets command → image_name command ≡ name → Refuses command contents get_failed fault
+    → (command : Command) → GetsImage command → image_name command ≡ name → Refuses command contents get_failed fault
 is_malformed contents name got shown get_failed cause fault is first are at command gets named =
     let image : IsGot contents name got = got_image contents name got first in
     let bad : IsMalformed contents name cause = record { bytes = image.bytes; held = image.held; fault = sym image.fault_is ∙ ap fault_of (sym are) ∙ sym at } in

@@ -7,7 +7,7 @@ use Rattle.tool_run.specs.declared.fault.Fault.{Fault}
 use Rattle.tool_run.specs.declared.fault.Fault.TheVariants.{Usage, Memory, ReadFault, WriteFault, Absent, Malformed, Outside, BadShard, BadLine, BadStep, TooLong}
 use Rattle.tool_run.specs.Examples.{one_command}
 use Rattle.tool_run.specs.Inside.{Refuses, IsCarriedOut, IsStopped, status_of}
-use Rattle.tool_run.specs.Making.{Makes, Gets, HasMapped, HasGood, fault_of}
+use Rattle.tool_run.specs.Making.{Makes, GetsImage, HasMapped, HasGood, fault_of}
 use Rattle.tool_run.specs.Outcome.{AsksToGet, HoldsMalformed}
 use Rattle.tool_run.specs.Status.{out_of_memory, read_fault, bad_header}
 use Rattle.tool_run.proofs.OutsideLemmas.{of_told, same_bytes}
@@ -30,7 +30,7 @@ recoverable_good contents n name named image has =
 
 -- nothing is made then
 not_made : (command : Command) (contents : Contents) (name : List ℕ) (left image : Option (List ℕ)) (text : List ℕ)
-    → Gets command → image_name command ≡ name → HoldsMalformed contents name → Makes command contents left image text → ⊥
+    → GetsImage command → image_name command ≡ name → HoldsMalformed contents name → Makes command contents left image text → ⊥
 not_made (format_image n capacity) contents name left image text gets named has made = gets
 not_made (gen_trace requests seed) contents name left image text gets named has made = gets
 not_made (rebuild_image n budget seed) contents name left image text gets named has made =
@@ -74,7 +74,7 @@ stops_malformed words command old new left store_failed source_failed sink_faile
       | inl (inl why, untouched) ↦ refused command old name store_failed status fault named has is why
       | inl (inr (inl trace), untouched) ↦ absurd (mapped_good old (image_name command) name named trace.mapped has)
       | inl (inr (inr replay), untouched) ↦ absurd (recoverable_good old (image_name command) name named replay.image has)
-      | inr (image, text, made, why) ↦ absurd (not_made command old name left image text (subst Gets same asks.gets) named has made)
+      | inr (image, text, made, why) ↦ absurd (not_made command old name left image text (subst GetsImage same asks.gets) named has made)
     ]
 
 -- so it is not done
@@ -82,4 +82,4 @@ pub not_done_malformed : (words : List (List ℕ)) (command : Command) (old new 
     → (name : List ℕ) → AsksToGet words name → HoldsMalformed old name → (status ≡ bad_header) ⊎ (status ≡ out_of_memory) ⊎ (status ≡ read_fault)
 not_done_malformed words command old new left taken taken' status asked done name asks has =
     let same : asks.command ≡ command = one_command words asks.command command asks.asked asked in
-    absurd (not_made command old name left done.image done.text (subst Gets same asks.gets) (subst (λ (c : Command). image_name c ≡ name) same asks.is_named) has done.made)
+    absurd (not_made command old name left done.image done.text (subst GetsImage same asks.gets) (subst (λ (c : Command). image_name c ≡ name) same asks.is_named) has done.made)

@@ -17,9 +17,9 @@ use Rattle.tool_run.specs.declared.fault.Fault.{Fault}
 use Rattle.tool_run.specs.Command.{Command, image_name}
 use Rattle.tool_run.specs.Inside.{Refuses, fault_of_maps}
 use Rattle.tool_run.specs.Making.{Reads, HasBadShard}
-use Rattle.tool_run.specs.Recovering.{IsRecovered, IsMapped}
+use Rattle.tool_run.specs.Recovering.{IsRecoveredHeapOf, IsMapped}
 
-module _ (contents : Contents) (name : List ℕ) (recovered : Recovered) (is : IsRecovered contents name recovered) (ready : IsReady recovered.heap.words recovered.heap.held) where
+module _ (contents : Contents) (name : List ℕ) (recovered : Recovered) (is : IsRecoveredHeapOf contents name recovered) (ready : IsReady recovered.heap.words recovered.heap.held) where
   pub to_words : RecoversTo (image_of_bytes is.bytes) (slice_index recovered.heap.words)
   to_words = recovers_to (image_of_bytes is.bytes) recovered is.is is.inside ready
 

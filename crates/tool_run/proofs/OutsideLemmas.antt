@@ -7,7 +7,7 @@ use Rattle.tool_run.specs.declared.fault.Fault.{Fault}
 use Rattle.tool_run.specs.declared.fault.Fault.TheVariants.{Usage, Memory, ReadFault, WriteFault, Absent, Malformed, Outside, BadShard, BadLine, BadStep, TooLong}
 use Rattle.tool_run.specs.Examples.{one_command}
 use Rattle.tool_run.specs.Inside.{Refuses, IsCarriedOut, IsStopped, status_of}
-use Rattle.tool_run.specs.Making.{Makes, Gets, HasMapped, HasGood, PointsOutside, fault_of}
+use Rattle.tool_run.specs.Making.{Makes, GetsImage, HasMapped, HasGood, PointsOutside, fault_of}
 use Rattle.tool_run.specs.Outcome.{AsksToGet, HoldsOutside}
 use Rattle.tool_run.specs.Status.{out_of_memory, read_fault, outside}
 
@@ -35,7 +35,7 @@ good_inside contents n name at named image has =
 
 -- nothing is made then
 not_made : (command : Command) (contents : Contents) (name : List ℕ) (at : ℕ) (left image : Option (List ℕ)) (text : List ℕ)
-    → Gets command → image_name command ≡ name → HoldsOutside contents name at → Makes command contents left image text → ⊥
+    → GetsImage command → image_name command ≡ name → HoldsOutside contents name at → Makes command contents left image text → ⊥
 not_made (format_image n capacity) contents name at left image text gets named has made = gets
 not_made (gen_trace requests seed) contents name at left image text gets named has made = gets
 not_made (run_image n options) contents name at left image text gets named has made = mapped_inside contents n name at named made.mapped has
@@ -79,7 +79,7 @@ none_made : (words : List (List ℕ)) (command : Command) (contents : Contents) 
     → (name : List ℕ) (at : ℕ) → AsksToGet words name → HoldsOutside contents name at → ⊥
 none_made words command contents left image text asked made name at asks has =
     let same : asks.command ≡ command = one_command words asks.command command asks.asked asked in
-    not_made command contents name at left image text (subst Gets same asks.gets) (subst (λ (c : Command). image_name c ≡ name) same asks.is_named) has made
+    not_made command contents name at left image text (subst GetsImage same asks.gets) (subst (λ (c : Command). image_name c ≡ name) same asks.is_named) has made
 
 -- so it is not done
 pub not_done : (words : List (List ℕ)) (command : Command) (old new : Contents) (left taken taken' : Option (List ℕ)) (status : ℕ) → Asks words command → IsCarriedOut command old new left taken taken'
@@ -107,9 +107,9 @@ stops_outside words command old new left store_failed source_failed sink_failed 
 
 -- what comes where a command gets such an image comes where the words ask for one
 pub where_asked : (P : Type 0) (words : List (List ℕ)) (command : Command) (contents : Contents) → Asks words command
-    → ((at : ℕ) → Gets command → HoldsOutside contents (image_name command) at → P)
+    → ((at : ℕ) → GetsImage command → HoldsOutside contents (image_name command) at → P)
     → (name : List ℕ) (at : ℕ) → AsksToGet words name → HoldsOutside contents name at → P
 where_asked P words command contents asked comes name at asks has =
     let same : asks.command ≡ command = one_command words asks.command command asks.asked asked in
     let named : image_name command ≡ name = subst (λ (c : Command). image_name c ≡ name) same asks.is_named in
-    comes at (subst Gets same asks.gets) (subst (λ (n : List ℕ). HoldsOutside contents n at) (sym named) has)
+    comes at (subst GetsImage same asks.gets) (subst (λ (n : List ℕ). HoldsOutside contents n at) (sym named) has)

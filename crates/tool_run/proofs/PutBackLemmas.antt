@@ -10,7 +10,7 @@ use Rattle.tool_run.specs.declared.fault.Fault.{Fault}
 use Rattle.tool_run.specs.declared.fault.Fault.TheVariants.{Memory}
 use Rattle.tool_run.specs.Examples.{one_command}
 use Rattle.tool_run.specs.Inside.{status_of}
-use Rattle.tool_run.specs.Making.{Gets, PutsBack}
+use Rattle.tool_run.specs.Making.{GetsImage, PutsBack}
 use Rattle.tool_run.specs.Outcome.{AsksToLook, AsksToPutBack}
 use Rattle.tool_run.specs.Status.{done, write_fault}
 use Rattle.tool_run.proofs.CallLemmas.{put_back}
@@ -31,7 +31,7 @@ put_once words command before after status fault asked calls is name asks (inr c
     written ∙ (put_back command before (subst PutsBack same asks.puts)).1
 
 -- a command that puts nothing back gets once, whatever it ends with
-look_once : (command : Command) (before : StoreCalls) → Gets command → ¬ (PutsBack command)
+look_once : (command : Command) (before : StoreCalls) → GetsImage command → ¬ (PutsBack command)
     → (with_making command before ≡ with_get get_limit before) × (with_command command before ≡ with_get get_limit before)
 look_once (format_image image capacity) before gets none = absurd gets
 look_once (show_image image with_map) before gets none = (refl, refl)
@@ -49,7 +49,7 @@ pub looked_once : (words : List (List ℕ)) (command : Command) (before after : 
     → Asks words command → after ≡ with_status command (status_of fault) before → (name : List ℕ) → AsksToLook words name → after ≡ with_get get_limit before
 looked_once words command before after fault asked calls name asks =
     let same : asks.command ≡ command = one_command words asks.command command asks.asked asked in
-    let once = look_once command before (subst Gets same asks.gets) (subst (λ (c : Command). ¬ (PutsBack c)) same asks.puts_none) in
+    let once = look_once command before (subst GetsImage same asks.gets) (subst (λ (c : Command). ¬ (PutsBack c)) same asks.puts_none) in
     calls ∙ either (nat_eq (status_of fault) write_fault) _ _ _ once.1 once.0
 
 -- one whose image is put back got once alone, where its result was neither put nor cut off

@@ -18,7 +18,7 @@ use Rattle.heap_recover.specs.declared.fault.RecoverFault.{RecoverFault}
 use Rattle.heap_recover.specs.declared.fault.RecoverFault.TheVariants.{Header, Outside, Memory}
 use Rattle.image_run.proofs.PutLemmas.{image_of_words}
 use Rattle.tool_run.specs.Making.{PointsOutside}
-use Rattle.tool_run.specs.Recovering.{IsRecoveryOf, IsRecoveryFault}
+use Rattle.tool_run.specs.Recovering.{IsRecoveredHeap, IsRecoveryFault}
 
 -- an image recovered with the kinds of roots
 RecoversWith : Image → (ℕ → ℕ) → Recovered → Type 0
@@ -35,7 +35,7 @@ module _ (words kinds bytes : List ℕ) (kinds_are : (i : ℕ) → slice_index k
       → IfOk result (λ answer. AreAscending (λ d. d) (IsFreeSuperblock (layout_of (slice_index words)) (IsReached (slice_index words) (slice_index kinds) dict_links)) answer.free.items)
       → IfOk result (λ answer. IsRecovered (slice_index words) (slice_index answer.heap.words) (IsReached (slice_index words) (slice_index kinds) dict_links))
       → IfOk result (λ answer. (answer.was ≡ Clean) ↔ (state_of (slice_index words) ≡ clean))
-      → IfOk result (IsRecoveryOf (image_of_bytes bytes))
+      → IfOk result (IsRecoveredHeap (image_of_bytes bytes))
   unfolding RecoversWith
   recovery_of (Err e) held free left was = tt
   recovery_of (Ok answer) held free left was =

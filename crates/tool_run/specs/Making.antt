@@ -14,7 +14,7 @@ use Rattle.heap_model.specs.Header.{capacity_of, empty_words}
 pub use Rattle.image_run.specs.Reporting.{fault_of, IsKept, PointsOutside, Recovers, IsEntryOf, shown_text, Reports}
 pub use Rattle.image_rebuild.specs.Rebuilding.{Rebuilds}
 pub use Rattle.image_replay.specs.Replaying.{Replays, LeavesOutside}
-pub use Rattle.image_run.specs.Running.{Options, Runs}
+pub use Rattle.image_run.specs.Running.{Options, RunsRequests}
 use Rattle.tool_ports.specs.Contents.{Contents, Holds}
 use Rattle.trace_run.specs.Said.{Line, requests_of}
 use Rattle.trace_text.specs.declared.schedule.Schedule.{Schedule}
@@ -62,7 +62,7 @@ pub record Shows (contents : Contents) (name : List ℕ) (with_map : Bool) (text
   pub report : Reports (image_of_bytes bytes) false with_map text
 
 -- the text on what the class gives of a named image that can be recovered
-pub record Drains (contents : Contents) (name : List ℕ) (class : ℕ) (text : List ℕ) : Type 0 where
+pub record TellsDrained (contents : Contents) (name : List ℕ) (class : ℕ) (text : List ℕ) : Type 0 where
   pub bytes : List ℕ
   pub is_there : Holds contents name bytes
   pub good : fault_of bytes ≡ None
@@ -139,7 +139,7 @@ pub record RunsTrace (contents : Contents) (left : Option (List ℕ)) (name : Li
   pub lines_are : AreLines (lines_of trace) lines
   pub image : List ℕ
   pub put_is : put ≡ Some image
-  pub runs : Runs (image_of_bytes mapped.bytes) (requests_of lines) options image text
+  pub runs : RunsRequests (image_of_bytes mapped.bytes) (requests_of lines) options image text
 
 -- recovery, made in place, of a named image that can be recovered
 pub record RebuildsNamed (contents : Contents) (name : List ℕ) (budget : ℕ) (put : Option (List ℕ)) (text : List ℕ) : Type 0 where
@@ -199,21 +199,21 @@ pub record HasOutsideLeft (contents : Contents) (left : Option (List ℕ)) (name
 abbrev pub Makes : Command → Contents → Option (List ℕ) → Option (List ℕ) → List ℕ → Type 0
 Makes (format_image image capacity) contents left put text = IsFormatted capacity put text
 Makes (show_image image with_map) contents left put text = (put ≡ None) × Shows contents image with_map text
-Makes (drain_image image class) contents left put text = (put ≡ None) × Drains contents image class text
+Makes (drain_image image class) contents left put text = (put ≡ None) × TellsDrained contents image class text
 Makes (gen_trace requests seed) contents left put text = (put ≡ None) × (text ≡ made_trace requests seed)
 Makes (run_image image options) contents left put text = RunsTrace contents left image options put text
 Makes (rebuild_image image budget seed) contents left put text = RebuildsNamed contents image budget put text
 Makes (replay_image image seed) contents left put text = (put ≡ None) × ReplaysNamed contents left image text
 
 -- the command gets the image that it names
-abbrev pub Gets : Command → Type 0
-Gets (format_image image capacity) = ⊥
-Gets (show_image image with_map) = Unit {0}
-Gets (drain_image image class) = Unit {0}
-Gets (gen_trace requests seed) = ⊥
-Gets (run_image image options) = Unit {0}
-Gets (rebuild_image image budget seed) = Unit {0}
-Gets (replay_image image seed) = Unit {0}
+abbrev pub GetsImage : Command → Type 0
+GetsImage (format_image image capacity) = ⊥
+GetsImage (show_image image with_map) = Unit {0}
+GetsImage (drain_image image class) = Unit {0}
+GetsImage (gen_trace requests seed) = ⊥
+GetsImage (run_image image options) = Unit {0}
+GetsImage (rebuild_image image budget seed) = Unit {0}
+GetsImage (replay_image image seed) = Unit {0}
 
 -- the command reads the maps of the image that it names
 abbrev pub Reads : Command → Type 0

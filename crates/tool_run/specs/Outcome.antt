@@ -11,7 +11,7 @@ use Rattle.trace_text.specs.Schedule.{IsSchedule, IsFirstBad}
 use Rattle.trace_text.specs.Trace.{lines_of, AreLines, IsFirstOutside}
 use Rattle.tool_run.specs.Command.{Command, format_image, show_image, drain_image, gen_trace, run_image, rebuild_image, replay_image, image_name, Asks, AsksToRun, AsksToReplay}
 use Rattle.tool_run.specs.Lines.{Tells, write_line, no_image_line, bad_header_line, outside_line, bad_shard_line, bad_line_line, bad_step_line, too_long_line}
-use Rattle.tool_run.specs.Making.{Makes, Gets, Reads, PutsBack, ReadsSource, Options, IsMalformed, HasOutside, HasBadShard, HasMapped, HasBadLine, HasTooMuch, HasGood, HasBadStep, HasOutsideLeft, PointsOutside, fault_of, longest_trace}
+use Rattle.tool_run.specs.Making.{Makes, GetsImage, Reads, PutsBack, ReadsSource, Options, IsMalformed, HasOutside, HasBadShard, HasMapped, HasBadLine, HasTooMuch, HasGood, HasBadStep, HasOutsideLeft, PointsOutside, fault_of, longest_trace}
 use Rattle.dict_model.specs.Links.{shards}
 use Rattle.dict_model.specs.Shards.{Map, MapOf, BadShard}
 use Rattle.heap_model.specs.Image.{image_of_bytes}
@@ -63,14 +63,14 @@ pub record IsWriteFault (words : List (List ℕ)) (old new : Contents) (left : O
 pub record AsksToGet (words : List (List ℕ)) (name : List ℕ) : Type 0 where
   pub command : Command
   pub asked : Asks words command
-  pub gets : Gets command
+  pub gets : GetsImage command
   pub is_named : image_name command ≡ name
 
 -- the words ask for a command that gets the image of this name, and puts none
 pub record AsksToLook (words : List (List ℕ)) (name : List ℕ) : Type 0 where
   pub command : Command
   pub asked : Asks words command
-  pub gets : Gets command
+  pub gets : GetsImage command
   pub puts_none : ¬ (PutsBack command)
   pub is_named : image_name command ≡ name
 

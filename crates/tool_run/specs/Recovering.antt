@@ -10,7 +10,7 @@ use Rattle.heap_recover.specs.declared.fault.RecoverFault.TheVariants.{Header, O
 use Rattle.heap_shape.specs.Draining.{IsDrainable, IsToDrain}
 use Rattle.region_header.specs.Words.{AreWordsOf}
 use Rattle.tool_ports.specs.Contents.{Contents, Holds}
-pub use Rattle.image_run.specs.Reporting.{IsRecoveryOf, IsTextOf}
+pub use Rattle.image_run.specs.Reporting.{IsRecoveredHeap, IsTextOf}
 use Rattle.std.specs.BTreeMap.{BTreeMap}
 use Rattle.dict_model.specs.Links.{shards}
 use Rattle.dictionary.specs.Reading.{RecoversTo, AreMaps}
@@ -18,16 +18,16 @@ use Rattle.trace_run.specs.Opened.{IsDictionary}
 use Rattle.tool_run.specs.Making.{PointsOutside, HasMapped, fault_of, drained_text}
 
 -- the heap is what recovery of the image of this name gives
-pub record IsRecovered (contents : Contents) (name : List ℕ) (recovered : Recovered) : Type 0 where
+pub record IsRecoveredHeapOf (contents : Contents) (name : List ℕ) (recovered : Recovered) : Type 0 where
   pub bytes : List ℕ
   pub is_there : Holds contents name bytes
   pub good : fault_of bytes ≡ None
   pub inside : (at : ℕ) → PointsOutside (image_of_bytes bytes) at → ⊥
-  pub is : IsRecoveryOf (image_of_bytes bytes) recovered
+  pub is : IsRecoveredHeap (image_of_bytes bytes) recovered
 
 -- and these are the words of that image
 pub record IsRecoveredFrom (contents : Contents) (name words : List ℕ) (recovered : Recovered) : Type 0 where
-  pub image : IsRecovered contents name recovered
+  pub image : IsRecoveredHeapOf contents name recovered
   pub words_are : AreWordsOf words image.bytes
   pub long : length recovered.heap.words ≡ length words
 

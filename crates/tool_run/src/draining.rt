@@ -5,7 +5,7 @@ ghost use Rattle.tool_ports.specs.Causes.{Rose};
 ghost use Rattle.tool_run.specs.Calls.{get_limit};
 ghost use Rattle.tool_run.specs.Command.{drain_image};
 ghost use Rattle.tool_run.specs.Inside.{Refuses};
-ghost use Rattle.tool_run.specs.Making.{Drains, drained_text};
+ghost use Rattle.tool_run.specs.Making.{TellsDrained, drained_text};
 ghost use Rattle.tool_run.specs.Recovering.{IsDrainableAtRest, IsGivenText};
 
 use crate::drained::drain_heap;
@@ -30,7 +30,7 @@ pub fn drain_image<I: ImageStore, C: Chances>(
     chances: &mut C,
 ) -> Result<Product, Fault>
     ensures ok { IfOk result (λ product. (product.image ≡ None)
-        × Drains (I.contents images.old) name.now class.number product.text) }
+        × TellsDrained (I.contents images.old) name.now class.number product.text) }
     ensures err { IfErr result (λ fault. Refuses (drain_image name.now class.number)
         (I.contents images.old) (Rose (I.faults images.old) (I.faults images.new)) fault) }
     ensures unchanged { I.contents images.new ≡ I.contents images.old }

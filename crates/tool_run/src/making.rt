@@ -6,7 +6,7 @@ ghost use Rattle.tool_run.specs.Calls.{get_limit, with_making};
 ghost use Rattle.tool_run.specs.Inside.{command_of, Refuses, RefusesEither, IsBeforeReading};
 ghost use Rattle.tool_run.specs.Command.{show_image, image_name};
 ghost use Rattle.tool_ports.specs.Left.{IsAtEnd};
-ghost use Rattle.tool_run.specs.Making.{Makes, Gets, ReadsSource, IsFormatted, Shows};
+ghost use Rattle.tool_run.specs.Making.{Makes, GetsImage, ReadsSource, IsFormatted, Shows};
 ghost use Rattle.tool_run.specs.Outcome.{HoldsOutside};
 
 use crate::command::Invocation;
@@ -48,7 +48,7 @@ pub fn make<R, I: ImageStore, T: Source, G: Gate + Sync, C: Chances>(
         (Rose (T.faults trace.old) (T.faults trace.new))) }
     ensures unread { IfErr result (λ fault. IsBeforeReading (command_of command.entry) fault
         → trace.new ≡ trace.old) }
-    ensures image_first { (at : ℕ) → Gets (command_of command.entry)
+    ensures image_first { (at : ℕ) → GetsImage (command_of command.entry)
         → HoldsOutside (I.contents images.old) (image_name (command_of command.entry)) at
         → trace.new ≡ trace.old }
     ensures no_source { ¬ (ReadsSource (command_of command.entry)) → trace.new ≡ trace.old }

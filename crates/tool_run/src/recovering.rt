@@ -8,8 +8,8 @@ ghost use Rattle.tool_ports.specs.Causes.{Rose};
 ghost use Rattle.tool_run.specs.Calls.{get_limit};
 ghost use Rattle.tool_run.specs.Command.{Command, image_name};
 ghost use Rattle.tool_run.specs.Inside.{Refuses};
-ghost use Rattle.tool_run.specs.Making.{Gets, PointsOutside};
-ghost use Rattle.tool_run.specs.Recovering.{IsRecovered, IsRecoveredFrom, IsRecoveryOf, IsRecoveryFault};
+ghost use Rattle.tool_run.specs.Making.{GetsImage, PointsOutside};
+ghost use Rattle.tool_run.specs.Recovering.{IsRecoveredHeapOf, IsRecoveredFrom, IsRecoveredHeap, IsRecoveryFault};
 
 use crate::fault::Fault;
 use dictionary::{DictFilter, root_kinds};
@@ -25,8 +25,8 @@ pub fn recover_image<I: ImageStore>(
     name: &str,
     images: &mut I,
 ) -> Result<Recovered, Fault>
-    ensures ok { IfOk result (IsRecovered (I.contents images.old) name.now) }
-    ensures err { IfErr result (λ fault. (command : Command) → Gets command
+    ensures ok { IfOk result (IsRecoveredHeapOf (I.contents images.old) name.now) }
+    ensures err { IfErr result (λ fault. (command : Command) → GetsImage command
         → image_name command ≡ name.now → Refuses command (I.contents images.old)
         (Rose (I.faults images.old) (I.faults images.new)) fault) }
     ensures unchanged { I.contents images.new ≡ I.contents images.old }
@@ -45,7 +45,7 @@ pub fn recover_words<I: ImageStore>(
 ) -> Result<(Vec<u64>, Recovered), Fault>
     ensures ok { IfOk result (λ both.
         IsRecoveredFrom (I.contents images.old) name.now both.0.items both.1) }
-    ensures err { IfErr result (λ fault. (command : Command) → Gets command
+    ensures err { IfErr result (λ fault. (command : Command) → GetsImage command
         → image_name command ≡ name.now → Refuses command (I.contents images.old)
         (Rose (I.faults images.old) (I.faults images.new)) fault) }
     ensures unchanged { I.contents images.new ≡ I.contents images.old }
@@ -69,7 +69,7 @@ fn most_bytes() -> usize
 // Recovers an image of these bytes, whose header is good.
 fn recover_bytes(alloc: Global, bytes: Vec<u8>) -> Result<(Vec<u64>, Recovered), RecoverFault>
     requires { IsWellFormed (length bytes.items) (image_of_bytes bytes.items) }
-    ensures ok { IfOk result (λ both. IsRecoveryOf (image_of_bytes bytes.items) both.1) }
+    ensures ok { IfOk result (λ both. IsRecoveredHeap (image_of_bytes bytes.items) both.1) }
     ensures words { IfOk result (λ both. AreWordsOf both.0.items bytes.items) }
     ensures long { IfOk result (λ both. length both.1.heap.words ≡ length both.0.items) }
     ensures none { OnOk result ((at : ℕ) → PointsOutside (image_of_bytes bytes.items) at → ⊥) }

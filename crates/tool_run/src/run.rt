@@ -7,7 +7,7 @@ ghost use Rattle.tool_ports.specs.Left.{IsAtEnd};
 ghost use Rattle.tool_run.specs.Calls.{get_limit, with_command, with_status};
 ghost use Rattle.tool_run.specs.Command.{Command, Asks, AsksToFormat, AsksToGen, IsUsage, texts, image_name};
 ghost use Rattle.tool_run.specs.Inside.{command_of, status_of, IsCarriedOut, IsStopped, IsBeforeReading};
-ghost use Rattle.tool_run.specs.Making.{Gets, ReadsSource};
+ghost use Rattle.tool_run.specs.Making.{GetsImage, ReadsSource};
 ghost use Rattle.tool_run.specs.Lines.{Tells, memory_line};
 ghost use Rattle.tool_run.specs.Outcome.{IsDone, IsReadFault, IsWriteFault, AsksToGet, AsksToLook, AsksToPutBack, AsksToRead, AsksForRun, AsksForReplay, AsksForSource, IsAbsent, IsBadHeader, IsOutsideAt, IsBadShardAt, IsBadTrace, HoldsMalformed, HoldsOutside, HoldsOutsideLeft, HoldsBadShard, HoldsGood, HoldsMaps, HoldsBadLine, HoldsBadStep, HoldsTooMuch, CanBeDone};
 ghost use Rattle.tool_run.specs.Status.{done, usage, out_of_memory, read_fault, write_fault, no_image, bad_header, outside, bad_shard, bad_trace, statuses, LeavesStore, IsBeforeTrace, own_line};
@@ -183,7 +183,7 @@ fn carry_out<R, I: ImageStore, T: Source, O: Sink, G: Gate + Sync, C: Chances>(
         (Rose (O.faults out.old) (O.faults out.new)) (O.taken out.old) (O.taken out.new)) }
     ensures unread { IfErr result (λ fault. IsBeforeReading (command_of command.entry) fault
         → trace.new ≡ trace.old) }
-    ensures image_first { (at : ℕ) → Gets (command_of command.entry)
+    ensures image_first { (at : ℕ) → GetsImage (command_of command.entry)
         → HoldsOutside (I.contents images.old) (image_name (command_of command.entry)) at
         → trace.new ≡ trace.old }
     ensures no_source { ¬ (ReadsSource (command_of command.entry)) → trace.new ≡ trace.old }

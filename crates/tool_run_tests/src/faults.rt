@@ -1,9 +1,10 @@
 //! Runs of which a call of the outside fails, that name a damaged image, or whose trace is outside
 //! the grammar.
 use crate::harness::{
-    Call, Changes, Constant, damaged, image_after, image_in, make, plain, run_script, runs,
+    Call, Changes, ConstantChance, damaged, image_after, image_in, make, plain, run_script, runs,
     store_with,
 };
+use line_memory::ConstantChance;
 use std::alloc::Global;
 use std::process::Abort;
 use std::test::Fail;
@@ -49,7 +50,7 @@ fn failing_run(
         failing_reads: &[failure.read],
         failing_writes: &[failure.write],
     };
-    let (status, printed) = make(alloc, call, &mut images, &OpenGate, &mut Constant(0))?;
+    let (status, printed) = make(alloc, call, &mut images, &OpenGate, &mut ConstantChance(0))?;
     Ok((status, printed, image_in(alloc, &images)?))
 }
 
@@ -170,7 +171,7 @@ fn an_image_is_refused_before_its_trace(rt: HostRuntime) -> Result<(), Fail> {
         let image = damaged(alloc, changes)?;
         let mut images = store_with(alloc, &image, NO_CALL, FailedPut::LeavesOld)?;
         let call = plain("run h --workers 1", b"outside");
-        let (code, printed) = make(alloc, call, &mut images, &OpenGate, &mut Constant(0))?;
+        let (code, printed) = make(alloc, call, &mut images, &OpenGate, &mut ConstantChance(0))?;
         assert_eq!(rt; code, status, "{text}");
         assert_eq!(rt; printed.as_slice(), text.as_bytes());
         assert_eq!(rt; image_in(alloc, &images)?, image);

@@ -11,31 +11,6 @@ use tool_run::run_tool;
 // Room for the longest text of a test.
 const ROOM: usize = 1 << 22;
 
-/// A chance that always gives the same number: by 0 nothing is made durable early, by 1 each store
-/// is at the next step. Words that a crash leaves with any value have all bits.
-#[derive(Clone, Copy, Drop)]
-pub struct Constant(pub u64);
-
-impl Chance for Constant {
-    fn draw(&mut self) -> u64 {
-        self.0
-    }
-}
-
-impl Chances for Constant {
-    type One = Constant;
-
-    fn seed(&mut self, _: u64) {}
-
-    fn chance(&mut self, _: usize) -> Constant {
-        *self
-    }
-
-    fn word(&mut self) -> u64 {
-        u64::MAX
-    }
-}
-
 /// What a call is given beside the store: its line, its input, and which of its reads and writes
 /// are to fail.
 #[derive(Clone, Copy)]

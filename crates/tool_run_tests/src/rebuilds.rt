@@ -1,5 +1,6 @@
 //! Recovery made in place, stopped at each step, and begun again on what a stop left.
-use crate::harness::{Constant, image_in, make, make_plain, plain, runs, set_word, store_with};
+use crate::harness::{image_in, make, make_plain, plain, runs, set_word, store_with};
+use line_memory::ConstantChance;
 use std::alloc::Global;
 use std::process::Abort;
 use std::test::Fail;
@@ -54,7 +55,7 @@ fn goes_on_from_stops<C: Chances>(
 #[test]
 fn a_stopped_recovery_is_gone_on_with(rt: HostRuntime) -> Result<(), Fail> {
     goes_on_from_stops(&rt, &mut SeededChances::new())?;
-    goes_on_from_stops(&rt, &mut Constant(0))
+    goes_on_from_stops(&rt, &mut ConstantChance(0))
 }
 
 #[test]

@@ -1,7 +1,8 @@
 //! Schedules replayed over images: what each step answers, and what is told of the crash behind.
 use crate::harness::{
-    Call, Changes, Constant, image_in, make, make_plain, plain, runs, set_word, store_with,
+    Call, Changes, ConstantChance, image_in, make, make_plain, plain, runs, set_word, store_with,
 };
+use line_memory::ConstantChance;
 use std::alloc::Global;
 use std::process::Abort;
 use std::test::Fail;
@@ -68,7 +69,7 @@ fn replays(
         runs(rt, &mut images, line, schedule.as_bytes(), status, text)?;
     }
     let call = plain("replay h", schedule.as_bytes());
-    let (code, printed) = make(alloc, call, &mut images, &OpenGate, &mut Constant(u64::MAX))?;
+    let (code, printed) = make(alloc, call, &mut images, &OpenGate, &mut ConstantChance(u64::MAX))?;
     assert_eq!(rt; code, status);
     assert_eq!(rt; printed.as_slice(), text.as_bytes());
     assert!(rt; image_in(alloc, &images)? == image);
@@ -152,7 +153,7 @@ fn the_image_is_told_before_the_schedule(rt: HostRuntime) -> Result<(), Fail> {
         failing_reads: &[0],
         ..plain("replay h", b"seats 9")
     };
-    let (status, printed) = make(alloc, call, &mut images, &OpenGate, &mut Constant(0))?;
+    let (status, printed) = make(alloc, call, &mut images, &OpenGate, &mut ConstantChance(0))?;
     assert!(rt; status == 4 && printed.as_slice() == b"read fault\n".as_slice());
     Ok(())
 }

@@ -1,5 +1,6 @@
 //! Runs stopped at each step: what is told of the image that is left, and that it is gone on with.
-use crate::harness::{Constant, image_after, image_in, make, make_plain, plain, runs, store_with};
+use crate::harness::{image_after, image_in, make, make_plain, plain, runs, store_with};
+use line_memory::ConstantChance;
 use std::alloc::{AllocError, Global};
 use std::process::Abort;
 use std::sync::atomic::{AtomicU64, Ordering};
@@ -71,8 +72,8 @@ fn replaces_at_one_step<C: Chances>(
 
 #[test]
 fn a_replaced_value_is_old_or_new_at_each_stop(rt: HostRuntime) -> Result<(), Fail> {
-    replaces_at_one_step(&rt, &mut Constant(0))?;
-    replaces_at_one_step(&rt, &mut Constant(1))?;
+    replaces_at_one_step(&rt, &mut ConstantChance(0))?;
+    replaces_at_one_step(&rt, &mut ConstantChance(1))?;
     replaces_at_one_step(&rt, &mut SeededChances::new())
 }
 
@@ -102,7 +103,7 @@ fn requests_left_unanswered_are_run_on_what_a_stop_left(rt: HostRuntime) -> Resu
             &image,
             &trace,
             budget,
-            &mut Constant(budget),
+            &mut ConstantChance(budget),
         )?;
         let count = answered(&printed);
         let rest = requests.get(count..).unwrap_or(&[]).concat(alloc)?;

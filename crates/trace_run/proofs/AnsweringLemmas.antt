@@ -9,7 +9,7 @@ use Rattle.dict_model.specs.Requests.{Request, put, get, del, done, full, none, 
 use Rattle.dict_model.specs.Shards.{Map}
 use Rattle.dict_seat.specs.Answers.{Deletes, MakesFew}
 use Rattle.dict_seat.specs.Changes.{Changes}
-use Rattle.dict_seat.specs.Maps.{Gives}
+use Rattle.dict_seat.specs.Maps.{GivesMap}
 use Rattle.dict_seat.proofs.DelLemmas.{gives_same, without_missing}
 use Rattle.trace_run.specs.Progress.{shard_asked}
 use Rattle.trace_run.specs.Working.{Fits, Replied, MakesCalls}
@@ -67,7 +67,7 @@ full_room reads key value looks v w (of_node_behind_table null set refused) = re
 full_room reads key value looks v w (of_table null refused) = refused_room reads table_bytes 0 looks key value v w (omega arith) refused
 
 pub replied_full : (reads : ℕ → Type 0) (key : ℕ) (value : List ℕ) (looks : Looks) (v w : View) → PutRefused reads (node_bytes (length value)) (shard_of key) looks v w
-    → ((m : Map) → Gives v (shard_of key) m → Gives w (shard_of key) m) → Replied (put key value) (Some full) v w
+    → ((m : Map) → GivesMap v (shard_of key) m → GivesMap w (shard_of key) m) → Replied (put key value) (Some full) v w
 replied_full reads key value looks v w refused same = record {
   reply = full;
   told_is = refl;
@@ -107,13 +107,13 @@ replied_none key v w shard few deletes = record {
   takes = only_node (takes_none 0 (shard_of key) shard.map v w shard.gives few);
   room = λ e. absurd (cc);
 } where
-  missing : (m : Map) → Gives v (shard_of key) m → m key ≡ None
+  missing : (m : Map) → GivesMap v (shard_of key) m → m key ≡ None
   missing m gives = elim (there_or_not (m key)) as (λ _. m key ≡ None) [
     | inl nothing ↦ nothing
     | inr value ↦ absurd (let yes : false ≡ true = (deletes.tells m gives).1 (λ nothing. let e : None ≡ Some value.0 = sym nothing ∙ value.1 in absurd (cc)) in cc)
   ]
 
-pub calls_get : (key room : ℕ) (v w : View) (m : Map) → Gives v (shard_of key) m → Fits v (get key) room → ReadsFew key v w → MakesCalls (get key) v w
+pub calls_get : (key room : ℕ) (v w : View) (m : Map) → GivesMap v (shard_of key) m → Fits v (get key) room → ReadsFew key v w → MakesCalls (get key) v w
 calls_get key room v w m gives fits few = calls_few (get key) (words_of (m key)) 0 v w (elim (there_or_not (m key)) as (λ _. words_of (m key) ≤ 16384) [
   | inl nothing ↦ subst (λ o. words_of o ≤ 16384) (sym nothing) (let none : 0 ≤ 16384 = omega arith in none)
   | inr value ↦ subst (λ o. words_of o ≤ 16384) (sym value.1)

@@ -9,7 +9,7 @@ use Rattle.line_memory.specs.View.{volatile_at, durable_at}
 use Rattle.block_heap.specs.Closing.{IsOpened, KeepsFixed}
 use Rattle.block_heap.specs.SeqState.{SeqState}
 use Rattle.block_heap.proofs.FixedLemmas.{fixed_opened, long_opened}
-use Rattle.trace_run.specs.Left.{IsWhole}
+use Rattle.trace_run.specs.Left.{AreWholeImage}
 use Rattle.trace_run.specs.Runs.{LeavesHeader}
 
 -- no word without a meaning is transient
@@ -75,7 +75,7 @@ module _ (words : List ℕ) (held : List Block) (budget : ℕ) (s t : SeqState) 
   capacity_durable = durable capacity_word (inl (omega arith))
 
   -- what loads see are the words of a whole image
-  pub whole_seen : IsWhole t.parts.words.volatile
+  pub whole_seen : AreWholeImage t.parts.words.volatile
   whole_seen =
       let is = seen capacity_word (inl (omega arith)) in
       let some = formed.some in

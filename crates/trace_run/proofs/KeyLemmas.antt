@@ -11,7 +11,7 @@ use Rattle.heap_seat.specs.View.{View}
 use Rattle.dict_model.specs.Nodes.{buckets, shard_of, bucket_of, key_in, find}
 use Rattle.dict_model.specs.Shards.{Map, Leading, map_of, IsMap, is_empty, has_table}
 use Rattle.dict_seat.specs.Answers.{MakesFew}
-use Rattle.dict_seat.specs.Maps.{Gives}
+use Rattle.dict_seat.specs.Maps.{GivesMap}
 use Rattle.dict_seat.specs.Walks.{ListsKeys}
 use Rattle.dict_seat.proofs.TrailLemmas.{now_image, now_completes}
 
@@ -49,11 +49,11 @@ map_keys leads image shard m (has_table table nodes there chains means) = (
 )
 
 -- so a shard of a seat has such a list
-pub seat_keys : (v : View) (shard : ℕ) (m : Map) → Gives v shard m → (keys : List ℕ) × ListsKeys v shard keys
+pub seat_keys : (v : View) (shard : ℕ) (m : Map) → GivesMap v shard m → (keys : List ℕ) × ListsKeys v shard keys
 seat_keys v shard m gives =
     let listed = map_keys _ (now_image v) shard m (gives.each (now_image v) (now_completes v).mixes) in
     (listed.0, record { map = m; gives = gives; all = listed.1 })
 
 -- calls that take no superblock for any keys take none
-pub takes_none : (words shard : ℕ) (m : Map) (v w : View) → Gives v shard m → MakesFew words 0 shard v w → w.taken ≤ v.taken + 0
+pub takes_none : (words shard : ℕ) (m : Map) (v w : View) → GivesMap v shard m → MakesFew words 0 shard v w → w.taken ≤ v.taken + 0
 takes_none words shard m v w gives few = let keys = seat_keys v shard m gives in (few keys.0 keys.1).few

@@ -15,7 +15,7 @@ use Rattle.heap_seat.specs.Sound.{IsSeat}
 use Rattle.dict_model.specs.Links.{shards, root_kind, dict_links}
 use Rattle.dict_model.specs.Shards.{Map, LeadsTo, LeadsAlone, MapOf, IsMap}
 use Rattle.dict_model.proofs.MapLemmas.{map_wider, map_stays}
-use Rattle.dict_seat.specs.Maps.{IsMapIn, Gives}
+use Rattle.dict_seat.specs.Maps.{IsMapIn, GivesMap}
 use Rattle.dict_seat.specs.Reached.{MayReach, IsNullOrHeld, ReachesOnlyHeld}
 use Rattle.dict_seat.proofs.GrownLemmas.{are_placed, reached_held, link_own}
 use Rattle.dict_seat.proofs.TrailLemmas.{settled_in}
@@ -109,7 +109,7 @@ module _ (image : Image) (v : View) (seat : IsSeat v) (opened : IsOpenedOver ima
         (more_roots {chosen = λ r. r ≡ root} {chosen' = λ r. r ≢ shard} image root_kind dict_links (λ r e same. differs (sym same ∙ e)) b other (reach_back root b other q));
   }
 
-  pub gives_opened : (shard : ℕ) (map : Map) → shard < shards → MapOf image shard map → Gives v shard map
+  pub gives_opened : (shard : ℕ) (map : Map) → shard < shards → MapOf image shard map → GivesMap v shard map
   gives_opened shard map small is = record { each = λ mixed mixes. by_image mixed mixes } where
     by_image : (mixed : Image) → MixesOwn v mixed → IsMapIn v mixed shard map
     by_image mixed mixes =

@@ -11,7 +11,7 @@ use Rattle.heap_seat.specs.Sound.{IsSeat}
 use Rattle.dict_model.specs.Links.{shards}
 use Rattle.dict_model.specs.Requests.{Request, Reply, done, after, after_one, IsReply, AreReplies}
 use Rattle.dict_model.specs.Shards.{Map, MapOf}
-use Rattle.dict_seat.specs.Maps.{IsMapIn, Gives}
+use Rattle.dict_seat.specs.Maps.{IsMapIn, GivesMap}
 use Rattle.trace_run.specs.Needs.{key_of, is_to}
 use Rattle.trace_run.specs.Opened.{IsOpenedOver}
 use Rattle.trace_run.specs.Runs.{of_shard, IsMapLeft, LeavesOthers}
@@ -52,7 +52,7 @@ stands_on image v w request stands may = record {
 
 module _ (image : Image) (rs : List (Request × Reply)) (v w : View) (request : Request) (seat : IsSeat v) (has : HasAnswered image rs v) (may : MayAnswer request v w) where
   -- other shards have their maps
-  other_gives : (shard : ℕ) (map : Map) → shard < shards → shard ≢ shard_asked request → MapOf image shard map → Gives w shard (after map (of_shard shard rs))
+  other_gives : (shard : ℕ) (map : Map) → shard < shards → shard ≢ shard_asked request → MapOf image shard map → GivesMap w shard (after map (of_shard shard rs))
   other_gives shard map small differs is =
       gives_others v w (shard_asked request) shard seat has.stands.only may.others (small_shard request) small differs (has.stands.all_roots shard (omega arith)) (after map (of_shard shard rs)) (has.gives shard map small is)
 
@@ -62,17 +62,17 @@ module _ (image : Image) (rs : List (Request × Reply)) (v w : View) (request : 
     right = λ shard map small is. elim (cases_eq (shard_asked request) shard) as (λ _. AreReplies map (of_shard shard (rs ++ ((request, reply) ∷ [])))) [
       | inl same ↦ subst (AreReplies map) (sym (push_same shard rs (request, reply) same))
           (right_push map (of_shard shard rs) (request, reply) (has.right shard map small is)
-          (answers.right (after map (of_shard shard rs)) (subst (λ n. Gives v n (after map (of_shard shard rs))) (sym same) (has.gives shard map small is))))
+          (answers.right (after map (of_shard shard rs)) (subst (λ n. GivesMap v n (after map (of_shard shard rs))) (sym same) (has.gives shard map small is))))
       | inr other ↦ subst (AreReplies map) (sym (push_other shard rs (request, reply) other)) (has.right shard map small is)
     ];
-    gives = λ shard map small is. elim (cases_eq (shard_asked request) shard) as (λ _. Gives w shard (after map (of_shard shard (rs ++ ((request, reply) ∷ []))))) [
+    gives = λ shard map small is. elim (cases_eq (shard_asked request) shard) as (λ _. GivesMap w shard (after map (of_shard shard (rs ++ ((request, reply) ∷ []))))) [
       | inl same ↦
           let before = after map (of_shard shard rs) in
-          let now = answers.gives before (subst (λ n. Gives v n before) (sym same) (has.gives shard map small is)) in
-          subst (λ zs. Gives w shard (after map zs)) (sym (push_same shard rs (request, reply) same))
-          (subst (λ (m : Map). Gives w shard m) (sym (after_push map (of_shard shard rs) (request, reply)))
-          (subst (λ n. Gives w n (after_one before request reply)) same now))
-      | inr other ↦ subst (λ zs. Gives w shard (after map zs)) (sym (push_other shard rs (request, reply) other)) (other_gives shard map small (λ e. other (sym e)) is)
+          let now = answers.gives before (subst (λ n. GivesMap v n before) (sym same) (has.gives shard map small is)) in
+          subst (λ zs. GivesMap w shard (after map zs)) (sym (push_same shard rs (request, reply) same))
+          (subst (λ (m : Map). GivesMap w shard m) (sym (after_push map (of_shard shard rs) (request, reply)))
+          (subst (λ n. GivesMap w n (after_one before request reply)) same now))
+      | inr other ↦ subst (λ zs. GivesMap w shard (after map zs)) (sym (push_other shard rs (request, reply) other)) (other_gives shard map small (λ e. other (sym e)) is)
     ];
   }
 
@@ -83,7 +83,7 @@ module _ (image : Image) (rs : List (Request × Reply)) (v w : View) (request : 
       as (λ _. IsMapLeft left shard (after map (of_shard shard rs)) true (request ∷ others)) [
         | inl same ↦
             let before = after map (of_shard shard rs) in
-            let either = (may.either before (subst (λ n. Gives v n before) (sym same) (has.gives shard map small is))).each left mixes in
+            let either = (may.either before (subst (λ n. GivesMap v n before) (sym same) (has.gives shard map small is))).each left mixes in
             elim either as (λ _. IsMapLeft left shard before true (request ∷ others)) [
               | inl one ↦ inl (on_left shard before small (subst (λ n. IsMapIn w left n before) same one))
               | inr two ↦ inr (

@@ -5,7 +5,7 @@ use Rattle.dict_model.specs.Nodes.{largest_value}
 use Rattle.dict_model.specs.Requests.{Request}
 use Rattle.trace_text.specs.Trace.{IsLine, AreLines}
 use Rattle.trace_text.specs.declared.request.Request.TheVariants.{Put, Get, Del}
-use Rattle.trace_run.specs.Said.{Line, request_of, requests_of, IsShort, AreShort}
+use Rattle.trace_run.specs.Said.{Line, request_of, requests_of, IsShort, ValuesAreShort}
 
 line_short : (text : List ℕ) (line : Line) → IsLine text line → IsShort (request_of line)
 line_short text (Put key value) is = elim is.value_is as (λ _. length value ≤ largest_value) [
@@ -24,5 +24,5 @@ each_short (text ∷ texts) (line ∷ lines) are request h = elim (head_or_rest 
   | inr later ↦ each_short texts lines are.1 request later
 ]
 
-pub lines_short : (texts : List (List ℕ)) (lines : List Line) → AreLines texts lines → AreShort (requests_of lines)
+pub lines_short : (texts : List (List ℕ)) (lines : List Line) → AreLines texts lines → ValuesAreShort (requests_of lines)
 lines_short texts lines are = record { each = each_short texts lines are }

@@ -5,7 +5,7 @@ use Rattle.std.proofs.lemmas.List.{get_or-set_same, get_or-set_other, length-set
 use Rattle.heap_model.specs.Geometry.{dirty, state_word, capacity_word}
 use Rattle.heap_model.specs.Header.{capacity_of}
 use Rattle.heap_model.specs.Durability.{IsTransient, IsCrashImage}
-use Rattle.trace_run.specs.Left.{IsWhole, ScramblesOnly}
+use Rattle.trace_run.specs.Left.{AreWholeImage, ScramblesOnly}
 use Rattle.heap_model.proofs.HeaderLemmas.{header_lasts}
 
 pub scrambled_none : (words : List ℕ) → ScramblesOnly words words
@@ -20,7 +20,7 @@ scrambled_at old now at value is so_far = record {
 pub scrambled_capacity : (old new : List ℕ) → ScramblesOnly old new → capacity_of (slice_index new) ≡ capacity_of (slice_index old)
 scrambled_capacity old new scrambles = scrambles.others capacity_word (header_lasts (capacity_of (slice_index old)) capacity_word (omega arith))
 
-pub scrambled_whole : (old new : List ℕ) → IsWhole old → ScramblesOnly old new → IsWhole new
+pub scrambled_whole : (old new : List ℕ) → AreWholeImage old → ScramblesOnly old new → AreWholeImage new
 scrambled_whole old new whole scrambles =
     let same = scrambled_capacity old new scrambles in
     record {
@@ -29,7 +29,7 @@ scrambled_whole old new whole scrambles =
       long = let long = whole.long in let kept = scrambles.long in omega (arith, same, long, kept);
     }
 
-pub scrambled_crash : (old mid new : List ℕ) → IsWhole old → ScramblesOnly old mid → ScramblesOnly mid new → IsCrashImage (slice_index old) (slice_index (slice_set new state_word dirty))
+pub scrambled_crash : (old mid new : List ℕ) → AreWholeImage old → ScramblesOnly old mid → ScramblesOnly mid new → IsCrashImage (slice_index old) (slice_index (slice_set new state_word dirty))
 scrambled_crash old mid new whole first second = record {
   state = get_or-set_same new state_word dirty 0 (let long = whole.long in let a = first.long in let b = second.long in omega (arith, long, a, b));
   others = λ word differs not.

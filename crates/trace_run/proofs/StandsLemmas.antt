@@ -10,9 +10,9 @@ use Rattle.heap_seat.specs.View.{View}
 use Rattle.heap_seat.specs.Words.{in_root, in_block, MayBe, MayRead, MixesOwn}
 use Rattle.dict_model.specs.Links.{shards, root_kind, dict_links}
 use Rattle.dict_model.proofs.LinkLemmas.{link_in_block}
-use Rattle.dict_seat.specs.Maps.{KeepsOthers}
+use Rattle.dict_seat.specs.Maps.{KeepsOtherShards}
 use Rattle.dict_seat.specs.Reached.{MayReach, ReachesOnlyHeld}
-use Rattle.dict_seat.specs.Trails.{IsSettled}
+use Rattle.dict_seat.specs.Trails.{IsDurableAt}
 use Rattle.dict_seat.proofs.GrownLemmas.{root_reach, link_reach, link_in}
 use Rattle.dict_seat.proofs.TrailLemmas.{settled_in, settled_stays}
 use Rattle.trace_run.specs.Stands.{IsOtherRoot, HasOthers}
@@ -23,7 +23,7 @@ record IsReachedBy (v : View) (chosen : ℕ → Type 0) (b : Block) (kind : ℕ)
   pub is_chosen : chosen root
   pub reached : MayReach v root b kind
 
-read_settled : (v : View) (word value : ℕ) → IsSettled v word value → MayRead v word value
+read_settled : (v : View) (word value : ℕ) → IsDurableAt v word value → MayRead v word value
 read_settled v word value settled = inl (subst (λ (known : Option ℕ). MayBe known value) (sym settled.seen) refl)
 
 module _ (image : Image) (v : View) (has : HasOthers image v) (all : (root : ℕ) → root < roots → Contains v.roots root) where
@@ -60,7 +60,7 @@ module _ (image : Image) (v : View) (has : HasOthers image v) (all : (root : ℕ
       ))
 
   -- a request to a shard leaves them
-  pub others_stay : (w : View) (shard : ℕ) → shard < shards → ReachesOnlyHeld v → KeepsOthers shard v w → HasOthers image w
+  pub others_stay : (w : View) (shard : ℕ) → shard < shards → ReachesOnlyHeld v → KeepsOtherShards shard v w → HasOthers image w
   others_stay w shard small only keeps = record {
     root_words = λ root other below. settled_stays v w (root_word root) (image (root_word root)) (keeps.root_words root (all root below) (λ e. omega arith)) (has.root_words root other below);
     blocks = λ b kind reach. (keeps.blocks b (has.blocks b kind reach) (unreached b kind reach)).0;

@@ -12,7 +12,7 @@ use Rattle.heap_seat.specs.Words.{MayBe}
 use Rattle.dict_model.specs.Links.{shards}
 use Rattle.dict_model.specs.Requests.{Request, put, get, del, Reply}
 use Rattle.dict_model.specs.Shards.{Map, is_empty, has_table}
-use Rattle.dict_seat.specs.Maps.{IsMapIn, Gives}
+use Rattle.dict_seat.specs.Maps.{IsMapIn, GivesMap}
 use Rattle.dict_seat.specs.Puts.{RootIsSet}
 use Rattle.trace_run.specs.Needs.{is_to, put_into, shards_put_into}
 use Rattle.trace_run.specs.Runs.{span_taken}
@@ -167,7 +167,7 @@ unfolding seen_or_null
 some_seen None some = absurd (some refl)
 some_seen (Some x) some = (x, refl, some)
 
-pub key_has_table : (w : View) (shard : ℕ) (map : Map) (key : ℕ) (value : List ℕ) → Gives w shard map → map key ≡ Some value → RootIsSet w shard
+pub key_has_table : (w : View) (shard : ℕ) (map : Map) (key : ℕ) (value : List ℕ) → GivesMap w shard map → map key ≡ Some value → RootIsSet w shard
 key_has_table w shard map key value gives is = by_map (gives.each (λ word. seen_or_null (w.volatile word)) (record { each = λ word own. inl (may_seen (w.volatile word)) })) where
   by_map : IsMapIn w (λ word. seen_or_null (w.volatile word)) shard map → RootIsSet w shard
   by_map (is_empty null none) = let e : None ≡ Some value = sym (none key) ∙ is in absurd (cc)

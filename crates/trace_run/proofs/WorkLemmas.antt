@@ -15,7 +15,7 @@ use Rattle.trace_run.specs.Needs.{is_to}
 use Rattle.trace_run.specs.Runs.{Replies, answered, unanswered, of_shard, AnswersInOrder}
 use Rattle.trace_run.specs.Progress.{shard_asked, Answers, MayAnswer, HasAnswered}
 use Rattle.trace_run.specs.Opened.{HasMaps}
-use Rattle.trace_run.specs.Said.{Line, Told, request_of, reply_of, requests_of, replies_of, IsShort, AreShort}
+use Rattle.trace_run.specs.Said.{Line, Told, request_of, reply_of, requests_of, replies_of, IsShort, ValuesAreShort}
 use Rattle.trace_run.specs.Working.{HasWorked, HasRoom, HaveRoom, Fits, Replied}
 use Rattle.dict_seat.specs.Removal.{IsShard}
 use Rattle.trace_run.proofs.ProgressLemmas.{goes_on, small_shard}
@@ -155,7 +155,7 @@ next_shard image qs left q replies v maps worked =
       gives = worked.answered.gives (shard_asked q) first.0 small first.1;
     }
 
-pub next_short : (image : Image) (qs left : List Request) (q : Request) (replies : Replies) (v : View) → AreShort qs → HasWorked image qs (q ∷ left) replies v → IsShort q
+pub next_short : (image : Image) (qs left : List Request) (q : Request) (replies : Replies) (v : View) → ValuesAreShort qs → HasWorked image qs (q ∷ left) replies v → IsShort q
 next_short image qs left q replies v short worked =
     short.each q (subst (λ (xs : List Request). Contains xs q) (sym worked.requests_are) (Contains-append_right (map (λ r. r.0) worked.rs) (q ∷ left) q (in_head q left)))
 

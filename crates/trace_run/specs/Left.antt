@@ -5,7 +5,7 @@ use Rattle.heap_model.specs.Header.{capacity_of}
 use Rattle.heap_model.specs.Durability.{IsTransient}
 
 -- the words are those of a whole image
-pub record IsWhole (words : List ℕ) : Type 0 where
+pub record AreWholeImage (words : List ℕ) : Type 0 where
   pub some : 1 ≤ capacity_of (slice_index words)
   pub small : capacity_of (slice_index words) ≤ largest_capacity
   pub long : length words ≡ image_words (capacity_of (slice_index words))

@@ -9,7 +9,7 @@ use Rattle.heap_seat.specs.View.{View}
 use Rattle.heap_seat.specs.Words.{IsOwn}
 use Rattle.dict_model.specs.Links.{shards, dict_links, root_kind}
 use Rattle.dict_model.specs.Shards.{Map, MapOf}
-use Rattle.dict_seat.specs.Trails.{IsSettled}
+use Rattle.dict_seat.specs.Trails.{IsDurableAt}
 
 -- each shard of the image is a map
 pub record HasMaps (image : Image) : Type 0 where
@@ -25,7 +25,7 @@ pub record IsDictionary (image : Image) (held : Block → Type 0) : Type 0 where
 pub record IsOpenedOver (image : Image) (v : View) : Type 0 where
   pub dictionary : IsDictionary image (Contains v.held)
   pub all_roots : (root : ℕ) → root < roots → Contains v.roots root
-  pub words : (word : ℕ) → IsOwn v.held v.roots word → IsSettled v word (image word)
+  pub words : (word : ℕ) → IsOwn v.held v.roots word → IsDurableAt v word (image word)
 
 -- an image of so many words that recovery does not refuse, and each of whose shards is a map
 pub record CanBeRun (words : ℕ) (image : Image) : Type 0 where

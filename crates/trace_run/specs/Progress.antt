@@ -7,7 +7,7 @@ use Rattle.dict_model.specs.Nodes.{shard_of}
 use Rattle.dict_model.specs.Requests.{Request, Reply, done, after, after_one, IsReply, AreReplies}
 use Rattle.dict_model.specs.Shards.{Map, MapOf}
 use Rattle.dict_seat.specs.Changes.{MayChange}
-use Rattle.dict_seat.specs.Maps.{Gives}
+use Rattle.dict_seat.specs.Maps.{GivesMap}
 use Rattle.trace_run.specs.Needs.{key_of}
 use Rattle.trace_run.specs.Runs.{of_shard}
 use Rattle.trace_run.specs.Stands.{StandsOver}
@@ -18,8 +18,8 @@ shard_asked request = shard_of (key_of request)
 
 -- the request was answered: the reply is right for the shard's map, and each mixture has the map after it
 pub record Answers (request : Request) (reply : Reply) (v w : View) : Type 0 where
-  pub right : (map : Map) → Gives v (shard_asked request) map → IsReply map request reply
-  pub gives : (map : Map) → Gives v (shard_asked request) map → Gives w (shard_asked request) (after_one map request reply)
+  pub right : (map : Map) → GivesMap v (shard_asked request) map → IsReply map request reply
+  pub gives : (map : Map) → GivesMap v (shard_asked request) map → GivesMap w (shard_asked request) (after_one map request reply)
 
 -- wherever the request ended, each mixture has the map before it or the map after it
 abbrev pub MayAnswer : Request → View → View → Type 0
@@ -29,4 +29,4 @@ MayAnswer request = MayChange (shard_asked request) (λ map. after_one map reque
 pub record HasAnswered (image : Image) (rs : List (Request × Reply)) (v : View) : Type 0 where
   pub stands : StandsOver image v
   pub right : (shard : ℕ) (map : Map) → shard < shards → MapOf image shard map → AreReplies map (of_shard shard rs)
-  pub gives : (shard : ℕ) (map : Map) → shard < shards → MapOf image shard map → Gives v shard (after map (of_shard shard rs))
+  pub gives : (shard : ℕ) (map : Map) → shard < shards → MapOf image shard map → GivesMap v shard (after map (of_shard shard rs))

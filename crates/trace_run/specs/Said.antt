@@ -34,5 +34,5 @@ IsShort (put key value) = length value ≤ largest_value
 IsShort (get key) = Unit {0}
 IsShort (del key) = Unit {0}
 
-pub record AreShort (requests : List Request) : Type 0 where
+pub record ValuesAreShort (requests : List Request) : Type 0 where
   pub each : (request : Request) → Contains requests request → IsShort request

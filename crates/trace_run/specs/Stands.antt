@@ -8,7 +8,7 @@ use Rattle.heap_model.specs.Reach.{ReachFrom}
 use Rattle.heap_seat.specs.View.{View}
 use Rattle.dict_model.specs.Links.{shards, dict_links, root_kind}
 use Rattle.dict_seat.specs.Reached.{ReachesOnlyHeld}
-use Rattle.dict_seat.specs.Trails.{IsSettled}
+use Rattle.dict_seat.specs.Trails.{IsDurableAt}
 
 -- a root that is no shard's
 abbrev pub IsOtherRoot : ℕ → Type 0
@@ -16,10 +16,10 @@ IsOtherRoot root = shards ≤ root
 
 -- other roots, and the blocks that the image reaches from them, are held with its words, which are durable
 pub record HasOthers (image : Image) (v : View) : Type 0 where
-  pub root_words : (root : ℕ) → IsOtherRoot root → root < roots → IsSettled v (root_word root) (image (root_word root))
+  pub root_words : (root : ℕ) → IsOtherRoot root → root < roots → IsDurableAt v (root_word root) (image (root_word root))
   pub blocks : (b : Block) (kind : ℕ) → ReachFrom image IsOtherRoot root_kind dict_links b kind → Contains v.held b
   pub words : (b : Block) (kind word : ℕ) → ReachFrom image IsOtherRoot root_kind dict_links b kind → IsIn b word
-      → IsSettled v word (image word)
+      → IsDurableAt v word (image word)
 
 -- only held blocks are reached, what belongs to no shard is as in the image, and the seat has all roots
 pub record StandsOver (image : Image) (v : View) : Type 0 where

@@ -8,7 +8,7 @@ use Rattle.dict_model.specs.Links.{shards}
 use Rattle.dict_model.specs.Nodes.{largest_value, shard_of}
 use Rattle.dict_model.specs.Requests.{Request, put, get, del, Reply, full}
 use Rattle.dict_model.specs.Shards.{Map, MapOf}
-use Rattle.dict_seat.specs.Maps.{Gives}
+use Rattle.dict_seat.specs.Maps.{GivesMap}
 use Rattle.dict_seat.specs.Walks.{ListsKeys}
 use Rattle.trace_run.specs.Runs.{Replies}
 use Rattle.trace_run.specs.Progress.{shard_asked, Answers, MayAnswer, HasAnswered}
@@ -51,7 +51,7 @@ HaveRoom image requests (q ∷ qs) (room ∷ rooms) = HasRoom image requests q (
 -- a get's value fits, as the seat has it
 abbrev pub Fits : View → Request → ℕ → Type 0
 Fits v (get key) room =
-    (room ≤ largest_value) × ((map : Map) (value : List ℕ) → Gives v (shard_of key) map → map key ≡ Some value → length value ≤ room)
+    (room ≤ largest_value) × ((map : Map) (value : List ℕ) → GivesMap v (shard_of key) map → map key ≡ Some value → length value ≤ room)
 Fits v (put key value) room = Unit {0}
 Fits v (del key) room = Unit {0}
 

@@ -23,7 +23,7 @@ ghost use Rattle.trace_run.specs.Needs.{superblocks_needed, ListsKeysOf};
 ghost use Rattle.trace_run.specs.Runs.{Replies, answered, of_shard, AnswersInOrder, IsFullRightly, IsMapLeft, LeavesMaps, LeavesHeader, LeavesOthers};
 ghost use Rattle.trace_run.specs.Opened.{HasMaps, IsDictionary, IsOpenedOver, CanBeRun};
 ghost use Rattle.trace_run.specs.Progress.{Answers, MayAnswer, HasAnswered};
-ghost use Rattle.trace_run.specs.Said.{Line, requests_of, AreShort};
+ghost use Rattle.trace_run.specs.Said.{Line, requests_of, ValuesAreShort};
 ghost use Rattle.trace_run.specs.Stands.{StandsOver};
 ghost use Rattle.trace_text.specs.Trace.{AreLines};
 
@@ -49,7 +49,7 @@ pub fn a_dictionary_lists_its_keys()
 /// The values of a trace that was read are short enough to be put.
 pub fn a_read_trace_is_short()
     ensures { (texts : List (List ℕ)) (lines : List Line) → AreLines texts lines
-        → AreShort (requests_of lines) }
+        → ValuesAreShort (requests_of lines) }
 {}
 
 /// What recovery leaves is a dictionary where each shard is a map; and over a heap that is opened

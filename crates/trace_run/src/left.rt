@@ -3,14 +3,14 @@ ghost use Rattle.std.specs.Prelude.{◌≡◌, ◌≤◌, length, slice_index};
 ghost use Rattle.heap_model.specs.Geometry.{largest_capacity, image_words};
 ghost use Rattle.heap_model.specs.Header.{capacity_of};
 ghost use Rattle.heap_model.specs.Durability.{IsCrashImage, IsClosedImage};
-ghost use Rattle.trace_run.specs.Left.{IsWhole, ScramblesOnly};
+ghost use Rattle.trace_run.specs.Left.{AreWholeImage, ScramblesOnly};
 
 use super_block::{CLEAN, DIRTY, Geometry, HEAD_WORD, LISTS, STATE_WORD};
 use tool_ports::Chances;
 
 /// The image of a heap that is closed, from what loads saw of each word.
 pub fn closed_image(mut words: Vec<u64>) -> Vec<u64>
-    requires { IsWhole words.items }
+    requires { AreWholeImage words.items }
     ensures image { IsClosedImage (slice_index words.items) (slice_index result.items) }
     ensures long { length result.items ≡ length words.items }
 {
@@ -20,7 +20,7 @@ pub fn closed_image(mut words: Vec<u64>) -> Vec<u64>
 
 /// Puts any words into the list heads, in the order of word index.
 fn scramble_heads<C: Chances>(mut words: Vec<u64>, chances: &mut C) -> Vec<u64>
-    requires { IsWhole words.items }
+    requires { AreWholeImage words.items }
     ensures { ScramblesOnly words.items result.items }
 {
     for list in 0..LISTS {
@@ -35,7 +35,7 @@ fn scramble_descriptors<C: Chances>(
     geometry: Geometry,
     chances: &mut C,
 ) -> Vec<u64>
-    requires whole { IsWhole words.items }
+    requires whole { AreWholeImage words.items }
     requires layout { geometry.capacity ≡ capacity_of (slice_index words.items) }
     ensures { ScramblesOnly words.items result.items }
 {
@@ -48,7 +48,7 @@ fn scramble_descriptors<C: Chances>(
 
 /// An image that a crash may leave, from what is durable of each word.
 pub fn crash_image<C: Chances>(words: Vec<u64>, geometry: Geometry, chances: &mut C) -> Vec<u64>
-    requires whole { IsWhole words.items }
+    requires whole { AreWholeImage words.items }
     requires layout { geometry.capacity ≡ capacity_of (slice_index words.items) }
     ensures image { IsCrashImage (slice_index words.items) (slice_index result.items) }
     ensures long { length result.items ≡ length words.items }

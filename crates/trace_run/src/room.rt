@@ -7,7 +7,7 @@ ghost use Rattle.dictionary.specs.Reading.{AreMaps};
 ghost use Rattle.dict_model.specs.Requests.{Request as Asked};
 ghost use Rattle.trace_run.specs.Opened.{HasMaps};
 ghost use Rattle.trace_run.specs.Rooms.{length_at, length_in, Raises, AreLongest};
-ghost use Rattle.trace_run.specs.Said.{request_of, requests_of, AreShort};
+ghost use Rattle.trace_run.specs.Said.{request_of, requests_of, ValuesAreShort};
 ghost use Rattle.trace_run.specs.Working.{HasRoom, HaveRoom};
 
 use dictionary::{MapFault, SHARDS, maps_of};
@@ -48,7 +48,7 @@ fn opened_length(map: &BTreeMap<u64, Bytes>, key: u64) -> usize
 
 /// The length of the longest value that the trace puts under each key.
 fn longest_puts(alloc: Global, requests: &[Request]) -> Result<BTreeMap<u64, usize>, AllocError>
-    requires { AreShort (requests_of requests.now) }
+    requires { ValuesAreShort (requests_of requests.now) }
     ensures { IfOk result (AreLongest (requests_of requests.now)) }
 {
     let mut longest = BTreeMap::new(alloc);
@@ -88,7 +88,7 @@ pub(crate) fn make_rooms(
     requests: &[Request],
 ) -> Result<VecDeque<Bytes>, AllocError>
     requires maps { HasMaps (slice_index heap.now.words) }
-    requires short { AreShort (requests_of requests.now) }
+    requires short { ValuesAreShort (requests_of requests.now) }
     ensures ready { IsReady heap.now.words heap.now.held }
     ensures rooms { IfOk result (λ rooms. HaveRoom (slice_index heap.now.words)
         (requests_of requests.now) (requests_of requests.now) rooms.items) }

@@ -4,10 +4,10 @@ ghost use Rattle.std.specs.Vec.{vec_capacity};
 ghost use Rattle.heap_model.specs.Durability.{IsCrashImage, IsClosedImage};
 ghost use Rattle.heap_model.specs.Header.{capacity_of};
 ghost use Rattle.line_memory.specs.ClosedWords.{volatile_words, durable_words};
-ghost use Rattle.trace_run.specs.Left.{IsWhole};
+ghost use Rattle.trace_run.specs.Left.{AreWholeImage};
 ghost use Rattle.trace_run.specs.Opened.{IsDictionary};
 ghost use Rattle.trace_run.specs.Runs.{AnswersInOrder, StopsRightly, IsFullRightly, RepliesRightly, LeavesMaps, LeavesHeader, LeavesOthers, LeavesState};
-ghost use Rattle.trace_run.specs.Said.{requests_of, replies_of, AreShort};
+ghost use Rattle.trace_run.specs.Said.{requests_of, replies_of, ValuesAreShort};
 
 use crate::left::{closed_image, crash_image};
 use crate::room::make_rooms;
@@ -37,7 +37,7 @@ fn image_left<C: Chances>(
     geometry: Geometry,
     chances: &mut C,
 ) -> Vec<u64>
-    requires whole { IsWhole (volatile_words closed) }
+    requires whole { AreWholeImage (volatile_words closed) }
     requires layout { geometry.capacity ≡ capacity_of (slice_index (volatile_words closed)) }
     requires same { capacity_of (slice_index (durable_words closed))
         ≡ capacity_of (slice_index (volatile_words closed)) }
@@ -84,7 +84,7 @@ pub fn run_trace<R, G: Gate + Sync, C: Chances>(
     requires one { workers ≡ 1 }
     requires budget { budget < 2 ^ 40 }
     requires dictionary { IsDictionary (slice_index heap.words) (Contains heap.held) }
-    requires short { AreShort (requests_of requests.now) }
+    requires short { ValuesAreShort (requests_of requests.now) }
 
     // Which requests are answered, and with which replies.
     ensures answers { IfOk result (λ o. AnswersInOrder (requests_of requests.now)

@@ -7,7 +7,7 @@ ghost use Rattle.trace_run.specs.Needs.{ListsKeysOf};
 ghost use Rattle.trace_run.specs.Opened.{HasMaps};
 ghost use Rattle.trace_run.specs.Progress.{HasAnswered};
 ghost use Rattle.trace_run.specs.Runs.{answered};
-ghost use Rattle.trace_run.specs.Said.{requests_of, replies_of, AreShort};
+ghost use Rattle.trace_run.specs.Said.{requests_of, replies_of, ValuesAreShort};
 ghost use Rattle.trace_run.specs.Spending.{AreFullRightly, MakeFew};
 ghost use Rattle.trace_run.specs.Working.{HasWorked, HasStopped, HaveRoom};
 
@@ -32,7 +32,7 @@ pub fn work_off<H: HeapSeat, G: Gate>(
     requires maps { HasMaps image }
     requires rooms { HaveRoom image (requests_of requests.now) (requests_of requests.now)
         rooms.items }
-    requires short { AreShort (requests_of requests.now) }
+    requires short { ValuesAreShort (requests_of requests.now) }
     requires empty { replies.old.items ≡ [] }
     requires reserved { length requests.now ≤ vec_capacity replies.old }
     ensures answered { IsFalse result → HasWorked image (requests_of requests.now) []

@@ -1,13 +1,13 @@
 use Rattle.std.proofs.Common.{subst}
 use Rattle.core_model.specs.View.{Setup}
 use Rattle.core_model.specs.Sound.{Sound}
-use Rattle.core_model.specs.Steps.{State, IsSoundState}
+use Rattle.core_model.specs.Steps.{TableState, IsSoundState}
 use Rattle.core_model.proofs.HeldLemmas.{firm, crash_names}
 use Rattle.crash_core.specs.declared.state.CoreState.{CoreState}
 use Rattle.crash_core.specs.Standing.{StandsFor}
 use Rattle.crash_core.proofs.laws.a_core_stands_for_a_sound_state.Goals as goal
 
-sound_of : (core : CoreState) (k : Setup) (s : State) → StandsFor core k s → IsSoundState k s
+sound_of : (core : CoreState) (k : Setup) (s : TableState) → StandsFor core k s → IsSoundState k s
 sound_of core k s stands = subst (λ words. Sound k words s.views) stands.words stands.keeps.sound
 
 pub returns-clause-sound : goal.returns-clause-sound

@@ -2,12 +2,12 @@ use Rattle.std.proofs.Common.{ℕ, ◌+◌, ◌*◌, length, List, Contains, sub
 use Rattle.std.proofs.lemmas.Result.{err_from_is_err_and}
 use Rattle.heap_model.specs.declared.block.Block.{Block}
 use Rattle.heap_model.specs.Sizes.{span_of}
-use Rattle.heap_seat.specs.Words.{MayStore}
+use Rattle.heap_seat.specs.Words.{MayHaveStored}
 use Rattle.heap_seat.proofs.RowLemmas.{row_then, row_more}
 use Rattle.dict_model.specs.Nodes.{shard_of, bucket_of, value_words, node_bytes}
 use Rattle.dict_model.specs.Requests.{with_key}
 use Rattle.dict_seat.specs.Quiet.{FollowsLink}
-use Rattle.dict_seat.specs.Trails.{IsSettled}
+use Rattle.dict_seat.specs.Trails.{IsDurableAt}
 use Rattle.dict_seat.proofs.GrownLemmas.{grown_keeps, grown_then}
 use Rattle.dict_seat.proofs.ChangeLemmas.{change_none}
 use Rattle.dict_seat.proofs.FirstLemmas.{put_fails, first_left, first_done, all_first}
@@ -65,7 +65,7 @@ returns-in_err-persist-clause-crash g c =
     let w = view c.persist.new.heap in
     let bucket = c.bucket_of.ensures in
     let follows = subst (λ (k : ℕ). FollowsLink (c.args.table.first_word + k) c.in_ok-first.first v t) bucket c.in_ok-first.ensures.ok in
-    let may = subst (λ (k : ℕ). MayStore (c.args.table.first_word + k) c.encode.result u w) bucket c.persist.ensures.crash in
+    let may = subst (λ (k : ℕ). MayHaveStored (c.args.table.first_word + k) c.encode.result u w) bucket c.persist.ensures.crash in
     first_left v t u w (g.met.H.HeapSeat.seat c.follow.new.seat) (g.met.H.HeapSeat.seat c.make_node.new.seat) c.args.key c.in_ok-first.first c.encode.result c.args.value.now c.args.table c.in_ok-node.node
     c.requires.shard c.requires.missing (g.met.H.HeapSeat.seat c.args.seat.now) c.follow.ensures.quiet.unchanged follows c.make_node.ensures.grown c.in_ok-node.ensures.ok c.requires.short (λ k less. omega (arith, c.type_inv.value k))
     c.encode.ensures.tagged may
@@ -79,7 +79,7 @@ returns-clause-crash g c =
     let w = view c.persist.new.heap in
     let bucket = c.bucket_of.ensures in
     let follows = subst (λ (k : ℕ). FollowsLink (c.args.table.first_word + k) c.in_ok-first.first v t) bucket c.in_ok-first.ensures.ok in
-    let may = subst (λ (k : ℕ). MayStore (c.args.table.first_word + k) c.encode.result u w) bucket c.persist.ensures.crash in
+    let may = subst (λ (k : ℕ). MayHaveStored (c.args.table.first_word + k) c.encode.result u w) bucket c.persist.ensures.crash in
     first_left v t u w (g.met.H.HeapSeat.seat c.follow.new.seat) (g.met.H.HeapSeat.seat c.make_node.new.seat) c.args.key c.in_ok-first.first c.encode.result c.args.value.now c.args.table c.in_ok-node.node
     c.requires.shard c.requires.missing (g.met.H.HeapSeat.seat c.args.seat.now) c.follow.ensures.quiet.unchanged follows c.make_node.ensures.grown c.in_ok-node.ensures.ok c.requires.short (λ k less. omega (arith, c.type_inv.value k))
     c.encode.ensures.tagged may
@@ -93,9 +93,9 @@ returns-clause-ok g c =
     let w = view c.persist.new.heap in
     let bucket = c.bucket_of.ensures in
     let follows = subst (λ (k : ℕ). FollowsLink (c.args.table.first_word + k) c.in_ok-first.first v t) bucket c.in_ok-first.ensures.ok in
-    let may = subst (λ (k : ℕ). MayStore (c.args.table.first_word + k) c.encode.result u w) bucket c.persist.ensures.crash in
-    let settled : IsSettled w (c.args.table.first_word + bucket_of c.args.key) c.encode.result =
-    subst (λ (k : ℕ). IsSettled w (c.args.table.first_word + k) c.encode.result) bucket (record { seen = c.in_ok-persist.ensures.ok; left = c.in_ok-persist.ensures.durable }) in
+    let may = subst (λ (k : ℕ). MayHaveStored (c.args.table.first_word + k) c.encode.result u w) bucket c.persist.ensures.crash in
+    let settled : IsDurableAt w (c.args.table.first_word + bucket_of c.args.key) c.encode.result =
+    subst (λ (k : ℕ). IsDurableAt w (c.args.table.first_word + k) c.encode.result) bucket (record { seen = c.in_ok-persist.ensures.ok; left = c.in_ok-persist.ensures.durable }) in
     first_done v t u w (g.met.H.HeapSeat.seat c.follow.new.seat) (g.met.H.HeapSeat.seat c.make_node.new.seat) c.args.key c.in_ok-first.first c.encode.result c.args.value.now c.args.table c.in_ok-node.node
     c.requires.shard c.requires.missing (g.met.H.HeapSeat.seat c.args.seat.now) c.follow.ensures.quiet.unchanged follows c.make_node.ensures.grown c.in_ok-node.ensures.ok c.requires.short (λ k less. omega (arith, c.type_inv.value k))
     c.encode.ensures.tagged may settled
@@ -135,9 +135,9 @@ returns-clause-exact g c =
     let w = view c.persist.new.heap in
     let bucket = c.bucket_of.ensures in
     let follows = subst (λ (k : ℕ). FollowsLink (c.args.table.first_word + k) c.in_ok-first.first v t) bucket c.in_ok-first.ensures.ok in
-    let may = subst (λ (k : ℕ). MayStore (c.args.table.first_word + k) c.encode.result u w) bucket c.persist.ensures.crash in
-    let settled : IsSettled w (c.args.table.first_word + bucket_of c.args.key) c.encode.result =
-    subst (λ (k : ℕ). IsSettled w (c.args.table.first_word + k) c.encode.result) bucket (record { seen = c.in_ok-persist.ensures.ok; left = c.in_ok-persist.ensures.durable }) in
+    let may = subst (λ (k : ℕ). MayHaveStored (c.args.table.first_word + k) c.encode.result u w) bucket c.persist.ensures.crash in
+    let settled : IsDurableAt w (c.args.table.first_word + bucket_of c.args.key) c.encode.result =
+    subst (λ (k : ℕ). IsDurableAt w (c.args.table.first_word + k) c.encode.result) bucket (record { seen = c.in_ok-persist.ensures.ok; left = c.in_ok-persist.ensures.durable }) in
     all_first v t u w (g.met.H.HeapSeat.seat c.follow.new.seat) (g.met.H.HeapSeat.seat c.make_node.new.seat) c.args.key c.in_ok-first.first c.encode.result c.args.value.now c.args.table c.in_ok-node.node
     c.requires.shard c.requires.missing (g.met.H.HeapSeat.seat c.args.seat.now) c.follow.ensures.quiet.unchanged follows c.make_node.ensures.grown c.in_ok-node.ensures.ok c.requires.short (λ k less. omega (arith, c.type_inv.value k))
     c.encode.ensures.tagged may (g.met.H.HeapSeat.seat c.persist.new.heap) settled

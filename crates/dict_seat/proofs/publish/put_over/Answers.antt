@@ -5,7 +5,7 @@ use Rattle.heap_seat.specs.View.{word_of}
 use Rattle.heap_seat.proofs.RowLemmas.{row_then, row_more, row_large}
 use Rattle.dict_model.specs.Nodes.{shard_of, value_words, node_bytes}
 use Rattle.dict_model.specs.Requests.{with_key}
-use Rattle.dict_seat.specs.Trails.{IsSettled}
+use Rattle.dict_seat.specs.Trails.{IsDurableAt}
 use Rattle.dict_seat.proofs.GrownLemmas.{grown_keeps, grown_then}
 use Rattle.dict_seat.proofs.TrailLemmas.{settles}
 use Rattle.dict_seat.proofs.ChangeLemmas.{change_none}
@@ -97,7 +97,7 @@ returns-in_err-free-clause-crash g c =
     let makes = c.in_ok-node.ensures.ok in
     let made = taken_made t u c.args.key c.in_ok-next.next c.args.place seat_t c.make_node.ensures.grown
     (λ word y own settling. settles t u word y own (c.make_node.ensures.grown.words word own) makes.settles settling) c.in_ok-next.ensures.ok.taken in
-    let settled : IsSettled w (word_of c.args.place.link) c.encode.result = record { seen = c.in_ok-persist.ensures.ok; left = c.in_ok-persist.ensures.durable } in
+    let settled : IsDurableAt w (word_of c.args.place.link) c.encode.result = record { seen = c.in_ok-persist.ensures.ok; left = c.in_ok-persist.ensures.durable } in
     (over_freed v t u w seat_t (g.met.H.HeapSeat.seat c.make_node.new.seat) c.args.key c.in_ok-next.next c.encode.result c.args.value.now c.args.place c.in_ok-node.node c.requires.shard
     c.take.ensures.quiet.unchanged made.0 made.1 made.2 made.3 c.make_node.ensures.grown makes c.requires.short (λ k less. omega (arith, c.type_inv.value k)) c.encode.ensures.tagged c.persist.ensures.crash
     (g.met.H.HeapSeat.seat c.persist.new.heap) settled y c.free.ensures.others).1
@@ -114,7 +114,7 @@ returns-clause-crash g c =
     let makes = c.in_ok-node.ensures.ok in
     let made = taken_made t u c.args.key c.in_ok-next.next c.args.place seat_t c.make_node.ensures.grown
     (λ word y own settling. settles t u word y own (c.make_node.ensures.grown.words word own) makes.settles settling) c.in_ok-next.ensures.ok.taken in
-    let settled : IsSettled w (word_of c.args.place.link) c.encode.result = record { seen = c.in_ok-persist.ensures.ok; left = c.in_ok-persist.ensures.durable } in
+    let settled : IsDurableAt w (word_of c.args.place.link) c.encode.result = record { seen = c.in_ok-persist.ensures.ok; left = c.in_ok-persist.ensures.durable } in
     (over_freed v t u w seat_t (g.met.H.HeapSeat.seat c.make_node.new.seat) c.args.key c.in_ok-next.next c.encode.result c.args.value.now c.args.place c.in_ok-node.node c.requires.shard
     c.take.ensures.quiet.unchanged made.0 made.1 made.2 made.3 c.make_node.ensures.grown makes c.requires.short (λ k less. omega (arith, c.type_inv.value k)) c.encode.ensures.tagged c.persist.ensures.crash
     (g.met.H.HeapSeat.seat c.persist.new.heap) settled y c.free.ensures.others).1
@@ -131,7 +131,7 @@ returns-clause-ok g c =
     let makes = c.in_ok-node.ensures.ok in
     let made = taken_made t u c.args.key c.in_ok-next.next c.args.place seat_t c.make_node.ensures.grown
     (λ word y own settling. settles t u word y own (c.make_node.ensures.grown.words word own) makes.settles settling) c.in_ok-next.ensures.ok.taken in
-    let settled : IsSettled w (word_of c.args.place.link) c.encode.result = record { seen = c.in_ok-persist.ensures.ok; left = c.in_ok-persist.ensures.durable } in
+    let settled : IsDurableAt w (word_of c.args.place.link) c.encode.result = record { seen = c.in_ok-persist.ensures.ok; left = c.in_ok-persist.ensures.durable } in
     (over_freed v t u w seat_t (g.met.H.HeapSeat.seat c.make_node.new.seat) c.args.key c.in_ok-next.next c.encode.result c.args.value.now c.args.place c.in_ok-node.node c.requires.shard
     c.take.ensures.quiet.unchanged made.0 made.1 made.2 made.3 c.make_node.ensures.grown makes c.requires.short (λ k less. omega (arith, c.type_inv.value k)) c.encode.ensures.tagged c.persist.ensures.crash
     (g.met.H.HeapSeat.seat c.persist.new.heap) settled y c.free.ensures.others).0
@@ -205,7 +205,7 @@ returns-clause-exact g c =
     let makes = c.in_ok-node.ensures.ok in
     let made = taken_made t u c.args.key c.in_ok-next.next c.args.place seat_t c.make_node.ensures.grown
     (λ word y own settling. settles t u word y own (c.make_node.ensures.grown.words word own) makes.settles settling) c.in_ok-next.ensures.ok.taken in
-    let settled : IsSettled w (word_of c.args.place.link) c.encode.result = record { seen = c.in_ok-persist.ensures.ok; left = c.in_ok-persist.ensures.durable } in
+    let settled : IsDurableAt w (word_of c.args.place.link) c.encode.result = record { seen = c.in_ok-persist.ensures.ok; left = c.in_ok-persist.ensures.durable } in
     all_over v t u w seat_t (g.met.H.HeapSeat.seat c.make_node.new.seat) c.args.key c.in_ok-next.next c.encode.result c.args.value.now c.args.place c.in_ok-node.node c.requires.shard
     c.take.ensures.quiet.unchanged made.0 made.1 made.2 made.3 c.make_node.ensures.grown makes c.requires.short (λ k less. omega (arith, c.type_inv.value k)) c.encode.ensures.tagged c.persist.ensures.crash
     (g.met.H.HeapSeat.seat c.persist.new.heap) settled y c.free.ensures.others c.in_ok-free.ensures.ok.gone

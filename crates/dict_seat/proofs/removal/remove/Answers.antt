@@ -4,7 +4,7 @@ use Rattle.heap_seat.proofs.CallerLemmas.{keeps_own_then}
 use Rattle.heap_seat.proofs.RowLemmas.{row_then, row_small, row_large}
 use Rattle.dict_model.specs.Nodes.{shard_of}
 use Rattle.dict_model.specs.Requests.{without_key}
-use Rattle.dict_seat.specs.Trails.{IsSettled}
+use Rattle.dict_seat.specs.Trails.{IsDurableAt}
 use Rattle.dict_seat.proofs.GrownLemmas.{grown_keeps, gives_grown, only_grown}
 use Rattle.dict_seat.proofs.ExactCallLemmas.{all_quiet, all_removed}
 use Rattle.dict_seat.proofs.ChangeLemmas.{change_none}
@@ -61,7 +61,7 @@ returns-clause-ok g c =
     let taken = taken_settled t u c.args.key c.in_ok-next.next c.args.place (g.met.H.HeapSeat.seat c.take.new.seat) c.fence.ensures.unchanged
     (record { each = c.in_ok-fence.ensures.ok.durable }) c.in_ok-next.ensures.ok.taken in
     let grown = grown_keeps v u (keeps_own_then v t u c.take.ensures.quiet.unchanged c.fence.ensures.unchanged) in
-    let settled : IsSettled w (word_of c.args.place.link) c.in_ok-next.next = record { seen = c.in_ok-persist.ensures.ok; left = c.in_ok-persist.ensures.durable } in
+    let settled : IsDurableAt w (word_of c.args.place.link) c.in_ok-next.next = record { seen = c.in_ok-persist.ensures.ok; left = c.in_ok-persist.ensures.durable } in
     on_ok_weaker c.free.result
     (λ _. (left_freed v u c.args.key c.args.place c.in_ok-next.next seat c.requires.shard grown taken w c.persist.ensures.crash (view c.free.new.self)
     (g.met.H.HeapSeat.seat c.persist.new.heap) settled c.free.ensures.others).0) c.free.ensures.ok
@@ -77,7 +77,7 @@ returns-clause-crash g c =
     let taken = taken_settled t u c.args.key c.in_ok-next.next c.args.place (g.met.H.HeapSeat.seat c.take.new.seat) c.fence.ensures.unchanged
     (record { each = c.in_ok-fence.ensures.ok.durable }) c.in_ok-next.ensures.ok.taken in
     let grown = grown_keeps v u (keeps_own_then v t u c.take.ensures.quiet.unchanged c.fence.ensures.unchanged) in
-    let settled : IsSettled w (word_of c.args.place.link) c.in_ok-next.next = record { seen = c.in_ok-persist.ensures.ok; left = c.in_ok-persist.ensures.durable } in
+    let settled : IsDurableAt w (word_of c.args.place.link) c.in_ok-next.next = record { seen = c.in_ok-persist.ensures.ok; left = c.in_ok-persist.ensures.durable } in
     (left_freed v u c.args.key c.args.place c.in_ok-next.next seat c.requires.shard grown taken w c.persist.ensures.crash (view c.free.new.self)
     (g.met.H.HeapSeat.seat c.persist.new.heap) settled c.free.ensures.others).1
 
@@ -107,7 +107,7 @@ returns-clause-exact g c =
     (record { each = c.in_ok-fence.ensures.ok.durable }) c.in_ok-next.ensures.ok.taken in
     let keeps = keeps_own_then v t u c.take.ensures.quiet.unchanged c.fence.ensures.unchanged in
     let grown = grown_keeps v u keeps in
-    let settled : IsSettled w (word_of c.args.place.link) c.in_ok-next.next = record { seen = c.in_ok-persist.ensures.ok; left = c.in_ok-persist.ensures.durable } in
+    let settled : IsDurableAt w (word_of c.args.place.link) c.in_ok-next.next = record { seen = c.in_ok-persist.ensures.ok; left = c.in_ok-persist.ensures.durable } in
     let only_x = (left_freed v u c.args.key c.args.place c.in_ok-next.next seat c.requires.shard grown taken w c.persist.ensures.crash x seat_w settled c.free.ensures.others).1.only in
     on_ok_weaker c.free.result
     (λ frees all. all_removed u w seat seat_w c.args.key c.args.place c.in_ok-next.next taken c.requires.shard.map

@@ -1,11 +1,11 @@
 use Rattle.std.proofs.Common.{◌≡◌, ℕ, ◌+◌, ◌<◌, List, Contains, inl, inr, refl, Some, subst, sym, ◌∙◌, arith}
 use Rattle.heap_model.specs.declared.block.Block.{Block}
 use Rattle.heap_model.specs.Geometry.{root_word}
-use Rattle.heap_seat.specs.Words.{IsOwn, in_block, in_root, MayStore}
+use Rattle.heap_seat.specs.Words.{IsOwn, in_block, in_root, MayHaveStored}
 use Rattle.heap_seat.specs.Tickets.{Runs}
 use Rattle.heap_seat.proofs.RowLemmas.{row_then, row_small, runs_then, same_refusals_then}
 use Rattle.dict_model.specs.Nodes.{shard_of}
-use Rattle.dict_seat.specs.Trails.{IsSettled}
+use Rattle.dict_seat.specs.Trails.{IsDurableAt}
 use Rattle.dict_seat.proofs.GrownLemmas.{grown_keeps, grown_then}
 use Rattle.dict_seat.proofs.TrailLemmas.{settles}
 use Rattle.dict_seat.proofs.ChangeLemmas.{change_none}
@@ -97,10 +97,10 @@ returns-in_err-persist-clause-crash g c =
     let size = table_size table.words c.in_ok-table.ensures.ok.size in
     let held_t : Contains t.held table = subst (λ (bs : List Block). Contains bs table) (sym c.clear.ensures.within.held) c.in_ok-table.ensures.ok.blocks.has in
     let held_s : Contains s.held table = subst (λ (bs : List Block). Contains bs table) (sym c.fence.ensures.unchanged.held) held_t in
-    let nulls : (i : ℕ) → i < 128 → IsSettled s (table.first_word + i) 0 = λ i below.
+    let nulls : (i : ℕ) → i < 128 → IsDurableAt s (table.first_word + i) 0 = λ i below.
     let own : IsOwn t.held t.roots (table.first_word + i) = in_block table (table.first_word + i) held_t (record { from = omega arith; until = omega arith }) in
     settles t s (table.first_word + i) 0 own (c.fence.ensures.unchanged.words (table.first_word + i) own) (record { each = c.in_ok-fence.ensures.ok.durable }) (c.in_ok-clear.ensures.ok.nulls i below) in
-    let may = subst (λ (i : ℕ). MayStore (root_word i) c.encode.result s w) c.shard_of.ensures c.persist.ensures.crash in
+    let may = subst (λ (i : ℕ). MayHaveStored (root_word i) c.encode.result s w) c.shard_of.ensures c.persist.ensures.crash in
     λ after. table_left v s w (g.met.H.HeapSeat.seat c.fence.new.self) (g.met.H.HeapSeat.seat c.persist.new.heap) grown_s c.requires.shard.only shard c.encode.result table (shard_below c.args.key) c.requires.shard.owned
     held_s c.in_ok-table.ensures.ok.blocks.new size nulls c.encode.ensures.tagged may c.requires.none.empty c.requires.none.root.seen after
 
@@ -119,10 +119,10 @@ returns-clause-crash g c =
     let size = table_size table.words c.in_ok-table.ensures.ok.size in
     let held_t : Contains t.held table = subst (λ (bs : List Block). Contains bs table) (sym c.clear.ensures.within.held) c.in_ok-table.ensures.ok.blocks.has in
     let held_s : Contains s.held table = subst (λ (bs : List Block). Contains bs table) (sym c.fence.ensures.unchanged.held) held_t in
-    let nulls : (i : ℕ) → i < 128 → IsSettled s (table.first_word + i) 0 = λ i below.
+    let nulls : (i : ℕ) → i < 128 → IsDurableAt s (table.first_word + i) 0 = λ i below.
     let own : IsOwn t.held t.roots (table.first_word + i) = in_block table (table.first_word + i) held_t (record { from = omega arith; until = omega arith }) in
     settles t s (table.first_word + i) 0 own (c.fence.ensures.unchanged.words (table.first_word + i) own) (record { each = c.in_ok-fence.ensures.ok.durable }) (c.in_ok-clear.ensures.ok.nulls i below) in
-    let may = subst (λ (i : ℕ). MayStore (root_word i) c.encode.result s w) c.shard_of.ensures c.persist.ensures.crash in
+    let may = subst (λ (i : ℕ). MayHaveStored (root_word i) c.encode.result s w) c.shard_of.ensures c.persist.ensures.crash in
     λ after. table_left v s w (g.met.H.HeapSeat.seat c.fence.new.self) (g.met.H.HeapSeat.seat c.persist.new.heap) grown_s c.requires.shard.only shard c.encode.result table (shard_below c.args.key) c.requires.shard.owned
     held_s c.in_ok-table.ensures.ok.blocks.new size nulls c.encode.ensures.tagged may c.requires.none.empty c.requires.none.root.seen after
 
@@ -155,14 +155,14 @@ returns-clause-ok g c =
     let size = table_size table.words c.in_ok-table.ensures.ok.size in
     let held_t : Contains t.held table = subst (λ (bs : List Block). Contains bs table) (sym c.clear.ensures.within.held) c.in_ok-table.ensures.ok.blocks.has in
     let held_s : Contains s.held table = subst (λ (bs : List Block). Contains bs table) (sym c.fence.ensures.unchanged.held) held_t in
-    let nulls : (i : ℕ) → i < 128 → IsSettled s (table.first_word + i) 0 = λ i below.
+    let nulls : (i : ℕ) → i < 128 → IsDurableAt s (table.first_word + i) 0 = λ i below.
     let own : IsOwn t.held t.roots (table.first_word + i) = in_block table (table.first_word + i) held_t (record { from = omega arith; until = omega arith }) in
     settles t s (table.first_word + i) 0 own (c.fence.ensures.unchanged.words (table.first_word + i) own) (record { each = c.in_ok-fence.ensures.ok.durable }) (c.in_ok-clear.ensures.ok.nulls i below) in
-    let may = subst (λ (i : ℕ). MayStore (root_word i) c.encode.result s w) c.shard_of.ensures c.persist.ensures.crash in
+    let may = subst (λ (i : ℕ). MayHaveStored (root_word i) c.encode.result s w) c.shard_of.ensures c.persist.ensures.crash in
     let gives = table_gives v s w (g.met.H.HeapSeat.seat c.fence.new.self) (g.met.H.HeapSeat.seat c.persist.new.heap) grown_s c.requires.shard.only shard c.encode.result table (shard_below c.args.key) c.requires.shard.owned
     held_s c.in_ok-table.ensures.ok.blocks.new size nulls c.encode.ensures.tagged may c.requires.none.empty in
-    let settled : IsSettled w (root_word shard) c.encode.result =
-    subst (λ (i : ℕ). IsSettled w (root_word i) c.encode.result) c.shard_of.ensures (record { seen = c.in_ok-persist.ensures.ok; left = c.in_ok-persist.ensures.durable }) in
+    let settled : IsDurableAt w (root_word shard) c.encode.result =
+    subst (λ (i : ℕ). IsDurableAt w (root_word i) c.encode.result) c.shard_of.ensures (record { seen = c.in_ok-persist.ensures.ok; left = c.in_ok-persist.ensures.durable }) in
     let runs_t : Runs v t = elim c.in_ok-clear.ensures.ok.done as (λ _. Runs v t) [
       | inl same ↦ subst (Runs v) (sym same) c.in_ok-table.ensures.ok.runs
       | inr done ↦ runs_then v u t c.in_ok-table.ensures.ok.runs done.runs
@@ -196,10 +196,10 @@ returns-clause-exact g c =
     let size = table_size table.words c.in_ok-table.ensures.ok.size in
     let held_t : Contains t.held table = subst (λ (bs : List Block). Contains bs table) (sym c.clear.ensures.within.held) c.in_ok-table.ensures.ok.blocks.has in
     let held_s : Contains s.held table = subst (λ (bs : List Block). Contains bs table) (sym c.fence.ensures.unchanged.held) held_t in
-    let nulls : (i : ℕ) → i < 128 → IsSettled s (table.first_word + i) 0 = λ i below.
+    let nulls : (i : ℕ) → i < 128 → IsDurableAt s (table.first_word + i) 0 = λ i below.
     let own : IsOwn t.held t.roots (table.first_word + i) = in_block table (table.first_word + i) held_t (record { from = omega arith; until = omega arith }) in
     settles t s (table.first_word + i) 0 own (c.fence.ensures.unchanged.words (table.first_word + i) own) (record { each = c.in_ok-fence.ensures.ok.durable }) (c.in_ok-clear.ensures.ok.nulls i below) in
-    let may = subst (λ (i : ℕ). MayStore (root_word i) c.encode.result s w) c.shard_of.ensures c.persist.ensures.crash in
+    let may = subst (λ (i : ℕ). MayHaveStored (root_word i) c.encode.result s w) c.shard_of.ensures c.persist.ensures.crash in
     let null = (grown_s.words (root_word shard) (in_root shard (root_word shard) c.requires.shard.owned refl)).volatile 0 c.requires.none.root.seen in
     let seen = subst (λ (i : ℕ). w.volatile (root_word i) ≡ Some c.encode.result) c.shard_of.ensures c.in_ok-persist.ensures.ok in
     table_all v s w (g.met.H.HeapSeat.seat c.fence.new.self) (g.met.H.HeapSeat.seat c.persist.new.heap) grown_s c.requires.shard.only shard c.encode.result table (shard_below c.args.key) c.requires.shard.owned

@@ -2,7 +2,7 @@ use Rattle.std.proofs.Common.{◌+◌, ◌++◌, [], slice_index, ap, sym, subst
 use Rattle.heap_model.specs.Header.{capacity_of}
 use Rattle.heap_model.specs.Blocks.{layout_of}
 use Rattle.heap_recover.specs.Marked.{IsMarked}
-use Rattle.heap_recover.specs.Rebuilt.{HasInfo, HasSpares, IsRebuilt, AreDone}
+use Rattle.heap_recover.specs.Rebuilt.{HasInfo, HasSpares, IsRebuiltAs, AreDone}
 use Rattle.heap_recover.proofs.PassLemmas.{done_none, goes_on_none, done_next, done_capacity, done_info, role_spares}
 use Rattle.heap_recover.proofs.passes.rebuild_taken.Goals as goal
 
@@ -47,8 +47,8 @@ loop-d-preserved c =
     let kept = IsMarked c.args.marks.now in
     let survey = c.in_ok-survey.survey in
     let found = c.in_ok-survey.ensures.ok in
-    let rebuilt = subst (λ n. IsRebuilt mid new n c.loop-d.d survey.role survey.spares.items) c.requires.capacity
-    (subst (λ xs. IsRebuilt mid new c.args.geometry.now.capacity c.loop-d.d survey.role xs) c.deref.ensures.value c.rebuild_superblock.ensures) in
+    let rebuilt = subst (λ n. IsRebuiltAs mid new n c.loop-d.d survey.role survey.spares.items) c.requires.capacity
+    (subst (λ xs. IsRebuiltAs mid new c.args.geometry.now.capacity c.loop-d.d survey.role xs) c.deref.ensures.value c.rebuild_superblock.ensures) in
     let next = done_next old mid new kept c.loop-d.d c.loop-d.held.items survey.held.items c.loop-d.roles.items survey.role survey.spares.items
     (let used = c.requires.formed.used in omega arith) c.loop-d.invariant.0 found.role found.in_order rebuilt in
     let held = c.in_ok-extend_from_slice.ensures.items ∙ ap (λ xs. c.loop-d.held.items ++ xs) c.deref-in-loop-d.ensures.value in (

@@ -3,7 +3,7 @@ use Rattle.atomic_table.specs.Table.{Me}
 use Rattle.core_model.specs.Memory.{table_length}
 use Rattle.core_model.specs.View.{of_class}
 use Rattle.heap_rule.specs.Joint.{Joint, view_in}
-use Rattle.heap_rule.specs.Plays.{Has}
+use Rattle.heap_rule.specs.Plays.{HasSoundState}
 use Rattle.heap_rule.proofs.CacheMarks.{cached_below, next_at}
 use Rattle.heap_rule.proofs.MarkLemmas.{marking_step}
 use Rattle.heap_rule.proofs.chains.mark_cache.Goals as goal
@@ -22,7 +22,7 @@ pub loop-step-preserved : goal.loop-step-preserved
 loop-step-preserved c = let t = c.loop-step-test.true in let n = c.requires.count in let less : c.loop-step._step < length (of_class (view_in c.args.bare.now.me.0).caches c.args.class) = omega arith in
     let b = cached_below (view_in c.args.bare.now.me.0) c.args.class c.requires.at.has c.loop-step._step c.loop-step.block less (c.loop-step.invariant.at t) in
     let l = c.loop-step.invariant.marked.long in let k = c.requires.long in
-    let found = subst (λ (m : Me _ Joint). (s : Has (view_in m.0)) × (c.read-block.result ≡ get_or s.words c.loop-step.block 0)) c.loop-step.invariant.same c.read-block.ensures.found in record {
+    let found = subst (λ (m : Me _ Joint). (s : HasSoundState (view_in m.0)) × (c.read-block.result ≡ get_or s.words c.loop-step.block 0)) c.loop-step.invariant.same c.read-block.ensures.found in record {
       same = c.read-block.ensures.same ∙ c.loop-step.invariant.same;
       table = c.read-block.ensures.table ∙ c.loop-step.invariant.table;
       at = λ more. next_at (view_in c.args.bare.now.me.0) c.args.class found.0 c.loop-step._step c.loop-step.block less (c.loop-step.invariant.at t) c.read-block.result found.1 (omega arith);

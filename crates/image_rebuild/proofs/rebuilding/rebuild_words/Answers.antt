@@ -7,7 +7,7 @@ use Rattle.line_memory.specs.View.{View}
 use Rattle.line_memory.specs.Plain.{view_of}
 use Rattle.line_memory.specs.ClosedWords.{volatile_words, durable_words}
 use Rattle.dict_model.specs.Links.{dict_links}
-use Rattle.trace_run.specs.Left.{IsWhole}
+use Rattle.trace_run.specs.Left.{AreWholeImage}
 use Rattle.image_rebuild.proofs.RebuiltLemmas.{by_list, kinds_same, durable_capacity, durable_whole, capacity_new, rebuilt_done, rebuilt_cut}
 use Rattle.image_rebuild.proofs.rebuilding.rebuild_words.Goals as goal
 
@@ -26,7 +26,7 @@ returns-in-Ok g c =
 pub crash_image-requires-clause-whole : goal.crash_image-requires-clause-whole
 crash_image-requires-clause-whole g c _ _ =
     let v = view_of c.rebuild-end.new.memory in
-    subst IsWhole (sym c.finish.ensures.durable ∙ sym (ap durable_words c.now.view_is))
+    subst AreWholeImage (sym c.finish.ensures.durable ∙ sym (ap durable_words c.now.view_is))
     (durable_whole c.args.words.now c.args.heap.now.words c.args.heap.now.held c.requires v
     (ap (λ (ws : List ℕ). length ws) (sym c.finish.ensures.durable ∙ sym (ap durable_words c.now.view_is)) ∙ c.now.invariant
     ∙ sym (ap (λ (ws : List ℕ). length ws) (sym c.finish.ensures.volatile ∙ sym (ap volatile_words c.now.view_is)))) c.in-Err.ensures.between)

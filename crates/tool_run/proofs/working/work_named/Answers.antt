@@ -1,9 +1,9 @@
 use Rattle.std.proofs.Common.{List, refl, sym, subst, slice_index}
 use Rattle.heap_model.specs.Image.{image_of_bytes}
 use Rattle.image_run.proofs.CarryLemmas.{runs_carried}
-use Rattle.image_run.specs.Running.{Runs, options_of}
+use Rattle.image_run.specs.Running.{RunsRequests, options_of}
 use Rattle.tool_run.specs.Command.{run_image}
-use Rattle.trace_run.specs.Said.{Line, requests_of, AreShort}
+use Rattle.trace_run.specs.Said.{Line, requests_of, ValuesAreShort}
 use Rattle.tool_run.proofs.CallLemmas.{refused_by_image}
 use Rattle.tool_run.proofs.DeliveryLemmas.{at_cause}
 use Rattle.tool_run.proofs.OutsideLemmas.{mapped_inside}
@@ -19,7 +19,7 @@ returns-in_err-heap-clause-err g c =
 pub run_image-requires-clause-short : goal.run_image-requires-clause-short
 run_image-requires-clause-short g c lifetimes within =
     let lines = c.in_ok-requests.ensures.ok in
-    subst (λ (l : List Line). AreShort (requests_of l)) (sym c.deref.ensures.value) (lines_short _ _ lines.lines_are)
+    subst (λ (l : List Line). ValuesAreShort (requests_of l)) (sym c.deref.ensures.value) (lines_short _ _ lines.lines_are)
 
 pub returns-clause-ok : goal.returns-clause-ok
 returns-clause-ok g c =
@@ -35,7 +35,7 @@ returns-clause-ok g c =
       put_is = refl;
       runs = runs_carried (image_of_bytes heap.image.bytes) (slice_index c.in_ok-heap.heap.words) heap.to heap.maps heap.are
           (requests_of c.in_ok-requests.requests.items) (options_of c.args.options) c.in_ok-product.product.image c.in_ok-product.product.text
-          (subst (λ (l : List Line). Runs (slice_index c.in_ok-heap.heap.words) (requests_of l) (options_of c.args.options) c.in_ok-product.product.image c.in_ok-product.product.text)
+          (subst (λ (l : List Line). RunsRequests (slice_index c.in_ok-heap.heap.words) (requests_of l) (options_of c.args.options) c.in_ok-product.product.image c.in_ok-product.product.text)
           c.deref.ensures.value c.in_ok-product.ensures.ok);
     }
 

@@ -6,7 +6,7 @@ use Rattle.line_memory.specs.View.{View}
 use Rattle.block_heap.specs.SeqState.{seat_of, MayLeave}
 use Rattle.trace_run.specs.Opened.{HasMaps}
 use Rattle.trace_run.specs.Progress.{HasAnswered}
-use Rattle.trace_run.specs.Left.{IsWhole}
+use Rattle.trace_run.specs.Left.{AreWholeImage}
 use Rattle.trace_run.specs.Needs.{ListsKeysOf, step_bound}
 use Rattle.trace_run.specs.Runs.{answered}
 use Rattle.trace_run.specs.Said.{request_of, requests_of, replies_of}
@@ -39,7 +39,7 @@ image_left-image-requires-clause-whole g c = λ lifetimes bounds.
     let words = c.args.heap.words in
     let s = c.in_ok-seat.seat in
     let t = c.work_off-stopped.new.seat in
-    subst IsWhole (sym c.finish.ensures.volatile) (whole_seen words c.args.heap.held c.args.budget s t c.in_ok-rooms.ensures.ready.formed c.in_ok-seat.ensures c.work_off-stopped.ensures.kept)
+    subst AreWholeImage (sym c.finish.ensures.volatile) (whole_seen words c.args.heap.held c.args.budget s t c.in_ok-rooms.ensures.ready.formed c.in_ok-seat.ensures c.work_off-stopped.ensures.kept)
 
 pub image_left-image-requires-clause-layout : goal.image_left-image-requires-clause-layout
 image_left-image-requires-clause-layout g c = λ lifetimes bounds.

@@ -2,7 +2,7 @@ use Rattle.std.proofs.Common.{◌≡◌, ℕ, ◌-◌, arith, subst}
 use Rattle.heap_model.specs.Sizes.{blocks_of}
 use Rattle.heap_model.proofs.SizeLemmas.{few_blocks, four_blocks}
 use Rattle.block_heap.specs.MediumView.{medium_view}
-use Rattle.block_heap.specs.Divide.{IsChained}
+use Rattle.block_heap.specs.Divide.{AreInOneChain}
 use Rattle.heap_shape.specs.Effects.{IsInSuperblock}
 use Rattle.block_heap.proofs.MediumLemmas.{stores_nothing}
 use Rattle.block_heap.proofs.DivideLemmas.{first_inside, chain_more, chain_begins}
@@ -45,4 +45,4 @@ returns-clause-ok g c =
     let four = four_blocks c.args.class c.requires.class in
     let ends = c.loop-index.invariant.ends in
     let e : c.loop-index.index ≡ blocks_of c.args.class = omega arith in
-    subst (λ (k : ℕ). IsChained c.args.geometry.capacity c.args.class c.args.d k (medium_view c.args.self.now) (medium_view c.loop-index.self)) e c.loop-index.invariant.chained
+    subst (λ (k : ℕ). AreInOneChain c.args.geometry.capacity c.args.class c.args.d k (medium_view c.args.self.now) (medium_view c.loop-index.self)) e c.loop-index.invariant.chained

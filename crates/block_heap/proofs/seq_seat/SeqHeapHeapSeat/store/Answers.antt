@@ -3,7 +3,7 @@ use Rattle.std.proofs.lemmas.Result.{on_ok_weaker}
 use Rattle.std.proofs.Common.{arith, ◌≡◌, ◌<◌, refl, ap, ◌∙◌, subst, sym, OnOk}
 use Rattle.block_heap.specs.MediumView.{medium_view}
 use Rattle.line_memory.specs.View.{word_count}
-use Rattle.line_memory.specs.Crash.{MayStore as MayStoreWord}
+use Rattle.line_memory.specs.Crash.{MayLeaveStore as MayStoreWord}
 use Rattle.block_heap.specs.Medium.{IsStored, StoresOnly}
 use Rattle.block_heap.specs.Parts.{parts_of, held_in}
 use Rattle.heap_seat.specs.View.{word_of}

@@ -5,14 +5,14 @@ use Rattle.heap_seat.specs.declared.fault.AllocFault.TheVariants.{Full}
 use Rattle.heap_seat.specs.declared.fault.Looks.{Looks}
 use Rattle.heap_seat.specs.View.{View}
 use Rattle.dict_model.specs.Shards.{Map}
-use Rattle.dict_seat.specs.Maps.{Gives}
+use Rattle.dict_seat.specs.Maps.{GivesMap}
 use Rattle.dict_seat.specs.Puts.{PutAnswers}
 use Rattle.dictionary_tests.proofs.OpeningLemmas.{go_on}
 use Rattle.dictionary_tests.proofs.standing.Standing.put.Goals as goal
 
 -- a put that finds no room leaves the map as before
 full_gives : (reads : ℕ → Type 0) (bytes shard : ℕ) (fault : AllocFault) (looks : Looks) (v w : View) → fault ≡ Full looks → PutAnswers reads bytes shard fault v w
-    → (map : Map) → Gives v shard map → Gives w shard map
+    → (map : Map) → GivesMap v shard map → GivesMap w shard map
 full_gives reads bytes shard fault looks v w is answers = (subst (λ (f : AllocFault). PutAnswers reads bytes shard f v w) is answers).1
 
 pub put-requires-clause-shard : goal.put-requires-clause-shard

@@ -1,4 +1,4 @@
-use Rattle.heap_rule.specs.Plays.{Has}
+use Rattle.heap_rule.specs.Plays.{HasSoundState}
 use Rattle.heap_rule.proofs.ChangeLemmas.{cut_change}
 use Rattle.std.proofs.Common.{ap, subst, ◌∙◌}
 use Rattle.heap_model.specs.Geometry.{start_word}
@@ -14,4 +14,4 @@ returns-clause-fits c =
     (c.start-first.ensures ∙ ap (λ n. start_word n c.args.d) (c.self.invariant.seat.capacity_is ∙ ap (λ (s : SeatView). s.view.setup.capacity) same)) c.blocks_of-count.ensures c.cleared.ensures
 
 pub returns-clause-change : goal.returns-clause-change
-returns-clause-change c = cut_change c.args.self.now.view (subst (λ (s : SeatView). Has s.view) (c.self.view_is ∙ c.cutting_class-class.ensures.same) c.self.invariant.seat.kept.has) c.args.d c.cutting_class-class.result c.requires.can (c.cutting_class-class.ensures.class c.requires.can)
+returns-clause-change c = cut_change c.args.self.now.view (subst (λ (s : SeatView). HasSoundState s.view) (c.self.view_is ∙ c.cutting_class-class.ensures.same) c.self.invariant.seat.kept.has) c.args.d c.cutting_class-class.result c.requires.can (c.cutting_class-class.ensures.class c.requires.can)

@@ -1,6 +1,6 @@
 use Rattle.std.proofs.Common.{◌-◌, ◌/◌, ap, subst, ◌∙◌}
 use Rattle.heap_model.specs.Geometry.{start_word}
-use Rattle.heap_rule.specs.Plays.{Has}
+use Rattle.heap_rule.specs.Plays.{HasSoundState}
 use Rattle.heap_rule.specs.Seated.{SeatView, IsKeptOf}
 use Rattle.heap_rule.proofs.ChangeLemmas.{split_change}
 use Rattle.heap_rule.proofs.ShiftLemmas.{split_fits}
@@ -16,5 +16,5 @@ returns-clause-fits c =
 pub returns-clause-change : goal.returns-clause-change
 returns-clause-change c =
     let cap = c.self.invariant.seat.capacity_is ∙ ap (λ (s : SeatView). s.view.setup.capacity) c.self.view_is in
-    split_change c.args.self.now.view (subst (λ (s : SeatView). Has s.view) c.self.view_is c.self.invariant.seat.kept.has) c.args.block ((c.args.block - c.start.result) / 8192) c.span_length-n.result c.requires.may
+    split_change c.args.self.now.view (subst (λ (s : SeatView). HasSoundState s.view) c.self.view_is c.self.invariant.seat.kept.has) c.args.block ((c.args.block - c.start.result) / 8192) c.span_length-n.result c.requires.may
     (ap (λ n. (c.args.block - n) / 8192) (c.start.ensures ∙ ap (λ n. start_word n 0) cap)) c.span_length-n.ensures

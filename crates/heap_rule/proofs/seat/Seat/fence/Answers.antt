@@ -1,6 +1,6 @@
 use Rattle.std.proofs.Common.{[], ap, sym, subst, refl, ◌∙◌, arith}
 use Rattle.line_memory.specs.Marks.{mark_count}
-use Rattle.heap_rule.specs.Fences.{IsFence}
+use Rattle.heap_rule.specs.Fences.{IsSeatFence}
 use Rattle.heap_rule.specs.Joint.{view_in}
 use Rattle.heap_rule.specs.Seated.{SeatView}
 use Rattle.heap_rule.proofs.FenceLemmas.{IsRow, row_start, row_step, row_whole, settles_at, fewer_marks}
@@ -24,5 +24,5 @@ loop-word-preserved c = let gone = c.in-Some.ensures.some in record {
 
 pub returns-clause-fence : goal.returns-clause-fence
 returns-clause-fence c = let none = c.in_default.ensures.none refl in
-    subst (λ m. IsFence c.args.self.now (record { table = c.self.inside.bare.table_id; view = view_in c.self.inside.bare.me.0; stores = c.self.inside.recent; marks = m })) (sym none.1)
+    subst (λ m. IsSeatFence c.args.self.now (record { table = c.self.inside.bare.table_id; view = view_in c.self.inside.bare.me.0; stores = c.self.inside.recent; marks = m })) (sym none.1)
     (row_whole c.args.self.now (record { table = c.self.inside.bare.table_id; view = view_in c.self.inside.bare.me.0; stores = c.self.inside.recent; marks = c.self.inside.pending }) c.loop-word.invariant.row.0 (subst (λ (s : SeatView). IsRow c.args.self.now s c.loop-word.invariant.row.0) (sym c.self.view_is) c.loop-word.invariant.row.1) none.0)

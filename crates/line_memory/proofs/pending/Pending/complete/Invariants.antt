@@ -1,12 +1,12 @@
 use Rattle.std.proofs.Common.{◌≡◌, ℕ, length, vec_len}
 use Rattle.std.specs.Vec.{vec_capacity}
-use Rattle.line_memory.specs.Marks.{IsListed, completed_at}
+use Rattle.line_memory.specs.Marks.{ListsLines, completed_at}
 use Rattle.line_memory.proofs.pending.Pending.complete.Given as goal
 
 abbrev pub invariant-loop-line : goal.invariant-loop-line
 invariant-loop-line l =
     record {
-      listed : IsListed l.self-inside.marks.items l.self-inside.listed.items l.self-inside.lines.items (vec_capacity l.self-inside.lines);
+      listed : ListsLines l.self-inside.marks.items l.self-inside.listed.items l.self-inside.lines.items (vec_capacity l.self-inside.lines);
       marks : length l.self-inside.marks.items ≡ length l.volatile;
       lengths : length l.durable ≡ length l.volatile;
       completed : (k : ℕ) → completed_at l.self-inside.marks.items l.volatile l.durable k ≡ completed_at l.initial.self-inside.marks.items l.volatile l.initial.durable k;

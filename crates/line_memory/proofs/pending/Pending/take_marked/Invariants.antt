@@ -1,12 +1,12 @@
 use Rattle.std.proofs.Common.{◌≡◌, vec_len}
 use Rattle.std.specs.Vec.{vec_capacity}
-use Rattle.line_memory.specs.Marks.{IsListed}
+use Rattle.line_memory.specs.Marks.{ListsLines}
 use Rattle.line_memory.proofs.pending.Pending.take_marked.Given as goal
 
 abbrev pub invariant-loop-line : goal.invariant-loop-line
 invariant-loop-line l =
     record {
-      listed : IsListed l.self-inside.marks.items l.self-inside.listed.items l.self-inside.lines.items (vec_capacity l.self-inside.lines);
+      listed : ListsLines l.self-inside.marks.items l.self-inside.listed.items l.self-inside.lines.items (vec_capacity l.self-inside.lines);
       marks : l.self-inside.marks.items ≡ l.initial.self-inside.marks.items;
     }
 
