@@ -10,7 +10,7 @@ use Rattle.heap_shape.specs.Shape.{Shape}
 use Rattle.heap_shape.proofs.OwnLemmas.{store_inside, store_root}
 use Rattle.heap_shape.proofs.AccountLemmas.{accounted_kept}
 use Rattle.line_memory.specs.View.{View, word_count, volatile_at, durable_at}
-use Rattle.line_memory.specs.Crash.{MayHaveStored as MayStoreWord}
+use Rattle.line_memory.specs.Crash.{MayLeaveStore as MayStoreWord}
 use Rattle.line_memory.specs.declared.memory.Stopped.{Stopped}
 use Rattle.block_heap.specs.declared.held.HeldBlocks.{HeldBlocks}
 use Rattle.block_heap.specs.Medium.{StoresOnly, RunsWithin, StopsWithin, IsStored}
