@@ -5,7 +5,7 @@ use Rattle.heap_model.specs.declared.block.Block.{Block}
 use Rattle.heap_model.specs.Header.{capacity_of, used_of}
 use Rattle.heap_shape.specs.Moves.{TakesFrom}
 use Rattle.line_memory.specs.View.{View, word_count, volatile_at, durable_at}
-use Rattle.block_heap.specs.Closing.{IsOpened, KeepsFixed}
+use Rattle.block_heap.specs.Closing.{IsOpened, KeepsFixed, most_large_draws}
 use Rattle.block_heap.specs.Medium.{StoresOnly}
 use Rattle.block_heap.specs.Parts.{held_in, image_of}
 use Rattle.block_heap.specs.Running.{LeavesHeld}
@@ -42,7 +42,7 @@ long_opened words held budget s t opened keeps = keeps.long ∙ ap word_count op
 pub fixed_by : (to : ℕ → Type 0) (s seen t : SeqState) → s ≡ seen → t.parts.capacity ≡ s.parts.capacity
     → StoresOnly to s.parts.words t.parts.words → ((word : ℕ) → to word → IsFixed s.parts.capacity word → ⊥)
     → s.parts.used_look.seen + t.parts.used_look.taken ≡ t.parts.used_look.seen + s.parts.used_look.taken
-    → t.parts.words.drawn + (s.small_calls + 131072 * s.large_calls) ≤ s.parts.words.drawn + (t.small_calls + 131072 * t.large_calls) → KeepsFixed seen t
+    → t.parts.words.drawn + (s.small_calls + most_large_draws * s.large_calls) ≤ s.parts.words.drawn + (t.small_calls + most_large_draws * t.large_calls) → KeepsFixed seen t
 fixed_by to s seen t same capacity stores none looks draws = subst (λ m. KeepsFixed m t) same (record {
   capacity = capacity;
   long = stores.words;
@@ -61,20 +61,20 @@ fixed_by to s seen t same capacity stores none looks draws = subst (λ m. KeepsF
 pub fixed_store : (s seen t : SeqState) (word : ℕ) → IsSeqHeap s → s ≡ seen → t.parts.capacity ≡ s.parts.capacity
     → IsOwn (held_in s.parts) all_roots word → StoresOnly (λ other. other ≡ word) s.parts.words t.parts.words
     → s.parts.used_look.seen + t.parts.used_look.taken ≡ t.parts.used_look.seen + s.parts.used_look.taken
-    → t.parts.words.drawn + (s.small_calls + 131072 * s.large_calls) ≤ s.parts.words.drawn + (t.small_calls + 131072 * t.large_calls) → KeepsFixed seen t
+    → t.parts.words.drawn + (s.small_calls + most_large_draws * s.large_calls) ≤ s.parts.words.drawn + (t.small_calls + most_large_draws * t.large_calls) → KeepsFixed seen t
 fixed_store s seen t word heap same capacity own stores looks draws = fixed_by (λ other. other ≡ word) s seen t same capacity stores (λ other at is.
     own_not_fixed s.parts.capacity (held_in s.parts) s.parts.words other heap.lasts.stable (subst (IsOwn (held_in s.parts) all_roots) (sym at) own) is) looks draws
 
 -- a request, and a free
 pub fixed_request : (s seen t : SeqState) → IsSeqHeap s → s ≡ seen → LeavesHeld (held_in s.parts) s.parts t.parts
-    → t.parts.words.drawn + (s.small_calls + 131072 * s.large_calls) ≤ s.parts.words.drawn + (t.small_calls + 131072 * t.large_calls) → KeepsFixed seen t
+    → t.parts.words.drawn + (s.small_calls + most_large_draws * s.large_calls) ≤ s.parts.words.drawn + (t.small_calls + most_large_draws * t.large_calls) → KeepsFixed seen t
 fixed_request s seen t heap same serves draws =
     fixed_by (IsAllocatorWord s.parts.capacity (held_in s.parts)) s seen t same serves.capacity serves.works.stores (λ word may is.
     not_fixed s.parts.capacity (held_in s.parts) s.parts.words word heap.lasts.stable may is) serves.knows draws
 
 pub fixed_free : (s seen t : SeqState) (b : Block) → IsSeqHeap s → s ≡ seen → TakesFrom b (held_in s.parts) (held_in t.parts)
     → LeavesHeld (held_in t.parts) s.parts t.parts
-    → t.parts.words.drawn + (s.small_calls + 131072 * s.large_calls) ≤ s.parts.words.drawn + (t.small_calls + 131072 * t.large_calls) → KeepsFixed seen t
+    → t.parts.words.drawn + (s.small_calls + most_large_draws * s.large_calls) ≤ s.parts.words.drawn + (t.small_calls + most_large_draws * t.large_calls) → KeepsFixed seen t
 fixed_free s seen t b heap same takes serves draws =
     let stable = stable_fewer s.parts.capacity (held_in s.parts) (held_in t.parts) s.parts.words takes.only heap.lasts.stable in
     fixed_by (IsAllocatorWord s.parts.capacity (held_in t.parts)) s seen t same serves.capacity serves.works.stores (λ word may is.
@@ -93,5 +93,5 @@ looks_opened words held budget s t opened keeps =
 
 -- a row of calls draws few tickets
 pub row_draws : (small large most : ℕ) (s t : SeqState) → KeepsFixed s t → IsRow small large most (seat_of s) (seat_of t)
-    → t.parts.words.drawn ≤ s.parts.words.drawn + (small + 131072 * large)
+    → t.parts.words.drawn ≤ s.parts.words.drawn + (small + most_large_draws * large)
 row_draws small large most s t keeps row = let draws = keeps.draws in let few = row.small_few in let some = row.large_few in omega arith

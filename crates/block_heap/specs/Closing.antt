@@ -1,5 +1,5 @@
 -- What a heap for one thread is as it is opened, and what it leaves.
-use Rattle.std.specs.Prelude.{◌≡◌, ℕ, ◌+◌, ◌*◌, ◌≤◌, List, None}
+use Rattle.std.specs.Prelude.{◌≡◌, ℕ, ◌+◌, ◌*◌, ◌^◌, ◌≤◌, List, None}
 use Rattle.line_memory.specs.View.{word_count, volatile_at, durable_at}
 use Rattle.heap_model.specs.declared.block.Block.{Block}
 use Rattle.block_heap.specs.Opening.{Opens}
@@ -14,6 +14,10 @@ pub record IsOpened (words : List ℕ) (held : List Block) (budget : ℕ) (s : S
   pub large : s.large_calls ≡ 0
   pub refusals : s.refusals ≡ 0
 
+-- the most tickets that a large call draws
+abbrev pub most_large_draws : ℕ
+most_large_draws = 2 ^ 17
+
 -- capacity and length stay, and so do the first four words of the header and those that have no meaning, as loads see them; where such a word was durable as loads see it, it still is
 pub record KeepsFixed (s t : SeqState) : Type 0 where
   pub capacity : t.parts.capacity ≡ s.parts.capacity
@@ -21,6 +25,6 @@ pub record KeepsFixed (s t : SeqState) : Type 0 where
   pub volatile : (word : ℕ) → IsFixed s.parts.capacity word → volatile_at t.parts.words word ≡ volatile_at s.parts.words word
   pub durable : (word : ℕ) → IsFixed s.parts.capacity word → durable_at s.parts.words word ≡ volatile_at s.parts.words word
       → durable_at t.parts.words word ≡ volatile_at t.parts.words word
-  -- the last look at `used`, less what was taken by then, is the same; and each small call drew one ticket at most, each large one 131072
+  -- the last look at `used`, less what was taken by then, is the same; and each small call drew one ticket at most, each large one so many
   pub looks : s.parts.used_look.seen + t.parts.used_look.taken ≡ t.parts.used_look.seen + s.parts.used_look.taken
-  pub draws : t.parts.words.drawn + (s.small_calls + 131072 * s.large_calls) ≤ s.parts.words.drawn + (t.small_calls + 131072 * t.large_calls)
+  pub draws : t.parts.words.drawn + (s.small_calls + most_large_draws * s.large_calls) ≤ s.parts.words.drawn + (t.small_calls + most_large_draws * t.large_calls)

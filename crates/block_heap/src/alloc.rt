@@ -8,6 +8,7 @@ use super_block::WORD_BYTES;
 
 impl<C: Chance> Arena<C> {
     ghost use Rattle.std.specs.Prelude.{◌≡◌, ◌<◌, ◌≤◌, ◌+◌, ℕ, Contains, Some, length, IfOk, OnOk, IfErr, OnErr, true};
+    ghost use Rattle.heap_model.specs.Geometry.{lists};
     ghost use Rattle.heap_model.specs.Sizes.{IsClass, IsLeastClassFor, size_of, span_of};
     ghost use Rattle.heap_shape.specs.Moves.{TakesFrom};
     ghost use Rattle.block_heap.specs.Accounts.{AreAccounted};
@@ -128,7 +129,7 @@ impl<C: Chance> Arena<C> {
 
     /// What a request of so many bytes read last, which found no room.
     pub(crate) fn looks(&self, bytes: u64) -> Looks
-        requires { length (parts_of self.now).head_looks ≡ 21 }
+        requires { length (parts_of self.now).head_looks ≡ lists }
         ensures { IsLooksOf bytes result (parts_of self.now) }
     {
         match class_of(bytes) {

@@ -1,6 +1,7 @@
 //! Which blocks are held, in room that is taken once: one mark for every two words.
 ghost use Rattle.std.specs.Prelude.{◌≡◌, ◌+◌, ◌*◌, ◌<◌, ◌^◌, length, IfOk, replicate, false};
-ghost use Rattle.block_heap.specs.Begun.{IsBegun};
+ghost use Rattle.heap_model.specs.Geometry.{superblock_words};
+ghost use Rattle.block_heap.specs.Begun.{superblock_marks, IsBegun};
 
 use heap_model::Block;
 use size_table::size_of;
@@ -16,8 +17,8 @@ pub(crate) struct HeldBlocks {
     start: u64,
     marks: Vec<bool>,
     words: Vec<u64>,
-    ghost long: { length marks.items ≡ 4096 * length words.items },
-    ghost short: { start + 8192 * length words.items < 2 ^ 48 },
+    ghost long: { length marks.items ≡ superblock_marks * length words.items },
+    ghost short: { start + superblock_words * length words.items < 2 ^ 48 },
 }
 
 impl HeldBlocks {
@@ -25,6 +26,7 @@ impl HeldBlocks {
     ghost use Rattle.heap_model.specs.Geometry.{start_word};
     ghost use Rattle.heap_model.specs.declared.block.Block.{Block};
     ghost use Rattle.line_memory.specs.Marks.{IsMarked};
+    ghost use Rattle.block_heap.specs.Begun.{superblock_marks};
     ghost use Rattle.block_heap.specs.Opening.{IsHeldOf};
     ghost use Rattle.block_heap.specs.Held.{held_of, HasMark, at_mark};
     ghost use Rattle.heap_shape.specs.Moves.{AddsTo, TakesFrom};
@@ -63,7 +65,7 @@ impl HeldBlocks {
     /// From now on the blocks of superblock `d`, of which none is held, have so many words.
     pub(crate) fn divide(&mut self, d: u64, words: u64)
         requires superblock { d < length self.old.words.items }
-        requires none { (mark : ℕ) → IsMarked self.old.marks.items mark → mark / 4096 ≢ d }
+        requires none { (mark : ℕ) → IsMarked self.old.marks.items mark → mark / superblock_marks ≢ d }
         ensures held { held_of self.new ≡ held_of self.old }
         ensures words { self.new.words.items ≡ slice_set self.old.words.items d words }
         ensures start { self.new.start ≡ self.old.start }

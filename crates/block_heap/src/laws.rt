@@ -12,7 +12,7 @@ ghost use Rattle.heap_model.specs.Recovered.{IsDrained};
 ghost use Rattle.line_memory.specs.View.{word_count, volatile_at, durable_at};
 ghost use Rattle.heap_seat.specs.Rows.{IsRow};
 ghost use Rattle.heap_seat.specs.Words.{HasPicked};
-ghost use Rattle.block_heap.specs.Closing.{IsOpened, KeepsFixed};
+ghost use Rattle.block_heap.specs.Closing.{IsOpened, KeepsFixed, most_large_draws};
 ghost use Rattle.heap_model.specs.Sizes.{IsLeastClassFor};
 ghost use Rattle.block_heap.specs.Lists.{IsEmptyList, IsInList};
 ghost use Rattle.block_heap.specs.Order.{HasNothing, IsServedInOrder};
@@ -46,7 +46,7 @@ pub fn looks_and_tickets_add_up()
         → t.parts.used_look.seen ≡ used_of (slice_index words) + t.parts.used_look.taken }
     ensures draws { (small large most : ℕ) (s t : SeqState) → KeepsFixed s t
         → IsRow small large most (seat_of s) (seat_of t)
-        → t.parts.words.drawn ≤ s.parts.words.drawn + (small + 131072 * large) }
+        → t.parts.words.drawn ≤ s.parts.words.drawn + (small + most_large_draws * large) }
 {}
 
 /// What was freed serves a request of a class before what was never taken. A superblock is taken

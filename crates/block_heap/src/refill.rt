@@ -20,12 +20,13 @@ pub(crate) enum Found {
 impl<C: Chance> Arena<C> {
     ghost use Rattle.std.specs.Prelude.{◌≡◌, ◌≢◌, ℕ, ◌+◌, ◌*◌, ◌/◌, ◌<◌, ◌≤◌, IfOk, OnOk, OnErr, IfErr, if◌then◌else◌, length, true};
     ghost use Rattle.heap_model.specs.Counting.{one_if};
-    ghost use Rattle.heap_model.specs.Geometry.{used_word, largest_capacity};
+    ghost use Rattle.heap_model.specs.Geometry.{used_word, lists, largest_capacity};
     ghost use Rattle.heap_model.specs.Sizes.{IsClass};
     ghost use Rattle.heap_shape.specs.Standing.{HasNoHeld};
     ghost use Rattle.line_memory.specs.Marks.{IsMarked};
     ghost use Rattle.block_heap.specs.Medium.{StoresOnly, RunsWithin, StopsWithin};
     ghost use Rattle.block_heap.specs.Divide.{IsDivideWord};
+    ghost use Rattle.block_heap.specs.Begun.{superblock_marks};
     ghost use Rattle.block_heap.specs.Links.{IsOpen};
     ghost use Rattle.block_heap.specs.Parts.{parts_of, held_in, image_of, cache_at};
     ghost use Rattle.block_heap.specs.Running.{IsRunning, LeavesHeld};
@@ -196,10 +197,10 @@ impl<C: Chance> Arena<C> {
         requires class { IsClass class }
         requires open { IsOpen (parts_of self.old).capacity (parts_of self.old).words }
         requires superblock { d < (parts_of self.old).capacity }
-        requires caches { length (parts_of self.old).caches ≡ 21 }
+        requires caches { length (parts_of self.old).caches ≡ lists }
         requires sizes { length (parts_of self.old).blocks.words.items ≡ (parts_of self.old).capacity }
         requires none { (mark : ℕ) → IsMarked (parts_of self.old).blocks.marks.items mark
-            → mark / 4096 ≢ d }
+            → mark / superblock_marks ≢ d }
         ensures ok { OnOk result (Cuts class d (parts_of self.old) (parts_of self.new)) }
         ensures stopped { IfErr result (λ e. StopsWithin e.step 4200
             (parts_of self.old).words (parts_of self.new).words) }

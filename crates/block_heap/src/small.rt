@@ -19,7 +19,7 @@ pub(crate) struct CacheFront {
 
 impl<C: Chance> Arena<C> {
     ghost use Rattle.std.specs.Prelude.{◌≡◌, ◌<◌, ◌≤◌, ◌+◌, ◌-◌, ◌*◌, ◌/◌, Contains, IfOk, OnOk, IfErr, OnErr};
-    ghost use Rattle.heap_model.specs.Geometry.{start_word};
+    ghost use Rattle.heap_model.specs.Geometry.{superblock_words, start_word};
     ghost use Rattle.heap_model.specs.Sizes.{IsClass, words_of_class, blocks_of};
     ghost use Rattle.heap_shape.specs.Moves.{TakesFrom};
     ghost use Rattle.block_heap.specs.Accounts.{AreAccounted};
@@ -202,7 +202,8 @@ impl<C: Chance> Arena<C> {
     /// The superblock that has the word.
     pub(crate) fn superblock_of(&self, word: u64) -> u64
         requires { start_word (parts_of self.now).capacity 0 ≤ word }
-        ensures { result ≡ (word - start_word (parts_of self.now).capacity 0) / 8192 }
+        ensures { result ≡ (word - start_word (parts_of self.now).capacity 0)
+            / superblock_words }
     {
         (word - self.geometry.start(0)) / SUPERBLOCK_WORDS
     }

@@ -1,5 +1,5 @@
 -- Keys, and the nodes that hold them: the words next, key and length, and then the value's bytes.
-use Rattle.std.specs.Prelude.{◌≡◌, ℕ, ◌+◌, ◌*◌, ◌/◌, ◌%◌, ◌≤◌, List, [], ◌∷◌, Option, None, Some, cond, nat_eq, take, refl}
+use Rattle.std.specs.Prelude.{◌≡◌, ℕ, ◌+◌, ◌*◌, ◌^◌, ◌/◌, ◌%◌, ◌≤◌, List, [], ◌∷◌, Option, None, Some, cond, nat_eq, take, refl}
 use Rattle.heap_model.specs.declared.block.Block.{Block}
 use Rattle.heap_model.specs.Image.{Image, words_from, bytes_of_words}
 use Rattle.dict_model.specs.Links.{shards}
@@ -10,7 +10,7 @@ buckets = 128
 
 -- the bytes of the longest value
 abbrev pub largest_value : ℕ
-largest_value = 131072
+largest_value = 2 ^ 17
 
 -- the shard and the bucket of a key
 abbrev pub shard_of : ℕ → ℕ

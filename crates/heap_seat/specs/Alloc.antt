@@ -1,7 +1,7 @@
 -- What a request for a block does.
 use Rattle.std.specs.Prelude.{◌≡◌, ℕ, ◌+◌, ◌*◌, ◌<◌, ◌⊎◌, Contains}
 use Rattle.heap_model.specs.declared.block.Block.{Block}
-use Rattle.heap_model.specs.Sizes.{IsLeastClassFor, largest_small, span_of, size_of}
+use Rattle.heap_model.specs.Sizes.{IsLeastClassFor, largest_small, superblock_bytes, span_of, size_of}
 use Rattle.heap_seat.specs.declared.fault.AllocFault.{AllocFault}
 use Rattle.heap_seat.specs.declared.fault.AllocFault.TheVariants.{Full, Stopped}
 use Rattle.heap_seat.specs.declared.fault.Looks.{Looks}
@@ -14,7 +14,7 @@ use Rattle.heap_seat.specs.Calls.{SameRefusals}
 -- the bytes of the block that a request gets: those of the least class that holds it, or of as many superblocks as it takes
 pub data IsSizeFor (bytes : ℕ) : ℕ → Type 0 where
   of_class : (c : ℕ) → IsLeastClassFor bytes c → IsSizeFor bytes (size_of c)
-  of_superblocks : largest_small < bytes → IsSizeFor bytes (65536 * span_of bytes)
+  of_superblocks : largest_small < bytes → IsSizeFor bytes (superblock_bytes * span_of bytes)
 
 -- the held blocks are those from before and this one, which is new
 pub record Adds (b : Block) (v w : View) : Type 0 where
