@@ -3,7 +3,7 @@ use crate::arena::Arena;
 use heap_model::Block;
 use heap_seat::Looks;
 use line_memory::{Chance, Stopped};
-use size_table::{class_of, span_of};
+use size_table::{SizeClass, class_of, span_of};
 use super_block::WORD_BYTES;
 
 impl<C: Chance> Arena<C> {
@@ -43,22 +43,21 @@ impl<C: Chance> Arena<C> {
             (held_in (parts_of self.new) ≡ held_in (parts_of self.old)) }
         ensures few { (parts_of self.new).taken ≤ (parts_of self.old).taken + span_of bytes }
     {
-        match class_of(bytes) {
+        match SizeClass::for_bytes(bytes) {
             Some(class) => self.alloc_small(class),
             None => self.alloc_large(span_of(bytes)),
         }
     }
 
     /// A block of the class, if there is room.
-    fn alloc_small(&mut self, class: u8) -> Result<Option<Block>, Stopped>
-        requires class { IsClass class }
+    fn alloc_small(&mut self, class: SizeClass) -> Result<Option<Block>, Stopped>
         requires running { IsRunning (parts_of self.old) }
         requires short { CachesAreShort (parts_of self.old) 0 }
-        ensures ok { IfOk result (λ answer. AnswersInClass class answer
+        ensures ok { IfOk result (λ answer. AnswersInClass class.number answer
             (parts_of self.old) (parts_of self.new)) }
-        ensures drains { IfOk result (λ answer. DrainsAs class answer
+        ensures drains { IfOk result (λ answer. DrainsAs class.number answer
             (parts_of self.old) (parts_of self.new)) }
-        ensures order { IfOk result (λ answer. ServesInOrder class answer
+        ensures order { IfOk result (λ answer. ServesInOrder class.number answer
             (parts_of self.old) (parts_of self.new)) }
         ensures goes { OnOk result (RunsWithin 41201
             (parts_of self.old).words (parts_of self.new).words) }
@@ -77,15 +76,14 @@ impl<C: Chance> Arena<C> {
     }
 
     /// Sees to it that the cache of the class has a block; `false` where there is no room.
-    fn stock(&mut self, class: u8) -> Result<bool, Stopped>
-        requires class { IsClass class }
-        requires running { IsRunning (parts_of self.old) }
-        ensures ok { IfOk result (λ some. Refills class some
+    fn stock(&mut self, class: SizeClass) -> Result<bool, Stopped>
+        requires { IsRunning (parts_of self.old) }
+        ensures ok { IfOk result (λ some. Refills class.number some
             (parts_of self.old) (parts_of self.new)) }
-        ensures order { IfOk result (λ some. some ≡ true → Stocked class
+        ensures order { IfOk result (λ some. some ≡ true → Stocked class.number
             (parts_of self.old) (parts_of self.new)) }
-        ensures fills { OnOk result (IsRefilling class (parts_of self.old) (parts_of self.new)) }
-        ensures left { IfOk result (λ some. Stocks class some
+        ensures fills { OnOk result (IsRefilling class.number (parts_of self.old) (parts_of self.new)) }
+        ensures left { IfOk result (λ some. Stocks class.number some
             (parts_of self.old) (parts_of self.new)) }
         ensures steps { OnOk result ((parts_of self.new).words.drawn
             ≤ (parts_of self.old).words.drawn + 41200) }
@@ -96,7 +94,7 @@ impl<C: Chance> Arena<C> {
         ensures held { held_in (parts_of self.new) ≡ held_in (parts_of self.old) }
         ensures few { (parts_of self.new).taken ≤ (parts_of self.old).taken + 1 }
     {
-        if self.caches[class as usize].count == 0 {
+        if self.caches[class.number as usize].count == 0 {
             return self.refill(class);
         }
         Ok(true)
@@ -121,7 +119,7 @@ impl<C: Chance> Arena<C> {
         ensures accounted { OnOk result (AreAccounted (parts_of self.old)
             → AreAccounted (parts_of self.new)) }
     {
-        match class_of(WORD_BYTES * b.words) {
+        match SizeClass::for_bytes(WORD_BYTES * b.words) {
             Some(class) => self.free_small(b, class),
             None => self.free_large(b),
         }

@@ -1,14 +1,14 @@
 //! Free blocks that are taken from a superblock, or given back to it, by its anchor.
 ghost use Rattle.std.specs.Prelude.{◌≡◌, ◌<◌, ◌≤◌, ◌+◌, ◌*◌, ◌^◌};
 ghost use Rattle.heap_model.specs.Geometry.{start_word};
-ghost use Rattle.heap_model.specs.Sizes.{IsClass, words_of_class};
+ghost use Rattle.heap_model.specs.Sizes.{words_of_class};
 ghost use Rattle.block_heap.specs.Batches.{given_to};
 
 use crate::cache::Cache;
 use crate::medium::Medium;
 use anchor_word::{Anchor, State, give, pack, take_all, unpack};
 use line_memory::{Chance, Stopped};
-use size_table::{blocks_of, size_of};
+use size_table::{SizeClass, blocks_of, size_of};
 use super_block::{Geometry, WORD_BYTES};
 
 /// Free blocks of one superblock in a chain: the index of the first one, the first word of the last
@@ -38,14 +38,13 @@ impl<C: Chance> Medium<C> {
         &mut self,
         geometry: Geometry,
         d: u64,
-        class: u8,
+        class: SizeClass,
     ) -> Result<Option<Cache>, Stopped>
         requires open { IsOpen geometry.capacity (medium_view self.old) }
         requires superblock { d < geometry.capacity }
-        requires class { IsClass class }
         requires anchor { anchor_state (volatile_at (medium_view self.old) (anchor_word d)) ≢ 3 }
         ensures ok { IfOk result (λ taken.
-            IsTakenFrom geometry.capacity class d taken
+            IsTakenFrom geometry.capacity class.number d taken
             (medium_view self.old) (medium_view self.new)) }
         ensures stopped { IfErr result (λ e. StopsWithin e.step 2
             (medium_view self.old) (medium_view self.new)) }
@@ -71,20 +70,19 @@ impl<C: Chance> Medium<C> {
         &mut self,
         geometry: Geometry,
         d: u64,
-        class: u8,
+        class: SizeClass,
         batch: Batch,
     ) -> Result<Anchor, Stopped>
         requires open { IsOpen geometry.capacity (medium_view self.old) }
         requires superblock { d < geometry.capacity }
-        requires class { IsClass class }
         requires anchor { anchor_state (volatile_at (medium_view self.old) (anchor_word d)) ≢ 3 }
-        requires first { batch.first < blocks_of class }
+        requires first { batch.first < blocks_of class.number }
         requires last { batch.last < image_words geometry.capacity }
         requires fits { batch.count
             + anchor_count (volatile_at (medium_view self.old) (anchor_word d))
-            ≤ blocks_of class }
+            ≤ blocks_of class.number }
         ensures ok { IfOk result (λ anchor.
-            IsGiven geometry.capacity class d batch anchor
+            IsGiven geometry.capacity class.number d batch anchor
             (medium_view self.old) (medium_view self.new)) }
         ensures stopped { IfErr result (λ e. StopsWithin e.step 3
             (medium_view self.old) (medium_view self.new)) }
@@ -93,7 +91,7 @@ impl<C: Chance> Medium<C> {
     {
         let anchor = self.anchor(geometry, d)?;
         self.link_last(geometry, d, class, batch, anchor)?;
-        let given = given_word(&anchor, batch, blocks_of(class));
+        let given = given_word(&anchor, batch, blocks_of(class.number));
         self.store(geometry.anchor(d), given)?;
         Ok(anchor)
     }
@@ -103,16 +101,15 @@ impl<C: Chance> Medium<C> {
         &mut self,
         geometry: Geometry,
         d: u64,
-        class: u8,
+        class: SizeClass,
         batch: Batch,
         anchor: Anchor,
     ) -> Result<(), Stopped>
         requires open { IsOpen geometry.capacity (medium_view self.old) }
         requires superblock { d < geometry.capacity }
-        requires class { IsClass class }
         requires anchor { IsPackable anchor }
         requires last { batch.last < image_words geometry.capacity }
-        ensures ok { OnOk result (IsLinkedTo geometry.capacity class d batch anchor
+        ensures ok { OnOk result (IsLinkedTo geometry.capacity class.number d batch anchor
             (medium_view self.old) (medium_view self.new)) }
         ensures stopped { IfErr result (λ e. StopsWithin e.step 1
             (medium_view self.old) (medium_view self.new)) }
@@ -145,13 +142,12 @@ impl<C: Chance> Medium<C> {
 }
 
 /// The first word of block `index` of superblock `d`, if there were so many.
-fn block_word(geometry: Geometry, d: u64, class: u8, index: u64) -> u64
+fn block_word(geometry: Geometry, d: u64, class: SizeClass, index: u64) -> u64
     requires superblock { d < geometry.capacity }
-    requires class { IsClass class }
     requires index { index < 2 ^ 31 }
-    ensures { result ≡ start_word geometry.capacity d + index * words_of_class class }
+    ensures { result ≡ start_word geometry.capacity d + index * words_of_class class.number }
 {
-    let words = size_of(class) / WORD_BYTES;
+    let words = size_of(class.number) / WORD_BYTES;
     geometry.start(d) + index * words
 }
 

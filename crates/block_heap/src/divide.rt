@@ -2,7 +2,7 @@
 use crate::medium::Medium;
 use anchor_word::{Anchor, State, pack};
 use line_memory::{Chance, Stopped};
-use size_table::blocks_of;
+use size_table::{SizeClass, blocks_of};
 use super_block::{Geometry, block_at};
 
 /// The anchor of a superblock with no free block.
@@ -14,7 +14,7 @@ const FULL: Anchor = Anchor {
 
 impl<C: Chance> Medium<C> {
     ghost use Rattle.std.specs.Prelude.{◌≡◌, ◌<◌, ◌≤◌, OnOk, IfErr};
-    ghost use Rattle.heap_model.specs.Sizes.{IsClass, blocks_of};
+    ghost use Rattle.heap_model.specs.Sizes.{blocks_of};
     ghost use Rattle.block_heap.specs.MediumView.{medium_view};
     ghost use Rattle.block_heap.specs.Medium.{StoresOnly, StopsWithin};
     ghost use Rattle.block_heap.specs.Links.{IsOpen};
@@ -22,11 +22,15 @@ impl<C: Chance> Medium<C> {
     ghost use Rattle.heap_shape.specs.Effects.{IsInSuperblock};
 
     /// Divides superblock `d` into blocks of the class, all in one chain in ascending order.
-    pub(crate) fn divide(&mut self, geometry: Geometry, d: u64, class: u8) -> Result<(), Stopped>
+    pub(crate) fn divide(
+        &mut self,
+        geometry: Geometry,
+        d: u64,
+        class: SizeClass,
+    ) -> Result<(), Stopped>
         requires open { IsOpen geometry.capacity (medium_view self.old) }
         requires superblock { d < geometry.capacity }
-        requires class { IsClass class }
-        ensures ok { OnOk result (IsDivided geometry.capacity class d
+        ensures ok { OnOk result (IsDivided geometry.capacity class.number d
             (medium_view self.old) (medium_view self.new)) }
         ensures stopped { IfErr result (λ e. StopsWithin e.step 4200
             (medium_view self.old) (medium_view self.new)) }
@@ -35,24 +39,23 @@ impl<C: Chance> Medium<C> {
     {
         // Durable before a block is handed out: a crash must not leave a root that leads to a block
         // of the class while the superblock has another info.
-        self.persist(geometry.info(d), class as u64)?;
+        self.persist(geometry.info(d), class.number as u64)?;
         self.chain(geometry, d, class)?;
         self.store(geometry.anchor(d), pack(&FULL))
     }
 
     /// Stores in the first word of each block but the last where the next one begins.
-    fn chain(&mut self, geometry: Geometry, d: u64, class: u8) -> Result<(), Stopped>
+    fn chain(&mut self, geometry: Geometry, d: u64, class: SizeClass) -> Result<(), Stopped>
         requires open { IsOpen geometry.capacity (medium_view self.old) }
         requires superblock { d < geometry.capacity }
-        requires class { IsClass class }
-        ensures ok { OnOk result (AreInOneChain geometry.capacity class d (blocks_of class)
+        ensures ok { OnOk result (AreInOneChain geometry.capacity class.number d (blocks_of class.number)
             (medium_view self.old) (medium_view self.new)) }
         ensures stopped { IfErr result (λ e. StopsWithin e.step 4100
             (medium_view self.old) (medium_view self.new)) }
         ensures others { StoresOnly (IsInSuperblock geometry.capacity d)
             (medium_view self.old) (medium_view self.new) }
     {
-        for index in 1..blocks_of(class) {
+        for index in 1..blocks_of(class.number) {
             let before = block_at(&geometry, d, index - 1, class);
             let block = block_at(&geometry, d, index, class);
             self.store(before.first_word, block.first_word)?;

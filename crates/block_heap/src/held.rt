@@ -150,7 +150,7 @@ fn words_begun(info: u64) -> u64
     ensures { IsBegun info result }
 {
     match Info::unpack(info) {
-        Info::Class(class) => size_of(class) / WORD_BYTES,
+        Info::Class(class) => size_of(class.number) / WORD_BYTES,
         Info::Large(count) if count <= LARGEST_CAPACITY => SUPERBLOCK_WORDS * count,
         _ => 0,
     }

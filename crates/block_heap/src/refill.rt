@@ -3,7 +3,7 @@ use crate::arena::Arena;
 use crate::cache::Cache;
 use heap_seat::Look;
 use line_memory::{Chance, Stopped};
-use size_table::{blocks_of, size_of};
+use size_table::{SizeClass, blocks_of, size_of};
 use super_block::WORD_BYTES;
 
 /// What was found first in the list of a class.
@@ -21,7 +21,6 @@ impl<C: Chance> Arena<C> {
     ghost use Rattle.std.specs.Prelude.{◌≡◌, ◌≢◌, ℕ, ◌+◌, ◌*◌, ◌/◌, ◌<◌, ◌≤◌, IfOk, OnOk, OnErr, IfErr, if◌then◌else◌, length, true};
     ghost use Rattle.heap_model.specs.Counting.{one_if};
     ghost use Rattle.heap_model.specs.Geometry.{used_word, lists, largest_capacity};
-    ghost use Rattle.heap_model.specs.Sizes.{IsClass};
     ghost use Rattle.heap_shape.specs.Standing.{HasNoHeld};
     ghost use Rattle.line_memory.specs.Marks.{IsMarked};
     ghost use Rattle.block_heap.specs.Medium.{StoresOnly, RunsWithin, StopsWithin};
@@ -36,16 +35,15 @@ impl<C: Chance> Arena<C> {
     ghost use Rattle.block_heap.specs.Refill.{Cuts, SameBut, FindsFree, FindsFresh, FindsPartial, Refills};
 
     /// Fills the empty cache of the class; `false` where there is no room.
-    pub(crate) fn refill(&mut self, class: u8) -> Result<bool, Stopped>
-        requires class { IsClass class }
+    pub(crate) fn refill(&mut self, class: SizeClass) -> Result<bool, Stopped>
         requires running { IsRunning (parts_of self.old) }
-        requires empty { (cache_at (parts_of self.old).caches class).count ≡ 0 }
-        ensures ok { IfOk result (λ some. Refills class some
+        requires empty { (cache_at (parts_of self.old).caches class.number).count ≡ 0 }
+        ensures ok { IfOk result (λ some. Refills class.number some
             (parts_of self.old) (parts_of self.new)) }
-        ensures order { IfOk result (λ some. some ≡ true → FillsFrom class
+        ensures order { IfOk result (λ some. some ≡ true → FillsFrom class.number
             (parts_of self.old) (parts_of self.new)) }
-        ensures fills { OnOk result (IsRefilling class (parts_of self.old) (parts_of self.new)) }
-        ensures left { IfOk result (λ some. Spends (one_if some) class
+        ensures fills { OnOk result (IsRefilling class.number (parts_of self.old) (parts_of self.new)) }
+        ensures left { IfOk result (λ some. Spends (one_if some) class.number
             (parts_of self.old) (parts_of self.new)) }
         ensures goes { OnOk result (RunsWithin 41200
             (parts_of self.old).words (parts_of self.new).words) }
@@ -64,16 +62,15 @@ impl<C: Chance> Arena<C> {
 
     /// Takes the free blocks of the first superblock in the list of the class that has some in use.
     /// Those before it, with none in use, go to the free list.
-    fn take_partial(&mut self, class: u8) -> Result<bool, Stopped>
-        requires class { IsClass class }
+    fn take_partial(&mut self, class: SizeClass) -> Result<bool, Stopped>
         requires running { IsRunning (parts_of self.old) }
-        requires empty { (cache_at (parts_of self.old).caches class).count ≡ 0 }
-        ensures ok { IfOk result (λ some. FindsPartial class some
+        requires empty { (cache_at (parts_of self.old).caches class.number).count ≡ 0 }
+        ensures ok { IfOk result (λ some. FindsPartial class.number some
             (parts_of self.old) (parts_of self.new)) }
-        ensures order { IfOk result (λ some. OrdersPartial class some
+        ensures order { IfOk result (λ some. OrdersPartial class.number some
             (parts_of self.old) (parts_of self.new)) }
-        ensures fills { OnOk result (IsRefilling class (parts_of self.old) (parts_of self.new)) }
-        ensures left { IfOk result (λ some. Spends (one_if some) class
+        ensures fills { OnOk result (IsRefilling class.number (parts_of self.old) (parts_of self.new)) }
+        ensures left { IfOk result (λ some. Spends (one_if some) class.number
             (parts_of self.old) (parts_of self.new)) }
         ensures goes { OnOk result (RunsWithin (8 * largest_capacity + 8)
             (parts_of self.old).words (parts_of self.new).words) }
@@ -95,16 +92,15 @@ impl<C: Chance> Arena<C> {
 
     /// Takes the first superblock off the list of the class, and its free blocks into the cache, or
     /// puts it into the free list if none of its blocks is in use.
-    fn take_first(&mut self, class: u8) -> Result<Found, Stopped>
-        requires class { IsClass class }
+    fn take_first(&mut self, class: SizeClass) -> Result<Found, Stopped>
         requires running { IsRunning (parts_of self.old) }
-        requires empty { (cache_at (parts_of self.old).caches class).count ≡ 0 }
-        ensures ok { IfOk result (λ found. FindsFirst class found
+        requires empty { (cache_at (parts_of self.old).caches class.number).count ≡ 0 }
+        ensures ok { IfOk result (λ found. FindsFirst class.number found
             (parts_of self.old) (parts_of self.new)) }
-        ensures order { IfOk result (λ found. OrdersFirst class found
+        ensures order { IfOk result (λ found. OrdersFirst class.number found
             (parts_of self.old) (parts_of self.new)) }
-        ensures fills { OnOk result (IsRefilling class (parts_of self.old) (parts_of self.new)) }
-        ensures left { IfOk result (λ found. Spends (used_up found) class
+        ensures fills { OnOk result (IsRefilling class.number (parts_of self.old) (parts_of self.new)) }
+        ensures left { IfOk result (λ found. Spends (used_up found) class.number
             (parts_of self.old) (parts_of self.new)) }
         ensures goes { OnOk result (RunsWithin 8
             (parts_of self.old).words (parts_of self.new).words) }
@@ -116,13 +112,13 @@ impl<C: Chance> Arena<C> {
         ensures taken { (parts_of self.new).taken ≡ (parts_of self.old).taken }
     {
         let ticket = self.medium.next_ticket();
-        let popped = self.medium.pop(self.geometry, class as u64)?;
-        self.head_looks[class as usize] = Look::by(popped.head, ticket, self.taken);
+        let popped = self.medium.pop(self.geometry, class.number as u64)?;
+        self.head_looks[class.number as usize] = Look::by(popped.head, ticket, self.taken);
         let Some(d) = popped.first else {
             return Ok(Found::Nothing);
         };
         if let Some(cache) = self.medium.take_blocks(self.geometry, d, class)? {
-            self.caches[class as usize] = cache;
+            self.caches[class.number as usize] = cache;
             return Ok(Found::Blocks);
         }
         self.medium.push(self.geometry, 0, d)?;
@@ -130,16 +126,15 @@ impl<C: Chance> Arena<C> {
     }
 
     /// Cuts the first free superblock for the class.
-    fn cut_free(&mut self, class: u8) -> Result<bool, Stopped>
-        requires class { IsClass class }
+    fn cut_free(&mut self, class: SizeClass) -> Result<bool, Stopped>
         requires running { IsRunning (parts_of self.old) }
-        requires empty { (cache_at (parts_of self.old).caches class).count ≡ 0 }
-        ensures ok { IfOk result (λ some. FindsFree class some
+        requires empty { (cache_at (parts_of self.old).caches class.number).count ≡ 0 }
+        ensures ok { IfOk result (λ some. FindsFree class.number some
             (parts_of self.old) (parts_of self.new)) }
-        ensures order { IfOk result (λ some. OrdersFree class some
+        ensures order { IfOk result (λ some. OrdersFree class.number some
             (parts_of self.old) (parts_of self.new)) }
-        ensures fills { OnOk result (IsRefilling class (parts_of self.old) (parts_of self.new)) }
-        ensures left { IfOk result (λ some. Spends (one_if some) class
+        ensures fills { OnOk result (IsRefilling class.number (parts_of self.old) (parts_of self.new)) }
+        ensures left { IfOk result (λ some. Spends (one_if some) class.number
             (parts_of self.old) (parts_of self.new)) }
         ensures goes { OnOk result (RunsWithin 4203
             (parts_of self.old).words (parts_of self.new).words) }
@@ -161,16 +156,15 @@ impl<C: Chance> Arena<C> {
     }
 
     /// Cuts a superblock that was never taken for the class.
-    fn cut_fresh(&mut self, class: u8) -> Result<bool, Stopped>
-        requires class { IsClass class }
+    fn cut_fresh(&mut self, class: SizeClass) -> Result<bool, Stopped>
         requires running { IsRunning (parts_of self.old) }
-        requires empty { (cache_at (parts_of self.old).caches class).count ≡ 0 }
-        ensures ok { IfOk result (λ some. FindsFresh class some
+        requires empty { (cache_at (parts_of self.old).caches class.number).count ≡ 0 }
+        ensures ok { IfOk result (λ some. FindsFresh class.number some
             (parts_of self.old) (parts_of self.new)) }
-        ensures order { IfOk result (λ some. OrdersFresh class some
+        ensures order { IfOk result (λ some. OrdersFresh class.number some
             (parts_of self.old) (parts_of self.new)) }
-        ensures fills { OnOk result (IsRefilling class (parts_of self.old) (parts_of self.new)) }
-        ensures left { IfOk result (λ some. Spends (one_if some) class
+        ensures fills { OnOk result (IsRefilling class.number (parts_of self.old) (parts_of self.new)) }
+        ensures left { IfOk result (λ some. Spends (one_if some) class.number
             (parts_of self.old) (parts_of self.new)) }
         ensures goes { OnOk result (RunsWithin 4204
             (parts_of self.old).words (parts_of self.new).words) }
@@ -193,15 +187,14 @@ impl<C: Chance> Arena<C> {
     }
 
     /// Cuts superblock `d` into blocks of the class, which are all cached.
-    fn cut(&mut self, d: u64, class: u8) -> Result<(), Stopped>
-        requires class { IsClass class }
+    fn cut(&mut self, d: u64, class: SizeClass) -> Result<(), Stopped>
         requires open { IsOpen (parts_of self.old).capacity (parts_of self.old).words }
         requires superblock { d < (parts_of self.old).capacity }
         requires caches { length (parts_of self.old).caches ≡ lists }
         requires sizes { length (parts_of self.old).blocks.words.items ≡ (parts_of self.old).capacity }
         requires none { (mark : ℕ) → IsMarked (parts_of self.old).blocks.marks.items mark
             → mark / superblock_marks ≢ d }
-        ensures ok { OnOk result (Cuts class d (parts_of self.old) (parts_of self.new)) }
+        ensures ok { OnOk result (Cuts class.number d (parts_of self.old) (parts_of self.new)) }
         ensures stopped { IfErr result (λ e. StopsWithin e.step 4200
             (parts_of self.old).words (parts_of self.new).words) }
         ensures others { StoresOnly (IsDivideWord (parts_of self.old).capacity d)
@@ -209,10 +202,10 @@ impl<C: Chance> Arena<C> {
         ensures same { SameBut (parts_of self.old) (parts_of self.new) }
     {
         self.medium.divide(self.geometry, d, class)?;
-        self.held.divide(d, size_of(class) / WORD_BYTES);
-        self.caches[class as usize] = Cache {
+        self.held.divide(d, size_of(class.number) / WORD_BYTES);
+        self.caches[class.number as usize] = Cache {
             first: self.geometry.start(d),
-            count: blocks_of(class),
+            count: blocks_of(class.number),
         };
         Ok(())
     }

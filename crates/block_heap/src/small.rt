@@ -6,7 +6,7 @@ use crate::cache::Cache;
 use anchor_word::State;
 use heap_model::Block;
 use line_memory::{Chance, Stopped};
-use size_table::{blocks_of, size_of};
+use size_table::{SizeClass, blocks_of, size_of};
 use super_block::{SUPERBLOCK_WORDS, WORD_BYTES};
 
 /// Blocks at the front of a cache that lie in superblock `d`, and the cache behind them.
@@ -20,7 +20,7 @@ pub(crate) struct CacheFront {
 impl<C: Chance> Arena<C> {
     ghost use Rattle.std.specs.Prelude.{◌≡◌, ◌<◌, ◌≤◌, ◌+◌, ◌-◌, ◌*◌, ◌/◌, Contains, IfOk, OnOk, IfErr, OnErr};
     ghost use Rattle.heap_model.specs.Geometry.{superblock_words, start_word};
-    ghost use Rattle.heap_model.specs.Sizes.{IsClass, words_of_class, blocks_of};
+    ghost use Rattle.heap_model.specs.Sizes.{words_of_class};
     ghost use Rattle.heap_shape.specs.Moves.{TakesFrom};
     ghost use Rattle.block_heap.specs.Accounts.{AreAccounted};
     ghost use Rattle.block_heap.specs.Medium.{RunsWithin, StopsWithin};
@@ -31,11 +31,10 @@ impl<C: Chance> Arena<C> {
     ghost use Rattle.block_heap.specs.Returns.{FreesSmall, Flushes, IsLongest, GivesTo};
 
     /// Hands out the first block of the cache, which has one.
-    pub(crate) fn hand_out(&mut self, class: u8) -> Result<Block, Stopped>
-        requires class { IsClass class }
+    pub(crate) fn hand_out(&mut self, class: SizeClass) -> Result<Block, Stopped>
         requires running { IsRunning (parts_of self.old) }
-        requires some { 1 ≤ (cache_at (parts_of self.old).caches class).count }
-        ensures ok { IfOk result (λ b. HandsOut class b
+        requires some { 1 ≤ (cache_at (parts_of self.old).caches class.number).count }
+        ensures ok { IfOk result (λ b. HandsOut class.number b
             (parts_of self.old) (parts_of self.new)) }
         ensures goes { OnOk result (RunsWithin 1
             (parts_of self.old).words (parts_of self.new).words) }
@@ -49,9 +48,9 @@ impl<C: Chance> Arena<C> {
         ensures looks { ((parts_of self.new).used_look ≡ (parts_of self.old).used_look)
             × ((parts_of self.new).head_looks ≡ (parts_of self.old).head_looks) }
     {
-        let cache = self.caches[class as usize];
+        let cache = self.caches[class.number as usize];
         let next = self.medium.load(cache.first)?;
-        self.caches[class as usize] = Cache {
+        self.caches[class.number as usize] = Cache {
             first: next,
             count: cache.count - 1,
         };
@@ -60,12 +59,11 @@ impl<C: Chance> Arena<C> {
     }
 
     /// Frees a held block of the class.
-    pub(crate) fn free_small(&mut self, b: Block, class: u8) -> Result<(), Stopped>
-        requires class { IsClass class }
+    pub(crate) fn free_small(&mut self, b: Block, class: SizeClass) -> Result<(), Stopped>
         requires running { IsRunning (parts_of self.old) }
         requires short { CachesAreShort (parts_of self.old) 0 }
         requires holds { Contains (held_in (parts_of self.old)) b }
-        requires size { b.words ≡ words_of_class class }
+        requires size { b.words ≡ words_of_class class.number }
         ensures running { OnOk result (IsRunning (parts_of self.new)) }
         ensures short { OnOk result (CachesAreShort (parts_of self.new) 0) }
         ensures goes { OnOk result (RunsWithin 40000
@@ -73,7 +71,7 @@ impl<C: Chance> Arena<C> {
         ensures stopped { IfErr result (λ e. StopsWithin e.step 40000
             (parts_of self.old).words (parts_of self.new).words) }
         ensures freed { TakesFrom b (held_in (parts_of self.old)) (held_in (parts_of self.new)) }
-        ensures order { OnOk result (FreesSmall class b.first_word
+        ensures order { OnOk result (FreesSmall class.number b.first_word
             (parts_of self.old) (parts_of self.new)) }
         ensures serves { LeavesHeld (held_in (parts_of self.new))
             (parts_of self.old) (parts_of self.new) }
@@ -81,30 +79,29 @@ impl<C: Chance> Arena<C> {
         ensures accounted { OnOk result (AreAccounted (parts_of self.old)
             → AreAccounted (parts_of self.new)) }
     {
-        let cache = self.caches[class as usize];
+        let cache = self.caches[class.number as usize];
         self.held.remove(b.first_word);
         self.medium.store(b.first_word, cache.first)?;
-        self.caches[class as usize] = Cache {
+        self.caches[class.number as usize] = Cache {
             first: b.first_word,
             count: cache.count + 1,
         };
-        if cache.count + 1 == blocks_of(class) {
+        if cache.count + 1 == blocks_of(class.number) {
             self.flush(class)?;
         }
         Ok(())
     }
 
     /// Gives all blocks of the cache back to their superblocks.
-    fn flush(&mut self, class: u8) -> Result<(), Stopped>
-        requires class { IsClass class }
-        requires running { IsRunning (parts_of self.old) }
+    fn flush(&mut self, class: SizeClass) -> Result<(), Stopped>
+        requires { IsRunning (parts_of self.old) }
         ensures running { OnOk result (IsRunning (parts_of self.new)) }
-        ensures empty { OnOk result ((cache_at (parts_of self.new).caches class).count ≡ 0) }
-        ensures keeps { OnOk result (KeepsAll class (parts_of self.old) (parts_of self.new)) }
-        ensures order { OnOk result (Flushes class (parts_of self.old) (parts_of self.new)) }
+        ensures empty { OnOk result ((cache_at (parts_of self.new).caches class.number).count ≡ 0) }
+        ensures keeps { OnOk result (KeepsAll class.number (parts_of self.old) (parts_of self.new)) }
+        ensures order { OnOk result (Flushes class.number (parts_of self.old) (parts_of self.new)) }
         ensures few { (parts_of self.new).words.drawn
             ≤ (parts_of self.old).words.drawn
-            + 9 * (cache_at (parts_of self.old).caches class).count }
+            + 9 * (cache_at (parts_of self.old).caches class.number).count }
         ensures below { OnOk result ((parts_of self.new).words.drawn
             ≤ (parts_of self.new).words.budget) }
         ensures stopped { IfErr result (λ e. StopsWithin e.step 36864
@@ -114,7 +111,7 @@ impl<C: Chance> Arena<C> {
             (parts_of self.old) (parts_of self.new) }
         ensures taken { (parts_of self.new).taken ≡ (parts_of self.old).taken }
     {
-        while self.caches[class as usize].count > 0 {
+        while self.caches[class.number as usize].count > 0 {
             let front = self.front(class)?;
             self.give(class, front)?;
         }
@@ -122,28 +119,27 @@ impl<C: Chance> Arena<C> {
     }
 
     /// The longest front of the cache, which is not empty, that lies in one superblock.
-    fn front(&mut self, class: u8) -> Result<CacheFront, Stopped>
-        requires class { IsClass class }
+    fn front(&mut self, class: SizeClass) -> Result<CacheFront, Stopped>
         requires running { IsRunning (parts_of self.old) }
-        requires some { 1 ≤ (cache_at (parts_of self.old).caches class).count }
-        ensures ok { IfOk result (λ front. IsFront class front (parts_of self.new)) }
+        requires some { 1 ≤ (cache_at (parts_of self.old).caches class.number).count }
+        ensures ok { IfOk result (λ front. IsFront class.number front (parts_of self.new)) }
         ensures longest { IfOk result (λ front. IsLongest front (parts_of self.new)) }
         ensures words { OnOk result ((parts_of self.new).words.volatile
             ≡ (parts_of self.old).words.volatile) }
         ensures running { OnOk result (IsRunning (parts_of self.new)) }
-        ensures keeps { OnOk result (KeepsAll class (parts_of self.old) (parts_of self.new)) }
+        ensures keeps { OnOk result (KeepsAll class.number (parts_of self.old) (parts_of self.new)) }
         ensures caches { (parts_of self.new).caches ≡ (parts_of self.old).caches }
         ensures goes { IfOk result (λ front. RunsWithin front.batch.count
             (parts_of self.old).words (parts_of self.new).words) }
         ensures stopped { IfErr result (λ e.
-            StopsWithin e.step (cache_at (parts_of self.old).caches class).count
+            StopsWithin e.step (cache_at (parts_of self.old).caches class.number).count
             (parts_of self.old).words (parts_of self.new).words) }
         ensures held { held_in (parts_of self.new) ≡ held_in (parts_of self.old) }
         ensures serves { LeavesHeld (held_in (parts_of self.old))
             (parts_of self.old) (parts_of self.new) }
         ensures taken { (parts_of self.new).taken ≡ (parts_of self.old).taken }
     {
-        let cache = self.caches[class as usize];
+        let cache = self.caches[class.number as usize];
         let d = self.superblock_of(cache.first);
         let mut last = cache.first;
         let mut next = self.medium.load(last)?;
@@ -153,7 +149,7 @@ impl<C: Chance> Arena<C> {
             next = self.medium.load(last)?;
             count += 1;
         }
-        let words = size_of(class) / WORD_BYTES;
+        let words = size_of(class.number) / WORD_BYTES;
         Ok(CacheFront {
             d,
             batch: Batch {
@@ -170,14 +166,13 @@ impl<C: Chance> Arena<C> {
 
     /// Gives the front of the cache back. A superblock that was full goes to a list: that of the
     /// free ones if all its blocks are given, else that of the class.
-    fn give(&mut self, class: u8, front: CacheFront) -> Result<(), Stopped>
-        requires class { IsClass class }
+    fn give(&mut self, class: SizeClass, front: CacheFront) -> Result<(), Stopped>
         requires running { IsRunning (parts_of self.old) }
-        requires front { IsFront class front (parts_of self.old) }
+        requires front { IsFront class.number front (parts_of self.old) }
         ensures running { OnOk result (IsRunning (parts_of self.new)) }
-        ensures gives { OnOk result (GivesBack class front
+        ensures gives { OnOk result (GivesBack class.number front
             (parts_of self.old) (parts_of self.new)) }
-        ensures order { OnOk result (GivesTo class front (parts_of self.old) (parts_of self.new)) }
+        ensures order { OnOk result (GivesTo class.number front (parts_of self.old) (parts_of self.new)) }
         ensures goes { OnOk result (RunsWithin 6
             (parts_of self.old).words (parts_of self.new).words) }
         ensures stopped { IfErr result (λ e. StopsWithin e.step 6
@@ -190,10 +185,10 @@ impl<C: Chance> Arena<C> {
         let anchor = self
             .medium
             .give_blocks(self.geometry, front.d, class, front.batch)?;
-        self.caches[class as usize] = front.rest;
+        self.caches[class.number as usize] = front.rest;
         if anchor.state == State::Full {
-            let all = front.batch.count == blocks_of(class);
-            let list = if all { 0 } else { class as u64 };
+            let all = front.batch.count == blocks_of(class.number);
+            let list = if all { 0 } else { class.number as u64 };
             self.medium.push(self.geometry, list, front.d)?;
         }
         Ok(())

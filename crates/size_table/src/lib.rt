@@ -2,9 +2,11 @@
 #![tactic(auto)]
 
 mod class;
+mod size_class;
 mod span;
 
 pub use class::{blocks_of, class_of, size_of};
+pub use size_class::SizeClass;
 pub use span::span_of;
 
 #[cfg(test)]

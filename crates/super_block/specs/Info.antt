@@ -8,5 +8,5 @@ use Rattle.super_block.specs.declared.info.Info.TheVariants.{Nothing, Class, Lar
 -- a class, the superblocks of a large block, or nothing that has a meaning
 abbrev pub Says : ℕ → Info → Type 0
 Says word Nothing = (IsClass word → ⊥) × ((count : ℕ) → 1 ≤ count → word ≡ large_info count → ⊥)
-Says word (Class class) = (word ≡ class) × IsClass class
+Says word (Class class) = (word ≡ class.number) × IsClass class.number
 Says word (Large count) = (1 ≤ count) × (word ≡ large_info count)

@@ -4,13 +4,13 @@ ghost use Rattle.std.specs.Prelude.{◌≡◌, ◌<◌, ◌≤◌, ◌+◌, ◌*
 ghost use Rattle.heap_model.specs.Header.{IsWellFormed, used_of};
 ghost use Rattle.heap_model.specs.Blocks.{Begins, layout_of};
 ghost use Rattle.heap_model.specs.Geometry.{info_word};
-ghost use Rattle.heap_model.specs.Sizes.{IsClass, words_of_class, blocks_of};
+ghost use Rattle.heap_model.specs.Sizes.{words_of_class, blocks_of};
 ghost use Rattle.heap_model.specs.Words.{large_info};
 ghost use Rattle.super_block.specs.Division.{IsDivision, DividesAs};
 
 use crate::info::Info;
 use crate::layout::{DESCRIPTOR_WORDS, FIXED_WORDS, SUPERBLOCK_WORDS, USED_WORD, WORD_BYTES};
-use size_table::{blocks_of, size_of};
+use size_table::{SizeClass, blocks_of, size_of};
 
 /// The blocks that one superblock begins: `count` of `words` words each, one behind the other.
 #[derive(Clone, Copy, PartialEq, Eq, Debug)]
@@ -43,14 +43,13 @@ fn info_index(d: u64) -> usize
 }
 
 /// The blocks of a superblock of the class.
-pub(crate) fn class_division(class: u8) -> Division
-    requires { IsClass class }
-    ensures words { result.words ≡ words_of_class class }
-    ensures count { result.count ≡ blocks_of class }
+pub(crate) fn class_division(class: SizeClass) -> Division
+    ensures words { result.words ≡ words_of_class class.number }
+    ensures count { result.count ≡ blocks_of class.number }
 {
     Division {
-        words: size_of(class) / WORD_BYTES,
-        count: blocks_of(class),
+        words: size_of(class.number) / WORD_BYTES,
+        count: blocks_of(class.number),
     }
 }
 

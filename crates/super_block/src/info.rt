@@ -11,6 +11,7 @@
 ghost use Rattle.super_block.specs.Info.{Says};
 
 use crate::layout::{LARGE_INFO, LARGE_STEP, LAST_CLASS};
+use size_table::SizeClass;
 
 /// What the info word of a superblock says that it holds.
 #[derive(Clone, Copy, PartialEq, Eq, Debug)]
@@ -18,7 +19,7 @@ pub enum Info {
     /// Nothing that has a meaning.
     Nothing,
     /// Blocks of the class.
-    Class(u8),
+    Class(SizeClass),
     /// A large block of so many superblocks, this one the first.
     Large(u64),
 }
@@ -29,7 +30,7 @@ impl Info {
         ensures { Says word result }
     {
         if 1 <= word && word <= LAST_CLASS {
-            return Info::Class(word as u8);
+            return Info::Class(SizeClass::new(word as u8));
         }
         if word > LARGE_INFO && (word - LARGE_INFO) % LARGE_STEP == 0 {
             return Info::Large((word - LARGE_INFO) / LARGE_STEP);

@@ -6,7 +6,7 @@ ghost use Rattle.heap_model.specs.Header.{IsWellFormed, capacity_of, used_of};
 ghost use Rattle.heap_model.specs.Blocks.{Begins, Layout, layout_of, Names, NamesIn};
 ghost use Rattle.heap_model.specs.Recovered.{IsBlockOfClass};
 ghost use Rattle.heap_model.specs.Geometry.{start_word, largest_capacity};
-ghost use Rattle.heap_model.specs.Sizes.{IsClass, blocks_of};
+ghost use Rattle.heap_model.specs.Sizes.{blocks_of};
 ghost use Rattle.super_block.specs.Division.{DividesAs, IsPlaceOf, IsFound};
 
 use crate::division::{Division, class_division, division_at};
@@ -15,6 +15,7 @@ use crate::layout::{
     CAPACITY_WORD, DESCRIPTOR_WORDS, FIXED_WORDS, SUPERBLOCK_WORDS, USED_WORD, WORD_BYTES,
 };
 use heap_model::Block;
+use size_table::SizeClass;
 
 /// A word of a superblock: which superblock, and how many words from its start.
 #[derive(Clone, Copy)]
@@ -85,11 +86,10 @@ pub(crate) fn block_in(capacity: u64, place: Place, division: Division) -> Optio
 }
 
 /// Block `index` of superblock `d` when that is divided into blocks of the class.
-pub fn block_at(geometry: &Geometry, d: u64, index: u64, class: u8) -> Block
+pub fn block_at(geometry: &Geometry, d: u64, index: u64, class: SizeClass) -> Block
     requires superblock { d < geometry.now.capacity }
-    requires class { IsClass class }
-    requires index { index < blocks_of class }
-    ensures { IsBlockOfClass geometry.now.capacity class d index result }
+    requires index { index < blocks_of class.number }
+    ensures { IsBlockOfClass geometry.now.capacity class.number d index result }
 {
     let words = class_division(class).words;
     Block {
@@ -160,7 +160,7 @@ mod tests {
     fn a_block_of_a_class_lies_in_its_superblock(rt: HostRuntime) {
         let geometry = Geometry::new(2);
         assert!(rt; 1 < size_table::blocks_of(2));
-        let block = block_at(&geometry, 1, 1, 2);
+        let block = block_at(&geometry, 1, 1, SizeClass::new(2));
         assert_eq!(rt; (block.first_word, block.words), (9_276, 4));
     }
 }

@@ -8,10 +8,10 @@ use crate::command_line::{
     Refusal, drain_command, format_command, gen_command, has_flag, match_words, number_of,
     number_or, rebuild_command, replay_command, run_command, show_command, text_of,
 };
-use crate::size_class::SizeClass;
 use crate::trace_plan::{GREATEST_SEED, MOST_REQUESTS, TracePlan};
 use image_run::{MOST_BUDGET, MOST_WORKERS, RunOptions};
 use std::alloc::Global;
+use size_table::SizeClass;
 use super_block::{Geometry, LARGEST_CAPACITY, LAST_CLASS};
 
 /// What the words ask for.

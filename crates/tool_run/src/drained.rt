@@ -2,8 +2,8 @@
 ghost use Rattle.std.specs.Prelude.{IfOk};
 ghost use Rattle.tool_run.specs.Recovering.{IsDrainableAtRest, AreGiven};
 
-use crate::size_class::SizeClass;
 use block_heap::{Chance, DrainFault, SeqHeap};
+use size_table::SizeClass;
 use std::alloc::{AllocError, Global};
 use super_block::Ready;
 

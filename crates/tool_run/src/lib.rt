@@ -14,7 +14,6 @@ mod rebuilding;
 mod recovering;
 mod replaying;
 mod run;
-mod size_class;
 mod status;
 mod trace_plan;
 mod working;

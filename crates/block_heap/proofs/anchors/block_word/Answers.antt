@@ -6,20 +6,20 @@ use Rattle.block_heap.proofs.anchors.block_word.Goals as goal
 
 pub overflow_mul-result : goal.overflow_mul-result
 overflow_mul-result c =
-    let e = words_by_bytes c.args.class c.size_of-words.result c.requires.class c.size_of-words.ensures in
-    let short = short_product c.args.class c.args.index c.requires.class c.requires.index in
+    let e = words_by_bytes c.args.class.number c.size_of-words.result c.args.class.is c.size_of-words.ensures in
+    let short = short_product c.args.class.number c.args.index c.args.class.is c.requires.index in
     subst (λ (words : ℕ). Fits w64 (c.args.index * words)) (sym e) (omega arith)
 
 pub overflow_add-result : goal.overflow_add-result
 overflow_add-result c =
-    let e = words_by_bytes c.args.class c.size_of-words.result c.requires.class c.size_of-words.ensures in
-    let short = short_product c.args.class c.args.index c.requires.class c.requires.index in
+    let e = words_by_bytes c.args.class.number c.size_of-words.result c.args.class.is c.size_of-words.ensures in
+    let short = short_product c.args.class.number c.args.index c.args.class.is c.requires.index in
     let small = c.args.geometry.small in
     let start = c.start.ensures in
     subst (λ (words : ℕ). Fits w64 (c.start.result + c.args.index * words)) (sym e) (omega (arith, largest_capacity_fits))
 
 pub returns : goal.returns
 returns c =
-    let e = words_by_bytes c.args.class c.size_of-words.result c.requires.class c.size_of-words.ensures in
-    subst (λ (words : ℕ). c.start.result + c.args.index * words ≡ start_word c.args.geometry.capacity c.args.d + c.args.index * words_of_class c.args.class) (sym e)
-    (ap (λ (start : ℕ). start + c.args.index * words_of_class c.args.class) c.start.ensures)
+    let e = words_by_bytes c.args.class.number c.size_of-words.result c.args.class.is c.size_of-words.ensures in
+    subst (λ (words : ℕ). c.start.result + c.args.index * words ≡ start_word c.args.geometry.capacity c.args.d + c.args.index * words_of_class c.args.class.number) (sym e)
+    (ap (λ (start : ℕ). start + c.args.index * words_of_class c.args.class.number) c.start.ensures)

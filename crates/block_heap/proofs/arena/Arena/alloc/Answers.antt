@@ -16,15 +16,15 @@ pub returns-in-Some-clause-ok : goal.returns-in-Some-clause-ok
 returns-in-Some-clause-ok g c =
     let p = parts_of c.args.self.now in
     let q = parts_of c.alloc_small.new.self in
-    IfOk-weaker c.alloc_small.result (λ answer. AnswersInClass c.in-Some.class answer p q) (λ answer. Answers c.args.bytes answer p q)
-    (λ answer. answers_small c.args.bytes c.in-Some.class answer p q c.in-Some.ensures.some) c.alloc_small.ensures.ok
+    IfOk-weaker c.alloc_small.result (λ answer. AnswersInClass c.in-Some.class.number answer p q) (λ answer. Answers c.args.bytes answer p q)
+    (λ answer. answers_small c.args.bytes c.in-Some.class.number answer p q c.in-Some.ensures.some) c.alloc_small.ensures.ok
 
 pub returns-in-Some-clause-drains : goal.returns-in-Some-clause-drains
 returns-in-Some-clause-drains g c =
     let p = parts_of c.args.self.now in
     let q = parts_of c.alloc_small.new.self in
     λ class is same. subst (λ (k : ℕ). IfOk c.alloc_small.result (λ answer. DrainsAs k answer p q))
-    (sym (least_of_size c.args.bytes c.in-Some.class class c.in-Some.ensures.some is same)) c.alloc_small.ensures.drains
+    (sym (least_of_size c.args.bytes c.in-Some.class.number class c.in-Some.ensures.some is same)) c.alloc_small.ensures.drains
 
 pub returns-in-None-clause-ok : goal.returns-in-None-clause-ok
 returns-in-None-clause-ok g c =
@@ -51,7 +51,7 @@ returns-in-None-clause-drains g c =
 pub returns-in-Some-clause-order : goal.returns-in-Some-clause-order
 returns-in-Some-clause-order g c = λ class least.
     subst (λ (k : ℕ). IfOk c.alloc_small.result (λ answer. ServesInOrder k answer (parts_of c.args.self.now) (parts_of c.alloc_small.new.self)))
-    (one_least c.args.bytes c.in-Some.class class c.in-Some.ensures.some least) c.alloc_small.ensures.order
+    (one_least c.args.bytes c.in-Some.class.number class c.in-Some.ensures.some least) c.alloc_small.ensures.order
 
 pub returns-in-None-clause-order : goal.returns-in-None-clause-order
 returns-in-None-clause-order g c = λ class least.

@@ -11,8 +11,8 @@ pub returns-then-not-branch-clause-drains : goal.returns-then-not-branch-clause-
 returns-then-not-branch-clause-drains g c =
     let p = parts_of c.args.self.now in
     let q = parts_of c.stock.new.self in
-    let none = subst (λ (some : Bool). Refills c.args.class some p q) c.if-not-branch.true c.in_ok-stock.ensures.ok in
-    (drains_nothing c.args.class p q c.requires.class c.stock.ensures.serves.capacity c.in_ok-stock.ensures.fills none, still_none c.args.class p q none)
+    let none = subst (λ (some : Bool). Refills c.args.class.number some p q) c.if-not-branch.true c.in_ok-stock.ensures.ok in
+    (drains_nothing c.args.class.number p q c.args.class.is c.stock.ensures.serves.capacity c.in_ok-stock.ensures.fills none, still_none c.args.class.number p q none)
 
 pub returns-in_err-hand_out-clause-serves : goal.returns-in_err-hand_out-clause-serves
 returns-in_err-hand_out-clause-serves g c =
@@ -26,8 +26,8 @@ pub returns-clause-ok : goal.returns-clause-ok
 returns-clause-ok g c =
     let p = parts_of c.args.self.now in
     let q = parts_of c.stock.new.self in
-    let found = subst (λ (some : Bool). Refills c.args.class some p q) c.if-not-branch.false c.in_ok-stock.ensures.ok in
-    gets_in_class c.args.class c.in_ok-hand_out.field-0 p q (parts_of c.hand_out.new.self) c.requires.class c.requires.short
+    let found = subst (λ (some : Bool). Refills c.args.class.number some p q) c.if-not-branch.false c.in_ok-stock.ensures.ok in
+    gets_in_class c.args.class.number c.in_ok-hand_out.field-0 p q (parts_of c.hand_out.new.self) c.args.class.is c.requires.short
     c.stock.ensures.serves.capacity c.hand_out.ensures.serves.capacity c.in_ok-stock.ensures.fills found.1
     c.in_ok-hand_out.ensures.ok
 
@@ -36,8 +36,8 @@ returns-clause-drains g c =
     let p = parts_of c.args.self.now in
     let q = parts_of c.stock.new.self in
     let r = parts_of c.hand_out.new.self in (
-      drains_block c.args.class c.in_ok-hand_out.field-0 p q r c.stock.ensures.serves.capacity c.in_ok-stock.ensures.fills c.in_ok-hand_out.ensures.ok,
-      costs_of c.args.class c.in_ok-stock.field-0 p q r c.if-not-branch.false c.in_ok-stock.ensures.left c.in_ok-stock.ensures.steps
+      drains_block c.args.class.number c.in_ok-hand_out.field-0 p q r c.stock.ensures.serves.capacity c.in_ok-stock.ensures.fills c.in_ok-hand_out.ensures.ok,
+      costs_of c.args.class.number c.in_ok-stock.field-0 p q r c.if-not-branch.false c.in_ok-stock.ensures.left c.in_ok-stock.ensures.steps
           c.hand_out.ensures.serves.capacity c.in_ok-hand_out.ensures.ok.volatile c.in_ok-hand_out.ensures.goes.few,
     )
 
@@ -48,6 +48,6 @@ pub returns-clause-order : goal.returns-clause-order
 returns-clause-order g c = record {
   between = parts_of c.stock.new.self;
   stocked = c.in_ok-stock.ensures.order c.if-not-branch.false;
-  takes = takes_first c.args.class c.in_ok-hand_out.field-0 (parts_of c.stock.new.self) (parts_of c.hand_out.new.self) c.hand_out.ensures.serves.capacity
+  takes = takes_first c.args.class.number c.in_ok-hand_out.field-0 (parts_of c.stock.new.self) (parts_of c.hand_out.new.self) c.hand_out.ensures.serves.capacity
       c.in_ok-hand_out.ensures.ok;
 }

@@ -10,10 +10,10 @@ returns-clause-ok g c =
     let a = c.args.self.now in
     record {
       divided = c.in_ok-divide.ensures.ok;
-      caches = cache_set a.caches.items c.args.class c.start.result c.blocks_of.result (start_word a.geometry.capacity c.args.d) (blocks_of c.args.class)
+      caches = cache_set a.caches.items c.args.class.number c.start.result c.blocks_of.result (start_word a.geometry.capacity c.args.d) (blocks_of c.args.class.number)
           c.start.ensures c.blocks_of.ensures;
       start = c.divide-2.ensures.start;
-      sizes = number_set a.held.words.items c.divide-2.new.self.words.items c.args.d (c.size_of.result / 8) (words_of_class c.args.class)
+      sizes = number_set a.held.words.items c.divide-2.new.self.words.items c.args.d (c.size_of.result / 8) (words_of_class c.args.class.number)
           c.divide-2.ensures.words
-          (words_by_bytes c.args.class c.size_of.result c.requires.class c.size_of.ensures);
+          (words_by_bytes c.args.class.number c.size_of.result c.args.class.is c.size_of.ensures);
     }

@@ -21,64 +21,64 @@ returns-in_err-popped-clause-serves g c =
 
 pub returns-in_default-clause-fills : goal.returns-in_default-clause-fills
 returns-in_default-clause-fills g c =
-    emptied_fills (parts_of c.args.self.now) c.args.class 0 c.in_ok-popped.popped (medium_view c.pop.new.self) c.by.result c.requires.running (omega arith)
+    emptied_fills (parts_of c.args.self.now) c.args.class.number 0 c.in_ok-popped.popped (medium_view c.pop.new.self) c.by.result c.requires.running (omega arith)
     c.in_ok-popped.ensures.ok c.pop.ensures.others c.in_default.is
 
 pub returns-in_default-clause-serves : goal.returns-in_default-clause-serves
 returns-in_default-clause-serves g c =
-    emptied_serves (parts_of c.args.self.now) c.args.class 0 c.in_ok-popped.popped (medium_view c.pop.new.self) c.by.result c.requires.running (omega arith)
+    emptied_serves (parts_of c.args.self.now) c.args.class.number 0 c.in_ok-popped.popped (medium_view c.pop.new.self) c.by.result c.requires.running (omega arith)
     c.in_ok-popped.ensures.ok c.pop.ensures.others c.in_default.is
     (record { by = c.by.ensures.ticket ∙ ap Some c.next_ticket-ticket.ensures; taken = c.by.ensures.taken })
 
 pub cut-requires-clause-superblock : goal.cut-requires-clause-superblock
 cut-requires-clause-superblock g c =
-    free_within (parts_of c.args.self.now) c.args.class c.in-Some.d c.in_ok-popped.popped (medium_view c.pop.new.self) c.by.result c.requires.running
-    c.requires.class c.in_ok-popped.ensures.ok c.pop.ensures.others c.in-Some.is
+    free_within (parts_of c.args.self.now) c.args.class.number c.in-Some.d c.in_ok-popped.popped (medium_view c.pop.new.self) c.by.result c.requires.running
+    c.args.class.is c.in_ok-popped.ensures.ok c.pop.ensures.others c.in-Some.is
 
 pub cut-requires-clause-none : goal.cut-requires-clause-none
 cut-requires-clause-none g c =
     unmarked (parts_of c.args.self.now) c.in-Some.d c.requires.running
-    (free_none (parts_of c.args.self.now) c.args.class c.in-Some.d c.in_ok-popped.popped (medium_view c.pop.new.self) c.by.result c.requires.running
-    c.requires.class c.in_ok-popped.ensures.ok c.pop.ensures.others c.in-Some.is)
+    (free_none (parts_of c.args.self.now) c.args.class.number c.in-Some.d c.in_ok-popped.popped (medium_view c.pop.new.self) c.by.result c.requires.running
+    c.args.class.is c.in_ok-popped.ensures.ok c.pop.ensures.others c.in-Some.is)
 
 pub returns-in_err-cut-clause-serves : goal.returns-in_err-cut-clause-serves
 returns-in_err-cut-clause-serves g c =
-    free_serves (parts_of c.args.self.now) c.args.class c.in-Some.d c.in_ok-popped.popped (medium_view c.pop.new.self) c.by.result c.requires.running
-    c.requires.class c.in_ok-popped.ensures.ok c.pop.ensures.others c.in-Some.is
+    free_serves (parts_of c.args.self.now) c.args.class.number c.in-Some.d c.in_ok-popped.popped (medium_view c.pop.new.self) c.by.result c.requires.running
+    c.args.class.is c.in_ok-popped.ensures.ok c.pop.ensures.others c.in-Some.is
     (parts_of c.cut.new.self) c.cut.ensures.others c.cut.ensures.same
     (record { by = c.by.ensures.ticket ∙ ap Some c.next_ticket-ticket.ensures; taken = c.by.ensures.taken })
 
 pub returns-clause-ok : goal.returns-clause-ok
 returns-clause-ok g c =
-    free_found (parts_of c.args.self.now) c.args.class c.in-Some.d c.in_ok-popped.popped (medium_view c.pop.new.self) c.by.result c.requires.running
-    c.requires.class c.in_ok-popped.ensures.ok c.pop.ensures.others c.in-Some.is
+    free_found (parts_of c.args.self.now) c.args.class.number c.in-Some.d c.in_ok-popped.popped (medium_view c.pop.new.self) c.by.result c.requires.running
+    c.args.class.is c.in_ok-popped.ensures.ok c.pop.ensures.others c.in-Some.is
     (parts_of c.cut.new.self) c.cut.ensures.others c.cut.ensures.same c.requires.empty c.in_ok-cut.ensures.ok
 
 pub returns-clause-fills : goal.returns-clause-fills
 returns-clause-fills g c =
-    free_fills (parts_of c.args.self.now) c.args.class c.in-Some.d c.in_ok-popped.popped (medium_view c.pop.new.self) c.by.result c.requires.running
-    c.requires.class c.in_ok-popped.ensures.ok c.pop.ensures.others c.in-Some.is
+    free_fills (parts_of c.args.self.now) c.args.class.number c.in-Some.d c.in_ok-popped.popped (medium_view c.pop.new.self) c.by.result c.requires.running
+    c.args.class.is c.in_ok-popped.ensures.ok c.pop.ensures.others c.in-Some.is
     (parts_of c.cut.new.self) c.cut.ensures.others c.cut.ensures.same c.requires.empty c.in_ok-cut.ensures.ok
 
 pub returns-clause-serves : goal.returns-clause-serves
 returns-clause-serves g c =
-    free_serves (parts_of c.args.self.now) c.args.class c.in-Some.d c.in_ok-popped.popped (medium_view c.pop.new.self) c.by.result c.requires.running
-    c.requires.class c.in_ok-popped.ensures.ok c.pop.ensures.others c.in-Some.is
+    free_serves (parts_of c.args.self.now) c.args.class.number c.in-Some.d c.in_ok-popped.popped (medium_view c.pop.new.self) c.by.result c.requires.running
+    c.args.class.is c.in_ok-popped.ensures.ok c.pop.ensures.others c.in-Some.is
     (parts_of c.cut.new.self) c.cut.ensures.others c.cut.ensures.same
     (record { by = c.by.ensures.ticket ∙ ap Some c.next_ticket-ticket.ensures; taken = c.by.ensures.taken })
 
 pub returns-in_default-clause-left : goal.returns-in_default-clause-left
 returns-in_default-clause-left g c =
     let p = parts_of c.args.self.now in
-    spends_none c.args.class p (emptied p c.args.class 0 c.in_ok-popped.popped (medium_view c.pop.new.self) c.by.result c.requires.running (omega arith)
+    spends_none c.args.class.number p (emptied p c.args.class.number 0 c.in_ok-popped.popped (medium_view c.pop.new.self) c.by.result c.requires.running (omega arith)
     c.in_ok-popped.ensures.ok c.pop.ensures.others c.in_default.is) refl
     (popped_none p 0 c.in_ok-popped.popped (medium_view c.pop.new.self) c.requires.running (omega arith) c.in_ok-popped.ensures.ok c.pop.ensures.others
     c.in_default.is).1
 
 pub returns-clause-left : goal.returns-clause-left
 returns-clause-left g c =
-    free_spends (parts_of c.args.self.now) c.args.class c.in-Some.d c.in_ok-popped.popped (medium_view c.pop.new.self) c.by.result c.requires.running
-    c.requires.class c.in_ok-popped.ensures.ok c.pop.ensures.others c.in-Some.is
+    free_spends (parts_of c.args.self.now) c.args.class.number c.in-Some.d c.in_ok-popped.popped (medium_view c.pop.new.self) c.by.result c.requires.running
+    c.args.class.is c.in_ok-popped.ensures.ok c.pop.ensures.others c.in-Some.is
     (parts_of c.cut.new.self) c.cut.ensures.others c.cut.ensures.same c.requires.empty c.in_ok-cut.ensures.ok
 
 pub returns-in_default-clause-order : goal.returns-in_default-clause-order
@@ -87,7 +87,7 @@ returns-in_default-clause-order g c = tt
 pub returns-clause-order : goal.returns-clause-order
 returns-clause-order g c = (
   c.in-Some.d,
-  free_cuts (parts_of c.args.self.now) c.args.class c.in-Some.d c.in_ok-popped.popped (medium_view c.pop.new.self) c.by.result c.requires.running
-      c.requires.class c.in_ok-popped.ensures.ok c.pop.ensures.others c.in-Some.is
+  free_cuts (parts_of c.args.self.now) c.args.class.number c.in-Some.d c.in_ok-popped.popped (medium_view c.pop.new.self) c.by.result c.requires.running
+      c.args.class.is c.in_ok-popped.ensures.ok c.pop.ensures.others c.in-Some.is
       (parts_of c.cut.new.self) c.cut.ensures.others c.cut.ensures.same c.requires.empty c.in_ok-cut.ensures.ok,
 )

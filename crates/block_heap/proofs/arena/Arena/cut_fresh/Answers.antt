@@ -11,7 +11,7 @@ returns-in_err-fresh-clause-serves g c =
 pub returns-in_default-clause-fills : goal.returns-in_default-clause-fills
 returns-in_default-clause-fills g c =
     none_fills (parts_of c.args.self.now) (medium_view c.take_fresh.new.self) c.requires.running c.take_fresh.ensures.others c.take_fresh.ensures.crash c.take_fresh.ensures.fits
-    c.args.class c.in_ok-fresh.fresh c.by-self.result c.in_ok-fresh.ensures.ok
+    c.args.class.number c.in_ok-fresh.fresh c.by-self.result c.in_ok-fresh.ensures.ok
     c.by-self.ensures.seen c.by-self.ensures.taken c.in_default.is
 
 pub overflow_add-self : goal.overflow_add-self
@@ -21,49 +21,49 @@ overflow_add-self g c =
 pub cut-requires-clause-none : goal.cut-requires-clause-none
 cut-requires-clause-none g c =
     fresh_unmarked (parts_of c.args.self.now) (medium_view c.take_fresh.new.self) c.requires.running c.take_fresh.ensures.others c.take_fresh.ensures.crash c.take_fresh.ensures.fits
-    c.args.class c.in_ok-fresh.fresh c.by-self.result c.in_ok-fresh.ensures.ok
+    c.args.class.number c.in_ok-fresh.fresh c.by-self.result c.in_ok-fresh.ensures.ok
     c.by-self.ensures.seen c.by-self.ensures.taken c.in-Some.d c.in-Some.is
 
 pub returns-in_err-cut-clause-serves : goal.returns-in_err-cut-clause-serves
 returns-in_err-cut-clause-serves g c =
     fresh_serves (parts_of c.args.self.now) (medium_view c.take_fresh.new.self) c.requires.running c.take_fresh.ensures.others c.take_fresh.ensures.crash c.take_fresh.ensures.fits
-    c.args.class c.in_ok-fresh.fresh c.by-self.result c.in_ok-fresh.ensures.ok
+    c.args.class.number c.in_ok-fresh.fresh c.by-self.result c.in_ok-fresh.ensures.ok
     c.by-self.ensures.seen c.by-self.ensures.taken c.in-Some.d c.in-Some.is (parts_of c.cut.new.self) c.cut.ensures.others c.cut.ensures.same
     (record { by = c.by-self.ensures.ticket ∙ ap Some c.next_ticket-ticket.ensures; taken = c.by-self.ensures.taken })
 
 pub returns-clause-ok : goal.returns-clause-ok
 returns-clause-ok g c =
     fresh_found (parts_of c.args.self.now) (medium_view c.take_fresh.new.self) c.requires.running c.take_fresh.ensures.others c.take_fresh.ensures.crash c.take_fresh.ensures.fits
-    c.args.class c.in_ok-fresh.fresh c.by-self.result c.in_ok-fresh.ensures.ok
+    c.args.class.number c.in_ok-fresh.fresh c.by-self.result c.in_ok-fresh.ensures.ok
     c.by-self.ensures.seen c.by-self.ensures.taken c.in-Some.d c.in-Some.is (parts_of c.cut.new.self) c.cut.ensures.others c.cut.ensures.same
-    c.requires.class c.requires.empty c.in_ok-cut.ensures.ok
+    c.args.class.is c.requires.empty c.in_ok-cut.ensures.ok
 
 pub returns-clause-fills : goal.returns-clause-fills
 returns-clause-fills g c =
     fresh_fills (parts_of c.args.self.now) (medium_view c.take_fresh.new.self) c.requires.running c.take_fresh.ensures.others c.take_fresh.ensures.crash c.take_fresh.ensures.fits
-    c.args.class c.in_ok-fresh.fresh c.by-self.result c.in_ok-fresh.ensures.ok
+    c.args.class.number c.in_ok-fresh.fresh c.by-self.result c.in_ok-fresh.ensures.ok
     c.by-self.ensures.seen c.by-self.ensures.taken c.in-Some.d c.in-Some.is (parts_of c.cut.new.self) c.cut.ensures.others c.cut.ensures.same
-    c.requires.class c.requires.empty c.in_ok-cut.ensures.ok
+    c.args.class.is c.requires.empty c.in_ok-cut.ensures.ok
 
 pub returns-clause-serves : goal.returns-clause-serves
 returns-clause-serves g c =
     fresh_serves (parts_of c.args.self.now) (medium_view c.take_fresh.new.self) c.requires.running c.take_fresh.ensures.others c.take_fresh.ensures.crash c.take_fresh.ensures.fits
-    c.args.class c.in_ok-fresh.fresh c.by-self.result c.in_ok-fresh.ensures.ok
+    c.args.class.number c.in_ok-fresh.fresh c.by-self.result c.in_ok-fresh.ensures.ok
     c.by-self.ensures.seen c.by-self.ensures.taken c.in-Some.d c.in-Some.is (parts_of c.cut.new.self) c.cut.ensures.others c.cut.ensures.same
     (record { by = c.by-self.ensures.ticket ∙ ap Some c.next_ticket-ticket.ensures; taken = c.by-self.ensures.taken })
 
 pub returns-in_default-clause-left : goal.returns-in_default-clause-left
 returns-in_default-clause-left g c =
     none_spends (parts_of c.args.self.now) (medium_view c.take_fresh.new.self) c.requires.running c.take_fresh.ensures.others c.take_fresh.ensures.crash c.take_fresh.ensures.fits
-    c.args.class c.in_ok-fresh.fresh c.by-self.result c.in_ok-fresh.ensures.ok
+    c.args.class.number c.in_ok-fresh.fresh c.by-self.result c.in_ok-fresh.ensures.ok
     c.by-self.ensures.seen c.by-self.ensures.taken c.in_default.is
 
 pub returns-clause-left : goal.returns-clause-left
 returns-clause-left g c =
     fresh_spends (parts_of c.args.self.now) (medium_view c.take_fresh.new.self) c.requires.running c.take_fresh.ensures.others c.take_fresh.ensures.crash c.take_fresh.ensures.fits
-    c.args.class c.in_ok-fresh.fresh c.by-self.result c.in_ok-fresh.ensures.ok
+    c.args.class.number c.in_ok-fresh.fresh c.by-self.result c.in_ok-fresh.ensures.ok
     c.by-self.ensures.seen c.by-self.ensures.taken c.in-Some.d c.in-Some.is (parts_of c.cut.new.self) c.cut.ensures.others c.cut.ensures.same
-    c.requires.class c.requires.empty c.in_ok-cut.ensures.ok
+    c.args.class.is c.requires.empty c.in_ok-cut.ensures.ok
 
 pub returns-in_default-clause-order : goal.returns-in_default-clause-order
 returns-in_default-clause-order g c = tt
@@ -71,6 +71,6 @@ returns-in_default-clause-order g c = tt
 pub returns-clause-order : goal.returns-clause-order
 returns-clause-order g c =
     fresh_cuts (parts_of c.args.self.now) (medium_view c.take_fresh.new.self) c.requires.running c.take_fresh.ensures.others c.take_fresh.ensures.crash c.take_fresh.ensures.fits
-    c.args.class c.in_ok-fresh.fresh c.by-self.result c.in_ok-fresh.ensures.ok
+    c.args.class.number c.in_ok-fresh.fresh c.by-self.result c.in_ok-fresh.ensures.ok
     c.by-self.ensures.seen c.by-self.ensures.taken c.in-Some.d c.in-Some.is (parts_of c.cut.new.self) c.cut.ensures.others c.cut.ensures.same
-    c.requires.class c.requires.empty c.in_ok-cut.ensures.ok
+    c.args.class.is c.requires.empty c.in_ok-cut.ensures.ok

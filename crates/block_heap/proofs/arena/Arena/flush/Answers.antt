@@ -10,46 +10,46 @@ use Rattle.block_heap.proofs.arena.Arena.flush.Goals as goal
 
 pub returns-in_err-front-clause-stopped : goal.returns-in_err-front-clause-stopped
 returns-in_err-front-clause-stopped g c =
-    let halts = front_halts c.args.class (parts_of c.args.self.now) (parts_of c.loop-self.self)
-    (medium_view c.front.new.self.medium) c.in_err-front.field-0.0.step c.loop-self.invariant c.requires.class c.requires.running
+    let halts = front_halts c.args.class.number (parts_of c.args.self.now) (parts_of c.loop-class.self)
+    (medium_view c.front.new.self.medium) c.in_err-front.field-0.0.step c.loop-class.invariant c.args.class.is c.requires
     c.in_err-front.ensures.stopped in
     let p = err_from_is_err_and c.from_residual.result c.from_residual.ensures.1 in
     rw (p.1, p.2) halts
 
 pub returns-in_err-front-clause-serves : goal.returns-in_err-front-clause-serves
-returns-in_err-front-clause-serves g c = flushed_serves c.args.class (parts_of c.args.self.now) (parts_of c.loop-self.self)
-    (parts_of c.front.new.self) c.loop-self.invariant c.front.ensures.serves
+returns-in_err-front-clause-serves g c = flushed_serves c.args.class.number (parts_of c.args.self.now) (parts_of c.loop-class.self)
+    (parts_of c.front.new.self) c.loop-class.invariant c.front.ensures.serves
 
-pub loop-self-preserved : goal.loop-self-preserved
-loop-self-preserved g c =
-    flushed_more c.args.class (parts_of c.args.self.now) (parts_of c.loop-self.self) (parts_of c.front.new.self) c.in_ok-front.front c.loop-self.invariant
+pub loop-class-preserved : goal.loop-class-preserved
+loop-class-preserved g c =
+    flushed_more c.args.class.number (parts_of c.args.self.now) (parts_of c.loop-class.self) (parts_of c.front.new.self) c.in_ok-front.front c.loop-class.invariant
     c.in_ok-front.ensures.ok c.in_ok-front.ensures.running c.in_ok-front.ensures.keeps c.front.ensures.caches c.in_ok-front.ensures.goes c.front.ensures.held
     c.front.ensures.serves c.front.ensures.taken
     (parts_of c.give.new.self) c.in_ok-give.ensures.running c.in_ok-give.ensures.gives c.in_ok-give.ensures.goes c.give.ensures.held c.give.ensures.serves
-    c.give.ensures.taken c.requires.class c.requires.running c.in_ok-front.ensures.words c.in_ok-front.ensures.longest c.in_ok-give.ensures.order
+    c.give.ensures.taken c.args.class.is c.requires c.in_ok-front.ensures.words c.in_ok-front.ensures.longest c.in_ok-give.ensures.order
 
 pub returns-in_err-give-clause-stopped : goal.returns-in_err-give-clause-stopped
 returns-in_err-give-clause-stopped g c =
-    let halts = give_halts c.args.class (parts_of c.args.self.now) (parts_of c.loop-self.self)
-    (parts_of c.front.new.self) c.in_ok-front.front c.loop-self.invariant
+    let halts = give_halts c.args.class.number (parts_of c.args.self.now) (parts_of c.loop-class.self)
+    (parts_of c.front.new.self) c.in_ok-front.front c.loop-class.invariant
     c.in_ok-front.ensures.ok c.in_ok-front.ensures.running c.in_ok-front.ensures.keeps c.front.ensures.caches c.in_ok-front.ensures.goes
     c.front.ensures.held c.front.ensures.serves c.front.ensures.taken
-    (medium_view c.give.new.self.medium) c.in_err-give.field-0.0.step c.requires.class c.requires.running c.in_err-give.ensures.stopped in
+    (medium_view c.give.new.self.medium) c.in_err-give.field-0.0.step c.args.class.is c.requires c.in_err-give.ensures.stopped in
     let p = err_from_is_err_and c.from_residual-in_err-give.result c.from_residual-in_err-give.ensures.1 in
     rw (p.1, p.2) halts
 
 pub returns-in_err-give-clause-serves : goal.returns-in_err-give-clause-serves
 returns-in_err-give-clause-serves g c =
-    give_serves c.args.class (parts_of c.args.self.now) (parts_of c.loop-self.self) (parts_of c.front.new.self) c.in_ok-front.front c.loop-self.invariant
+    give_serves c.args.class.number (parts_of c.args.self.now) (parts_of c.loop-class.self) (parts_of c.front.new.self) c.in_ok-front.front c.loop-class.invariant
     c.in_ok-front.ensures.ok c.in_ok-front.ensures.running c.in_ok-front.ensures.keeps c.front.ensures.caches c.in_ok-front.ensures.goes c.front.ensures.held
     c.front.ensures.serves c.front.ensures.taken
     (parts_of c.give.new.self) c.give.ensures.serves
 
 pub returns-clause-order : goal.returns-clause-order
 returns-clause-order g c =
-    let q = parts_of c.loop-self.self in
-    let read = read_cache q c.args.class c.index.result.now c.requires.class c.loop-self.invariant.running c.index.ensures in
-    let count : c.index.result.now.count ≡ (cache_at q.caches c.args.class).count = ap (λ (x : Cache). x.count) read in
-    let past = c.loop-self-test.false in
-    flushes_all c.args.class (parts_of c.args.self.now) q c.requires.class c.requires.running c.loop-self.invariant.running
-    c.loop-self.invariant.held c.loop-self.invariant.order c.loop-self.invariant.keeps (omega arith)
+    let q = parts_of c.loop-class.self in
+    let read = read_cache q c.args.class.number c.index.result.now c.args.class.is c.loop-class.invariant.running c.index.ensures in
+    let count : c.index.result.now.count ≡ (cache_at q.caches c.args.class.number).count = ap (λ (x : Cache). x.count) read in
+    let past = c.loop-class-test.false in
+    flushes_all c.args.class.number (parts_of c.args.self.now) q c.args.class.is c.requires c.loop-class.invariant.running
+    c.loop-class.invariant.held c.loop-class.invariant.order c.loop-class.invariant.keeps (omega arith)

@@ -10,7 +10,7 @@ overflow_mul-b g c = let few = few_held (parts_of c.args.self.now) c.args.b c.re
 
 pub free_small-requires-clause-size : goal.free_small-requires-clause-size
 free_small-requires-clause-size g c =
-    size_of_held (parts_of c.args.self.now) c.args.b c.in-Some.class c.requires.running c.requires.holds c.in-Some.ensures.some
+    size_of_held (parts_of c.args.self.now) c.args.b c.in-Some.class.number c.requires.running c.requires.holds c.in-Some.ensures.some
 
 pub free_large-requires-clause-large : goal.free_large-requires-clause-large
 free_large-requires-clause-large g c = no_size_of_held c.args.b (c.in-None.ensures.none.0 refl)
@@ -19,8 +19,8 @@ pub returns-in-Some-clause-order : goal.returns-in-Some-clause-order
 returns-in-Some-clause-order g c =
     let p = parts_of c.args.self.now in
     on_ok_weaker c.free_small.result
-    (comes_to_class c.args.b c.in-Some.class p (parts_of c.free_small.new.self) c.in-Some.ensures.some
-    (size_of_held p c.args.b c.in-Some.class c.requires.running c.requires.holds c.in-Some.ensures.some))
+    (comes_to_class c.args.b c.in-Some.class.number p (parts_of c.free_small.new.self) c.in-Some.ensures.some
+    (size_of_held p c.args.b c.in-Some.class.number c.requires.running c.requires.holds c.in-Some.ensures.some))
     c.free_small.ensures.order
 
 pub returns-in-None-clause-order : goal.returns-in-None-clause-order

@@ -12,26 +12,26 @@ use Rattle.block_heap.proofs.arena.Arena.front.Goals as goal
 pub superblock_of-d-requires : goal.superblock_of-d-requires
 superblock_of-d-requires g c =
     let p = parts_of c.args.self.now in
-    let is = read_cache p c.args.class c.index-cache.result.now c.requires.class c.requires.running c.index-cache.ensures in
-    let at = cache_first p c.args.class c.requires.class c.requires.running c.index-cache.result.now is c.requires.some in
-    first_from p c.args.class at.d c.index-cache.result.now.first c.requires.class c.requires.running at.within at.first
+    let is = read_cache p c.args.class.number c.index-cache.result.now c.args.class.is c.requires.running c.index-cache.ensures in
+    let at = cache_first p c.args.class.number c.args.class.is c.requires.running c.index-cache.result.now is c.requires.some in
+    first_from p c.args.class.number at.d c.index-cache.result.now.first c.args.class.is c.requires.running at.within at.first
 
 pub load-requires-clause-within : goal.load-requires-clause-within
 load-requires-clause-within g c =
     let p = parts_of c.args.self.now in
-    let is = read_cache p c.args.class c.index-cache.result.now c.requires.class c.requires.running c.index-cache.ensures in
-    let at = cache_first p c.args.class c.requires.class c.requires.running c.index-cache.result.now is c.requires.some in
-    let below = first_below p c.args.class at.d c.index-cache.result.now.first c.requires.class c.requires.running at.within at.first in
+    let is = read_cache p c.args.class.number c.index-cache.result.now c.args.class.is c.requires.running c.index-cache.ensures in
+    let at = cache_first p c.args.class.number c.args.class.is c.requires.running c.index-cache.result.now is c.requires.some in
+    let below = first_below p c.args.class.number at.d c.index-cache.result.now.first c.args.class.is c.requires.running at.within at.first in
     let words = c.requires.running.words_open.long in
     omega arith
 
 pub loop-count-init : goal.loop-count-init
 loop-count-init g c =
     let p = parts_of c.args.self.now in
-    let is = read_cache p c.args.class c.index-cache.result.now c.requires.class c.requires.running c.index-cache.ensures in
+    let is = read_cache p c.args.class.number c.index-cache.result.now c.args.class.is c.requires.running c.index-cache.ensures in
     record {
       loaded = record { same = refl; goes = c.in_ok-next.ensures.ok.goes; volatile = c.in_ok-next.ensures.ok.volatile; stores = c.load.ensures.unchanged };
-      walked = walked_one p c.args.class c.requires.class c.requires.running c.index-cache.result.now is c.requires.some c.superblock_of-d.result
+      walked = walked_one p c.args.class.number c.args.class.is c.requires.running c.index-cache.result.now is c.requires.some c.superblock_of-d.result
           c.in_ok-next.next c.superblock_of-d.ensures c.in_ok-next.ensures.ok.seen;
       cache_is = is;
     }
@@ -40,20 +40,20 @@ pub superblock_of-requires : goal.superblock_of-requires
 superblock_of-requires g c =
     let p = parts_of c.args.self.now in
     let inv = c.loop-count.invariant in
-    let at = next_placed p c.args.class c.requires.class c.requires.running c.index-cache.result.now inv.cache_is c.superblock_of-d.result c.loop-count.last
+    let at = next_placed p c.args.class.number c.args.class.is c.requires.running c.index-cache.result.now inv.cache_is c.superblock_of-d.result c.loop-count.last
     c.loop-count.next c.loop-count.count inv.walked c.loop-count-test.true in
     let capacity : c.loop-count.self.geometry.capacity ≡ c.args.self.now.geometry.capacity = loaded_capacity (parts_of c.args.self.now)
     (parts_of c.loop-count.self) c.loop-count.count inv.loaded in
     subst (λ n. start_word n 0 ≤ c.loop-count.next) (sym capacity)
-    (first_from p c.args.class at.d c.loop-count.next c.requires.class c.requires.running at.within at.first)
+    (first_from p c.args.class.number at.d c.loop-count.next c.args.class.is c.requires.running at.within at.first)
 
 pub load-requires-in-loop-count-clause-within : goal.load-requires-in-loop-count-clause-within
 load-requires-in-loop-count-clause-within g c =
     let p = parts_of c.args.self.now in
     let inv = c.loop-count.invariant in
-    let at = next_placed p c.args.class c.requires.class c.requires.running c.index-cache.result.now inv.cache_is c.superblock_of-d.result c.loop-count.last
+    let at = next_placed p c.args.class.number c.args.class.is c.requires.running c.index-cache.result.now inv.cache_is c.superblock_of-d.result c.loop-count.last
     c.loop-count.next c.loop-count.count inv.walked c.loop-count-test.true in
-    let below = first_below p c.args.class at.d c.loop-count.next c.requires.class c.requires.running at.within at.first in
+    let below = first_below p c.args.class.number at.d c.loop-count.next c.args.class.is c.requires.running at.within at.first in
     let long = c.requires.running.words_open.long in
     let words = inv.loaded.stores.words in
     omega arith
@@ -75,7 +75,7 @@ loop-count-preserved g c =
     record {
       loaded = loaded_more p q _ c.loop-count.count c.loop-count.next c.in_ok-next-2.next inv.loaded refl c.in_ok-next-2.ensures.ok
           c.load-in-loop-count.ensures.unchanged;
-      walked = walked_more p c.args.class c.requires.class c.requires.running c.index-cache.result.now inv.cache_is c.superblock_of-d.result c.loop-count.last
+      walked = walked_more p c.args.class.number c.args.class.is c.requires.running c.index-cache.result.now inv.cache_is c.superblock_of-d.result c.loop-count.last
           c.loop-count.next c.loop-count.count inv.walked
           c.in_ok-next-2.next c.loop-count-test.true at
           (c.in_ok-next-2.ensures.ok.seen ∙ ap (λ (xs : List ℕ). get_or xs c.loop-count.next 0) inv.loaded.volatile);
@@ -88,15 +88,15 @@ overflow_sub-result g c =
     let inv = c.loop-count.invariant in
     let capacity : c.loop-count.self.geometry.capacity ≡ c.args.self.now.geometry.capacity = loaded_capacity (parts_of c.args.self.now)
     (parts_of c.loop-count.self) c.loop-count.count inv.loaded in
-    let behind = first_behind p c.args.class c.requires.class c.requires.running c.index-cache.result.now inv.cache_is c.superblock_of-d.result
+    let behind = first_behind p c.args.class.number c.args.class.is c.requires.running c.index-cache.result.now inv.cache_is c.superblock_of-d.result
     c.loop-count.last c.loop-count.next c.loop-count.count inv.walked in
     let start = c.start.ensures in
     omega arith
 
 pub nonzero_div-result : goal.nonzero_div-result
 nonzero_div-result g c =
-    let e = words_by_bytes c.args.class c.size_of-words.result c.requires.class c.size_of-words.ensures in
-    let two = two_words c.args.class c.requires.class in
+    let e = words_by_bytes c.args.class.number c.size_of-words.result c.args.class.is c.size_of-words.ensures in
+    let two = two_words c.args.class.number c.args.class.is in
     omega arith
 
 pub returns-clause-ok : goal.returns-clause-ok
@@ -106,11 +106,11 @@ returns-clause-ok g c =
     let inv = c.loop-count.invariant in
     let capacity : c.loop-count.self.geometry.capacity ≡ c.args.self.now.geometry.capacity = loaded_capacity (parts_of c.args.self.now)
     (parts_of c.loop-count.self) c.loop-count.count inv.loaded in
-    loaded_front p q c.loop-count.count c.requires.running inv.loaded c.args.class _
-    (walked_front p c.args.class c.requires.class c.requires.running c.index-cache.result.now inv.cache_is c.superblock_of-d.result c.loop-count.last
+    loaded_front p q c.loop-count.count c.requires.running inv.loaded c.args.class.number _
+    (walked_front p c.args.class.number c.args.class.is c.requires.running c.index-cache.result.now inv.cache_is c.superblock_of-d.result c.loop-count.last
     c.loop-count.next c.loop-count.count inv.walked
     c.start.result (c.size_of-words.result / 8) (c.start.ensures ∙ ap (λ n. start_word n c.superblock_of-d.result) capacity)
-    (words_by_bytes c.args.class c.size_of-words.result c.requires.class c.size_of-words.ensures))
+    (words_by_bytes c.args.class.number c.size_of-words.result c.args.class.is c.size_of-words.ensures))
 
 pub returns-clause-running : goal.returns-clause-running
 returns-clause-running g c = loaded_run (parts_of c.args.self.now) (parts_of c.loop-count.self) c.loop-count.count c.requires.running
@@ -122,7 +122,7 @@ returns-clause-serves g c = loaded_serves (parts_of c.args.self.now) (parts_of c
 
 pub returns-clause-keeps : goal.returns-clause-keeps
 returns-clause-keeps g c = loaded_keeps (parts_of c.args.self.now) (parts_of c.loop-count.self) c.loop-count.count c.requires.running
-    c.loop-count.invariant.loaded c.args.class
+    c.loop-count.invariant.loaded c.args.class.number
 
 pub returns-in_err-next-clause-serves : goal.returns-in_err-next-clause-serves
 returns-in_err-next-clause-serves g c =

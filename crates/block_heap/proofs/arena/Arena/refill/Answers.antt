@@ -22,10 +22,10 @@ returns-in_err-cut_free-clause-serves g c =
 pub returns-then-branch-clause-fills : goal.returns-then-branch-clause-fills
 returns-then-branch-clause-fills g c =
     let p = parts_of c.args.self.now in
-    elim c.then-branch.branch as (λ _. IsRefilling c.args.class p (parts_of c.then-branch.self)) [
-      | then-branch-via-then-branch w ↦ subst (λ (a : Arena _). IsRefilling c.args.class p (parts_of a)) (sym w.self-is) c.in_ok-take_partial.ensures.fills
-      | then-branch-via-else-branch+in_ok-cut_free+then-branch-2 w ↦ subst (λ (a : Arena _). IsRefilling c.args.class p (parts_of a)) (sym w.self-is)
-          (fills_then c.args.class p (parts_of c.take_partial.new.self) (parts_of w.cut_free.new.self) c.take_partial.ensures.serves.capacity
+    elim c.then-branch.branch as (λ _. IsRefilling c.args.class.number p (parts_of c.then-branch.self)) [
+      | then-branch-via-then-branch w ↦ subst (λ (a : Arena _). IsRefilling c.args.class.number p (parts_of a)) (sym w.self-is) c.in_ok-take_partial.ensures.fills
+      | then-branch-via-else-branch+in_ok-cut_free+then-branch-2 w ↦ subst (λ (a : Arena _). IsRefilling c.args.class.number p (parts_of a)) (sym w.self-is)
+          (fills_then c.args.class.number p (parts_of c.take_partial.new.self) (parts_of w.cut_free.new.self) c.take_partial.ensures.serves.capacity
           c.in_ok-take_partial.ensures.fills w.in_ok-cut_free.ensures.fills)
     ]
 
@@ -45,10 +45,10 @@ returns-clause-ok g c =
     let a = parts_of c.take_partial.new.self in
     let b = parts_of c.cut_free.new.self in
     IfOk-weaker c.cut_fresh.result _ _
-    (fresh_refills c.args.class p a b c.requires.class c.take_partial.ensures.serves c.in_ok-take_partial.ensures.taken c.cut_free.ensures.serves
+    (fresh_refills c.args.class.number p a b c.args.class.is c.take_partial.ensures.serves c.in_ok-take_partial.ensures.taken c.cut_free.ensures.serves
     (parts_of c.cut_fresh.new.self) c.in_ok-cut_free.ensures.taken c.cut_fresh.ensures.serves
-    (subst (λ some. FindsPartial c.args.class some p a) c.if-branch.false c.in_ok-take_partial.ensures.ok)
-    (subst (λ some. FindsFree c.args.class some a b) c.if-branch-2.false c.in_ok-cut_free.ensures.ok) c.requires.empty)
+    (subst (λ some. FindsPartial c.args.class.number some p a) c.if-branch.false c.in_ok-take_partial.ensures.ok)
+    (subst (λ some. FindsFree c.args.class.number some a b) c.if-branch-2.false c.in_ok-cut_free.ensures.ok) c.requires.empty)
     c.cut_fresh.ensures.ok
 
 pub returns-clause-fills : goal.returns-clause-fills
@@ -56,8 +56,8 @@ returns-clause-fills g c =
     let p = parts_of c.args.self.now in
     let a = parts_of c.take_partial.new.self in
     let b = parts_of c.cut_free.new.self in
-    let then = fills_then c.args.class p a b c.take_partial.ensures.serves.capacity c.in_ok-take_partial.ensures.fills c.in_ok-cut_free.ensures.fills in
-    on_ok_weaker c.cut_fresh.result (fills_then c.args.class p b (parts_of c.cut_fresh.new.self)
+    let then = fills_then c.args.class.number p a b c.take_partial.ensures.serves.capacity c.in_ok-take_partial.ensures.fills c.in_ok-cut_free.ensures.fills in
+    on_ok_weaker c.cut_fresh.result (fills_then c.args.class.number p b (parts_of c.cut_fresh.new.self)
     (c.cut_free.ensures.serves.capacity ∙ c.take_partial.ensures.serves.capacity) then) c.cut_fresh.ensures.fills
 
 pub returns-clause-serves : goal.returns-clause-serves
@@ -70,7 +70,7 @@ returns-clause-serves g c =
 pub returns-then-branch-clause-left : goal.returns-then-branch-clause-left
 returns-then-branch-clause-left g c =
     let p = parts_of c.args.self.now in
-    let class = c.args.class in
+    let class = c.args.class.number in
     elim c.then-branch.branch as (λ _. Spends 1 class p (parts_of c.then-branch.self)) [
       | then-branch-via-then-branch w ↦ subst (λ (a : Arena _). Spends 1 class p (parts_of a)) (sym w.self-is)
           (subst (λ some. Spends (one_if some) class p (parts_of c.take_partial.new.self)) w.if-branch.true c.in_ok-take_partial.ensures.left)
@@ -86,7 +86,7 @@ returns-clause-left g c =
     let p = parts_of c.args.self.now in
     let a = parts_of c.take_partial.new.self in
     let b = parts_of c.cut_free.new.self in
-    let class = c.args.class in
+    let class = c.args.class.number in
     IfOk-weaker c.cut_fresh.result _ _
     (λ some spends. spends_then (one_if some) 0 (one_if some) class p b (parts_of c.cut_fresh.new.self) (omega arith)
     (spends_then 0 (one_if c.in_ok-take_partial.field-0) (one_if c.in_ok-cut_free.field-0) class p a b (omega arith) c.in_ok-take_partial.ensures.left
@@ -97,7 +97,7 @@ pub returns-then-branch-clause-order : goal.returns-then-branch-clause-order
 returns-then-branch-clause-order g c = λ is.
     let p = parts_of c.args.self.now in
     let a = parts_of c.take_partial.new.self in
-    let class = c.args.class in
+    let class = c.args.class.number in
     elim c.then-branch.branch as (λ _. FillsFrom class p (parts_of c.then-branch.self)) [
       | then-branch-via-then-branch w ↦ subst (λ (x : Arena _). FillsFrom class p (parts_of x)) (sym w.self-is)
           (let takes = subst (λ some. OrdersPartial class some p a) w.if-branch.true c.in_ok-take_partial.ensures.order in from_class_list takes.0 takes.1)
@@ -115,22 +115,22 @@ returns-clause-order g c =
     let a = parts_of c.take_partial.new.self in
     let b = parts_of c.cut_free.new.self in
     IfOk-weaker c.cut_fresh.result _ _
-    (fills_fresh c.args.class p a b c.requires.class c.take_partial.ensures.serves c.in_ok-take_partial.ensures.taken c.cut_free.ensures.serves
+    (fills_fresh c.args.class.number p a b c.args.class.is c.take_partial.ensures.serves c.in_ok-take_partial.ensures.taken c.cut_free.ensures.serves
     (parts_of c.cut_fresh.new.self) c.in_ok-cut_free.ensures.taken c.cut_fresh.ensures.serves
-    (subst (λ some. FindsPartial c.args.class some p a) c.if-branch.false c.in_ok-take_partial.ensures.ok)
-    (subst (λ some. FindsFree c.args.class some a b) c.if-branch-2.false c.in_ok-cut_free.ensures.ok)
-    (subst (λ some. OrdersPartial c.args.class some p a) c.if-branch.false c.in_ok-take_partial.ensures.order))
+    (subst (λ some. FindsPartial c.args.class.number some p a) c.if-branch.false c.in_ok-take_partial.ensures.ok)
+    (subst (λ some. FindsFree c.args.class.number some a b) c.if-branch-2.false c.in_ok-cut_free.ensures.ok)
+    (subst (λ some. OrdersPartial c.args.class.number some p a) c.if-branch.false c.in_ok-take_partial.ensures.order))
     c.cut_fresh.ensures.order
 
 pub returns-then-branch-clause-ok : goal.returns-then-branch-clause-ok
 returns-then-branch-clause-ok g c =
     let p = parts_of c.args.self.now in
     let a = parts_of c.take_partial.new.self in
-    elim c.then-branch.branch as (λ _. Refills c.args.class true p (parts_of c.then-branch.self)) [
-      | then-branch-via-then-branch w ↦ subst (λ (m : Arena _). Refills c.args.class true p (parts_of m)) (sym w.self-is)
-          (partial_refills c.args.class p a (subst (λ some. FindsPartial c.args.class some p a) w.if-branch.true c.in_ok-take_partial.ensures.ok))
-      | then-branch-via-else-branch+in_ok-cut_free+then-branch-2 w ↦ subst (λ (m : Arena _). Refills c.args.class true p (parts_of m)) (sym w.self-is)
-          (free_refills c.args.class p a (parts_of w.cut_free.new.self)
-          (subst (λ some. FindsPartial c.args.class some p a) w.if-branch.false c.in_ok-take_partial.ensures.ok)
-          (subst (λ some. FindsFree c.args.class some a (parts_of w.cut_free.new.self)) w.if-branch-2.true w.in_ok-cut_free.ensures.ok))
+    elim c.then-branch.branch as (λ _. Refills c.args.class.number true p (parts_of c.then-branch.self)) [
+      | then-branch-via-then-branch w ↦ subst (λ (m : Arena _). Refills c.args.class.number true p (parts_of m)) (sym w.self-is)
+          (partial_refills c.args.class.number p a (subst (λ some. FindsPartial c.args.class.number some p a) w.if-branch.true c.in_ok-take_partial.ensures.ok))
+      | then-branch-via-else-branch+in_ok-cut_free+then-branch-2 w ↦ subst (λ (m : Arena _). Refills c.args.class.number true p (parts_of m)) (sym w.self-is)
+          (free_refills c.args.class.number p a (parts_of w.cut_free.new.self)
+          (subst (λ some. FindsPartial c.args.class.number some p a) w.if-branch.false c.in_ok-take_partial.ensures.ok)
+          (subst (λ some. FindsFree c.args.class.number some a (parts_of w.cut_free.new.self)) w.if-branch-2.true w.in_ok-cut_free.ensures.ok))
     ]

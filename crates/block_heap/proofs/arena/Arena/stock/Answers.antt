@@ -11,20 +11,20 @@ use Rattle.block_heap.proofs.arena.Arena.stock.Goals as goal
 pub returns-clause-left : goal.returns-clause-left
 returns-clause-left g c =
     let p = parts_of c.args.self.now in
-    inl (spends_none c.args.class p p refl refl, omega arith)
+    inl (spends_none c.args.class.number p p refl refl, omega arith)
 
 pub returns-clause-order : goal.returns-clause-order
 returns-clause-order g c = λ is.
     let p = parts_of c.args.self.now in
-    let read = read_cache p c.args.class c.index.result.now c.requires.class c.requires.running c.index.ensures in
-    let count : c.index.result.now.count ≡ (cache_at p.caches c.args.class).count = ap (λ (x : Cache). x.count) read in
+    let read = read_cache p c.args.class.number c.index.result.now c.args.class.is c.requires c.index.ensures in
+    let count : c.index.result.now.count ≡ (cache_at p.caches c.args.class.number).count = ap (λ (x : Cache). x.count) read in
     in_stock (omega arith) refl
 
 pub returns-then-index-eq0-clause-order : goal.returns-then-index-eq0-clause-order
 returns-then-index-eq0-clause-order g c =
     let p = parts_of c.args.self.now in
-    let read = read_cache p c.args.class c.index.result.now c.requires.class c.requires.running c.index.ensures in
-    let count : c.index.result.now.count ≡ (cache_at p.caches c.args.class).count = ap (λ (x : Cache). x.count) read in
-    both_ok c.refill.result _ _ (IsRefilling c.args.class p (parts_of c.refill.new.self))
+    let read = read_cache p c.args.class.number c.index.result.now c.args.class.is c.requires c.index.ensures in
+    let count : c.index.result.now.count ≡ (cache_at p.caches c.args.class.number).count = ap (λ (x : Cache). x.count) read in
+    both_ok c.refill.result _ _ (IsRefilling c.args.class.number p (parts_of c.refill.new.self))
     (λ some fills kept is. is_filled (omega arith) c.refill.ensures.held (record { caches = kept.caches; heads = kept.heads }) (fills is)) c.refill.ensures.order
     c.refill.ensures.fills

@@ -6,7 +6,7 @@ use Rattle.block_heap.proofs.medium.Medium.chain.Given as goal
 
 abbrev pub invariant-loop-index : goal.invariant-loop-index
 invariant-loop-index g l = record {
-  ends : l.index-end ≡ blocks_of l.class;
+  ends : l.index-end ≡ blocks_of l.class.number;
   few : l.index-end ≤ 4096;
-  chained : AreInOneChain l.geometry.capacity l.class l.d l.index (medium_view l.initial.self) (medium_view l.self);
+  chained : AreInOneChain l.geometry.capacity l.class.number l.d l.index (medium_view l.initial.self) (medium_view l.self);
 }

@@ -19,16 +19,16 @@ returns-in_err-chain-clause-others g c =
 pub returns-clause-ok : goal.returns-clause-ok
 returns-clause-ok g c =
     on_ok_weaker c.store.result
-    (divided c.args.geometry.capacity c.args.class c.args.d (medium_view c.args.self.now) (medium_view c.persist.new.self) (medium_view c.chain.new.self) (medium_view c.store.new.self)
-    c.info.result c.anchor.result c.pack.result c.requires.class c.requires.superblock c.requires.open c.info.ensures c.anchor.ensures c.pack.ensures
+    (divided c.args.geometry.capacity c.args.class.number c.args.d (medium_view c.args.self.now) (medium_view c.persist.new.self) (medium_view c.chain.new.self) (medium_view c.store.new.self)
+    c.info.result c.anchor.result c.pack.result c.args.class.is c.requires.superblock c.requires.open c.info.ensures c.anchor.ensures c.pack.ensures
     c.in_ok-persist.ensures.ok c.persist.ensures.others c.in_ok-chain.ensures.ok c.store.ensures.others)
     c.store.ensures.ok
 
 pub returns-clause-stopped : goal.returns-clause-stopped
 returns-clause-stopped g c =
     IfErr-weaker c.store.result _ _
-    (λ e. divide_halts c.args.geometry.capacity c.args.class c.args.d (medium_view c.args.self.now) (medium_view c.persist.new.self) (medium_view c.chain.new.self) (medium_view c.store.new.self)
-    c.info.result c.anchor.result c.pack.result c.requires.class c.requires.superblock c.requires.open c.info.ensures c.anchor.ensures c.pack.ensures
+    (λ e. divide_halts c.args.geometry.capacity c.args.class.number c.args.d (medium_view c.args.self.now) (medium_view c.persist.new.self) (medium_view c.chain.new.self) (medium_view c.store.new.self)
+    c.info.result c.anchor.result c.pack.result c.args.class.is c.requires.superblock c.requires.open c.info.ensures c.anchor.ensures c.pack.ensures
     c.in_ok-persist.ensures.ok c.persist.ensures.others c.in_ok-chain.ensures.ok c.store.ensures.others e.step)
     c.store.ensures.stopped
 

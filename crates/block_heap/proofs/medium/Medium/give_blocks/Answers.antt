@@ -7,7 +7,7 @@ use Rattle.block_heap.proofs.medium.Medium.give_blocks.Goals as goal
 
 pub given_word-given-requires-clause-max : goal.given_word-given-requires-clause-max
 given_word-given-requires-clause-max g c =
-    let few = few_blocks c.args.class c.requires.class in
+    let few = few_blocks c.args.class.number c.args.class.is in
     let is = c.blocks_of.ensures in
     omega arith
 
