@@ -174,6 +174,44 @@ fn a_block_kept_of_a_partial_superblock_leaves_the_others_chained(
     Ok(())
 }
 
+/// A root that keeps one of the four blocks or none, and what recovery leaves of anchor, lists and chain.
+const CHAINS: [((usize, u64), [(usize, u64); 5]); 4] = [
+    (
+        FIRST,
+        [
+            (1_065, 25_769_803_781),
+            (36, 1),
+            (2_864, 4_656),
+            (4_656, 6_448),
+            (6_448, 7),
+        ],
+    ),
+    (
+        SECOND,
+        [
+            (1_065, 25_769_803_777),
+            (36, 1),
+            (1_072, 4_656),
+            (4_656, 6_448),
+            (6_448, 7),
+        ],
+    ),
+    (
+        FOURTH,
+        [
+            (1_065, 25_769_803_777),
+            (36, 1),
+            (1_072, 2_864),
+            (2_864, 4_656),
+            (4_656, 7),
+        ],
+    ),
+    (
+        (52, 0),
+        [(1_064, 0), (1_065, 0), (16, 1), (36, 0), (2_864, 7)],
+    ),
+];
+
 #[test]
 fn a_superblock_is_chained_around_its_kept_blocks(rt: HostRuntime) -> Result<(), Fail> {
     let marked = |root| [
@@ -184,42 +222,7 @@ fn a_superblock_is_chained_around_its_kept_blocks(rt: HostRuntime) -> Result<(),
         (1_065, 9),
         root,
     ];
-    for (root, left) in [
-        (
-            FIRST,
-            [
-                (1_065, 25_769_803_781),
-                (36, 1),
-                (2_864, 4_656),
-                (4_656, 6_448),
-                (6_448, 7),
-            ],
-        ),
-        (
-            SECOND,
-            [
-                (1_065, 25_769_803_777),
-                (36, 1),
-                (1_072, 4_656),
-                (4_656, 6_448),
-                (6_448, 7),
-            ],
-        ),
-        (
-            FOURTH,
-            [
-                (1_065, 25_769_803_777),
-                (36, 1),
-                (1_072, 2_864),
-                (2_864, 4_656),
-                (4_656, 7),
-            ],
-        ),
-        (
-            (52, 0),
-            [(1_064, 0), (1_065, 0), (16, 1), (36, 0), (2_864, 7)],
-        ),
-    ] {
+    for (root, left) in CHAINS {
         let found = at_rest(&rt, 1, &marked(root))?;
         assert!(rt; has_words(&found, &left), "{root:?}");
     }
