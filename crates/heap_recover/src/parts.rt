@@ -1,9 +1,10 @@
 //! The blocks of a superblock, parted by whether they are kept.
 ghost use Rattle.std.specs.Prelude.{◌<◌, IfOk};
-ghost use Rattle.heap_model.specs.Sizes.{IsClass, blocks_of};
+ghost use Rattle.heap_model.specs.Sizes.{blocks_of};
 ghost use Rattle.heap_recover.specs.Marked.{IsMarked, AreParted};
 
 use filter_trace::Marks;
+use size_table::{SizeClass, blocks_of};
 use std::alloc::{AllocError, Global};
 use super_block::{Block, Geometry, block_at};
 
@@ -21,17 +22,16 @@ pub fn part_blocks(
     alloc: Global,
     geometry: &Geometry,
     d: u64,
-    class: u8,
+    class: SizeClass,
     marks: &Marks,
 ) -> Result<SuperblockBlocks, AllocError>
-    requires superblock { d < geometry.now.capacity }
-    requires class { IsClass class }
-    ensures ok { IfOk result (λ parts. AreParted (IsMarked marks.now) geometry.now.capacity class d
-        (blocks_of class) parts.held.items parts.spares.items) }
+    requires { d < geometry.now.capacity }
+    ensures ok { IfOk result (λ parts. AreParted (IsMarked marks.now) geometry.now.capacity class.number d
+        (blocks_of class.number) parts.held.items parts.spares.items) }
 {
     let mut held = Vec::new(alloc);
     let mut spares = Vec::new(alloc);
-    for index in 0..size_table::blocks_of(class) {
+    for index in 0..blocks_of(class.number) {
         let block = block_at(geometry, d, index, class);
         if marks.holds(block) {
             held.push(block)?;

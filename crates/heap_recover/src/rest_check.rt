@@ -1,11 +1,12 @@
 //! A plain slow check of what a heap at rest is: nothing of recovery or of its proof stands in it.
-ghost use Rattle.std.specs.Prelude.{IfSome};
-ghost use Rattle.heap_model.specs.Sizes.{IsClass};
-
 use crate::Recovered;
+use anchor_word::{State, unpack};
 use region_header::read_header;
-use size_table::{blocks_of, size_of};
-use super_block::Block;
+use size_table::{SizeClass, blocks_of, size_of};
+use super_block::{
+    Block, CAPACITY_WORD, DESCRIPTOR_WORDS, FIXED_WORDS, HEAD_WORD, Info, LISTS, SUPERBLOCK_WORDS,
+    USED_WORD, WORD_BYTES,
+};
 
 fn word(words: &[u64], at: u64) -> u64 {
     words.get(at as usize).copied().unwrap_or(0)
@@ -15,58 +16,60 @@ fn word(words: &[u64], at: u64) -> u64 {
 fn descriptor(words: &[u64], d: u64, at: u64) -> u64 {
     word(
         words,
-        d.wrapping_mul(8).wrapping_add(1_064).wrapping_add(at),
+        d.wrapping_mul(DESCRIPTOR_WORDS)
+            .wrapping_add(FIXED_WORDS)
+            .wrapping_add(at),
     )
 }
 
 /// The first word of superblock d of an image of this capacity.
 pub fn start(capacity: u64, d: u64) -> u64 {
     capacity
-        .wrapping_mul(8)
-        .wrapping_add(d.wrapping_mul(8_192))
-        .wrapping_add(1_064)
+        .wrapping_mul(DESCRIPTOR_WORDS)
+        .wrapping_add(d.wrapping_mul(SUPERBLOCK_WORDS))
+        .wrapping_add(FIXED_WORDS)
 }
 
 // The class for which superblock d has been taken, if for one.
-fn class_in(words: &[u64], d: u64) -> Option<u8>
-    ensures { IfSome result IsClass }
-{
-    let info = descriptor(words, d, 0);
-    if 1 <= info && info <= 20 {
-        Some(info as u8)
-    } else {
-        None
+fn class_in(words: &[u64], d: u64) -> Option<SizeClass> {
+    match Info::unpack(descriptor(words, d, 0)) {
+        Info::Class(class) => Some(class),
+        _ => None,
     }
 }
 
+// The words of a block of the class.
+fn words_of(class: SizeClass) -> u64 {
+    size_of(class.number) / WORD_BYTES
+}
+
 // Whether a block of the class begins at the word, in superblock d.
-fn begins_block(words: &[u64], d: u64, class: u8, at: u64) -> bool
-    requires { IsClass class }
-{
-    let size = size_of(class) / 8;
-    let offset = at.wrapping_sub(start(word(words, 2), d));
-    offset.checked_rem(size) == Some(0) && offset < size.wrapping_mul(blocks_of(class))
+fn begins_block(words: &[u64], d: u64, class: SizeClass, at: u64) -> bool {
+    let size = words_of(class);
+    let offset = at.wrapping_sub(start(word(words, CAPACITY_WORD), d));
+    offset.checked_rem(size) == Some(0) && offset < size.wrapping_mul(blocks_of(class.number))
 }
 
 // Whether the image has this block.
 fn is_block(words: &[u64], block: &Block) -> bool {
-    let capacity = word(words, 2);
-    let d = block.first_word.wrapping_sub(start(capacity, 0)) / 8_192;
-    let used = word(words, 8);
+    let capacity = word(words, CAPACITY_WORD);
+    let d = block.first_word.wrapping_sub(start(capacity, 0)) / SUPERBLOCK_WORDS;
+    let used = word(words, USED_WORD);
     if d >= used {
         return false;
     }
-    if let Some(class) = class_in(words, d) {
-        return block.words == size_of(class) / 8 && begins_block(words, d, class, block.first_word);
+    match Info::unpack(descriptor(words, d, 0)) {
+        Info::Nothing => false,
+        Info::Class(class) => {
+            block.words == words_of(class) && begins_block(words, d, class, block.first_word)
+        }
+        Info::Large(count) => {
+            block.first_word == start(capacity, d)
+                && block.words == count.wrapping_mul(SUPERBLOCK_WORDS)
+                && count <= used.wrapping_sub(d)
+                && (1..count).all(|i| descriptor(words, d.wrapping_add(i), 0) == 0)
+        }
     }
-    let info = descriptor(words, d, 0);
-    let count = info / 256;
-    info % 256 == 255
-        && block.first_word == start(capacity, d)
-        && block.words == count.wrapping_mul(8_192)
-        && 1 <= count
-        && count <= used.wrapping_sub(d)
-        && (1..count).all(|i| descriptor(words, d.wrapping_add(i), 0) == 0)
 }
 
 // Whether the held blocks are blocks of the image, from the lowest to the highest.
@@ -83,14 +86,14 @@ fn are_held(words: &[u64], held: &[Block]) -> bool {
 
 // How often the list has superblock d, or more than once where its numbers do not ascend to a 0.
 fn times_listed(words: &[u64], list: u64, d: u64) -> u64 {
-    let mut number = word(words, list.wrapping_add(16));
+    let mut number = word(words, list.wrapping_add(HEAD_WORD));
     let mut last = 0;
     let mut times = 0u64;
-    for _ in 0..word(words, 2) {
+    for _ in 0..word(words, CAPACITY_WORD) {
         if number == 0 {
             return times;
         }
-        if number <= last || number > word(words, 8) {
+        if number <= last || number > word(words, USED_WORD) {
             return 2;
         }
         if number.wrapping_sub(1) == d {
@@ -102,20 +105,20 @@ fn times_listed(words: &[u64], list: u64, d: u64) -> u64 {
     if number == 0 { times } else { 2 }
 }
 
-// Whether superblock d is in this list alone, or in none at 99.
+// Whether superblock d is in this list alone, or in none at `LISTS`.
 fn is_listed_in(words: &[u64], list: u64, d: u64) -> bool {
-    (0..21u64).all(|other| times_listed(words, other, d) == u64::from(other == list))
+    (0..LISTS).all(|other| times_listed(words, other, d) == u64::from(other == list))
 }
 
 // Whether the anchor of superblock d leads along ascending blocks of the class that are not held.
-fn is_chained(words: &[u64], held: &[Block], d: u64, class: u8) -> bool
-    requires { IsClass class }
-{
-    let anchor = descriptor(words, d, 1);
-    let first = (anchor / 4 % 2_147_483_648).wrapping_mul(size_of(class) / 8);
-    let mut at = start(word(words, 2), d).wrapping_add(first);
+fn is_chained(words: &[u64], held: &[Block], d: u64, class: SizeClass) -> bool {
+    let Some(anchor) = unpack(descriptor(words, d, 1)) else {
+        return false;
+    };
+    let first = anchor.first.wrapping_mul(words_of(class));
+    let mut at = start(word(words, CAPACITY_WORD), d).wrapping_add(first);
     let mut last = 0;
-    for _ in 0..anchor / 8_589_934_592 {
+    for _ in 0..anchor.count {
         let is_free = begins_block(words, d, class, at)
             && !held.iter().any(|block| block.first_word == at);
         if at <= last || !is_free {
@@ -130,42 +133,45 @@ fn is_chained(words: &[u64], held: &[Block], d: u64, class: u8) -> bool
 // Whether superblock d, which has been taken, is as in a heap at rest: each of its blocks is held,
 // or in its chain.
 fn is_right(words: &[u64], held: &[Block], d: u64) -> bool {
-    let begin = start(word(words, 2), d);
-    let end = begin.wrapping_add(8_192);
-    let anchor = descriptor(words, d, 1);
+    let begin = start(word(words, CAPACITY_WORD), d);
+    let end = begin.wrapping_add(SUPERBLOCK_WORDS);
+    let Some(anchor) = unpack(descriptor(words, d, 1)) else {
+        return false;
+    };
+    let is_full = anchor.state == State::Full && anchor.first == 0 && anchor.count == 0;
     let inside = held
         .iter()
         .filter(|block| block.first_word < end
             && begin < block.first_word.wrapping_add(block.words))
         .count() as u64;
     if inside == 0 {
-        return descriptor(words, d, 0) == 0 && anchor == 0 && is_listed_in(words, 0, d);
+        return (0..2u64).all(|at| descriptor(words, d, at) == 0) && is_listed_in(words, 0, d);
     }
     let Some(class) = class_in(words, d) else {
-        return anchor == 2 && is_listed_in(words, 99, d);
+        return is_full && is_listed_in(words, LISTS, d);
     };
-    let free = blocks_of(class).wrapping_sub(inside);
+    let free = blocks_of(class.number).wrapping_sub(inside);
     if free == 0 {
-        return anchor == 2 && is_listed_in(words, 99, d);
+        return is_full && is_listed_in(words, LISTS, d);
     }
-    anchor % 4 == 1
-        && anchor / 8_589_934_592 == free
-        && is_listed_in(words, u64::from(class), d)
+    anchor.state == State::Partial
+        && anchor.count == free
+        && is_listed_in(words, u64::from(class.number), d)
         && is_chained(words, held, d, class)
 }
 
 // Whether superblock d, which has not been taken, is so: its descriptor is clear, and in no list.
 fn is_untaken(words: &[u64], d: u64) -> bool {
-    (0..3u64).all(|at| descriptor(words, d, at) == 0) && is_listed_in(words, 99, d)
+    (0..3u64).all(|at| descriptor(words, d, at) == 0) && is_listed_in(words, LISTS, d)
 }
 
 /// Whether what recovery gave back is a heap at rest that has been opened.
 pub fn is_at_rest(recovered: &Recovered) -> bool {
     let words = recovered.heap.words();
     let held = recovered.heap.held();
-    let used = word(words, 8);
+    let used = word(words, USED_WORD);
     read_header(words).is_ok_and(|header| !header.clean)
         && are_held(words, held)
         && (0..used).all(|d| is_right(words, held, d))
-        && (used..word(words, 2)).all(|d| is_untaken(words, d))
+        && (used..word(words, CAPACITY_WORD)).all(|d| is_untaken(words, d))
 }

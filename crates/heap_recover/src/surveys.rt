@@ -45,7 +45,7 @@ pub fn survey_superblock(
         Info::Nothing => Ok(Survey::without_blocks(alloc, Role::Free, end)),
         Info::Class(class) => {
             let parts = part_blocks(alloc, geometry, d, class, marks)?;
-            Ok(survey_parts(alloc, class, parts, end))
+            Ok(survey_parts(alloc, class.number, parts, end))
         }
         Info::Large(count) => {
             if count <= words[USED_WORD as usize] - d {

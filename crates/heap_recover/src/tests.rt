@@ -2,18 +2,17 @@
 ghost use Rattle.std.specs.Prelude.{◌≡◌, ◌<◌, length, slice_get, IfOk};
 ghost use Rattle.std.specs.List.{All};
 ghost use Rattle.heap_model.specs.Geometry.{roots};
-ghost use Rattle.heap_model.specs.Sizes.{IsClass};
 ghost use Rattle.heap_recover.specs.PairLinks.{one_link};
 
 use super::*;
 use crate::rest_check::{is_at_rest, start};
 use filter_trace::Filter;
 use heap_model::BadHeader;
-use size_table::{blocks_of, size_of};
+use size_table::{SizeClass, blocks_of, size_of};
 use std::alloc::{AllocError, Global};
 use std::process::Abort;
 use std::test::Fail;
-use super_block::{Block, CLEAN, MAGIC, VERSION};
+use super_block::{Block, CLEAN, LAST_CLASS, MAGIC, VERSION, WORD_BYTES};
 
 /// Pairs, whose first link is in word 0 and leads to such a pair again (kind 2), or whose second is
 /// in word 2 and leads to a block without links (kind 1).
@@ -338,24 +337,23 @@ fn chained(
     alloc: Global,
     capacity: u64,
     superblocks: u64,
-    class: u8,
+    class: SizeClass,
     first: u64,
     step: u64,
-) -> Result<(Vec<(usize, u64)>, usize), AllocError>
-    requires { IsClass class }
-{
+) -> Result<(Vec<(usize, u64)>, usize), AllocError> {
     let mut words = Vec::new(alloc);
     for d in 0..capacity {
         let info = d.wrapping_mul(8).wrapping_add(1_064);
-        words.push((info as usize, u64::from(class)))?;
+        words.push((info as usize, u64::from(class.number)))?;
     }
     let mut held = 0usize;
     let mut link = 40;
     for d in 0..superblocks {
         let mut index = first;
-        for _ in 0..blocks_of(class) {
-            if index < blocks_of(class) {
-                let at = start(capacity, d).wrapping_add(index.wrapping_mul(size_of(class) / 8));
+        for _ in 0..blocks_of(class.number) {
+            if index < blocks_of(class.number) {
+                let within = index.wrapping_mul(size_of(class.number) / WORD_BYTES);
+                let at = start(capacity, d).wrapping_add(within);
                 let pointer = at.wrapping_mul(8).wrapping_add(0x5250_0000_0000_0000);
                 words.push((link as usize, pointer))?;
                 link = at;
@@ -369,8 +367,9 @@ fn chained(
 
 #[test]
 fn superblocks_of_every_class_are_left_at_rest(rt: HostRuntime) -> Result<(), Fail> {
-    for class in 1..=20u8 {
-        let last = blocks_of(class).wrapping_sub(1);
+    for number in 1..=LAST_CLASS as u8 {
+        let class = SizeClass::new(number);
+        let last = blocks_of(number).wrapping_sub(1);
         for (superblocks, first, step) in [
             (1, 0, 5_000),
             (1, last, 5_000),
@@ -386,7 +385,7 @@ fn superblocks_of_every_class_are_left_at_rest(rt: HostRuntime) -> Result<(), Fa
             assert_eq!(rt;
                 found.heap.held().len(),
                 held,
-                "{class}: {superblocks}, {first}, {step}"
+                "{number}: {superblocks}, {first}, {step}"
             );
         }
     }
@@ -401,6 +400,7 @@ fn images_of_every_size_are_left_at_rest(rt: HostRuntime) -> Result<(), Fail> {
         (256, 255, 12, 3, 5_610),
         (31, 30, 2, 1, 61_440),
     ] {
+        let class = SizeClass::new(class);
         let (words, _) = chained(rt.alloc(), capacity, superblocks, class, 0, step)?;
         let found = at_rest(&rt, capacity as usize, &words)?;
         assert_eq!(rt; found.heap.held().len(), held, "of {capacity}");

@@ -40,9 +40,9 @@ returns-in_ok-parts-in-Class c =
     let kept = IsMarked c.args.marks.now in
     let info = ap image (sym c.info.ensures) ∙ c.in-Class.ensures.0 in
     let parts = c.in_ok-parts-in-Class.parts in
-    let parted = subst (λ n. AreParted kept n c.in-Class.class c.args.d (blocks_of c.in-Class.class) parts.held.items parts.spares.items) c.requires.capacity c.in_ok-parts-in-Class.ensures.ok in
+    let parted = subst (λ n. AreParted kept n c.in-Class.class.number c.args.d (blocks_of c.in-Class.class.number) parts.held.items parts.spares.items) c.requires.capacity c.in_ok-parts-in-Class.ensures.ok in
     record {
-      ok = class_survey (layout_of image) kept c.requires.keeps c.args.d c.args.end c.in-Class.class c.requires.taken c.in-Class.ensures.1 info c.requires.goes_on
+      ok = class_survey (layout_of image) kept c.requires.keeps c.args.d c.args.end c.in-Class.class.number c.requires.taken c.in-Class.ensures.1 info c.requires.goes_on
           parts.held.items parts.spares.items parted c.survey_parts.result c.survey_parts.ensures.role c.survey_parts.ensures.held c.survey_parts.ensures.end;
     }
 
