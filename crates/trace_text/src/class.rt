@@ -1,15 +1,14 @@
 //! The blocks of a class.
 ghost use Rattle.std.specs.Prelude.{◌≡◌, ◌≤◌};
-ghost use Rattle.heap_model.specs.Sizes.{IsClass, words_of_class};
+ghost use Rattle.heap_model.specs.Sizes.{words_of_class};
 
-use size_table::size_of;
+use size_table::{SizeClass, size_of};
 use super_block::WORD_BYTES;
 
 /// The words of a block of the class.
-pub(crate) fn words_of(class: u8) -> u64
-    requires { IsClass class }
-    ensures words { result ≡ words_of_class class }
+pub(crate) fn words_of(class: SizeClass) -> u64
+    ensures words { result ≡ words_of_class class.number }
     ensures some { 1 ≤ result }
 {
-    size_of(class) / WORD_BYTES
+    size_of(class.number) / WORD_BYTES
 }

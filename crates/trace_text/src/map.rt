@@ -4,12 +4,12 @@ ghost use Rattle.std.specs.String.{string_bytes};
 ghost use Rattle.std.specs.List.{AllWithin};
 ghost use Rattle.heap_model.specs.declared.block.Block.{Block};
 ghost use Rattle.heap_model.specs.Header.{IsWellFormed, capacity_of, used_of};
-ghost use Rattle.heap_model.specs.Sizes.{IsClass};
 ghost use Rattle.trace_text.specs.HeapMap.{AreInOrder, begins_in, held_indexes, first_of, class_use, inside_use, line_of, superblock_line, used_line, map_of};
 
 use crate::class::words_of;
 use crate::ranges::write_ranges;
 use region_header::Bytes;
+use size_table::SizeClass;
 use std::alloc::{AllocError, Global};
 use super_block::{Block, CAPACITY_WORD, Geometry, Info, Ready, SUPERBLOCK_WORDS, USED_WORD};
 
@@ -84,19 +84,19 @@ fn write_superblock_line(
 fn write_class_line(
     text: &mut String,
     geometry: Geometry,
-    class: u8,
+    class: SizeClass,
     held: &[Block],
     d: u64,
 ) -> Result<(), AllocError>
     requires superblock { d < geometry.capacity }
-    requires class { IsClass class }
     requires in_order { AreInOrder held.now }
     ensures ok { OnOk result (string_bytes text.new
-        ≡ string_bytes text.old ++ line_of d (class_use geometry.capacity class held.now d)) }
+        ≡ string_bytes text.old ++ line_of d (class_use geometry.capacity class.number held.now d)) }
 {
     let alloc = *text.allocator();
     let indexes = indexes_in(alloc, geometry, class, held, d)?;
-    write!(text, "sb {d} class {class} held")?;
+    let number = class.number;
+    write!(text, "sb {d} class {number} held")?;
     write_ranges(text, &indexes)?;
     writeln!(text)
 }
@@ -105,15 +105,14 @@ fn write_class_line(
 fn indexes_in(
     alloc: Global,
     geometry: Geometry,
-    class: u8,
+    class: SizeClass,
     held: &[Block],
     d: u64,
 ) -> Result<Vec<u64>, AllocError>
     requires superblock { d < geometry.capacity }
-    requires class { IsClass class }
     requires in_order { AreInOrder held.now }
     ensures ok { IfOk result (λ indexes.
-        indexes.items ≡ held_indexes geometry.capacity class d held.now) }
+        indexes.items ≡ held_indexes geometry.capacity class.number d held.now) }
 {
     let start = geometry.start(d);
     let words = words_of(class);

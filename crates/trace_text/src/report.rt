@@ -3,14 +3,13 @@ ghost use Rattle.std.specs.Prelude.{◌≡◌, ◌≤◌, ◌*◌, ◌^◌, ◌<
 ghost use Rattle.std.specs.String.{string_bytes};
 ghost use Rattle.std.specs.List.{flat_map, range_with_len};
 ghost use Rattle.heap_model.specs.Geometry.{largest_capacity, superblock_words};
-ghost use Rattle.heap_model.specs.Sizes.{IsClass};
 ghost use Rattle.trace_text.specs.Report.{classes, heap_line_of, count_of, count_line, class_line, large_line};
 ghost use Rattle.trace_text.specs.Keys.{IsReport, WritesKeys};
 
 use crate::class::words_of;
 use crate::keys::write_keys;
 use region_header::Bytes;
-use size_table::size_of;
+use size_table::{SizeClass, size_of};
 use std::alloc::{AllocError, Global};
 use std::collections::BTreeMap;
 use super_block::{Block, LAST_CLASS, SUPERBLOCK_WORDS};
@@ -84,17 +83,16 @@ fn write_class_lines(text: &mut String, held: &[Block]) -> Result<(), AllocError
         ≡ string_bytes text.old ++ flat_map (class_line held.now) classes) }
 {
     for class in 1..=LAST_CLASS as u8 {
-        write_class_line(text, held, class)?;
+        write_class_line(text, held, SizeClass::new(class))?;
     }
     Ok(())
 }
 
-fn write_class_line(text: &mut String, held: &[Block], class: u8) -> Result<(), AllocError>
-    requires { IsClass class }
+fn write_class_line(text: &mut String, held: &[Block], class: SizeClass) -> Result<(), AllocError>
     ensures ok { OnOk result
-        (string_bytes text.new ≡ string_bytes text.old ++ class_line held.now class) }
+        (string_bytes text.new ≡ string_bytes text.old ++ class_line held.now class.number) }
 {
-    let bytes = size_of(class);
+    let bytes = size_of(class.number);
     let count = count_of(held, words_of(class));
     if count == 0 {
         return Ok(());

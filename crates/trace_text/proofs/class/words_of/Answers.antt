@@ -6,6 +6,6 @@ use Rattle.trace_text.proofs.class.words_of.Goals as goal
 
 pub returns : goal.returns
 returns c =
-    let same : c.size_of.result / 8 ≡ words_of_class c.args.class = ap (λ n. n / 8) c.size_of.ensures ∙ words_from_size c.args.class c.requires in
-    let two = two_words c.args.class c.requires in
+    let same : c.size_of.result / 8 ≡ words_of_class c.args.class.number = ap (λ n. n / 8) c.size_of.ensures ∙ words_from_size c.args.class.number c.args.class.is in
+    let two = two_words c.args.class.number c.args.class.is in
     record { words = same; some = omega (arith, same, two) }

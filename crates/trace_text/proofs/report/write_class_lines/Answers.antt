@@ -8,7 +8,8 @@ use Rattle.trace_text.proofs.report.write_class_lines.Goals as goal
 pub loop-class-preserved : goal.loop-class-preserved
 loop-class-preserved c =
     line_more (class_line c.args.held.now) 1 (c.loop-class.class - 1) (c.loop-class.class + 1 - 1) c.loop-class.class _ _ _
-    (omega arith) (omega arith) c.loop-class.invariant c.in_ok-write_class_line.ensures.ok
+    (omega arith) (omega arith) c.loop-class.invariant
+    (c.in_ok-write_class_line.ensures.ok ∙ ap (λ n. string_bytes c.loop-class.text ++ class_line c.args.held.now n) c.new.ensures)
 
 pub returns : goal.returns
 unfolding classes
