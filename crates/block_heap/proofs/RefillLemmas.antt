@@ -19,7 +19,8 @@ use Rattle.block_heap.specs.declared.cache.Cache.{Cache}
 use Rattle.block_heap.specs.declared.held.HeldBlocks.{HeldBlocks}
 use Rattle.block_heap.specs.declared.lists.Popped.{Popped}
 use Rattle.heap_seat.specs.declared.look.Look.{Look}
-use Rattle.block_heap.specs.Links.{link_of, IsPopped}
+use Rattle.super_block.specs.Links.{link_of}
+use Rattle.block_heap.specs.Links.{IsPopped}
 use Rattle.block_heap.specs.Medium.{StoresOnly}
 use Rattle.block_heap.specs.Parts.{Parts, image_of, held_in, cache_at}
 use Rattle.block_heap.specs.Running.{IsRunning, IsCacheOf, KnowsSizes, HasDurableInfos, LeavesHeld, MakesLooks}

@@ -1,16 +1,12 @@
 -- Links to descriptors, and what pops and pushes do.
-use Rattle.std.specs.Prelude.{◌≡◌, ℕ, ◌+◌, ◌<◌, ◌≤◌, ◌⊎◌, ◌^◌, Option, None, Some, MatchOption, slice_set}
+use Rattle.std.specs.Prelude.{◌≡◌, ℕ, ◌+◌, ◌<◌, ◌≤◌, ◌⊎◌, ◌^◌, None, MatchOption, slice_set}
 use Rattle.heap_model.specs.Geometry.{head_word, link_word, used_word, image_words}
 use Rattle.heap_model.specs.Words.{head_of, head_first, head_pops}
+use Rattle.super_block.specs.Links.{link_of}
 use Rattle.line_memory.specs.View.{View, word_count, volatile_at, durable_at}
 use Rattle.block_heap.specs.declared.lists.Popped.{Popped}
 use Rattle.block_heap.specs.declared.superblocks.Fresh.{Fresh}
 use Rattle.block_heap.specs.Medium.{RunsWithin, StoresOnly}
-
--- the link to a descriptor: 1 more than its index, or 0 to none
-abbrev pub link_of : Option ℕ → ℕ
-link_of None = 0
-link_of (Some d) = d + 1
 
 -- a running memory with the words of a heap of so many superblocks
 pub record IsOpen (capacity : ℕ) (v : View) : Type 0 where

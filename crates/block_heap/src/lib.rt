@@ -7,7 +7,6 @@ mod anchors;
 mod arena;
 mod cache;
 mod divide;
-mod head;
 mod held;
 mod large;
 mod laws;

@@ -1,8 +1,7 @@
 //! The lists of descriptors: LIFO, linked from a counted head. Only a pop raises the count.
-use crate::head::Head;
 use crate::medium::Medium;
 use line_memory::{Chance, Stopped};
-use super_block::{Geometry, HEAD_WORD};
+use super_block::{Geometry, HEAD_WORD, ListHead};
 
 /// A descriptor that was popped, if the list had one, and the head as it was read.
 #[derive(Clone, Copy, Debug, PartialEq, Eq)]
@@ -33,7 +32,7 @@ impl<C: Chance> Medium<C> {
             (medium_view self.old) (medium_view self.new) }
     {
         let word = self.load(HEAD_WORD + list)?;
-        let head = Head::unpack(word);
+        let head = ListHead::unpack(word);
         let Some(d) = head.first else {
             return Ok(Popped {
                 head: word,
@@ -59,8 +58,8 @@ impl<C: Chance> Medium<C> {
         ensures others { StoresOnly (IsPushWord list d)
             (medium_view self.old) (medium_view self.new) }
     {
-        let head = Head::unpack(self.load(HEAD_WORD + list)?);
-        self.store(geometry.link(d), head.link())?;
+        let head = ListHead::unpack(self.load(HEAD_WORD + list)?);
+        self.store(geometry.link(d), head.link().pack())?;
         self.store(HEAD_WORD + list, head.pushed(d).pack())
     }
 }

@@ -7,7 +7,7 @@ ghost use Rattle.heap_recover.specs.Rebuilt.{IsLinked, AreListed};
 
 use crate::roles::Role;
 use std::alloc::{AllocError, Global};
-use super_block::{Geometry, HEAD_WORD, LISTS};
+use super_block::{Geometry, HEAD_WORD, LISTS, ListLink};
 
 /// Links all lists, of superblocks with these roles.
 #[tactic(auto, using(heap_model::specs::Geometry::largest_capacity_fits))]
@@ -63,7 +63,11 @@ fn link_list(words: &mut [u64], geometry: &Geometry, list: u8, ds: &[u32])
 fn number_at(ds: &[u32], i: usize) -> u64
     ensures { result ≡ number_at ds.now i }
 {
-    if i < ds.len() { ds[i] as u64 + 1 } else { 0 }
+    if i < ds.len() {
+        let next = Some(ds[i] as u64);
+        return ListLink { next }.pack();
+    }
+    ListLink { next: None }.pack()
 }
 
 /// The list that a superblock of the role is in, if any.

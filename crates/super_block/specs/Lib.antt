@@ -1,3 +1,4 @@
 pub mod Info
+pub mod Links
 pub mod Division
 pub mod Contents

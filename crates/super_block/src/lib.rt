@@ -7,6 +7,7 @@ mod geometry;
 mod info;
 mod laws;
 mod layout;
+mod list_words;
 mod naming;
 mod ready;
 
@@ -22,5 +23,6 @@ pub use layout::{
     LONGEST_IMAGE, MAGIC, MAGIC_WORD, ROOT_WORD, ROOTS, STATE_WORD, SUPERBLOCK_WORDS, USED_WORD,
     VERSION, VERSION_WORD, WORD_BYTES,
 };
+pub use list_words::{ListHead, ListLink};
 pub use naming::{block_at, name};
 pub use ready::{Ready, an_empty_heap_is_ready, what_recovery_leaves_is_ready};

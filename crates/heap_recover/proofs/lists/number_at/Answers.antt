@@ -1,9 +1,9 @@
-use Rattle.std.proofs.Common.{sym}
+use Rattle.std.proofs.Common.{sym, ◌∙◌}
 use Rattle.heap_recover.proofs.ListLemmas.{number_inside, number_past}
 use Rattle.heap_recover.proofs.lists.number_at.Goals as goal
 
 pub returns-then-i-ds : goal.returns-then-i-ds
-returns-then-i-ds c = sym (number_inside c.args.ds.now c.args.i c.if-i-ds.true)
+returns-then-i-ds c = c.pack.ensures ∙ sym (number_inside c.args.ds.now c.args.i c.if-i-ds.true)
 
-pub returns-else-i-ds : goal.returns-else-i-ds
-returns-else-i-ds c = sym (number_past c.args.ds.now c.args.i c.if-i-ds.false)
+pub returns : goal.returns
+returns c = c.pack-2.ensures ∙ sym (number_past c.args.ds.now c.args.i c.if-i-ds.false)
