@@ -1,13 +1,12 @@
 //! What the heap gives, what it refuses, and what a drain finds.
-ghost use Rattle.heap_model.specs.Sizes.{IsClass};
-
 use crate::fixtures::{MANY, free_at, offset_of, recovered, start};
 use block_heap::{AllocFault, Block, HeapSeat, Looks, SeqHeap, Spot, Stopped};
 use line_memory::ConstantChance;
-use size_table::{blocks_of, size_of};
+use size_table::{SizeClass, blocks_of, size_of};
 use std::alloc::{AllocError, Global};
 use std::process::Abort;
 use std::test::Fail;
+use super_block::LAST_CLASS;
 
 // Block 0 of superblock 0 of class 4, to which root 8 points, in an image of two superblocks.
 const ONE_HELD: [(usize, u64); 3] = [(8, 1), (1_064, 4), (48, 0x5250_0000_0000_21c0)];
@@ -34,7 +33,7 @@ fn what_recovery_left_free_is_drained(rt: HostRuntime) -> Result<(), Fail> {
         ([(48, 0), (3, 1), (3, 1)], 4, 2_048, 8_640, 139_648),
     ] {
         let words = [used, info, root, a, b, c];
-        assert!(rt; 1 <= class && class <= 20);
+        assert!(rt; 1 <= class && class <= LAST_CLASS as u8);
         let ready = recovered(alloc, 2, &words)?;
         let mut heap = SeqHeap::new(alloc, ready, MANY, ConstantChance(1))?;
         let mut offsets = heap.drain(alloc, class)?;
@@ -117,12 +116,14 @@ fn large_blocks_are_taken_from_those_never_taken(rt: HostRuntime) -> Result<(), 
 }
 
 /// Allocates in the class until there is no room, and gives the offsets of the blocks.
-fn filled(alloc: Global, heap: &mut SeqHeap<ConstantChance>, class: u8) -> Result<Vec<u64>, Fail>
-    requires { IsClass class }
-{
+fn filled(
+    alloc: Global,
+    heap: &mut SeqHeap<ConstantChance>,
+    class: SizeClass,
+) -> Result<Vec<u64>, Fail> {
     let mut offsets = Vec::new(alloc);
     for _ in 0..10_000 {
-        match heap.alloc(size_of(class)) {
+        match heap.alloc(size_of(class.number)) {
             Ok(b) => offsets.push(offset_of(b))?,
             Err(AllocFault::Full(_)) => return Ok(offsets),
             Err(AllocFault::Stopped(at)) => return Err(at.into()),
@@ -132,15 +133,13 @@ fn filled(alloc: Global, heap: &mut SeqHeap<ConstantChance>, class: u8) -> Resul
 }
 
 /// The offsets of all blocks of two superblocks of the class.
-fn all_offsets(alloc: Global, class: u8) -> Result<Vec<u64>, AllocError>
-    requires { IsClass class }
-{
+fn all_offsets(alloc: Global, class: SizeClass) -> Result<Vec<u64>, AllocError> {
     let mut offsets = Vec::new(alloc);
     for d in 0..2 {
         let mut offset = start(2, d).wrapping_mul(8);
-        for _ in 0..blocks_of(class) {
+        for _ in 0..blocks_of(class.number) {
             offsets.push(offset)?;
-            offset = offset.wrapping_add(size_of(class));
+            offset = offset.wrapping_add(size_of(class.number));
         }
     }
     Ok(offsets)
@@ -160,7 +159,8 @@ fn nth_freed(order: u64, nth: usize, count: usize) -> usize {
 #[test]
 fn each_class_gives_every_block_once(rt: HostRuntime) -> Result<(), Fail> {
     let alloc = rt.alloc();
-    for class in 1..=20u8 {
+    for number in 1..=LAST_CLASS as u8 {
+        let class = SizeClass::new(number);
         let all = all_offsets(alloc, class)?;
         for order in 0..3 {
             let ready = recovered(alloc, 2, &[])?;
@@ -168,14 +168,14 @@ fn each_class_gives_every_block_once(rt: HostRuntime) -> Result<(), Fail> {
             let given = filled(alloc, &mut heap, class)?;
             let mut sorted = Vec::from_slice(alloc, &given)?;
             sorted.sort()?;
-            assert_eq!(rt; sorted.as_slice(), all.as_slice(), "{class}");
+            assert_eq!(rt; sorted.as_slice(), all.as_slice(), "{number}");
             for nth in 0..given.len() {
                 let offset = given.get(nth_freed(order, nth, given.len()));
                 free_at(&mut heap, offset.copied().unwrap_or(0))?;
             }
-            let mut drained = heap.drain(alloc, class)?;
+            let mut drained = heap.drain(alloc, number)?;
             drained.sort()?;
-            assert_eq!(rt; drained.as_slice(), all.as_slice(), "{class}");
+            assert_eq!(rt; drained.as_slice(), all.as_slice(), "{number}");
         }
     }
     Ok(())
