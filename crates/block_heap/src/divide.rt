@@ -3,7 +3,7 @@ use crate::medium::Medium;
 use anchor_word::{Anchor, State, pack};
 use line_memory::{Chance, Stopped};
 use size_table::{SizeClass, blocks_of};
-use super_block::{Geometry, block_at};
+use super_block::{Geometry, Info, block_at};
 
 /// The anchor of a superblock with no free block.
 const FULL: Anchor = Anchor {
@@ -39,7 +39,7 @@ impl<C: Chance> Medium<C> {
     {
         // Durable before a block is handed out: a crash must not leave a root that leads to a block
         // of the class while the superblock has another info.
-        self.persist(geometry.info(d), class.number as u64)?;
+        self.persist(geometry.info(d), Info::Class(class).pack())?;
         self.chain(geometry, d, class)?;
         self.store(geometry.anchor(d), pack(&FULL))
     }

@@ -1,7 +1,7 @@
 //! Superblocks that are taken for the first time, and how superblocks become one large block.
 use crate::medium::Medium;
 use line_memory::{Chance, Stopped};
-use super_block::{Geometry, LARGE_INFO, LARGE_STEP, USED_WORD};
+use super_block::{Geometry, Info, USED_WORD};
 
 /// What was read of the mark of taken superblocks, and the first of those that were taken, if there
 /// was room.
@@ -66,6 +66,6 @@ impl<C: Chance> Medium<C> {
     {
         // Durable before the block is handed out: a crash must not leave a root that leads to it
         // while its first superblock has another info.
-        self.persist(geometry.info(d), LARGE_INFO + LARGE_STEP * count)
+        self.persist(geometry.info(d), Info::Large(count).pack())
     }
 }

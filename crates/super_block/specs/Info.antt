@@ -10,3 +10,9 @@ abbrev pub Says : ℕ → Info → Type 0
 Says word Nothing = (IsClass word → ⊥) × ((count : ℕ) → 1 ≤ count → word ≡ large_info count → ⊥)
 Says word (Class class) = (word ≡ class.number) × IsClass class.number
 Says word (Large count) = (1 ≤ count) × (word ≡ large_info count)
+
+-- the word that says so; of nothing, the one that a superblock has that was never taken
+abbrev pub word_of : Info → ℕ
+word_of Nothing = 0
+word_of (Class class) = class.number
+word_of (Large count) = large_info count

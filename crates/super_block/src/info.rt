@@ -8,7 +8,8 @@
 //!
 //! Any other word says nothing.
 
-ghost use Rattle.super_block.specs.Info.{Says};
+ghost use Rattle.std.specs.Prelude.{◌≡◌, ◌<◌, ◌^◌};
+ghost use Rattle.super_block.specs.Info.{Says, word_of};
 
 use crate::layout::{LARGE_INFO, LARGE_STEP, LAST_CLASS};
 use size_table::SizeClass;
@@ -36,5 +37,17 @@ impl Info {
             return Info::Large((word - LARGE_INFO) / LARGE_STEP);
         }
         Info::Nothing
+    }
+
+    /// The word that says so.
+    pub fn pack(self) -> u64
+        requires { word_of self < 2 ^ 64 }
+        ensures { result ≡ word_of self }
+    {
+        match self {
+            Info::Nothing => 0,
+            Info::Class(class) => class.number as u64,
+            Info::Large(count) => LARGE_INFO + LARGE_STEP * count,
+        }
     }
 }
