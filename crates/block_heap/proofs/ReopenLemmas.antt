@@ -12,17 +12,18 @@ use Rattle.heap_model.proofs.HeaderLemmas.{well_formed}
 use Rattle.heap_shape.specs.Draining.{IsDrainable, IsToDrain}
 use Rattle.heap_shape.proofs.RecoveredLemmas.{reached_drainable, reached_drains}
 use Rattle.line_memory.specs.View.{View, volatile_at}
+use Rattle.block_heap.specs.Closing.{IsOpened}
 use Rattle.block_heap.specs.Parts.{image_of, held_in}
 use Rattle.block_heap.specs.Reopening.{IsReopened}
 use Rattle.block_heap.specs.Requests.{IsDrainableFor, IsDrainedOf}
 use Rattle.block_heap.specs.SeqState.{SeqState}
 
+-- loads see the words that a heap was opened with
+pub opened_image : (words : List ℕ) (held : List Block) (budget : ℕ) (s : SeqState) → IsOpened words held budget s → image_of s.parts ≡ slice_index words
+opened_image words held budget s is = ap (λ (v : View). λ word. volatile_at v word) is.opens.words_are
+
 module _ (bytes : ℕ) (old : Image) (kinds : ℕ → ℕ) (links : Links) (words : List ℕ) (held : List Block) (budget : ℕ) (s : SeqState)
     (is : IsReopened bytes old kinds links words held budget s) where
-  -- loads see the words that it was opened with
-  pub image_is : image_of s.parts ≡ slice_index words
-  image_is = ap (λ (v : View). λ word. volatile_at v word) is.opened.opens.words_are
-
   capacity_is : s.parts.capacity ≡ capacity_of old
   capacity_is = is.opened.opens.capacity ∙ is.recovered.same capacity_word (in_header capacity_word (inr (inr (inl refl))))
 
@@ -36,12 +37,12 @@ module _ (bytes : ℕ) (old : Image) (kinds : ℕ → ℕ) (links : Links) (word
   reopened_drainable class =
       let here : IsDrainable (capacity_of old) (slice_index words) (held_in s.parts) class =
       reached_drainable old (slice_index words) kinds links (held_in s.parts) class is.recovered held_are (well_formed bytes old is.good).small in
-      subst (λ (image : Image). IsDrainable s.parts.capacity image (held_in s.parts) class) (sym image_is)
+      subst (λ (image : Image). IsDrainable s.parts.capacity image (held_in s.parts) class) (sym (opened_image words held budget s is.opened))
       (subst (λ n. IsDrainable n (slice_index words) (held_in s.parts) class) (sym capacity_is) here)
 
   pub reopened_drains : (class : ℕ) (b : Block) → IsDrained (layout_of old) (IsReached old kinds links) class b ↔ IsDrainedOf class s b
   reopened_drains class b =
       let here : IsDrained (layout_of old) (IsReached old kinds links) class b ↔ IsToDrain (capacity_of old) (slice_index words) (held_in s.parts) class b =
       reached_drains old (slice_index words) kinds links (held_in s.parts) class is.recovered held_are b in
-      subst (λ (image : Image). IsDrained (layout_of old) (IsReached old kinds links) class b ↔ IsToDrain s.parts.capacity image (held_in s.parts) class b) (sym image_is)
+      subst (λ (image : Image). IsDrained (layout_of old) (IsReached old kinds links) class b ↔ IsToDrain s.parts.capacity image (held_in s.parts) class b) (sym (opened_image words held budget s is.opened))
       (subst (λ n. IsDrained (layout_of old) (IsReached old kinds links) class b ↔ IsToDrain n (slice_index words) (held_in s.parts) class b) (sym capacity_is) here)

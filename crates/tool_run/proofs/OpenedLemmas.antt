@@ -7,11 +7,12 @@ use Rattle.heap_model.specs.Blocks.{Layout}
 use Rattle.heap_model.specs.Recovered.{IsFreeSuperblock, IsDrained, beside, freed, fresh}
 use Rattle.heap_shape.specs.Whole.{layout_at}
 use Rattle.heap_shape.specs.Draining.{IsDrainable}
-use Rattle.line_memory.specs.View.{View, volatile_at}
+use Rattle.line_memory.specs.View.{View}
 use Rattle.block_heap.specs.Closing.{IsOpened}
 use Rattle.block_heap.specs.Parts.{image_of, held_in}
 use Rattle.block_heap.specs.Requests.{IsDrainableFor, IsDrainedOf, Drains}
 use Rattle.block_heap.specs.SeqState.{SeqState}
+use Rattle.block_heap.proofs.ReopenLemmas.{opened_image}
 use Rattle.tool_run.specs.Recovering.{IsDrainableAtRest, IsGiven, AreGiven}
 
 -- lists with the same blocks leave the same superblocks free
@@ -30,10 +31,6 @@ same_drainable : (capacity : ℕ) (image : Image) (held other : List Block) → 
 same_drainable capacity image held other same class drainable = record { each = λ d taken none. drainable.each d taken (λ b holds part. none b ((same b).0 holds) part) }
 
 module _ (words : List ℕ) (held : List Block) (budget : ℕ) (s : SeqState) (is : IsOpened words held budget s) where
-  -- loads see the words that it was opened with
-  image_is : image_of s.parts ≡ slice_index words
-  image_is = ap (λ (v : View). λ word. volatile_at v word) is.opens.words_are
-
   -- a property of a capacity, an image and held blocks with the same members is so of what was opened
   pub drainable_opened : (class : ℕ) → IsDrainableAtRest words held class → IsDrainableFor class s
   drainable_opened class drainable =
@@ -41,12 +38,12 @@ module _ (words : List ℕ) (held : List Block) (budget : ℕ) (s : SeqState) (i
       same_drainable (capacity_of (slice_index words)) (slice_index words) held (held_in s.parts) (λ b. ((is.opens.same b).1, (is.opens.same b).0)) class drainable in
       let there : IsDrainable s.parts.capacity (slice_index words) (held_in s.parts) class =
       subst (λ n. IsDrainable n (slice_index words) (held_in s.parts) class) (sym is.opens.capacity) here in
-      subst (λ (image : Image). IsDrainable s.parts.capacity image (held_in s.parts) class) (sym image_is) there
+      subst (λ (image : Image). IsDrainable s.parts.capacity image (held_in s.parts) class) (sym (opened_image words held budget s is)) there
 
   given_at : (class : ℕ) (b : Block) → IsDrainedOf class s b ↔ IsGiven words held class b
   given_at class b =
       let layout_is : layout_at s.parts.capacity (image_of s.parts) ≡ layout_at (capacity_of (slice_index words)) (slice_index words) =
-      ap (λ n. layout_at n (image_of s.parts)) is.opens.capacity ∙ ap (λ (image : Image). layout_at (capacity_of (slice_index words)) image) image_is in
+      ap (λ n. layout_at n (image_of s.parts)) is.opens.capacity ∙ ap (λ (image : Image). layout_at (capacity_of (slice_index words)) image) (opened_image words held budget s is) in
       subst (λ (l : Layout). IsDrained l (Contains (held_in s.parts)) class b ↔ IsGiven words held class b) (sym layout_is) (
         same_drained (layout_at (capacity_of (slice_index words)) (slice_index words)) (Contains (held_in s.parts)) (Contains held) is.opens.same class b,
         same_drained (layout_at (capacity_of (slice_index words)) (slice_index words)) (Contains held) (Contains (held_in s.parts)) (λ a. ((is.opens.same a).1, (is.opens.same a).0)) class b,
