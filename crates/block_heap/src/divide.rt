@@ -48,7 +48,8 @@ impl<C: Chance> Medium<C> {
     fn chain(&mut self, geometry: Geometry, d: u64, class: SizeClass) -> Result<(), Stopped>
         requires open { IsOpen geometry.capacity (medium_view self.old) }
         requires superblock { d < geometry.capacity }
-        ensures ok { OnOk result (AreInOneChain geometry.capacity class.number d (blocks_of class.number)
+        ensures ok { OnOk result (AreInOneChain geometry.capacity class.number d
+            (blocks_of class.number)
             (medium_view self.old) (medium_view self.new)) }
         ensures stopped { IfErr result (λ e. StopsWithin e.step 4100
             (medium_view self.old) (medium_view self.new)) }

@@ -65,7 +65,8 @@ impl HeldBlocks {
     /// From now on the blocks of superblock `d`, of which none is held, have so many words.
     pub(crate) fn divide(&mut self, d: u64, words: u64)
         requires superblock { d < length self.old.words.items }
-        requires none { (mark : ℕ) → IsMarked self.old.marks.items mark → mark / superblock_marks ≢ d }
+        requires none { (mark : ℕ) → IsMarked self.old.marks.items mark
+            → mark / superblock_marks ≢ d }
         ensures held { held_of self.new ≡ held_of self.old }
         ensures words { self.new.words.items ≡ slice_set self.old.words.items d words }
         ensures start { self.new.start ≡ self.old.start }

@@ -42,7 +42,8 @@ impl<C: Chance> Arena<C> {
             (parts_of self.old) (parts_of self.new)) }
         ensures order { IfOk result (λ some. some ≡ true → FillsFrom class.number
             (parts_of self.old) (parts_of self.new)) }
-        ensures fills { OnOk result (IsRefilling class.number (parts_of self.old) (parts_of self.new)) }
+        ensures fills { OnOk result (IsRefilling class.number
+            (parts_of self.old) (parts_of self.new)) }
         ensures left { IfOk result (λ some. Spends (one_if some) class.number
             (parts_of self.old) (parts_of self.new)) }
         ensures goes { OnOk result (RunsWithin 41200
@@ -69,7 +70,8 @@ impl<C: Chance> Arena<C> {
             (parts_of self.old) (parts_of self.new)) }
         ensures order { IfOk result (λ some. OrdersPartial class.number some
             (parts_of self.old) (parts_of self.new)) }
-        ensures fills { OnOk result (IsRefilling class.number (parts_of self.old) (parts_of self.new)) }
+        ensures fills { OnOk result (IsRefilling class.number
+            (parts_of self.old) (parts_of self.new)) }
         ensures left { IfOk result (λ some. Spends (one_if some) class.number
             (parts_of self.old) (parts_of self.new)) }
         ensures goes { OnOk result (RunsWithin (8 * largest_capacity + 8)
@@ -99,7 +101,8 @@ impl<C: Chance> Arena<C> {
             (parts_of self.old) (parts_of self.new)) }
         ensures order { IfOk result (λ found. OrdersFirst class.number found
             (parts_of self.old) (parts_of self.new)) }
-        ensures fills { OnOk result (IsRefilling class.number (parts_of self.old) (parts_of self.new)) }
+        ensures fills { OnOk result (IsRefilling class.number
+            (parts_of self.old) (parts_of self.new)) }
         ensures left { IfOk result (λ found. Spends (used_up found) class.number
             (parts_of self.old) (parts_of self.new)) }
         ensures goes { OnOk result (RunsWithin 8
@@ -133,7 +136,8 @@ impl<C: Chance> Arena<C> {
             (parts_of self.old) (parts_of self.new)) }
         ensures order { IfOk result (λ some. OrdersFree class.number some
             (parts_of self.old) (parts_of self.new)) }
-        ensures fills { OnOk result (IsRefilling class.number (parts_of self.old) (parts_of self.new)) }
+        ensures fills { OnOk result (IsRefilling class.number
+            (parts_of self.old) (parts_of self.new)) }
         ensures left { IfOk result (λ some. Spends (one_if some) class.number
             (parts_of self.old) (parts_of self.new)) }
         ensures goes { OnOk result (RunsWithin 4203
@@ -163,7 +167,8 @@ impl<C: Chance> Arena<C> {
             (parts_of self.old) (parts_of self.new)) }
         ensures order { IfOk result (λ some. OrdersFresh class.number some
             (parts_of self.old) (parts_of self.new)) }
-        ensures fills { OnOk result (IsRefilling class.number (parts_of self.old) (parts_of self.new)) }
+        ensures fills { OnOk result (IsRefilling class.number
+            (parts_of self.old) (parts_of self.new)) }
         ensures left { IfOk result (λ some. Spends (one_if some) class.number
             (parts_of self.old) (parts_of self.new)) }
         ensures goes { OnOk result (RunsWithin 4204

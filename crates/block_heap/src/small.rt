@@ -97,7 +97,8 @@ impl<C: Chance> Arena<C> {
         requires { IsRunning (parts_of self.old) }
         ensures running { OnOk result (IsRunning (parts_of self.new)) }
         ensures empty { OnOk result ((cache_at (parts_of self.new).caches class.number).count ≡ 0) }
-        ensures keeps { OnOk result (KeepsAll class.number (parts_of self.old) (parts_of self.new)) }
+        ensures keeps { OnOk result (KeepsAll class.number
+            (parts_of self.old) (parts_of self.new)) }
         ensures order { OnOk result (Flushes class.number (parts_of self.old) (parts_of self.new)) }
         ensures few { (parts_of self.new).words.drawn
             ≤ (parts_of self.old).words.drawn
@@ -127,7 +128,8 @@ impl<C: Chance> Arena<C> {
         ensures words { OnOk result ((parts_of self.new).words.volatile
             ≡ (parts_of self.old).words.volatile) }
         ensures running { OnOk result (IsRunning (parts_of self.new)) }
-        ensures keeps { OnOk result (KeepsAll class.number (parts_of self.old) (parts_of self.new)) }
+        ensures keeps { OnOk result (KeepsAll class.number
+            (parts_of self.old) (parts_of self.new)) }
         ensures caches { (parts_of self.new).caches ≡ (parts_of self.old).caches }
         ensures goes { IfOk result (λ front. RunsWithin front.batch.count
             (parts_of self.old).words (parts_of self.new).words) }
@@ -172,7 +174,8 @@ impl<C: Chance> Arena<C> {
         ensures running { OnOk result (IsRunning (parts_of self.new)) }
         ensures gives { OnOk result (GivesBack class.number front
             (parts_of self.old) (parts_of self.new)) }
-        ensures order { OnOk result (GivesTo class.number front (parts_of self.old) (parts_of self.new)) }
+        ensures order { OnOk result (GivesTo class.number front
+            (parts_of self.old) (parts_of self.new)) }
         ensures goes { OnOk result (RunsWithin 6
             (parts_of self.old).words (parts_of self.new).words) }
         ensures stopped { IfErr result (λ e. StopsWithin e.step 6

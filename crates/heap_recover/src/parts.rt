@@ -26,8 +26,9 @@ pub fn part_blocks(
     marks: &Marks,
 ) -> Result<SuperblockBlocks, AllocError>
     requires { d < geometry.now.capacity }
-    ensures ok { IfOk result (λ parts. AreParted (IsMarked marks.now) geometry.now.capacity class.number d
-        (blocks_of class.number) parts.held.items parts.spares.items) }
+    ensures ok { IfOk result (λ parts. AreParted (IsMarked marks.now)
+        geometry.now.capacity class.number d (blocks_of class.number)
+        parts.held.items parts.spares.items) }
 {
     let mut held = Vec::new(alloc);
     let mut spares = Vec::new(alloc);

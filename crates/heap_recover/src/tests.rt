@@ -173,7 +173,8 @@ fn a_block_kept_of_a_partial_superblock_leaves_the_others_chained(
     Ok(())
 }
 
-/// A root that keeps one of the four blocks or none, and what recovery leaves of anchor, lists and chain.
+/// A root that keeps one of the four blocks or none, and what recovery leaves of anchor, lists and
+/// chain.
 const CHAINS: [((usize, u64), [(usize, u64); 5]); 4] = [
     (
         FIRST,
