@@ -5,7 +5,7 @@ pub mod Shown
 pub mod Seated
 pub mod Seats
 pub mod Images
-pub mod OwnedParts
+pub mod Parts
 pub mod Owned
 pub mod Changed
 pub mod Rooms
