@@ -55,9 +55,9 @@ module _ (k : Setup) (m : Memory) (views : List View) (i : ℕ) (v : View) (belo
 
   pub kept_take_fresh : (n : ℕ) → MayStep m v (TakeFresh n) → Keeps k m views i v (TakeFresh n)
   kept_take_fresh n may = exchange (used m) (seen v.seen_used)
-      (λ t. Good k (write m (place_of v (TakeFresh n)) (cond t (used m + n) (used m))) (set views i (cond t (taken_fresh v n) (record (lost v) { seen_used = None }))))
+      (λ t. Good k (write m (place_of v (TakeFresh n)) (cond t (used m + n) (used m))) (set views i (cond t (taken_fresh v n) (record (lost v (used m)) { seen_used = None }))))
       (λ same. fresh.take_fresh k m views i v below at good n may.ticket may.ready same)
-      (λ other. reads (place_of v (TakeFresh n)) _ (quiet.lost_used k m views i v below at good may.ticket may.ready.is_seen other))
+      (λ other. reads (place_of v (TakeFresh n)) _ (quiet.lost_used k m views i v below at good may.ticket (used m) may.ready.is_seen other))
 
   pub kept_keep_used : MayStep m v KeepUsed → Keeps k m views i v KeepUsed
   kept_keep_used may = fresh.keep_used k m views i v below at good may.ticket may.ready
@@ -67,21 +67,21 @@ module _ (k : Setup) (m : Memory) (views : List View) (i : ℕ) (v : View) (belo
 
   pub kept_pop : MayStep m v Pop → Keeps k m views i v Pop
   kept_pop may = exchange (head m (seen_of v.seen_head)) (seen_word v.seen_head)
-      (λ t. Good k (write m (place_of v Pop) (cond t (popped_head v) (head m (seen_of v.seen_head)))) (set views i (cond t (popped v (before (head_first (seen_word v.seen_head)))) (record (lost v) { seen_head = None }))))
+      (λ t. Good k (write m (place_of v Pop) (cond t (popped_head v) (head m (seen_of v.seen_head)))) (set views i (cond t (popped v (before (head_first (seen_word v.seen_head)))) (record (lost v (head m (seen_of v.seen_head))) { seen_head = None }))))
       (λ same. pop.pop k m views i v below at good may.ticket may.ready same)
-      (λ other. reads (place_of v Pop) _ (quiet.lost_head k m views i v below at good may.ticket may.ready.is_seen other))
+      (λ other. reads (place_of v Pop) _ (quiet.lost_head k m views i v below at good may.ticket (head m (seen_of v.seen_head)) may.ready.is_seen other))
 
   pub kept_push : (d : ℕ) → MayStep m v (Push d) → Keeps k m views i v (Push d)
   kept_push d may = exchange (head m (seen_of v.seen_head)) (seen_word v.seen_head)
-      (λ t. Good k (write m (place_of v (Push d)) (cond t (pushed_head v d) (head m (seen_of v.seen_head)))) (set views i (cond t (pushed v d) (record (lost v) { seen_head = None }))))
+      (λ t. Good k (write m (place_of v (Push d)) (cond t (pushed_head v d) (head m (seen_of v.seen_head)))) (set views i (cond t (pushed v d) (record (lost v (head m (seen_of v.seen_head))) { seen_head = None }))))
       (λ same. push.push k m views i v below at good may.ticket d may.ready same)
-      (λ other. reads (place_of v (Push d)) _ (quiet.lost_head k m views i v below at good may.ticket may.ready.is_seen other))
+      (λ other. reads (place_of v (Push d)) _ (quiet.lost_head k m views i v below at good may.ticket (head m (seen_of v.seen_head)) may.ready.is_seen other))
 
   pub kept_take_all : (d : ℕ) → MayStep m v (TakeAll d) → Keeps k m views i v (TakeAll d)
   kept_take_all d may = exchange (anchor m d) (seen_word v.seen_anchor)
-      (λ t. Good k (write m (place_of v (TakeAll d)) (cond t full_anchor (anchor m d))) (set views i (cond t (taken_all m v d) (record (lost v) { seen_anchor = None }))))
+      (λ t. Good k (write m (place_of v (TakeAll d)) (cond t full_anchor (anchor m d))) (set views i (cond t (taken_all m v d) (record (lost v (anchor m d)) { seen_anchor = None }))))
       (λ same. take_all.take_all k m views i v below at good may.ticket d may.ready same)
-      (λ other. reads (place_of v (TakeAll d)) _ (quiet.lost_anchor k m views i v below at good may.ticket may.ready.is_seen
+      (λ other. reads (place_of v (TakeAll d)) _ (quiet.lost_anchor k m views i v below at good may.ticket (anchor m d) may.ready.is_seen
       (subst (λ x. times_raw x v ≡ 0) (sym may.ready.of) (not_raw_claimed d may.ready.claimed)) (λ same. other (ap (anchor m) (sym may.ready.of) ∙ same)))) where
         not_raw_claimed : (e : ℕ) → 0 < times_classed e v.classed → times_raw e v ≡ 0
         not_raw_claimed e some = let r = total_at (times_raw e) views i v below at in let c = total_at (λ (u : View). times_classed e u.classed) views i v below at in
@@ -89,9 +89,9 @@ module _ (k : Setup) (m : Memory) (views : List View) (i : ℕ) (v : View) (belo
 
   pub kept_give : (d : ℕ) → MayStep m v (Give d) → Keeps k m views i v (Give d)
   kept_give d may = exchange (anchor m d) (seen_word v.seen_anchor)
-      (λ t. Good k (write m (place_of v (Give d)) (cond t (batch_anchor v d) (anchor m d))) (set views i (cond t (given v d) (record (lost v) { seen_anchor = None }))))
+      (λ t. Good k (write m (place_of v (Give d)) (cond t (batch_anchor v d) (anchor m d))) (set views i (cond t (given v d) (record (lost v (anchor m d)) { seen_anchor = None }))))
       (λ same. give.give k m views i v below at good may.ticket d may.ready same)
-      (λ other. reads (place_of v (Give d)) _ (quiet.lost_anchor k m views i v below at good may.ticket may.ready.is_seen
+      (λ other. reads (place_of v (Give d)) _ (quiet.lost_anchor k m views i v below at good may.ticket (anchor m d) may.ready.is_seen
       (subst (λ x. times_raw x v ≡ 0) (sym may.ready.of) not_raw) (λ same. other (ap (anchor m) (sym may.ready.of) ∙ same)))) where
         not_raw : times_raw d v ≡ 0
         not_raw = let b = first_of v.batch.blocks in let there = first_there v.batch.blocks may.ready.some in let t = total_at (times_block b) views i v below at in

@@ -216,36 +216,36 @@ module _ (k : Setup) (m : Memory) (views : List View) (i : ℕ) (v : View) (belo
         fresh_anchor true word = ap (λ t. one_if (not t)) (eq-eqb word word refl)
         fresh_anchor false word = refl
 
-  pub lost_used : IsThere v.seen_used → used m ≢ seen v.seen_used → Good k m (set views i (record (lost v) { seen_used = None }))
-  lost_used there other = quiet k m views i v (record (lost v) { seen_used = None }) below at good refl refl
+  pub lost_used : (found : ℕ) → IsThere v.seen_used → used m ≢ seen v.seen_used → Good k m (set views i (record (lost v found) { seen_used = None }))
+  lost_used found there other = quiet k m views i v (record (lost v found) { seen_used = None }) below at good refl refl
       (let s = seat.set_up in record { setup = s.setup; small = s.small; caches = s.caches; looks = s.looks; volatile = s.volatile; durable = s.durable })
       (let s = seat.knows in record { seen_head = s.seen_head; seen_used = λ e. absurd (not_there e); looked = s.looked; seen_anchor = s.seen_anchor; seen_empty = s.seen_empty; floor = s.floor })
-      (words_same k.capacity m v (record (lost v) { seen_used = None }) refl refl refl seat.words)
-      (done_tickets (record (lost v) { seen_used = None }) refl refl refl refl refl refl (omega arith))
+      (words_same k.capacity m v (record (lost v found) { seen_used = None }) refl refl refl seat.words)
+      (done_tickets (record (lost v found) { seen_used = None }) refl refl refl refl refl refl (omega arith))
       (omega arith)
       (let e = stale_used v.seen_used there other in omega arith) where
         stale_used : (s : Option ℕ) → IsThere s → used m ≢ seen s → differs s (used m) ≡ 1
         stale_used None e apart = absurd (not_there e)
         stale_used (Some word) e apart = other_one word (used m) (λ same. apart (sym same))
 
-  pub lost_head : IsThere v.seen_head → head m (seen_of v.seen_head) ≢ seen_word v.seen_head → Good k m (set views i (record (lost v) { seen_head = None }))
-  lost_head there other = quiet k m views i v (record (lost v) { seen_head = None }) below at good refl refl
+  pub lost_head : (found : ℕ) → IsThere v.seen_head → head m (seen_of v.seen_head) ≢ seen_word v.seen_head → Good k m (set views i (record (lost v found) { seen_head = None }))
+  lost_head found there other = quiet k m views i v (record (lost v found) { seen_head = None }) below at good refl refl
       (let s = seat.set_up in record { setup = s.setup; small = s.small; caches = s.caches; looks = s.looks; volatile = s.volatile; durable = s.durable })
       (let s = seat.knows in record { seen_head = λ e. absurd (not_there e); seen_used = s.seen_used; looked = s.looked; seen_anchor = s.seen_anchor; seen_empty = s.seen_empty; floor = s.floor })
-      (words_same k.capacity m v (record (lost v) { seen_head = None }) refl refl refl seat.words)
-      (done_tickets (record (lost v) { seen_head = None }) refl refl refl refl refl refl (omega arith))
+      (words_same k.capacity m v (record (lost v found) { seen_head = None }) refl refl refl seat.words)
+      (done_tickets (record (lost v found) { seen_head = None }) refl refl refl refl refl refl (omega arith))
       (omega arith)
       (let e = stale_by v.seen_head there other in omega arith) where
         stale_by : (s : Option Snapshot) → IsThere s → head m (seen_of s) ≢ seen_word s → stale_head m s ≡ 1
         stale_by None e apart = absurd (not_there e)
         stale_by (Some s) e apart = other_one s.word (head m s.of) (λ same. apart (sym same))
 
-  pub lost_anchor : IsThere v.seen_anchor → times_raw (seen_of v.seen_anchor) v ≡ 0 → anchor m (seen_of v.seen_anchor) ≢ seen_word v.seen_anchor → Good k m (set views i (record (lost v) { seen_anchor = None }))
-  lost_anchor there not_raw other = quiet k m views i v (record (lost v) { seen_anchor = None }) below at good refl refl
+  pub lost_anchor : (found : ℕ) → IsThere v.seen_anchor → times_raw (seen_of v.seen_anchor) v ≡ 0 → anchor m (seen_of v.seen_anchor) ≢ seen_word v.seen_anchor → Good k m (set views i (record (lost v found) { seen_anchor = None }))
+  lost_anchor found there not_raw other = quiet k m views i v (record (lost v found) { seen_anchor = None }) below at good refl refl
       (let s = seat.set_up in record { setup = s.setup; small = s.small; caches = s.caches; looks = s.looks; volatile = s.volatile; durable = s.durable })
       (let s = seat.knows in record { seen_head = s.seen_head; seen_used = s.seen_used; looked = s.looked; seen_anchor = λ e. absurd (not_there e); seen_empty = λ e. absurd (not_there e); floor = s.floor })
-      (words_same k.capacity m v (record (lost v) { seen_anchor = None }) refl refl refl seat.words)
-      (done_tickets (record (lost v) { seen_anchor = None }) refl refl refl refl refl refl (omega arith))
+      (words_same k.capacity m v (record (lost v found) { seen_anchor = None }) refl refl refl seat.words)
+      (done_tickets (record (lost v found) { seen_anchor = None }) refl refl refl refl refl refl (omega arith))
       (omega arith)
       (let e = stale_by v.seen_anchor there not_raw other in omega arith) where
         stale_by : (s : Option Snapshot) → IsThere s → times_raw (seen_of s) v ≡ 0 → anchor m (seen_of s) ≢ seen_word s → stale_anchor m v s ≡ 1

@@ -100,15 +100,15 @@ only_own v index (value ∷ values) = cond (nat_lt 0 (times_own v (cell_at v.set
 abbrev pub trimmed : View → View
 trimmed v = record v { volatile = only_own v 0 v.volatile; durable = only_own v 0 v.durable }
 
--- an exchange was won, or lost; the ticket is used up
+-- an exchange was won, or lost to the word that it found; the ticket is used up
 abbrev pub used_up : View → View
 used_up v = record v { ticket = None }
 
 abbrev pub won : View → View
 won v = record v { ticket = None; wins = v.wins + 1 }
 
-abbrev pub lost : View → View
-lost v = record v { ticket = None; losses = v.losses + 1 }
+abbrev pub lost : View → ℕ → View
+lost v found = record v { ticket = None; lost_to = found; losses = v.losses + 1 }
 
 -- what was seen of a shared word just now
 abbrev pub look : View → ℕ → LastLook
@@ -326,7 +326,7 @@ view_after m v (Settle word) found = record v {
   durable = learn v.durable word (m.volatile (cell_at v.setup.capacity word));
 }
 view_after m v LookUsed found = record (used_up v) { seen_used = Some found; used_look = look v found }
-view_after m v (TakeFresh n) found = cond (nat_eq found (seen v.seen_used)) (taken_fresh v n) (record (lost v) { seen_used = None })
+view_after m v (TakeFresh n) found = cond (nat_eq found (seen v.seen_used)) (taken_fresh v n) (record (lost v found) { seen_used = None })
 view_after m v KeepUsed found = record (used_up v) { floor = max v.floor (seen v.seen_used) }
 view_after m v (LookHead list) found = record (used_up v) {
   seen_head = Some (record { of = list; word = found });
@@ -335,8 +335,8 @@ view_after m v (LookHead list) found = record (used_up v) {
 }
 view_after m v LookLink found = record (used_up v) { seen_link = Some found }
 view_after m v Pop found = cond (nat_eq found (seen_word v.seen_head)) (popped v (before (head_first (seen_word v.seen_head))))
-    (record (lost v) { seen_head = None })
-view_after m v (Push d) found = cond (nat_eq found (seen_word v.seen_head)) (pushed v d) (record (lost v) { seen_head = None })
+    (record (lost v found) { seen_head = None })
+view_after m v (Push d) found = cond (nat_eq found (seen_word v.seen_head)) (pushed v d) (record (lost v found) { seen_head = None })
 view_after m v (LookAnchor d) found = record (used_up v) { seen_anchor = Some (record { of = d; word = found }) }
-view_after m v (TakeAll d) found = cond (nat_eq found (seen_word v.seen_anchor)) (taken_all m v d) (record (lost v) { seen_anchor = None })
-view_after m v (Give d) found = cond (nat_eq found (seen_word v.seen_anchor)) (given v d) (record (lost v) { seen_anchor = None })
+view_after m v (TakeAll d) found = cond (nat_eq found (seen_word v.seen_anchor)) (taken_all m v d) (record (lost v found) { seen_anchor = None })
+view_after m v (Give d) found = cond (nat_eq found (seen_word v.seen_anchor)) (given v d) (record (lost v found) { seen_anchor = None })

@@ -62,6 +62,7 @@ idle = record {
   ticket = Some 3;
   last_ticket = Some 3;
   stopped = None;
+  lost_to = 0;
   taken = 0;
   draws = 4;
   cuts = 0;
@@ -114,6 +115,9 @@ loses_take = refl
 
 pub has_lost : (seat_after memory (saw_used 0) (TakeFresh 1)).losses ≡ 1
 has_lost = refl
+
+pub has_lost_to : (seat_after memory (saw_used 0) (TakeFresh 1)).lost_to ≡ 1
+has_lost_to = refl
 
 pub keeps_used : (seat_after memory (saw_used 1) KeepUsed).floor ≡ 1
 keeps_used = refl

@@ -77,6 +77,7 @@ plain_view k held owned_roots = record {
   ticket = None;
   last_ticket = None;
   stopped = None;
+  lost_to = 0;
   taken = 0;
   draws = 0;
   cuts = 0;

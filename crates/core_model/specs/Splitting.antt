@@ -59,6 +59,7 @@ new_seat c v = record {
   ticket = None;
   last_ticket = None;
   stopped = None;
+  lost_to = 0;
   taken = 0;
   draws = 0;
   cuts = 0;

@@ -72,6 +72,8 @@ pub record View : Type 0 where
   pub ticket : Option ℕ
   pub last_ticket : Option ℕ
   pub stopped : Option ℕ
+  -- the word that the last lost exchange found; 0 before any
+  pub lost_to : ℕ
   -- counts: superblocks taken, tickets drawn, superblocks cut, exchanges won and lost, batches given, and superblocks of a class put on the list of the free ones
   pub taken : ℕ
   pub draws : ℕ

@@ -123,7 +123,7 @@ module _ (c : CoreState) (k : Setup) (views : List View) (i : ℕ) (v : View) (t
         test = eq-eqb (used (memory_in c k)) (seen v.seen_used) as_seen
 
         won_it : seat_after (memory_in c k) v (TakeFresh n) ≡ taken_fresh v n
-        won_it = pick (nat_eq (used (memory_in c k)) (seen v.seen_used)) (taken_fresh v n) (record (lost v) { seen_used = None }) test
+        won_it = pick (nat_eq (used (memory_in c k)) (seen v.seen_used)) (taken_fresh v n) (record (lost v (used (memory_in c k))) { seen_used = None }) test
 
         fresh : (d : ℕ) → u ≤ d → (j : ℕ) (s : SeatNotes) (w : View) → j < length views → get_or views j w ≡ w → IsKept c j s w → share_for j (get_or c.superblocks.items d no_superblock) ≡ share.Nothing
         fresh d low j s w b a h = let p = good.shaped.placed.one_place d in let e = as_seen in let none = below_not d (used (memory_in c k)) (omega arith) in

@@ -213,7 +213,7 @@ module _ (c : CoreState) (k : Setup) (views : List View) (i : ℕ) (v : View) (t
               test = eq-eqb (anchor (memory_in c k) d) (seen_word v.seen_anchor) as_seen
 
               seat_is : seat_after (memory_in c k) v (Give d) ≡ given v d
-              seat_is = pick (nat_eq (anchor (memory_in c k) d) (seen_word v.seen_anchor)) (given v d) (record (lost v) { seen_anchor = None }) test
+              seat_is = pick (nat_eq (anchor (memory_in c k) d) (seen_word v.seen_anchor)) (given v d) (record (lost v (anchor (memory_in c k) d)) { seen_anchor = None }) test
 
               anchor_is : left ≡ batch_anchor v d
               anchor_is = left_is ∙ ap₂ (λ a n. given_anchor a n t.batch.count (blocks_of t.batch.class)) (sym now ∙ as_seen) (index_of_first (first_is (start_word c.geometry.capacity d) refl).0)

@@ -143,7 +143,7 @@ module _ (c : CoreState) (k : Setup) (views : List View) (i : ℕ) (v : View) (t
           d_is = before_is (head_first (seen_word v.seen_head)) linked ∙ ap (λ n. head_first n - 1) word_is ∙ sym d_new
 
           seat_is : seat_after (memory_in c k) v Pop ≡ claimed base d (seen_of v.seen_head)
-          seat_is = pick (nat_eq ((memory_in c k).volatile (head_cell (seen_of v.seen_head))) (seen_word v.seen_head)) (popped v (before (head_first (seen_word v.seen_head)))) (record (lost v) { seen_head = None }) test ∙ ap (popped v) d_is
+          seat_is = pick (nat_eq ((memory_in c k).volatile (head_cell (seen_of v.seen_head))) (seen_word v.seen_head)) (popped v (before (head_first (seen_word v.seen_head)))) (record (lost v ((memory_in c k).volatile (head_cell (seen_of v.seen_head)))) { seen_head = None }) test ∙ ap (popped v) d_is
 
           left : popped_head v ≡ head_of (head_first link) (head_pops head.word + 1)
           left = ap₂ (λ a b. head_of (head_first a) (head_pops b + 1)) (ap seen saw_link) word_is
@@ -169,7 +169,7 @@ module _ (c : CoreState) (k : Setup) (views : List View) (i : ℕ) (v : View) (t
         c' = record c { words = with_item c.words at_word word; superblocks = with_item c.superblocks d (record { seat = i; share = share.Nothing }); seats = with_item c.seats i t' }
 
         won_it : seat_after (memory_in c k) v (Push d) ≡ pushed v d
-        won_it = pick (nat_eq ((memory_in c k).volatile (head_cell (seen_of v.seen_head))) (seen_word v.seen_head)) (pushed v d) (record (lost v) { seen_head = None }) test
+        won_it = pick (nat_eq ((memory_in c k).volatile (head_cell (seen_of v.seen_head))) (seen_word v.seen_head)) (pushed v d) (record (lost v ((memory_in c k).volatile (head_cell (seen_of v.seen_head)))) { seen_head = None }) test
 
         words_are : set c.words.items at_word word ≡ set c.words.items (16 + seen_of v.seen_head) (cond (nat_eq ((memory_in c k).volatile (head_cell (seen_of v.seen_head))) (seen_word v.seen_head)) (pushed_head v d) ((memory_in c k).volatile (head_cell (seen_of v.seen_head))))
         words_are = ap₂ (λ n y. set c.words.items n y) index (word_new ∙ sym (pick (nat_eq ((memory_in c k).volatile (head_cell (seen_of v.seen_head))) (seen_word v.seen_head)) (pushed_head v d) ((memory_in c k).volatile (head_cell (seen_of v.seen_head))) test

@@ -216,7 +216,7 @@ module _ (c : CoreState) (k : Setup) (views : List View) (i : ℕ) (v : View) (t
             test = eq-eqb (anchor (memory_in c k) d) (seen_word v.seen_anchor) as_seen
 
             seat_is : seat_after (memory_in c k) v (TakeAll d) ≡ taken_all (memory_in c k) v d
-            seat_is = pick (nat_eq (anchor (memory_in c k) d) (seen_word v.seen_anchor)) (taken_all (memory_in c k) v d) (record (lost v) { seen_anchor = None }) test
+            seat_is = pick (nat_eq (anchor (memory_in c k) d) (seen_word v.seen_anchor)) (taken_all (memory_in c k) v d) (record (lost v (anchor (memory_in c k) d)) { seen_anchor = None }) test
 
 -- what fits when the blocks are taken
 pub record TakeFits (c : CoreState) (d found class : ℕ) : Type 0 where

@@ -1,5 +1,6 @@
 -- What a step leaves of the seat's view.
-use Rattle.std.proofs.Common.{◌≡◌, ◌≢◌, ◌≤◌, ℕ, Bool, true, false, cond, nat_eq, nat_lt, Option, None, Some, ap, sym, subst, ◌∙◌, eq-eqb, arith}
+use Rattle.std.proofs.Common.{◌≡◌, ◌≢◌, ◌≤◌, ◌+◌, ℕ, Bool, true, false, cond, nat_eq, nat_lt, Option, None, Some, Result, Ok, Err, IfErr, ap, sym, subst, ◌∙◌, eq-eqb, arith}
+use Rattle.std.specs.Bool.{⊤}
 use Rattle.core_model.specs.declared.answer.StepAnswer.TheVariants.{Done, Stopped}
 use Rattle.core_model.specs.declared.event.Event.{Event}
 use Rattle.core_model.specs.declared.event.Event.TheVariants.{Tick, LookUsed, TakeFresh, Pop, Push, TakeAll, Give}
@@ -14,6 +15,7 @@ use Rattle.core_model.proofs.PlaceLemmas.{pick, skip, not-eq}
 use Rattle.heap_model.specs.Words.{head_first}
 use Rattle.heap_rule.specs.Parts.{cut_for}
 use Rattle.heap_rule.specs.Plays.{IsEvent, state_before, state_with}
+use Rattle.heap_rule.specs.Seated.{HasLostTo, Tells}
 use Rattle.heap_rule.specs.Shown.{CanCut, CanFree}
 use Rattle.heap_rule.proofs.ToldLemmas.{parts_alone, stop_told}
 use Rattle.heap_rule.proofs.ShiftLemmas.{cut_info, free_info}
@@ -50,34 +52,44 @@ lost_as : (w a b : View) (found seen : ℕ) → w ≡ cond (nat_eq found seen) a
 lost_as w a b found seen after other = after ∙ skip (nat_eq found seen) a b (not-eq found seen other)
 
 pub fresh_won : (n : ℕ) (v w : View) (found : ℕ) → IsEvent (TakeFresh n) v found w → found ≡ seen v.seen_used → w ≡ taken_fresh v n
-fresh_won n v w found e same = won_as w (taken_fresh v n) (record (lost v) { seen_used = None }) found (seen v.seen_used) e.after same
+fresh_won n v w found e same = won_as w (taken_fresh v n) (record (lost v found) { seen_used = None }) found (seen v.seen_used) e.after same
 
-pub fresh_lost : (n : ℕ) (v w : View) (found : ℕ) → IsEvent (TakeFresh n) v found w → found ≢ seen v.seen_used → w ≡ record (lost v) { seen_used = None }
-fresh_lost n v w found e other = lost_as w (taken_fresh v n) (record (lost v) { seen_used = None }) found (seen v.seen_used) e.after other
+pub fresh_lost : (n : ℕ) (v w : View) (found : ℕ) → IsEvent (TakeFresh n) v found w → found ≢ seen v.seen_used → w ≡ record (lost v found) { seen_used = None }
+fresh_lost n v w found e other = lost_as w (taken_fresh v n) (record (lost v found) { seen_used = None }) found (seen v.seen_used) e.after other
 
 pub pop_won : (v w : View) (found : ℕ) → IsEvent Pop v found w → found ≡ seen_word v.seen_head → w ≡ popped v (before (head_first (seen_word v.seen_head)))
-pop_won v w found e same = won_as w (popped v (before (head_first (seen_word v.seen_head)))) (record (lost v) { seen_head = None }) found (seen_word v.seen_head) e.after same
+pop_won v w found e same = won_as w (popped v (before (head_first (seen_word v.seen_head)))) (record (lost v found) { seen_head = None }) found (seen_word v.seen_head) e.after same
 
-pub pop_lost : (v w : View) (found : ℕ) → IsEvent Pop v found w → found ≢ seen_word v.seen_head → w ≡ record (lost v) { seen_head = None }
-pop_lost v w found e other = lost_as w (popped v (before (head_first (seen_word v.seen_head)))) (record (lost v) { seen_head = None }) found (seen_word v.seen_head) e.after other
+pub pop_lost : (v w : View) (found : ℕ) → IsEvent Pop v found w → found ≢ seen_word v.seen_head → w ≡ record (lost v found) { seen_head = None }
+pop_lost v w found e other = lost_as w (popped v (before (head_first (seen_word v.seen_head)))) (record (lost v found) { seen_head = None }) found (seen_word v.seen_head) e.after other
 
 pub push_won : (d : ℕ) (v w : View) (found : ℕ) → IsEvent (Push d) v found w → found ≡ seen_word v.seen_head → w ≡ pushed v d
-push_won d v w found e same = won_as w (pushed v d) (record (lost v) { seen_head = None }) found (seen_word v.seen_head) e.after same
+push_won d v w found e same = won_as w (pushed v d) (record (lost v found) { seen_head = None }) found (seen_word v.seen_head) e.after same
 
-pub push_lost : (d : ℕ) (v w : View) (found : ℕ) → IsEvent (Push d) v found w → found ≢ seen_word v.seen_head → w ≡ record (lost v) { seen_head = None }
-push_lost d v w found e other = lost_as w (pushed v d) (record (lost v) { seen_head = None }) found (seen_word v.seen_head) e.after other
+pub push_lost : (d : ℕ) (v w : View) (found : ℕ) → IsEvent (Push d) v found w → found ≢ seen_word v.seen_head → w ≡ record (lost v found) { seen_head = None }
+push_lost d v w found e other = lost_as w (pushed v d) (record (lost v found) { seen_head = None }) found (seen_word v.seen_head) e.after other
 
 pub take_all_won : (d : ℕ) (v w : View) (found : ℕ) → (e : IsEvent (TakeAll d) v found w) → found ≡ seen_word v.seen_anchor → w ≡ taken_all (memory_of v.setup.capacity e.before.words) v d
-take_all_won d v w found e same = won_as w (taken_all (memory_of v.setup.capacity e.before.words) v d) (record (lost v) { seen_anchor = None }) found (seen_word v.seen_anchor) e.after same
+take_all_won d v w found e same = won_as w (taken_all (memory_of v.setup.capacity e.before.words) v d) (record (lost v found) { seen_anchor = None }) found (seen_word v.seen_anchor) e.after same
 
-pub take_all_lost : (d : ℕ) (v w : View) (found : ℕ) → IsEvent (TakeAll d) v found w → found ≢ seen_word v.seen_anchor → w ≡ record (lost v) { seen_anchor = None }
-take_all_lost d v w found e other = lost_as w (taken_all (memory_of v.setup.capacity e.before.words) v d) (record (lost v) { seen_anchor = None }) found (seen_word v.seen_anchor) e.after other
+pub take_all_lost : (d : ℕ) (v w : View) (found : ℕ) → IsEvent (TakeAll d) v found w → found ≢ seen_word v.seen_anchor → w ≡ record (lost v found) { seen_anchor = None }
+take_all_lost d v w found e other = lost_as w (taken_all (memory_of v.setup.capacity e.before.words) v d) (record (lost v found) { seen_anchor = None }) found (seen_word v.seen_anchor) e.after other
 
 pub give_won : (d : ℕ) (v w : View) (found : ℕ) → IsEvent (Give d) v found w → found ≡ seen_word v.seen_anchor → w ≡ given v d
-give_won d v w found e same = won_as w (given v d) (record (lost v) { seen_anchor = None }) found (seen_word v.seen_anchor) e.after same
+give_won d v w found e same = won_as w (given v d) (record (lost v found) { seen_anchor = None }) found (seen_word v.seen_anchor) e.after same
 
-pub give_lost : (d : ℕ) (v w : View) (found : ℕ) → IsEvent (Give d) v found w → found ≢ seen_word v.seen_anchor → w ≡ record (lost v) { seen_anchor = None }
-give_lost d v w found e other = lost_as w (given v d) (record (lost v) { seen_anchor = None }) found (seen_word v.seen_anchor) e.after other
+pub give_lost : (d : ℕ) (v w : View) (found : ℕ) → IsEvent (Give d) v found w → found ≢ seen_word v.seen_anchor → w ≡ record (lost v found) { seen_anchor = None }
+give_lost d v w found e other = lost_as w (given v d) (record (lost v found) { seen_anchor = None }) found (seen_word v.seen_anchor) e.after other
+
+-- an exchange that is lost tells the word that it found, which the view keeps
+pub told_lost : (v w a : View) (seen found : ℕ) (result : Result ⊤ ℕ) → (found ≢ seen → w ≡ a) → a.lost_to ≡ found → a.losses ≡ v.losses + 1 → Tells seen found result
+    → IfErr result (λ word. HasLostTo seen word v w)
+told_lost v w a seen found (Ok x) after kept count told = tt
+told_lost v w a seen found (Err word) after kept count told = record {
+  other = λ same. told.1 (sym told.0 ∙ same);
+  lost_to = ap (λ (x : View). x.lost_to) (after told.1) ∙ kept ∙ sym told.0;
+  losses = ap (λ (x : View). x.losses) (after told.1) ∙ count;
+}
 
 -- a mark that is read is that of a sound state
 pub used_within : (v w : View) (found : ℕ) → IsEvent LookUsed v found w → found ≤ v.setup.capacity

@@ -41,16 +41,16 @@ pub looked_anchor : (d : ℕ) (v w : View) (found : ℕ) → IsEvent (LookAnchor
 looked_anchor d v w found e = left_as v (record (used_up v) { seen_anchor = Some (record { of = d; word = found }) }) w e.after (record { setup = refl; small = refl; large = refl; roots = refl; caches = refl; batch = refl; raw = refl; split = refl; cutting = refl; classed = refl; volatile = refl; durable = refl; floor = omega arith })
 
 pub not_taken : (n : ℕ) (v w : View) (found : ℕ) → IsEvent (TakeFresh n) v found w → found ≢ seen v.seen_used → KeepsParts v w
-not_taken n v w found e other = left_as v (record (lost v) { seen_used = None }) w (fresh_lost n v w found e other) (record { setup = refl; small = refl; large = refl; roots = refl; caches = refl; batch = refl; raw = refl; split = refl; cutting = refl; classed = refl; volatile = refl; durable = refl; floor = omega arith })
+not_taken n v w found e other = left_as v (record (lost v found) { seen_used = None }) w (fresh_lost n v w found e other) (record { setup = refl; small = refl; large = refl; roots = refl; caches = refl; batch = refl; raw = refl; split = refl; cutting = refl; classed = refl; volatile = refl; durable = refl; floor = omega arith })
 
 pub not_popped : (v w : View) (found : ℕ) → IsEvent Pop v found w → found ≢ seen_word v.seen_head → KeepsParts v w
-not_popped v w found e other = left_as v (record (lost v) { seen_head = None }) w (pop_lost v w found e other) (record { setup = refl; small = refl; large = refl; roots = refl; caches = refl; batch = refl; raw = refl; split = refl; cutting = refl; classed = refl; volatile = refl; durable = refl; floor = omega arith })
+not_popped v w found e other = left_as v (record (lost v found) { seen_head = None }) w (pop_lost v w found e other) (record { setup = refl; small = refl; large = refl; roots = refl; caches = refl; batch = refl; raw = refl; split = refl; cutting = refl; classed = refl; volatile = refl; durable = refl; floor = omega arith })
 
 pub not_pushed : (d : ℕ) (v w : View) (found : ℕ) → IsEvent (Push d) v found w → found ≢ seen_word v.seen_head → KeepsParts v w
-not_pushed d v w found e other = left_as v (record (lost v) { seen_head = None }) w (push_lost d v w found e other) (record { setup = refl; small = refl; large = refl; roots = refl; caches = refl; batch = refl; raw = refl; split = refl; cutting = refl; classed = refl; volatile = refl; durable = refl; floor = omega arith })
+not_pushed d v w found e other = left_as v (record (lost v found) { seen_head = None }) w (push_lost d v w found e other) (record { setup = refl; small = refl; large = refl; roots = refl; caches = refl; batch = refl; raw = refl; split = refl; cutting = refl; classed = refl; volatile = refl; durable = refl; floor = omega arith })
 
 pub not_taken_all : (d : ℕ) (v w : View) (found : ℕ) → IsEvent (TakeAll d) v found w → found ≢ seen_word v.seen_anchor → KeepsParts v w
-not_taken_all d v w found e other = left_as v (record (lost v) { seen_anchor = None }) w (take_all_lost d v w found e other) (record { setup = refl; small = refl; large = refl; roots = refl; caches = refl; batch = refl; raw = refl; split = refl; cutting = refl; classed = refl; volatile = refl; durable = refl; floor = omega arith })
+not_taken_all d v w found e other = left_as v (record (lost v found) { seen_anchor = None }) w (take_all_lost d v w found e other) (record { setup = refl; small = refl; large = refl; roots = refl; caches = refl; batch = refl; raw = refl; split = refl; cutting = refl; classed = refl; volatile = refl; durable = refl; floor = omega arith })
 
 pub not_given : (d : ℕ) (v w : View) (found : ℕ) → IsEvent (Give d) v found w → found ≢ seen_word v.seen_anchor → KeepsParts v w
-not_given d v w found e other = left_as v (record (lost v) { seen_anchor = None }) w (give_lost d v w found e other) (record { setup = refl; small = refl; large = refl; roots = refl; caches = refl; batch = refl; raw = refl; split = refl; cutting = refl; classed = refl; volatile = refl; durable = refl; floor = omega arith })
+not_given d v w found e other = left_as v (record (lost v found) { seen_anchor = None }) w (give_lost d v w found e other) (record { setup = refl; small = refl; large = refl; roots = refl; caches = refl; batch = refl; raw = refl; split = refl; cutting = refl; classed = refl; volatile = refl; durable = refl; floor = omega arith })

@@ -106,6 +106,12 @@ IsStore event v value = (s : HasSoundState v) (found : ℕ) → left_there (memo
 abbrev pub Tells : ℕ → ℕ → Result ⊤ ℕ → Type 0
 Tells seen found result = MatchResult result (λ _. found ≡ seen) (λ word. (word ≡ found) × (found ≢ seen))
 
+-- one more exchange was lost, to this word, which the view keeps: it is not the one that was seen
+pub record HasLostTo (seen word : ℕ) (v w : View) : Type 0 where
+  pub other : word ≢ seen
+  pub lost_to : w.lost_to ≡ word
+  pub losses : w.losses ≡ v.losses + 1
+
 -- a draw tells that a ticket is in hand, or the step at which the seat stopped
 abbrev pub TellsDraw : View → Result ⊤ Stopped → Type 0
 TellsDraw v result = MatchResult result (λ _. v.stopped ≡ None) (λ e. v.stopped ≡ Some e.step)

@@ -42,9 +42,9 @@ pub use opening::open_shared;
 pub use seat::Seat;
 pub use shared::Shared;
 pub use step_laws::{
-    a_draw_leaves_its_change_or_a_stop, a_seen_used_is_within_the_capacity,
-    a_step_of_a_seat_is_one_of_the_core, a_step_that_changes_nothing_keeps_the_parts,
-    an_exchange_is_won_or_lost,
+    a_draw_leaves_its_change_or_a_stop, a_lost_exchange_answers_the_word_that_it_found,
+    a_seen_used_is_within_the_capacity, a_step_of_a_seat_is_one_of_the_core,
+    a_step_that_changes_nothing_keeps_the_parts, an_exchange_is_won_or_lost,
 };
 pub use view_laws::{
     a_store_is_recorded, a_superblock_without_a_class_is_the_seats_alone, a_view_records_each_word,

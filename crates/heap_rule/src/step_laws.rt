@@ -1,7 +1,7 @@
 //! What a step leaves of the seat's view, as functions with nothing to run: a caller cites their
 //! clauses.
 
-ghost use Rattle.std.specs.Prelude.{◌≡◌, ◌≢◌, ◌≤◌, ℕ, Option, None, Some};
+ghost use Rattle.std.specs.Prelude.{◌≡◌, ◌≢◌, ◌≤◌, ℕ, Option, None, Some, Result, IfErr, ⊤};
 ghost use Rattle.core_model.specs.declared.answer.StepAnswer.TheVariants.{Done, Stopped};
 ghost use Rattle.core_model.specs.declared.event.Event.{Event};
 ghost use Rattle.core_model.specs.declared.event.Event.TheVariants.{Tick, LookUsed, LookHead, LookLink, LookAnchor, KeepUsed, TakeFresh, Pop, Push, TakeAll, Give};
@@ -15,6 +15,7 @@ ghost use Rattle.core_model.specs.View.{View};
 ghost use Rattle.heap_model.specs.Words.{head_first};
 ghost use Rattle.heap_rule.specs.Parts.{KeepsParts, cut_for};
 ghost use Rattle.heap_rule.specs.Plays.{IsEvent, state_before, state_with};
+ghost use Rattle.heap_rule.specs.Seated.{HasLostTo, Tells};
 ghost use Rattle.heap_rule.specs.Shown.{CanCut, CanFree};
 
 /// A draw that goes on leaves the ticket in hand and its change done; one that stops the seat
@@ -49,30 +50,50 @@ pub fn a_step_of_a_seat_is_one_of_the_core()
 {}
 
 /// An exchange of a word that is as it was seen is won, and leaves what it does; any other is lost:
-/// the ticket and the snapshot are used up, a loss is counted, and nothing else changes.
+/// the ticket and the snapshot are used up, a loss is counted with the word that was found, and
+/// nothing else changes.
 pub fn an_exchange_is_won_or_lost()
     ensures taken { (n : ℕ) (v w : View) (found : ℕ) → IsEvent (TakeFresh n) v found w
         → found ≡ seen v.seen_used → w ≡ taken_fresh v n }
     ensures not_taken { (n : ℕ) (v w : View) (found : ℕ) → IsEvent (TakeFresh n) v found w
-        → found ≢ seen v.seen_used → w ≡ record (lost v) { seen_used = None } }
+        → found ≢ seen v.seen_used → w ≡ record (lost v found) { seen_used = None } }
     ensures popped { (v w : View) (found : ℕ) → IsEvent Pop v found w
         → found ≡ seen_word v.seen_head
         → w ≡ popped v (before (head_first (seen_word v.seen_head))) }
     ensures not_popped { (v w : View) (found : ℕ) → IsEvent Pop v found w
-        → found ≢ seen_word v.seen_head → w ≡ record (lost v) { seen_head = None } }
+        → found ≢ seen_word v.seen_head → w ≡ record (lost v found) { seen_head = None } }
     ensures pushed { (d : ℕ) (v w : View) (found : ℕ) → IsEvent (Push d) v found w
         → found ≡ seen_word v.seen_head → w ≡ pushed v d }
     ensures not_pushed { (d : ℕ) (v w : View) (found : ℕ) → IsEvent (Push d) v found w
-        → found ≢ seen_word v.seen_head → w ≡ record (lost v) { seen_head = None } }
+        → found ≢ seen_word v.seen_head → w ≡ record (lost v found) { seen_head = None } }
     ensures taken_all { (d : ℕ) (v w : View) (found : ℕ) → (e : IsEvent (TakeAll d) v found w)
         → found ≡ seen_word v.seen_anchor
         → w ≡ taken_all (memory_of v.setup.capacity e.before.words) v d }
     ensures not_taken_all { (d : ℕ) (v w : View) (found : ℕ) → IsEvent (TakeAll d) v found w
-        → found ≢ seen_word v.seen_anchor → w ≡ record (lost v) { seen_anchor = None } }
+        → found ≢ seen_word v.seen_anchor → w ≡ record (lost v found) { seen_anchor = None } }
     ensures given { (d : ℕ) (v w : View) (found : ℕ) → IsEvent (Give d) v found w
         → found ≡ seen_word v.seen_anchor → w ≡ given v d }
     ensures not_given { (d : ℕ) (v w : View) (found : ℕ) → IsEvent (Give d) v found w
-        → found ≢ seen_word v.seen_anchor → w ≡ record (lost v) { seen_anchor = None } }
+        → found ≢ seen_word v.seen_anchor → w ≡ record (lost v found) { seen_anchor = None } }
+{}
+
+/// An exchange that is lost answers the word that it found itself: the view keeps that word.
+pub fn a_lost_exchange_answers_the_word_that_it_found()
+    ensures taken { (n : ℕ) (v w : View) (found : ℕ) (result : Result ⊤ ℕ)
+        → IsEvent (TakeFresh n) v found w → Tells (seen v.seen_used) found result
+        → IfErr result (λ word. HasLostTo (seen v.seen_used) word v w) }
+    ensures popped { (v w : View) (found : ℕ) (result : Result ⊤ ℕ)
+        → IsEvent Pop v found w → Tells (seen_word v.seen_head) found result
+        → IfErr result (λ word. HasLostTo (seen_word v.seen_head) word v w) }
+    ensures pushed { (d : ℕ) (v w : View) (found : ℕ) (result : Result ⊤ ℕ)
+        → IsEvent (Push d) v found w → Tells (seen_word v.seen_head) found result
+        → IfErr result (λ word. HasLostTo (seen_word v.seen_head) word v w) }
+    ensures taken_all { (d : ℕ) (v w : View) (found : ℕ) (result : Result ⊤ ℕ)
+        → IsEvent (TakeAll d) v found w → Tells (seen_word v.seen_anchor) found result
+        → IfErr result (λ word. HasLostTo (seen_word v.seen_anchor) word v w) }
+    ensures given { (d : ℕ) (v w : View) (found : ℕ) (result : Result ⊤ ℕ)
+        → IsEvent (Give d) v found w → Tells (seen_word v.seen_anchor) found result
+        → IfErr result (λ word. HasLostTo (seen_word v.seen_anchor) word v w) }
 {}
 
 /// Draws with no change, looks, lost exchanges, and keeping the mark leave the seat its parts.

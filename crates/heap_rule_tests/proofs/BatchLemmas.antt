@@ -178,8 +178,8 @@ pub given_left : (v u w : View) (d found : ℕ) → HasDrawn v u → IsEvent (Gi
 given_left v u w d found drawn event same = given_from (nat_eq (seen_word v.seen_anchor) full_anchor) v.batch.class d drawn.ticket v w drawn.went
     (give_won d u w found event same ∙ ap (λ (x : View). given x d) drawn.left)
 
-pub give_missed : (v u w : View) (d found : ℕ) → HasDrawn v u → IsEvent (Give d) u found w → found ≢ seen_word u.seen_anchor → HasLostAnchor v w
-give_missed v u w d found drawn event other = lost_as v u w drawn (give_lost d u w found event other)
+pub give_missed : (v u w : View) (d found : ℕ) {word : ℕ} → HasDrawn v u → IsEvent (Give d) u found w → (word ≡ found) × (found ≢ seen_word u.seen_anchor) → HasLostAnchor word v w
+give_missed v u w d found drawn event told = lost_as v u w found drawn told.0 (give_lost d u w found event told.1)
 
 -- of the view before the anchor was seen
 batch_gone : (v t : View) → KeepsParts v t → KeepsParts (record v { batch = no_batch }) (record t { batch = no_batch })
@@ -223,7 +223,7 @@ module _ (v t : View) (d class last found : ℕ) (batch : IsBatchOf d class last
 
   not_given_then : (refusal : NotDone) (w : View) → IsNotGiven refusal t w → IsNotGiven refusal v w
   not_given_then Nothing w none = none
-  not_given_then (Lost word) w lost = record { parts = one_more v t w seen.parts lost.parts; going = lost.going; unseen = lost.unseen; losses = lost.losses ∙ ap (λ n. n + 1) seen.losses }
+  not_given_then (Lost word) w lost = record { parts = one_more v t w seen.parts lost.parts; going = lost.going; unseen = lost.unseen; lost_to = lost.lost_to; losses = lost.losses ∙ ap (λ n. n + 1) seen.losses }
   not_given_then (Stopped e) w stop = stopped_later v t w e.step seen.parts stop
 
   pub none_given : (refusal : NotDone) (w : View) → IsNotGiven refusal t w → GivesNone last refusal v w
@@ -258,7 +258,7 @@ module _ (v t : View) (d class last found : ℕ) (batch : IsBatchOf d class last
 
     not_given_last : (refusal : NotDone) (w : View) → IsNotGiven refusal x w → IsNotGiven refusal (with_last v last first) w
     not_given_last Nothing w none = none
-    not_given_last (Lost word) w lost = record { parts = one_more (with_last v last first) x w last_kept lost.parts; going = lost.going; unseen = lost.unseen; losses = lost.losses ∙ ap (λ n. n + 1) (linked.losses ∙ seen.losses) }
+    not_given_last (Lost word) w lost = record { parts = one_more (with_last v last first) x w last_kept lost.parts; going = lost.going; unseen = lost.unseen; lost_to = lost.lost_to; losses = lost.losses ∙ ap (λ n. n + 1) (linked.losses ∙ seen.losses) }
     not_given_last (Stopped e) w stop = stopped_later (with_last v last first) x w e.step last_kept stop
 
     pub none_given_last : (refusal : NotDone) (w : View) → IsNotGiven refusal x w → GivesNone last refusal v w
@@ -272,7 +272,7 @@ module _ (v t : View) (d class last found : ℕ) (seen : HasSeenAnchor d found v
 
   not_given_later : (refusal : NotDone) (a b w : View) → KeepsParts a b → b.losses ≡ a.losses → IsNotGiven refusal b w → IsNotGiven refusal a w
   not_given_later Nothing a b w p losses none = none
-  not_given_later (Lost word) a b w p losses lost = record { parts = one_more a b w p lost.parts; going = lost.going; unseen = lost.unseen; losses = lost.losses ∙ ap (λ n. n + 1) losses }
+  not_given_later (Lost word) a b w p losses lost = record { parts = one_more a b w p lost.parts; going = lost.going; unseen = lost.unseen; lost_to = lost.lost_to; losses = lost.losses ∙ ap (λ n. n + 1) losses }
   not_given_later (Stopped e) a b w p losses stop = stopped_later a b w e.step p stop
 
   pub none_given_later : (refusal : NotDone) (w : View) → GivesNone last refusal t w → GivesNone last refusal v w

@@ -120,16 +120,17 @@ module _ (v u w : View) (d found : ℕ) (drawn : HasDrawn v u) (may : MayTakeAll
     set_up : IsSetUp u.setup u
     set_up = event.before.sound.good.set_up event.before.seat u event.before.below event.before.at
 
-pub lost_as : (v u w : View) → HasDrawn v u → w ≡ record (lost u) { seen_anchor = None } → HasLostAnchor v w
-lost_as v u w drawn after = subst (HasLostAnchor v) (sym (after ∙ ap (λ (x : View). record (lost x) { seen_anchor = None }) drawn.left)) (record {
+pub lost_as : (v u w : View) (found : ℕ) {word : ℕ} → HasDrawn v u → word ≡ found → w ≡ record (lost u found) { seen_anchor = None } → HasLostAnchor word v w
+lost_as v u w found {word} drawn told after = subst (HasLostAnchor word v) (sym (after ∙ ap (λ (x : View). record (lost x found) { seen_anchor = None }) drawn.left)) (record {
   parts = record { setup = refl; small = refl; large = refl; roots = refl; caches = refl; batch = refl; raw = refl; split = refl; cutting = refl; classed = refl; volatile = refl; durable = refl; floor = omega arith };
   going = drawn.went;
   unseen = refl;
+  lost_to = sym told;
   losses = refl;
 })
 
-pub take_lost : (v u w : View) (d found : ℕ) → HasDrawn v u → IsEvent (TakeAll d) u found w → found ≢ seen_word u.seen_anchor → HasLostAnchor v w
-take_lost v u w d found drawn event other = lost_as v u w drawn (take_all_lost d u w found event other)
+pub take_lost : (v u w : View) (d found : ℕ) {word : ℕ} → HasDrawn v u → IsEvent (TakeAll d) u found w → (word ≡ found) × (found ≢ seen_word u.seen_anchor) → HasLostAnchor word v w
+take_lost v u w d found drawn event told = lost_as v u w found drawn told.0 (take_all_lost d u w found event told.1)
 
 -- said of the view before the anchor was seen
 cache_alike : (v t : View) (d class : ℕ) (blocks : List ℕ) → KeepsParts v t
@@ -162,5 +163,5 @@ uncached_then v t d class found seen empty = ap (λ l. of_class l class) seen.pa
 
 pub none_later : (refusal : NotDone) (v t w : View) (d found : ℕ) → HasSeenAnchor d found v t → TakesNoBlocks d refusal t w → TakesNoBlocks d refusal v w
 none_later Nothing v t w d found seen free = record { parts = one_more v t w seen.parts free.parts; going = free.going; empty = free.empty }
-none_later (Lost word) v t w d found seen lost = record { parts = one_more v t w seen.parts lost.parts; going = lost.going; unseen = lost.unseen; losses = lost.losses ∙ ap (λ n. n + 1) seen.losses }
+none_later (Lost word) v t w d found seen lost = record { parts = one_more v t w seen.parts lost.parts; going = lost.going; unseen = lost.unseen; lost_to = lost.lost_to; losses = lost.losses ∙ ap (λ n. n + 1) seen.losses }
 none_later (Stopped e) v t w d found seen stop = stopped_later v t w e.step seen.parts stop

@@ -49,12 +49,13 @@ popped_left v u w list d found drawn sees event same = popped_from list v w draw
     ∙ ap (λ n. pop_of v drawn.ticket n v.seen_head) (ap (λ (s : Option Snapshot). before (head_first (seen_word s))) sees.is_seen ∙ ap before (sees.first ∙ add-one d))
     ∙ ap (pop_of v drawn.ticket d) sees.is_seen)
 
-pub head_lost : (v u w : View) (found : ℕ) → HasDrawn v u → IsEvent Pop u found w → found ≢ seen_word u.seen_head → HasLostHead v w
-head_lost v u w found drawn event other =
-    subst (HasLostHead v) (sym (pop_lost u w found event other ∙ ap (λ (x : View). record (lost x) { seen_head = None }) drawn.left)) (record {
+pub head_lost : (v u w : View) (found : ℕ) {word : ℕ} → HasDrawn v u → IsEvent Pop u found w → (word ≡ found) × (found ≢ seen_word u.seen_head) → HasLostHead word v w
+head_lost v u w found {word} drawn event told =
+    subst (HasLostHead word v) (sym (pop_lost u w found event told.1 ∙ ap (λ (x : View). record (lost x found) { seen_head = None }) drawn.left)) (record {
       parts = record { setup = refl; small = refl; large = refl; roots = refl; caches = refl; batch = refl; raw = refl; split = refl; cutting = refl; classed = refl; volatile = refl; durable = refl; floor = omega arith };
       going = drawn.went;
       unseen = refl;
+      lost_to = sym told.0;
       losses = refl;
     })
 
@@ -82,6 +83,7 @@ not_popped_later (Lost found) v t w list d seen lost = record {
   parts = one_more v t w seen.parts lost.parts;
   going = lost.going;
   unseen = lost.unseen;
+  lost_to = lost.lost_to;
   losses = lost.losses ∙ ap (λ n. n + 1) seen.losses;
 }
 not_popped_later (Stopped e) v t w list d seen stop = stopped_later v t w e.step seen.parts stop

@@ -240,12 +240,13 @@ module _ (v : View) (has : HasSoundState v) (d : ℕ) where
       going = pushed.going;
     }
 
-pub push_head_lost : (d : ℕ) (v u w : View) (found : ℕ) → HasDrawn v u → IsEvent (Push d) u found w → found ≢ seen_word u.seen_head → HasLostHead v w
-push_head_lost d v u w found drawn event other =
-    subst (HasLostHead v) (sym (push_lost d u w found event other ∙ ap (λ (x : View). record (lost x) { seen_head = None }) drawn.left)) (record {
+pub push_head_lost : (d : ℕ) (v u w : View) (found : ℕ) {word : ℕ} → HasDrawn v u → IsEvent (Push d) u found w → (word ≡ found) × (found ≢ seen_word u.seen_head) → HasLostHead word v w
+push_head_lost d v u w found {word} drawn event told =
+    subst (HasLostHead word v) (sym (push_lost d u w found event told.1 ∙ ap (λ (x : View). record (lost x found) { seen_head = None }) drawn.left)) (record {
       parts = record { setup = refl; small = refl; large = refl; roots = refl; caches = refl; batch = refl; raw = refl; split = refl; cutting = refl; classed = refl; volatile = refl; durable = refl; floor = omega arith };
       going = drawn.went;
       unseen = refl;
+      lost_to = sym told.0;
       losses = refl;
     })
 
@@ -294,6 +295,7 @@ module _ (v t x : View) (list d head first : ℕ) (first_is : first ≡ head_fir
       parts = one_more (with_link v d first) x w link_kept lost.parts;
       going = lost.going;
       unseen = lost.unseen;
+      lost_to = lost.lost_to;
       losses = lost.losses ∙ ap (λ n. n + 1) (linked.losses ∙ seen.losses);
     },
   )

@@ -38,17 +38,18 @@ pub fresh_taken : (v u w : View) (used found : ℕ) → HasDrawn v u → v.seen_
 fresh_taken v u w used found drawn mark event same =
     fresh_from v w drawn.ticket used mark drawn.went (fresh_won 1 u w found event same ∙ ap (λ (x : View). taken_fresh x 1) drawn.left)
 
-lost_from : (v w : View) (ticket : ℕ) → v.stopped ≡ None → w ≡ record (lost (drew v ticket)) { seen_used = None } → HasLostMark v w
-lost_from v w ticket going after = subst (HasLostMark v) (sym after) (record {
+lost_from : (v w : View) (ticket found : ℕ) → v.stopped ≡ None → w ≡ record (lost (drew v ticket) found) { seen_used = None } → HasLostMark found v w
+lost_from v w ticket found going after = subst (HasLostMark found v) (sym after) (record {
   parts = record { setup = refl; small = refl; large = refl; roots = refl; caches = refl; batch = refl; split = refl; cutting = refl; classed = refl; raw = refl; volatile = refl; durable = refl; floor = omega arith };
   going = going;
   unseen = refl;
+  lost_to = refl;
   losses = refl;
 })
 
-pub mark_lost : (v u w : View) (found : ℕ) → HasDrawn v u → IsEvent (TakeFresh 1) u found w → found ≢ seen u.seen_used → HasLostMark v w
-mark_lost v u w found drawn event other =
-    lost_from v w drawn.ticket drawn.went (fresh_lost 1 u w found event other ∙ ap (λ (x : View). record (lost x) { seen_used = None }) drawn.left)
+pub mark_lost : (v u w : View) (found : ℕ) {word : ℕ} → HasDrawn v u → IsEvent (TakeFresh 1) u found w → (word ≡ found) × (found ≢ seen u.seen_used) → HasLostMark word v w
+mark_lost v u w found {word} drawn event told = subst (λ n. HasLostMark n v w) (sym told.0) (
+    lost_from v w drawn.ticket found drawn.went (fresh_lost 1 u w found event told.1 ∙ ap (λ (x : View). record (lost x found) { seen_used = None }) drawn.left))
 
 -- why there is none, said of an earlier view
 pub not_taken_later : (refusal : NotDone) (v u w : View) (used : ℕ) → HasSeenMark used v u → IsNotTaken refusal u w → IsNotTaken refusal v w
@@ -61,6 +62,7 @@ not_taken_later (Lost found) v u w used seen lost = record {
   parts = one_more v u w seen.parts lost.parts;
   going = lost.going;
   unseen = lost.unseen;
+  lost_to = lost.lost_to;
   losses = lost.losses ∙ ap (λ n. n + 1) seen.losses;
 }
 not_taken_later (Stopped e) v u w used seen stop = record {

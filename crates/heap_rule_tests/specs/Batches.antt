@@ -54,7 +54,7 @@ HasGiven d class last false v w = (first : ℕ) × GivesSeen d class false (with
 -- why the batch was not given: the seat has its parts in each case
 abbrev pub IsNotGiven : NotDone → View → View → Type 0
 IsNotGiven Nothing v w = ⊥
-IsNotGiven (Lost found) v w = HasLostAnchor v w
+IsNotGiven (Lost found) v w = HasLostAnchor found v w
 IsNotGiven (Stopped e) v w = HasStoppedAt e.step v w
 
 -- the same of the whole row, by which the last block may lead to the first free one already

@@ -32,7 +32,7 @@ pub record HasFilled (d class : ℕ) (v w : View) : Type 0 where
 -- why the cache is as it was: but a seat that stopped may have claimed a superblock
 abbrev pub FillsNone : NotDone → View → View → Type 0
 FillsNone Nothing v w = IsFull v w
-FillsNone (Lost found) v w = HasLostMark v w
+FillsNone (Lost found) v w = HasLostMark found v w
 FillsNone (Stopped e) v w = w.stopped ≡ Some e.step
 
 -- each cache of each of the seats is empty

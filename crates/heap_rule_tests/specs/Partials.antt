@@ -43,15 +43,16 @@ pub record IsAllFree (d : ℕ) (v w : View) : Type 0 where
   pub going : w.stopped ≡ None
   pub empty : ShowsEmpty w d
 
--- the exchange was lost, since the anchor had changed: it must be looked at anew
-pub record HasLostAnchor (v w : View) : Type 0 where
+-- the exchange was lost to this word, since the anchor had changed: it must be looked at anew
+pub record HasLostAnchor (found : ℕ) (v w : View) : Type 0 where
   pub parts : KeepsParts v w
   pub going : w.stopped ≡ None
   pub unseen : w.seen_anchor ≡ None
+  pub lost_to : w.lost_to ≡ found
   pub losses : w.losses ≡ v.losses + 1
 
 -- why no blocks were taken: the seat has its parts in each case
 abbrev pub TakesNoBlocks : ℕ → NotDone → View → View → Type 0
 TakesNoBlocks d Nothing v w = IsAllFree d v w
-TakesNoBlocks d (Lost found) v w = HasLostAnchor v w
+TakesNoBlocks d (Lost found) v w = HasLostAnchor found v w
 TakesNoBlocks d (Stopped e) v w = HasStoppedAt e.step v w

@@ -65,17 +65,18 @@ pub record IsEmptyList (list : ℕ) (v w : View) : Type 0 where
   pub is_seen : w.seen_head ≡ list_head list head
   pub none : head_first head ≡ 0
 
--- the exchange was lost, since the head had changed: it must be looked at anew
-pub record HasLostHead (v w : View) : Type 0 where
+-- the exchange was lost to this word, since the head had changed: it must be looked at anew
+pub record HasLostHead (found : ℕ) (v w : View) : Type 0 where
   pub parts : KeepsParts v w
   pub going : w.stopped ≡ None
   pub unseen : w.seen_head ≡ None
+  pub lost_to : w.lost_to ≡ found
   pub losses : w.losses ≡ v.losses + 1
 
 -- why there is no superblock of the list: the seat has its parts in each case
 abbrev pub IsNotPoppedFrom : ℕ → NotDone → View → View → Type 0
 IsNotPoppedFrom list Nothing v w = IsEmptyList list v w
-IsNotPoppedFrom list (Lost found) v w = HasLostHead v w
+IsNotPoppedFrom list (Lost found) v w = HasLostHead found v w
 IsNotPoppedFrom list (Stopped e) v w = HasStoppedAt e.step v w
 
 abbrev pub IsNotPopped : NotDone → View → View → Type 0

@@ -63,11 +63,11 @@ pub record IsClaimOf (class d : ℕ) (v : View) : Type 0 where
 -- why it was not pushed: the seat has its parts in each case
 abbrev pub IsNotPushed : NotDone → View → View → Type 0
 IsNotPushed Nothing v w = ⊥
-IsNotPushed (Lost found) v w = HasLostHead v w
+IsNotPushed (Lost found) v w = HasLostHead found v w
 IsNotPushed (Stopped e) v w = HasStoppedAt e.step v w
 
 -- the same of the whole row, whose superblock may lead to the first of the list already
 abbrev pub PushesNone : ℕ → NotDone → View → View → Type 0
 PushesNone d Nothing v w = ⊥
-PushesNone d (Lost found) v w = (first : ℕ) × HasLostHead (with_link v d first) w
+PushesNone d (Lost found) v w = (first : ℕ) × HasLostHead found (with_link v d first) w
 PushesNone d (Stopped e) v w = HasStoppedAt e.step v w ⊎ ((first : ℕ) × HasStoppedAt e.step (with_link v d first) w)

@@ -47,21 +47,22 @@ pub record IsFull (v w : View) : Type 0 where
   pub going : w.stopped ≡ None
   pub mark : w.seen_used ≡ Some v.setup.capacity
 
--- the exchange was lost, since the mark had risen: it must be looked at anew
-pub record HasLostMark (v w : View) : Type 0 where
+-- the exchange was lost to this word, since the mark had risen: it must be looked at anew
+pub record HasLostMark (found : ℕ) (v w : View) : Type 0 where
   pub parts : KeepsParts v w
   pub going : w.stopped ≡ None
   pub unseen : w.seen_used ≡ None
+  pub lost_to : w.lost_to ≡ found
   pub losses : w.losses ≡ v.losses + 1
 
 -- why there is no superblock: the seat has its parts in each case
 abbrev pub IsNotTaken : NotDone → View → View → Type 0
 IsNotTaken Nothing v w = IsFull v w
-IsNotTaken (Lost found) v w = HasLostMark v w
+IsNotTaken (Lost found) v w = HasLostMark found v w
 IsNotTaken (Stopped e) v w = HasStoppedAt e.step v w
 
 -- the same of the whole row: a seat that stops before the mark is durable may have the superblock
 abbrev pub TakesNone : NotDone → View → View → Type 0
 TakesNone Nothing v w = IsFull v w
-TakesNone (Lost found) v w = HasLostMark v w
+TakesNone (Lost found) v w = HasLostMark found v w
 TakesNone (Stopped e) v w = HasStoppedAt e.step v w ⊎ ((d : ℕ) × HasStoppedAt e.step (with_fresh v d) w)

@@ -10,4 +10,4 @@ returns-in-Ok-clause-given c = let e = c.in-Ok.ensures.event in
 
 pub returns-in-Err-clause-refused : goal.returns-in-Err-clause-refused
 returns-in-Err-clause-refused c = let e = c.in-Err.ensures.event in
-    give_missed c.args.seat.now.view c.draw.new.seat.view c.try_give.new.self.view c.args.d e.0 c.in_ok-draw.ensures.drawn e.1 e.2.1
+    give_missed c.args.seat.now.view c.draw.new.seat.view c.try_give.new.self.view c.args.d e.0 c.in_ok-draw.ensures.drawn e.1 e.2

@@ -7,4 +7,4 @@ returns-in-Ok-clause-popped c = λ list d sees. let e = c.in-Ok.ensures.event in
 
 pub returns-in-Err-clause-refused : goal.returns-in-Err-clause-refused
 returns-in-Err-clause-refused c = λ list. let e = c.in-Err.ensures.event in
-    head_lost c.args.seat.now.view c.draw.new.seat.view c.try_pop.new.self.view e.0 c.in_ok-draw.ensures.drawn e.1 e.2.1
+    head_lost c.args.seat.now.view c.draw.new.seat.view c.try_pop.new.self.view e.0 c.in_ok-draw.ensures.drawn e.1 e.2

@@ -15,4 +15,4 @@ returns-in-Ok-clause-of_class c = let e = c.in-Ok.ensures.event in
 
 pub returns-in-Err-clause-refused : goal.returns-in-Err-clause-refused
 returns-in-Err-clause-refused c = let e = c.in-Err.ensures.event in
-    push_head_lost c.args.d c.args.seat.now.view c.draw.new.seat.view c.try_push.new.self.view e.0 c.in_ok-draw.ensures.drawn e.1 e.2.1
+    push_head_lost c.args.d c.args.seat.now.view c.draw.new.seat.view c.try_push.new.self.view e.0 c.in_ok-draw.ensures.drawn e.1 e.2

@@ -7,4 +7,4 @@ returns-in-Ok-clause-taken c = λ used mark. let e = c.in-Ok.ensures.event in
 
 pub returns-in-Err-clause-refused : goal.returns-in-Err-clause-refused
 returns-in-Err-clause-refused c = let e = c.in-Err.ensures.event in
-    mark_lost c.args.seat.now.view c.draw.new.seat.view c.try_take_fresh.new.self.view e.0 c.in_ok-draw.ensures.drawn e.1 e.2.1
+    mark_lost c.args.seat.now.view c.draw.new.seat.view c.try_take_fresh.new.self.view e.0 c.in_ok-draw.ensures.drawn e.1 e.2
