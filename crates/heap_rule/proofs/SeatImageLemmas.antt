@@ -11,7 +11,7 @@ use Rattle.core_model.specs.Guards.{IsOwn}
 use Rattle.core_model.specs.Held.{IsHeld, volatile_image, durable_image}
 use Rattle.core_model.specs.Sound.{Sound}
 use Rattle.core_model.specs.View.{Setup, View}
-use Rattle.core_model.proofs.HeaderLemmas.{header_of}
+use Rattle.core_model.proofs.HeaderLemmas.{mixture_header}
 use Rattle.core_model.proofs.HeldLemmas.{firm}
 use Rattle.core_model.proofs.PlaceLemmas.{pick}
 use Rattle.heap_rule.specs.Images.{Agrees, HasPickedRecords, HasRecorded, IsImageOf, HasFixedWords, MixesRecorded}
@@ -43,10 +43,8 @@ module _ (k : Setup) (words : List ℕ) (views : List View) (sound : Sound k wor
   mixed_fixed = record { each = opened_is }
 
   pub mixed_header : IsWellFormed (8 * length k.opened) (slice_index k.opened) → header_fault (8 * image_words k.capacity) image ≡ None
-  mixed_header good = header_of k words views sound image (λ word low. opened_is word (inl (omega arith)))
-      (elim good.state [ inl clean ↦ inl (opened_is 3 (inl (omega arith)) ∙ clean) | inr dirty ↦ inr (opened_is 3 (inl (omega arith)) ∙ dirty) ])
-      (let behind = sound.good.shaped.durable.behind in let room = sound.good.shaped.durable.room in
-      elim (either 8 (omega arith)) [ inl volatile ↦ omega (arith, volatile) | inr durable ↦ omega (arith, durable) ]) good
+  mixed_header good = mixture_header k words views sound image (λ word low other. either word (omega arith))
+      (elim good.state [ inl clean ↦ inl (opened_is 3 (inl (omega arith)) ∙ clean) | inr dirty ↦ inr (opened_is 3 (inl (omega arith)) ∙ dirty) ]) good
 
 -- one of the two
 picked : (test : Bool) (a b : ℕ) → (cond test a b ≡ a) ⊎ (cond test a b ≡ b)
