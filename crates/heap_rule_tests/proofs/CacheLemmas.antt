@@ -1,23 +1,20 @@
 -- What rows on a seat's cache leave of it.
-use Rattle.std.proofs.Common.{◌≡◌, ◌<◌, ℕ, [], ◌∷◌, ◌++◌, List, Option, None, Some, set, inl, inr, refl, ap, ap₂, sym, subst, ◌∙◌, arith}
+use Rattle.std.proofs.Common.{◌≡◌, ◌<◌, ℕ, [], ◌∷◌, ◌++◌, List, None, Some, set, inl, inr, refl, ap, ap₂, sym, subst, ◌∙◌, arith}
 use Rattle.std.proofs.lemmas.List.{get_or-set_same}
 use Rattle.heap_model.specs.Counting.{times, without}
 use Rattle.heap_model.specs.Sizes.{IsClass}
 use Rattle.core_model.specs.declared.event.Event.TheVariants.{Tick}
-use Rattle.core_model.specs.declared.event.Shift.{Shift}
 use Rattle.core_model.specs.declared.event.Shift.TheVariants.{Alloc}
-use Rattle.core_model.specs.Effects.{after_alloc, class_blocks, drew, first_of, stopped}
+use Rattle.core_model.specs.Effects.{after_alloc, class_blocks, drew, first_of}
 use Rattle.core_model.specs.View.{Setup, View, of_class}
 use Rattle.core_model.proofs.TotalLemmas.{eq-eqb-one}
 use Rattle.heap_rule.specs.Plays.{HasSoundState, IsEvent}
-use Rattle.heap_rule.proofs.LeftLemmas.{draw_done, draw_stops}
+use Rattle.heap_rule.proofs.LeftLemmas.{draw_done}
 use Rattle.heap_rule.proofs.PartLemmas.{left_as}
-use Rattle.heap_rule.proofs.ToldLemmas.{stop_told}
 use Rattle.heap_rule_tests.specs.Caches.{HasAllocated, HasFilled, FillsNone}
 use Rattle.heap_rule_tests.specs.declared.refusal.NotDone.{NotDone}
 use Rattle.heap_rule_tests.specs.declared.refusal.NotDone.TheVariants.{Nothing, Lost, Stopped}
 use Rattle.heap_rule_tests.specs.Cuts.{HasMade}
-use Rattle.heap_rule_tests.specs.Draws.{HasStoppedAt}
 use Rattle.heap_rule_tests.specs.Takes.{HasTaken, TakesNone}
 
 pub allocated : (v w : View) (class ticket : ℕ) → HasSoundState v → IsClass class → IsEvent (Tick (Some (Alloc class))) v ticket w → w.stopped ≡ None
@@ -44,28 +41,6 @@ allocated v w class ticket has is event going = let after = draw_done (Some (All
       (sym (ap (λ (u : View). of_class u.small class) after ∙ get_or-set_same v.small class (first_of (of_class v.caches class) ∷ of_class v.small class) []
       (let long = (has.sound.good.set_up has.seat v has.below has.at).small in let last = is.last in omega arith)))
       (let one = eq-eqb-one (first_of (of_class v.caches class)) (first_of (of_class v.caches class)) refl in omega arith);
-}
-
--- a draw with a change that stops the seat
-pub stopped_at : (shift : Option Shift) (v w : View) (ticket step : ℕ) → IsEvent (Tick shift) v ticket w → v.stopped ≡ None → w.stopped ≡ Some step → HasStoppedAt step v w
-stopped_at shift v w ticket step event going stop = record {
-  parts = left_as v (stopped v step) w (draw_stops shift v w ticket step event going stop) (record {
-    setup = refl;
-    small = refl;
-    large = refl;
-    roots = refl;
-    caches = refl;
-    batch = refl;
-    raw = refl;
-    split = refl;
-    cutting = refl;
-    classed = refl;
-    volatile = refl;
-    durable = refl;
-    floor = omega arith;
-  });
-  at = stop;
-  budget = (let told = stop_told shift v w ticket step event going stop in let most = told.1 in let same = told.0 in omega arith);
 }
 
 -- a superblock is claimed once it is taken

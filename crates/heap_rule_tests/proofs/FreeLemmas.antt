@@ -31,7 +31,7 @@ use Rattle.heap_rule_tests.specs.Frees.{FreesNone, HasFreed, HasWay, linked_befo
 use Rattle.heap_rule_tests.specs.Stores.{HasStored}
 use Rattle.line_memory.specs.declared.memory.Stopped.{Stopped}
 use Rattle.heap_rule.specs.Seated.{TellsDraw}
-use Rattle.heap_rule_tests.proofs.CacheLemmas.{stopped_at}
+use Rattle.heap_rule_tests.proofs.DrawLemmas.{stopped_at}
 use Rattle.heap_rule.proofs.StoredLemmas.{of_none}
 use Rattle.heap_rule_tests.proofs.PopLemmas.{stopped_later}
 use Rattle.heap_rule_tests.proofs.StoreLemmas.{can_store, stored_left}

@@ -1,29 +1,23 @@
 -- What the holding and the splitting of a large block leave.
-use Rattle.std.proofs.Common.{◌≡◌, ◌≢◌, ◌≤◌, ◌<◌, ℕ, ◌+◌, inl, inr, nat_eq, ◌∷◌, get_or, Option, None, Some, Result, Ok, Err, IfErr, refl, ap, sym, subst, ◌∙◌, eq-eqb, arith}
-use Rattle.std.specs.Bool.{⊤}
+use Rattle.std.proofs.Common.{◌≡◌, ◌≢◌, ◌≤◌, ◌<◌, ℕ, ◌+◌, inl, inr, nat_eq, ◌∷◌, get_or, None, Some, refl, ap, sym, subst, ◌∙◌, eq-eqb, arith}
 use Rattle.std.proofs.lemmas.Bool.{cases_lt}
 use Rattle.std.proofs.lemmas.List.{get_or-set_other}
 use Rattle.heap_model.specs.Counting.{times}
 use Rattle.heap_model.specs.Geometry.{info_word, start_word}
 use Rattle.core_model.specs.declared.event.Event.TheVariants.{Tick}
-use Rattle.core_model.specs.declared.event.Shift.{Shift}
 use Rattle.core_model.specs.declared.event.Shift.TheVariants.{Large, Split}
 use Rattle.core_model.specs.Cells.{info_cell, superblock_at}
 use Rattle.core_model.specs.Effects.{after_large, after_split, cleared, drew, learn, span_count, trimmed, without_range}
 use Rattle.core_model.specs.View.{Setup, View, times_raw}
 use Rattle.core_model.proofs.PlaceLemmas.{pick}
 use Rattle.heap_rule.specs.Parts.{KeepsParts}
-use Rattle.heap_rule.specs.Plays.{HasSoundState, IsEvent}
-use Rattle.heap_rule.specs.Seated.{SeatView, TellsDraw}
+use Rattle.heap_rule.specs.Plays.{IsEvent}
 use Rattle.heap_rule.specs.Shown.{CanHoldLarge, CanJoin, Shows, ShowsDurable, by_claim}
 use Rattle.heap_rule.proofs.LeftLemmas.{draw_done}
 use Rattle.heap_rule.proofs.PartLemmas.{left_as, none_changed}
-use Rattle.line_memory.specs.declared.memory.Stopped.{Stopped}
 use Rattle.heap_rule_tests.specs.Cuts.{HasClass}
 use Rattle.heap_rule_tests.specs.Draws.{HasStoppedAt}
 use Rattle.heap_rule_tests.specs.Large.{AreClaimed, HasLarge, HasSplit, HaveInfos, info_in, with_known}
-use Rattle.heap_rule_tests.proofs.CacheLemmas.{stopped_at}
-use Rattle.heap_rule_tests.proofs.DrawLemmas.{not_both}
 use Rattle.heap_rule_tests.proofs.TrimLemmas.{trimmed_alike}
 
 -- what is known changed twice
@@ -134,28 +128,6 @@ module _ (v x : View) (d n : ℕ) (claimed : AreClaimed d n v) (infos : HaveInfo
 
     here : superblock_at w.setup.capacity block ≡ d
     here = ap (superblock_at w.setup.capacity) at_w ∙ (let e : superblock_at w.setup.capacity (start_word w.setup.capacity d) ≡ d = omega arith in e)
-
--- a draw with a change, of a seat that may have stopped before
-module _ (shift : Option Shift) (s t : SeatView) (event : s.view.stopped ≡ None → (found : ℕ) × IsEvent (Tick shift) s.view found t.view) (idle : (step : ℕ) → s.view.stopped ≡ Some step → t ≡ s) where
-  pub was_going : t.view.stopped ≡ None → s.view.stopped ≡ None
-  was_going going = by_stop s.view.stopped refl where
-    by_stop : (o : Option ℕ) → s.view.stopped ≡ o → s.view.stopped ≡ None
-    by_stop None none = none
-    by_stop (Some step) stop = not_both (ap (λ (x : SeatView). x.view.stopped) (idle step stop) ∙ stop) going
-
-  shift_stopped : HasSoundState s.view → (step : ℕ) → t.view.stopped ≡ Some step → HasStoppedAt step s.view t.view
-  shift_stopped has step stop = by_stop s.view.stopped refl where
-    by_stop : (o : Option ℕ) → s.view.stopped ≡ o → HasStoppedAt step s.view t.view
-    by_stop None none = let e = event none in stopped_at shift s.view t.view e.0 step e.1 none stop
-    by_stop (Some before) stopped = let same : t.view ≡ s.view = ap (λ (x : SeatView). x.view) (idle before stopped) in record {
-      parts = left_as s.view s.view t.view same (none_changed s.view);
-      at = stop;
-      budget = ((has.sound.good.tickets has.seat s.view has.below has.at).state.stopping step (sym (ap (λ (x : View). x.stopped) same) ∙ stop)).0;
-    }
-
-  pub told_stop : (result : Result ⊤ Stopped) → TellsDraw t.view result → HasSoundState s.view → IfErr result (λ e. HasStoppedAt e.step s.view t.view)
-  told_stop (Ok x) told has = tt
-  told_stop (Err e) told has = shift_stopped has e.step told
 
 pub split_left : (v w : View) (block ticket : ℕ) → IsEvent (Tick (Some (Split block))) v ticket w → w.stopped ≡ None → HasSplit block v w
 split_left v w block ticket event going = record {
