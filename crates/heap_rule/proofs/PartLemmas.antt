@@ -1,10 +1,12 @@
 -- Steps that leave the seat its parts.
 use Rattle.std.proofs.Common.{◌≡◌, ◌≢◌, ℕ, Bool, true, false, cond, nat_lt, max, set, None, Some, refl, sym, subst, ◌∙◌, arith}
-use Rattle.core_model.specs.declared.event.Event.TheVariants.{Tick, LookUsed, LookHead, LookLink, LookAnchor, KeepUsed, TakeFresh, Pop, Push, TakeAll, Give}
-use Rattle.core_model.specs.Effects.{drew, look, lost, seen, seen_word, stopped, used_up}
+use Rattle.core_model.specs.declared.event.Event.TheVariants.{Tick, Load, LookUsed, LookHead, LookLink, LookAnchor, KeepUsed, TakeFresh, Pop, Push, TakeAll, Give}
+use Rattle.core_model.specs.Effects.{drew, learn, look, lost, seen, seen_word, stopped, used_up}
 use Rattle.core_model.specs.View.{View}
 use Rattle.heap_rule.specs.Parts.{KeepsParts}
-use Rattle.heap_rule.specs.Plays.{IsEvent}
+use Rattle.heap_rule.specs.Fences.{IsSeatFence}
+use Rattle.heap_rule.specs.Plays.{IsEvent, learned}
+use Rattle.heap_rule.specs.Seated.{SeatView}
 use Rattle.heap_rule.proofs.LeftLemmas.{fresh_lost, pop_lost, push_lost, take_all_lost, give_lost}
 
 pub none_changed : (v : View) → KeepsParts v v
@@ -39,6 +41,15 @@ looked_link v w found e = left_as v (record (used_up v) { seen_link = Some found
 
 pub looked_anchor : (d : ℕ) (v w : View) (found : ℕ) → IsEvent (LookAnchor d) v found w → KeepsParts v w
 looked_anchor d v w found e = left_as v (record (used_up v) { seen_anchor = Some (record { of = d; word = found }) }) w e.after (record { setup = refl; small = refl; large = refl; roots = refl; caches = refl; batch = refl; raw = refl; split = refl; cutting = refl; classed = refl; volatile = refl; durable = refl; floor = omega arith })
+
+-- what is loaded is known besides
+pub loaded : (word : ℕ) (v w : View) (found : ℕ) → IsEvent (Load word) v found w → KeepsParts (learned v word found) w
+loaded word v w found e = left_as (learned v word found) (record (used_up v) { volatile = learn v.volatile word found }) w e.after (record { setup = refl; small = refl; large = refl; roots = refl; caches = refl; batch = refl; raw = refl; split = refl; cutting = refl; classed = refl; volatile = refl; durable = refl; floor = omega arith })
+
+-- and after a fence it may be other values that are known
+pub fenced : (v w : SeatView) → IsSeatFence v w → KeepsParts (record v.view { volatile = w.view.volatile; durable = w.view.durable }) w.view
+fenced v w fence = left_as (record v.view { volatile = w.view.volatile; durable = w.view.durable }) (record v.view { volatile = w.view.volatile; durable = w.view.durable }) w.view fence.rest
+    (none_changed (record v.view { volatile = w.view.volatile; durable = w.view.durable }))
 
 pub not_taken : (n : ℕ) (v w : View) (found : ℕ) → IsEvent (TakeFresh n) v found w → found ≢ seen v.seen_used → KeepsParts v w
 not_taken n v w found e other = left_as v (record (lost v found) { seen_used = None }) w (fresh_lost n v w found e other) (record { setup = refl; small = refl; large = refl; roots = refl; caches = refl; batch = refl; raw = refl; split = refl; cutting = refl; classed = refl; volatile = refl; durable = refl; floor = omega arith })

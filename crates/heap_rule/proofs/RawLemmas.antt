@@ -3,10 +3,10 @@ use Rattle.std.proofs.Common.{◌≡◌, ℕ, zero, suc, ◌≤◌, ◌<◌, inl
 use Rattle.std.proofs.lemmas.Bool.{cases_lt}
 use Rattle.std.proofs.lemmas.List.{get_or-set_same}
 use Rattle.heap_model.specs.Geometry.{image_words}
-use Rattle.core_model.specs.declared.event.Event.TheVariants.{Store, Settle}
+use Rattle.core_model.specs.declared.event.Event.TheVariants.{Load, Store, Settle}
 use Rattle.core_model.specs.Cells.{Cell, used_cell, head_cell, info_cell, anchor_cell, link_cell, root_cell, data_cell, no_cell, cell_at, superblock_at}
 use Rattle.core_model.specs.Effects.{learn, stored, stored_anchor, used_up}
-use Rattle.core_model.specs.Guards.{MayChangeWord}
+use Rattle.core_model.specs.Guards.{IsOwn, MayChangeWord}
 use Rattle.core_model.specs.Memory.{Memory, memory_of, used}
 use Rattle.core_model.specs.View.{View, times_raw, times_block}
 use Rattle.core_model.proofs.OwnLemmas.{one_at_most}
@@ -60,6 +60,15 @@ stored_recorded v (root_cell i) value = (refl, refl)
 stored_recorded v (data_cell word) value = (refl, refl)
 stored_recorded v no_cell value = (refl, refl)
 
+-- what is learned of an own word is shown
+learned_shown : (word value : ℕ) (v w : View) → HasSoundState v → IsOwn v (cell_at v.setup.capacity word) → w.volatile ≡ learn v.volatile word value → Shows w (cell_at v.setup.capacity word) value
+learned_shown word value v w has own learned = ap (λ n. get_or w.volatile n None) (own_index v word own)
+    ∙ ap (λ l. get_or l word None) learned
+    ∙ get_or-set_same v.volatile word (Some value) None (let long = volatile_long v has in let below = own_below v word own in omega arith)
+
+pub load_shown : (word value : ℕ) (v w : View) → IsEvent (Load word) v value w → Shows w (cell_at v.setup.capacity word) value
+load_shown word value v w e = learned_shown word value v w e.before e.may.ready (ap (λ (u : View). u.volatile) e.after)
+
 module _ (word value : ℕ) (v w : View) (found : ℕ) where
   pub store_volatile : IsEvent (Store word value) v found w → w.volatile ≡ learn v.volatile word value
   store_volatile e = ap (λ (u : View). u.volatile) e.after
@@ -70,10 +79,7 @@ module _ (word value : ℕ) (v w : View) (found : ℕ) where
       ∙ (stored_recorded (record (used_up v) { volatile = learn v.volatile word value }) (cell_at v.setup.capacity word) value).1
 
   pub store_shown : IsEvent (Store word value) v found w → Shows w (cell_at v.setup.capacity word) value
-  store_shown e = let own = e.may.ready.0 in
-      ap (λ n. get_or w.volatile n None) (own_index v word own)
-      ∙ ap (λ l. get_or l word None) (store_volatile e)
-      ∙ get_or-set_same v.volatile word (Some value) None (let long = volatile_long v e.before in let below = own_below v word own in omega arith)
+  store_shown e = learned_shown word value v w e.before e.may.ready.0 (store_volatile e)
 
   pub settle_left : IsEvent (Settle word) v found w → Shows v (cell_at v.setup.capacity word) value
       → w ≡ record v { volatile = learn v.volatile word value; durable = learn v.durable word value }

@@ -4,7 +4,7 @@
 ghost use Rattle.std.specs.Prelude.{◌≡◌, ◌≢◌, ◌≤◌, ℕ, Option, None, Some, Result, IfErr, ⊤};
 ghost use Rattle.core_model.specs.declared.answer.StepAnswer.TheVariants.{Done, Stopped};
 ghost use Rattle.core_model.specs.declared.event.Event.{Event};
-ghost use Rattle.core_model.specs.declared.event.Event.TheVariants.{Tick, LookUsed, LookHead, LookLink, LookAnchor, KeepUsed, TakeFresh, Pop, Push, TakeAll, Give};
+ghost use Rattle.core_model.specs.declared.event.Event.TheVariants.{Tick, Load, LookUsed, LookHead, LookLink, LookAnchor, KeepUsed, TakeFresh, Pop, Push, TakeAll, Give};
 ghost use Rattle.core_model.specs.declared.event.Shift.{Shift};
 ghost use Rattle.core_model.specs.declared.event.Shift.TheVariants.{Cut, Free};
 ghost use Rattle.core_model.specs.Effects.{after_free, before, drew, given, lost, popped, pushed, seen, seen_of, seen_word, shifted, stopped, taken_all, taken_fresh};
@@ -13,9 +13,10 @@ ghost use Rattle.core_model.specs.Memory.{memory_of};
 ghost use Rattle.core_model.specs.Steps.{StepsTo, words_after};
 ghost use Rattle.core_model.specs.View.{View};
 ghost use Rattle.heap_model.specs.Words.{head_first};
+ghost use Rattle.heap_rule.specs.Fences.{IsSeatFence};
 ghost use Rattle.heap_rule.specs.Parts.{KeepsParts, cut_for};
-ghost use Rattle.heap_rule.specs.Plays.{IsEvent, state_before, state_with};
-ghost use Rattle.heap_rule.specs.Seated.{HasLostTo, Tells};
+ghost use Rattle.heap_rule.specs.Plays.{IsEvent, learned, state_before, state_with};
+ghost use Rattle.heap_rule.specs.Seated.{HasLostTo, SeatView, Tells};
 ghost use Rattle.heap_rule.specs.Shown.{CanCut, CanFree};
 
 /// A draw that goes on leaves the ticket in hand and its change done; one that stops the seat
@@ -96,7 +97,8 @@ pub fn a_lost_exchange_answers_the_word_that_it_found()
         → IfErr result (λ word. HasLostTo (seen_word v.seen_anchor) word v w) }
 {}
 
-/// Draws with no change, looks, lost exchanges, and keeping the mark leave the seat its parts.
+/// Draws with no change, looks, lost exchanges, and keeping the mark leave the seat its parts; so do
+/// loads and fences, but for what is known of words.
 pub fn a_step_that_changes_nothing_keeps_the_parts()
     ensures draw { (v w : View) (ticket : ℕ) → IsEvent (Tick None) v ticket w → KeepsParts v w }
     ensures look_used { (v w : View) (found : ℕ) → IsEvent LookUsed v found w → KeepsParts v w }
@@ -106,6 +108,10 @@ pub fn a_step_that_changes_nothing_keeps_the_parts()
     ensures look_link { (v w : View) (found : ℕ) → IsEvent LookLink v found w → KeepsParts v w }
     ensures look_anchor { (d : ℕ) (v w : View) (found : ℕ) → IsEvent (LookAnchor d) v found w
         → KeepsParts v w }
+    ensures load { (word : ℕ) (v w : View) (found : ℕ) → IsEvent (Load word) v found w
+        → KeepsParts (learned v word found) w }
+    ensures fence { (v w : SeatView) → IsSeatFence v w → KeepsParts
+        (record v.view { volatile = w.view.volatile; durable = w.view.durable }) w.view }
     ensures not_taken { (n : ℕ) (v w : View) (found : ℕ) → IsEvent (TakeFresh n) v found w
         → found ≢ seen v.seen_used → KeepsParts v w }
     ensures not_popped { (v w : View) (found : ℕ) → IsEvent Pop v found w

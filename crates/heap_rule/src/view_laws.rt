@@ -3,7 +3,7 @@
 
 ghost use Rattle.std.specs.Prelude.{◌≡◌, ◌≤◌, ◌<◌, ℕ, Some, length, set};
 ghost use Rattle.heap_model.specs.Geometry.{image_words};
-ghost use Rattle.core_model.specs.declared.event.Event.TheVariants.{Store, Settle};
+ghost use Rattle.core_model.specs.declared.event.Event.TheVariants.{Load, Store, Settle};
 ghost use Rattle.core_model.specs.Cells.{cell_at, superblock_at};
 ghost use Rattle.core_model.specs.Effects.{learn};
 ghost use Rattle.core_model.specs.Guards.{IsOwn, MayChangeWord};
@@ -28,8 +28,8 @@ pub fn a_view_records_each_word()
     ensures durable { (v : View) → HasSoundState v → length v.durable ≡ image_words v.setup.capacity }
 {}
 
-/// What was stored to an own word is recorded, and what was recorded of it before it is settled is
-/// recorded as durable; nothing else that is recorded changes.
+/// What was stored to an own word, or loaded of it, is recorded, and what was recorded of it before
+/// it is settled is recorded as durable; nothing else that is recorded changes.
 pub fn a_store_is_recorded()
     ensures stored { (word value : ℕ) (v w : View) (found : ℕ)
         → IsEvent (Store word value) v found w
@@ -43,4 +43,6 @@ pub fn a_store_is_recorded()
           volatile = learn v.volatile word value;
           durable = learn v.durable word value;
         } }
+    ensures loaded { (word value : ℕ) (v w : View) → IsEvent (Load word) v value w
+        → Shows w (cell_at v.setup.capacity word) value }
 {}

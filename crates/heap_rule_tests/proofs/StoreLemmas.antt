@@ -9,7 +9,7 @@ use Rattle.core_model.proofs.QuietLemmas.{own_same}
 use Rattle.heap_rule.specs.Parts.{KeepsParts}
 use Rattle.heap_rule.specs.Plays.{IsEvent}
 use Rattle.heap_rule.specs.Shown.{Can, CanAnchor, as_empty, as_full, CanStore, ShowsEmpty, by_claim, by_anchor, by_look, Shows}
-use Rattle.heap_rule.proofs.RawLemmas.{store_shown}
+use Rattle.heap_rule.proofs.RawLemmas.{load_shown, store_shown}
 use Rattle.heap_rule.proofs.ToldLemmas.{load_told}
 use Rattle.heap_rule_tests.specs.Draws.{HasDrawn}
 use Rattle.heap_rule_tests.specs.Stores.{HasLoaded, HasStored, with_stored}
@@ -101,6 +101,7 @@ module _ (v u : View) (word : ℕ) (drawn : HasDrawn v u) where
     parts = subst (KeepsParts (record v { volatile = learn v.volatile word found })) (sym after)
         (record { setup = refl; small = refl; large = refl; roots = refl; caches = refl; batch = refl; raw = refl; split = refl; cutting = refl; classed = refl; volatile = refl; durable = refl; floor = omega arith });
     going = ap (λ (x : View). x.stopped) after ∙ drawn.went;
+    shows = subst (λ (cell : Cell). Shows w cell found) (ap (λ (x : View). cell_at x.setup.capacity word) drawn.left) (load_shown word found u w event);
     known_is = λ before shows. load_told u w word before found event (subst (λ (x : View). Shows x (cell_at x.setup.capacity word) before) (sym drawn.left) shows);
   } where
     after : w ≡ record (used_up (drew v drawn.ticket)) { volatile = learn v.volatile word found }

@@ -18,8 +18,9 @@ pub record HasStored (word value : ℕ) (v w : View) : Type 0 where
   pub anchor : w.seen_anchor ≡ v.seen_anchor
   pub shows : Shows w (cell_at v.setup.capacity word) value
 
--- the word has the value, which is what the seat knew of it, if anything
+-- the word is known to have the value, which is what the seat knew of it, if anything
 pub record HasLoaded (word value : ℕ) (v w : View) : Type 0 where
   pub parts : KeepsParts (record v { volatile = learn v.volatile word value }) w
   pub going : w.stopped ≡ None
+  pub shows : Shows w (cell_at v.setup.capacity word) value
   pub known_is : (before : ℕ) → Shows v (cell_at v.setup.capacity word) before → value ≡ before

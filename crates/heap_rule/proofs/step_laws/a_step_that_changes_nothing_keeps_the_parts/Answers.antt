@@ -1,4 +1,4 @@
-use Rattle.heap_rule.proofs.PartLemmas.{drawn, looked_used, kept_used, looked_head, looked_link, looked_anchor, not_taken, not_popped, not_pushed, not_taken_all, not_given}
+use Rattle.heap_rule.proofs.PartLemmas.{drawn, fenced, loaded, looked_used, kept_used, looked_head, looked_link, looked_anchor, not_taken, not_popped, not_pushed, not_taken_all, not_given}
 use Rattle.heap_rule.proofs.step_laws.a_step_that_changes_nothing_keeps_the_parts.Goals as goal
 
 pub returns-clause-draw : goal.returns-clause-draw
@@ -33,3 +33,9 @@ returns-clause-not_taken_all c d v w found e other = not_taken_all d v w found e
 
 pub returns-clause-not_given : goal.returns-clause-not_given
 returns-clause-not_given c d v w found e other = not_given d v w found e other
+
+pub returns-clause-load : goal.returns-clause-load
+returns-clause-load c word v w found e = loaded word v w found e
+
+pub returns-clause-fence : goal.returns-clause-fence
+returns-clause-fence c v w fence = fenced v w fence

@@ -1,4 +1,4 @@
-use Rattle.heap_rule.proofs.RawLemmas.{store_shown, store_volatile, store_durable, settle_left}
+use Rattle.heap_rule.proofs.RawLemmas.{load_shown, store_shown, store_volatile, store_durable, settle_left}
 use Rattle.heap_rule.proofs.view_laws.a_store_is_recorded.Goals as goal
 
 pub returns-clause-stored : goal.returns-clause-stored
@@ -12,3 +12,6 @@ returns-clause-durable c word value v w found e = store_durable word value v w f
 
 pub returns-clause-settled : goal.returns-clause-settled
 returns-clause-settled c word value v w found e shows = settle_left word value v w found e shows
+
+pub returns-clause-loaded : goal.returns-clause-loaded
+returns-clause-loaded c word value v w e = load_shown word value v w e
