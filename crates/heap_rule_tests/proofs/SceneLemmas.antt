@@ -1,8 +1,7 @@
 -- What the scenes of the tests leave.
-use Rattle.std.proofs.Common.{◌≡◌, ◌≤◌, ◌<◌, ℕ, inl, inr, Bool, true, false, nat_eq, List, [], ◌∷◌, ◌++◌, length, refl, ap, sym, subst, ◌∙◌, eq-eqb, arith}
+use Rattle.std.proofs.Common.{◌≡◌, ◌≤◌, ◌<◌, ℕ, inl, inr, Bool, true, false, nat_eq, List, [], ◌∷◌, ◌++◌, length, length-append, refl, ap, sym, subst, ◌∙◌, eq-eqb, arith}
 use Rattle.heap_model.specs.Geometry.{start_word}
-use Rattle.heap_model.specs.Sizes.{IsClass}
-use Rattle.core_model.specs.Cells.{superblock_at}
+use Rattle.core_model.specs.Cells.{Cell, data_cell, superblock_at}
 use Rattle.core_model.specs.Effects.{claim_class, first_of, last_of}
 use Rattle.core_model.specs.Guards.{MayLookAt}
 use Rattle.core_model.specs.View.{Claim, View, of_class, times_classed}
@@ -10,9 +9,10 @@ use Rattle.core_model.proofs.OwnerLemmas.{in_lists_total}
 use Rattle.core_model.proofs.PlaceLemmas.{pick}
 use Rattle.core_model.proofs.BlockLemmas.{first_there}
 use Rattle.core_model.proofs.TotalLemmas.{eq-eqb-one}
+use Rattle.crash_core.proofs.LiftSteps.{last_append}
 use Rattle.heap_rule.specs.Parts.{KeepsParts}
 use Rattle.heap_rule.specs.Plays.{HasSoundState}
-use Rattle.heap_rule.specs.Shown.{CanLift}
+use Rattle.heap_rule.specs.Shown.{CanLift, Shows}
 use Rattle.heap_rule.proofs.ViewLemmas.{block_range}
 use Rattle.heap_rule_tests.specs.declared.refusal.NotDone.{NotDone}
 use Rattle.heap_rule_tests.specs.declared.refusal.NotDone.TheVariants.{Nothing, Lost, Stopped}
@@ -22,10 +22,10 @@ use Rattle.heap_rule_tests.specs.Partials.{HasSeenAnchor, HasTakenBlocks, TakesN
 use Rattle.heap_rule_tests.specs.Pops.{HasPoppedFrom}
 use Rattle.heap_rule_tests.specs.Pushes.{HasPushedOfClass, IsClaimOf}
 use Rattle.heap_rule_tests.specs.Scenes.{HasGivenOne, HasLiftedOne, HasNoSpareBlocks, IsIdle}
+use Rattle.heap_rule_tests.specs.Stores.{HasLoaded}
+use Rattle.heap_rule_tests.proofs.BatchLemmas.{last_cell}
+use Rattle.heap_rule_tests.proofs.HoldLemmas.{is_20}
 use Rattle.heap_rule_tests.proofs.PartialLemmas.{claim_still}
-
-is_20 : IsClass 20
-is_20 = record { some = omega arith; last = omega arith }
 
 none_long : (bs : List ℕ) → length bs ≡ 0 → bs ≡ []
 none_long [] none = refl
@@ -51,18 +51,34 @@ pub first_from : (v : View) → HasSoundState v → 1 ≤ length (of_class v.cac
 first_from v has some = (block_range v has (first_of (of_class v.caches 20))
     (let there = first_there (of_class v.caches 20) some in let all = in_lists_total (first_of (of_class v.caches 20)) 20 v.caches there in omega arith)).0
 
-pub lifted_one : (v w : View) (d block : ℕ) → IsIdle v → HasLifted block 20 v w → d ≡ superblock_at v.setup.capacity (first_of (of_class v.caches 20)) → HasLiftedOne d block v w
-lifted_one v w d block idle lifted at = record {
-  lifted = lifted;
-  batch = record {
-    descriptor = ap (λ b. b.descriptor) lifted.parts.batch ∙ sym at;
-    class_is = ap (λ b. b.class) lifted.parts.batch;
-    some = subst (λ l. 1 ≤ length l) (sym blocks) (omega arith);
-    last_is = ap last_of blocks;
-  };
+-- a block that is lifted is the last one of the batch
+pub lifted_batch : (v w : View) (d block : ℕ) → HasLifted block 20 v w → superblock_at v.setup.capacity (first_of (of_class v.caches 20)) ≡ d → IsBatchOf d 20 block w
+lifted_batch v w d block lifted at = record {
+  descriptor = ap (λ b. b.descriptor) lifted.parts.batch ∙ at;
+  class_is = ap (λ b. b.class) lifted.parts.batch;
+  some = (let long = ap length blocks ∙ length-append v.batch.blocks (first_of (of_class v.caches 20) ∷ []) in omega arith);
+  last_is = ap last_of blocks ∙ last_append v.batch.blocks (first_of (of_class v.caches 20)) ∙ sym lifted.first;
 } where
-  blocks : w.batch.blocks ≡ block ∷ []
-  blocks = ap (λ b. b.blocks) lifted.parts.batch ∙ ap (λ l. l ++ first_of (of_class v.caches 20) ∷ []) idle.batch ∙ ap (λ b. b ∷ []) (sym lifted.first)
+  blocks : w.batch.blocks ≡ v.batch.blocks ++ first_of (of_class v.caches 20) ∷ []
+  blocks = ap (λ b. b.blocks) lifted.parts.batch
+
+-- the next one may be lifted too, where the last one was loaded and leads to it
+pub can_next : (v t : View) (d last next : ℕ) → HasSoundState v → IsBatchOf d 20 last v → v.batch.linked ≡ true → HasLoaded last next v t → 1 ≤ length (of_class t.caches 20)
+    → first_of (of_class t.caches 20) ≡ next → superblock_at t.setup.capacity next ≡ d → CanLift t 20
+can_next v t d last next has batch linked loaded some first at = record {
+  is_class = is_20;
+  cached = some;
+  same = λ _. ap (λ b. b.descriptor) loaded.parts.batch ∙ batch.descriptor ∙ sym at ∙ ap (superblock_at t.setup.capacity) (sym first);
+  unchanged = λ _. ap (λ b. b.linked) loaded.parts.batch ∙ linked;
+  linked = λ _. subst (λ n. Shows t (data_cell n) (first_of (of_class t.caches 20))) (sym (ap (λ b. last_of b.blocks) loaded.parts.batch ∙ batch.last_is))
+      (subst (Shows t (data_cell last)) (sym first) (subst (λ (cell : Cell). Shows t cell next) (last_cell v has d 20 last batch) loaded.shows));
+}
+
+pub lifted_one : (v w : View) (d block : ℕ) → HasLifted block 20 v w → d ≡ superblock_at v.setup.capacity (first_of (of_class v.caches 20)) → HasLiftedOne d block v w
+lifted_one v w d block lifted at = record {
+  lifted = lifted;
+  batch = lifted_batch v w d block lifted (sym at);
+}
 
 -- claimed with class 20
 claimed_now : (d : ℕ) (claims : List Claim) (w : View) → w.classed ≡ record { descriptor = d; class = 20 } ∷ claims → IsClaimOf 20 d w

@@ -1,16 +1,19 @@
 -- All seats of a heap, of which one goes on.
-use Rattle.std.proofs.Common.{◌≡◌, ℕ, zero, suc, ◌<◌, inl, inr, List, [], ◌∷◌, ◌++◌, Contains, replicate, refl, ap, set, length, length-set, get_or, sym, subst, ◌∙◌, arith}
+use Rattle.std.proofs.Common.{◌≡◌, ℕ, zero, suc, ◌<◌, inl, inr, List, [], ◌∷◌, ◌++◌, ◌+◌, Contains, replicate, refl, ap, set, length, length-set, get_or, sym, subst, ◌∙◌, arith}
 use Rattle.std.proofs.lemmas.Bool.{cases_eq}
-use Rattle.std.proofs.lemmas.List.{get_or-set_other, get_or-set_same}
+use Rattle.std.proofs.lemmas.List.{get_or_default, get_or-set_other, get_or-set_same}
 use Rattle.std.proofs.lemmas.List.Elements.{Contains-append_left, Contains-append_right}
 use Rattle.heap_model.proofs.MemberLemmas.{in_head}
 use Rattle.heap_model.specs.declared.block.Block.{Block}
+use Rattle.heap_model.specs.Counting.{times}
+use Rattle.heap_model.specs.Geometry.{roots}
 use Rattle.core_model.specs.Opening.{opened_view}
 use Rattle.core_model.specs.View.{Setup, View, of_class}
+use Rattle.core_model.proofs.OpenedHeldLemmas.{owns_root}
 use Rattle.heap_rule.specs.Seated.{SharedView, SeatView, IsSeatOf}
 use Rattle.heap_rule.specs.Seats.{AreOpenedSeats, AreSeatsOf}
 use Rattle.heap_rule_tests.specs.Caches.{AreEmpty}
-use Rattle.heap_rule_tests.specs.Scenes.{HaveNoSpareBlocks, HasNoSpareBlocks}
+use Rattle.heap_rule_tests.specs.Scenes.{HaveNoSpareBlocks, HasNoSpareBlocks, OwnRoots}
 
 pub seat_there : (shared : SharedView) (seats : List SeatView) (i : ℕ) (seat : SeatView) → AreSeatsOf shared seats → i < length seats → seat ≡ get_or seats i seat → IsSeatOf shared seat
 seat_there shared seats i seat all less at = all.each seat (i, less, sym at)
@@ -56,6 +59,17 @@ opened_fresh shared setup held block_owners root_owners seats opened = record {
     batch = ap (λ (v : View). v.batch.blocks) (opened.each p.0 seat p.1 p.2).1;
   };
 }
+
+-- the only seat of a heap has all roots
+pub opened_alone : (shared : SharedView) (setup : Setup) (held : List Block) (block_owners owners : List ℕ) (seats : List SeatView) → AreOpenedSeats shared (opened_view setup held block_owners owners) seats
+    → shared.seats ≡ 1 → length owners ≡ roots → ((owner : ℕ) → Contains owners owner → owner < 1) → OwnRoots seats
+opened_alone shared setup held block_owners owners seats opened one long below = record {
+  each = λ seat p root inside. subst (λ (v : View). 0 < times root v.roots) (sym (opened.each p.0 seat p.1 p.2).1)
+      ((owns_root p.0 roots owners root).1 (inside, is_first root (p.0 + 1) inside ∙ (let count = opened.count in let less = p.1 in omega arith)));
+} where
+  is_first : (root other : ℕ) → root < roots → get_or owners root other ≡ 0
+  is_first root other inside = let less : root < length owners = omega (arith, long, inside) in
+      let low = below (get_or owners root other) (root, less, get_or_default owners root (get_or owners root other) other less) in omega arith
 
 -- the last of all seats, and the last but one
 last_in : (all rest : List SeatView) (last : SeatView) → all ≡ rest ++ last ∷ [] → Contains all last

@@ -1,5 +1,7 @@
 -- What the scenes of the tests need of a seat, and leave of it.
 use Rattle.std.specs.Prelude.{◌≡◌, ◌<◌, ℕ, Bool, true, List, [], None, Contains}
+use Rattle.heap_model.specs.Counting.{times}
+use Rattle.heap_model.specs.Geometry.{roots}
 use Rattle.core_model.specs.View.{View, of_class}
 use Rattle.heap_rule.specs.Seated.{SeatView}
 use Rattle.heap_rule_tests.specs.Batches.{HasLifted, IsBatchOf}
@@ -13,6 +15,10 @@ pub record HasNoSpareBlocks (v : View) : Type 0 where
 -- each seat, as the heap is opened
 pub record HaveNoSpareBlocks (seats : List SeatView) : Type 0 where
   pub each : (seat : SeatView) → Contains seats seat → HasNoSpareBlocks seat.view
+
+-- each seat has all roots, as the only one of a heap has
+pub record OwnRoots (seats : List SeatView) : Type 0 where
+  pub each : (seat : SeatView) → Contains seats seat → (root : ℕ) → root < roots → 0 < times root seat.view.roots
 
 -- a seat that has not stopped has no batch
 pub record IsIdle (v : View) : Type 0 where

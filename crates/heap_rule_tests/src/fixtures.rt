@@ -8,7 +8,7 @@ ghost use Rattle.heap_rule.specs.Seats.{AreSeatsOf};
 ghost use Rattle.heap_rule_tests.specs.Caches.{AreEmpty};
 ghost use Rattle.heap_rule_tests.specs.Pops.{SeesFirst};
 ghost use Rattle.heap_rule_tests.specs.Pushes.{IsEmptyClaim};
-ghost use Rattle.heap_rule_tests.specs.Scenes.{HaveNoSpareBlocks, HasNoSpareBlocks};
+ghost use Rattle.heap_rule_tests.specs.Scenes.{HaveNoSpareBlocks, HasNoSpareBlocks, OwnRoots};
 
 use crate::caches::fill_cache;
 use crate::pops::{pop_free, pop_seen};
@@ -74,6 +74,7 @@ pub fn shared(
     ensures count { IfOk result (λ r. length r.1.items ≡ seats) }
     ensures empty { IfOk result (λ r. AreEmpty r.1.items) }
     ensures fresh { IfOk result (λ r. HaveNoSpareBlocks r.1.items) }
+    ensures roots { IfOk result (λ r. seats ≡ 1 → OwnRoots r.1.items) }
 {
     let held = in_turn(alloc, heap.held().len(), seats)?;
     let roots = in_turn(alloc, ROOTS as usize, seats)?;

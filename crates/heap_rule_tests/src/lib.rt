@@ -41,6 +41,10 @@ mod holding;
 #[cfg(test)]
 mod listing;
 #[cfg(test)]
+mod returning;
+#[cfg(test)]
+mod rooting;
+#[cfg(test)]
 mod scenes;
 #[cfg(test)]
 mod spanning;

@@ -1,8 +1,13 @@
 //! The list of the free superblocks is popped from and pushed to, by one thread with two seats.
 
+ghost use Rattle.heap_rule.specs.Seated.{IsSeatOf};
+
 use crate::fixtures::{MANY, Words, close_pair, pair, pop_by, pop_looked, push_popped, recovered};
 use crate::pops::{FREE_LIST, look_first, look_list, pop_free};
+use crate::pushes::{push_free, push_seen, set_link};
 use crate::refusal::NotDone;
+use crash_core::head_first;
+use heap_rule::{Seat, Shared};
 use line_memory::Stopped;
 use std::test::Fail;
 use super_block::HEAD_WORD;
@@ -71,6 +76,43 @@ fn a_seat_stops_at_each_draw_of_a_pop_and_a_push(rt: HostRuntime) -> Result<(), 
         assert_eq!(rt; pushed, if step < 6 { Err(stop) } else { Ok(()) });
         let left = close_pair(alloc, table, a, b, seats)?;
         assert_eq!(rt; left.now.get(HEAD_WORD as usize).copied(), Some(head));
+    }
+    Ok(())
+}
+
+/// Two seats pop a superblock each, and push it again, the first one by a head that it looked at
+/// before the second one pushed.
+fn push_late(a: &mut Seat, b: &mut Seat, shared: &Shared) -> Result<(), NotDone>
+    requires a { IsSeatOf shared.now a.old }
+    requires b { IsSeatOf shared.now b.old }
+    ensures a { IsSeatOf shared.now a.new }
+    ensures b { IsSeatOf shared.now b.new }
+{
+    let mine = pop_by(a, shared)?;
+    let theirs = pop_by(b, shared)?;
+    a.has_a_sound_state();
+    let head = look_list(a, shared, FREE_LIST)?;
+    set_link(a, shared, mine, head_first(head))?;
+    push_free(b, shared, theirs)?;
+    push_seen(a, shared, mine)
+}
+
+/// The budget, and what the first seat is answered: the last ticket is that of its exchange, which
+/// finds the superblock of the other in front of the list.
+const LATE: [(u64, NotDone); 2] = [
+    (11, NotDone::Stopped(Stopped { step: 11 })),
+    (MANY, NotDone::Lost { found: 33_554_434 }),
+];
+
+#[test]
+fn a_push_is_lost_where_another_seat_pushed(rt: HostRuntime) -> Result<(), Fail> {
+    let alloc = rt.alloc();
+    for (budget, refusal) in LATE {
+        let heap = recovered(alloc, 2, BOTH_FREE)?;
+        let (table, mut a, mut b, seats) = pair(alloc, heap, budget)?;
+        assert_eq!(rt; push_late(&mut a, &mut b, &table), Err(refusal));
+        let left = close_pair(alloc, table, a, b, seats)?;
+        assert_eq!(rt; left.now.get(HEAD_WORD as usize).copied(), Some(33_554_434));
     }
     Ok(())
 }

@@ -1,7 +1,7 @@
 //! What seats do in the tests: rows of the rows, over blocks of class 20, of which a superblock has
 //! four, of 1,792 words.
 
-ghost use Rattle.std.specs.Prelude.{◌≡◌, ◌<◌, ℕ, [], None, IfOk, IfSome};
+ghost use Rattle.std.specs.Prelude.{◌≡◌, ◌<◌, ℕ, [], None, IfOk, OnOk, IfSome};
 ghost use Rattle.core_model.specs.Held.{IsHeld};
 ghost use Rattle.core_model.specs.View.{of_class};
 ghost use Rattle.heap_model.specs.declared.block.Block.{Block};
@@ -43,6 +43,17 @@ pub fn lift_one(seat: &mut Seat, shared: &Shared) -> Result<(u64, u64), NotDone>
     Ok((d, block))
 }
 
+/// A seat gives its batch back, whose last block is named. It answers whether no block of the
+/// superblock was free before.
+pub fn give_lifted(seat: &mut Seat, shared: &Shared, d: u64, last: u64) -> Result<bool, NotDone>
+    requires seat { IsSeatOf shared.now seat.old }
+    requires batch { IsBatchOf d 20 last seat.old.view }
+    ensures given { IfOk result (λ full. HasGivenOne d full seat.new.view) }
+    ensures seat { IsSeatOf shared.now seat.new }
+{
+    give_batch(seat, shared, d, CLASS, last)
+}
+
 /// A seat gives the first block of its cache back. It answers the superblock, and whether none of
 /// its blocks was free before.
 pub fn give_one(seat: &mut Seat, shared: &Shared) -> Result<(u64, bool), NotDone>
@@ -52,7 +63,7 @@ pub fn give_one(seat: &mut Seat, shared: &Shared) -> Result<(u64, bool), NotDone
     ensures seat { IsSeatOf shared.now seat.new }
 {
     let (d, block) = lift_one(seat, shared)?;
-    let full = give_batch(seat, shared, d, CLASS, block)?;
+    let full = give_lifted(seat, shared, d, block)?;
     Ok((d, full))
 }
 
@@ -84,6 +95,19 @@ pub fn take_class(seat: &mut Seat, shared: &Shared) -> Result<u64, NotDone>
     take_free_blocks(seat, shared, d, CLASS)
 }
 
+/// A seat makes the blocks of a superblock, gives one back, and puts the superblock on the list of
+/// the class.
+pub fn list_blocks(seat: &mut Seat, shared: &Shared) -> Result<(), NotDone>
+    requires seat { IsSeatOf shared.now seat.old }
+    requires fresh { HasNoSpareBlocks seat.old.view }
+    ensures idle { OnOk result (IsIdle seat.new.view) }
+    ensures seat { IsSeatOf shared.now seat.new }
+{
+    fill_cache(seat, shared, CLASS)?;
+    let d = give_first(seat, shared)?;
+    push_class(seat, shared, d, CLASS)
+}
+
 /// One seat makes the blocks of a superblock, and gives one back; the other gets that one.
 pub fn share_blocks(a: &mut Seat, b: &mut Seat, shared: &Shared) -> Result<u64, NotDone>
     requires a { IsSeatOf shared.now a.old }
@@ -95,9 +119,7 @@ pub fn share_blocks(a: &mut Seat, b: &mut Seat, shared: &Shared) -> Result<u64, 
     ensures a { IsSeatOf shared.now a.new }
     ensures b { IsSeatOf shared.now b.new }
 {
-    fill_cache(a, shared, CLASS)?;
-    let d = give_first(a, shared)?;
-    push_class(a, shared, d, CLASS)?;
+    list_blocks(a, shared)?;
     take_class(b, shared)
 }
 

@@ -1,8 +1,11 @@
 //! Superblocks that were never taken are taken, by one thread with several seats.
 
-use crate::fixtures::{MANY, recovered, shared, take_by};
+ghost use Rattle.heap_rule.specs.Seated.{IsSeatOf};
+
+use crate::fixtures::{MANY, close_pair, pair, recovered, shared, take_by};
 use crate::refusal::NotDone;
-use heap_rule::close_shared;
+use crate::takes::{look_mark, take_one, take_seen};
+use heap_rule::{Seat, Shared, close_shared};
 use line_memory::Stopped;
 use std::test::Fail;
 use super_block::USED_WORD;
@@ -48,6 +51,41 @@ fn superblocks_are_taken_in_turn(rt: HostRuntime) -> Result<(), Fail> {
         }
         let left = close_shared(alloc, table, seats)?;
         assert_eq!(rt; left.now[USED_WORD as usize], used);
+    }
+    Ok(())
+}
+
+/// The first seat takes a superblock by a mark that it looked at before the second one took one.
+fn take_late(a: &mut Seat, b: &mut Seat, shared: &Shared) -> Result<(), NotDone>
+    requires a { IsSeatOf shared.now a.old }
+    requires b { IsSeatOf shared.now b.old }
+    ensures a { IsSeatOf shared.now a.new }
+    ensures b { IsSeatOf shared.now b.new }
+{
+    let used = look_mark(a, shared)?;
+    if used == a.capacity(shared) {
+        return Err(NotDone::Nothing);
+    }
+    take_one(b, shared)?;
+    take_seen(a, shared)
+}
+
+/// The budget, and what the first seat is answered: the fifth ticket is that of its exchange, which
+/// finds the mark behind the superblock of the other.
+const LATE: [(u64, NotDone); 2] = [
+    (4, NotDone::Stopped(Stopped { step: 4 })),
+    (MANY, NotDone::Lost { found: 1 }),
+];
+
+#[test]
+fn a_taking_is_lost_where_another_seat_took(rt: HostRuntime) -> Result<(), Fail> {
+    let alloc = rt.alloc();
+    for (budget, refusal) in LATE {
+        let heap = recovered(alloc, 2, &[])?;
+        let (table, mut a, mut b, seats) = pair(alloc, heap, budget)?;
+        assert_eq!(rt; take_late(&mut a, &mut b, &table), Err(refusal));
+        let left = close_pair(alloc, table, a, b, seats)?;
+        assert_eq!(rt; left.now.get(USED_WORD as usize).copied(), Some(1));
     }
     Ok(())
 }
