@@ -1,5 +1,5 @@
 -- An empty heap is at rest.
-use Rattle.std.proofs.Common.{◌≡◌, ℕ, zero, suc, ◌+◌, ◌*◌, ◌≤◌, inl, inr, List, [], length, slice_index, slice_set, replicate, refl, sym, arith}
+use Rattle.std.proofs.Common.{◌≡◌, ℕ, zero, suc, ◌+◌, ◌-◌, ◌*◌, ◌≤◌, inl, inr, List, [], length, slice_index, slice_set, replicate, refl, sym, arith}
 use Rattle.std.proofs.lemmas.Bool.{cases_lt, ltb-true}
 use Rattle.std.proofs.lemmas.List.{length-replicate, get_or-replicate, get_or_past}
 use Rattle.heap_model.specs.Geometry.{magic, version, clean, largest_capacity, image_words, info_word, anchor_word, link_word}
@@ -15,22 +15,22 @@ empty_word capacity zero behind = absurd (omega arith)
 empty_word capacity (suc zero) behind = absurd (omega arith)
 empty_word capacity (suc (suc zero)) behind = absurd (omega arith)
 empty_word capacity (suc (suc (suc zero))) behind = absurd (omega arith)
-empty_word capacity (suc (suc (suc (suc i)))) behind = elim (cases_lt i (1060 + 8200 * capacity)) as (λ _. slice_index (replicate (1060 + 8200 * capacity) 0) i ≡ 0) [
-  | inl inside ↦ get_or-replicate {A = ℕ} (1060 + 8200 * capacity) i 0 0 inside
-  | inr past ↦ get_or_past (replicate (1060 + 8200 * capacity) 0) i 0 (let long = length-replicate {A = ℕ} (1060 + 8200 * capacity) 0 in omega arith)
+empty_word capacity (suc (suc (suc (suc i)))) behind = elim (cases_lt i (image_words capacity - 4)) as (λ _. slice_index (replicate (image_words capacity - 4) 0) i ≡ 0) [
+  | inl inside ↦ get_or-replicate {A = ℕ} (image_words capacity - 4) i 0 0 inside
+  | inr past ↦ get_or_past (replicate (image_words capacity - 4) 0) i 0 (let long = length-replicate {A = ℕ} (image_words capacity - 4) 0 in omega arith)
 ]
 
 -- zeros with the first four words set
 pub empty_by_sets : (capacity count : ℕ) → count ≡ image_words capacity
     → slice_set (slice_set (slice_set (slice_set (replicate count 0) 0 magic) 1 version) 2 capacity) 3 clean ≡ empty_words capacity
 unfolding empty_words
-empty_by_sets capacity count is = let four : count ≡ suc (suc (suc (suc (1060 + 8200 * capacity)))) = omega arith in rw four refl
+empty_by_sets capacity count is = let four : count ≡ suc (suc (suc (suc (image_words capacity - 4)))) = omega arith in rw four refl
 
 -- an empty image is well formed
 pub empty_formed : (capacity : ℕ) → 1 ≤ capacity → capacity ≤ largest_capacity → IsWellFormed (8 * length (empty_words capacity)) (slice_index (empty_words capacity))
 unfolding empty_words
 empty_formed capacity some small =
-    let long = length-replicate {A = ℕ} (1060 + 8200 * capacity) 0 in
+    let long = length-replicate {A = ℕ} (image_words capacity - 4) 0 in
     let used = empty_word capacity 8 (omega arith) in
     record { magic_is = refl; version_is = refl; some = some; small = small; length_is = omega arith; state = inl refl; used = omega arith }
 

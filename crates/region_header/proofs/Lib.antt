@@ -1,3 +1,2 @@
 pub mod SameHeader
 pub mod WordBytes
-pub mod EmptyImage
