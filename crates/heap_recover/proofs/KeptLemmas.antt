@@ -1,5 +1,5 @@
 -- What recovery makes of an image depends only on which blocks are kept.
-use Rattle.std.proofs.Common.{◌≡◌, ℕ, zero, suc, List, ◌++◌, length, take, drop, ap, ◌∙◌}
+use Rattle.std.proofs.Common.{◌≡◌, ℕ, zero, suc, List, ◌++◌, length, take, drop, ap, ◌∙◌, slice_index}
 use Rattle.std.proofs.Math.Seq.{take-append_seam}
 use Rattle.heap_model.specs.declared.block.Block.{Block}
 use Rattle.heap_model.specs.Image.{Image}
@@ -9,6 +9,8 @@ use Rattle.heap_model.specs.Recovery.{HoldsKept, IsSpare, IsPartial, IsFullyKept
 use Rattle.heap_model.specs.Reach.{Links, IsReached}
 use Rattle.heap_model.proofs.ReachLemmas.{reached_block}
 use Rattle.filter_trace.specs.Reached.{AreReached}
+use Rattle.heap_recover.specs.declared.answer.Recovered.{Recovered}
+use Rattle.heap_recover.specs.Answer.{IsMadeOf}
 use Rattle.heap_recover.specs.Marked.{IsMarked, KeepsBlocks}
 use Rattle.heap_recover.proofs.AscendingLemmas.{ascending_same}
 
@@ -72,3 +74,21 @@ reached_marked image kinds links pairs are b reached = record { kind = reached.k
 -- and so are blocks of the image
 pub marked_blocks : (image : Image) (kinds : ℕ → ℕ) (links : Links) (pairs : List (Block × ℕ)) → AreReached image kinds links pairs → KeepsBlocks (layout_of image) (IsMarked pairs)
 marked_blocks image kinds links pairs are = record { each = λ b marked. reached_block image kinds links b marked.kind ((are.each b marked.kind).0 marked.pair) }
+
+-- the heap that is made where the marked blocks are kept is that where the reached ones are
+pub made_of_reached : (words : List ℕ) (kinds : ℕ → ℕ) (links : Links) (pairs : List (Block × ℕ)) (answer : Recovered) → AreReached (slice_index words) kinds links pairs
+    → IsMadeOf words (IsMarked pairs) answer → IsMadeOf words (IsReached (slice_index words) kinds links) answer
+made_of_reached words kinds links pairs answer are made =
+    let image = slice_index words in
+    let l = layout_of image in
+    let reached = IsReached image kinds links in
+    let to = marked_reached image kinds links pairs are in
+    let from = reached_marked image kinds links pairs are in
+    record {
+      held = ascending_same (λ (b : Block). b.first_word) (IsMarked pairs) reached answer.heap.held to from made.held;
+      free = ascending_same (λ d. d) (IsFreeSuperblock l (IsMarked pairs)) (IsFreeSuperblock l reached) answer.free.items
+          (free_with l (IsMarked pairs) reached to from) (free_with l reached (IsMarked pairs) from to) made.free;
+      was = made.was;
+      long = made.long;
+      recovered = recovered_with image (slice_index answer.heap.words) (IsMarked pairs) reached to from made.recovered;
+    }

@@ -18,7 +18,7 @@ pub use answer::{Recovered, Was};
 pub use fault::RecoverFault;
 pub use in_place::rebuild;
 pub use laws::{reached_words_are_unchanged, recovery_begun_again_gives_the_same};
-pub use recovery::recover;
+pub use recovery::{recover, recover_owned};
 
 #[cfg(test)]
 mod in_place_tests;

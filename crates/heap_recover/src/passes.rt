@@ -1,9 +1,9 @@
 //! The passes over an image that make it a heap at rest.
 ghost use Rattle.std.specs.Prelude.{◌≡◌, ◌<◌, ◌≤◌, ◌*◌, length, slice_index, IfOk, OnOk};
 ghost use Rattle.heap_model.specs.Geometry.{image_words};
+ghost use Rattle.heap_model.specs.Image.{Image};
 ghost use Rattle.heap_model.specs.Header.{IsWellFormed, capacity_of, used_of};
 ghost use Rattle.heap_model.specs.Blocks.{layout_of};
-ghost use Rattle.heap_model.specs.Recovery.{IsRecovered};
 ghost use Rattle.heap_recover.specs.Marked.{IsMarked, KeepsBlocks};
 ghost use Rattle.heap_recover.specs.Rebuilt.{AreDone, AreCleared, IsRebuild};
 
@@ -24,49 +24,47 @@ pub struct Found {
     pub roles: Vec<Role>,
 }
 
-/// Makes the copy `new` of the image `old` a heap at rest that keeps the marked blocks.
-pub fn rebuild(
-    alloc: Global,
-    old: &[u64],
-    new: &mut [u64],
-    marks: &Marks,
-) -> Result<Found, AllocError>
-    requires formed { IsWellFormed (8 * length old.now) (slice_index old.now) }
-    requires copy { new.old ≡ old.now }
-    requires keeps { KeepsBlocks (layout_of (slice_index old.now)) (IsMarked marks.now) }
-    ensures ok { IfOk result (λ found. IsRebuild (slice_index old.now) (slice_index new.new)
+/// Makes the words of an image those of a heap at rest that keeps the marked blocks.
+pub fn rebuild(alloc: Global, words: &mut [u64], marks: &Marks) -> Result<Found, AllocError>
+    requires formed { IsWellFormed (8 * length words.old) (slice_index words.old) }
+    requires keeps { KeepsBlocks (layout_of (slice_index words.old)) (IsMarked marks.now) }
+    ensures ok { IfOk result (λ found. IsRebuild (slice_index words.old) (slice_index words.new)
         (IsMarked marks.now) found.held.items found.roles.items) }
 {
-    let geometry = Geometry::new(old[CAPACITY_WORD as usize]);
-    let used = old[USED_WORD as usize];
-    let found = rebuild_taken(alloc, old, new, &geometry, marks)?;
-    clear_rest(new, &geometry, used);
-    link_lists(alloc, new, &geometry, &found.roles)?;
-    new[STATE_WORD as usize] = DIRTY;
+    let geometry = Geometry::new(words[CAPACITY_WORD as usize]);
+    let used = words[USED_WORD as usize];
+    let found = rebuild_taken(alloc, words, &geometry, used, marks)?;
+    clear_rest(words, &geometry, used);
+    link_lists(alloc, words, &geometry, &found.roles)?;
+    words[STATE_WORD as usize] = DIRTY;
     Ok(found)
 }
 
-/// Rebuilds the superblocks that have been taken, each in its role.
+/// Rebuilds the superblocks of an image that have been taken, each in its role. What a superblock
+/// was before is read before it is written.
 fn rebuild_taken(
     alloc: Global,
-    old: &[u64],
-    new: &mut [u64],
+    words: &mut [u64],
     geometry: &Geometry,
+    used: u64,
     marks: &Marks,
 ) -> Result<Found, AllocError>
-    requires formed { IsWellFormed (8 * length old.now) (slice_index old.now) }
-    requires capacity { geometry.now.capacity ≡ capacity_of (slice_index old.now) }
-    requires copy { new.old ≡ old.now }
-    requires keeps { KeepsBlocks (layout_of (slice_index old.now)) (IsMarked marks.now) }
-    ensures ok { IfOk result (λ found. AreDone (slice_index old.now) (slice_index new.new)
-        (IsMarked marks.now) (used_of (slice_index old.now)) found.held.items found.roles.items) }
+    ghost image: { Image }
+    requires before { slice_index words.old ≡ image }
+    requires formed { IsWellFormed (8 * length words.old) image }
+    requires capacity { geometry.now.capacity ≡ capacity_of image }
+    requires used { used ≡ used_of image }
+    requires keeps { KeepsBlocks (layout_of image) (IsMarked marks.now) }
+    ensures ok { IfOk result (λ found. AreDone image (slice_index words.new)
+        (IsMarked marks.now) used found.held.items found.roles.items) }
 {
     let mut held = Vec::new(alloc);
     let mut roles = Vec::new(alloc);
     let mut end = 0;
-    for d in 0..old[USED_WORD as usize] {
-        let survey = survey_superblock(alloc, old, geometry, d, end, marks)?;
-        rebuild_superblock(new, geometry, d, survey.role, &survey.spares);
+    for d in 0..used {
+        let info = words[geometry.info(d) as usize];
+        let survey = survey_superblock(alloc, geometry, info, d, used, end, marks)?;
+        rebuild_superblock(words, geometry, d, survey.role, &survey.spares);
         held.extend_from_slice(&survey.held)?;
         roles.push(survey.role)?;
         end = survey.end;

@@ -58,8 +58,39 @@ pub fn recover<F: Filter>(
         → header_fault (8 * length words.now) (slice_index words.now) ≡ Some cause
         → result ≡ Err (RecoverFault.Header cause) }
 {
-    let header = read_header(words)?;
-    let marks = trace(alloc, words, kinds, filter)?;
+    // A bad header is told before there is memory for a copy.
+    read_header(words)?;
+    let copy = Vec::from_slice(alloc, words)?;
+    let recovered = recover_owned(alloc, copy, kinds, filter)?;
+    Ok(recovered)
+}
+
+/// The same in the room of the image, of which no copy is made.
+pub fn recover_owned<F: Filter>(
+    alloc: Global,
+    words: Vec<u64>,
+    kinds: &[u32],
+    filter: &F,
+) -> Result<Recovered, RecoverFault>
+    requires roots { length kinds.now ≡ roots }
+    requires kinds { All (λ kind. kind < F.KINDS) kinds.now }
+
+    // the answer
+    ensures ok { IfOk result (IsMadeOf words.items
+        (IsReached (slice_index words.items) (slice_index kinds.now) (F.links_of filter.now))) }
+
+    // when it comes, and what comes else
+    ensures formed { OnOk result (IsWellFormed (8 * length words.items) (slice_index words.items)) }
+    ensures none { OnOk result ((at : ℕ) → IsOutside (slice_index words.items)
+        (slice_index kinds.now) (F.links_of filter.now) at → ⊥) }
+    ensures cause { IfErr result (TellsFault (8 * length words.items) (slice_index words.items)
+        (slice_index kinds.now) (F.links_of filter.now)) }
+    ensures header { (cause : BadHeader)
+        → header_fault (8 * length words.items) (slice_index words.items) ≡ Some cause
+        → result ≡ Err (RecoverFault.Header cause) }
+{
+    let header = read_header(&words)?;
+    let marks = trace(alloc, &words, kinds, filter)?;
     let recovered = keep_marked(alloc, words, &marks, header.clean)?;
     Ok(recovered)
 }
@@ -67,27 +98,27 @@ pub fn recover<F: Filter>(
 /// The heap that is left of the words where the marked blocks are kept.
 fn keep_marked(
     alloc: Global,
-    words: &[u64],
+    mut words: Vec<u64>,
     marks: &Marks,
-    clean: bool,
+    closed: bool,
 ) -> Result<Recovered, AllocError>
-    requires formed { IsWellFormed (8 * length words.now) (slice_index words.now) }
-    requires keeps { KeepsBlocks (layout_of (slice_index words.now)) (IsMarked marks.now) }
-    ensures ok { IfOk result (IsMadeOf words.now (IsMarked marks.now) clean) }
+    requires formed { IsWellFormed (8 * length words.items) (slice_index words.items) }
+    requires closed { IsTrue closed ↔ (state_of (slice_index words.items) ≡ clean) }
+    requires keeps { KeepsBlocks (layout_of (slice_index words.items)) (IsMarked marks.now) }
+    ensures ok { IfOk result (IsMadeOf words.items (IsMarked marks.now)) }
 {
-    let mut new = Vec::from_slice(alloc, words)?;
-    let found = rebuild(alloc, words, &mut new, marks)?;
+    let found = rebuild(alloc, &mut words, marks)?;
     let free = members(alloc, &found.roles, 0)?;
     Ok(Recovered {
-        heap: Ready::new(new, found.held),
-        was: was(clean),
+        heap: Ready::new(words, found.held),
+        was: was(closed),
         free,
     })
 }
 
-/// How an image was left whose header says that it is clean, or not.
-fn was(clean: bool) -> Was
-    ensures { (result ≡ Was.Clean) ↔ IsTrue clean }
+/// How an image was left: closed, or not.
+fn was(closed: bool) -> Was
+    ensures { (result ≡ Was.Clean) ↔ IsTrue closed }
 {
-    if clean { Was::Clean } else { Was::Dirty }
+    if closed { Was::Clean } else { Was::Dirty }
 }

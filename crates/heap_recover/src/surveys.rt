@@ -1,7 +1,6 @@
 //! What recovery finds in a superblock.
-ghost use Rattle.std.specs.Prelude.{◌≡◌, ◌<◌, ◌*◌, length, slice_index, IfOk, [], ◌∷◌};
-ghost use Rattle.heap_model.specs.Header.{IsWellFormed, capacity_of, used_of};
-ghost use Rattle.heap_model.specs.Blocks.{layout_of};
+ghost use Rattle.std.specs.Prelude.{◌≡◌, ◌<◌, ◌≤◌, IfOk, []};
+ghost use Rattle.heap_model.specs.Blocks.{Layout};
 ghost use Rattle.heap_recover.specs.Marked.{IsMarked, KeepsBlocks, GoOnTo};
 ghost use Rattle.heap_recover.specs.Roles.{IsSurvey, RoleOfParts};
 
@@ -9,7 +8,7 @@ use crate::parts::{SuperblockBlocks, part_blocks};
 use crate::roles::Role;
 use filter_trace::Marks;
 use std::alloc::{AllocError, Global};
-use super_block::{Block, Geometry, Info, SUPERBLOCK_WORDS, USED_WORD};
+use super_block::{Block, Geometry, Info, SUPERBLOCK_WORDS};
 
 /// What recovery finds in a superblock.
 #[derive(Drop)]
@@ -24,23 +23,29 @@ pub struct Survey {
     pub end: u64,
 }
 
-/// Surveys superblock `d`, to which the kept blocks of lower ones go on up to `end`.
+/// Surveys superblock `d` of the `used` ones that have been taken, which has this info, and to
+/// which the kept blocks of lower ones go on up to `end`.
+#[tactic(auto, using(heap_model::specs::Geometry::largest_capacity_fits))]
 pub fn survey_superblock(
     alloc: Global,
-    words: &[u64],
     geometry: &Geometry,
+    info: u64,
     d: u64,
+    used: u64,
     end: u64,
     marks: &Marks,
 ) -> Result<Survey, AllocError>
-    requires formed { IsWellFormed (8 * length words.now) (slice_index words.now) }
-    requires capacity { geometry.now.capacity ≡ capacity_of (slice_index words.now) }
-    requires taken { d < used_of (slice_index words.now) }
-    requires keeps { KeepsBlocks (layout_of (slice_index words.now)) (IsMarked marks.now) }
-    requires goes_on { GoOnTo (layout_of (slice_index words.now)) (IsMarked marks.now) d end }
-    ensures ok { IfOk result (IsSurvey (layout_of (slice_index words.now)) (IsMarked marks.now) d) }
+    ghost layout: { Layout }
+    requires capacity { geometry.now.capacity ≡ layout.capacity }
+    requires info { info ≡ layout.info d }
+    requires used { used ≡ layout.used }
+    requires taken { d < used }
+    requires inside { used ≤ geometry.now.capacity }
+    requires keeps { KeepsBlocks layout (IsMarked marks.now) }
+    requires goes_on { GoOnTo layout (IsMarked marks.now) d end }
+    ensures ok { IfOk result (IsSurvey layout (IsMarked marks.now) d) }
 {
-    match Info::unpack(words[geometry.info(d) as usize]) {
+    match Info::unpack(info) {
         Info::Nothing if d < end => Ok(Survey::without_blocks(alloc, Role::Large, end)),
         Info::Nothing => Ok(Survey::without_blocks(alloc, Role::Free, end)),
         Info::Class(class) => {
@@ -48,7 +53,7 @@ pub fn survey_superblock(
             Ok(survey_parts(alloc, class.number, parts, end))
         }
         Info::Large(count) => {
-            if count <= words[USED_WORD as usize] - d {
+            if count <= used - d {
                 let block = Block {
                     first_word: geometry.start(d),
                     words: SUPERBLOCK_WORDS * count,

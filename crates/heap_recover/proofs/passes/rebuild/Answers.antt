@@ -9,16 +9,16 @@ use Rattle.heap_recover.proofs.passes.rebuild.Goals as goal
 
 pub clear_rest-requires-clause-capacity : goal.clear_rest-requires-clause-capacity
 clear_rest-requires-clause-capacity c =
-    let old = slice_index c.args.old.now in
+    let old = slice_index c.args.words.now in
     let found = c.in_ok-found.found in
-    done_capacity old (slice_index c.rebuild_taken.new.new) (IsMarked c.args.marks.now) (used_of old) found.held.items found.roles.items c.requires.formed.used c.in_ok-found.ensures.ok
+    done_capacity old (slice_index c.rebuild_taken.new.words) (IsMarked c.args.marks.now) (used_of old) found.held.items found.roles.items c.requires.formed.used c.in_ok-found.ensures.ok
     ∙ sym c.new-geometry.ensures
 
 pub returns : goal.returns
 returns c =
-    let old = slice_index c.args.old.now in
+    let old = slice_index c.args.words.now in
     let found = c.in_ok-found.found in
-    let done = slice_index c.rebuild_taken.new.new in
+    let done = slice_index c.rebuild_taken.new.words in
     let cleared = slice_index c.clear_rest.new.new in
     let words = c.link_lists.new.words in
     let are_cleared = subst (λ n. AreCleared done cleared n (used_of old) n) c.new-geometry.ensures c.clear_rest.ensures in
@@ -27,6 +27,6 @@ returns c =
     record {
       ok = rebuild old done cleared (slice_index words) (slice_index (set words 3 2)) (IsMarked c.args.marks.now) found.held.items found.roles.items
           c.requires.keeps c.requires.formed.used c.in_ok-found.ensures.ok are_cleared are_listed
-          (get_or-set_same words 3 2 0 (let copied = ap length c.requires.copy in let long = c.requires.formed.length_is in omega arith))
+          (get_or-set_same words 3 2 0 (let long = c.requires.formed.length_is in omega arith))
           (λ word other. get_or-set_other words 3 word 2 0 other);
     }

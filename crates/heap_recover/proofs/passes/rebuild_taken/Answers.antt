@@ -7,52 +7,59 @@ use Rattle.heap_recover.proofs.PassLemmas.{done_none, goes_on_none, done_next, d
 use Rattle.heap_recover.proofs.passes.rebuild_taken.Goals as goal
 
 pub loop-d-init : goal.loop-d-init
-loop-d-init c =
-    let old = slice_index c.args.old.now in
+loop-d-init g c =
+    let old = g.image in
     let kept = IsMarked c.args.marks.now in (
-      subst (λ xs. AreDone old (slice_index c.args.new.now) kept 0 xs c.new-roles.result.items) (sym c.new-held.ensures.items)
-          (subst (λ rs. AreDone old (slice_index c.args.new.now) kept 0 [] rs) (sym c.new-roles.ensures.items)
-          (subst (λ words. AreDone old (slice_index words) kept 0 [] []) (sym c.requires.copy) (done_none old kept c.requires.keeps))),
-      goes_on_none (layout_of old) kept c.requires.keeps,
+      subst (λ xs. AreDone old (slice_index c.args.words.now) kept 0 xs c.new-roles.result.items) (sym c.new-held.ensures.items)
+          (subst (λ rs. AreDone old (slice_index c.args.words.now) kept 0 [] rs) (sym c.new-roles.ensures.items)
+          (subst (λ new. AreDone old new kept 0 [] []) (sym c.requires.0) (done_none old kept c.requires.1.1.1.1))),
+      goes_on_none (layout_of old) kept c.requires.1.1.1.1,
     )
 
 pub rebuild_superblock-requires-clause-capacity : goal.rebuild_superblock-requires-clause-capacity
-rebuild_superblock-requires-clause-capacity c =
-    done_capacity (slice_index c.args.old.now) (slice_index c.loop-d.new) (IsMarked c.args.marks.now) c.loop-d.d c.loop-d.held.items c.loop-d.roles.items
-    (let used = c.requires.formed.used in omega arith) c.loop-d.invariant.0 ∙ sym c.requires.capacity
+rebuild_superblock-requires-clause-capacity g c =
+    done_capacity g.image (slice_index c.loop-d.words) (IsMarked c.args.marks.now) c.loop-d.d c.loop-d.held.items c.loop-d.roles.items
+    (let used = c.requires.1.0.used in omega arith) c.loop-d.invariant.0 ∙ sym c.requires.1.1.0
 
 pub rebuild_superblock-requires-clause-info : goal.rebuild_superblock-requires-clause-info
-rebuild_superblock-requires-clause-info c =
-    let old = slice_index c.args.old.now in
+rebuild_superblock-requires-clause-info g c =
+    let old = g.image in
     let kept = IsMarked c.args.marks.now in
     let survey = c.in_ok-survey.survey in
     subst (λ info. HasInfo info survey.role)
-    (sym (done_info old (slice_index c.loop-d.new) kept c.loop-d.d c.loop-d.held.items c.loop-d.roles.items (let used = c.requires.formed.used in omega arith) c.loop-d.invariant.0))
+    (sym (done_info old (slice_index c.loop-d.words) kept c.loop-d.d c.loop-d.held.items c.loop-d.roles.items (let used = c.requires.1.0.used in omega arith) c.loop-d.invariant.0))
     (role_spares old kept c.loop-d.d survey.role survey.spares.items c.in_ok-survey.ensures.ok.role).1
 
 pub rebuild_superblock-requires-clause-spares : goal.rebuild_superblock-requires-clause-spares
-rebuild_superblock-requires-clause-spares c =
-    let old = slice_index c.args.old.now in
+rebuild_superblock-requires-clause-spares g c =
+    let old = g.image in
     let kept = IsMarked c.args.marks.now in
     let survey = c.in_ok-survey.survey in
-    subst (λ n. HasSpares n c.loop-d.d c.deref.result.now survey.role) (sym c.requires.capacity)
+    subst (λ n. HasSpares n c.loop-d.d c.deref.result.now survey.role) (sym c.requires.1.1.0)
     (subst (λ xs. HasSpares (capacity_of old) c.loop-d.d xs survey.role) (sym c.deref.ensures.value)
     (role_spares old kept c.loop-d.d survey.role survey.spares.items c.in_ok-survey.ensures.ok.role).0)
 
 pub loop-d-preserved : goal.loop-d-preserved
-loop-d-preserved c =
-    let old = slice_index c.args.old.now in
-    let mid = slice_index c.loop-d.new in
+loop-d-preserved g c =
+    let old = g.image in
+    let mid = slice_index c.loop-d.words in
     let new = slice_index c.rebuild_superblock.new.words in
     let kept = IsMarked c.args.marks.now in
     let survey = c.in_ok-survey.survey in
     let found = c.in_ok-survey.ensures.ok in
-    let rebuilt = subst (λ n. IsRebuiltAs mid new n c.loop-d.d survey.role survey.spares.items) c.requires.capacity
+    let rebuilt = subst (λ n. IsRebuiltAs mid new n c.loop-d.d survey.role survey.spares.items) c.requires.1.1.0
     (subst (λ xs. IsRebuiltAs mid new c.args.geometry.now.capacity c.loop-d.d survey.role xs) c.deref.ensures.value c.rebuild_superblock.ensures) in
     let next = done_next old mid new kept c.loop-d.d c.loop-d.held.items survey.held.items c.loop-d.roles.items survey.role survey.spares.items
-    (let used = c.requires.formed.used in omega arith) c.loop-d.invariant.0 found.role found.in_order rebuilt in
+    (let used = c.requires.1.0.used in omega arith) c.loop-d.invariant.0 found.role found.in_order rebuilt in
     let held = c.in_ok-extend_from_slice.ensures.items ∙ ap (λ xs. c.loop-d.held.items ++ xs) c.deref-in-loop-d.ensures.value in (
       subst (λ xs. AreDone old new kept (c.loop-d.d + 1) xs c.push.new.self.items) (sym held)
           (subst (λ rs. AreDone old new kept (c.loop-d.d + 1) (c.loop-d.held.items ++ survey.held.items) rs) (sym c.in_ok-push.ensures.items) next),
       found.goes_on,
     )
+
+pub survey_superblock-requires : goal.survey_superblock-requires
+survey_superblock-requires g c =
+    let kept = IsMarked c.args.marks.now in
+    let info = done_info g.image (slice_index c.loop-d.words) kept c.loop-d.d c.loop-d.held.items c.loop-d.roles.items
+    (let used = c.requires.1.0.used in omega arith) c.loop-d.invariant.0 in
+    (c.requires.1.1.0, (ap (slice_index c.loop-d.words) c.info.ensures ∙ info, (c.requires.1.1.1.0, (omega arith, (omega (arith, c.requires.1.0.used), (c.requires.1.1.1.1, c.loop-d.invariant.1))))))

@@ -5,6 +5,9 @@ use Rattle.heap_recover.specs.Rebuilt.{AreDone}
 use Rattle.heap_recover.proofs.passes.rebuild_taken.Given as goal
 
 abbrev pub invariant-loop-d : goal.invariant-loop-d
-invariant-loop-d l =
-    AreDone (slice_index l.old) (slice_index l.new) (IsMarked l.marks) l.d l.held.items l.roles.items
-    × GoOnTo (layout_of (slice_index l.old)) (IsMarked l.marks) l.d l.end
+invariant-loop-d g l =
+    AreDone g.image (slice_index l.words) (IsMarked l.marks) l.d l.held.items l.roles.items
+    × GoOnTo (layout_of g.image) (IsMarked l.marks) l.d l.end
+
+abbrev pub ghost-survey_superblock : goal.ghost-survey_superblock
+ghost-survey_superblock g a = layout_of g.image
