@@ -8,7 +8,7 @@ ghost use Rattle.image_run.specs.Running.{RunsRequests, options_of};
 use crate::options::RunOptions;
 use crate::reporting::recovered_text;
 use dictionary::{DictFilter, MapFault, read_maps, root_kinds};
-use heap_recover::{RecoverFault, Recovered, recover};
+use heap_recover::{RecoverFault, Recovered, recover_owned};
 use region_header::{Bytes, words_to_bytes};
 use std::alloc::{AllocError, Global};
 use super_block::Ready;
@@ -45,11 +45,11 @@ pub fn run_image<R, G: Gate + Sync, C: Chances>(
     let workers = options.workers as usize;
     let budget = options.budget;
     let outcome = run_trace(rt, alloc, heap, requests, workers, budget, gate, chances)?;
-    let report = left_text(alloc, &outcome.image, options)?;
     let replies = reply_text(alloc, &outcome.replies, outcome.stopped, options.with_sum)?;
+    let image = words_to_bytes(alloc, &outcome.image)?;
+    let report = left_text(alloc, outcome.image, options)?;
     let mut text = replies.into_vec();
     text.extend_from_slice(report.as_slice())?;
-    let image = words_to_bytes(alloc, &outcome.image)?;
     Ok(RunProduct {
         image,
         text: Bytes::from_vec(text),
@@ -57,9 +57,9 @@ pub fn run_image<R, G: Gate + Sync, C: Chances>(
 }
 
 // The text on an image that a run left, once it is recovered.
-fn left_text(alloc: Global, words: &[u64], options: RunOptions) -> Result<Bytes, AllocError>
-    requires { CanBeRun (length words.now) (slice_index words.now) }
-    ensures { IfOk result (Reports (slice_index words.now) options.with_sum options.with_map) }
+fn left_text(alloc: Global, words: Vec<u64>, options: RunOptions) -> Result<Bytes, AllocError>
+    requires { CanBeRun (length words.items) (slice_index words.items) }
+    ensures { IfOk result (Reports (slice_index words.items) options.with_sum options.with_map) }
 {
     let recovered = recover_left(alloc, words)?;
     let maps = match read_maps(alloc, &recovered) {
@@ -71,11 +71,11 @@ fn left_text(alloc: Global, words: &[u64], options: RunOptions) -> Result<Bytes,
 }
 
 // Recovers such an image, which is never refused.
-fn recover_left(alloc: Global, words: &[u64]) -> Result<Recovered, AllocError>
-    requires { CanBeRun (length words.now) (slice_index words.now) }
-    ensures { IfOk result (IsRecoveredHeap (slice_index words.now)) }
+fn recover_left(alloc: Global, words: Vec<u64>) -> Result<Recovered, AllocError>
+    requires { CanBeRun (length words.items) (slice_index words.items) }
+    ensures { IfOk result (IsRecoveredHeap (slice_index words.items)) }
 {
-    match recover(alloc, words, &root_kinds(), &DictFilter) {
+    match recover_owned(alloc, words, &root_kinds(), &DictFilter) {
         Ok(recovered) => Ok(recovered),
         Err(RecoverFault::Memory) => Err(AllocError),
         Err(RecoverFault::Header(_)) => unreachable!(),

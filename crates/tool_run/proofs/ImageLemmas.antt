@@ -23,7 +23,7 @@ use Rattle.tool_run.specs.Calls.{get_limit}
 use Rattle.tool_run.specs.Command.{Command, image_name}
 use Rattle.tool_run.specs.Inside.{Refuses, fault_of_recovery, fault_of_get}
 use Rattle.tool_run.specs.Making.{GetsImage, fault_of, Shows, IsMalformed, HasOutside, PointsOutside}
-use Rattle.tool_run.specs.Recovering.{IsRecoveredHeapOf, IsRecoveredFrom, IsRecoveredHeap, IsRecoveryFault, IsTextOf}
+use Rattle.tool_run.specs.Recovering.{IsGoodImage, IsRecoveredHeapOf, IsRecoveredFrom, IsRecoveredHeap, IsRecoveryFault, IsTextOf}
 use Rattle.std.specs.BTreeMap.{BTreeMap}
 use Rattle.heap_model.specs.Rest.{IsReady}
 use Rattle.dict_model.specs.Links.{shards}
@@ -98,11 +98,7 @@ short_whole bytes short = elim (cases_lt (length bytes) get_limit) as (λ _. len
   | inr long ↦ let cut = length-take-le get_limit bytes long in omega (arith, cut)
 ]
 
-pub record IsWhole (contents : Contents) (name got : List ℕ) : Type 0 where
-  pub is_there : Holds contents name got
-  pub good : fault_of got ≡ None
-
-pub whole_image : (contents : Contents) (name got : List ℕ) → HoldsFirst contents name get_limit got → IsWellFormed (length got) (image_of_bytes got) → IsWhole contents name got
+pub whole_image : (contents : Contents) (name got : List ℕ) → HoldsFirst contents name get_limit got → IsWellFormed (length got) (image_of_bytes got) → IsGoodImage contents name got
 whole_image None name got first good = record { is_there = tt; good = no_fault (length got) (image_of_bytes got) good }
 whole_image (Some image_of) name got first good =
     let at = held_image (image_of name) got first in
@@ -112,12 +108,12 @@ whole_image (Some image_of) name got first good =
     record { is_there = at.1 ∙ ap (λ (l : List ℕ). Some l) (sym whole); good = no_fault (length got) (image_of_bytes got) good }
 
 -- the same, where the header of other bytes that are these was looked at
-pub whole_shown : (contents : Contents) (name got shown : List ℕ) → HoldsFirst contents name get_limit got → shown ≡ got → IsWellFormed (length shown) (image_of_bytes shown) → IsWhole contents name got
+pub whole_shown : (contents : Contents) (name got shown : List ℕ) → HoldsFirst contents name get_limit got → shown ≡ got → IsWellFormed (length shown) (image_of_bytes shown) → IsGoodImage contents name got
 whole_shown contents name got shown first are good = whole_image contents name got first (subst (λ (l : List ℕ). IsWellFormed (length l) (image_of_bytes l)) are good)
 
 -- what the tool tells of a recovery that failed, where a command gets the image
 pub is_refused : (contents : Contents) (name got shown : List ℕ) (get_failed : Type 0) (cause : RecoverFault) (fault : Fault)
-    → fault ≡ fault_of_recovery cause → IsWhole contents name got → shown ≡ got → IsRecoveryFault (image_of_bytes shown) cause
+    → fault ≡ fault_of_recovery cause → IsGoodImage contents name got → shown ≡ got → IsRecoveryFault (image_of_bytes shown) cause
     → (command : Command) → GetsImage command → image_name command ≡ name → Refuses command contents get_failed fault
 is_refused contents name got shown get_failed (Header cause) fault is whole are why command gets named = absurd why
 is_refused contents name got shown get_failed RecoverMemory fault is whole are why command gets named =
@@ -140,7 +136,7 @@ is_not_got contents name get_failed GetMemory fault is lacks failed command gets
     subst (λ (f : Fault). Refuses command contents get_failed f) (sym is) tt
 
 -- an image that was recovered
-pub is_recovered : (contents : Contents) (name got shown : List ℕ) (recovered : Recovered) → IsWhole contents name got → shown ≡ got
+pub is_recovered : (contents : Contents) (name got shown : List ℕ) (recovered : Recovered) → IsGoodImage contents name got → shown ≡ got
     → IsRecoveredHeap (image_of_bytes shown) recovered → ((at : ℕ) → PointsOutside (image_of_bytes shown) at → ⊥) → IsRecoveredHeapOf contents name recovered
 is_recovered contents name got shown recovered whole are is inside = record {
   bytes = got;
@@ -151,7 +147,7 @@ is_recovered contents name got shown recovered whole are is inside = record {
 }
 
 -- and its words beside it
-pub is_recovered_from : (contents : Contents) (name got shown words : List ℕ) (recovered : Recovered) → IsWhole contents name got → shown ≡ got
+pub is_recovered_from : (contents : Contents) (name got shown words : List ℕ) (recovered : Recovered) → IsGoodImage contents name got → shown ≡ got
     → IsRecoveredHeap (image_of_bytes shown) recovered → ((at : ℕ) → PointsOutside (image_of_bytes shown) at → ⊥)
     → AreWordsOf words shown → length recovered.heap.words ≡ length words → IsRecoveredFrom contents name words recovered
 unfolding is_recovered

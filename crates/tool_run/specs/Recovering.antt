@@ -17,6 +17,11 @@ use Rattle.dictionary.specs.Reading.{RecoversTo, AreMaps}
 use Rattle.trace_run.specs.Opened.{IsDictionary}
 use Rattle.tool_run.specs.Making.{PointsOutside, HasMapped, fault_of, drained_text}
 
+-- the bytes are the image of this name, and their header is good
+pub record IsGoodImage (contents : Contents) (name bytes : List ℕ) : Type 0 where
+  pub is_there : Holds contents name bytes
+  pub good : fault_of bytes ≡ None
+
 -- the heap is what recovery of the image of this name gives
 pub record IsRecoveredHeapOf (contents : Contents) (name : List ℕ) (recovered : Recovered) : Type 0 where
   pub bytes : List ℕ

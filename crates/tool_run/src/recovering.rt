@@ -9,11 +9,11 @@ ghost use Rattle.tool_run.specs.Calls.{get_limit};
 ghost use Rattle.tool_run.specs.Command.{Command, image_name};
 ghost use Rattle.tool_run.specs.Inside.{Refuses};
 ghost use Rattle.tool_run.specs.Making.{GetsImage, PointsOutside};
-ghost use Rattle.tool_run.specs.Recovering.{IsRecoveredHeapOf, IsRecoveredFrom, IsRecoveredHeap, IsRecoveryFault};
+ghost use Rattle.tool_run.specs.Recovering.{IsGoodImage, IsRecoveredHeapOf, IsRecoveredFrom, IsRecoveredHeap, IsRecoveryFault};
 
 use crate::fault::Fault;
 use dictionary::{DictFilter, root_kinds};
-use heap_recover::{RecoverFault, Recovered, recover};
+use heap_recover::{RecoverFault, Recovered, recover, recover_owned};
 use region_header::{bytes_to_words, check_bytes};
 use std::alloc::{AllocError, Global};
 use super_block::{LONGEST_IMAGE, constants_agree};
@@ -33,7 +33,8 @@ pub fn recover_image<I: ImageStore>(
     ensures later { I.faults images.old ≤ I.faults images.new }
     ensures calls { I.calls images.new ≡ with_get get_limit (I.calls images.old) }
 {
-    let (_, recovered) = recover_words(alloc, name, images)?;
+    let image = good_image(alloc, name, images)?;
+    let recovered = recover_bytes(alloc, image)?;
     Ok(recovered)
 }
 
@@ -52,10 +53,26 @@ pub fn recover_words<I: ImageStore>(
     ensures later { I.faults images.old ≤ I.faults images.new }
     ensures calls { I.calls images.new ≡ with_get get_limit (I.calls images.old) }
 {
+    let image = good_image(alloc, name, images)?;
+    let both = recover_beside(alloc, image)?;
+    Ok(both)
+}
+
+// The bytes of the image of this name, whose header is good.
+fn good_image<I: ImageStore>(alloc: Global, name: &str, images: &mut I) -> Result<Vec<u8>, Fault>
+    ensures ok { IfOk result (λ image. IsGoodImage (I.contents images.old) name.now image.items) }
+    ensures formed { IfOk result (λ image.
+        IsWellFormed (length image.items) (image_of_bytes image.items)) }
+    ensures err { IfErr result (λ fault. (command : Command) → GetsImage command
+        → image_name command ≡ name.now → Refuses command (I.contents images.old)
+        (Rose (I.faults images.old) (I.faults images.new)) fault) }
+    ensures unchanged { I.contents images.new ≡ I.contents images.old }
+    ensures later { I.faults images.old ≤ I.faults images.new }
+    ensures calls { I.calls images.new ≡ with_get get_limit (I.calls images.old) }
+{
     let image = images.get(alloc, name, most_bytes())?;
     check_bytes(&image)?;
-    let both = recover_bytes(alloc, image)?;
-    Ok(both)
+    Ok(image)
 }
 
 // How many bytes of an image are asked for: one more than the longest has, so that a longer one shows.
@@ -66,8 +83,20 @@ fn most_bytes() -> usize
     LONGEST_IMAGE as usize + 1
 }
 
-// Recovers an image of these bytes, whose header is good.
-fn recover_bytes(alloc: Global, bytes: Vec<u8>) -> Result<(Vec<u64>, Recovered), RecoverFault>
+// Recovers an image of these bytes, whose header is good, in one room for its words.
+fn recover_bytes(alloc: Global, bytes: Vec<u8>) -> Result<Recovered, RecoverFault>
+    requires { IsWellFormed (length bytes.items) (image_of_bytes bytes.items) }
+    ensures ok { IfOk result (IsRecoveredHeap (image_of_bytes bytes.items)) }
+    ensures none { OnOk result ((at : ℕ) → PointsOutside (image_of_bytes bytes.items) at → ⊥) }
+    ensures err { IfErr result (IsRecoveryFault (image_of_bytes bytes.items)) }
+{
+    let words = words_in(alloc, bytes)?;
+    let recovered = recover_owned(alloc, words, &root_kinds(), &DictFilter)?;
+    Ok(recovered)
+}
+
+// The same beside the words of the image.
+fn recover_beside(alloc: Global, bytes: Vec<u8>) -> Result<(Vec<u64>, Recovered), RecoverFault>
     requires { IsWellFormed (length bytes.items) (image_of_bytes bytes.items) }
     ensures ok { IfOk result (λ both. IsRecoveredHeap (image_of_bytes bytes.items) both.1) }
     ensures words { IfOk result (λ both. AreWordsOf both.0.items bytes.items) }
@@ -80,7 +109,7 @@ fn recover_bytes(alloc: Global, bytes: Vec<u8>) -> Result<(Vec<u64>, Recovered),
     Ok((words, recovered))
 }
 
-// The words in the bytes, which are let go: recovery has their room for its own words.
+// The words in the bytes, which are let go before the words are recovered.
 fn words_in(alloc: Global, bytes: Vec<u8>) -> Result<Vec<u64>, AllocError>
     requires { length bytes.items % 8 ≡ 0 }
     ensures ok { IfOk result (λ words. AreWordsOf words.items bytes.items) }

@@ -10,7 +10,7 @@ use Rattle.image_run.proofs.running.left_text.Goals as goal
 
 pub unreachable-requires : goal.unreachable-requires
 unreachable-requires c =
-    let words = c.args.words.now in
+    let words = c.args.words.items in
     let answer = c.in_ok-recovered.recovered in
     let to = recovers_to (slice_index words) answer c.in_ok-recovered.ensures c.requires.nothing_outside c.read_maps.ensures.ready in
     let tells = subst (λ (f : MapFault). TellsLowest (slice_index answer.heap.words) f) c.in-Err-BadShard.field-0-is c.in-Err-BadShard.ensures.err in
@@ -18,7 +18,7 @@ unreachable-requires c =
 
 pub returns : goal.returns
 returns c =
-    let words = c.args.words.now in
+    let words = c.args.words.items in
     let answer = c.in_ok-recovered.recovered in
     let to = recovers_to (slice_index words) answer c.in_ok-recovered.ensures c.requires.nothing_outside c.read_maps.ensures.ready in
     let are = maps_of_image (slice_index words) (slice_index answer.heap.words) to c.in-Ok.maps.items c.in-Ok.ensures.ok in

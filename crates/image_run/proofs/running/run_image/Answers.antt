@@ -1,24 +1,21 @@
-use Rattle.std.proofs.Common.{◌≡◌, List, ℕ, ◌++◌, length, slice_index, subst, sym, ap, ◌∙◌, rules}
+use Rattle.std.proofs.Common.{◌≡◌, List, ℕ, ◌++◌, slice_index, subst, ap, ◌∙◌, rules}
 use Rattle.trace_run.specs.Said.{Told}
 use Rattle.heap_model.specs.Image.{bytes_of_words}
 use Rattle.trace_text.specs.Replies.{replies_text}
 use Rattle.region_header.specs.Words.{AreWordsOf}
-use Rattle.image_run.specs.Reporting.{Reports}
-use Rattle.trace_run.specs.Opened.{CanBeRun}
 use Rattle.trace_run.proofs.AgainLemmas.{can_be_run}
 use Rattle.image_run.proofs.running.run_image.Goals as goal
 
 pub left_text-requires : goal.left_text-requires
 left_text-requires g c =
-    subst (λ (l : List ℕ). CanBeRun (length l) (slice_index l)) (sym c.deref.ensures.value)
-    (can_be_run (slice_index c.args.heap.words) (slice_index c.in_ok-outcome.outcome.image.items) _ _ _ _ c.requires.dictionary.maps c.in_ok-outcome.ensures.maps
-    c.in_ok-outcome.ensures.header c.in_ok-outcome.ensures.others)
+    can_be_run (slice_index c.args.heap.words) (slice_index c.in_ok-outcome.outcome.image.items) _ _ _ _ c.requires.dictionary.maps c.in_ok-outcome.ensures.maps
+    c.in_ok-outcome.ensures.header c.in_ok-outcome.ensures.others
 
 pub returns : goal.returns
 returns g c =
     let outcome = c.in_ok-outcome.outcome in
     let replies_are : c.in_ok-replies.replies ≡ replies_text outcome.replies.items outcome.stopped c.args.options.with_sum =
-    c.in_ok-replies.ensures.ok ∙ ap (λ (rs : List Told). replies_text rs outcome.stopped c.args.options.with_sum) c.deref-2.ensures.value in
+    c.in_ok-replies.ensures.ok ∙ ap (λ (rs : List Told). replies_text rs outcome.stopped c.args.options.with_sum) c.deref.ensures.value in
     let joined : c.from_vec.result ≡ c.in_ok-replies.replies ++ c.in_ok-report.report = search rules in
     let text_is : c.from_vec.result ≡ replies_text outcome.replies.items outcome.stopped c.args.options.with_sum ++ c.in_ok-report.report =
     joined ∙ ap (λ (l : List ℕ). l ++ c.in_ok-report.report) replies_are in
@@ -39,9 +36,9 @@ returns g c =
           state = c.in_ok-outcome.ensures.state;
         };
         put_is = image_is;
-        words_are = subst (λ (l : List ℕ). AreWordsOf l c.in_ok-image.image) c.deref-3.ensures.value c.in_ok-image.ensures.words;
+        words_are = subst (λ (l : List ℕ). AreWordsOf l c.in_ok-image.image) c.deref-2.ensures.value c.in_ok-image.ensures.words;
         report = c.in_ok-report.report;
-        reports = subst (λ (l : List ℕ). Reports (slice_index l) c.args.options.with_sum c.args.options.with_map c.in_ok-report.report) c.deref.ensures.value c.in_ok-report.ensures;
+        reports = c.in_ok-report.ensures;
         text_is = text_is;
       };
     }

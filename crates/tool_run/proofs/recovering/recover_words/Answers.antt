@@ -1,23 +1,13 @@
 use Rattle.std.proofs.Common.{refl}
-use Rattle.tool_run.proofs.ImageLemmas.{first_limited, is_recovered_from, is_malformed, is_refused, whole_shown}
+use Rattle.tool_run.proofs.ImageLemmas.{is_recovered_from, is_refused}
 use Rattle.tool_run.proofs.DeliveryLemmas.{at_cause}
 use Rattle.tool_run.proofs.recovering.recover_words.Goals as goal
 
-pub returns-in_err-check_bytes-clause-err : goal.returns-in_err-check_bytes-clause-err
-returns-in_err-check_bytes-clause-err g c =
-    let first = first_limited (g.I.ImageStore.contents c.args.images.now) c.args.name.now c.in_ok-image.image.items _ c.most_bytes.ensures c.in_ok-image.ensures.ok in
-    at_cause _ c.from_residual-in_err-check_bytes.result c.from_residual-in_err-check_bytes.ensures
-    (λ fault is. is_malformed _ _ _ _ _ _ fault is first c.deref.ensures.value c.in_err-check_bytes.ensures.cause)
-
 pub returns-in_err-both-clause-err : goal.returns-in_err-both-clause-err
 returns-in_err-both-clause-err g c =
-    let first = first_limited (g.I.ImageStore.contents c.args.images.now) c.args.name.now c.in_ok-image.image.items _ c.most_bytes.ensures c.in_ok-image.ensures.ok in
-    let whole = whole_shown _ _ _ _ first c.deref.ensures.value c.in_ok-check_bytes.ensures.well_formed in
     at_cause _ c.from_residual-in_err-both.result c.from_residual-in_err-both.ensures
-    (λ fault is. is_refused _ _ _ _ _ _ fault is whole refl c.in_err-both.ensures.err)
+    (λ fault is. is_refused _ _ _ _ _ _ fault is c.in_ok-image.ensures.ok refl c.in_err-both.ensures.err)
 
 pub returns-clause-ok : goal.returns-clause-ok
 returns-clause-ok g c =
-    let first = first_limited (g.I.ImageStore.contents c.args.images.now) c.args.name.now c.in_ok-image.image.items _ c.most_bytes.ensures c.in_ok-image.ensures.ok in
-    let whole = whole_shown _ _ _ _ first c.deref.ensures.value c.in_ok-check_bytes.ensures.well_formed in
-    is_recovered_from _ _ _ _ c.in_ok-both.both.0.items _ whole refl c.in_ok-both.ensures.ok c.in_ok-both.ensures.none c.in_ok-both.ensures.words c.in_ok-both.ensures.long
+    is_recovered_from _ _ _ _ c.in_ok-both.both.0.items _ c.in_ok-image.ensures.ok refl c.in_ok-both.ensures.ok c.in_ok-both.ensures.none c.in_ok-both.ensures.words c.in_ok-both.ensures.long

@@ -1,0 +1,12 @@
+use Rattle.std.proofs.Common.{refl}
+use Rattle.tool_run.proofs.ImageLemmas.{is_recovered, is_refused}
+use Rattle.tool_run.proofs.DeliveryLemmas.{at_cause}
+use Rattle.tool_run.proofs.recovering.recover_image.Goals as goal
+
+pub returns-in_err-recovered-clause-err : goal.returns-in_err-recovered-clause-err
+returns-in_err-recovered-clause-err g c =
+    at_cause _ c.from_residual-in_err-recovered.result c.from_residual-in_err-recovered.ensures
+    (λ fault is. is_refused _ _ _ _ _ _ fault is c.in_ok-image.ensures.ok refl c.in_err-recovered.ensures.err)
+
+pub returns-clause-ok : goal.returns-clause-ok
+returns-clause-ok g c = is_recovered _ _ _ _ _ c.in_ok-image.ensures.ok refl c.in_ok-recovered.ensures.ok c.in_ok-recovered.ensures.none
