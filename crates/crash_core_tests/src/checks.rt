@@ -1,23 +1,30 @@
 //! What must hold after each step, looked at slowly.
-use crate::plain::{ClaimKind, Plain, anchor_word, at, head_word, link_word, put, sizes};
+use crate::plain::{ClaimKind, Plain, at, head_word, put, sizes};
 use crate::plain_guards::first_of;
 use crash_core::Core;
-use line_memory::ConstantChance;
+use image_text::{anchor_word, link_word};
+use line_memory::{Chance, ConstantChance};
 use region_header::read_header;
 use std::alloc::{AllocError, Global};
-use super_block::{Block, name};
+use super_block::{Block, DIRTY, LISTS, STATE_WORD, SUPERBLOCK_WORDS, USED_WORD, WORD_BYTES, name};
+
+/// Scrambles what a crash may: the head of each list, and the anchor and the link of each
+/// superblock. The image is dirty then.
+pub fn scramble(image: &mut [u64], capacity: u64, numbers: &mut impl Chance) {
+    for list in 0..LISTS {
+        put(image, head_word(list), numbers.draw());
+    }
+    for d in 0..capacity {
+        put(image, anchor_word(d), numbers.draw());
+        put(image, link_word(d), numbers.draw());
+    }
+    put(image, STATE_WORD, DIRTY);
+}
 
 /// The words that a crash leaves of the plain heap where all that it may scramble becomes 0.
 fn crashed(alloc: Global, plain: &Plain) -> Result<Vec<u64>, AllocError> {
     let mut image = Vec::from_slice(alloc, &plain.durable)?;
-    for list in 0..21 {
-        put(&mut image, head_word(list), 0);
-    }
-    for d in 0..plain.capacity {
-        put(&mut image, anchor_word(d), 0);
-        put(&mut image, link_word(d), 0);
-    }
-    put(&mut image, 3, 2);
+    scramble(&mut image, plain.capacity, &mut ConstantChance(0));
     Ok(image)
 }
 
@@ -26,7 +33,7 @@ fn names(image: &[u64], first_word: u64, words: u64) -> bool {
     if read_header(image).is_err() {
         return false;
     }
-    name(image, first_word.wrapping_mul(8)) == Some(Block { first_word, words })
+    name(image, first_word.wrapping_mul(WORD_BYTES)) == Some(Block { first_word, words })
 }
 
 /// Whether a crash leaves the durable words of the plain heap, by which each held block is named.
@@ -43,7 +50,11 @@ pub fn keeps_held(alloc: Global, core: &Core, plain: &Plain) -> Result<bool, All
             }
         }
         for (first, count) in &hand.large {
-            if !names(&image, plain.start(*first), count.wrapping_mul(8_192)) {
+            if !names(
+                &image,
+                plain.start(*first),
+                count.wrapping_mul(SUPERBLOCK_WORDS),
+            ) {
                 return Ok(false);
             }
         }
@@ -109,7 +120,7 @@ pub fn are_in_one_place(alloc: Global, plain: &Plain) -> Result<bool, AllocError
     for d in 0..plain.capacity {
         let (whole, claims) = (count(&wholes, d), count(&classed, d));
         let owned = plain.among(alloc, &blocks, d)?;
-        let is_cut = d < at(&plain.words, 8) && whole == 0;
+        let is_cut = d < at(&plain.words, USED_WORD) && whole == 0;
         let is_right = if is_cut {
             let is_full = plain.anchor(d) == 2;
             claims == u64::from(!is_full) && has_all(alloc, plain, owned, d)?

@@ -2,30 +2,31 @@
 ghost use Rattle.std.specs.Prelude.{◌<◌, ℕ, Contains, IfOk};
 ghost use Rattle.core_model.specs.declared.event.Event.{Event};
 
-use crate::fixtures::{DRAW, MANY, needs_ticket, opened, recovered, take_drawn};
-use crate::pieces::ONE_FREE;
+use crate::checks::scramble;
+use crate::fixtures::{DRAW, MANY, must_hold, must_take, needs_ticket, opened, recovered};
 use crate::schedules::parse;
 use crash_core::{Core, Event, StepAnswer, opened_table};
 use dictionary::{DictFilter, root_kinds};
 use heap_recover::{Was, recover};
+use image_text::number;
 use line_memory::{Chance, ConstantChance};
 use std::alloc::Global;
 use std::process::Abort;
 use std::test::Fail;
 use super_block::Block;
 
-/// Two seats over two superblocks, of which superblock 0 is free: seat 0 takes superblock 1, holds it as
-/// a large block and splits it; seat 1 makes four blocks of superblock 0, holds them, and gives one
-/// back, which seat 0 gets. All kinds of events and changes are there.
-const ALL_KINDS: &str = "0 tick, 0 look-used, 0 take 1, 0 keep, 0 store 1072 511, 0 settle 1072, \
-    0 large 1 1, 0 split 9272, 1 head 0, 1 link, 1 pop, 1 store 1064 20, 1 settle 1064, \
-    1 store 1065 2, 1 store 1080 2872, 1 store 2872 4664, 1 store 4664 6456, 1 cut 0, 1 alloc 20, \
-    1 alloc 20, 1 alloc 20, 1 alloc 20, 1 free 1080, 1 lift 20, 1 anchor 0, 1 give 0, 1 head 20, \
-    1 store 1066 0, 1 push 0, 0 head 20, 0 link, 0 pop, 0 anchor 0, 0 take-all 0, 0 alloc 20, \
-    0 load 1080, 0 head 0, 0 store 1074 0, 0 push 1";
+/// Two seats over two superblocks, of which superblock 0 is free: seat 0 takes superblock 1, holds it
+/// as a large block and splits it; seat 1 makes four blocks of superblock 0, holds them, and gives
+/// one back, which seat 0 gets. All kinds of events and changes are there.
+const ALL_KINDS: &str = "0 tick, 0 look-used, 0 take 1, 0 keep, 0 store info:1 511, \
+    0 settle info:1, 0 large 1 1, 0 split 9272, 1 head 0, 1 link, 1 pop, 1 store info:0 20, \
+    1 settle info:0, 1 store anchor:0 2, 1 store 1080 2872, 1 store 2872 4664, 1 store 4664 6456, \
+    1 cut 0, 1 alloc 20, 1 alloc 20, 1 alloc 20, 1 alloc 20, 1 free 1080, 1 lift 20, 1 anchor 0, \
+    1 give 0, 1 head 20, 1 store link:0 0, 1 push 0, 0 head 20, 0 link, 0 pop, 0 anchor 0, \
+    0 take-all 0, 0 alloc 20, 0 load 1080, 0 head 0, 0 store link:1 0, 0 push 1";
 
-/// The pointer to the first block of superblock 0.
-const POINTER: u64 = 0x5250_0000_0000_21c0;
+/// An image whose superblock 0 of two is free.
+const ONE_FREE: &str = "used 1";
 
 /// Takes the steps, in which other seats stand for 0 and 1, and makes the block that seat 0 holds
 /// then known to a root.
@@ -34,44 +35,42 @@ fn run_all(rt: &impl Abort, core: &mut Core, first: usize) -> Result<(), Fail> {
     for line in ALL_KINDS.split(", ") {
         let (seat, event) = parse(line)?;
         let seat = first.wrapping_add(seat).checked_rem(seats).unwrap_or(0);
-        assert_eq!(rt;
-            take_drawn(core, seat, event)?,
-            StepAnswer::Done,
-            "{line} by {seat}"
-        );
+        must_take(rt, core, (seat, event), line)?;
     }
-    let word = (first as u64).wrapping_add(48);
-    let store = Event::Store {
-        word,
-        value: POINTER,
+    let word = number("root:8")?.wrapping_add(first as u64);
+    let value = number("@1080")?;
+    must_take(rt, core, (first, Event::Store { word, value }), "the store")?;
+    must_take(rt, core, (first, Event::Settle { word }), "the write-back")
+}
+
+/// Takes all steps, of which those of seat 0 are this seat's, and crashes: recovery holds the block
+/// that is known.
+fn all_are_done(
+    rt: &(impl Abort + AllocGlobal),
+    core: &mut Core,
+    first: usize,
+) -> Result<(), Fail> {
+    run_all(rt, core, first)?;
+    let alloc = rt.alloc();
+    let image = core.image(alloc, &mut ConstantChance(u64::MAX))?;
+    let left = recover(alloc, &image, &root_kinds(), &DictFilter)?;
+    let held = Block {
+        first_word: 1_080,
+        words: 1_792,
     };
-    for event in [store, Event::Settle { word }] {
-        assert_eq!(rt;
-            take_drawn(core, first, event)?,
-            StepAnswer::Done,
-            "{event:?}"
-        );
-    }
+    let is_held = left.heap.held() == [held].as_slice();
+    must_hold(rt, left.was == Was::Dirty && is_held, "the block is held");
     Ok(())
 }
 
 #[test]
 fn steps_of_all_kinds_are_done_over_two_seats_and_eight(rt: HostRuntime) -> Result<(), Fail> {
-    let alloc = rt.alloc();
-    let heap = recovered(alloc, 2, ONE_FREE)?;
-    for seats in [2, 8] {
-        for first in 0..seats {
-            let mut core = opened(alloc, &heap, seats, MANY)?;
-            run_all(&rt, &mut core, first)?;
-            let image = core.image(alloc, &mut ConstantChance(u64::MAX))?;
-            let left = recover(alloc, &image, &root_kinds(), &DictFilter)?;
-            assert!(rt; left.was == Was::Dirty);
-            let held = Block {
-                first_word: 1_080,
-                words: 1_792,
-            };
-            assert_eq!(rt; left.heap.held(), [held].as_slice());
-        }
+    let heap = recovered(rt.alloc(), 2, ONE_FREE)?;
+    for first in 0..2 {
+        all_are_done(&rt, &mut opened(rt.alloc(), &heap, 2, MANY)?, first)?;
+    }
+    for first in 0..8 {
+        all_are_done(&rt, &mut opened(rt.alloc(), &heap, 8, MANY)?, first)?;
     }
     Ok(())
 }
@@ -91,19 +90,13 @@ impl Chance for Counting {
 #[test]
 fn a_crash_scrambles_heads_then_each_anchor_and_link(rt: HostRuntime) -> Result<(), Fail> {
     let alloc = rt.alloc();
-    let heap = recovered(alloc, 3, &[(8, 2), (39, 5), (1_067, 6)])?;
+    let heap = recovered(alloc, 3, "used 2, 39 5, 1067 6")?;
     let core = opened(alloc, &heap, 2, MANY)?;
     let mut numbers = Counting(100);
     let image = core.image(alloc, &mut numbers)?;
-    assert_eq!(rt; numbers.0, 127);
     let mut wanted = Vec::from_slice(alloc, heap.words())?;
-    let heads = 16..37usize;
-    let places = heads.chain([1_065, 1_066, 1_073, 1_074, 1_081, 1_082]);
-    for (number, place) in (100u64..).zip(places) {
-        *wanted.get_mut(place).ok_or("too short")? = number;
-    }
-    *wanted.get_mut(3).ok_or("too short")? = 2;
-    assert!(rt; image == wanted);
+    scramble(&mut wanted, 3, &mut Counting(100));
+    assert!(rt; numbers.0 == 127 && image == wanted);
     Ok(())
 }
 
@@ -125,23 +118,33 @@ fn drawn(alloc: Global, schedule: &str, seats: usize) -> Result<Vec<(usize, Even
     Ok(events)
 }
 
+/// How many of the events draw. Each of them was done.
+fn draws(rt: &impl Abort, events: &[(usize, Event)], answers: &[StepAnswer]) -> u64 {
+    let mut draws = 0u64;
+    for ((_, event), answer) in events.iter().zip(answers) {
+        must_hold(rt, *answer == StepAnswer::Done, "an event of the schedule");
+        if matches!(event, Event::Tick { .. }) {
+            draws = draws.wrapping_add(1);
+        }
+    }
+    draws
+}
+
 #[test]
 fn events_are_replayed_one_after_another(rt: HostRuntime) -> Result<(), Fail> {
     let alloc = rt.alloc();
     let heap = recovered(alloc, 2, ONE_FREE)?;
-    let table = opened_table(alloc, &heap)?;
-    assert_eq!(rt; table.len(), 34_929);
     let mut core = opened(alloc, &heap, 2, MANY)?;
     let events = drawn(alloc, ALL_KINDS, core.seats())?;
     let answers = core.replay(alloc, &events)?;
-    assert_eq!(rt; answers.len(), events.len());
-    let mut ticks = 0u64;
-    for ((_, event), answer) in events.iter().zip(&answers) {
-        assert_eq!(rt; *answer, StepAnswer::Done, "{event:?}");
-        if matches!(event, Event::Tick { .. }) {
-            ticks = ticks.wrapping_add(1);
-        }
-    }
-    assert_eq!(rt; core.tickets(), ticks);
+    let draws = draws(&rt, &events, &answers);
+    assert!(rt; answers.len() == events.len() && core.tickets() == draws);
+    Ok(())
+}
+
+#[test]
+fn an_opened_table_has_its_length(rt: HostRuntime) -> Result<(), Fail> {
+    let heap = recovered(rt.alloc(), 2, ONE_FREE)?;
+    assert_eq!(rt; opened_table(rt.alloc(), &heap)?.len(), 34_929);
     Ok(())
 }

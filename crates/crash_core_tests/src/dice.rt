@@ -1,9 +1,11 @@
 //! Events that are drawn at random, many of which a seat may take.
-use crate::plain::{ClaimKind, PlainSeat, Plain, anchor_word, info_word, link_word};
+use crate::plain::{ClaimKind, Plain, PlainSeat};
 use crate::plain_guards::first_of;
 use crash_core::{Event, Shift};
+use image_text::{anchor_word, info_word, link_word};
 use rand_core::Rng;
 use rand_pcg::Lcg64Xsh32;
+use super_block::{ROOT_WORD, SUPERBLOCK_WORDS};
 
 /// A source of numbers.
 #[derive(Drop)]
@@ -85,10 +87,10 @@ impl Dice {
     /// A word of superblock d, or a root.
     fn word(&mut self, plain: &Plain, d: u64) -> u64 {
         match self.below(6) {
-            0 => self.below(4).wrapping_add(40),
+            0 => self.below(4).wrapping_add(ROOT_WORD),
             1 => anchor_word(d),
             2 => link_word(d),
-            3 => plain.start(d).wrapping_add(self.below(8_192)),
+            3 => plain.start(d).wrapping_add(self.below(SUPERBLOCK_WORDS)),
             _ => info_word(d),
         }
     }

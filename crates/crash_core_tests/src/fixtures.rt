@@ -6,9 +6,9 @@ ghost use Rattle.core_model.specs.Opening.{AreOwners};
 use crash_core::{Core, Event, Owners, StepAnswer};
 use dictionary::{DictFilter, root_kinds};
 use heap_recover::recover;
-use line_memory::Chance;
-use region_header::format;
+use image_text::image_of;
 use std::alloc::{AllocError, Global};
+use std::process::Abort;
 use std::test::Fail;
 use super_block::{ROOTS, Ready};
 
@@ -18,20 +18,12 @@ pub const MANY: u64 = 1_000_000;
 /// A draw without a change.
 pub const DRAW: Event = Event::Tick { shift: None };
 
-/// Words of an image: at which word index, and what.
-pub type Words<'a> = &'a [(usize, u64)];
-
-/// What recovery makes of an image of so many superblocks with these words.
-pub fn recovered(alloc: Global, capacity: u64, words: Words<'_>) -> Result<Ready, Fail>
+/// What recovery makes of an empty image of so many superblocks with these changes.
+pub fn recovered(alloc: Global, capacity: u64, words: &str) -> Result<Ready, Fail>
     requires some { 1 ≤ capacity }
     requires small { capacity ≤ largest_capacity }
 {
-    let mut image = format(alloc, capacity)?;
-    for (at, value) in words {
-        if let Some(word) = image.get_mut(*at) {
-            *word = *value;
-        }
-    }
+    let image = image_of(alloc, capacity, words)?;
     Ok(recover(alloc, &image, &root_kinds(), &DictFilter)?.heap)
 }
 
@@ -81,4 +73,22 @@ pub fn take_drawn(core: &mut Core, seat: usize, event: Event) -> Result<StepAnsw
         take(core, seat, DRAW)?;
     }
     take(core, seat, event)
+}
+
+/// Takes a step of the seat, with a ticket of its own, which is to be done.
+pub fn must_take(
+    rt: &impl Abort,
+    core: &mut Core,
+    (seat, event): (usize, Event),
+    told: &str,
+) -> Result<(), Fail> {
+    let answer = take_drawn(core, seat, event)?;
+    must_hold(rt, answer == StepAnswer::Done, told);
+    Ok(())
+}
+
+/// Asserts what the text tells of. An assertion makes a long function slow to prove; a call of this
+/// one does not.
+pub fn must_hold(rt: &impl Abort, holds: bool, told: &str) {
+    assert!(rt; holds, "{told}");
 }

@@ -14,6 +14,8 @@ mod exchanges;
 #[cfg(test)]
 mod fixtures;
 #[cfg(test)]
+mod guards;
+#[cfg(test)]
 mod own_words;
 #[cfg(test)]
 mod pieces;
@@ -31,3 +33,5 @@ mod rows;
 mod schedules;
 #[cfg(test)]
 mod shifts;
+#[cfg(test)]
+mod stops;

@@ -1,8 +1,9 @@
 //! The heap and its seats once more, plainly: the words, and a list for each thing that a seat has.
 //! Blocks are of the classes 19 and 20 alone.
 use crash_core::{Event, Shift};
+use image_text::{anchor_word, info_word};
 use std::alloc::{AllocError, Global};
-use super_block::Ready;
+use super_block::{CAPACITY_WORD, HEAD_WORD, Ready, SUPERBLOCK_WORDS};
 
 /// How a seat claims a superblock.
 #[derive(Clone, Copy, PartialEq, Eq, Debug)]
@@ -85,20 +86,7 @@ pub fn take_first(numbers: &mut Vec<u64>) -> Option<u64> {
 
 /// Where the head of the list stands.
 pub fn head_word(list: u64) -> u64 {
-    list.wrapping_add(16)
-}
-
-/// Where the info of superblock d stands; its anchor and its link follow.
-pub fn info_word(d: u64) -> u64 {
-    d.wrapping_mul(8).wrapping_add(1_064)
-}
-
-pub fn anchor_word(d: u64) -> u64 {
-    info_word(d).wrapping_add(1)
-}
-
-pub fn link_word(d: u64) -> u64 {
-    info_word(d).wrapping_add(2)
+    list.wrapping_add(HEAD_WORD)
 }
 
 impl PlainSeat {
@@ -227,7 +215,7 @@ impl Plain {
     /// The heap opened for some seats, which own the held blocks and the roots in turn.
     pub fn new(alloc: Global, heap: &Ready, seats: usize) -> Result<Plain, AllocError> {
         let mut plain = Plain {
-            capacity: at(heap.words(), 2),
+            capacity: at(heap.words(), CAPACITY_WORD),
             words: Vec::from_slice(alloc, heap.words())?,
             durable: Vec::from_slice(alloc, heap.words())?,
             hands: Vec::new(alloc),
@@ -239,11 +227,11 @@ impl Plain {
                 if i.checked_rem(seats) != Some(seat) {
                     continue;
                 }
-                if block.words < 8_192 {
+                if block.words < SUPERBLOCK_WORDS {
                     hand.held.push(block.first_word)?;
                 } else {
                     let d = plain.superblock(block.first_word);
-                    hand.large.push((d, block.words / 8_192))?;
+                    hand.large.push((d, block.words / SUPERBLOCK_WORDS))?;
                 }
             }
             plain.hands.push(hand)?;
@@ -253,13 +241,12 @@ impl Plain {
 
     /// The first word of superblock d.
     pub fn start(&self, d: u64) -> u64 {
-        let first = self.capacity.wrapping_mul(8).wrapping_add(1_064);
-        first.wrapping_add(d.wrapping_mul(8_192))
+        info_word(self.capacity).wrapping_add(d.wrapping_mul(SUPERBLOCK_WORDS))
     }
 
     /// The superblock of a word behind the descriptors.
     pub fn superblock(&self, word: u64) -> u64 {
-        word.wrapping_sub(self.start(0)) / 8_192
+        word.wrapping_sub(self.start(0)) / SUPERBLOCK_WORDS
     }
 
     pub fn info(&self, d: u64) -> u64 {

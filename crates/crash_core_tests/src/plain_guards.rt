@@ -1,6 +1,8 @@
 //! When a seat of the plain heap may take a step.
-use crate::plain::{ClaimKind, PlainSeat, Plain, at, head_word, info_word, link_word, sizes};
+use crate::plain::{ClaimKind, Plain, PlainSeat, at, head_word, sizes};
 use crash_core::{Event, Shift};
+use image_text::{info_word, link_word};
+use super_block::{DESCRIPTOR_WORDS, FIXED_WORDS, LARGE_INFO, LARGE_STEP, ROOT_WORD, USED_WORD};
 
 /// The first descriptor's number plus 1 of a head or a link.
 pub fn first_of(head: u64) -> u64 {
@@ -21,7 +23,7 @@ impl Plain {
                 self.is_own(hand, seat, word) && self.may_store(hand, word, value)
             }
             Event::TakeFresh { n } => {
-                let used = at(&self.words, 8);
+                let used = at(&self.words, USED_WORD);
                 let room = self.capacity.wrapping_sub(used);
                 hand.used == Some(used) && 1 <= n && n <= room
             }
@@ -55,13 +57,13 @@ impl Plain {
 
     /// Whether the word is the seat's own.
     fn is_own(&self, hand: &PlainSeat, seat: usize, word: u64) -> bool {
-        if word < 1_064 {
-            let root = word.wrapping_sub(40) as usize;
-            return 40 <= word && root.checked_rem(self.hands.len()) == Some(seat);
+        if word < FIXED_WORDS {
+            let root = word.wrapping_sub(ROOT_WORD) as usize;
+            return ROOT_WORD <= word && root.checked_rem(self.hands.len()) == Some(seat);
         }
         if word < self.start(0) {
-            let d = word.wrapping_sub(1_064) / 8;
-            return match word % 8 {
+            let d = word.wrapping_sub(FIXED_WORDS) / DESCRIPTOR_WORDS;
+            return match word % DESCRIPTOR_WORDS {
                 0 | 1 => hand.has_whole(d),
                 2 => hand.claim(d).is_some(),
                 _ => false,
@@ -91,12 +93,12 @@ impl Plain {
 
     /// Whether the own word may get the value.
     fn may_store(&self, hand: &PlainSeat, word: u64, value: u64) -> bool {
-        if word < 1_064 {
+        if word < FIXED_WORDS {
             return true;
         }
         if word < self.start(0) {
-            let claim = hand.claim(word.wrapping_sub(1_064) / 8);
-            return match word % 8 {
+            let claim = hand.claim(word.wrapping_sub(FIXED_WORDS) / DESCRIPTOR_WORDS);
+            return match word % DESCRIPTOR_WORDS {
                 1 => value == 0 || value == 2 && claim != Some(ClaimKind::Cutting),
                 2 => claim != Some(ClaimKind::Cutting),
                 _ => true,
@@ -113,7 +115,7 @@ impl Plain {
             return false;
         };
         let is_linked = at(&self.words, link_word(d)) == first_of(head);
-        if !hand.has_settled(d) || at(&self.durable, 8) <= d || !is_linked {
+        if !hand.has_settled(d) || at(&self.durable, USED_WORD) <= d || !is_linked {
             return false;
         }
         let state = self.anchor(d) % 4;
@@ -162,7 +164,10 @@ impl Plain {
     fn may_cut(&self, hand: &PlainSeat, d: u64) -> bool {
         let class = self.info(d);
         let (_, count) = sizes(class);
-        if hand.claim(d) != Some(ClaimKind::Cutting) || count == 0 || at(&self.durable, 8) <= d {
+        if hand.claim(d) != Some(ClaimKind::Cutting)
+            || count == 0
+            || at(&self.durable, USED_WORD) <= d
+        {
             return false;
         }
         for i in 1..count {
@@ -186,12 +191,12 @@ impl Plain {
 
     fn may_hold_large(&self, hand: &PlainSeat, d: u64, n: u64) -> bool {
         let until = d.wrapping_add(n);
-        if n == 0 || until > at(&self.durable, 8) {
+        if n == 0 || until > at(&self.durable, USED_WORD) {
             return false;
         }
         for e in d..until {
             let wanted = if e == d {
-                n.wrapping_mul(256).wrapping_add(255)
+                n.wrapping_mul(LARGE_STEP).wrapping_add(LARGE_INFO)
             } else {
                 0
             };

@@ -1,10 +1,10 @@
 //! What becomes of the plain heap by a step that a seat may take.
-use crate::plain::{
-    ClaimKind, PlainSeat, Plain, anchor_word, at, forget, head_word, link_word, put, sizes, take_first,
-};
+use crate::plain::{ClaimKind, Plain, PlainSeat, at, forget, head_word, put, sizes, take_first};
 use crate::plain_guards::first_of;
 use crash_core::{Event, Shift};
+use image_text::{anchor_word, link_word};
 use std::alloc::{AllocError, Global};
+use super_block::{ANCHOR_OFFSET, DESCRIPTOR_WORDS, FIXED_WORDS, USED_WORD};
 
 impl Plain {
     /// Takes the step.
@@ -49,24 +49,24 @@ impl Plain {
         let Some(hand) = self.hands.get_mut(seat) else {
             return;
         };
-        if word < 1_064 {
+        if word < FIXED_WORDS {
             return;
         }
         if word >= start {
             hand.linked = hand.linked && hand.batch.last() != Some(&word);
-        } else if word % 8 == 1 {
+        } else if word % DESCRIPTOR_WORDS == ANCHOR_OFFSET {
             let claim = if value == 0 {
                 ClaimKind::Raw
             } else {
                 ClaimKind::Cutting
             };
-            hand.set_claim(word.wrapping_sub(1_064) / 8, claim);
+            hand.set_claim(word.wrapping_sub(FIXED_WORDS) / DESCRIPTOR_WORDS, claim);
         }
     }
 
     /// The events on the mark of taken superblocks.
     fn take_mark(&mut self, seat: usize, event: Event) -> Result<(), AllocError> {
-        let used = at(&self.words, 8);
+        let used = at(&self.words, USED_WORD);
         let Some(hand) = self.hands.get_mut(seat) else {
             return Ok(());
         };
@@ -77,11 +77,11 @@ impl Plain {
                     hand.add_claim(d, ClaimKind::Raw)?;
                 }
                 hand.used = Some(until);
-                put(&mut self.words, 8, until);
+                put(&mut self.words, USED_WORD, until);
             }
             Event::KeepUsed => {
-                let kept = at(&self.durable, 8).max(hand.used.unwrap_or(0));
-                put(&mut self.durable, 8, kept);
+                let kept = at(&self.durable, USED_WORD).max(hand.used.unwrap_or(0));
+                put(&mut self.durable, USED_WORD, kept);
             }
             _ => hand.used = Some(used),
         }

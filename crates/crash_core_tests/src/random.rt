@@ -1,9 +1,10 @@
 //! Random schedules, beside the plain heap.
 use crate::checks::{are_in_one_place, keeps_held};
 use crate::dice::Dice;
-use crate::fixtures::{DRAW, MANY, Words, needs_ticket, opened, recovered, take};
+use crate::fixtures::{DRAW, MANY, must_hold, needs_ticket, opened, recovered, take};
 use crate::plain::Plain;
 use crash_core::{Core, Event, Shift, StepAnswer};
+use std::alloc::{AllocError, Global};
 use std::process::Abort;
 use std::test::Fail;
 
@@ -47,6 +48,20 @@ struct Pair {
 }
 
 impl Pair {
+    /// Whether the plain seat may take the step.
+    fn may(&self, seat: usize, event: Event) -> bool {
+        let has_ticket = matches!(self.plain.hands.get(seat), Some(hand) if hand.ticket);
+        self.plain.may(seat, event) && (has_ticket || !needs_ticket(event))
+    }
+
+    /// Takes the step of the plain seat, and counts it.
+    fn take_plain(&mut self, alloc: Global, seat: usize, event: Event) -> Result<(), AllocError> {
+        if let Some(count) = self.done.get_mut(kind(event)) {
+            *count = count.wrapping_add(1);
+        }
+        self.plain.take(alloc, seat, event)
+    }
+
     /// Takes the step in both.
     fn take(
         &mut self,
@@ -54,18 +69,22 @@ impl Pair {
         seat: usize,
         event: Event,
     ) -> Result<(), Fail> {
-        let has_ticket = matches!(self.plain.hands.get(seat), Some(hand) if hand.ticket);
-        let may = self.plain.may(seat, event) && (has_ticket || !needs_ticket(event));
-        let answer = take(&mut self.core, seat, event)?;
-        if may {
-            assert_eq!(rt; answer, StepAnswer::Done, "{seat} {event:?}");
-            self.plain.take(rt.alloc(), seat, event)?;
-            let count = self.done.get_mut(kind(event)).ok_or("no kind")?;
-            *count = count.wrapping_add(1);
+        let may = self.may(seat, event);
+        let wanted = if may {
+            StepAnswer::Done
         } else {
-            assert_eq!(rt; answer, StepAnswer::NotNow, "{seat} {event:?}");
+            StepAnswer::NotNow
+        };
+        let answer = take(&mut self.core, seat, event)?;
+        assert!(rt; answer == wanted, "{seat} {event:?}");
+        if may {
+            self.take_plain(rt.alloc(), seat, event)?;
         }
-        assert_eq!(rt; self.core.tickets(), self.plain.tickets);
+        must_hold(
+            rt,
+            self.core.tickets() == self.plain.tickets,
+            "as many tickets",
+        );
         Ok(())
     }
 }
@@ -83,68 +102,72 @@ fn chosen(dice: &mut Dice, plain: &Plain, seat: usize, is_guided: bool) -> (Even
     (event, needs_ticket(event) && !hand.ticket)
 }
 
-/// Takes so many steps at random, of which most are done where they are guided.
+/// Takes a step at random, which most often is done where it is guided.
+fn roll_once(
+    rt: &(impl Abort + AllocGlobal),
+    pair: &mut Pair,
+    dice: &mut Dice,
+    is_guided: bool,
+) -> Result<(), Fail> {
+    let seat = dice.below(pair.plain.hands.len() as u64) as usize;
+    let (event, wants_ticket) = chosen(dice, &pair.plain, seat, is_guided);
+    if wants_ticket {
+        pair.take(rt, seat, DRAW)?;
+    }
+    pair.take(rt, seat, event)
+}
+
+/// Takes three hundred steps at random, and looks on the way.
 fn roll(
     rt: &(impl Abort + AllocGlobal),
     pair: &mut Pair,
     seed: u64,
     is_guided: bool,
 ) -> Result<(), Fail> {
+    let alloc = rt.alloc();
     let mut dice = Dice::new(seed);
     for step in 0..300 {
-        let seat = dice.below(pair.plain.hands.len() as u64) as usize;
-        let (event, wants_ticket) = chosen(&mut dice, &pair.plain, seat, is_guided);
-        if wants_ticket {
-            pair.take(rt, seat, DRAW)?;
-        }
-        pair.take(rt, seat, event)?;
-        let alloc = rt.alloc();
-        assert!(rt;
-            are_in_one_place(alloc, &pair.plain)?,
-            "seed {seed} step {step}"
-        );
-        if step % 20 == 19 {
-            assert!(rt;
-                keeps_held(alloc, &pair.core, &pair.plain)?,
-                "seed {seed} step {step}"
-            );
-        }
+        roll_once(rt, pair, &mut dice, is_guided)?;
+        let is_sound = are_in_one_place(alloc, &pair.plain)?
+            && (step % 20 != 19 || keeps_held(alloc, &pair.core, &pair.plain)?);
+        assert!(rt; is_sound, "seed {seed} step {step}");
     }
     Ok(())
 }
 
 /// Images of three superblocks: one that is fresh; one with free superblocks; and one in which a
 /// block of class 20, two of class 19 and a large one are held.
-const IMAGES: [Words<'static>; 3] = [
-    &[],
-    &[(8, 2)],
-    &[
-        (8, 3),
-        (1_064, 20),
-        (48, 0x5250_0000_0000_2200),
-        (1_072, 19),
-        (49, 0x5250_0000_0001_2200),
-        (50, 0x5250_0000_0001_5200),
-        (1_080, 511),
-        (51, 0x5250_0000_0002_2200),
-    ],
+const IMAGES: [&str; 3] = [
+    "",
+    "used 2",
+    "used 3, info:0 20, root:8 @1088, info:1 19, root:9 @9280, root:10 @10816, info:2 511, \
+     root:11 @17472",
 ];
+
+/// Rolls over one of the images, for two seats or eight, and counts the steps that were done.
+fn roll_over(
+    rt: &(impl Abort + AllocGlobal),
+    seed: u64,
+    done: [u64; KINDS],
+) -> Result<[u64; KINDS], Fail> {
+    let alloc = rt.alloc();
+    let words = IMAGES.get((seed % 3) as usize).copied().unwrap_or("");
+    let heap = recovered(alloc, 3, words)?;
+    let seats = if seed % 4 < 2 { 2 } else { 8 };
+    let mut pair = Pair {
+        core: opened(alloc, &heap, seats, MANY)?,
+        plain: Plain::new(alloc, &heap, seats)?,
+        done,
+    };
+    roll(rt, &mut pair, seed, seed % 2 == 0)?;
+    Ok(pair.done)
+}
 
 #[test]
 fn random_schedules_keep_what_is_held(rt: HostRuntime) -> Result<(), Fail> {
-    let alloc = rt.alloc();
     let mut done = [0; KINDS];
-    for seed in 0..200u64 {
-        let words = IMAGES.get((seed % 3) as usize).copied().unwrap_or(&[]);
-        let heap = recovered(alloc, 3, words)?;
-        let seats = if seed % 4 < 2 { 2 } else { 8 };
-        let mut pair = Pair {
-            core: opened(alloc, &heap, seats, MANY)?,
-            plain: Plain::new(alloc, &heap, seats)?,
-            done,
-        };
-        roll(&rt, &mut pair, seed, seed % 2 == 0)?;
-        done = pair.done;
+    for seed in 0..200 {
+        done = roll_over(&rt, seed, done)?;
     }
     for count in done {
         assert!(rt; 10 <= count, "{done:?}");
