@@ -16,7 +16,7 @@ use Rattle.heap_recover.proofs.UnchangedLemmas.{words_unchanged, roots_unchanged
 use Rattle.dictionary.specs.Laws.{are_inside}
 use Rattle.dictionary.specs.Reading.{RecoversTo}
 use Rattle.dict_model.specs.Links.{all_to_nodes, dict_links, root_kind, shards}
-use Rattle.dict_model.specs.Nodes.{buckets, shard_of, bucket_of, key_in, length_in, value_in, value_words, IsNode, find}
+use Rattle.dict_model.specs.Nodes.{largest_value, buckets, shard_of, bucket_of, key_in, length_in, value_in, value_words, IsNode, find}
 use Rattle.dict_model.specs.Shards.{Map, link_behind, IsPath, IsBucketChain, HasTable, HasChains, but, is_empty, has_table, at_root, at_link, LeadsAlone, MapOf, BadShard}
 
 -- a table links each of its words, a node its first
@@ -133,7 +133,7 @@ module _ (old new : Image) (alike : TracesAlike old new AnyRoot root_kind dict_l
   node_old shard bucket b same is = record {
     in_shard = subst (λ k. shard_of k ≡ shard) same.key is.in_shard;
     in_bucket = subst (λ k. bucket_of k ≡ bucket) same.key is.in_bucket;
-    short = subst (λ n. n ≤ 131072) same.count is.short;
+    short = subst (λ n. n ≤ largest_value) same.count is.short;
     fits = subst (λ n. 3 + value_words n ≤ b.words) same.count is.fits;
   }
 
@@ -189,7 +189,7 @@ module _ (old new : Image) (alike : TracesAlike old new AnyRoot root_kind dict_l
         record {
           in_shard = subst (λ k. shard_of k ≡ shard) (sym same.key) is.in_shard;
           in_bucket = subst (λ k. bucket_of k ≡ bucket) (sym same.key) is.in_bucket;
-          short = subst (λ n. n ≤ 131072) (sym same.count) is.short;
+          short = subst (λ n. n ≤ largest_value) (sym same.count) is.short;
           fits = subst (λ n. 3 + value_words n ≤ b.words) (sym same.count) fits;
         },
       )

@@ -1,5 +1,5 @@
 -- What is printed of requests is read again.
-use Rattle.std.proofs.Common.{◌≡◌, ◌≢◌, ℕ, zero, suc, ◌+◌, ◌*◌, ◌/◌, ◌%◌, ◌<◌, ◌≤◌, ◌==◌, nat_le, inl, inr, Bool, true, false, cond, List, [], ◌∷◌, ◌++◌, length, get_or, map, codes, decimal, refl, sym, ap, subst, ◌∙◌, arith, append_assoc}
+use Rattle.std.proofs.Common.{◌≡◌, ◌≢◌, ℕ, zero, suc, ◌+◌, ◌*◌, ◌/◌, ◌%◌, ◌<◌, ◌^◌, ◌≤◌, ◌==◌, nat_le, inl, inr, Bool, true, false, cond, List, [], ◌∷◌, ◌++◌, length, get_or, map, codes, decimal, refl, sym, ap, subst, ◌∙◌, arith, append_assoc}
 use Rattle.std.proofs.lemmas.List.Elements.{All-nil, All-cons, All-append, All-head, All-tail, All-map}
 use Rattle.std.proofs.lemmas.List.Folds.{flat_map-map}
 use Rattle.std.proofs.lemmas.List.FromFn.{length-map-range_with_len}
@@ -93,7 +93,7 @@ bytes_of_map f (j ∷ js) zero small = small j
 bytes_of_map f (j ∷ js) (suc i) small = bytes_of_map f js i small
 
 -- a request that is made is within bounds
-made_within : (is_put is_get : Bool) (number : ℕ) → number < 65536
+made_within : (is_put is_get : Bool) (number : ℕ) → number < 2 ^ 16
     → IsWithinBounds (cond is_put (Put (number / 16) (value_of number)) (cond is_get (Get (number / 16)) (Del (number / 16))))
 made_within true is_get number small =
     let short = length-map-range_with_len (λ j. (number + j) % 256) 0 (number % 131) in

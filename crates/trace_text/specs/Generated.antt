@@ -22,7 +22,7 @@ IsWithinBounds (Del key) = key < 2 ^ 64
 
 -- the number that request i is made of
 abbrev pub number_of : ℕ → ℕ → ℕ
-number_of seed i = (40503 * i + 977 * seed) % 65536
+number_of seed i = (40503 * i + 977 * seed) % (2 ^ 16)
 
 -- fewer than 131 bytes that count up from the number
 abbrev pub value_of : ℕ → List ℕ

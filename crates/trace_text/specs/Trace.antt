@@ -1,5 +1,5 @@
 -- Request traces: texts of lines, and the request that each line asks for.
-use Rattle.std.specs.Prelude.{◌≡◌, ℕ, ◌≤◌, ◌⊎◌, List, [], ◌++◌, length, codes, Ok}
+use Rattle.std.specs.Prelude.{◌≡◌, ℕ, ◌^◌, ◌≤◌, ◌⊎◌, List, [], ◌++◌, length, codes, Ok}
 use Rattle.hex.specs.Hex.{decode_of}
 use Rattle.trace_text.specs.declared.request.Request.{Request}
 use Rattle.trace_text.specs.declared.request.Request.TheVariants.{Put, Get, Del}
@@ -11,7 +11,7 @@ pub use Rattle.trace_text.specs.Lines.{lines_of}
 
 -- the most bytes of a value
 abbrev pub longest_value : ℕ
-longest_value = 131072
+longest_value = 2 ^ 17
 
 -- a value as a word: a hyphen for no byte at all, else two hexadecimal digits of either case for each byte
 abbrev pub IsValue : List ℕ → List ℕ → Type 0

@@ -1,5 +1,5 @@
 //! Makes traces of a number of requests and a seed.
-ghost use Rattle.std.specs.Prelude.{◌≡◌, ◌≤◌, ◌<◌, ◌++◌, IfOk, OnOk};
+ghost use Rattle.std.specs.Prelude.{◌≡◌, ◌≤◌, ◌<◌, ◌^◌, ◌++◌, IfOk, OnOk};
 ghost use Rattle.std.specs.String.{string_bytes};
 ghost use Rattle.trace_text.specs.Generated.{value_of, request_of, made_request, request_line, made_trace};
 
@@ -36,7 +36,7 @@ fn write_made(alloc: Global, text: &mut String, seed: u64, i: u64) -> Result<(),
 
 /// The request that is made of a number, the `i`th of its trace.
 fn make_request(alloc: Global, number: u64, i: u64) -> Result<Request, AllocError>
-    requires { number < 65536 }
+    requires { number < 2 ^ 16 }
     ensures ok { IfOk result (λ request. request ≡ request_of number i) }
 {
     let key = number / 16;
@@ -49,7 +49,7 @@ fn make_request(alloc: Global, number: u64, i: u64) -> Result<Request, AllocErro
 
 /// Fewer than 131 bytes that count up from the number.
 fn make_value(alloc: Global, number: u64) -> Result<Vec<u8>, AllocError>
-    requires { number < 65536 }
+    requires { number < 2 ^ 16 }
     ensures ok { IfOk result (λ value. value.items ≡ value_of number) }
 {
     (0..number % 131)
