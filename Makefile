@@ -1,8 +1,7 @@
 # make         builds the proved heap_tool and says where it lies
 # make test    runs all tests and the stored runs, and proves nothing
 # make check   every check: the gate
-# make bench   times the program beside the system's tools and other stores, runs of traces, the heap for one thread,
-#              and requests to the dictionary
+# make bench   times the program beside the system's tools and other stores, runs of traces, and the heaps, and draws it
 # make faults  refuses each request for memory of a small run in turn, and says how the runs ended
 # make schedules  runs the schedules of docs/ALGORITHM.md, and compares their answers
 # make clean   removes what these made
@@ -24,9 +23,7 @@ check:
 	.ci/run
 
 bench: bin/heap_tool
-	bench/run
-	if command -v python3 >/dev/null; then bench/running.py && bench/pairs.py && bench/requests.py; fi
-	bench/peers
+	bench/all
 
 faults:
 	tools/faults

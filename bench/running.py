@@ -3,38 +3,23 @@
 table, a trace that is refused at its last line (so it is read and parsed alone), and a stop before the first step.
 
 Each run is on an image made anew by format, in a folder of TMPDIR. Each figure is the least of RUNS runs that take turns:
-the time of the whole process, from its start to its end, and its peak memory.
+the time of the whole process, from its start to its end, its processor time and its peak memory.
 
 usage: running.py [RUNS [SUPERBLOCKS [FILE]]]      (make comes first; FILE gets what plot.py draws)
 """
 import os
 import pathlib
-import resource
 import shutil
 import subprocess
 import sys
 import tempfile
-import time
+
+from process import own_peak, took
 
 TOOL = pathlib.Path(__file__).resolve().parent.parent / "bin" / "heap_tool"
 SEED = "7"
 REQUESTS = (25_000, 50_000, 75_000, 100_000)
 MOST = REQUESTS[-1]
-
-
-def took(words, trace, wanted):
-    """Milliseconds of a process, and its peak in bytes; words are heap_tool's, and the status is the wanted one."""
-    actions = [
-        (os.POSIX_SPAWN_OPEN, 0, trace, os.O_RDONLY, 0),
-        (os.POSIX_SPAWN_OPEN, 1, os.devnull, os.O_WRONLY, 0),
-    ]
-    before = time.monotonic()
-    child = os.posix_spawn(TOOL, ["heap_tool", *words], os.environ, file_actions=actions)
-    _, status, used = os.wait4(child, 0)
-    after = time.monotonic()
-    if os.waitstatus_to_exitcode(status) != wanted:
-        sys.exit(f"status {status}: {words}")
-    return (after - before) * 1e3, used.ru_maxrss * 1024
 
 
 def make_trace(path, count):
@@ -85,9 +70,9 @@ def measure(room, ways, superblocks, runs):
         found = {}
         for name, (words, trace, _, status) in ways.items():
             subprocess.run([TOOL, "format", image, superblocks], check=True, stdout=subprocess.DEVNULL)
-            found[name] = took(words, trace, status)
+            found[name] = took([str(TOOL), *words], trace, status=status)
         rounds.append(found)
-    return {name: [min(each[name][k] for each in rounds) for k in (0, 1)] for name in ways}
+    return {name: [min(each[name][k] for each in rounds) for k in range(3)] for name in ways}
 
 
 def write_rows(path, least):
@@ -107,21 +92,19 @@ def main(runs="9", superblocks="256", path=None):
             name: length * (words[0] == "run") + os.stat(trace).st_size
             for name, (words, trace, _, _) in ways.items()
         }
-    # A process is told to have at least the peak of the one that started it.
-    own = resource.getrusage(resource.RUSAGE_SELF).ru_maxrss * 1024
     print(f"least of {runs} runs; format h {superblocks}; load {os.getloadavg()[0]:.1f}")
-    print("| what | ms | ns a request | peak MB | peak, of image and trace |")
-    print("|---|---|---|---|---|")
-    for name, (ms, peak) in least.items():
+    print("| what | ms | ns a request | ms of the processor | peak MB | peak, of image and trace |")
+    print("|---|---|---|---|---|---|")
+    for name, (ms, cpu, peak) in least.items():
         count = ways[name][2]
         each = f"{ms * 1e6 / count:,.0f}" if count else ""
-        memory = f"{peak / 1e6:.1f} | {peak / held[name]:.1f}" if peak > own else "|"
-        print(f"| {name} | {ms:.1f} | {each} | {memory} |")
+        memory = f"{peak / 1e6:.1f} | {peak / held[name]:.1f}" if peak > own_peak() else "|"
+        print(f"| {name} | {ms:.1f} | {each} | {cpu:.1f} | {memory} |")
     if path:
         write_rows(path, least)
     for way in ("gen", "run, gen", "run --sum, gen"):
-        ratio = least[f"{way} {MOST:,}"][0] / least[f"{way} {MOST // 2:,}"][0]
-        print(f"{way} {MOST:,} takes {ratio:.2f} times {way} {MOST // 2:,} (aim: at most 2.2)")
+        whole, cpu = (least[f"{way} {MOST:,}"][k] / least[f"{way} {MOST // 2:,}"][k] for k in (0, 1))
+        print(f"{way} {MOST:,}: {whole:.2f} times {way} {MOST // 2:,}, of the processor {cpu:.2f} times (aim: at most 2.2)")
 
 
 if __name__ == "__main__":
