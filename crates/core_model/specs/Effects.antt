@@ -338,5 +338,6 @@ view_after m v Pop found = cond (nat_eq found (seen_word v.seen_head)) (popped v
     (record (lost v found) { seen_head = None })
 view_after m v (Push d) found = cond (nat_eq found (seen_word v.seen_head)) (pushed v d) (record (lost v found) { seen_head = None })
 view_after m v (LookAnchor d) found = record (used_up v) { seen_anchor = Some (record { of = d; word = found }) }
-view_after m v (TakeAll d) found = cond (nat_eq found (seen_word v.seen_anchor)) (taken_all m v d) (record (lost v found) { seen_anchor = None })
+view_after m v (TakeAll d) found = cond (nat_eq found (seen_word v.seen_anchor)) (taken_all m v d)
+    (record (lost v found) { seen_anchor = None })
 view_after m v (Give d) found = cond (nat_eq found (seen_word v.seen_anchor)) (given v d) (record (lost v found) { seen_anchor = None })

@@ -97,8 +97,8 @@ pub fn a_lost_exchange_answers_the_word_that_it_found()
         → IfErr result (λ word. HasLostTo (seen_word v.seen_anchor) word v w) }
 {}
 
-/// Draws with no change, looks, lost exchanges, and keeping the mark leave the seat its parts; so do
-/// loads and fences, but for what is known of words.
+/// Draws with no change, looks, lost exchanges, and keeping the mark leave the seat its parts; so
+/// do loads and fences, but for what is known of words.
 pub fn a_step_that_changes_nothing_keeps_the_parts()
     ensures draw { (v w : View) (ticket : ℕ) → IsEvent (Tick None) v ticket w → KeepsParts v w }
     ensures look_used { (v w : View) (found : ℕ) → IsEvent LookUsed v found w → KeepsParts v w }
