@@ -20,7 +20,7 @@ parts_stay v w p = record {
   claims = record { roots = p.roots; raw = p.raw; classed = p.classed; batch = p.batch; floor = p.floor };
 }
 
-pub holds_kept : (v w : View) → cuts.KeepsSmallBlocks v w → KeepsSmallBlocks v w
+pub holds_kept : (v w : View) → cuts.KeepsHeldBlocks v w → KeepsSmallBlocks v w
 holds_kept v w p = record { small = p.small; roots = p.roots }
 
 pub stays_more : (u v w : View) → Stays u v → Stays v w → Stays u w
