@@ -1,8 +1,7 @@
 //! Runs of which a call of the outside fails, that name a damaged image, or whose trace is outside
 //! the grammar.
 use crate::harness::{
-    Call, Changes, ConstantChance, damaged, image_after, image_in, make, plain, run_script, runs,
-    store_with,
+    Call, Changes, damaged, image_after, image_in, make, plain, run_script, runs, store_with,
 };
 use line_memory::ConstantChance;
 use std::alloc::Global;

@@ -1,6 +1,6 @@
 //! Schedules replayed over images: what each step answers, and what is told of the crash behind.
 use crate::harness::{
-    Call, Changes, ConstantChance, image_in, make, make_plain, plain, runs, set_word, store_with,
+    Call, Changes, image_in, make, make_plain, plain, runs, set_word, store_with,
 };
 use line_memory::ConstantChance;
 use std::alloc::Global;
@@ -69,7 +69,13 @@ fn replays(
         runs(rt, &mut images, line, schedule.as_bytes(), status, text)?;
     }
     let call = plain("replay h", schedule.as_bytes());
-    let (code, printed) = make(alloc, call, &mut images, &OpenGate, &mut ConstantChance(u64::MAX))?;
+    let (code, printed) = make(
+        alloc,
+        call,
+        &mut images,
+        &OpenGate,
+        &mut ConstantChance(u64::MAX),
+    )?;
     assert_eq!(rt; code, status);
     assert_eq!(rt; printed.as_slice(), text.as_bytes());
     assert!(rt; image_in(alloc, &images)? == image);
