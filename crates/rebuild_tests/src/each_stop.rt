@@ -35,7 +35,10 @@ fn image(alloc: Global) -> Result<Vec<u64>, Fail> {
 }
 
 /// Stops the recovery at each step until it is done, and makes the recovery of what each stop left.
-fn goes_on_from_each_stop(rt: &(impl Abort + AllocGlobal), chance: ConstantChance) -> Result<(), Fail> {
+fn goes_on_from_each_stop(
+    rt: &(impl Abort + AllocGlobal),
+    chance: ConstantChance,
+) -> Result<(), Fail> {
     let alloc = rt.alloc();
     let image = image(alloc)?;
     for budget in 0..10_000 {

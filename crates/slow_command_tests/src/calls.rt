@@ -47,7 +47,13 @@ pub fn make<C: Chances>(
 pub fn formatted(alloc: Global, superblocks: &str) -> Result<Vec<u8>, Fail> {
     let mut images = store_with(alloc, b"")?;
     let line = format!(in alloc; "format h {superblocks}")?;
-    make(alloc, &line, Vec::new(alloc), &mut images, &mut ConstantChance(0))?;
+    make(
+        alloc,
+        &line,
+        Vec::new(alloc),
+        &mut images,
+        &mut ConstantChance(0),
+    )?;
     Ok(Vec::from_slice(alloc, images.image("h").unwrap_or(&[]))?)
 }
 

@@ -44,7 +44,15 @@ fn a_line_of_the_longest_length_is_outside_the_grammar(rt: HostRuntime) -> Resul
     ] {
         let trace = vec![in alloc; b'x'; length]?;
         let line = "run h --workers 1";
-        runs(&rt, &mut images, &mut ConstantChance(0), line, trace, 10, text)?;
+        runs(
+            &rt,
+            &mut images,
+            &mut ConstantChance(0),
+            line,
+            trace,
+            10,
+            text,
+        )?;
     }
     assert!(rt; images.image("h") == Some(image.as_slice()));
     Ok(())

@@ -10,8 +10,8 @@ use crate::command_line::{
 };
 use crate::trace_plan::{GREATEST_SEED, MOST_REQUESTS, TracePlan};
 use image_run::{MOST_BUDGET, MOST_WORKERS, RunOptions};
-use std::alloc::Global;
 use size_table::SizeClass;
+use std::alloc::Global;
 use super_block::{Geometry, LARGEST_CAPACITY, LAST_CLASS};
 
 /// What the words ask for.
