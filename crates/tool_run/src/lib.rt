@@ -21,8 +21,3 @@ mod working;
 pub use laws::words_in_a_form_ask_for_its_command;
 pub use run::{run_tool, tell_out_of_memory};
 pub use status::Status;
-
-#[cfg(test)]
-mod harness;
-#[cfg(test)]
-mod tests;

@@ -1,82 +1,120 @@
-//! What is told of an image in which words have values that no run leaves there. Each case changes
-//! nothing else of the image that `damaged` makes, and the store is as it was after each.
-use crate::harness::{Changes, damaged, image_in, runs, set_word, store_with};
+//! What is told of an image in which words have values that no run leaves there. Each session
+//! changes nothing else of the image, and the store is as it was after each.
+use crate::harness::shows;
+use crate::images::image_bytes;
+use crate::session::shows_each;
+use std::alloc::{AllocError, Global};
 use std::process::Abort;
 use std::test::Fail;
-use tool_ports::FailedPut;
 
 const AS_BEFORE: &str = "heap 2 clean\nkey 0 -\nheld 32 1\nheld 1024 1\n";
 
-const KEY_0_LONGER: &str = "heap 2 clean\nkey 0 0000000000000000\nheld 32 1\nheld 1024 1\n";
+/// The words of the header behind the mark, and of the descriptors of two superblocks, that
+/// recovery makes anew.
+const NOT_READ: &str = "16 17 18 19 20 21 22 23 24 25 26 27 28 29 30 31 32 33 34 35 36 anchor:0 \
+    link:0 anchor:1 link:1";
 
-const NODE_IS_LARGE: &str = "heap 2 clean\nkey 0 -\nheld 1024 1\nheld large 1 1\n";
-
-const BUCKET_OUTSIDE: &str = "pointer outside at 1080 value 52500000000121c0\n";
-
-const TABLE: u64 = 0x5250_0000_0000_21c0;
-
-const NODE: u64 = 0x5250_0000_0001_21c0;
-
-/// Shows the image, which is left as it is.
-fn shows(
-    rt: &(impl Abort + AllocGlobal),
-    image: &[u8],
-    status: u8,
-    text: &str,
-) -> Result<(), Fail> {
-    let mut images = store_with(rt.alloc(), image, u64::MAX, FailedPut::LeavesOld)?;
-    runs(rt, &mut images, "show h", b"", status, text)?;
-    assert_eq!(rt; image_in(rt.alloc(), &images)?.as_slice(), image);
-    Ok(())
+/// Changes by which each of these words has its greatest value.
+fn greatest(alloc: Global, words: &str) -> Result<String, AllocError> {
+    let mut changes = String::from_str(alloc, "table: ")?;
+    for word in words.split(' ') {
+        write!(changes, "{word} {}, ", u64::MAX)?;
+    }
+    Ok(changes)
 }
 
 #[test]
 fn words_that_recovery_does_not_read_change_nothing(rt: HostRuntime) -> Result<(), Fail> {
     // Clause `ok`: the reserved words of the header, and what recovery makes anew of a superblock.
-    let mut image = damaged(rt.alloc(), &[])?;
-    shows(&rt, &image, 0, AS_BEFORE)?;
-    for at in (16..37).chain([1_065, 1_066, 1_073, 1_074]) {
-        set_word(&mut image, at, u64::MAX);
-    }
-    shows(&rt, &image, 0, AS_BEFORE)
+    let alloc = rt.alloc();
+    let image = image_bytes(alloc, &greatest(alloc, NOT_READ)?)?;
+    shows(&rt, &image, "show h", 0, AS_BEFORE)
 }
+
+const DAMAGED: &str = "
+@ table
+$ show h
+> heap 2 clean
+> key 0 -
+> held 32 1
+> held 1024 1
+
+# Clause `ok`: the node has eight zero bytes, or is a large block.
+@ table: 9274 8
+$ show h
+> heap 2 clean
+> key 0 0000000000000000
+> held 32 1
+> held 1024 1
+@ table: info:1 511
+$ show h
+> heap 2 clean
+> key 0 -
+> held 1024 1
+> held large 1 1
+
+# Clause `outside`: no block begins there, since the superblock is of no class, or since nothing is
+# there to be pointed to.
+@ table: info:1 21
+$ show h
+= 8
+> pointer outside at 1080 value 52500000000121c0
+@ table: info:1 255
+$ show h
+= 8
+> pointer outside at 1080 value 52500000000121c0
+@ table: info:1 767
+$ show h
+= 8
+> pointer outside at 1080 value 52500000000121c0
+@ table: root:0 @0
+$ show h
+= 8
+> pointer outside at 40 value 5250000000000000
+@ table: root:0 1
+$ show h
+= 8
+> pointer outside at 40 value 0000000000000001
+
+# Clause `bad_shard`: the key is of another bucket, or the value has no room.
+@ table: 9273 8
+$ show h
+= 9
+> bad shard 0 at 1080
+@ table: 9274 9
+$ show h
+= 9
+> bad shard 0 at 1080
+@ table: 9274 18446744073709551615
+$ show h
+= 9
+> bad shard 0 at 1080
+
+# Clause `bad_shard`: a second bucket or root leads to the node or to the table, or the root to the
+# node.
+@ table: 1081 @9272
+$ show h
+= 9
+> bad shard 0 at 1081
+@ table: root:1 @1080
+$ show h
+= 9
+> bad shard 0 at 40
+@ table: root:8 @9272
+$ show h
+= 9
+> bad shard 0 at 1080
+@ table: root:0 @9272, 1080 0
+$ show h
+= 9
+> bad shard 0 at 40
+@ table: root:0 @9272
+$ show h
+= 9
+> bad shard 0 at 40
+";
 
 #[test]
 fn a_damaged_word_is_taken_or_told(rt: HostRuntime) -> Result<(), Fail> {
-    let cases: [(Changes<'_>, u8, &str); 15] = [
-        // Clause `ok`: the node has eight zero bytes, or is a large block.
-        (&[(9_274, 8)], 0, KEY_0_LONGER),
-        (&[(1_072, 511)], 0, NODE_IS_LARGE),
-        // Clause `outside`: no block begins there, since the superblock is of no class, or since
-        // nothing is there to be pointed to.
-        (&[(1_072, 21)], 8, BUCKET_OUTSIDE),
-        (&[(1_072, 255)], 8, BUCKET_OUTSIDE),
-        (&[(1_072, 767)], 8, BUCKET_OUTSIDE),
-        (
-            &[(40, 0x5250_0000_0000_0000)],
-            8,
-            "pointer outside at 40 value 5250000000000000\n",
-        ),
-        (
-            &[(40, 1)],
-            8,
-            "pointer outside at 40 value 0000000000000001\n",
-        ),
-        // Clause `bad_shard`: the key is of another bucket, or the value has no room.
-        (&[(9_273, 8)], 9, "bad shard 0 at 1080\n"),
-        (&[(9_274, 9)], 9, "bad shard 0 at 1080\n"),
-        (&[(9_274, u64::MAX)], 9, "bad shard 0 at 1080\n"),
-        // Clause `bad_shard`: a second bucket or root leads to the node or to the table, or the
-        // root to the node.
-        (&[(1_081, NODE)], 9, "bad shard 0 at 1081\n"),
-        (&[(41, TABLE)], 9, "bad shard 0 at 40\n"),
-        (&[(48, NODE)], 9, "bad shard 0 at 1080\n"),
-        (&[(40, NODE), (1_080, 0)], 9, "bad shard 0 at 40\n"),
-        (&[(40, NODE)], 9, "bad shard 0 at 40\n"),
-    ];
-    for (changes, status, text) in cases {
-        let image = damaged(rt.alloc(), changes)?;
-        shows(&rt, &image, status, text)?;
-    }
-    Ok(())
+    shows_each(&rt, DAMAGED)
 }

@@ -1,24 +1,30 @@
 //! Runs of which a call of the outside fails, that name a damaged image, or whose trace is outside
 //! the grammar.
 use crate::harness::{
-    Call, Changes, damaged, image_after, image_in, make, plain, run_script, runs, store_with,
+    Call, NO_CALL, image_after, image_in, make, must_end, must_hold, plain, runs, store_with,
 };
+use crate::session::shows_each;
 use line_memory::ConstantChance;
 use std::alloc::Global;
 use std::process::Abort;
 use std::test::Fail;
 use tool_ports::{FailedPut, OpenGate};
 
-/// More calls than any test makes.
-const NO_CALL: u64 = 1 << 20;
-
 const LINE: &str = "run h --workers 1 --map";
 
 const TRACE: &[u8] = b"put 5 6162\nget 5\ndel 5\nget 5";
 
-const TOLD: &[u8] =
-    b"ok\n6162\nok\nnone\nrun closed\nheap 4 clean\nheld 1024 1\nused 2 free 1 fresh 2\n\
-     sb 0 class 12 held 0\nsb 1 free\n";
+const TOLD: &str = "ok
+6162
+ok
+none
+run closed
+heap 4 clean
+held 1024 1
+used 2 free 1 fresh 2
+sb 0 class 12 held 0
+sb 1 free
+";
 
 /// Which call of the outside fails, and how: that of the store, the input or the output.
 #[derive(Clone, Copy, Debug)]
@@ -36,6 +42,27 @@ const NONE: Failure = Failure {
     put: FailedPut::LeavesOld,
 };
 
+/// A failure, the status, what is printed, and whether the image is put. The store's call 0 put the
+/// image there, 1 gets it, and 2 puts what is left.
+const FAILURES: [(Failure, u8, &str, bool); 7] = [
+    (Failure { store: 1, ..NONE }, 4, "read fault\n", false),
+    (Failure { read: 0, ..NONE }, 4, "read fault\n", false),
+    (Failure { read: 1, ..NONE }, 4, "read fault\n", false),
+    (Failure { store: 2, ..NONE }, 5, "write fault\n", false),
+    (
+        Failure {
+            store: 2,
+            put: FailedPut::LeavesNew,
+            ..NONE
+        },
+        5,
+        "write fault\n",
+        true,
+    ),
+    (Failure { write: 0, ..NONE }, 5, "write fault\n", true),
+    (Failure { write: 1, ..NONE }, 0, TOLD, true),
+];
+
 /// A run over the image with that failure: its status, what it prints, and the image that is left.
 fn failing_run(
     alloc: Global,
@@ -44,95 +71,134 @@ fn failing_run(
 ) -> Result<(u8, Vec<u8>, Vec<u8>), Fail> {
     let mut images = store_with(alloc, image, failure.store, failure.put)?;
     let call = Call {
-        line: LINE,
-        trace: TRACE,
         failing_reads: &[failure.read],
         failing_writes: &[failure.write],
+        ..plain(LINE, TRACE)
     };
     let (status, printed) = make(alloc, call, &mut images, &OpenGate, &mut ConstantChance(0))?;
     Ok((status, printed, image_in(alloc, &images)?))
 }
 
+/// Makes the run over the old image with that failure: it ends so, and leaves the old or the new one.
+fn fails(
+    rt: &(impl Abort + AllocGlobal),
+    (old, left): (&[u8], &[u8]),
+    failure: Failure,
+    status: u8,
+    text: &str,
+) -> Result<(), Fail> {
+    let (code, printed, image) = failing_run(rt.alloc(), old, failure)?;
+    must_end(rt, text, (code, &printed), status, text);
+    must_hold(rt, image.as_slice() == left, text);
+    Ok(())
+}
+
 #[test]
 fn each_call_of_the_outside_fails_once(rt: HostRuntime) -> Result<(), Fail> {
-    let alloc = rt.alloc();
-    let old = image_after(alloc, "4", "")?;
-    let (status, told, new) = failing_run(alloc, &old, NONE)?;
-    assert!(rt; status == 0 && told.as_slice() == TOLD && old != new);
-    // The store's call 0 put the image there, 1 gets it, and 2 puts what is left.
-    for (failure, status, text, is_new) in [
-        (Failure { store: 1, ..NONE }, 4, &b"read fault\n"[..], false),
-        (Failure { read: 0, ..NONE }, 4, &b"read fault\n"[..], false),
-        (Failure { read: 1, ..NONE }, 4, &b"read fault\n"[..], false),
-        (
-            Failure { store: 2, ..NONE },
-            5,
-            &b"write fault\n"[..],
-            false,
-        ),
-        (
-            Failure {
-                store: 2,
-                put: FailedPut::LeavesNew,
-                ..NONE
-            },
-            5,
-            &b"write fault\n"[..],
-            true,
-        ),
-        (Failure { write: 0, ..NONE }, 5, &b"write fault\n"[..], true),
-        (Failure { write: 1, ..NONE }, 0, TOLD, true),
-    ] {
-        let (code, printed, left) = failing_run(alloc, &old, failure)?;
-        assert_eq!(rt; code, status, "{failure:?}");
-        assert_eq!(rt; printed.as_slice(), text, "{failure:?}");
-        let wanted = if is_new { &new } else { &old };
-        assert!(rt; left.as_slice() == wanted.as_slice(), "{failure:?}");
+    let old = image_after(rt.alloc(), "4", "")?;
+    let (status, told, new) = failing_run(rt.alloc(), &old, NONE)?;
+    must_end(&rt, "no failure", (status, &told), 0, TOLD);
+    must_hold(&rt, old != new, "the run changes the image");
+    for (failure, status, text, is_new) in FAILURES {
+        let left = if is_new { &new } else { &old };
+        fails(&rt, (&old, left), failure, status, text)?;
     }
     Ok(())
 }
+
+/// A call of a store that fails, the first being that which puts the bytes `old` as h: what a
+/// failed put leaves, the line, the status, the text, and the length of h after it.
+const STORE_FAILURES: [(u64, FailedPut, &str, u8, &str, usize); 5] = [
+    (1, FailedPut::LeavesOld, "show h", 4, "read fault\n", 3),
+    (1, FailedPut::LeavesOld, "drain h 4", 4, "read fault\n", 3),
+    (1, FailedPut::LeavesOld, "format h 1", 5, "write fault\n", 3),
+    (
+        1,
+        FailedPut::LeavesNew,
+        "format h 1",
+        5,
+        "write fault\n",
+        74_112,
+    ),
+    (
+        2,
+        FailedPut::LeavesOld,
+        "format h 1",
+        0,
+        "formatted 1 bytes 74112\n",
+        74_112,
+    ),
+];
+
+#[test]
+fn a_failing_store_is_told_and_has_the_old_bytes_or_the_new(rt: HostRuntime) -> Result<(), Fail> {
+    for (call, failed_put, line, status, text, length) in STORE_FAILURES {
+        let mut images = store_with(rt.alloc(), b"old", call, failed_put)?;
+        runs(&rt, &mut images, line, b"", status, text)?;
+        must_hold(&rt, image_in(rt.alloc(), &images)?.len() == length, line);
+    }
+    Ok(())
+}
+
+/// The first line outside the grammar, and a trace, in which semicolons stand for line feeds.
+const BAD_TRACES: &str = "1 | ;
+2 | get 1;;get 2;
+2 | get 1;get  2;
+1 | get 1 ;
+1 |  get 1;
+1 | get 1\r;
+1 | get\t1;
+1 | Get 1;
+1 | get;
+1 | get 1 2;
+1 | get 01;
+1 | get +1;
+1 | get -1;
+1 | get 18446744073709551616;
+1 | del x;
+1 | put 1;
+1 | put 1 ;
+1 | put 1 a;
+1 | put 1 ag;
+1 | put 1 --;
+1 | put 1 aa bb;
+1 | move 1 2;";
 
 #[test]
 fn the_first_line_outside_the_grammar_is_told(rt: HostRuntime) -> Result<(), Fail> {
     let alloc = rt.alloc();
     let image = image_after(alloc, "1", "")?;
     let mut images = store_with(alloc, &image, NO_CALL, FailedPut::LeavesOld)?;
-    let line = "run h --workers 1";
-    for (trace, text) in [
-        ("\n", "bad trace line 1\n"),
-        ("get 1\n\nget 2\n", "bad trace line 2\n"),
-        ("get 1\nget  2\n", "bad trace line 2\n"),
-        ("get 1 \n", "bad trace line 1\n"),
-        (" get 1\n", "bad trace line 1\n"),
-        ("get 1\r\n", "bad trace line 1\n"),
-        ("get\t1\n", "bad trace line 1\n"),
-        ("Get 1\n", "bad trace line 1\n"),
-        ("get\n", "bad trace line 1\n"),
-        ("get 1 2\n", "bad trace line 1\n"),
-        ("get 01\n", "bad trace line 1\n"),
-        ("get +1\n", "bad trace line 1\n"),
-        ("get -1\n", "bad trace line 1\n"),
-        ("get 18446744073709551616\n", "bad trace line 1\n"),
-        ("del x\n", "bad trace line 1\n"),
-        ("put 1\n", "bad trace line 1\n"),
-        ("put 1 \n", "bad trace line 1\n"),
-        ("put 1 a\n", "bad trace line 1\n"),
-        ("put 1 ag\n", "bad trace line 1\n"),
-        ("put 1 --\n", "bad trace line 1\n"),
-        ("put 1 aa bb\n", "bad trace line 1\n"),
-        ("move 1 2\n", "bad trace line 1\n"),
-    ] {
-        runs(&rt, &mut images, line, trace.as_bytes(), 10, text)?;
+    for row in BAD_TRACES.split('\n') {
+        let (bad, trace) = row.split_once(" | ").ok_or("no trace")?;
+        let trace = trace.replace(alloc, ";", "\n")?;
+        let text = format!(in alloc; "bad trace line {bad}\n")?;
+        runs(
+            &rt,
+            &mut images,
+            "run h --workers 1",
+            trace.as_bytes(),
+            10,
+            &text,
+        )?;
     }
-    assert_eq!(rt; image_in(alloc, &images)?, image);
-    runs(
+    must_hold(
         &rt,
-        &mut images,
-        "run h --workers 1",
-        b"get 18446744073709551615\nput 0 -\ndel 1",
-        0,
-        "none\nfull\nnone\nrun closed\nheap 1 clean\nheld 1024 1\n",
-    )
+        images.image("h") == Some(image.as_slice()),
+        "the image is as it was",
+    );
+    Ok(())
+}
+
+const LAST_KEY: &str = "none\nfull\nnone\nrun closed\nheap 1 clean\nheld 1024 1\n";
+
+#[test]
+fn the_last_key_and_the_last_line_are_read(rt: HostRuntime) -> Result<(), Fail> {
+    let alloc = rt.alloc();
+    let image = image_after(alloc, "1", "")?;
+    let mut images = store_with(alloc, &image, NO_CALL, FailedPut::LeavesOld)?;
+    let trace = b"get 18446744073709551615\nput 0 -\ndel 1";
+    runs(&rt, &mut images, "run h --workers 1", trace, 0, LAST_KEY)
 }
 
 #[test]
@@ -149,43 +215,52 @@ fn a_trace_that_is_too_long_is_told(rt: HostRuntime) -> Result<(), Fail> {
         10,
         "bad trace too long\n",
     )?;
-    assert_eq!(rt; image_in(alloc, &images)?, image);
+    must_hold(
+        &rt,
+        images.image("h") == Some(image.as_slice()),
+        "the image is as it was",
+    );
     Ok(())
 }
 
+/// The trace of each is outside the grammar.
+const BEFORE_ITS_TRACE: &str = "
+@ table: state 0
+$ run h --workers 1
+< outside
+= 7
+> bad header state
+@ table: root:0 1
+$ run h --workers 1
+< outside
+= 8
+> pointer outside at 40 value 0000000000000001
+@ table: 9273 8
+$ run h --workers 1
+< outside
+= 9
+> bad shard 0 at 1080
+@ table
+$ run h --workers 1
+< outside
+= 10
+> bad trace line 1
+$ run none.img --workers 1
+< outside
+= 6
+> no image none.img
+";
+
 #[test]
 fn an_image_is_refused_before_its_trace(rt: HostRuntime) -> Result<(), Fail> {
-    let alloc = rt.alloc();
-    let cases: [(Changes<'_>, u8, &str); 4] = [
-        (&[(3, 0)], 7, "bad header state\n"),
-        (
-            &[(40, 1)],
-            8,
-            "pointer outside at 40 value 0000000000000001\n",
-        ),
-        (&[(9_273, 8)], 9, "bad shard 0 at 1080\n"),
-        (&[], 10, "bad trace line 1\n"),
-    ];
-    for (changes, status, text) in cases {
-        let image = damaged(alloc, changes)?;
-        let mut images = store_with(alloc, &image, NO_CALL, FailedPut::LeavesOld)?;
-        let call = plain("run h --workers 1", b"outside");
-        let (code, printed) = make(alloc, call, &mut images, &OpenGate, &mut ConstantChance(0))?;
-        assert_eq!(rt; code, status, "{text}");
-        assert_eq!(rt; printed.as_slice(), text.as_bytes());
-        assert_eq!(rt; image_in(alloc, &images)?, image);
-    }
-    run_script(
+    shows_each(&rt, BEFORE_ITS_TRACE)?;
+    let mut images = store_with(rt.alloc(), b"", NO_CALL, FailedPut::LeavesOld)?;
+    runs(
         &rt,
-        &mut store_with(alloc, b"", NO_CALL, FailedPut::LeavesOld)?,
-        &[
-            (
-                "run none.img --workers 1",
-                "outside",
-                6,
-                "no image none.img\n",
-            ),
-            ("run h --workers 1", "outside", 7, "bad header short\n"),
-        ],
+        &mut images,
+        "run h --workers 1",
+        b"outside",
+        7,
+        "bad header short\n",
     )
 }

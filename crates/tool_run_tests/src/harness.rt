@@ -1,5 +1,6 @@
 //! Calls of the tool over a store, an input and an output in memory, and what is wanted of them.
-use line_memory::Chance;
+use crate::images::image_bytes;
+use image_text::number;
 use std::alloc::{AllocError, Global};
 use std::process::Abort;
 use std::test::Fail;
@@ -11,6 +12,9 @@ use tool_run::run_tool;
 // Room for the longest text of a test.
 const ROOM: usize = 1 << 22;
 
+/// More calls than any test makes.
+pub const NO_CALL: u64 = 1 << 20;
+
 /// What a call is given beside the store: its line, its input, and which of its reads and writes
 /// are to fail.
 #[derive(Clone, Copy)]
@@ -19,6 +23,8 @@ pub struct Call<'a> {
     pub trace: &'a [u8],
     pub failing_reads: &'a [u64],
     pub failing_writes: &'a [u64],
+    /// How many bytes a read gives at most, and how many a write takes.
+    pub reads_and_writes: (usize, usize),
 }
 
 /// A call of which nothing is to fail.
@@ -28,6 +34,7 @@ pub fn plain<'a>(line: &'a str, trace: &'a [u8]) -> Call<'a> {
         trace,
         failing_reads: &[],
         failing_writes: &[],
+        reads_and_writes: (1 << 20, ROOM),
     }
 }
 
@@ -41,12 +48,14 @@ pub fn make<G: Gate + Sync, C: Chances>(
 ) -> Result<(u8, Vec<u8>), AllocError> {
     let mut words = Vec::new(alloc);
     for word in call.line.split(' ') {
+        let word = if word == "''" { "" } else { word };
         words.push(String::from_str(alloc, word)?)?;
     }
+    let (most_read, most_written) = call.reads_and_writes;
     let writes = Vec::from_slice(alloc, call.failing_writes)?;
-    let mut out = VecSink::new(alloc, writes, ROOM, ROOM)?;
+    let mut out = VecSink::new(alloc, writes, most_written, ROOM)?;
     let reads = Vec::from_slice(alloc, call.failing_reads)?;
-    let mut trace = BytesSource::new(reads, 1 << 20, Vec::from_slice(alloc, call.trace)?);
+    let mut trace = BytesSource::new(reads, most_read, Vec::from_slice(alloc, call.trace)?);
     let status = run_tool(
         &(),
         alloc,
@@ -76,22 +85,25 @@ pub fn make_plain(
     )
 }
 
-/// Makes calls one after the other over one store: for each its line and input, and the status and
-/// the text that are wanted.
-pub fn run_script(
-    rt: &(impl Abort + AllocGlobal),
-    images: &mut MapStore,
-    script: &[(&str, &str, u8, &str)],
-) -> Result<(), Fail> {
-    for (line, trace, status, text) in script {
-        let (code, printed) = make_plain(rt.alloc(), images, line, trace.as_bytes())?;
-        assert_eq!(rt; code, *status, "{line}");
-        assert_eq!(rt; printed.as_slice(), text.as_bytes(), "{line}");
-    }
-    Ok(())
+/// Asserts what the text tells of. An assertion makes a long function slow to prove; a call of this
+/// one does not.
+pub fn must_hold(rt: &impl Abort, holds: bool, told: &str) {
+    assert!(rt; holds, "{told}");
 }
 
-/// Makes one such call, whose input is bytes.
+/// Asserts that a call ended with this status and printed this text.
+pub fn must_end(
+    rt: &impl Abort,
+    told: &str,
+    (status, printed): (u8, &[u8]),
+    wanted: u8,
+    text: &str,
+) {
+    assert_eq!(rt; printed, text.as_bytes(), "{told}");
+    assert_eq!(rt; status, wanted, "{told}");
+}
+
+/// Makes a call, which is to end with this status and to print this text.
 pub fn runs(
     rt: &(impl Abort + AllocGlobal),
     images: &mut MapStore,
@@ -101,8 +113,21 @@ pub fn runs(
     text: &str,
 ) -> Result<(), Fail> {
     let (code, printed) = make_plain(rt.alloc(), images, line, trace)?;
-    assert_eq!(rt; code, status, "{line}");
-    assert_eq!(rt; printed.as_slice(), text.as_bytes(), "{line}");
+    must_end(rt, line, (code, &printed), status, text);
+    Ok(())
+}
+
+/// Makes a call on the image h, which it leaves as it is.
+pub fn shows(
+    rt: &(impl Abort + AllocGlobal),
+    image: &[u8],
+    line: &str,
+    status: u8,
+    text: &str,
+) -> Result<(), Fail> {
+    let mut images = store_with(rt.alloc(), image, NO_CALL, FailedPut::LeavesOld)?;
+    runs(rt, &mut images, line, b"", status, text)?;
+    must_hold(rt, images.image("h") == Some(image), text);
     Ok(())
 }
 
@@ -133,57 +158,23 @@ pub fn image_in(alloc: Global, images: &MapStore) -> Result<Vec<u8>, AllocError>
 
 /// The image that a call leaves of an empty one of some superblocks.
 pub fn image_after(alloc: Global, superblocks: &str, trace: &str) -> Result<Vec<u8>, Fail> {
-    let mut images = store(alloc);
-    let line = format!(in alloc; "format h {superblocks}")?;
-    make_plain(alloc, &mut images, &line, b"")?;
+    let image = image_bytes(alloc, superblocks)?;
+    let mut images = store_with(alloc, &image, NO_CALL, FailedPut::LeavesOld)?;
     make_plain(alloc, &mut images, "run h --workers 1", trace.as_bytes())?;
     Ok(image_in(alloc, &images)?)
 }
 
-/// The word of an image at the word index, or 0 behind its end.
-pub fn word(image: &[u8], at: usize) -> u64 {
-    let from = at.saturating_mul(8);
+/// The word of an image at the place, or 0 behind its end.
+pub fn word(image: &[u8], place: &str) -> Result<u64, Fail> {
+    let from = (number(place)? as usize).saturating_mul(8);
     let Some(bytes) = image.get(from..from.saturating_add(8)) else {
-        return 0;
+        return Ok(0);
     };
-    bytes.iter().rev().fold(0u64, |word, byte| word.wrapping_mul(256) | u64::from(*byte))
-}
-
-/// Gives the word of an image at the word index another value.
-pub fn set_word(image: &mut [u8], at: usize, value: u64) {
-    if let Some(rest) = image.get_mut(at.saturating_mul(8)..) {
-        for (old, byte) in rest.iter_mut().zip(value.to_le_bytes()) {
-            *old = byte;
-        }
-    }
-}
-
-/// Other values for words of an image: at which word index, and what.
-pub type Changes<'a> = &'a [(usize, u64)];
-
-/// A table in superblock 0 of two, to which root 0 points, and in its bucket 0 a node of four words
-/// in superblock 1, with key 0 and no byte. All else is as formatting leaves it.
-const BASE: Changes<'_> = &[
-    (8, 2),
-    (1_064, 12),
-    (1_072, 2),
-    (40, 0x5250_0000_0000_21c0),
-    (1_080, 0x5250_0000_0001_21c0),
-];
-
-/// That image, in which some words have other values.
-pub fn damaged(alloc: Global, changes: Changes<'_>) -> Result<Vec<u8>, Fail> {
-    let mut images = store(alloc);
-    make_plain(alloc, &mut images, "format h 2", b"")?;
-    let mut image = image_in(alloc, &images)?;
-    for (at, value) in BASE.iter().chain(changes) {
-        set_word(&mut image, *at, *value);
-    }
-    Ok(image)
+    Ok(bytes.iter().rev().fold(0u64, |word, byte| word.wrapping_mul(256) | u64::from(*byte)))
 }
 
 /// A request that puts so many zero bytes, as a line of a trace.
-pub fn put_zeros(trace: &mut String, key: u64, length: u64) -> Result<(), AllocError> {
+pub fn put_zeros(trace: &mut String, key: &str, length: u64) -> Result<(), AllocError> {
     write!(trace, "put {key} ")?;
     for _ in 0..length {
         trace.push_str("00")?;

@@ -2,7 +2,7 @@
 //! at each step, and with each call of the outside failing; schedules replayed; and images with
 //! words that no run leaves. The crate is nothing but these, so that a change of the tool's texts or
 //! of its other commands leaves them alone.
-#![tactic(auto)]
+#![tactic(auto, unfolding(heap_model::specs::Geometry::largest_capacity))]
 
 #[cfg(test)]
 mod damage;
@@ -11,10 +11,18 @@ mod faults;
 #[cfg(test)]
 mod harness;
 #[cfg(test)]
+mod images;
+#[cfg(test)]
 mod rebuilds;
 #[cfg(test)]
 mod replays;
 #[cfg(test)]
 mod rows;
 #[cfg(test)]
+mod session;
+#[cfg(test)]
+mod shows;
+#[cfg(test)]
 mod stops;
+#[cfg(test)]
+mod words;

@@ -1,165 +1,258 @@
 //! Schedules replayed over images: what each step answers, and what is told of the crash behind.
-use crate::harness::{
-    Call, Changes, image_in, make, make_plain, plain, runs, set_word, store_with,
-};
+use crate::harness::{Call, NO_CALL, make, must_end, must_hold, plain, runs, store_with};
+use crate::images::image_bytes;
+use crate::session::shows_each;
+use image_text::{info_word, link_word};
 use line_memory::ConstantChance;
-use std::alloc::Global;
+use std::alloc::{AllocError, Global};
 use std::process::Abort;
 use std::test::Fail;
 use tool_ports::{FailedPut, MapStore, OpenGate};
 
-/// More calls than any test makes.
-const NO_CALL: u64 = 1 << 20;
-
 /// A superblock that was taken, and nothing held.
-const ONE_FREE: Changes<'_> = &[(8, 1)];
+const ONE_FREE: &str = "1: used 1";
 
 /// Two of them.
-const TWO_FREE: Changes<'_> = &[(8, 2)];
+const TWO_FREE: &str = "2: used 2";
 
 /// A superblock of blocks of 64 bytes, to the first of which root 8 points.
-const ONE_BLOCK: Changes<'_> = &[(8, 1), (1_064, 4), (48, 0x5250_0000_0000_21c0)];
+const ONE_BLOCK: &str = "2: used 1, info:0 4, root:8 @1080";
+
+/// An image, a schedule, and what is told of it.
+type Row = (&'static str, &'static str, &'static str);
 
 /// A pop that another seat's pops and push overtake: the head has the old descriptor again, but not
 /// the old count.
-const OVERTAKEN: &str = "seats 2\n0 head 0\n0 link\n1 head 0\n1 link\n1 pop\n1 head 0\n1 link\n\
-     1 pop\n1 head 0\n1 store 1066 0\n1 push 0\n0 pop\n";
+const OVERTAKEN: Row = (
+    TWO_FREE,
+    "seats 2
+0 head 0
+0 link
+1 head 0
+1 link
+1 pop
+1 head 0
+1 link
+1 pop
+1 head 0
+1 store LINK 0
+1 push 0
+0 pop
+",
+    "done
+done
+done
+done
+done
+done
+done
+done
+done
+done
+done
+not now
+tickets 12
+heap 2 dirty
+",
+);
 
 /// A push of a descriptor without a class to the list of a class.
-const RAW: &str =
-    "seats 1\n0 head 0\n0 link\n0 pop\n0 store 1064 4\n0 head 4\n0 store 1066 0\n0 push 0";
+const RAW: Row = (
+    ONE_FREE,
+    "seats 1
+0 head 0
+0 link
+0 pop
+0 store INFO 4
+0 head 4
+0 store LINK 0
+0 push 0",
+    "done
+done
+done
+done
+done
+done
+not now
+tickets 7
+heap 1 dirty
+",
+);
 
 /// A superblock's free blocks are taken, and one is held and written to; the other seat has none.
-const TAKEN: &str = "seats 2\n0 head 4\n0 link\n0 pop\n0 anchor 0\n0 take-all 0\n0 alloc 4\n\
-     1 alloc 4\n0 store 1088 7\n";
+const TAKEN: Row = (
+    ONE_BLOCK,
+    "seats 2
+0 head 4
+0 link
+0 pop
+0 anchor 0
+0 take-all 0
+0 alloc 4
+1 alloc 4
+0 store 1088 7
+",
+    "done
+done
+done
+done
+done
+done
+not now
+done
+tickets 7
+heap 2 dirty
+held 64 1
+",
+);
 
-/// A root that points outside becomes durable.
-const LOST: &str = "seats 1\n0 store 48 1\n0 settle 48\n";
+const NO_STEP: Row = (
+    ONE_BLOCK,
+    "seats 8",
+    "tickets 0
+heap 2 dirty
+held 64 1
+",
+);
 
-/// A store with an empty image of so many superblocks, in which some words have other values.
-fn changed(
-    alloc: Global,
-    superblocks: u64,
-    changes: Changes<'_>,
-    failing: u64,
-) -> Result<MapStore, Fail> {
-    let mut images = store_with(alloc, b"", NO_CALL, FailedPut::LeavesOld)?;
-    let line = format!(in alloc; "format h {superblocks}")?;
-    make_plain(alloc, &mut images, &line, b"")?;
-    let mut image = image_in(alloc, &images)?;
-    for (at, value) in changes {
-        set_word(&mut image, *at, *value);
-    }
-    store_with(alloc, &image, failing, FailedPut::LeavesOld)
+const DRAWN: Row = (
+    "1",
+    "seats 1
+0 tick
+0 store 48 1",
+    "done
+done
+tickets 2
+heap 1 dirty
+",
+);
+
+/// A store that is not durable is lost.
+const LOST: Row = (
+    ONE_BLOCK,
+    "seats 1
+0 store 48 1",
+    "done
+tickets 1
+heap 2 dirty
+held 64 1
+",
+);
+
+/// The schedule with the word indices of superblock 0 in place of INFO and LINK: the tool reads
+/// numbers alone.
+fn written(alloc: Global, schedule: &str) -> Result<String, AllocError> {
+    let info = format!(in alloc; "{}", info_word(0))?;
+    let link = format!(in alloc; "{}", link_word(0))?;
+    schedule
+        .replace(alloc, "INFO", &info)?
+        .replace(alloc, "LINK", &link)
 }
 
 /// Replays a schedule by several chances. The image stays as it is.
 fn replays(
     rt: &(impl Abort + AllocGlobal),
-    superblocks: u64,
-    changes: Changes<'_>,
+    image: &str,
     schedule: &str,
     status: u8,
     text: &str,
 ) -> Result<(), Fail> {
-    let alloc = rt.alloc();
-    let mut images = changed(alloc, superblocks, changes, NO_CALL)?;
-    let image = image_in(alloc, &images)?;
-    for line in ["replay h", "replay h --seed 7"] {
-        runs(rt, &mut images, line, schedule.as_bytes(), status, text)?;
-    }
-    let call = plain("replay h", schedule.as_bytes());
-    let (code, printed) = make(
-        alloc,
-        call,
-        &mut images,
-        &OpenGate,
-        &mut ConstantChance(u64::MAX),
-    )?;
-    assert_eq!(rt; code, status);
-    assert_eq!(rt; printed.as_slice(), text.as_bytes());
-    assert!(rt; image_in(alloc, &images)? == image);
+    let image = image_bytes(rt.alloc(), image)?;
+    let schedule = written(rt.alloc(), schedule)?;
+    let schedule = schedule.as_bytes();
+    let mut images = store_with(rt.alloc(), &image, NO_CALL, FailedPut::LeavesOld)?;
+    runs(rt, &mut images, "replay h", schedule, status, text)?;
+    runs(rt, &mut images, "replay h --seed 7", schedule, status, text)?;
+    replays_with_most(rt, &mut images, schedule, status, text)?;
+    must_hold(rt, images.image("h") == Some(image.as_slice()), text);
+    Ok(())
+}
+
+/// Replays it where each number asked for is the greatest.
+fn replays_with_most(
+    rt: &(impl Abort + AllocGlobal),
+    images: &mut MapStore,
+    schedule: &[u8],
+    status: u8,
+    text: &str,
+) -> Result<(), Fail> {
+    let call = plain("replay h", schedule);
+    let mut chance = ConstantChance(u64::MAX);
+    let (code, printed) = make(rt.alloc(), call, images, &OpenGate, &mut chance)?;
+    must_end(rt, text, (code, &printed), status, text);
     Ok(())
 }
 
 #[test]
 fn each_line_tells_whether_its_step_was_done(rt: HostRuntime) -> Result<(), Fail> {
-    let alloc = rt.alloc();
-    let six = "done\ndone\ndone\ndone\ndone\ndone\n";
-    let overtaken = format!(in alloc;
-        "{six}done\ndone\ndone\ndone\ndone\nnot now\ntickets 12\nheap 2 dirty\n"
-    )?;
-    let raw = format!(in alloc; "{six}not now\ntickets 7\nheap 1 dirty\n")?;
-    let taken = format!(in alloc; "{six}not now\ndone\ntickets 7\nheap 2 dirty\nheld 64 1\n")?;
-    for (superblocks, changes, schedule, text) in [
-        (2, TWO_FREE, OVERTAKEN, overtaken.as_str()),
-        (1, ONE_FREE, RAW, raw.as_str()),
-        (2, ONE_BLOCK, TAKEN, taken.as_str()),
-        (
-            2,
-            ONE_BLOCK,
-            "seats 8",
-            "tickets 0\nheap 2 dirty\nheld 64 1\n",
-        ),
-        (
-            1,
-            &[],
-            "seats 1\n0 tick\n0 store 48 1",
-            "done\ndone\ntickets 2\nheap 1 dirty\n",
-        ),
-    ] {
-        replays(&rt, superblocks, changes, schedule, 0, text)?;
+    for (image, schedule, text) in [OVERTAKEN, RAW, TAKEN, NO_STEP, DRAWN, LOST] {
+        replays(&rt, image, schedule, 0, text)?;
     }
     Ok(())
 }
 
+/// Schedules, of which the last lines named are outside the grammar.
+const BAD_SCHEDULES: [(&str, &str); 4] = [
+    ("seats 9", "bad schedule line 1\n"),
+    ("", "bad schedule line 1\n"),
+    ("seats 2\n2 pop", "bad schedule line 2\n"),
+    ("seats 2\n0 pop\n1 pop 3\n9 pop", "bad schedule line 3\n"),
+];
+
 #[test]
 fn a_schedule_outside_the_grammar_is_told_by_its_first_line(rt: HostRuntime) -> Result<(), Fail> {
-    for (schedule, text) in [
-        ("seats 9", "bad schedule line 1\n"),
-        ("", "bad schedule line 1\n"),
-        ("seats 2\n2 pop", "bad schedule line 2\n"),
-        ("seats 2\n0 pop\n1 pop 3\n9 pop", "bad schedule line 3\n"),
-    ] {
-        replays(&rt, 2, ONE_BLOCK, schedule, 10, text)?;
+    for (schedule, text) in BAD_SCHEDULES {
+        replays(&rt, ONE_BLOCK, schedule, 10, text)?;
     }
     Ok(())
 }
+
+/// A root that points outside becomes durable.
+const OUTSIDE: &str = "seats 1\n0 store 48 1\n0 settle 48\n";
 
 #[test]
 fn a_word_that_the_schedule_leaves_outside_is_told_alone(rt: HostRuntime) -> Result<(), Fail> {
     let text = "pointer outside at 48 value 0000000000000001\n";
-    replays(&rt, 2, ONE_BLOCK, LOST, 8, text)?;
-    // A store that is not durable is lost.
-    let told = "done\ntickets 1\nheap 2 dirty\nheld 64 1\n";
-    replays(&rt, 2, ONE_BLOCK, "seats 1\n0 store 48 1", 0, told)
+    replays(&rt, ONE_BLOCK, OUTSIDE, 8, text)
 }
+
+const BEFORE_ITS_SCHEDULE: &str = "
+@ 1
+$ replay none
+< seats 9
+= 6
+> no image none
+$ replay h --stop 1
+= 2
+> usage
+";
 
 #[test]
 fn the_image_is_told_before_the_schedule(rt: HostRuntime) -> Result<(), Fail> {
-    let alloc = rt.alloc();
     let outside = "pointer outside at 48 value 0000000000000002\n";
-    replays(&rt, 2, &[(48, 2)], "seats 9", 8, outside)?;
-    replays(&rt, 2, &[(3, 0)], "seats 9", 7, "bad header state\n")?;
-    let mut images = changed(alloc, 1, &[], NO_CALL)?;
-    runs(
-        &rt,
-        &mut images,
-        "replay none",
-        b"seats 9",
-        6,
-        "no image none\n",
-    )?;
-    runs(&rt, &mut images, "replay h --stop 1", b"", 2, "usage\n")?;
-    // The store's call 0 put the image there, and 1 gets it; of the input the first read fails.
-    let mut images = changed(alloc, 1, &[], 1)?;
-    runs(&rt, &mut images, "replay h", b"seats 9", 4, "read fault\n")?;
-    let mut images = changed(alloc, 1, &[], NO_CALL)?;
+    replays(&rt, "2: root:8 2", "seats 9", 8, outside)?;
+    replays(&rt, "2: state 0", "seats 9", 7, "bad header state\n")?;
+    shows_each(&rt, BEFORE_ITS_SCHEDULE)
+}
+
+#[test]
+fn a_failed_get_is_told_before_the_schedule(rt: HostRuntime) -> Result<(), Fail> {
+    let image = image_bytes(rt.alloc(), "1")?;
+    // The store's call 0 put the image there, and 1 gets it.
+    let mut images = store_with(rt.alloc(), &image, 1, FailedPut::LeavesOld)?;
+    runs(&rt, &mut images, "replay h", b"seats 9", 4, "read fault\n")
+}
+
+#[test]
+fn a_failed_read_is_told_before_the_schedule(rt: HostRuntime) -> Result<(), Fail> {
+    let image = image_bytes(rt.alloc(), "1")?;
+    let mut images = store_with(rt.alloc(), &image, NO_CALL, FailedPut::LeavesOld)?;
     let call = Call {
         failing_reads: &[0],
         ..plain("replay h", b"seats 9")
     };
-    let (status, printed) = make(alloc, call, &mut images, &OpenGate, &mut ConstantChance(0))?;
-    assert!(rt; status == 4 && printed.as_slice() == b"read fault\n".as_slice());
+    let mut chance = ConstantChance(0);
+    let (status, printed) = make(rt.alloc(), call, &mut images, &OpenGate, &mut chance)?;
+    must_end(&rt, "a failed read", (status, &printed), 4, "read fault\n");
     Ok(())
 }

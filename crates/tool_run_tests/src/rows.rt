@@ -1,176 +1,371 @@
 //! Traces worked off to their end: the replies, the report, and the image that is left.
-use crate::harness::{image_in, make_plain, put_zeros, run_script, runs, store, word};
+use crate::harness::{image_in, make_plain, must_hold, put_zeros, runs, store, word};
+use crate::images::image_bytes;
+use crate::session::play;
+use image_text::number;
 use std::alloc::{AllocError, Global};
 use std::process::Abort;
 use std::test::Fail;
+use tool_ports::ImageStore;
 
-const FORMATTED_1: (&str, &str, u8, &str) = ("format h 1", "", 0, "formatted 1 bytes 74112\n");
-
-const FORMATTED_4: (&str, &str, u8, &str) = ("format h 4", "", 0, "formatted 4 bytes 270912\n");
+const ANSWERED: &str = "
+$ format h 4
+> formatted 4 bytes 270912
+$ run h --workers 1 --map
+< put 5 6162
+< get 5
+< del 5
+< get 5
+> ok
+> 6162
+> ok
+> none
+> run closed
+> heap 4 clean
+> held 1024 1
+> used 2 free 1 fresh 2
+> sb 0 class 12 held 0
+> sb 1 free
+$ format h 4
+> formatted 4 bytes 270912
+$ run --map h --stop 32768 --workers=1
+< put 5 6162
+< get 5
+< del 5
+< get 5
+> ok
+> 6162
+> ok
+> none
+> run closed
+> heap 4 clean
+> held 1024 1
+> used 2 free 1 fresh 2
+> sb 0 class 12 held 0
+> sb 1 free
+$ format h 1
+> formatted 1 bytes 74112
+$ run h --workers 1
+< put 1 0102030405060708
+> full
+> run closed
+> heap 1 clean
+> held 1024 1
+$ run h --workers 1
+> run closed
+> heap 1 clean
+> held 1024 1
+$ format h 1
+> formatted 1 bytes 74112
+$ run h --workers 1
+< put 1 aa
+< get 1
+< put 5 abc
+<
+= 10
+> bad trace line 3
+$ run h --workers 1
+> run closed
+> heap 1 clean
+$ run h --workers 9
+= 2
+> usage
+$ run h --workers 2
+= 2
+> usage
+$ show none.img
+= 6
+> no image none.img
+";
 
 #[test]
 fn requests_are_answered_and_the_heap_is_told(rt: HostRuntime) -> Result<(), Fail> {
-    let trace = "put 5 6162\nget 5\ndel 5\nget 5";
-    let told = "ok\n6162\nok\nnone\nrun closed\nheap 4 clean\nheld 1024 1\nused 2 free 1 fresh 2\n\
-         sb 0 class 12 held 0\nsb 1 free\n";
-    let mut images = store(rt.alloc());
-    run_script(
-        &rt,
-        &mut images,
-        &[
-            FORMATTED_4,
-            ("run h --workers 1 --map", trace, 0, told),
-            FORMATTED_4,
-            ("run --map h --stop 32768 --workers=1", trace, 0, told),
-            FORMATTED_1,
-            (
-                "run h --workers 1",
-                "put 1 0102030405060708",
-                0,
-                "full\nrun closed\nheap 1 clean\nheld 1024 1\n",
-            ),
-            (
-                "run h --workers 1",
-                "",
-                0,
-                "run closed\nheap 1 clean\nheld 1024 1\n",
-            ),
-            FORMATTED_1,
-            (
-                "run h --workers 1",
-                "put 1 aa\nget 1\nput 5 abc\n",
-                10,
-                "bad trace line 3\n",
-            ),
-            ("run h --workers 1", "", 0, "run closed\nheap 1 clean\n"),
-            ("run h --workers 9", "", 2, "usage\n"),
-            ("run h --workers 2", "", 2, "usage\n"),
-            ("show none.img", "", 6, "no image none.img\n"),
-        ],
-    )
+    play(&rt, &mut store(rt.alloc()), ANSWERED)
 }
+
+/// The last call shows that those before it left the heap as it was stopped.
+const REFUSED: &str = "
+$ format h 4
+> formatted 4 bytes 270912
+$ run h --workers 1 --map
+< put 5 6162
+< get 5
+< del 5
+< get 5
+> ok
+> 6162
+> ok
+> none
+> run closed
+> heap 4 clean
+> held 1024 1
+> used 2 free 1 fresh 2
+> sb 0 class 12 held 0
+> sb 1 free
+$ run --sum h --workers=1 --seed 18446744073709551615
+< put 5 6162
+<
+> requests 1 ok 1 none 0 value 0 full 0 unanswered 0
+> run closed
+> heap 4 clean
+> keys 1 bytes 2
+> held 32 1
+> held 1024 1
+$ run h --workers 1 --stop 0
+< del 5
+<
+> unanswered
+> run stopped
+> heap 4 dirty
+> key 5 6162
+> held 32 1
+> held 1024 1
+$ run h --workers 1
+< put 1 aa
+< get 1
+< put 5 abc
+= 10
+> bad trace line 3
+$ run none --workers 1
+< put
+= 6
+> no image none
+$ run h --workers 2
+= 2
+> usage
+$ run h --workers 1 --workers 1
+= 2
+> usage
+$ run h --workers 1 --stop 1099511627776
+= 2
+> usage
+$ show h
+> heap 4 dirty
+> key 5 6162
+> held 32 1
+> held 1024 1
+";
+
+#[test]
+fn a_refused_run_leaves_the_heap_as_it_is(rt: HostRuntime) -> Result<(), Fail> {
+    play(&rt, &mut store(rt.alloc()), REFUSED)
+}
+
+const GONE_ON_WITH: &str = "
+$ format h 4
+> formatted 4 bytes 270912
+$ run h --workers 1
+< put 5 6162
+> ok
+> run closed
+> heap 4 clean
+> key 5 6162
+> held 32 1
+> held 1024 1
+$ run h --workers 1 --stop 0
+< del 5
+> unanswered
+> run stopped
+> heap 4 dirty
+> key 5 6162
+> held 32 1
+> held 1024 1
+$ run h --workers 1
+< del 5
+> ok
+> run closed
+> heap 4 clean
+> held 1024 1
+";
 
 #[test]
 fn a_stopped_run_is_gone_on_with(rt: HostRuntime) -> Result<(), Fail> {
-    let held = "held 32 1\nheld 1024 1\n";
-    let alloc = rt.alloc();
-    let put = format!(in alloc; "ok\nrun closed\nheap 4 clean\nkey 5 6162\n{held}")?;
-    let stopped = format!(in alloc; "unanswered\nrun stopped\nheap 4 dirty\nkey 5 6162\n{held}")?;
-    let mut images = store(alloc);
-    run_script(
-        &rt,
-        &mut images,
-        &[
-            FORMATTED_4,
-            ("run h --workers 1", "put 5 6162", 0, &put),
-            ("run h --workers 1 --stop 0", "del 5", 0, &stopped),
-            (
-                "run h --workers 1",
-                "del 5",
-                0,
-                "ok\nrun closed\nheap 4 clean\nheld 1024 1\n",
-            ),
-        ],
-    )
+    play(&rt, &mut store(rt.alloc()), GONE_ON_WITH)
 }
+
+const LAST_BUCKET: &str = "
+$ format h 2
+> formatted 2 bytes 139712
+$ run h --workers 1
+< put 18446744073709551615 -
+< get 18446744073709551615
+<
+> ok
+> -
+> run closed
+> heap 2 clean
+> key 18446744073709551615 -
+> held 32 1
+> held 1024 1
+";
 
 #[test]
 fn keys_at_the_end_stand_in_the_last_bucket(rt: HostRuntime) -> Result<(), Fail> {
     let mut images = store(rt.alloc());
-    run_script(
-        &rt,
-        &mut images,
-        &[
-            ("format h 2", "", 0, "formatted 2 bytes 139712\n"),
-            (
-                "run h --workers 1",
-                "put 18446744073709551615 -\nget 18446744073709551615\n",
-                0,
-                "ok\n-\nrun closed\nheap 2 clean\nkey 18446744073709551615 -\nheld 32 1\n\
-                 held 1024 1\n",
-            ),
-        ],
-    )?;
+    play(&rt, &mut images, LAST_BUCKET)?;
     let image = image_in(rt.alloc(), &images)?;
-    assert_eq!(rt; word(&image, 47), 0x5250_0000_0000_21c0);
-    assert_eq!(rt; word(&image, 1_207), 0x5250_0000_0001_21c0);
+    must_hold(
+        &rt,
+        word(&image, "root:7")? == number("@1080")?,
+        "the last root",
+    );
+    must_hold(
+        &rt,
+        word(&image, "1207")? == number("@9272")?,
+        "the last bucket",
+    );
     Ok(())
 }
 
 /// Puts, each of so many zero bytes under a key.
-fn puts(alloc: Global, keys: &[u64], length: u64) -> Result<String, AllocError> {
+fn puts(alloc: Global, keys: &str, length: u64) -> Result<String, AllocError> {
     let mut trace = String::new(alloc);
-    for key in keys {
-        put_zeros(&mut trace, *key, length)?;
+    for key in keys.split(' ') {
+        put_zeros(&mut trace, key, length)?;
     }
     Ok(trace)
 }
 
+/// Runs the trace over an empty heap of so many superblocks.
+fn told(
+    rt: &(impl Abort + AllocGlobal),
+    superblocks: &str,
+    line: &str,
+    trace: &str,
+    text: &str,
+) -> Result<(), Fail> {
+    let alloc = rt.alloc();
+    let mut images = store(alloc);
+    images.put(alloc, "h", &image_bytes(alloc, superblocks)?)?;
+    runs(rt, &mut images, line, trace.as_bytes(), 0, text)
+}
+
+const ONE_LONG: &str = "requests 1 ok 1 none 0 value 0 full 0 unanswered 0
+run closed
+heap 4 clean
+keys 1 bytes 65513
+held 1024 1
+held large 2 1
+used 3 free 0 fresh 1
+sb 0 class 12 held 0
+sb 1 large 2
+sb 2 inside 1
+";
+
+const LONG_AND_LONGEST: &str = "requests 3 ok 2 none 0 value 0 full 1 unanswered 0
+run closed
+heap 4 clean
+keys 0 bytes 0
+held 1024 1
+used 3 free 2 fresh 1
+sb 0 class 12 held 0
+sb 1 free
+sb 2 free
+";
+
 #[test]
 fn long_values_take_blocks_of_their_own(rt: HostRuntime) -> Result<(), Fail> {
     let alloc = rt.alloc();
-    let mut images = store(alloc);
-    let one = puts(alloc, &[1], 65_513)?;
-    let longest = puts(alloc, &[1], 131_072)?;
+    let one = puts(alloc, "1", 65_513)?;
+    told(&rt, "4", "run h --workers 1 --sum --map", &one, ONE_LONG)?;
+    let longest = puts(alloc, "1", 131_072)?;
     let both = format!(in alloc; "{one}del 1\n{longest}")?;
-    run_script(
+    told(
         &rt,
-        &mut images,
-        &[
-            FORMATTED_4,
-            (
-                "run h --workers 1 --sum --map",
-                &one,
-                0,
-                "requests 1 ok 1 none 0 value 0 full 0 unanswered 0\nrun closed\nheap 4 clean\n\
-                 keys 1 bytes 65513\nheld 1024 1\nheld large 2 1\nused 3 free 0 fresh 1\n\
-                 sb 0 class 12 held 0\nsb 1 large 2\nsb 2 inside 1\n",
-            ),
-            FORMATTED_4,
-            (
-                "run h --workers 1 --sum --map",
-                &both,
-                0,
-                "requests 3 ok 2 none 0 value 0 full 1 unanswered 0\nrun closed\nheap 4 clean\n\
-                 keys 0 bytes 0\nheld 1024 1\nused 3 free 2 fresh 1\nsb 0 class 12 held 0\n\
-                 sb 1 free\nsb 2 free\n",
-            ),
-        ],
+        "4",
+        "run h --workers 1 --sum --map",
+        &both,
+        LONG_AND_LONGEST,
     )
 }
+
+const OTHER_CLASS: &str = "ok
+ok
+ok
+ok
+ok
+ok
+ok
+ok
+ok
+run closed
+heap 2 clean
+key 0 ab
+held 32 1
+held 1024 1
+used 2 free 0 fresh 0
+sb 0 class 12 held 0
+sb 1 class 2 held 0
+";
 
 #[test]
 fn freed_superblocks_serve_other_classes(rt: HostRuntime) -> Result<(), Fail> {
     let alloc = rt.alloc();
-    let mut images = store(alloc);
-    let four = puts(alloc, &[0, 8, 16, 24], 14_312)?;
+    let four = puts(alloc, "0 8 16 24", 14_312)?;
     let other = format!(in alloc; "{four}del 0\ndel 8\ndel 16\ndel 24\nput 0 ab\n")?;
-    let again = puts(alloc, &[32], 14_312)?;
+    told(&rt, "2", "run h --workers 1 --map", &other, OTHER_CLASS)
+}
+
+const FIFTH_REFUSED: &str = "requests 7 ok 6 none 0 value 0 full 1 unanswered 0
+run closed
+heap 2 clean
+keys 4 bytes 57248
+held 1024 1
+held 14336 4
+";
+
+#[test]
+fn a_block_that_was_freed_serves_a_value_that_had_no_room(rt: HostRuntime) -> Result<(), Fail> {
+    let alloc = rt.alloc();
+    let four = puts(alloc, "0 8 16 24", 14_312)?;
+    let again = puts(alloc, "32", 14_312)?;
     let refused = format!(in alloc; "{four}{again}del 0\n{again}")?;
-    let formatted = ("format h 2", "", 0, "formatted 2 bytes 139712\n");
-    run_script(
-        &rt,
-        &mut images,
-        &[
-            formatted,
-            (
-                "run h --workers 1 --map",
-                &other,
-                0,
-                "ok\nok\nok\nok\nok\nok\nok\nok\nok\nrun closed\nheap 2 clean\nkey 0 ab\n\
-                 held 32 1\nheld 1024 1\nused 2 free 0 fresh 0\nsb 0 class 12 held 0\n\
-                 sb 1 class 2 held 0\n",
-            ),
-            formatted,
-            (
-                "run h --workers 1 --sum",
-                &refused,
-                0,
-                "requests 7 ok 6 none 0 value 0 full 1 unanswered 0\nrun closed\nheap 2 clean\n\
-                 keys 4 bytes 57248\nheld 1024 1\nheld 14336 4\n",
-            ),
-        ],
-    )
+    told(&rt, "2", "run h --workers 1 --sum", &refused, FIFTH_REFUSED)
+}
+
+const GENERATED: &str = "
+$ gen 4 0
+> put 0 -
+> put 2531 3738393a3b3c3d3e3f404142434445464748494a4b4c4d4e
+> get 966
+> del 3498
+$ gen 0 7
+$ gen 0 1000000
+$ gen 1 0
+! 0
+= 5
+> write fault
+$ gen 100001 0
+= 2
+> usage
+$ gen 1 1000001
+= 2
+> usage
+$ gen 1
+= 2
+> usage
+$ format h 4
+> formatted 4 bytes 270912
+$ run h --workers 1 --sum
+< put 0 -
+< put 2531 3738393a3b3c3d3e3f404142434445464748494a4b4c4d4e
+< get 966
+< del 3498
+<
+> requests 4 ok 2 none 2 value 0 full 0 unanswered 0
+> run closed
+> heap 4 clean
+> keys 2 bytes 24
+> held 32 1
+> held 48 1
+> held 1024 2
+$ format h 8
+> formatted 8 bytes 533312
+";
+
+#[test]
+fn a_trace_is_made(rt: HostRuntime) -> Result<(), Fail> {
+    play(&rt, &mut store(rt.alloc()), GENERATED)
 }
 
 /// What a call prints.
@@ -178,40 +373,32 @@ fn printed(alloc: Global, line: &str) -> Result<Vec<u8>, AllocError> {
     Ok(make_plain(alloc, &mut store(alloc), line, b"")?.1)
 }
 
+const EIGHT_RUN: &str = "requests 8 ok 4 none 4 value 0 full 0 unanswered 0
+run closed
+heap 8 clean
+keys 4 bytes 300
+held 96 2
+held 128 2
+held 1024 4
+used 3 free 0 fresh 5
+sb 0 class 12 held 0-3
+sb 1 class 5 held 0-1
+sb 2 class 6 held 0-1
+";
+
 #[test]
 fn a_made_trace_is_run(rt: HostRuntime) -> Result<(), Fail> {
     let alloc = rt.alloc();
     let mut images = store(alloc);
-    let four =
-        "put 0 -\nput 2531 3738393a3b3c3d3e3f404142434445464748494a4b4c4d4e\nget 966\ndel 3498\n";
-    run_script(
-        &rt,
-        &mut images,
-        &[
-            ("gen 4 0", "", 0, four),
-            ("gen 0 7", "", 0, ""),
-            ("gen 100001 0", "", 2, "usage\n"),
-            ("gen 1 1000001", "", 2, "usage\n"),
-            FORMATTED_4,
-            (
-                "run h --workers 1 --sum",
-                four,
-                0,
-                "requests 4 ok 2 none 2 value 0 full 0 unanswered 0\nrun closed\nheap 4 clean\n\
-                 keys 2 bytes 24\nheld 32 1\nheld 48 1\nheld 1024 2\n",
-            ),
-            ("format h 8", "", 0, "formatted 8 bytes 533312\n"),
-        ],
-    )?;
+    make_plain(alloc, &mut images, "format h 8", b"")?;
+    let trace = printed(alloc, "gen 8 1")?;
     runs(
         &rt,
         &mut images,
         "run h --workers 1 --sum --map",
-        &printed(alloc, "gen 8 1")?,
+        &trace,
         0,
-        "requests 8 ok 4 none 4 value 0 full 0 unanswered 0\nrun closed\nheap 8 clean\n\
-         keys 4 bytes 300\nheld 96 2\nheld 128 2\nheld 1024 4\nused 3 free 0 fresh 5\n\
-         sb 0 class 12 held 0-3\nsb 1 class 5 held 0-1\nsb 2 class 6 held 0-1\n",
+        EIGHT_RUN,
     )
 }
 
@@ -227,7 +414,7 @@ fn run_twice(
     make_plain(alloc, &mut images, "format h 256", b"")?;
     let first = make_plain(alloc, &mut images, line, trace)?;
     let second = make_plain(alloc, &mut images, "run h --workers 1", trace)?;
-    assert!(rt; first.0 == 0 && second.0 == 0, "{line}");
+    must_hold(rt, first.0 == 0 && second.0 == 0, line);
     Ok((first.1, second.1))
 }
 
@@ -236,8 +423,10 @@ fn a_long_trace_gives_the_same_within_its_bound(rt: HostRuntime) -> Result<(), F
     let trace = printed(rt.alloc(), "gen 20000 7")?;
     let free = run_twice(&rt, "run h --workers 1", &trace)?;
     let bounded = run_twice(&rt, "run h --workers 1 --stop 268435456", &trace)?;
-    assert!(rt; free.0 == bounded.0);
-    assert!(rt; free.1 == bounded.1);
-    assert!(rt; 100_000 < free.0.len());
+    must_hold(
+        &rt,
+        free == bounded && 100_000 < free.0.len(),
+        "the replies are the same",
+    );
     Ok(())
 }

@@ -1,14 +1,11 @@
 //! Runs stopped at each step: what is told of the image that is left, and that it is gone on with.
-use crate::harness::{image_after, image_in, make, make_plain, plain, runs, store_with};
+use crate::harness::{NO_CALL, image_after, make, make_plain, must_hold, plain, runs, store_with};
 use line_memory::ConstantChance;
 use std::alloc::{AllocError, Global};
 use std::process::Abort;
 use std::sync::atomic::{AtomicU64, Ordering};
 use std::test::Fail;
 use tool_ports::{Chances, FailedPut, Gate, MapStore, OpenGate, SeededChances};
-
-/// More calls of a store than any test makes.
-const NO_CALL: u64 = 1 << 20;
 
 /// A stopped run of a trace over an image: what it prints, and the image that it leaves.
 fn stopped_run<C: Chances>(
@@ -36,38 +33,94 @@ fn told_of_put(
     format!(in alloc; "{reply}\nrun {run}\nheap 4 {heap}\nkey 0 {value}\nheld 32 1\nheld 1024 1\n")
 }
 
-/// Stops a put that replaces a value at each step until it is closed: the old value is there up to
-/// some step, and from there on the new one.
-fn replaces_at_one_step<C: Chances>(
-    rt: &(impl Abort + AllocGlobal),
-    chances: &mut C,
-) -> Result<(), Fail> {
-    let alloc = rt.alloc();
-    let image = image_after(alloc, "4", "put 0 aa")?;
-    let old = told_of_put(alloc, "unanswered", "stopped", "dirty", "aa")?;
-    let new = told_of_put(alloc, "unanswered", "stopped", "dirty", "bb")?;
-    let closed = told_of_put(alloc, "ok", "closed", "clean", "bb")?;
-    let mut is_new = false;
-    for budget in 0..10_000 {
-        let (printed, mut images) = stopped_run(alloc, &image, "put 0 bb", budget, chances)?;
-        if printed.as_slice() == closed.as_bytes() {
-            assert!(rt; is_new && 10 < budget, "{budget}");
-            return Ok(());
+/// What is told of a put that replaces a value: it stopped before its step, or behind it, or it is
+/// closed.
+#[derive(Drop)]
+struct Told {
+    old: String,
+    new: String,
+    closed: String,
+}
+
+#[derive(Clone, Copy, PartialEq, Eq)]
+enum Seen {
+    Old,
+    New,
+    Closed,
+}
+
+impl Told {
+    fn new(alloc: Global) -> Result<Told, AllocError> {
+        Ok(Told {
+            old: told_of_put(alloc, "unanswered", "stopped", "dirty", "aa")?,
+            new: told_of_put(alloc, "unanswered", "stopped", "dirty", "bb")?,
+            closed: told_of_put(alloc, "ok", "closed", "clean", "bb")?,
+        })
+    }
+
+    fn seen(&self, printed: &[u8]) -> Option<Seen> {
+        if printed == self.old.as_bytes() {
+            Some(Seen::Old)
+        } else if printed == self.new.as_bytes() {
+            Some(Seen::New)
+        } else if printed == self.closed.as_bytes() {
+            Some(Seen::Closed)
+        } else {
+            None
         }
-        is_new = is_new || printed.as_slice() == new.as_bytes();
-        let wanted = if is_new { &new } else { &old };
-        assert_eq!(rt; printed.as_slice(), wanted.as_bytes(), "{budget}");
+    }
+}
+
+/// Stops the put at this step, and does it on what is left.
+fn stop_put<C: Chances>(
+    rt: &(impl Abort + AllocGlobal),
+    image: &[u8],
+    told: &Told,
+    budget: u64,
+    chances: &mut C,
+) -> Result<Seen, Fail> {
+    let (printed, mut images) = stopped_run(rt.alloc(), image, "put 0 bb", budget, chances)?;
+    let seen = told.seen(&printed).ok_or("another text is printed")?;
+    if seen != Seen::Closed {
         runs(
             rt,
             &mut images,
             "run h --workers 1",
             b"put 0 bb",
             0,
-            &closed,
+            &told.closed,
         )?;
     }
-    assert!(rt; false, "it never closes");
-    Ok(())
+    Ok(seen)
+}
+
+/// Stops the put at each step until it is closed: the old value is there up to some step, and from
+/// there on the new one.
+fn replaces_at_one_step<C: Chances>(
+    rt: &(impl Abort + AllocGlobal),
+    chances: &mut C,
+) -> Result<(), Fail> {
+    let image = image_after(rt.alloc(), "4", "put 0 aa")?;
+    let told = Told::new(rt.alloc())?;
+    let mut before = Seen::Old;
+    for budget in 0..10_000 {
+        let seen = stop_put(rt, &image, &told, budget, chances)?;
+        if seen == Seen::Closed {
+            must_hold(
+                rt,
+                before == Seen::New && 10 < budget,
+                "it closes once the value is new",
+            );
+            return Ok(());
+        }
+        must_hold(
+            rt,
+            before == Seen::Old || seen == Seen::New,
+            "a new value stays",
+        );
+        before = seen;
+    }
+    Err("it never closes".into())
 }
 
 #[test]
@@ -90,33 +143,34 @@ fn answered(text: &[u8]) -> usize {
     count
 }
 
-#[test]
-fn requests_left_unanswered_are_run_on_what_a_stop_left(rt: HostRuntime) -> Result<(), Fail> {
+const REPORT: &[u8] = b"heap 8 clean\nkey 0 cc\nheld 32 1\nheld 1024 1\n";
+
+/// Stops a run of the requests at this step, and runs those left unanswered on what is left. The
+/// answer is whether none was.
+fn go_on(rt: &(impl Abort + AllocGlobal), image: &[u8], budget: u64) -> Result<bool, Fail> {
     let alloc = rt.alloc();
-    let image = image_after(alloc, "8", "put 0 aa")?;
     let requests = ["put 8 bb\n", "put 0 cc\n", "del 8\n"];
     let trace = requests.concat(alloc)?;
-    let report = "heap 8 clean\nkey 0 cc\nheld 32 1\nheld 1024 1\n";
+    let mut chance = ConstantChance(budget);
+    let (printed, mut images) = stopped_run(alloc, image, &trace, budget, &mut chance)?;
+    let count = answered(&printed);
+    let rest = requests.get(count..).unwrap_or(&[]).concat(alloc)?;
+    let (status, told) = make_plain(alloc, &mut images, "run h --workers 1", rest.as_bytes())?;
+    must_hold(rt, status == 0 && told.ends_with(REPORT), "the rest is run");
+    let is_closed = printed.ends_with(REPORT);
+    must_hold(rt, !is_closed || count == 3, "all are answered in the end");
+    Ok(is_closed)
+}
+
+#[test]
+fn requests_left_unanswered_are_run_on_what_a_stop_left(rt: HostRuntime) -> Result<(), Fail> {
+    let image = image_after(rt.alloc(), "8", "put 0 aa")?;
     for budget in 0..10_000 {
-        let (printed, mut images) = stopped_run(
-            alloc,
-            &image,
-            &trace,
-            budget,
-            &mut ConstantChance(budget),
-        )?;
-        let count = answered(&printed);
-        let rest = requests.get(count..).unwrap_or(&[]).concat(alloc)?;
-        let (status, told) = make_plain(alloc, &mut images, "run h --workers 1", rest.as_bytes())?;
-        assert_eq!(rt; status, 0, "{budget}");
-        assert!(rt; told.ends_with(report.as_bytes()), "{budget}");
-        if printed.ends_with(report.as_bytes()) {
-            assert_eq!(rt; count, 3);
+        if go_on(&rt, &image, budget)? {
             return Ok(());
         }
     }
-    assert!(rt; false, "it never closes");
-    Ok(())
+    Err("it never closes".into())
 }
 
 /// Counts what it is told: each request in order, before it and behind it.
@@ -150,20 +204,34 @@ impl Gate for Recorder {
     }
 }
 
+/// How much a recorder is told of a run, which leaves an image.
+fn told_gate(rt: &(impl Abort + AllocGlobal), image: &[u8], line: &str) -> Result<u64, Fail> {
+    let gate = Recorder {
+        told: AtomicU64::new(0),
+    };
+    let trace = b"put 5 6162\nget 5\ndel 5\nget 5\nput 1 aa\n";
+    let mut images = store_with(rt.alloc(), image, NO_CALL, FailedPut::LeavesOld)?;
+    let mut chances = SeededChances::new();
+    make(
+        rt.alloc(),
+        plain(line, trace),
+        &mut images,
+        &gate,
+        &mut chances,
+    )?;
+    must_hold(
+        rt,
+        images.image("h").is_some_and(|image| !image.is_empty()),
+        line,
+    );
+    Ok(gate.told.load(Ordering::SeqCst))
+}
+
 #[test]
 fn the_gate_is_told_of_each_request_in_order(rt: HostRuntime) -> Result<(), Fail> {
-    let alloc = rt.alloc();
-    let image = image_after(alloc, "4", "")?;
-    let trace = b"put 5 6162\nget 5\ndel 5\nget 5\nput 1 aa\n";
-    for (line, told) in [("run h --workers 1", 10), ("run h --workers 1 --stop 0", 2)] {
-        let gate = Recorder {
-            told: AtomicU64::new(0),
-        };
-        let mut images = store_with(alloc, &image, NO_CALL, FailedPut::LeavesOld)?;
-        let mut chances = SeededChances::new();
-        make(alloc, plain(line, trace), &mut images, &gate, &mut chances)?;
-        assert_eq!(rt; gate.told.load(Ordering::SeqCst), told, "{line}");
-        assert!(rt; !image_in(alloc, &images)?.is_empty());
-    }
+    let image = image_after(rt.alloc(), "4", "")?;
+    let all = told_gate(&rt, &image, "run h --workers 1")?;
+    let first = told_gate(&rt, &image, "run h --workers 1 --stop 0")?;
+    assert!(rt; all == 10 && first == 2);
     Ok(())
 }

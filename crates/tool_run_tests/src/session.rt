@@ -1,0 +1,162 @@
+//! Sessions: calls of the tool, told as texts.
+//!
+//! A line that begins with `$` is a call, and lines behind it say more of it:
+//!
+//! ```text
+//! $ run h --workers 1    its words, of which '' is an empty one
+//! < put 1 aa             a line of its input; the last one has no line feed
+//! ! 0 2                  which of its writes fail; each takes at most eight bytes
+//! > bad trace line 3     a line that it prints
+//! >| bad tr              the same without a line feed
+//! = 10                   its status, where that isn't 0
+//! ~ 74112                how many bytes the image h has then
+//! ```
+//!
+//! Before its first call a session may name the image h, as `images` reads it, in a line that
+//! begins with `@`. Other lines say nothing.
+use crate::harness::{Call, NO_CALL, make, must_end, must_hold, store_with};
+use crate::images::image_bytes;
+use std::alloc::{AllocError, Global};
+use std::process::Abort;
+use std::test::Fail;
+use tool_ports::{FailedPut, MapStore, OpenGate, SeededChances};
+
+/// What stands behind the mark, in a line that begins with it.
+fn behind<'a>(line: &'a str, mark: &str) -> Option<&'a str> {
+    let rest = line.strip_prefix(mark)?;
+    if rest.is_empty() {
+        return Some(rest);
+    }
+    rest.strip_prefix(' ')
+}
+
+/// The input of the call.
+fn input_of(alloc: Global, turn: &str) -> Result<String, AllocError> {
+    let mut input = String::new(alloc);
+    for line in turn.split('\n') {
+        if let Some(text) = behind(line, "<") {
+            if !input.is_empty() {
+                input.push_str("\n")?;
+            }
+            input.push_str(text)?;
+        }
+    }
+    Ok(input)
+}
+
+/// What the call prints.
+fn printed_by(alloc: Global, turn: &str) -> Result<String, AllocError> {
+    let mut printed = String::new(alloc);
+    for line in turn.split('\n') {
+        if let Some(text) = behind(line, ">") {
+            printed.push_str(text)?;
+            printed.push_str("\n")?;
+        } else if let Some(text) = behind(line, ">|") {
+            printed.push_str(text)?;
+        }
+    }
+    Ok(printed)
+}
+
+/// The number of a word.
+fn number(word: &str) -> Result<u64, Fail> {
+    let number = word.parse::<u64>().ok().ok_or("no number")?;
+    Ok(number)
+}
+
+/// Which writes of the call fail.
+fn failing_writes(alloc: Global, turn: &str) -> Result<Vec<u64>, Fail> {
+    let mut numbers = Vec::new(alloc);
+    for line in turn.split('\n') {
+        if let Some(text) = behind(line, "!") {
+            for word in text.split(' ') {
+                numbers.push(number(word)?)?;
+            }
+        }
+    }
+    Ok(numbers)
+}
+
+/// The number behind the mark, if there is one.
+fn number_behind(turn: &str, mark: &str) -> Result<Option<u64>, Fail> {
+    for line in turn.split('\n') {
+        if let Some(text) = behind(line, mark) {
+            return Ok(Some(number(text)?));
+        }
+    }
+    Ok(None)
+}
+
+/// Makes a call of a session: its status, and what it prints.
+fn make_turn(alloc: Global, images: &mut MapStore, turn: &str) -> Result<(u8, Vec<u8>), Fail> {
+    let input = input_of(alloc, turn)?;
+    let failing = failing_writes(alloc, turn)?;
+    let call = Call {
+        line: turn.split('\n').next().unwrap_or(""),
+        trace: input.as_bytes(),
+        failing_reads: &[],
+        failing_writes: &failing,
+        reads_and_writes: (7, 8),
+    };
+    Ok(make(alloc, call, images, &OpenGate, &mut SeededChances::new())?)
+}
+
+/// Whether the image h is as long as the turn tells, if it does.
+fn has_length(images: &MapStore, turn: &str) -> Result<bool, Fail> {
+    let Some(length) = number_behind(turn, "~")? else {
+        return Ok(true);
+    };
+    Ok(images.image("h").unwrap_or(&[]).len() as u64 == length)
+}
+
+/// Makes a call of a session, which ends as it tells.
+fn take_turn(
+    rt: &(impl Abort + AllocGlobal),
+    images: &mut MapStore,
+    turn: &str,
+) -> Result<(), Fail> {
+    let (status, printed) = make_turn(rt.alloc(), images, turn)?;
+    let wanted = number_behind(turn, "=")?.unwrap_or(0) as u8;
+    must_end(
+        rt,
+        turn,
+        (status, &printed),
+        wanted,
+        &printed_by(rt.alloc(), turn)?,
+    );
+    must_hold(rt, has_length(images, turn)?, turn);
+    Ok(())
+}
+
+/// Makes the calls of a session over the store.
+pub fn play(
+    rt: &(impl Abort + AllocGlobal),
+    images: &mut MapStore,
+    session: &str,
+) -> Result<(), Fail> {
+    let mut turns = session.split("\n$ ");
+    turns.next();
+    for turn in turns {
+        take_turn(rt, images, turn)?;
+    }
+    Ok(())
+}
+
+/// Plays a session over a store that has the image alone, which it leaves as it was.
+fn show(rt: &(impl Abort + AllocGlobal), session: &str) -> Result<(), Fail> {
+    let image = image_bytes(rt.alloc(), session.split('\n').next().unwrap_or(""))?;
+    let mut images = store_with(rt.alloc(), &image, NO_CALL, FailedPut::LeavesOld)?;
+    play(rt, &mut images, session)?;
+    must_hold(rt, images.image("h") == Some(image.as_slice()), session);
+    Ok(())
+}
+
+/// Plays such sessions, each over a store of its own.
+pub fn shows_each(rt: &(impl Abort + AllocGlobal), sessions: &str) -> Result<(), Fail> {
+    let mut sessions = sessions.split("\n@ ");
+    sessions.next();
+    for session in sessions {
+        show(rt, session)?;
+    }
+    Ok(())
+}
