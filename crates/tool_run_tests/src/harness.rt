@@ -23,7 +23,7 @@ pub struct Call<'a> {
     pub trace: &'a [u8],
     pub failing_reads: &'a [u64],
     pub failing_writes: &'a [u64],
-    /// How many bytes a read gives at most, and how many a write takes.
+    /// How many bytes a read gives at most, and how many a write takes; 0 is as 1.
     pub reads_and_writes: (usize, usize),
 }
 
@@ -53,9 +53,10 @@ pub fn make<G: Gate + Sync, C: Chances>(
     }
     let (most_read, most_written) = call.reads_and_writes;
     let writes = Vec::from_slice(alloc, call.failing_writes)?;
-    let mut out = VecSink::new(alloc, writes, most_written, ROOM)?;
+    let mut out = VecSink::new(alloc, writes, most_written.max(1), ROOM)?;
     let reads = Vec::from_slice(alloc, call.failing_reads)?;
-    let mut trace = BytesSource::new(reads, most_read, Vec::from_slice(alloc, call.trace)?);
+    let given = Vec::from_slice(alloc, call.trace)?;
+    let mut trace = BytesSource::new(reads, most_read.max(1), given);
     let status = run_tool(
         &(),
         alloc,

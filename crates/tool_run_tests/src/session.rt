@@ -87,6 +87,13 @@ fn number_behind(turn: &str, mark: &str) -> Result<Option<u64>, Fail> {
     Ok(None)
 }
 
+/// The status that the call is to have.
+fn status_of(turn: &str) -> Result<u8, Fail> {
+    let number = number_behind(turn, "=")?.unwrap_or(0);
+    let status = u8::try_from(number).ok().ok_or("no status")?;
+    Ok(status)
+}
+
 /// Makes a call of a session: its status, and what it prints.
 fn make_turn(alloc: Global, images: &mut MapStore, turn: &str) -> Result<(u8, Vec<u8>), Fail> {
     let input = input_of(alloc, turn)?;
@@ -116,12 +123,11 @@ fn take_turn(
     turn: &str,
 ) -> Result<(), Fail> {
     let (status, printed) = make_turn(rt.alloc(), images, turn)?;
-    let wanted = number_behind(turn, "=")?.unwrap_or(0) as u8;
     must_end(
         rt,
         turn,
         (status, &printed),
-        wanted,
+        status_of(turn)?,
         &printed_by(rt.alloc(), turn)?,
     );
     must_hold(rt, has_length(images, turn)?, turn);

@@ -145,16 +145,29 @@ fn answered(text: &[u8]) -> usize {
 
 const REPORT: &[u8] = b"heap 8 clean\nkey 0 cc\nheld 32 1\nheld 1024 1\n";
 
+const REQUESTS: &str = "put 8 bb
+put 0 cc
+del 8";
+
+/// The requests behind so many first ones.
+fn requests_behind(alloc: Global, count: usize) -> Result<String, AllocError> {
+    let mut trace = String::new(alloc);
+    for request in REQUESTS.split('\n').skip(count) {
+        trace.push_str(request)?;
+        trace.push_str("\n")?;
+    }
+    Ok(trace)
+}
+
 /// Stops a run of the requests at this step, and runs those left unanswered on what is left. The
 /// answer is whether none was.
 fn go_on(rt: &(impl Abort + AllocGlobal), image: &[u8], budget: u64) -> Result<bool, Fail> {
     let alloc = rt.alloc();
-    let requests = ["put 8 bb\n", "put 0 cc\n", "del 8\n"];
-    let trace = requests.concat(alloc)?;
+    let trace = requests_behind(alloc, 0)?;
     let mut chance = ConstantChance(budget);
     let (printed, mut images) = stopped_run(alloc, image, &trace, budget, &mut chance)?;
     let count = answered(&printed);
-    let rest = requests.get(count..).unwrap_or(&[]).concat(alloc)?;
+    let rest = requests_behind(alloc, count)?;
     let (status, told) = make_plain(alloc, &mut images, "run h --workers 1", rest.as_bytes())?;
     must_hold(rt, status == 0 && told.ends_with(REPORT), "the rest is run");
     let is_closed = printed.ends_with(REPORT);
