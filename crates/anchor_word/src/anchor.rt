@@ -25,8 +25,15 @@ pub struct Anchor {
 }
 
 /// The anchor of a superblock with no free block.
-const FULL: Anchor = Anchor {
+pub const FULL: Anchor = Anchor {
     state: State::Full,
+    first: 0,
+    count: 0,
+};
+
+/// The anchor of a superblock of which all blocks are free, and none is linked to another.
+pub const EMPTY: Anchor = Anchor {
+    state: State::Empty,
     first: 0,
     count: 0,
 };

@@ -4,7 +4,7 @@
 mod anchor;
 mod word;
 
-pub use anchor::{Anchor, State, give, take_all};
+pub use anchor::{Anchor, EMPTY, FULL, State, give, take_all};
 pub use word::{pack, unpack};
 
 #[cfg(test)]

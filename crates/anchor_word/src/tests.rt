@@ -1,11 +1,5 @@
 use super::*;
 
-const FULL: Anchor = Anchor {
-    state: State::Full,
-    first: 0,
-    count: 0,
-};
-
 #[test]
 fn the_word_of_an_anchor_has_its_parts(rt: HostRuntime) {
     let rows = [

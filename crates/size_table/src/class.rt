@@ -5,11 +5,11 @@ ghost use Rattle.heap_model.specs.Sizes.{IsClass, IsLeastClassFor, largest_small
 
 use crate::span::SUPERBLOCK_BYTES;
 
-/// The greatest class.
-const LAST_CLASS: u8 = 20;
+/// The last class: the classes are 1 to `LAST_CLASS`.
+pub const LAST_CLASS: u8 = 20;
 
 /// The block size in bytes of each class, after a 0 for class 0, which is none.
-const CLASS_SIZES: [u64; 21] = [
+const CLASS_SIZES: [u64; LAST_CLASS as usize + 1] = [
     0, 16, 32, 48, 64, 96, 128, 192, 256, 384, 512, 768, 1024, 1536, 2048, 3072, 4096, 6144, 8192,
     12288, 14336,
 ];

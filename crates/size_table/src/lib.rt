@@ -5,7 +5,7 @@ mod class;
 mod size_class;
 mod span;
 
-pub use class::{blocks_of, class_of, size_of};
+pub use class::{LAST_CLASS, blocks_of, class_of, size_of};
 pub use size_class::SizeClass;
 pub use span::span_of;
 

@@ -42,13 +42,21 @@ fn info_index(d: u64) -> usize
     (FIXED_WORDS + DESCRIPTOR_WORDS * d) as usize
 }
 
+/// The words of a block of the class.
+pub fn block_words(class: SizeClass) -> u64
+    ensures words { result ≡ words_of_class class.number }
+    ensures some { 1 ≤ result }
+{
+    size_of(class.number) / WORD_BYTES
+}
+
 /// The blocks of a superblock of the class.
 pub(crate) fn class_division(class: SizeClass) -> Division
     ensures words { result.words ≡ words_of_class class.number }
     ensures count { result.count ≡ blocks_of class.number }
 {
     Division {
-        words: size_of(class.number) / WORD_BYTES,
+        words: block_words(class),
         count: blocks_of(class.number),
     }
 }

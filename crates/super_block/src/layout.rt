@@ -95,7 +95,7 @@ pub const LONGEST_IMAGE: u64 = WORD_BYTES
     * (FIXED_WORDS + (DESCRIPTOR_WORDS + SUPERBLOCK_WORDS) * LARGEST_CAPACITY);
 
 /// The last class: an info of 1 to `LAST_CLASS` is a class.
-pub const LAST_CLASS: u64 = 20;
+pub const LAST_CLASS: u64 = size_table::LAST_CLASS as u64;
 
 /// The info of a large block's first superblock is `LARGE_INFO` and `LARGE_STEP` for each superblock.
 pub const LARGE_INFO: u64 = 255;

@@ -12,7 +12,7 @@ mod naming;
 mod ready;
 
 pub use directory::Directory;
-pub use division::Division;
+pub use division::{Division, block_words};
 pub use geometry::Geometry;
 pub use heap_model::Block;
 pub use info::Info;
