@@ -4,17 +4,13 @@ ghost use Rattle.std.specs.Prelude.{◌≡◌, ◌+◌, ◌<◌, ◌≤◌, ◌�
 ghost use Rattle.heap_model.specs.Words.{anchor_state, anchor_first, anchor_count, full_anchor};
 ghost use Rattle.core_model.specs.Effects.{given_anchor};
 
-use anchor_word::{Anchor, State, give, pack, unpack};
+use anchor_word::{FULL, State, give, pack, unpack};
 
 /// The anchor after all free blocks of its superblock were taken.
 pub fn anchor_after_take_all() -> u64
     ensures { result ≡ full_anchor }
 {
-    pack(&Anchor {
-        state: State::Full,
-        first: 0,
-        count: 0,
-    })
+    pack(&FULL)
 }
 
 /// The anchor after a batch of `count` blocks, of which block `first` comes first, was given to a
@@ -33,19 +29,22 @@ pub fn anchor_after_give(anchor: u64, first: u64, count: u64, all: u64) -> u64
 }
 
 /// The state of an anchor that has all blocks free.
-pub(crate) const EMPTY: u64 = 0;
+pub(crate) const EMPTY: u64 = State::Empty as u64;
 
 /// The state of an anchor that has some blocks free.
-pub(crate) const PARTIAL: u64 = 1;
+pub(crate) const PARTIAL: u64 = State::Partial as u64;
 
-/// The anchor of a superblock with no free block.
-pub const FULL_ANCHOR: u64 = 2;
+/// The state of a word that is no anchor.
+const NO_STATE: u64 = 3;
 
 /// The state of an anchor, as its number.
 pub fn anchor_state(anchor: u64) -> u64
     ensures { result ≡ anchor_state anchor }
 {
-    anchor % 4
+    match unpack(anchor) {
+        Some(anchor) => anchor.state as u64,
+        None => NO_STATE,
+    }
 }
 
 /// The index of the first free block.

@@ -12,16 +12,15 @@ ghost use Rattle.core_model.specs.Guards.{IsThere, MayTakeAll, MayGive};
 ghost use Rattle.crash_core.specs.Standing.{IsCore, HasNewOwner, Takes, Decides};
 
 use crate::anchors::{
-    FULL_ANCHOR, PARTIAL, anchor_after_give, anchor_after_take_all, anchor_count, anchor_first,
-    anchor_state,
+    PARTIAL, anchor_after_give, anchor_after_take_all, anchor_count, anchor_first, anchor_state,
 };
 use crate::owners::{BlockOwner, BlockPlace, Cache, Group, SeatNotes, Share, SuperblockOwner};
 use crate::reads::{anchor, info, next};
 use crate::shares::share;
 use crate::state::CoreState;
 use core_model::StepAnswer;
-use size_table::{blocks_of, size_of};
-use super_block::Geometry;
+use size_table::{SizeClass, blocks_of};
+use super_block::{Geometry, block_words};
 
 /// Gives the blocks of a chain an owner: `count` blocks from the first one on, as first words lead.
 pub(crate) fn give_chain(
@@ -51,7 +50,7 @@ pub fn first_free(geometry: Geometry, d: u64, class: u64, anchor: u64) -> u64
     ensures { result
         ≡ start_word geometry.capacity d + anchor_first anchor * words_of_class class }
 {
-    geometry.start(d) + anchor_first(anchor) * (size_of(class as u8) / 8)
+    geometry.start(d) + anchor_first(anchor) * block_words(SizeClass::new(class as u8))
 }
 
 /// Takes all free blocks of a superblock into the cache of its class, if its anchor is as it was
@@ -142,9 +141,9 @@ pub(crate) fn give(core: &mut CoreState, seat: usize, d: u64) -> StepAnswer
     if word != seen.word {
         return StepAnswer::NotNow;
     }
-    let class = batch.class as u8;
-    let index = (batch.first - core.geometry.start(d)) / (size_of(class) / 8);
-    let given = anchor_after_give(word, index, batch.count, blocks_of(class));
+    let class = SizeClass::new(batch.class as u8);
+    let index = (batch.first - core.geometry.start(d)) / block_words(class);
+    let given = anchor_after_give(word, index, batch.count, blocks_of(class.number));
     let owner = BlockOwner {
         seat,
         place: BlockPlace::Nowhere,
@@ -158,7 +157,7 @@ pub(crate) fn give(core: &mut CoreState, seat: usize, d: u64) -> StepAnswer
         batch: NO_BATCH,
         ..notes
     };
-    if word != FULL_ANCHOR {
+    if word != anchor_after_take_all() {
         return StepAnswer::Done;
     }
     core.superblocks[d as usize] = SuperblockOwner {

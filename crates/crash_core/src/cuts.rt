@@ -14,8 +14,8 @@ use crate::owners::{BlockOwner, BlockPlace, Cache, SeatNotes, Seen, Share, Super
 use crate::reads::{durable_info, durable_used, info, next};
 use crate::shares::share;
 use crate::state::CoreState;
-use size_table::{blocks_of, size_of};
-use super_block::LAST_CLASS;
+use size_table::{SizeClass, blocks_of};
+use super_block::{LAST_CLASS, block_words};
 
 /// Whether all blocks of the superblock may go into the cache of its class: the seat has made
 /// them, the class is durable and so is the mark, and the cache is empty.
@@ -55,7 +55,7 @@ fn is_linked(core: &CoreState, d: u64, class: u64) -> bool
         (start_word core.now.geometry.capacity d)
         (class_blocks core.now.geometry.capacity class d) }
 {
-    let words = size_of(class as u8) / 8;
+    let words = block_words(SizeClass::new(class as u8));
     let mut block = core.geometry.start(d);
     for _step in 1..blocks_of(class as u8) {
         if next(core, block) != block + words {

@@ -6,8 +6,7 @@ ghost use Rattle.heap_model.specs.Words.{head_of, head_first, head_pops};
 ghost use Rattle.core_model.specs.View.{View};
 ghost use Rattle.core_model.specs.Effects.{seen, seen_word, popped_head, pushed_head};
 
-/// The bits of the first descriptor's number.
-const FIRST_BITS: u32 = 24;
+use super_block::ListHead;
 
 /// The head after a pop of its first descriptor, whose link was read: one pop more. A run draws
 /// fewer tickets than a head can count pops.
@@ -19,8 +18,7 @@ pub fn head_after_pop(head: u64, link: u64) -> u64
     ensures left { (v : View) → seen_word v.seen_head ≡ head → seen v.seen_link ≡ link
         → result ≡ popped_head v }
 {
-    let pops = (head >> FIRST_BITS) + 1;
-    (pops << FIRST_BITS) + link % (1 << FIRST_BITS)
+    ListHead::unpack(head).popped(link).pack()
 }
 
 /// The head after a push of descriptor `d`: the pops stay.
@@ -31,13 +29,12 @@ pub fn head_after_push(head: u64, d: u64) -> u64
     // what a push leaves of the head that its seat saw
     ensures left { (v : View) → seen_word v.seen_head ≡ head → result ≡ pushed_head v d }
 {
-    let pops = head >> FIRST_BITS;
-    (pops << FIRST_BITS) + (d + 1)
+    ListHead::unpack(head).pushed(d).pack()
 }
 
 /// The first descriptor's number plus 1, or 0 of an empty list.
 pub fn head_first(head: u64) -> u64
     ensures { result ≡ head_first head }
 {
-    head % (1 << FIRST_BITS)
+    ListHead::unpack(head).link().pack()
 }

@@ -59,7 +59,7 @@ fn held_class(core: &CoreState, seat: usize, block: u64) -> u64
     ensures class { result
         ≡ info (memory_at core.now) (superblock_at core.now.geometry.capacity block) }
     ensures some { 1 ≤ result }
-    ensures last { result ≤ 20 }
+    ensures last { result ≤ LAST_CLASS }
     ensures from { start_word core.now.geometry.capacity 0 ≤ block }
     ensures until { block < image_words core.now.geometry.capacity }
 {

@@ -12,7 +12,7 @@ use crate::opening::{Owners, opened_table};
 use crate::owners::{BlockOwner, BlockPlace, Cache, SeatNotes, Share, SuperblockOwner};
 use crate::state::CoreState;
 use std::alloc::{AllocError, Global};
-use super_block::{Ready, SUPERBLOCK_WORDS};
+use super_block::{LISTS, Ready, SUPERBLOCK_WORDS};
 
 /// A block that nobody has.
 const NO_BLOCK: BlockOwner = BlockOwner {
@@ -34,7 +34,7 @@ pub const NEW_SEAT: SeatNotes = SeatNotes {
     seen_head: None,
     seen_link: None,
     seen_anchor: None,
-    caches: [Cache { first: 0, count: 0 }; 21],
+    caches: [Cache { first: 0, count: 0 }; LISTS as usize],
     batch: NO_BATCH,
 };
 

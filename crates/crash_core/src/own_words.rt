@@ -11,8 +11,8 @@ use crate::part::Part;
 use crate::reads::info;
 use crate::shares::{place, share};
 use crate::state::CoreState;
-use size_table::size_of;
-use super_block::{FIXED_WORDS, Geometry, LAST_CLASS, ROOT_WORD, SUPERBLOCK_WORDS, WORD_BYTES};
+use size_table::SizeClass;
+use super_block::{FIXED_WORDS, Geometry, LAST_CLASS, ROOT_WORD, SUPERBLOCK_WORDS, block_words};
 
 /// The part of the image that a word is.
 pub fn part_at(geometry: Geometry, word: u64) -> Part
@@ -77,7 +77,7 @@ fn is_own_data(core: &CoreState, seat: usize, word: u64) -> bool
     if class > LAST_CLASS {
         return false;
     }
-    let words = size_of(class as u8) / WORD_BYTES;
+    let words = block_words(SizeClass::new(class as u8));
     let start = core.geometry.start(d);
     let block = start + (word - start) / words * words;
     place(core, seat, block).is_somewhere()

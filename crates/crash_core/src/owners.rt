@@ -1,5 +1,7 @@
 //! Whose each block and each superblock is, and what of a seat's own the core keeps by seat.
 
+use super_block::LISTS;
+
 /// Where a seat has a small block.
 #[derive(Clone, Copy)]
 pub enum BlockPlace {
@@ -82,6 +84,6 @@ pub struct SeatNotes {
     pub seen_link: Option<u64>,
     pub seen_anchor: Option<Seen>,
     /// The cache of each class.
-    pub caches: [Cache; 21],
+    pub caches: [Cache; LISTS as usize],
     pub batch: Group,
 }

@@ -12,7 +12,7 @@ use crate::owners::{SeatNotes, Seen, Share, SuperblockOwner};
 use crate::reads::{anchor, durable_info, durable_used, info};
 use crate::shares::share;
 use crate::state::CoreState;
-use super_block::{LARGE_INFO, LARGE_STEP, SUPERBLOCK_WORDS};
+use super_block::{Info, SUPERBLOCK_WORDS};
 
 /// Whether a large block that the seat holds begins at the word.
 pub(crate) fn may_split(core: &CoreState, seat: usize, block: u64) -> bool
@@ -107,11 +107,7 @@ fn may_join(core: &CoreState, seat: usize, d: u64, n: u64, e: u64) -> bool
     requires n { n ≤ core.now.geometry.capacity }
     ensures { Decides core.now seat (λ m v. MayJoin m v d n e) result }
 {
-    let wanted = if e == d {
-        LARGE_INFO + LARGE_STEP * n
-    } else {
-        0
-    };
+    let wanted = if e == d { Info::Large(n).pack() } else { 0 };
     if info(core, e) != wanted {
         return false;
     }

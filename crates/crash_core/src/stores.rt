@@ -8,7 +8,7 @@ ghost use Rattle.core_model.specs.Guards.{IsOwn, MayAnchor, MayChangeWord};
 ghost use Rattle.crash_core.specs.OwnWords.{IsPart, IsPlain};
 ghost use Rattle.crash_core.specs.Standing.{IsCore, Takes, Decides};
 
-use crate::anchors::{EMPTY, FULL_ANCHOR, anchor_state};
+use crate::anchors::{EMPTY, anchor_after_take_all, anchor_state};
 use crate::own_words::{is_own, part_at};
 use crate::owners::{BlockPlace, Group, SeatNotes, Share, SuperblockOwner};
 use crate::part::Part;
@@ -107,7 +107,7 @@ fn may_anchor(core: &CoreState, seat: usize, d: u64, value: u64) -> bool
     if value == 0 {
         return true;
     }
-    if value != FULL_ANCHOR {
+    if value != anchor_after_take_all() {
         return false;
     }
     match share(core, seat, d) {

@@ -1,7 +1,7 @@
-use Rattle.std.proofs.Common.{◌≡◌, ◌+◌, ◌-◌, ◌/◌, refl, sym, subst, ◌∙◌, arith}
+use Rattle.std.proofs.Common.{◌≡◌, ◌+◌, ◌-◌, refl, ap, sym, subst, ◌∙◌, arith}
 use Rattle.heap_model.specs.Geometry.{start_word}
 use Rattle.heap_model.specs.Sizes.{words_of_class, blocks_of}
-use Rattle.heap_model.proofs.SizeLemmas.{size_of-words, few_words, two_words, four_blocks, blocks_fit}
+use Rattle.heap_model.proofs.SizeLemmas.{few_words, two_words, four_blocks, blocks_fit}
 use Rattle.core_model.specs.Memory.{next}
 use Rattle.crash_core.specs.Standing.{memory_at}
 use Rattle.crash_core.proofs.ReadLemmas.{lengths}
@@ -17,17 +17,17 @@ next-requires-clause-until c = let t = c.loop-step-test.true in let n = c.blocks
 pub overflow_add-block : goal.overflow_add-block
 overflow_add-block c = let t = c.loop-step-test.true in let n = c.blocks_of-step-end.ensures in let d = c.requires.d in
     let room = half_room (next (memory_at c.args.core.now)) (start_word c.args.core.now.geometry.capacity c.args.d) (words_of_class c.args.class) (blocks_of c.args.class) c.loop-step.block (blocks_of c.args.class + 1 - c.loop-step._step) c.loop-step.invariant (omega arith) in
-    let fits = blocks_fit c.args.class c.requires.class in let e = c.size_of-words.ensures in let w = size_of-words c.args.class c.requires.class in let f = few_words c.args.class c.requires.class in
+    let fits = blocks_fit c.args.class c.requires.class in let w : c.block_words-words.result ≡ words_of_class c.args.class = c.block_words-words.ensures.words ∙ ap words_of_class c.new.ensures in let f = few_words c.args.class c.requires.class in
     let small = (lengths c.args.core.now c.requires.core).small in omega arith
 
 pub returns-then-next-block : goal.returns-then-next-block
-returns-then-next-block c = let t = c.loop-step-test.true in let n = c.blocks_of-step-end.ensures in let e = c.size_of-words.ensures in let w = size_of-words c.args.class c.requires.class in
+returns-then-next-block c = let t = c.loop-step-test.true in let n = c.blocks_of-step-end.ensures in let w : c.block_words-words.result ≡ words_of_class c.args.class = c.block_words-words.ensures.words ∙ ap words_of_class c.new.ensures in
     refused (half_apart (next (memory_at c.args.core.now)) (start_word c.args.core.now.geometry.capacity c.args.d) (words_of_class c.args.class) (blocks_of c.args.class) c.loop-step.block (blocks_of c.args.class + 1 - c.loop-step._step) (blocks_of c.args.class - c.loop-step._step) c.loop-step.invariant
-    (omega arith) (omega arith) (λ leads. c.if-next-block.true (c.next.ensures ∙ leads ∙ (let z : c.loop-step.block + words_of_class c.args.class ≡ c.loop-step.block + c.size_of-words.result / 8 = omega arith in z))))
+    (omega arith) (omega arith) (λ leads. c.if-next-block.true (c.next.ensures ∙ leads ∙ (let z : c.loop-step.block + words_of_class c.args.class ≡ c.loop-step.block + c.block_words-words.result = omega arith in z))))
 
 pub loop-step-preserved : goal.loop-step-preserved
-loop-step-preserved c = let t = c.loop-step-test.true in let n = c.blocks_of-step-end.ensures in let e = c.size_of-words.ensures in let w = size_of-words c.args.class c.requires.class in let f = c.if-next-block.false in
-    half_step (next (memory_at c.args.core.now)) (start_word c.args.core.now.geometry.capacity c.args.d) (words_of_class c.args.class) (blocks_of c.args.class) c.loop-step.block (blocks_of c.args.class + 1 - c.loop-step._step) (blocks_of c.args.class + 1 - (c.loop-step._step + 1)) (c.loop-step.block + c.size_of-words.result / 8) c.loop-step.invariant
+loop-step-preserved c = let t = c.loop-step-test.true in let n = c.blocks_of-step-end.ensures in let w : c.block_words-words.result ≡ words_of_class c.args.class = c.block_words-words.ensures.words ∙ ap words_of_class c.new.ensures in let f = c.if-next-block.false in
+    half_step (next (memory_at c.args.core.now)) (start_word c.args.core.now.geometry.capacity c.args.d) (words_of_class c.args.class) (blocks_of c.args.class) c.loop-step.block (blocks_of c.args.class + 1 - c.loop-step._step) (blocks_of c.args.class + 1 - (c.loop-step._step + 1)) (c.loop-step.block + c.block_words-words.result) c.loop-step.invariant
     (omega arith) (omega arith) (sym c.next.ensures ∙ (let z : c.next.result ≡ c.loop-step.block + words_of_class c.args.class = omega arith in z)) (omega arith)
 
 pub returns : goal.returns

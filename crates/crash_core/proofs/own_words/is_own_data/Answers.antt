@@ -1,6 +1,5 @@
-use Rattle.std.proofs.Common.{◌+◌, ◌-◌, ◌*◌, ◌/◌, refl, sym, ap, arith}
-use Rattle.heap_model.specs.Sizes.{IsClass, words_of_class, size_of}
-use Rattle.heap_model.proofs.SizeLemmas.{two_words}
+use Rattle.std.proofs.Common.{◌+◌, ◌-◌, ◌*◌, ◌/◌, refl, sym, ap, ◌∙◌, arith}
+use Rattle.heap_model.specs.Sizes.{words_of_class}
 use Rattle.crash_core.proofs.PushDecision.{refused}
 use Rattle.crash_core.proofs.WordLemmas.{entry_there}
 use Rattle.crash_core.proofs.OwnDecision.{data_whole, data_unclassed, data_block}
@@ -15,15 +14,9 @@ returns-then-class-eq0 c = λ k views v keeps below at. refused (data_unclassed 
 pub returns-then-class-gt-LAST_CLASS : goal.returns-then-class-gt-LAST_CLASS
 returns-then-class-gt-LAST_CLASS c = λ k views v keeps below at. refused (data_unclassed c.args.core.now k views c.args.seat v (entry_there c.args.core.now.seats.items c.args.seat c.requires.seat).0 keeps below at (entry_there c.args.core.now.seats.items c.args.seat c.requires.seat).1 c.args.word c.requires.from c.requires.until ((c.args.word - c.start.result) / 8192) (ap (λ n. (c.args.word - n) / 8192) c.start.ensures) c.share.result c.share.ensures (sym c.if-has_words.ensures) c.info-class.result c.info-class.ensures (λ is. let s = is.last in let e = c.if-class-gt-LAST_CLASS.true in omega arith))
 
-pub nonzero_div-block : goal.nonzero_div-block
-unfolding words_of_class size_of
-nonzero_div-block c = let is : IsClass c.info-class.result = record { some = (let e = c.if-class-eq0.false in omega arith); last = (let e = c.if-class-gt-LAST_CLASS.false in omega arith) } in
-    let two = two_words c.info-class.result is in let e = c.size_of-words.ensures in let f = ap (λ n. n / 8) e in omega arith
-
 pub returns : goal.returns
-unfolding words_of_class size_of
 returns c = λ k views v keeps below at. data_block c.args.core.now k views c.args.seat v (entry_there c.args.core.now.seats.items c.args.seat c.requires.seat).0 keeps below at (entry_there c.args.core.now.seats.items c.args.seat c.requires.seat).1 c.args.word c.requires.from c.requires.until ((c.args.word - c.start.result) / 8192) (ap (λ n. (c.args.word - n) / 8192) c.start.ensures) c.share.result c.share.ensures (sym c.if-has_words.ensures) c.info-class.result c.info-class.ensures
     (record { some = (let e = c.if-class-eq0.false in omega arith); last = (let e = c.if-class-gt-LAST_CLASS.false in omega arith) })
-    (c.size_of-words.result / 8) (c.start-start.result + (c.args.word - c.start-start.result) / (c.size_of-words.result / 8) * (c.size_of-words.result / 8))
-    (ap (λ n. n / 8) c.size_of-words.ensures) (ap (λ n. n + (c.args.word - n) / (c.size_of-words.result / 8) * (c.size_of-words.result / 8)) c.start-start.ensures)
+    c.block_words-words.result (c.start-start.result + (c.args.word - c.start-start.result) / c.block_words-words.result * c.block_words-words.result)
+    (c.block_words-words.ensures.words ∙ ap words_of_class c.new.ensures) (ap (λ n. n + (c.args.word - n) / c.block_words-words.result * c.block_words-words.result) c.start-start.ensures)
     c.place.result c.place.ensures c.is_somewhere.result c.is_somewhere.ensures
