@@ -24,8 +24,8 @@ use crash_core::{
     Cache, Group, NO_BATCH, SeatNotes, anchor_after_give, anchor_after_take_all, anchor_count,
     anchor_state, first_free,
 };
-use size_table::{blocks_of, size_of};
-use super_block::Geometry;
+use size_table::{SizeClass, blocks_of};
+use super_block::{Geometry, block_words};
 
 impl Seat {
     /// Takes all free blocks of a claimed superblock into the cache of its class, if its anchor is
@@ -170,8 +170,8 @@ fn anchor_with_batch(geometry: Geometry, d: u64, batch: Group, anchor: u64) -> u
         ((batch.first - start_word geometry.capacity d) / words_of_class batch.class)
         batch.count (blocks_of batch.class) }
 {
-    let class = batch.class as u8;
-    let all = blocks_of(class);
+    let class = SizeClass::new(batch.class as u8);
+    let all = blocks_of(class.number);
     let free = anchor_count(anchor);
     if anchor_state(anchor) == 3 {
         return 0;
@@ -182,6 +182,6 @@ fn anchor_with_batch(geometry: Geometry, d: u64, batch: Group, anchor: u64) -> u
     if batch.count > all - free {
         return 0;
     }
-    let index = (batch.first - geometry.start(d)) / (size_of(class) / 8);
+    let index = (batch.first - geometry.start(d)) / block_words(class);
     anchor_after_give(anchor, index, batch.count, all)
 }

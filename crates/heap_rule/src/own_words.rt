@@ -11,8 +11,8 @@ ghost use Rattle.heap_rule.specs.Seated.{IsSeatOf};
 use crate::seat::Seat;
 use crate::shared::Shared;
 use crash_core::{Part, part_at};
-use size_table::size_of;
-use super_block::{Block, LAST_CLASS, SUPERBLOCK_WORDS, WORD_BYTES};
+use size_table::SizeClass;
+use super_block::{Block, LAST_CLASS, SUPERBLOCK_WORDS, WORD_BYTES, block_words};
 
 impl Seat {
     /// Whether a word is the seat's own.
@@ -48,7 +48,7 @@ impl Seat {
         if class > LAST_CLASS {
             return false;
         }
-        let words = size_of(class as u8) / WORD_BYTES;
+        let words = block_words(SizeClass::new(class as u8));
         let start = self.geometry.start(d);
         let block = start + (word - start) / words * words;
         self.owned.blocks[block as usize]
@@ -81,6 +81,6 @@ impl Seat {
             return SUPERBLOCK_WORDS * count;
         }
         let class = self.owned.classes[d as usize];
-        size_of(class as u8) / WORD_BYTES
+        block_words(SizeClass::new(class as u8))
     }
 }

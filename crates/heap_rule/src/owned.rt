@@ -8,8 +8,8 @@ ghost use Rattle.heap_rule.specs.Owned.{IsMarking, IsStaking, unclassed_in, clas
 ghost use Rattle.heap_rule.specs.Changed.{CanChange, IsChanged};
 ghost use Rattle.heap_rule.specs.declared.owned.Change.TheVariants as change;
 
-use size_table::{blocks_of, size_of};
-use super_block::{Geometry, WORD_BYTES};
+use size_table::{SizeClass, blocks_of};
+use super_block::{Geometry, block_words};
 
 /// The most blocks of a superblock.
 pub(crate) const MOST_BLOCKS: usize = 4096;
@@ -140,7 +140,7 @@ impl Owned {
         requires { CanChange (change.Cut d class) geometry.capacity self.old }
         ensures { IsChanged (change.Cut d class) geometry.capacity self.old self.new }
     {
-        let words = size_of(class as u8) / WORD_BYTES;
+        let words = block_words(SizeClass::new(class as u8));
         let count = blocks_of(class as u8);
         mark_steps(&mut self.blocks, geometry.start(d), words, count);
         self.classes[d as usize] = class;

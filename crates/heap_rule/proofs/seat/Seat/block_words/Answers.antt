@@ -1,6 +1,6 @@
 use Rattle.std.proofs.Common.{◌≡◌, ◌-◌, ◌*◌, ◌/◌, get_or, refl, ap, sym, subst, ◌∙◌, arith}
 use Rattle.heap_model.specs.Geometry.{start_word, largest_capacity_fits}
-use Rattle.heap_model.specs.Sizes.{IsClass, words_of_class, size_of}
+use Rattle.heap_model.specs.Sizes.{IsClass, words_of_class}
 use Rattle.core_model.specs.Held.{IsHeld}
 use Rattle.crash_core.proofs.WordLemmas.{entry_is}
 use Rattle.heap_rule.specs.declared.owned.Stake.TheVariants as stake
@@ -29,11 +29,10 @@ index-class-requires c = let h = block_there (view_in c.self.inside.bare.me.0) c
 pub overflow_cast-class : goal.overflow_cast-class
 overflow_cast-class c = let h = block_there (view_in c.self.inside.bare.me.0) c.self.invariant.seat.kept.has c.self.inside.owned c.self.invariant.own c.requires.0 ((c.args.first_word - c.start.result) / 8192) c.count-count.result c.index.result.now (subst (λ (s : SeatView). IsHeld s.view c.requires.0) (sym c.self.view_is) c.requires.1) (ap (λ n. (c.args.first_word - n) / 8192) (c.start.ensures ∙ ap (λ n. start_word n 0) c.self.invariant.seat.capacity_is) ∙ ap (λ n. (n - start_word (view_in c.self.inside.bare.me.0).setup.capacity 0) / 8192) c.requires.2) (λ less. c.index.ensures) c.count-count.ensures in let z : c.count-count.result ≡ 0 = (let t = c.if-count-gt0.false in omega arith) in let kept = (c.index-class.ensures ∙ entry_is c.self.inside.owned.classes.items ((c.args.first_word - c.start.result) / 8192) c.index-class.result.now 0 (let l = c.self.invariant.own.classes_long in let b = h.below in omega arith)) in let is : IsClass c.index-class.result.now = subst IsClass (sym kept) (h.small z).1 in let l = is.last in omega arith
 
-pub size_of-requires : goal.size_of-requires
-size_of-requires c = let h = block_there (view_in c.self.inside.bare.me.0) c.self.invariant.seat.kept.has c.self.inside.owned c.self.invariant.own c.requires.0 ((c.args.first_word - c.start.result) / 8192) c.count-count.result c.index.result.now (subst (λ (s : SeatView). IsHeld s.view c.requires.0) (sym c.self.view_is) c.requires.1) (ap (λ n. (c.args.first_word - n) / 8192) (c.start.ensures ∙ ap (λ n. start_word n 0) c.self.invariant.seat.capacity_is) ∙ ap (λ n. (n - start_word (view_in c.self.inside.bare.me.0).setup.capacity 0) / 8192) c.requires.2) (λ less. c.index.ensures) c.count-count.ensures in let z : c.count-count.result ≡ 0 = (let t = c.if-count-gt0.false in omega arith) in let kept = (c.index-class.ensures ∙ entry_is c.self.inside.owned.classes.items ((c.args.first_word - c.start.result) / 8192) c.index-class.result.now 0 (let l = c.self.invariant.own.classes_long in let b = h.below in omega arith)) in let is : IsClass c.index-class.result.now = subst IsClass (sym kept) (h.small z).1 in let l = is.last in omega arith
+pub new-requires : goal.new-requires
+new-requires c = let h = block_there (view_in c.self.inside.bare.me.0) c.self.invariant.seat.kept.has c.self.inside.owned c.self.invariant.own c.requires.0 ((c.args.first_word - c.start.result) / 8192) c.count-count.result c.index.result.now (subst (λ (s : SeatView). IsHeld s.view c.requires.0) (sym c.self.view_is) c.requires.1) (ap (λ n. (c.args.first_word - n) / 8192) (c.start.ensures ∙ ap (λ n. start_word n 0) c.self.invariant.seat.capacity_is) ∙ ap (λ n. (n - start_word (view_in c.self.inside.bare.me.0).setup.capacity 0) / 8192) c.requires.2) (λ less. c.index.ensures) c.count-count.ensures in let z : c.count-count.result ≡ 0 = (let t = c.if-count-gt0.false in omega arith) in let kept = (c.index-class.ensures ∙ entry_is c.self.inside.owned.classes.items ((c.args.first_word - c.start.result) / 8192) c.index-class.result.now 0 (let l = c.self.invariant.own.classes_long in let b = h.below in omega arith)) in let is : IsClass c.index-class.result.now = subst IsClass (sym kept) (h.small z).1 in let l = is.last in omega arith
 
 pub returns : goal.returns
-unfolding words_of_class size_of
-returns c = λ b held at. (subst (λ (s : SeatView). IsHeld s.view b → b.words ≡ c.size_of.result / 8) c.self.view_is
+returns c = λ b held at. (subst (λ (s : SeatView). IsHeld s.view b → b.words ≡ c.block_words.result) c.self.view_is
     (λ held_v. let h = block_there (view_in c.self.inside.bare.me.0) c.self.invariant.seat.kept.has c.self.inside.owned c.self.invariant.own b ((c.args.first_word - c.start.result) / 8192) c.count-count.result c.index.result.now (subst (λ (s : SeatView). IsHeld s.view b) (sym c.self.view_is) (subst (λ (s : SeatView). IsHeld s.view b) c.self.view_is held_v)) (ap (λ n. (c.args.first_word - n) / 8192) (c.start.ensures ∙ ap (λ n. start_word n 0) c.self.invariant.seat.capacity_is) ∙ ap (λ n. (n - start_word (view_in c.self.inside.bare.me.0).setup.capacity 0) / 8192) at) (λ less. c.index.ensures) c.count-count.ensures in let z : c.count-count.result ≡ 0 = (let t = c.if-count-gt0.false in omega arith) in let kept = (c.index-class.ensures ∙ entry_is c.self.inside.owned.classes.items ((c.args.first_word - c.start.result) / 8192) c.index-class.result.now 0 (let l = c.self.invariant.own.classes_long in let b = h.below in omega arith)) in
-    (h.small z).0 ∙ ap words_of_class (sym kept) ∙ sym (ap (λ n. n / 8) c.size_of.ensures))) held
+    (h.small z).0 ∙ ap words_of_class (sym kept) ∙ sym (c.block_words.ensures.words ∙ ap words_of_class c.new.ensures))) held
