@@ -4,7 +4,8 @@ use Rattle.std.proofs.lemmas.Bool.{cases_lt}
 use Rattle.std.proofs.lemmas.Grind.{same_number_lists}
 use Rattle.std.proofs.lemmas.List.{take-append-drop, drop_all, length-take, length-take-le, length-drop, drop-drop, get_or-take, get_or-drop, get_or_past}
 use Rattle.std.proofs.lemmas.Nat.{le_bytes_8}
-use Rattle.std.proofs.Math.Seq.{drop-append-add}
+use Rattle.std.proofs.Math.ListN.{get_or-append}
+use Rattle.std.proofs.Math.Seq.{drop-append-add, get_or-append_seam}
 use Rattle.std.specs.Int.{w64, from_le_bytes}
 use Rattle.byteorder.specs.Endian.{little_number, little_bytes}
 use Rattle.byteorder.specs.Numbers.{little_number-reads_back, length-bytes_low_first, little_from-take}
@@ -93,3 +94,32 @@ AreWordsOf-unique words others bytes these those =
     let counts = these.count in
     let others_counts = those.count in
     same_number_lists words others (omega arith) (λ i below. these.word i ∙ sym (those.word i))
+
+-- the first words of the bytes
+pub record AreFirstWords (bytes words : List ℕ) (i : ℕ) : Type 0 where
+  pub count : length words ≡ i
+  pub word : (k : ℕ) → k < i → slice_index words k ≡ image_of_bytes bytes k
+
+-- one word more
+pub one_word_more : (bytes words : List ℕ) (i word : ℕ) → AreFirstWords bytes words i → word ≡ image_of_bytes bytes i
+    → AreFirstWords bytes (words ++ word ∷ []) (i + 1)
+one_word_more bytes words i word first is = record {
+  count = length-append words (word ∷ []) ∙ let count = first.count in omega arith;
+  word = λ k below. elim (cases_lt k i) [
+    | inl before ↦ get_or-append words (word ∷ []) 0 k (let count = first.count in omega arith) ∙ first.word k before
+    | inr past ↦
+      let last : k ≡ length words = let count = first.count in omega arith in
+      let same : k ≡ i = omega arith in
+      ap (λ n. slice_index (words ++ word ∷ []) n) last ∙ get_or-append_seam words word [] 0 ∙ is ∙ ap (image_of_bytes bytes) (sym same)
+  ];
+}
+
+-- all of them
+pub all_words : (bytes words : List ℕ) (i : ℕ) → length bytes ≡ 8 * i → AreFirstWords bytes words i → AreWordsOf words bytes
+all_words bytes words i long first = record {
+  count = let count = first.count in omega arith;
+  word = λ k. elim (cases_lt k i) [
+    | inl below ↦ first.word k below
+    | inr past ↦ get_or_past words k 0 (let count = first.count in omega arith) ∙ sym (image_of_bytes-past bytes k (omega arith))
+  ];
+}

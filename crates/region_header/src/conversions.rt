@@ -23,7 +23,10 @@ pub fn bytes_to_words(alloc: Global, bytes: &[u8]) -> Result<Vec<u64>, AllocErro
     requires { length bytes.now % 8 ≡ 0 }
     ensures ok { IfOk result (λ words. AreWordsOf words.items bytes.now) }
 {
-    let mut words = vec![in alloc; 0; bytes.len() / WORD_BYTES as usize]?;
-    LittleEndian::read_u64_into(bytes, &mut words);
+    let count = bytes.len() / WORD_BYTES as usize;
+    let mut words = Vec::with_capacity(alloc, count)?;
+    for i in 0..count {
+        words.push_reserved(LittleEndian::read_u64(&bytes[WORD_BYTES as usize * i..]));
+    }
     Ok(words)
 }
