@@ -2,10 +2,10 @@
 use crate::Recovered;
 use anchor_word::{State, unpack};
 use region_header::read_header;
-use size_table::{SizeClass, blocks_of, size_of};
+use size_table::{SizeClass, blocks_of};
 use super_block::{
     Block, CAPACITY_WORD, DESCRIPTOR_WORDS, FIXED_WORDS, HEAD_WORD, Info, LISTS, SUPERBLOCK_WORDS,
-    USED_WORD, WORD_BYTES,
+    USED_WORD, block_words,
 };
 
 fn word(words: &[u64], at: u64) -> u64 {
@@ -38,14 +38,9 @@ fn class_in(words: &[u64], d: u64) -> Option<SizeClass> {
     }
 }
 
-// The words of a block of the class.
-fn words_of(class: SizeClass) -> u64 {
-    size_of(class.number) / WORD_BYTES
-}
-
 // Whether a block of the class begins at the word, in superblock d.
 fn begins_block(words: &[u64], d: u64, class: SizeClass, at: u64) -> bool {
-    let size = words_of(class);
+    let size = block_words(class);
     let offset = at.wrapping_sub(start(word(words, CAPACITY_WORD), d));
     offset.checked_rem(size) == Some(0) && offset < size.wrapping_mul(blocks_of(class.number))
 }
@@ -61,7 +56,7 @@ fn is_block(words: &[u64], block: &Block) -> bool {
     match Info::unpack(descriptor(words, d, 0)) {
         Info::Nothing => false,
         Info::Class(class) => {
-            block.words == words_of(class) && begins_block(words, d, class, block.first_word)
+            block.words == block_words(class) && begins_block(words, d, class, block.first_word)
         }
         Info::Large(count) => {
             block.first_word == start(capacity, d)
@@ -115,7 +110,7 @@ fn is_chained(words: &[u64], held: &[Block], d: u64, class: SizeClass) -> bool {
     let Some(anchor) = unpack(descriptor(words, d, 1)) else {
         return false;
     };
-    let first = anchor.first.wrapping_mul(words_of(class));
+    let first = anchor.first.wrapping_mul(block_words(class));
     let mut at = start(word(words, CAPACITY_WORD), d).wrapping_add(first);
     let mut last = 0;
     for _ in 0..anchor.count {

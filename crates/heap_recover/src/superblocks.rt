@@ -6,9 +6,9 @@ ghost use Rattle.heap_recover.specs.Rebuilt.{HasSpares, HasInfo, IsAnchorOf, IsW
 
 use crate::chains::link_chain;
 use crate::roles::Role;
-use anchor_word::{Anchor, State, pack};
-use size_table::size_of;
-use super_block::{Geometry, WORD_BYTES};
+use anchor_word::{Anchor, EMPTY, FULL, State, pack};
+use size_table::SizeClass;
+use super_block::{Geometry, block_words};
 
 /// Rebuilds superblock `d` in its role: info, anchor, link, and the chain of its `spares`, the
 /// first words of the blocks that are not kept.
@@ -60,23 +60,9 @@ fn anchor_word_of(geometry: &Geometry, d: u64, role: Role, spares: &[u64]) -> u6
         Role::Free => pack(&EMPTY),
         Role::Partial(class) => pack(&Anchor {
             state: State::Partial,
-            first: (spares[0] - geometry.start(d)) / (size_of(class) / WORD_BYTES),
+            first: (spares[0] - geometry.start(d)) / block_words(SizeClass::new(class)),
             count: spares.len() as u64,
         }),
         Role::Full(_) | Role::Large => pack(&FULL),
     }
 }
-
-/// The anchor of a superblock whose blocks are all free.
-const EMPTY: Anchor = Anchor {
-    state: State::Empty,
-    first: 0,
-    count: 0,
-};
-
-/// The anchor of a superblock with no free block.
-const FULL: Anchor = Anchor {
-    state: State::Full,
-    first: 0,
-    count: 0,
-};

@@ -8,11 +8,11 @@ use super::*;
 use crate::rest_check::{is_at_rest, start};
 use filter_trace::Filter;
 use heap_model::BadHeader;
-use size_table::{SizeClass, blocks_of, size_of};
+use size_table::{SizeClass, blocks_of};
 use std::alloc::{AllocError, Global};
 use std::process::Abort;
 use std::test::Fail;
-use super_block::{Block, CLEAN, LAST_CLASS, MAGIC, VERSION, WORD_BYTES};
+use super_block::{Block, CLEAN, LAST_CLASS, MAGIC, VERSION, block_words};
 
 /// Pairs, whose first link is in word 0 and leads to such a pair again (kind 2), or whose second is
 /// in word 2 and leads to a block without links (kind 1).
@@ -353,7 +353,7 @@ fn chained(
         let mut index = first;
         for _ in 0..blocks_of(class.number) {
             if index < blocks_of(class.number) {
-                let within = index.wrapping_mul(size_of(class.number) / WORD_BYTES);
+                let within = index.wrapping_mul(block_words(class));
                 let at = start(capacity, d).wrapping_add(within);
                 let pointer = at.wrapping_mul(8).wrapping_add(0x5250_0000_0000_0000);
                 words.push((link as usize, pointer))?;

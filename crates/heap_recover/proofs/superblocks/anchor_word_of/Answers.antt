@@ -1,6 +1,5 @@
 use Rattle.std.proofs.Common.{◌-◌, ◌/◌, slice_index, arith, ap, sym, subst, ◌∙◌}
-use Rattle.super_block.proofs.DivisionLemmas.{words_from_size}
-use Rattle.heap_model.proofs.SizeLemmas.{two_words}
+use Rattle.heap_model.specs.Sizes.{words_of_class}
 use Rattle.heap_recover.specs.declared.roles.Role.{Role}
 use Rattle.heap_recover.specs.Rebuilt.{IsAnchorOf}
 use Rattle.heap_recover.proofs.SuperblockLemmas.{of_partial, first_spare, found_first}
@@ -14,21 +13,20 @@ overflow_sub-spares c =
 
 pub nonzero_div-spares : goal.nonzero_div-spares
 nonzero_div-spares c =
-    let are = of_partial c.args.geometry.now.capacity c.args.d c.in-Partial.class c.args.spares.now c.args.role c.in-Partial.is c.requires.spares in
-    let words = ap (λ x. x / 8) c.size_of.ensures ∙ words_from_size c.in-Partial.class are.is_class in
-    omega (arith, words, two_words c.in-Partial.class are.is_class)
+    let some = c.block_words.ensures.some in
+    omega arith
 
 pub pack-requires-in-Partial : goal.pack-requires-in-Partial
 pack-requires-in-Partial c =
     let are = of_partial c.args.geometry.now.capacity c.args.d c.in-Partial.class c.args.spares.now c.args.role c.in-Partial.is c.requires.spares in
-    let words = ap (λ x. x / 8) c.size_of.ensures ∙ words_from_size c.in-Partial.class are.is_class in
-    let first = found_first c.args.geometry.now.capacity c.in-Partial.class c.args.d c.args.spares.now c.start.result (c.size_of.result / 8) (omega arith) (omega arith) are c.start.ensures words in
+    let words = c.block_words.ensures.words ∙ ap words_of_class c.new.ensures in
+    let first = found_first c.args.geometry.now.capacity c.in-Partial.class c.args.d c.args.spares.now c.start.result c.block_words.result (omega arith) (omega arith) are c.start.ensures words in
     record { first = first.below; count = first.few }
 
 pub returns-in-Partial : goal.returns-in-Partial
 returns-in-Partial c =
     let are = of_partial c.args.geometry.now.capacity c.args.d c.in-Partial.class c.args.spares.now c.args.role c.in-Partial.is c.requires.spares in
-    let words = ap (λ x. x / 8) c.size_of.ensures ∙ words_from_size c.in-Partial.class are.is_class in
-    let first = found_first c.args.geometry.now.capacity c.in-Partial.class c.args.d c.args.spares.now c.start.result (c.size_of.result / 8) (omega arith) (omega arith) are c.start.ensures words in
+    let words = c.block_words.ensures.words ∙ ap words_of_class c.new.ensures in
+    let first = found_first c.args.geometry.now.capacity c.in-Partial.class c.args.d c.args.spares.now c.start.result c.block_words.result (omega arith) (omega arith) are c.start.ensures words in
     subst (λ (r : Role). IsAnchorOf c.args.geometry.now.capacity c.args.d c.args.spares.now c.pack-in-Partial.result r) (sym c.in-Partial.is)
-    (record { first = (slice_index c.args.spares.now 0 - c.start.result) / (c.size_of.result / 8); is = c.pack-in-Partial.ensures; begins = first.begins })
+    (record { first = (slice_index c.args.spares.now 0 - c.start.result) / c.block_words.result; is = c.pack-in-Partial.ensures; begins = first.begins })
