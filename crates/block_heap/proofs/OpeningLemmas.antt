@@ -19,15 +19,14 @@ use Rattle.block_heap.specs.declared.held.HeldBlocks.{HeldBlocks}
 use Rattle.block_heap.specs.Begun.{IsBegun}
 use Rattle.block_heap.specs.Held.{held_of, HasMark, at_mark, block_of_mark}
 use Rattle.block_heap.specs.Opening.{IsHeldOf}
-use Rattle.block_heap.proofs.AnchorLemmas.{words_by_bytes}
 use Rattle.block_heap.proofs.HeldLemmas.{has_map}
 use Rattle.heap_model.proofs.MemberLemmas.{in_none}
 use Rattle.block_heap.proofs.SmallLemmas.{even_words, even_product}
 
 -- an info that is a class tells its size
-pub begun_class : (info class bytes : ℕ) → info ≡ class → IsClass class → bytes ≡ size_of class → IsBegun info (bytes / 8)
-begun_class info class bytes same is size = record {
-  of_class = λ _. words_by_bytes class bytes is size ∙ ap words_of_class (sym same);
+pub begun_class : (info class words : ℕ) → info ≡ class → IsClass class → words ≡ words_of_class class → IsBegun info words
+begun_class info class words same is size = record {
+  of_class = λ _. size ∙ ap words_of_class (sym same);
   as_large = λ n some few large. absurd (let last = is.last in omega arith);
 }
 

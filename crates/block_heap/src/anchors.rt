@@ -8,8 +8,8 @@ use crate::cache::Cache;
 use crate::medium::Medium;
 use anchor_word::{Anchor, State, give, pack, take_all, unpack};
 use line_memory::{Chance, Stopped};
-use size_table::{SizeClass, blocks_of, size_of};
-use super_block::{Geometry, WORD_BYTES};
+use size_table::{SizeClass, blocks_of};
+use super_block::{Geometry, block_words};
 
 /// Free blocks of one superblock in a chain: the index of the first one, the first word of the last
 /// one, and how many there are.
@@ -147,8 +147,7 @@ fn block_word(geometry: Geometry, d: u64, class: SizeClass, index: u64) -> u64
     requires index { index < 2 ^ 31 }
     ensures { result ≡ start_word geometry.capacity d + index * words_of_class class.number }
 {
-    let words = size_of(class.number) / WORD_BYTES;
-    geometry.start(d) + index * words
+    geometry.start(d) + index * block_words(class)
 }
 
 /// The word of the anchor once the blocks are given back, of a superblock of `max` blocks.

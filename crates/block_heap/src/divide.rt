@@ -1,16 +1,9 @@
 //! How a superblock is divided into the blocks of a class.
 use crate::medium::Medium;
-use anchor_word::{Anchor, State, pack};
+use anchor_word::{FULL, pack};
 use line_memory::{Chance, Stopped};
 use size_table::{SizeClass, blocks_of};
 use super_block::{Geometry, Info, block_at};
-
-/// The anchor of a superblock with no free block.
-const FULL: Anchor = Anchor {
-    state: State::Full,
-    first: 0,
-    count: 0,
-};
 
 impl<C: Chance> Medium<C> {
     ghost use Rattle.std.specs.Prelude.{◌≡◌, ◌<◌, ◌≤◌, OnOk, IfErr};

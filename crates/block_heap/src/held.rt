@@ -4,9 +4,8 @@ ghost use Rattle.heap_model.specs.Geometry.{superblock_words};
 ghost use Rattle.block_heap.specs.Begun.{superblock_marks, IsBegun};
 
 use heap_model::Block;
-use size_table::size_of;
 use std::alloc::{AllocError, Global};
-use super_block::{Geometry, Info, LARGEST_CAPACITY, Ready, SUPERBLOCK_WORDS, WORD_BYTES};
+use super_block::{Geometry, Info, LARGEST_CAPACITY, Ready, SUPERBLOCK_WORDS, block_words};
 
 /// No block is smaller, and each begins at a multiple of it from the first superblock on.
 const SMALLEST_WORDS: u64 = 2;
@@ -151,7 +150,7 @@ fn words_begun(info: u64) -> u64
     ensures { IsBegun info result }
 {
     match Info::unpack(info) {
-        Info::Class(class) => size_of(class.number) / WORD_BYTES,
+        Info::Class(class) => block_words(class),
         Info::Large(count) if count <= LARGEST_CAPACITY => SUPERBLOCK_WORDS * count,
         _ => 0,
     }

@@ -3,8 +3,8 @@ use crate::arena::Arena;
 use crate::cache::Cache;
 use heap_seat::Look;
 use line_memory::{Chance, Stopped};
-use size_table::{SizeClass, blocks_of, size_of};
-use super_block::WORD_BYTES;
+use size_table::{SizeClass, blocks_of};
+use super_block::block_words;
 
 /// What was found first in the list of a class.
 #[derive(Clone, Copy, Debug, PartialEq, Eq)]
@@ -207,7 +207,7 @@ impl<C: Chance> Arena<C> {
         ensures same { SameBut (parts_of self.old) (parts_of self.new) }
     {
         self.medium.divide(self.geometry, d, class)?;
-        self.held.divide(d, size_of(class.number) / WORD_BYTES);
+        self.held.divide(d, block_words(class));
         self.caches[class.number as usize] = Cache {
             first: self.geometry.start(d),
             count: blocks_of(class.number),

@@ -6,8 +6,8 @@ use crate::cache::Cache;
 use anchor_word::State;
 use heap_model::Block;
 use line_memory::{Chance, Stopped};
-use size_table::{SizeClass, blocks_of, size_of};
-use super_block::{SUPERBLOCK_WORDS, WORD_BYTES};
+use size_table::{SizeClass, blocks_of};
+use super_block::{SUPERBLOCK_WORDS, block_words};
 
 /// Blocks at the front of a cache that lie in superblock `d`, and the cache behind them.
 #[derive(Clone, Copy, Debug, PartialEq, Eq)]
@@ -151,7 +151,7 @@ impl<C: Chance> Arena<C> {
             next = self.medium.load(last)?;
             count += 1;
         }
-        let words = size_of(class.number) / WORD_BYTES;
+        let words = block_words(class);
         Ok(CacheFront {
             d,
             batch: Batch {

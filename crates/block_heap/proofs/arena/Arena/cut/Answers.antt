@@ -1,7 +1,5 @@
-use Rattle.std.proofs.Common.{◌/◌}
 use Rattle.heap_model.specs.Geometry.{start_word}
 use Rattle.heap_model.specs.Sizes.{blocks_of, words_of_class}
-use Rattle.block_heap.proofs.AnchorLemmas.{words_by_bytes}
 use Rattle.block_heap.proofs.RefillLemmas.{cache_set, number_set}
 use Rattle.block_heap.proofs.arena.Arena.cut.Goals as goal
 
@@ -13,7 +11,7 @@ returns-clause-ok g c =
       caches = cache_set a.caches.items c.args.class.number c.start.result c.blocks_of.result (start_word a.geometry.capacity c.args.d) (blocks_of c.args.class.number)
           c.start.ensures c.blocks_of.ensures;
       start = c.divide-2.ensures.start;
-      sizes = number_set a.held.words.items c.divide-2.new.self.words.items c.args.d (c.size_of.result / 8) (words_of_class c.args.class.number)
+      sizes = number_set a.held.words.items c.divide-2.new.self.words.items c.args.d c.block_words.result (words_of_class c.args.class.number)
           c.divide-2.ensures.words
-          (words_by_bytes c.args.class.number c.size_of.result c.args.class.is c.size_of.ensures);
+          c.block_words.ensures.words;
     }

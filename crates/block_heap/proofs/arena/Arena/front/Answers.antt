@@ -95,8 +95,7 @@ overflow_sub-result g c =
 
 pub nonzero_div-result : goal.nonzero_div-result
 nonzero_div-result g c =
-    let e = words_by_bytes c.args.class.number c.size_of-words.result c.args.class.is c.size_of-words.ensures in
-    let two = two_words c.args.class.number c.args.class.is in
+    let some = c.block_words-words.ensures.some in
     omega arith
 
 pub returns-clause-ok : goal.returns-clause-ok
@@ -109,8 +108,8 @@ returns-clause-ok g c =
     loaded_front p q c.loop-count.count c.requires.running inv.loaded c.args.class.number _
     (walked_front p c.args.class.number c.args.class.is c.requires.running c.index-cache.result.now inv.cache_is c.superblock_of-d.result c.loop-count.last
     c.loop-count.next c.loop-count.count inv.walked
-    c.start.result (c.size_of-words.result / 8) (c.start.ensures ∙ ap (λ n. start_word n c.superblock_of-d.result) capacity)
-    (words_by_bytes c.args.class.number c.size_of-words.result c.args.class.is c.size_of-words.ensures))
+    c.start.result c.block_words-words.result (c.start.ensures ∙ ap (λ n. start_word n c.superblock_of-d.result) capacity)
+    c.block_words-words.ensures.words)
 
 pub returns-clause-running : goal.returns-clause-running
 returns-clause-running g c = loaded_run (parts_of c.args.self.now) (parts_of c.loop-count.self) c.loop-count.count c.requires.running
