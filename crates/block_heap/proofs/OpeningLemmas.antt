@@ -6,7 +6,7 @@ use Rattle.std.proofs.lemmas.Bool.{cases_eq}
 use Rattle.heap_model.specs.declared.block.Block.{Block}
 use Rattle.heap_model.specs.Geometry.{info_word, start_word, superblock_words, largest_capacity}
 use Rattle.heap_model.specs.Header.{capacity_of, used_of}
-use Rattle.heap_model.specs.Sizes.{IsClass, size_of, words_of_class}
+use Rattle.heap_model.specs.Sizes.{IsClass, words_of_class}
 use Rattle.heap_model.specs.Words.{large_info}
 use Rattle.heap_model.specs.Blocks.{Begins, of_class, as_large, IsBlock, layout_of}
 use Rattle.heap_model.specs.Rest.{IsReady}

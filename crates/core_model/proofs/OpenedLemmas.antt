@@ -15,7 +15,7 @@ use Rattle.heap_model.proofs.CountingLemmas.{times_some, one_if_true, one_if_fal
 use Rattle.core_model.specs.Cells.{Cell, used_cell, head_cell, info_cell, anchor_cell, link_cell, data_cell, is_cell, index_of, superblock_at}
 use Rattle.core_model.specs.Memory.{Memory, memory_of, table_length, used, head, info, anchor, link, next}
 use Rattle.core_model.specs.View as seen_as
-use Rattle.core_model.specs.View.{Setup, View, Span, LastLook, one_if_some, known, times_raw, times_classed, times_claimed, times_large, times_block}
+use Rattle.core_model.specs.View.{Setup, View, LastLook, one_if_some, times_raw, times_classed, times_large, times_block}
 use Rattle.core_model.specs.Effects.{seen, steps, span_count}
 use Rattle.core_model.specs.Sound.{CoreShape, Tally, tally_of, IsInShape, IsCutBlock, IsAnchoredBy, AreChained, class_numbers, times_in_lists, times_cut, times_parked, IsSetUp, ClaimsOf, BlocksOf, Knows, KnowsWords, IsTicketDrawn, HasTickets, HasTotals, HasLost, Good, Sound}
 use Rattle.core_model.specs.Opening.{picked, tabulate, is_small, small_blocks, large_blocks, AreOwners, setup_of, unlooked, plain_view, opened_view}

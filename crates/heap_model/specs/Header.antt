@@ -1,5 +1,5 @@
 -- When the header of an image is well formed, and which cause is told where it is not.
-use Rattle.std.specs.Prelude.{◌≡◌, ℕ, ◌+◌, ◌-◌, ◌*◌, ◌≤◌, ◌⊎◌, Bool, not, ◌||◌, nat_eq, nat_lt, List, [], ◌∷◌, replicate, find, Option}
+use Rattle.std.specs.Prelude.{◌≡◌, ℕ, ◌-◌, ◌*◌, ◌≤◌, ◌⊎◌, Bool, not, ◌||◌, nat_eq, nat_lt, List, [], ◌∷◌, replicate, find, Option}
 use Rattle.heap_model.specs.declared.header.BadHeader.{BadHeader}
 use Rattle.heap_model.specs.declared.header.BadHeader.TheVariants.{Short, Magic, Version, Capacity, Length, State, Used}
 use Rattle.heap_model.specs.Geometry.{magic, version, largest_capacity, clean, dirty, magic_word, version_word, capacity_word, state_word, used_word, fixed_words, image_words}

@@ -1,4 +1,4 @@
-use Rattle.std.proofs.Common.{slice_index, List, ℕ, subst, sym}
+use Rattle.std.proofs.Common.{slice_index, List, ℕ, subst}
 use Rattle.filter_trace.specs.Reached.{AreReached}
 use Rattle.heap_recover.proofs.KeptLemmas.{made_of_reached, marked_blocks}
 use Rattle.heap_recover.proofs.recovery.recover_owned.Goals as goal

@@ -1,8 +1,6 @@
 use Rattle.std.proofs.Common.{◌≡◌, ℕ, ◌-◌, ◌/◌, ◌≤◌, inl, inr, List, get_or, refl, sym, ◌∙◌, ap, subst, arith}
 use Rattle.heap_model.specs.Geometry.{start_word}
 use Rattle.block_heap.specs.Parts.{parts_of, held_in}
-use Rattle.block_heap.proofs.AnchorLemmas.{words_by_bytes}
-use Rattle.heap_model.proofs.SizeLemmas.{two_words}
 use Rattle.block_heap.proofs.SmallLemmas.{read_cache, first_from, first_below, serves_of}
 use Rattle.block_heap.proofs.FrontLemmas.{cache_first, walked_one, next_placed, walked_more, first_behind, walked_front, loaded_run, loaded_keeps, loaded_serves, stopped_serves, loaded_front, loaded_more, loaded_capacity}
 use Rattle.block_heap.specs.MediumView.{medium_view}
