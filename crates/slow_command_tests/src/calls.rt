@@ -7,7 +7,7 @@ use tool_ports::{BytesSource, Chances, FailedPut, ImageStore, MapStore, OpenGate
 use tool_run::run_tool;
 
 /// Room for the longest text of a test.
-const ROOM: usize = 1 << 12;
+const ROOM: usize = 1 << 22;
 
 /// A store with this image under the name h. None of its calls fails.
 pub fn store_with(alloc: Global, image: &[u8]) -> Result<MapStore, Fail> {

@@ -4,6 +4,8 @@
 #![tactic(auto)]
 
 #[cfg(test)]
+mod bounded_run;
+#[cfg(test)]
 mod calls;
 #[cfg(test)]
 mod each_stop;

@@ -401,32 +401,3 @@ fn a_made_trace_is_run(rt: HostRuntime) -> Result<(), Fail> {
         EIGHT_RUN,
     )
 }
-
-/// What two runs of a trace over an empty heap of 256 superblocks print, the second over what the
-/// first left.
-fn run_twice(
-    rt: &(impl Abort + AllocGlobal),
-    line: &str,
-    trace: &[u8],
-) -> Result<(Vec<u8>, Vec<u8>), Fail> {
-    let alloc = rt.alloc();
-    let mut images = store(alloc);
-    make_plain(alloc, &mut images, "format h 256", b"")?;
-    let first = make_plain(alloc, &mut images, line, trace)?;
-    let second = make_plain(alloc, &mut images, "run h --workers 1", trace)?;
-    must_hold(rt, first.0 == 0 && second.0 == 0, line);
-    Ok((first.1, second.1))
-}
-
-#[test]
-fn a_long_trace_gives_the_same_within_its_bound(rt: HostRuntime) -> Result<(), Fail> {
-    let trace = printed(rt.alloc(), "gen 20000 7")?;
-    let free = run_twice(&rt, "run h --workers 1", &trace)?;
-    let bounded = run_twice(&rt, "run h --workers 1 --stop 268435456", &trace)?;
-    must_hold(
-        &rt,
-        free == bounded && 100_000 < free.0.len(),
-        "the replies are the same",
-    );
-    Ok(())
-}
