@@ -33,10 +33,3 @@ pub use report::heap_line;
 pub use request::{Request, TraceError};
 pub use schedule::{Schedule, parse_schedule};
 pub use trace::parse_trace;
-
-#[cfg(test)]
-mod schedule_tests;
-#[cfg(test)]
-mod tests;
-#[cfg(test)]
-mod trace_tests;

@@ -1,0 +1,128 @@
+//! What is read of texts, in tables that are texts.
+//!
+//! A row is a line: what is read, ` =>`, and behind a space what is told of it. In both `;` stands
+//! for a line feed, and `?` for the byte 255. Empty lines say nothing.
+use core_model::Event;
+use std::alloc::{AllocError, Global};
+use std::process::Abort;
+use std::test::Fail;
+use trace_text::{Request, TraceError, parse_schedule, parse_trace};
+
+/// What a text is read as.
+#[derive(Clone, Copy)]
+pub enum Grammar {
+    Trace,
+    Schedule,
+}
+
+/// Asserts what the text tells of. An assertion makes a long function slow to prove; a call of this
+/// one does not.
+pub fn must_hold(rt: &impl Abort, holds: bool, told: &str) {
+    assert!(rt; holds, "{told}");
+}
+
+fn byte_of(sign: u8) -> u8 {
+    match sign {
+        b';' => b'\n',
+        b'?' => 255,
+        _ => sign,
+    }
+}
+
+/// The bytes that a part of a row tells.
+fn bytes_of(alloc: Global, part: &str) -> Result<Vec<u8>, AllocError> {
+    let mut bytes = Vec::new(alloc);
+    for sign in part.as_bytes() {
+        bytes.push(byte_of(*sign))?;
+    }
+    Ok(bytes)
+}
+
+fn write_value(text: &mut String, value: &[u8]) -> Result<(), AllocError> {
+    if value.is_empty() {
+        return text.push_str("-");
+    }
+    for byte in value {
+        write!(text, "{byte:02x}")?;
+    }
+    Ok(())
+}
+
+fn write_request(text: &mut String, request: &Request) -> Result<(), AllocError> {
+    match request {
+        Request::Put(key, value) => {
+            write!(text, "put {key} ")?;
+            write_value(text, value.as_slice())?;
+            text.push_str("\n")
+        }
+        Request::Get(key) => writeln!(text, "get {key}"),
+        Request::Del(key) => writeln!(text, "del {key}"),
+    }
+}
+
+/// The requests, one a line.
+fn requests_text(alloc: Global, requests: &[Request]) -> Result<String, AllocError> {
+    let mut text = String::new(alloc);
+    for request in requests {
+        write_request(&mut text, request)?;
+    }
+    Ok(text)
+}
+
+/// How many seats there are, and each step behind its seat.
+fn steps_text(alloc: Global, seats: usize, lines: &[(usize, Event)]) -> Result<String, AllocError> {
+    let mut text = format!(in alloc; "{seats} seats")?;
+    for (seat, event) in lines {
+        write!(text, ", {seat} {event:?}")?;
+    }
+    Ok(text)
+}
+
+fn fault_text(alloc: Global, fault: TraceError) -> Result<String, AllocError> {
+    match fault {
+        TraceError::BadLine { line } => format!(in alloc; "bad line {line}"),
+        TraceError::Memory => Err(AllocError),
+    }
+}
+
+/// The requests of a trace printed again, or its first bad line.
+pub fn trace_told(alloc: Global, text: &[u8]) -> Result<String, AllocError> {
+    match parse_trace(alloc, text) {
+        Ok(requests) => requests_text(alloc, &requests),
+        Err(fault) => fault_text(alloc, fault),
+    }
+}
+
+/// The seats and steps of a schedule, or its first bad line.
+fn schedule_told(alloc: Global, text: &[u8]) -> Result<String, AllocError> {
+    match parse_schedule(alloc, text) {
+        Ok(schedule) => steps_text(alloc, schedule.seats, &schedule.lines),
+        Err(fault) => fault_text(alloc, fault),
+    }
+}
+
+fn reads(rt: &(impl Abort + AllocGlobal), grammar: Grammar, row: &str) -> Result<(), Fail> {
+    let (text, told) = row.split_once(" =>").ok_or("no row")?;
+    let text = bytes_of(rt.alloc(), text)?;
+    let told = bytes_of(rt.alloc(), told.strip_prefix(' ').unwrap_or(told))?;
+    let found = match grammar {
+        Grammar::Trace => trace_told(rt.alloc(), &text)?,
+        Grammar::Schedule => schedule_told(rt.alloc(), &text)?,
+    };
+    must_hold(rt, found.as_bytes() == told.as_slice(), row);
+    Ok(())
+}
+
+/// Reads the text of each row, and asserts what is told of it.
+pub fn reads_each(
+    rt: &(impl Abort + AllocGlobal),
+    grammar: Grammar,
+    table: &str,
+) -> Result<(), Fail> {
+    for row in table.split('\n') {
+        if !row.is_empty() {
+            reads(rt, grammar, row)?;
+        }
+    }
+    Ok(())
+}

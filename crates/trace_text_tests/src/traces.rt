@@ -1,0 +1,118 @@
+//! Traces that are read, and those outside the grammar.
+use crate::readings::{Grammar, must_hold, reads_each};
+use std::alloc::{AllocError, Global};
+use std::process::Abort;
+use std::test::Fail;
+use trace_text::parse_trace;
+
+const READ: &str = "
+ =>
+put 1 aa; => put 1 aa;
+put 1 aa => put 1 aa;
+get 0;del 0 => get 0;del 0;
+put 0 -;get 1; => put 0 -;get 1;
+put 5 - => put 5 -;
+put 7 AbCdEf; => put 7 abcdef;
+put 7 00ff; => put 7 00ff;
+get 18446744073709551615; => get 18446744073709551615;
+del 18446744073709551615 => del 18446744073709551615;
+get 10;get 9;get 10; => get 10;get 9;get 10;
+del 3498;put 2531 3738; => del 3498;put 2531 3738;
+";
+
+#[test]
+fn traces_of_the_grammar_are_read(rt: HostRuntime) -> Result<(), Fail> {
+    reads_each(&rt, Grammar::Trace, READ)
+}
+
+const OUTSIDE: &str = "
+; => bad line 1
+;get 1; => bad line 1
+get 1;; => bad line 2
+get 1;;get 2 => bad line 2
+ get 1 => bad line 1
+get  1 => bad line 1
+get 1  => bad line 1
+get 1\t => bad line 1
+get\t1 => bad line 1
+get 1\r;get 2; => bad line 1
+get => bad line 1
+get  => bad line 1
+get x => bad line 1
+get 01 => bad line 1
+get 00 => bad line 1
+get -1 => bad line 1
+get +1 => bad line 1
+get 1x => bad line 1
+get 1 2 => bad line 1
+get 18446744073709551616 => bad line 1
+get 99999999999999999999 => bad line 1
+Get 1 => bad line 1
+GET 1 => bad line 1
+pet 1 => bad line 1
+gets 1 => bad line 1
+put 1 => bad line 1
+put 1  => bad line 1
+put  1 aa => bad line 1
+put 1  aa => bad line 1
+put 1 aa  => bad line 1
+put 1 a => bad line 1
+put 1 abc => bad line 1
+put 1 ag => bad line 1
+put 1 0x => bad line 1
+put 1 -- => bad line 1
+put 1 -a => bad line 1
+put 01 aa => bad line 1
+put 1 aa\t => bad line 1
+put aa => bad line 1
+put - - => bad line 1
+del => bad line 1
+del - => bad line 1
+del 1 aa => bad line 1
+put 1 aa;get 1;put 5 abc; => bad line 3
+put 1 aa;get 1;put 5 abc;get => bad line 3
+get 1;get 2;get 3; move 1 2; => bad line 4
+";
+
+#[test]
+fn the_first_line_outside_the_grammar_is_told(rt: HostRuntime) -> Result<(), Fail> {
+    reads_each(&rt, Grammar::Trace, OUTSIDE)
+}
+
+const NO_TEXT: &str = "
+get 1;?; => bad line 2
+get 1;get ? => bad line 2
+get 1;put 1 ?? => bad line 2
+get 1;\0 => bad line 2
+";
+
+#[test]
+fn bytes_that_are_no_text_are_outside_the_grammar(rt: HostRuntime) -> Result<(), Fail> {
+    reads_each(&rt, Grammar::Trace, NO_TEXT)
+}
+
+/// The line that puts a value of so many digits.
+fn long_put(alloc: Global, digits: usize) -> Result<String, AllocError> {
+    let mut line = String::new(alloc);
+    line.push_str("put 1 ")?;
+    for _ in 0..digits {
+        line.push_str("a")?;
+    }
+    Ok(line)
+}
+
+/// Tries to read a value of so many digits.
+fn reads_digits(rt: &(impl Abort + AllocGlobal), digits: usize, is_read: bool) -> Result<(), Fail> {
+    let line = long_put(rt.alloc(), digits)?;
+    let requests = parse_trace(rt.alloc(), line.as_bytes());
+    must_hold(rt, requests.is_ok() == is_read, "a long value");
+    Ok(())
+}
+
+#[test]
+fn the_longest_value_has_131072_bytes(rt: HostRuntime) -> Result<(), Fail> {
+    reads_digits(&rt, 262_142, true)?;
+    reads_digits(&rt, 262_143, false)?;
+    reads_digits(&rt, 262_144, true)?;
+    reads_digits(&rt, 262_146, false)
+}
