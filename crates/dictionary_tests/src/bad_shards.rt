@@ -1,167 +1,142 @@
 //! The first bad place of shards of hand-made images: each kind of fault, at links of each kind.
+//! Words and values have the names of `image_text`.
 
+use crate::checks::must_hold;
 use dictionary::{DictFilter, MapFault, read_map, read_maps, root_kinds};
 use heap_recover::{Recovered, recover};
-use region_header::format;
+use image_text::{change, image_of, number};
 use std::alloc::Global;
+use std::process::Abort;
 use std::test::Fail;
 
-/// The words of roots: those of shards 0, 1 and 7, and one that is no shard's.
-const ROOT: usize = 40;
+/// Four superblocks of blocks of 1,024, 32, 16 and 1,536 bytes. Root 0 leads to the table at 1,096;
+/// the first bucket of another one at 1,224, to which no root leads yet, leads to the node at 9,296
+/// that will be bad. The nodes at 9,288 and 9,292 are good.
+const BLOCKS: &str = "used 4, info:0 12, info:1 2, info:2 1, info:3 13, root:0 @1096, 1224 @9296";
 
-const NEXT_ROOT: usize = 41;
-
-const LAST_ROOT: usize = 47;
-
-const OTHER_ROOT: usize = 48;
-
-/// The first words of a table, of another one, of two good nodes, and of one that will be bad.
-const TABLE: usize = 1_096;
-
-const OTHER_TABLE: usize = 1_224;
-
-const FIRST: usize = 9_288;
-
-const SECOND: usize = 9_292;
-
+/// Where the node stands that will be bad, and its key.
 const BAD: usize = 9_296;
 
-/// Pointers to them, to a block too small for a node, and to one too large for a table.
-const TO_TABLE: u64 = 0x5250_0000_0000_2240;
+const BAD_KEY: usize = 9_297;
 
-const TO_OTHER_TABLE: u64 = 0x5250_0000_0000_2640;
+/// Bad links: the word, a key that its bucket lacks, and the nodes of the bucket before it. They
+/// are the links of the first bucket and of the last one, and those behind one node and behind two.
+const PLACES: &str = "
+1096 0 -
+1223 1016 -
+9288 3072 1096 @9288
+9292 3072 1096 @9288, 9288 @9292, 9293 1024
+";
 
-const TO_FIRST: u64 = 0x5250_0000_0001_2240;
+/// Faults of a link: a name, what the link is, in which bits the bad node's key differs from one
+/// that is new, and the node's length and further words. A node of four words has room for eight
+/// bytes.
+const FAULTS: &str = "
+another bucket's: @9296 8 9298 8
+another shard's: @9296 1 9298 8
+too long: @9296 0 9298 131073
+not fitting: @9296 0 9298 9
+too small: @17480 0 9298 8
+its own table: @1096 0 9298 8
+met twice: @9296 0 9298 8, 9296 @9296
+of two shards: @9296 0 9298 8, root:1 @1224
+of a root without kind: @9296 0 9298 8, root:8 @9296
+";
 
-const TO_SECOND: u64 = 0x5250_0000_0001_2260;
-
-const TO_BAD: u64 = 0x5250_0000_0001_2280;
-
-const TO_SMALL: u64 = 0x5250_0000_0002_2240;
-
-const TO_LARGE: u64 = 0x5250_0000_0003_2240;
-
-/// Four superblocks of blocks of 1,024, 32, 16 and 1,536 bytes. Root 0 leads to the table; the
-/// first bucket of the other one, to which no root leads yet, leads to the node that will be bad.
-const BLOCKS: [(usize, u64); 7] = [
-    (8, 4),
-    (1_064, 12),
-    (1_072, 2),
-    (1_080, 1),
-    (1_088, 13),
-    (ROOT, TO_TABLE),
-    (OTHER_TABLE, TO_BAD),
-];
-
-/// A place for a bad link: the nodes of its bucket before it, its word, and a key that they lack.
-type Place = ([(usize, u64); 3], usize, u64);
-
-/// The links of the first bucket and of the last one, and those behind one node and behind two.
-const PLACES: [Place; 4] = [
-    ([(TABLE, 0); 3], TABLE, 0),
-    ([(TABLE, 0); 3], 1_223, 1_016),
-    ([(TABLE, TO_FIRST); 3], FIRST, 3_072),
-    (
-        [(TABLE, TO_FIRST), (FIRST, TO_SECOND), (9_293, 1_024)],
-        SECOND,
-        3_072,
-    ),
-];
-
-/// A fault: its name, what the bad link is, the bad node's next link, key and length, and one word
-/// more.
-type Fault = (&'static str, u64, [u64; 3], (usize, u64));
-
-/// The faults of a link where that key is new. A node of four words has room for eight bytes.
-fn faults(key: u64) -> [Fault; 9] {
-    let none = (BAD, 0);
-    [
-        ("another bucket's", TO_BAD, [0, key ^ 8, 8], none),
-        ("another shard's", TO_BAD, [0, key ^ 1, 8], none),
-        ("too long", TO_BAD, [0, key, 131_073], none),
-        ("not fitting", TO_BAD, [0, key, 9], none),
-        ("too small", TO_SMALL, [0, key, 8], none),
-        ("its own table", TO_TABLE, [0, key, 8], none),
-        ("met twice", TO_BAD, [TO_BAD, key, 8], (BAD, TO_BAD)),
-        (
-            "of two shards",
-            TO_BAD,
-            [0, key, 8],
-            (NEXT_ROOT, TO_OTHER_TABLE),
-        ),
-        (
-            "of a root without kind",
-            TO_BAD,
-            [0, key, 8],
-            (OTHER_ROOT, TO_BAD),
-        ),
-    ]
+/// What recovery makes of the image.
+fn recovered(alloc: Global, image: &[u64]) -> Result<Recovered, Fail> {
+    Ok(recover(alloc, image, &root_kinds(), &DictFilter)?)
 }
 
-/// Sets words of an image.
-fn set(image: &mut [u64], words: &[(usize, u64)]) {
-    for (at, value) in words {
-        if let Some(word) = image.get_mut(*at) {
-            *word = *value;
-        }
+/// Sets a word of an image.
+fn set(image: &mut [u64], at: usize, value: u64) {
+    if let Some(word) = image.get_mut(at) {
+        *word = value;
     }
 }
 
-/// What recovery makes of the image of these words.
-fn heap_of(
-    alloc: Global,
-    words: &[(usize, u64)],
-    more: &[(usize, u64)],
-) -> Result<Recovered, Fail> {
-    let mut image = format(alloc, 4)?;
-    set(&mut image, &BLOCKS);
-    set(&mut image, words);
-    set(&mut image, more);
-    Ok(recover(alloc, &image, &root_kinds(), &DictFilter)?)
+/// Two words of a row, and what stands behind them.
+fn parts(row: &str) -> Result<(&str, &str, &str), Fail> {
+    let (first, others) = row.split_once(' ').ok_or("no row")?;
+    let (second, others) = others.split_once(' ').ok_or("no row")?;
+    Ok((first, second, others))
 }
 
-#[test]
-fn each_fault_is_told_at_its_link(rt: HostRuntime) -> Result<(), Fail> {
-    let alloc = rt.alloc();
-    for (before, link, key) in PLACES {
-        for (name, word, [next, own, length], more) in faults(key) {
-            let bad = [
-                (link, word),
-                (BAD, next),
-                (9_297, own),
-                (9_298, length),
-                more,
-            ];
-            let heap = heap_of(alloc, &before, &bad)?;
-            let at = if next == 0 { link as u64 } else { BAD as u64 };
-            let told = Some(MapFault::BadShard { shard: 0, at });
-            assert_eq!(rt; read_map(alloc, &heap, 0).err(), told, "{name} at {link}");
-            assert_eq!(rt; read_maps(alloc, &heap).err(), told, "{name} at {link}");
-        }
+/// The image in which a place has a fault, and where that is told: at the link, or at the bad
+/// node's own.
+fn image_with(alloc: Global, place: &str, fault: &str) -> Result<(Vec<u64>, u64), Fail> {
+    let (link, key, before) = parts(place)?;
+    let (_, fault) = fault.split_once(": ").ok_or("no name")?;
+    let (target, bits, node) = parts(fault)?;
+    let link = number(link)?;
+    let mut image = image_of(alloc, 4, BLOCKS)?;
+    change(&mut image, before)?;
+    set(&mut image, link as usize, number(target)?);
+    set(&mut image, BAD_KEY, number(key)? ^ number(bits)?);
+    change(&mut image, node)?;
+    let at = if image.get(BAD) == Some(&0) {
+        link
+    } else {
+        BAD as u64
+    };
+    Ok((image, at))
+}
+
+/// Reads shard 0, and all shards, where that one is bad.
+fn is_told(rt: &(impl Abort + AllocGlobal), place: &str, fault: &str) -> Result<(), Fail> {
+    let (image, at) = image_with(rt.alloc(), place, fault)?;
+    let heap = recovered(rt.alloc(), &image)?;
+    let told = Some(MapFault::BadShard { shard: 0, at });
+    must_hold(rt, read_map(rt.alloc(), &heap, 0).err() == told, fault);
+    must_hold(rt, read_maps(rt.alloc(), &heap).err() == told, fault);
+    Ok(())
+}
+
+/// Tries each fault at the place.
+fn are_told(rt: &(impl Abort + AllocGlobal), place: &str) -> Result<(), Fail> {
+    for fault in FAULTS.trim().split('\n') {
+        is_told(rt, place, fault)?;
     }
     Ok(())
 }
 
-/// Words of roots, and the lowest shard that is bad by them, at its root.
-const BAD_ROOTS: [([(usize, u64); 2], usize, u64); 7] = [
-    ([(ROOT, TO_FIRST); 2], 0, 40),
-    ([(ROOT, TO_LARGE); 2], 0, 40),
-    ([(ROOT, TO_SMALL); 2], 0, 40),
-    ([(NEXT_ROOT, TO_TABLE); 2], 0, 40),
-    ([(OTHER_ROOT, TO_TABLE); 2], 0, 40),
-    ([(LAST_ROOT, TO_BAD); 2], 7, 47),
-    ([(LAST_ROOT, TO_BAD), (NEXT_ROOT, TO_SECOND)], 1, 41),
-];
+#[test]
+fn each_fault_is_told_at_its_link(rt: HostRuntime) -> Result<(), Fail> {
+    for place in PLACES.trim().split('\n') {
+        are_told(&rt, place)?;
+    }
+    Ok(())
+}
+
+/// The lowest shard that is bad, the word of its root, and the roots by which it is.
+const BAD_ROOTS: &str = "
+0 40 root:0 @9288
+0 40 root:0 @25672
+0 40 root:0 @17480
+0 40 root:1 @1096
+0 40 root:8 @1096
+7 47 root:7 @9296
+1 41 root:7 @9296, root:1 @9292
+";
+
+/// Reads all shards of an image with the roots of the row.
+fn lowest_is_told(rt: &(impl Abort + AllocGlobal), row: &str) -> Result<(), Fail> {
+    let (shard, at, roots) = parts(row)?;
+    let mut image = image_of(rt.alloc(), 4, BLOCKS)?;
+    change(&mut image, roots)?;
+    let heap = recovered(rt.alloc(), &image)?;
+    let told = MapFault::BadShard {
+        shard: number(shard)? as usize,
+        at: number(at)?,
+    };
+    must_hold(rt, read_maps(rt.alloc(), &heap).err() == Some(told), row);
+    Ok(())
+}
 
 #[test]
 fn the_lowest_bad_root_is_told(rt: HostRuntime) -> Result<(), Fail> {
-    let alloc = rt.alloc();
-    for (roots, shard, at) in BAD_ROOTS {
-        let heap = heap_of(alloc, &roots, &[])?;
-        assert_eq!(rt;
-            read_maps(alloc, &heap).err(),
-            Some(MapFault::BadShard { shard, at })
-        );
+    for row in BAD_ROOTS.trim().split('\n') {
+        lowest_is_told(&rt, row)?;
     }
     Ok(())
 }

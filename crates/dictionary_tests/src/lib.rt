@@ -9,7 +9,11 @@ pub use runs::run_text;
 pub use standing::Standing;
 
 #[cfg(test)]
+mod asks;
+#[cfg(test)]
 mod bad_shards;
+#[cfg(test)]
+mod checks;
 #[cfg(test)]
 mod run_tests;
 #[cfg(test)]

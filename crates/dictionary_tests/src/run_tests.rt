@@ -1,71 +1,113 @@
 //! What whole runs of a trace answer, and that what they leave can be run again.
+ghost use Rattle.std.specs.Prelude.{◌<◌, ◌≤◌, ◌^◌};
+ghost use Rattle.heap_model.specs.Geometry.{largest_capacity};
 
+use crate::checks::must_hold;
 use crate::runs::run_text;
 use region_header::format;
+use std::alloc::{AllocError, Global};
+use std::process::Abort;
 use std::test::Fail;
 use super_block::{CLEAN, DIRTY, STATE_WORD};
+use trace_run::Outcome;
 use trace_text::reply_text;
 
 /// More steps than any test here takes.
 const MANY: u64 = 100_000_000;
 
+/// Whether the run's replies read so.
+fn replies_are(alloc: Global, left: &Outcome, told: &str) -> Result<bool, AllocError> {
+    let replies = reply_text(alloc, &left.replies, left.stopped, false)?;
+    Ok(replies.as_slice() == told.as_bytes())
+}
+
+/// Runs the trace over an empty heap.
+fn answers(
+    rt: &(impl Abort + AllocGlobal),
+    capacity: u64,
+    budget: u64,
+    text: &str,
+    told: &str,
+) -> Result<(), Fail>
+    requires some { 1 ≤ capacity }
+    requires small { capacity ≤ largest_capacity }
+    requires budget { budget < 2 ^ 40 }
+{
+    let image = format(rt.alloc(), capacity)?;
+    let left = run_text(rt.alloc(), &image, text, budget)?;
+    must_hold(rt, replies_are(rt.alloc(), &left, told)?, text);
+    let state = if left.stopped { DIRTY } else { CLEAN };
+    must_hold(
+        rt,
+        left.image.get(STATE_WORD as usize) == Some(&state),
+        text,
+    );
+    must_hold(rt, left.image.len() == image.len(), text);
+    Ok(())
+}
+
+const TRACE: &str = "put 1 6162
+get 1
+get 9
+put 9 -
+get 9
+put 1 63
+get 1
+del 1
+get 1
+del 1
+";
+
+const REPLIES: &str = "ok
+6162
+none
+ok
+-
+ok
+63
+ok
+none
+none
+run closed
+";
+
 #[test]
 fn a_trace_is_answered_in_its_order(rt: HostRuntime) -> Result<(), Fail> {
+    answers(&rt, 4, MANY, TRACE, REPLIES)?;
+    // The table takes the only superblock, and there is none for the node.
+    let full = "full\nnone\nfull\nrun closed\n";
+    answers(&rt, 1, MANY, "put 1 61\nget 1\nput 2 -\n", full)?;
+    let stopped = "unanswered\nunanswered\nrun stopped\n";
+    answers(&rt, 4, 0, "get 1\nput 1 -\n", stopped)?;
+    answers(&rt, 4, 0, "", "run closed\n")
+}
+
+/// Stops a run over the image, and tells whether it was done; then runs over what it left.
+fn stops_and_goes_on(
+    rt: &(impl Abort + AllocGlobal),
+    image: &[u64],
+    budget: u64,
+) -> Result<bool, Fail>
+    requires { budget < 2 ^ 40 }
+{
     let alloc = rt.alloc();
-    let rows = [
-        (
-            4,
-            MANY,
-            "put 1 6162\nget 1\nget 9\nput 9 -\nget 9\nput 1 63\nget 1\ndel 1\nget 1\ndel 1\n",
-            "ok\n6162\nnone\nok\n-\nok\n63\nok\nnone\nnone\nrun closed\n",
-        ),
-        // the table takes the only superblock, and there is none for the node
-        (
-            1,
-            MANY,
-            "put 1 61\nget 1\nput 2 -\n",
-            "full\nnone\nfull\nrun closed\n",
-        ),
-        (
-            4,
-            0,
-            "get 1\nput 1 -\n",
-            "unanswered\nunanswered\nrun stopped\n",
-        ),
-        (4, 0, "", "run closed\n"),
-    ];
-    for (capacity, budget, text, told) in rows {
-        let image = format(alloc, capacity)?;
-        let left = run_text(alloc, &image, text, budget)?;
-        let replies = reply_text(alloc, &left.replies, left.stopped, false)?;
-        assert_eq!(rt; replies.as_slice(), told.as_bytes(), "{text}");
-        let state = if left.stopped { DIRTY } else { CLEAN };
-        assert_eq!(rt; left.image.get(STATE_WORD as usize), Some(&state), "{text}");
-        assert_eq!(rt; left.image.len(), image.len(), "{text}");
-    }
-    Ok(())
+    let first = run_text(alloc, image, "put 1 6162\nput 1 63\ndel 1\n", budget)?;
+    let again = run_text(alloc, &first.image, "put 1 64\nget 1\n", MANY)?;
+    must_hold(
+        rt,
+        replies_are(alloc, &again, "ok\n64\nrun closed\n")?,
+        "again",
+    );
+    Ok(!first.stopped)
 }
 
 #[test]
 fn wherever_a_run_stops_its_image_can_be_run_again(rt: HostRuntime) -> Result<(), Fail> {
-    let alloc = rt.alloc();
-    let image = format(alloc, 2)?;
-    let mut ended = false;
+    let image = format(rt.alloc(), 2)?;
     for step in 0..2_000u64 {
-        if ended {
-            break;
+        if stops_and_goes_on(&rt, &image, 16 * step)? {
+            return Ok(());
         }
-        let budget = 16 * step;
-        let first = run_text(alloc, &image, "put 1 6162\nput 1 63\ndel 1\n", budget)?;
-        ended = !first.stopped;
-        let again = run_text(alloc, &first.image, "put 1 64\nget 1\n", MANY)?;
-        let replies = reply_text(alloc, &again.replies, again.stopped, false)?;
-        assert_eq!(rt;
-            replies.as_slice(),
-            "ok\n64\nrun closed\n".as_bytes(),
-            "{budget}"
-        );
     }
-    assert!(rt; ended, "the run ends");
-    Ok(())
+    Err("the run does not end".into())
 }
