@@ -1,117 +1,47 @@
-//! What the heap gives, what it refuses, and what a drain finds.
-use crate::fixtures::{MANY, free_at, offset_of, recovered, start};
-use block_heap::{AllocFault, Block, HeapSeat, Looks, SeqHeap, Spot, Stopped};
+//! What the heap gives, and what it refuses.
+ghost use Rattle.std.specs.Prelude.{◌≤◌};
+ghost use Rattle.heap_model.specs.Geometry.{largest_capacity};
+
+use crate::drains::drained;
+use crate::fixtures::{at, free_at, must_equal, must_hold, offset_of, opened};
+use block_heap::{AllocFault, Block, HeapSeat, Looks, SeqHeap};
 use line_memory::ConstantChance;
 use size_table::{SizeClass, blocks_of, size_of};
 use std::alloc::{AllocError, Global};
 use std::process::Abort;
 use std::test::Fail;
-use super_block::LAST_CLASS;
+use super_block::{LAST_CLASS, SUPERBLOCK_WORDS, WORD_BYTES};
 
-// Block 0 of superblock 0 of class 4, to which root 8 points, in an image of two superblocks.
-const ONE_HELD: [(usize, u64); 3] = [(8, 1), (1_064, 4), (48, 0x5250_0000_0000_21c0)];
-
-#[test]
-fn what_recovery_left_free_is_drained(rt: HostRuntime) -> Result<(), Fail> {
-    let alloc = rt.alloc();
-    let [used, info, root] = ONE_HELD;
-    let second = (49, 0x5250_0000_0001_21c0);
-    for ([a, b, c], class, count, first, last) in [
-        ([(3, 1), (3, 1), (3, 1)], 4, 2_047, 8_704, 139_648),
-        // The free blocks of a superblock of which one is held are of no other class.
-        ([(3, 1), (3, 1), (3, 1)], 5, 682, 74_176, 139_552),
-        // A superblock of which nothing is reached is free, whatever its info was.
-        ([(8, 2), (1_072, 20), (3, 1)], 4, 2_047, 8_704, 139_648),
-        ([(8, 2), (1_072, 4), (3, 2)], 4, 2_047, 8_704, 139_648),
-        // One block is held in each.
-        ([(8, 2), (1_072, 4), second], 4, 2_046, 8_704, 139_648),
-        ([(8, 2), (1_072, 20), second], 20, 3, 88_512, 117_184),
-        // Large blocks, of both and of the first.
-        ([(8, 2), (1_064, 767), (3, 1)], 4, 0, 0, 0),
-        ([(8, 2), (1_064, 511), (1_072, 9)], 20, 4, 74_176, 117_184),
-        // Nothing is held.
-        ([(48, 0), (3, 1), (3, 1)], 4, 2_048, 8_640, 139_648),
-    ] {
-        let words = [used, info, root, a, b, c];
-        assert!(rt; 1 <= class && class <= LAST_CLASS as u8);
-        let ready = recovered(alloc, 2, &words)?;
-        let mut heap = SeqHeap::new(alloc, ready, MANY, ConstantChance(1))?;
-        let mut offsets = heap.drain(alloc, class)?;
-        offsets.sort()?;
-        assert_eq!(rt; offsets.len(), count, "{words:?} for {class}");
-        let ends = [offsets.first(), offsets.last()].map(|end| end.copied().unwrap_or(0));
-        assert_eq!(rt; ends, [first, last], "{words:?} for {class}");
-        offsets.dedup();
-        assert_eq!(rt; offsets.len(), count, "{words:?} for {class}");
-    }
-    Ok(())
+/// Asks for so many bytes, for which the heap gives two superblocks from this word on.
+fn must_give(rt: &impl Abort, heap: &mut SeqHeap<ConstantChance>, bytes: u64, first_word: u64) {
+    let words = SUPERBLOCK_WORDS * 2;
+    let wanted = Block { first_word, words };
+    must_hold(rt, heap.alloc(bytes) == Ok(wanted), "a block is given");
 }
 
-#[test]
-fn a_heap_that_stopped_answers_its_ticket(rt: HostRuntime) -> Result<(), Fail> {
-    let alloc = rt.alloc();
-    let ready = recovered(alloc, 2, &ONE_HELD)?;
-    let mut heap = SeqHeap::new(alloc, ready, 0, ConstantChance(1))?;
-    let stopped = Stopped { step: 0 };
-    let block = Block {
-        first_word: 1_080,
-        words: 8,
+/// Asks for so many bytes, for which there is no room, with so many superblocks taken.
+fn must_be_full(rt: &impl Abort, heap: &mut SeqHeap<ConstantChance>, bytes: u64, used: u64) {
+    let looks = Looks {
+        class_head: 0,
+        free_head: 0,
+        used,
     };
-    assert_eq!(rt; heap.alloc(64), Err(AllocFault::Stopped(stopped)));
-    assert_eq!(rt; heap.alloc(70_000), Err(AllocFault::Stopped(stopped)));
-    assert_eq!(rt; heap.fence(), Err(stopped));
-    let b = heap.held_at(8_640).ok_or("not held")?;
-    assert!(rt; 2 < b.words);
-    assert_eq!(rt; heap.load(Spot::InBlock(b, 2)), Err(stopped));
-    let b = heap.held_at(8_640).ok_or("not held")?;
-    assert!(rt; 2 < b.words);
-    assert_eq!(rt; heap.store(Spot::InBlock(b, 2), 5), Err(stopped));
-    let b = heap.held_at(8_640).ok_or("not held")?;
-    assert!(rt; 2 < b.words);
-    assert_eq!(rt; heap.write_back(Spot::InBlock(b, 2)), Err(stopped));
-    let b = heap.held_at(8_640).ok_or("not held")?;
-    assert_eq!(rt; heap.free(b), Err(stopped));
-    let b = heap.held_at(8_640).ok_or("not held")?;
-    assert_eq!(rt; b, block);
-    assert_eq!(rt; heap.block(8_640), block);
-    for offset in [0, 8_639, 8_641, 8_632, 8_648, 8_704, 139_712, u64::MAX] {
-        assert_eq!(rt; heap.held_at(offset), None, "at {offset}");
-    }
-    Ok(())
+    let wanted = Err(AllocFault::Full(looks));
+    must_hold(rt, heap.alloc(bytes) == wanted, "there is no room");
 }
 
 #[test]
 fn large_blocks_are_taken_from_those_never_taken(rt: HostRuntime) -> Result<(), Fail> {
-    let alloc = rt.alloc();
-    let ready = recovered(alloc, 4, &[])?;
-    let mut heap = SeqHeap::new(alloc, ready, MANY, ConstantChance(0))?;
-    let full = |used| {
-        Err(AllocFault::Full(Looks {
-            class_head: 0,
-            free_head: 0,
-            used,
-        }))
-    };
-    let first = Block {
-        first_word: 1_096,
-        words: 16_384,
-    };
-    assert_eq!(rt; heap.alloc(65_537), Ok(first));
-    assert_eq!(rt; heap.alloc(131_073), full(2));
+    let mut heap = opened(rt.alloc(), 4, "", 0)?;
+    must_give(&rt, &mut heap, 65_537, 1_096);
+    must_be_full(&rt, &mut heap, 131_073, 2);
     free_at(&mut heap, 8_768)?;
-    assert_eq!(rt; heap.held_at(8_768), None);
-    let second = Block {
-        first_word: 17_480,
-        words: 16_384,
-    };
-    assert_eq!(rt; heap.alloc(65_537), Ok(second));
-    assert_eq!(rt; heap.alloc(65_537), full(4));
+    must_hold(&rt, heap.held_at(8_768).is_none(), "the block was freed");
+    must_give(&rt, &mut heap, 65_537, 17_480);
+    must_be_full(&rt, &mut heap, 65_537, 4);
     let small = heap.alloc(16)?;
-    assert_eq!(rt; small.words, 2);
-    assert!(rt;
-        1_096 <= small.first_word && small.first_word < 17_480,
-        "{small:?}"
-    );
+    let is_in_freed = 1_096 <= small.first_word && small.first_word < 17_480;
+    must_hold(&rt, small.words == 2 && is_in_freed, "a small block");
     Ok(())
 }
 
@@ -135,8 +65,9 @@ fn filled(
 /// The offsets of all blocks of two superblocks of the class.
 fn all_offsets(alloc: Global, class: SizeClass) -> Result<Vec<u64>, AllocError> {
     let mut offsets = Vec::new(alloc);
-    for d in 0..2 {
-        let mut offset = start(2, d).wrapping_mul(8);
+    // Superblock 0 begins at word 1,080.
+    for first_word in [1_080u64, 9_272] {
+        let mut offset = first_word.wrapping_mul(WORD_BYTES);
         for _ in 0..blocks_of(class.number) {
             offsets.push(offset)?;
             offset = offset.wrapping_add(size_of(class.number));
@@ -156,48 +87,77 @@ fn nth_freed(order: u64, nth: usize, count: usize) -> usize {
     }
 }
 
+/// Frees the blocks at these offsets in the order.
+fn free_all(heap: &mut SeqHeap<ConstantChance>, offsets: &[u64], order: u64) -> Result<(), Fail> {
+    for nth in 0..offsets.len() {
+        free_at(heap, at(offsets, nth_freed(order, nth, offsets.len())))?;
+    }
+    Ok(())
+}
+
+/// Fills a heap of two superblocks with blocks of the class, and frees them in the order: it gives
+/// each of all blocks once, and has each then.
+fn gives_each_once(
+    rt: &(impl Abort + AllocGlobal),
+    class: SizeClass,
+    order: u64,
+    all: &[u64],
+) -> Result<(), Fail> {
+    let mut heap = opened(rt.alloc(), 2, "", order % 2)?;
+    let given = filled(rt.alloc(), &mut heap, class)?;
+    let mut sorted = Vec::from_slice(rt.alloc(), &given)?;
+    sorted.sort()?;
+    must_equal(rt, &sorted, all, "given");
+    free_all(&mut heap, &given, order)?;
+    must_equal(rt, &drained(rt.alloc(), &mut heap, class)?, all, "drained");
+    Ok(())
+}
+
 #[test]
 fn each_class_gives_every_block_once(rt: HostRuntime) -> Result<(), Fail> {
-    let alloc = rt.alloc();
     for number in 1..=LAST_CLASS as u8 {
         let class = SizeClass::new(number);
-        let all = all_offsets(alloc, class)?;
+        let all = all_offsets(rt.alloc(), class)?;
         for order in 0..3 {
-            let ready = recovered(alloc, 2, &[])?;
-            let mut heap = SeqHeap::new(alloc, ready, MANY, ConstantChance(order % 2))?;
-            let given = filled(alloc, &mut heap, class)?;
-            let mut sorted = Vec::from_slice(alloc, &given)?;
-            sorted.sort()?;
-            assert_eq!(rt; sorted.as_slice(), all.as_slice(), "{number}");
-            for nth in 0..given.len() {
-                let offset = given.get(nth_freed(order, nth, given.len()));
-                free_at(&mut heap, offset.copied().unwrap_or(0))?;
-            }
-            let mut drained = heap.drain(alloc, number)?;
-            drained.sort()?;
-            assert_eq!(rt; drained.as_slice(), all.as_slice(), "{number}");
+            gives_each_once(&rt, class, order, &all)?;
         }
     }
     Ok(())
 }
 
+/// Takes so many blocks of a quarter of a superblock, and frees them.
+fn take_and_free(
+    alloc: Global,
+    heap: &mut SeqHeap<ConstantChance>,
+    count: u64,
+) -> Result<(), Fail> {
+    let mut offsets = Vec::new(alloc);
+    for _ in 0..count {
+        offsets.push(offset_of(heap.alloc(14_336)?))?;
+    }
+    for offset in &offsets {
+        free_at(heap, *offset)?;
+    }
+    Ok(())
+}
+
+/// Whether a heap of so many superblocks, of which so many quarters were taken and freed, gives a
+/// small block and then one of so many bytes.
+fn answers(alloc: Global, capacity: u64, count: u64, bytes: u64) -> Result<(bool, bool), Fail>
+    requires some { 1 ≤ capacity }
+    requires small { capacity ≤ largest_capacity }
+{
+    let mut heap = opened(alloc, capacity, "", 0)?;
+    take_and_free(alloc, &mut heap, count)?;
+    let gives_small = heap.alloc(16).is_ok();
+    Ok((gives_small, heap.alloc(bytes).is_ok()))
+}
+
 #[test]
 fn freed_superblocks_serve_every_class_before_fresh_ones(rt: HostRuntime) -> Result<(), Fail> {
-    let alloc = rt.alloc();
-    // how many superblocks there are, how many blocks of four a superblock are taken and given
-    // back, and what is asked for then
-    for (capacity, count, asked) in [(2, 8, [16, 65_536]), (3, 4, [16, 131_072])] {
-        let ready = recovered(alloc, capacity, &[])?;
-        let mut heap = SeqHeap::new(alloc, ready, MANY, ConstantChance(0))?;
-        let mut offsets = Vec::new(alloc);
-        for _ in 0..count {
-            offsets.push(offset_of(heap.alloc(14_336)?))?;
-        }
-        for offset in &offsets {
-            free_at(&mut heap, *offset)?;
-        }
-        let answers = asked.map(|bytes| heap.alloc(bytes).is_ok());
-        assert_eq!(rt; answers, [true, count == 4], "of {capacity}");
-    }
+    let of_two = answers(rt.alloc(), 2, 8, 65_536)?;
+    must_hold(&rt, of_two == (true, false), "none is left");
+    let of_three = answers(rt.alloc(), 3, 4, 131_072)?;
+    must_hold(&rt, of_three == (true, true), "two are left");
     Ok(())
 }

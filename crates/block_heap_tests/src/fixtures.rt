@@ -1,48 +1,62 @@
-//! Heaps over recovered images, for the tests.
-ghost use Rattle.std.specs.Prelude.{◌≤◌};
+//! Heaps over recovered images, for the tests, and what they must have.
+ghost use Rattle.std.specs.Prelude.{◌<◌, ◌≤◌};
 ghost use Rattle.heap_model.specs.Geometry.{largest_capacity};
 
 use block_heap::{Block, HeapSeat, SeqHeap};
 use dictionary::{DictFilter, root_kinds};
 use heap_recover::recover;
+use image_text::{image_of, number};
 use line_memory::ConstantChance;
-use region_header::format;
 use std::alloc::Global;
+use std::process::Abort;
 use std::test::Fail;
-use super_block::Ready;
+use super_block::{Ready, WORD_BYTES};
 
 /// More steps than any test here takes.
 pub const MANY: u64 = 1_000_000;
 
-/// What recovery makes of an image of so many superblocks with these words.
-pub fn recovered(alloc: Global, capacity: u64, words: &[(usize, u64)]) -> Result<Ready, Fail>
+/// What recovery makes of an empty image of so many superblocks with these changes.
+pub fn recovered(alloc: Global, capacity: u64, words: &str) -> Result<Ready, Fail>
     requires some { 1 ≤ capacity }
     requires small { capacity ≤ largest_capacity }
 {
-    let mut image = format(alloc, capacity)?;
-    for (at, value) in words {
-        if let Some(word) = image.get_mut(*at) {
-            *word = *value;
-        }
-    }
+    let image = image_of(alloc, capacity, words)?;
     Ok(recover(alloc, &image, &root_kinds(), &DictFilter)?.heap)
 }
 
-pub fn word(words: &[u64], at: u64) -> u64 {
-    words.get(at as usize).copied().unwrap_or(0)
+/// A heap over it, whose draws give this number.
+pub fn opened(
+    alloc: Global,
+    capacity: u64,
+    words: &str,
+    drawn: u64,
+) -> Result<SeqHeap<ConstantChance>, Fail>
+    requires some { 1 ≤ capacity }
+    requires small { capacity ≤ largest_capacity }
+{
+    let ready = recovered(alloc, capacity, words)?;
+    Ok(SeqHeap::new(alloc, ready, MANY, ConstantChance(drawn))?)
 }
 
-/// The first word of superblock d of an image of this capacity.
-pub fn start(capacity: u64, d: u64) -> u64 {
-    capacity
-        .wrapping_mul(8)
-        .wrapping_add(d.wrapping_mul(8_192))
-        .wrapping_add(1_064)
+/// The numbers of a text, between spaces.
+pub fn numbers(alloc: Global, text: &str) -> Result<Vec<u64>, Fail> {
+    let mut numbers = Vec::new(alloc);
+    for word in text.split(' ') {
+        if !word.is_empty() {
+            numbers.push(number(word)?)?;
+        }
+    }
+    Ok(numbers)
+}
+
+/// The number at the place, or 0 behind the last.
+pub fn at(numbers: &[u64], place: usize) -> u64 {
+    numbers.get(place).copied().unwrap_or(0)
 }
 
 /// Where the block begins, in bytes.
 pub fn offset_of(b: Block) -> u64 {
-    b.first_word.wrapping_mul(8)
+    b.first_word.wrapping_mul(WORD_BYTES)
 }
 
 /// Frees the held block that begins at the byte offset.
@@ -50,4 +64,15 @@ pub fn free_at(heap: &mut SeqHeap<ConstantChance>, offset: u64) -> Result<(), Fa
     let b = heap.held_at(offset).ok_or("no held block begins there")?;
     heap.free(b)?;
     Ok(())
+}
+
+/// Asserts what the text tells of. An assertion makes a long function slow to prove; a call of this
+/// one does not.
+pub fn must_hold(rt: &impl Abort, holds: bool, told: &str) {
+    assert!(rt; holds, "{told}");
+}
+
+/// Asserts that these numbers were found, where the text tells.
+pub fn must_equal(rt: &impl Abort, found: &[u64], wanted: &[u64], told: &str) {
+    assert_eq!(rt; found, wanted, "{told}");
 }

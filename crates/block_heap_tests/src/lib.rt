@@ -6,6 +6,10 @@
 #[cfg(test)]
 mod blocks;
 #[cfg(test)]
+mod drains;
+#[cfg(test)]
 mod fixtures;
 #[cfg(test)]
 mod script;
+#[cfg(test)]
+mod stops;
