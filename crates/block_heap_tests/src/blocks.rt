@@ -16,7 +16,8 @@ use super_block::{LAST_CLASS, SUPERBLOCK_WORDS, WORD_BYTES};
 fn must_give(rt: &impl Abort, heap: &mut SeqHeap<ConstantChance>, bytes: u64, first_word: u64) {
     let words = SUPERBLOCK_WORDS * 2;
     let wanted = Block { first_word, words };
-    must_hold(rt, heap.alloc(bytes) == Ok(wanted), "a block is given");
+    let given = heap.alloc(bytes).ok();
+    must_hold(rt, given == Some(wanted), "a block is given");
 }
 
 /// Asks for so many bytes, for which there is no room, with so many superblocks taken.
@@ -45,6 +46,15 @@ fn large_blocks_are_taken_from_those_never_taken(rt: HostRuntime) -> Result<(), 
     Ok(())
 }
 
+/// The offset of one block more of the class, or `None` where there is no room.
+fn next_offset(heap: &mut SeqHeap<ConstantChance>, class: SizeClass) -> Result<Option<u64>, Fail> {
+    match heap.alloc(size_of(class.number)) {
+        Ok(b) => Ok(Some(offset_of(b))),
+        Err(AllocFault::Full(_)) => Ok(None),
+        Err(AllocFault::Stopped(at)) => Err(at.into()),
+    }
+}
+
 /// Allocates in the class until there is no room, and gives the offsets of the blocks.
 fn filled(
     alloc: Global,
@@ -53,26 +63,33 @@ fn filled(
 ) -> Result<Vec<u64>, Fail> {
     let mut offsets = Vec::new(alloc);
     for _ in 0..10_000 {
-        match heap.alloc(size_of(class.number)) {
-            Ok(b) => offsets.push(offset_of(b))?,
-            Err(AllocFault::Full(_)) => return Ok(offsets),
-            Err(AllocFault::Stopped(at)) => return Err(at.into()),
-        }
+        let Some(offset) = next_offset(heap, class)? else {
+            break;
+        };
+        offsets.push(offset)?;
     }
     Ok(offsets)
+}
+
+/// Adds the offsets of all blocks of a superblock of the class, which begins at this word.
+fn push_offsets(
+    offsets: &mut Vec<u64>,
+    class: SizeClass,
+    first_word: u64,
+) -> Result<(), AllocError> {
+    let mut offset = first_word.wrapping_mul(WORD_BYTES);
+    for _ in 0..blocks_of(class.number) {
+        offsets.push(offset)?;
+        offset = offset.wrapping_add(size_of(class.number));
+    }
+    Ok(())
 }
 
 /// The offsets of all blocks of two superblocks of the class.
 fn all_offsets(alloc: Global, class: SizeClass) -> Result<Vec<u64>, AllocError> {
     let mut offsets = Vec::new(alloc);
-    // Superblock 0 begins at word 1,080.
-    for first_word in [1_080u64, 9_272] {
-        let mut offset = first_word.wrapping_mul(WORD_BYTES);
-        for _ in 0..blocks_of(class.number) {
-            offsets.push(offset)?;
-            offset = offset.wrapping_add(size_of(class.number));
-        }
-    }
+    push_offsets(&mut offsets, class, 1_080)?;
+    push_offsets(&mut offsets, class, 9_272)?;
     Ok(offsets)
 }
 

@@ -42,11 +42,18 @@ pub fn opened(
 pub fn numbers(alloc: Global, text: &str) -> Result<Vec<u64>, Fail> {
     let mut numbers = Vec::new(alloc);
     for word in text.split(' ') {
-        if !word.is_empty() {
-            numbers.push(number(word)?)?;
-        }
+        push_number(&mut numbers, word)?;
     }
     Ok(numbers)
+}
+
+/// Adds the number that the word tells, if there is one.
+fn push_number(numbers: &mut Vec<u64>, word: &str) -> Result<(), Fail> {
+    if word.is_empty() {
+        return Ok(());
+    }
+    numbers.push(number(word)?)?;
+    Ok(())
 }
 
 /// The number at the place, or 0 behind the last.

@@ -1,7 +1,7 @@
 //! Scripts of requests over a heap that stops: what is held is named by whatever is left.
 ghost use Rattle.std.specs.Prelude.{◌<◌, ◌^◌};
 
-use crate::fixtures::{at, must_hold, offset_of, recovered};
+use crate::fixtures::{at, must_hold, numbers, offset_of, recovered};
 use crate::script::make;
 use block_heap::{Block, Closed, HeapSeat, SeqHeap, Stopped};
 use line_memory::ConstantChance;
@@ -36,18 +36,27 @@ fn a_heap_that_stopped_answers_its_ticket(rt: HostRuntime) -> Result<(), Fail> {
         must_hold(&rt, answer == stopped, line);
     }
     must_hold(&rt, heap.held_at(8_640) == Some(block), "it is held");
-    has_no_other(&rt, &heap);
-    Ok(())
+    has_no_other(&rt, &heap)
 }
 
 /// Asserts that the heap has no other block than one of 64 bytes that begins at 8,640.
-fn has_no_other(rt: &impl Abort, heap: &SeqHeap<ConstantChance>) {
-    for offset in [0, 8_639, 8_641, 8_632, 8_648, 8_704, 139_712, u64::MAX] {
-        must_hold(rt, heap.held_at(offset).is_none(), "another block");
+fn has_no_other(
+    rt: &(impl Abort + AllocGlobal),
+    heap: &SeqHeap<ConstantChance>,
+) -> Result<(), Fail> {
+    let others = "0 8639 8641 8632 8648 8704 139712 18446744073709551615";
+    for offset in &numbers(rt.alloc(), others)? {
+        must_hold(rt, has_none_at(heap, *offset), "another block");
     }
+    Ok(())
 }
 
-/// Forty requests over four superblocks. Lines that tell no request are comments.
+/// Whether no held block begins at the byte offset.
+fn has_none_at(heap: &SeqHeap<ConstantChance>, offset: u64) -> bool {
+    heap.held_at(offset).is_none()
+}
+
+/// Forty requests over four superblocks. A line that begins with `#` is a comment.
 const SCRIPT: &str = "alloc 14000
 store 0 3 31
 write-back 0 3
@@ -106,6 +115,19 @@ struct Left {
     closed: Closed,
 }
 
+/// Makes the request of a line, if it is no comment.
+fn make_line(
+    alloc: Global,
+    heap: &mut SeqHeap<ConstantChance>,
+    given: &mut Vec<Option<Block>>,
+    line: &str,
+) -> Result<Option<Stopped>, Fail> {
+    if line.starts_with('#') {
+        return Ok(None);
+    }
+    make(alloc, heap, given, line)
+}
+
 /// Makes the requests of the script until the heap stops.
 fn play(
     alloc: Global,
@@ -113,11 +135,9 @@ fn play(
     given: &mut Vec<Option<Block>>,
 ) -> Result<Option<Stopped>, Fail> {
     for line in SCRIPT.split('\n') {
-        if !line.starts_with('#') {
-            let stopped = make(alloc, heap, given, line)?;
-            if stopped.is_some() {
-                return Ok(stopped);
-            }
+        let stopped = make_line(alloc, heap, given, line)?;
+        if stopped.is_some() {
+            return Ok(stopped);
         }
     }
     Ok(None)
