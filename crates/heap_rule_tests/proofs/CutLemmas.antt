@@ -1,5 +1,5 @@
 -- What the making of a superblock's blocks leaves.
-use Rattle.std.proofs.Common.{◌≡◌, ◌≢◌, ◌≤◌, ◌<◌, ℕ, zero, suc, ◌+◌, ◌-◌, ◌*◌, inl, inr, Bool, true, false, cond, nat_eq, nat_le, nat_lt, List, [], ◌∷◌, get_or, length, length-set, set, suc-mul, eq-eqb, None, Some, refl, ap, ap₂, sym, subst, ◌∙◌, le-leb, lt-ltb, arith}
+use Rattle.std.proofs.Common.{◌≡◌, ◌≢◌, ◌≤◌, ◌<◌, ℕ, zero, suc, ◌+◌, ◌-◌, ◌*◌, inl, inr, Bool, true, false, cond, nat_eq, nat_le, nat_lt, [], get_or, length, length-set, set, suc-mul, eq-eqb, None, Some, refl, ap, ap₂, sym, subst, ◌∙◌, le-leb, lt-ltb, arith}
 use Rattle.std.proofs.lemmas.Bool.{cases_lt}
 use Rattle.heap_model.specs.Counting.{times, without}
 use Rattle.std.proofs.lemmas.List.{get_or-set_other, get_or-set_same}

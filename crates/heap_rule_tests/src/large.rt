@@ -11,7 +11,7 @@ use crate::cuts::set_info;
 use core_model::Shift;
 use heap_rule::{Seat, Shared};
 use line_memory::Stopped;
-use super_block::{Geometry, LARGE_INFO, LARGE_STEP};
+use super_block::{Geometry, Info};
 
 /// The info of superblock `e` of a large block that takes `n` superblocks from `d` on.
 fn info_of(d: u64, n: u64, e: u64) -> u64
@@ -19,7 +19,7 @@ fn info_of(d: u64, n: u64, e: u64) -> u64
     ensures { result ≡ info_in d n e }
 {
     if e == d {
-        return LARGE_INFO + LARGE_STEP * n;
+        return Info::Large(n).pack();
     }
     0
 }
