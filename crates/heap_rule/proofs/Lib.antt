@@ -3,7 +3,6 @@ pub mod DealLemmas
 pub mod OpeningLemmas
 pub mod ClosingLemmas
 pub mod ImageLemmas
-pub mod CallerLemmas
 pub mod RuleLemmas
 pub mod ViewLemmas
 pub mod GuardLemmas

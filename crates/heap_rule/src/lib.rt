@@ -49,6 +49,3 @@ pub use step_laws::{
 pub use view_laws::{
     a_store_is_recorded, a_superblock_without_a_class_is_the_seats_alone, a_view_records_each_word,
 };
-
-#[cfg(test)]
-mod tests;

@@ -1,6 +1,5 @@
 pub mod DrawLemmas
 pub mod TakeLemmas
-pub mod SeatListLemmas
 pub mod CutLemmas
 pub mod CacheLemmas
 pub mod PopLemmas
@@ -11,5 +10,3 @@ pub mod TrimLemmas
 pub mod PartialLemmas
 pub mod BatchLemmas
 pub mod LargeLemmas
-pub mod SceneLemmas
-pub mod HoldLemmas

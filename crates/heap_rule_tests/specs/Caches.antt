@@ -1,10 +1,9 @@
 -- What rows on a seat's cache leave of it.
-use Rattle.std.specs.Prelude.{◌≡◌, ◌<◌, ◌≤◌, ℕ, List, [], ◌∷◌, ◌++◌, Contains, None, Some, set}
+use Rattle.std.specs.Prelude.{◌≡◌, ◌<◌, ◌≤◌, ℕ, [], ◌∷◌, ◌++◌, None, Some, set}
 use Rattle.heap_model.specs.Counting.{times, without}
 use Rattle.core_model.specs.Effects.{after_alloc, class_blocks, first_of}
 use Rattle.core_model.specs.View.{View, of_class}
 use Rattle.heap_rule.specs.Parts.{KeepsParts}
-use Rattle.heap_rule.specs.Seated.{SeatView}
 use Rattle.heap_rule_tests.specs.declared.refusal.NotDone.{NotDone}
 use Rattle.heap_rule_tests.specs.declared.refusal.NotDone.TheVariants.{Nothing, Lost, Stopped}
 use Rattle.heap_rule_tests.specs.Takes.{IsFull, HasLostMark}
@@ -34,7 +33,3 @@ abbrev pub FillsNone : NotDone → View → View → Type 0
 FillsNone Nothing v w = IsFull v w
 FillsNone (Lost found) v w = HasLostMark found v w
 FillsNone (Stopped e) v w = w.stopped ≡ Some e.step
-
--- each cache of each of the seats is empty
-pub record AreEmpty (seats : List SeatView) : Type 0 where
-  pub each : (seat : SeatView) → Contains seats seat → (class : ℕ) → of_class seat.view.caches class ≡ []

@@ -9,4 +9,3 @@ pub mod Frees
 pub mod Partials
 pub mod Batches
 pub mod Large
-pub mod Scenes

@@ -70,7 +70,7 @@ fn give_seen(seat: &mut Seat, shared: &Shared, d: u64) -> Result<(), NotDone>
 }
 
 /// Gives a batch whose superblock's anchor was seen, whatever it says.
-pub(crate) fn give_looked(
+pub fn give_looked(
     seat: &mut Seat,
     shared: &Shared,
     d: u64,

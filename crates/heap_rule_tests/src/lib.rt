@@ -1,5 +1,5 @@
 //! Users of the seats of a shared heap: rows of calls as a lock-free allocator has them, each with
-//! what it needs to go on, and tests that run them.
+//! what it needs to go on.
 #![tactic(auto, unfolding(heap_model::specs::Geometry::largest_capacity))]
 
 mod batches;
@@ -15,38 +15,15 @@ mod refusal;
 mod stores;
 mod takes;
 
-pub use batches::{give_batch, lift_cached};
+pub use batches::{give_batch, give_looked, lift_cached};
 pub use caches::{alloc_cached, fill_cache};
 pub use cuts::make_blocks;
 pub use draws::draw;
 pub use frees::free_block;
 pub use large::{hold_large, split_large};
-pub use partials::take_free_blocks;
-pub use pops::{pop_class, pop_free};
-pub use pushes::{push_class, push_free};
+pub use partials::{look_anchor, take_free_blocks, take_looked};
+pub use pops::{FREE_LIST, look_first, look_list, pop_class, pop_free, pop_seen};
+pub use pushes::{push_class, push_free, push_seen, set_link};
 pub use refusal::NotDone;
 pub use stores::{load_own, store_own};
-pub use takes::take_one;
-
-#[cfg(test)]
-mod beside_core;
-#[cfg(test)]
-mod filling;
-#[cfg(test)]
-mod fixtures;
-#[cfg(test)]
-mod giving;
-#[cfg(test)]
-mod holding;
-#[cfg(test)]
-mod listing;
-#[cfg(test)]
-mod returning;
-#[cfg(test)]
-mod rooting;
-#[cfg(test)]
-mod scenes;
-#[cfg(test)]
-mod spanning;
-#[cfg(test)]
-mod taking;
+pub use takes::{look_mark, take_one, take_seen};

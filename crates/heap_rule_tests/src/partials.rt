@@ -20,7 +20,7 @@ use line_memory::Stopped;
 const PARTIAL: u64 = 1;
 
 /// Reads the anchor of a claimed superblock, or of the batch's, which it answers.
-pub(crate) fn look_anchor(seat: &mut Seat, shared: &Shared, d: u64) -> Result<u64, Stopped>
+pub fn look_anchor(seat: &mut Seat, shared: &Shared, d: u64) -> Result<u64, Stopped>
     requires seat { IsSeatOf shared.now seat.old }
     requires may { MayLookAt seat.old.view d }
     ensures seen { IfOk result (λ anchor. HasSeenAnchor d anchor seat.old.view seat.new.view) }
@@ -52,7 +52,7 @@ fn take_seen(seat: &mut Seat, shared: &Shared, d: u64) -> Result<(), NotDone>
 }
 
 /// The same of one whose anchor was seen, whatever it says; it answers how many blocks there are.
-pub(crate) fn take_looked(
+pub fn take_looked(
     seat: &mut Seat,
     shared: &Shared,
     d: u64,

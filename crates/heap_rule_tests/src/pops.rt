@@ -17,10 +17,10 @@ use heap_rule::{Seat, Shared};
 use line_memory::Stopped;
 
 /// The list of the free superblocks; the list of a class has the number of the class.
-pub(crate) const FREE_LIST: u64 = 0;
+pub const FREE_LIST: u64 = 0;
 
 /// Reads the head of a list, which it answers.
-pub(crate) fn look_list(seat: &mut Seat, shared: &Shared, list: u64) -> Result<u64, Stopped>
+pub fn look_list(seat: &mut Seat, shared: &Shared, list: u64) -> Result<u64, Stopped>
     requires seat { IsSeatOf shared.now seat.old }
     requires list { list < lists }
     ensures seen { IfOk result (λ head. HasSeenHead list head seat.old.view seat.new.view) }
@@ -45,7 +45,7 @@ fn look_link(seat: &mut Seat, shared: &Shared) -> Result<(), Stopped>
 }
 
 /// Reads which superblock is the first of a list, which it answers, and its link.
-pub(crate) fn look_first(seat: &mut Seat, shared: &Shared, list: u64) -> Result<u64, NotDone>
+pub fn look_first(seat: &mut Seat, shared: &Shared, list: u64) -> Result<u64, NotDone>
     requires seat { IsSeatOf shared.now seat.old }
     requires list { list < lists }
     ensures seen { IfOk result (λ d. HasSeenFirst list d seat.old.view seat.new.view) }
@@ -63,7 +63,7 @@ pub(crate) fn look_first(seat: &mut Seat, shared: &Shared, list: u64) -> Result<
 }
 
 /// Pops the superblock that was seen to be the first of a list.
-pub(crate) fn pop_seen(seat: &mut Seat, shared: &Shared) -> Result<(), NotDone>
+pub fn pop_seen(seat: &mut Seat, shared: &Shared) -> Result<(), NotDone>
     requires seat { IsSeatOf shared.now seat.old }
     requires seen { (list : ℕ) × ((d : ℕ) × SeesFirst list d seat.old.view) }
     ensures popped { OnOk result ((list d : ℕ) → SeesFirst list d seat.old.view

@@ -20,7 +20,7 @@ use line_memory::Stopped;
 use super_block::Geometry;
 
 /// The link of a claimed superblock leads to another superblock, by its number plus 1.
-pub(crate) fn set_link(seat: &mut Seat, shared: &Shared, d: u64, first: u64) -> Result<(), Stopped>
+pub fn set_link(seat: &mut Seat, shared: &Shared, d: u64, first: u64) -> Result<(), Stopped>
     requires seat { IsSeatOf shared.now seat.old }
     requires claimed { IsFreelyClaimed seat.old.view d }
     ensures linked { OnOk result (HasSetLink d first seat.old.view seat.new.view) }
@@ -36,7 +36,7 @@ pub(crate) fn set_link(seat: &mut Seat, shared: &Shared, d: u64, first: u64) -> 
 
 /// Pushes a claimed superblock that leads to the first one that was seen in the list, where it may
 /// go to that list.
-pub(crate) fn push_seen(seat: &mut Seat, shared: &Shared, d: u64) -> Result<(), NotDone>
+pub fn push_seen(seat: &mut Seat, shared: &Shared, d: u64) -> Result<(), NotDone>
     requires seat { IsSeatOf shared.now seat.old }
     requires durable { d < seat.old.view.floor }
     requires listed { (list : ℕ) × SeesLinked list d seat.old.view × CanList seat.old.view d list }

@@ -11,7 +11,7 @@ use heap_rule::{Seat, Shared};
 use line_memory::Stopped;
 
 /// Reads the mark below which superblocks have been taken.
-pub(crate) fn look_mark(seat: &mut Seat, shared: &Shared) -> Result<u64, Stopped>
+pub fn look_mark(seat: &mut Seat, shared: &Shared) -> Result<u64, Stopped>
     requires { IsSeatOf shared.now seat.old }
     ensures seen { IfOk result (λ used. HasSeenMark used seat.old.view seat.new.view) }
     ensures stopped { IfErr result (λ e. HasStoppedAt e.step seat.old.view seat.new.view) }
@@ -22,7 +22,7 @@ pub(crate) fn look_mark(seat: &mut Seat, shared: &Shared) -> Result<u64, Stopped
 }
 
 /// Takes the superblock at the mark that was seen.
-pub(crate) fn take_seen(seat: &mut Seat, shared: &Shared) -> Result<(), NotDone>
+pub fn take_seen(seat: &mut Seat, shared: &Shared) -> Result<(), NotDone>
     requires seat { IsSeatOf shared.now seat.old }
     requires room { (used : ℕ) × (seat.old.view.seen_used ≡ Some used)
         × (used < seat.old.view.setup.capacity) }

@@ -1,0 +1,3 @@
+pub mod SeatListLemmas
+pub mod SceneLemmas
+pub mod HoldLemmas

@@ -1,0 +1,31 @@
+//! Tests of the rows of calls of `heap_rule_tests`: scenes in which two seats of one thread take
+//! turns, with each answer and the words that are left. The crate is nothing but these, so that the
+//! rows are proved once.
+#![tactic(auto, unfolding(heap_model::specs::Geometry::largest_capacity))]
+
+#[cfg(test)]
+mod beside_core;
+#[cfg(test)]
+mod fixtures;
+#[cfg(test)]
+mod giving;
+#[cfg(test)]
+mod holding;
+#[cfg(test)]
+mod listing;
+#[cfg(test)]
+mod opening;
+#[cfg(test)]
+mod returning;
+#[cfg(test)]
+mod rooting;
+#[cfg(test)]
+mod rows;
+#[cfg(test)]
+mod scene;
+#[cfg(test)]
+mod scenes;
+#[cfg(test)]
+mod spanning;
+#[cfg(test)]
+mod taking;
