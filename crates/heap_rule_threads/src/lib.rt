@@ -20,8 +20,3 @@ pub use jobs::{Plan, Report};
 pub use slots::{HeldBlock, Slot};
 pub use together::{Ended, work_together};
 pub use working::{Task, WorkReport};
-
-#[cfg(test)]
-mod plain;
-#[cfg(test)]
-mod running;
