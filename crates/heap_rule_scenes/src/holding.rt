@@ -1,6 +1,6 @@
 //! Blocks are held, stored to, made durable and freed, by one of two seats.
 
-ghost use Rattle.std.specs.Prelude.{◌≡◌, ◌<◌, IfOk};
+ghost use Rattle.std.specs.Prelude.{◌<◌, IfOk};
 ghost use Rattle.heap_model.specs.Counting.{times};
 ghost use Rattle.core_model.specs.View.{of_class};
 ghost use Rattle.heap_rule.specs.Seated.{IsSeatOf};

@@ -1,6 +1,6 @@
 //! The list of the free superblocks is popped from and pushed to, by one thread with two seats.
 
-ghost use Rattle.std.specs.Prelude.{◌≡◌, ◌<◌, IfOk};
+ghost use Rattle.std.specs.Prelude.{◌<◌, IfOk};
 ghost use Rattle.heap_rule.specs.Seated.{IsSeatOf};
 ghost use Rattle.heap_rule_tests.specs.Pops.{SeesFirst};
 ghost use Rattle.heap_rule_tests.specs.Pushes.{IsEmptyClaim};

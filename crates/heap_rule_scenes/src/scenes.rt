@@ -1,7 +1,7 @@
 //! What seats do in the tests: rows of the rows, over blocks of class 20, of which a superblock has
 //! four, of 1,792 words.
 
-ghost use Rattle.std.specs.Prelude.{◌≡◌, ◌<◌, ℕ, [], None, IfOk, OnOk, IfSome};
+ghost use Rattle.std.specs.Prelude.{◌≡◌, ◌<◌, [], None, IfOk, OnOk, IfSome};
 ghost use Rattle.core_model.specs.Held.{IsHeld};
 ghost use Rattle.core_model.specs.View.{of_class};
 ghost use Rattle.heap_model.specs.declared.block.Block.{Block};
