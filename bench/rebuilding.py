@@ -16,7 +16,7 @@ import time
 from scratch import HERE, TOP, build
 
 TOOL = TOP / "bin" / "heap_tool"
-CRATES = "tool_run tool_ports dictionary heap_recover filter_trace region_header super_block"
+CRATES = "file_ports tool_ports dictionary heap_recover filter_trace region_header super_block"
 CALLS = 10
 
 
@@ -60,7 +60,7 @@ def main(runs):
         subprocess.run([TOOL, "format", room / "empty", "256"], check=True, stdout=subprocess.DEVNULL)
         for name, superblocks in (("half", 128), ("full", 256)):
             subprocess.run([HERE / "full_image.py", room / name, str(superblocks)], check=True)
-        timed = build(room, "timed_recovery.txt", CRATES, ["trace", room / "full", 1], adapters=True)
+        timed = build(room, "timed_recovery.txt", CRATES, ["trace", room / "full", 1])
         for name in ("empty", "half", "full"):
             measure(timed, room / name, runs)
 

@@ -9,20 +9,19 @@ HERE = pathlib.Path(__file__).resolve().parent
 TOP = HERE.parent
 
 
-def build(room, text, crates, arguments, adapters=False):
+def build(room, text, crates, arguments):
     """The program of this text, which rt proves, builds in a clone in this folder, and runs once with these arguments.
 
-    The crates are those that the text names. Without adapters the text stands alone: the other files of heap_tool are
-    left out. What rt has checked in this checkout, it need not check again there.
+    The crates are those that the text names. The text stands alone: the other files of heap_tool are left out. What rt
+    has checked in this checkout, it need not check again there.
     """
     clone = room / "clone"
     subprocess.run(["git", "clone", "-q", TOP, clone], check=True)
     for out in TOP.glob("crates/*/out"):
         shutil.copytree(out, clone / out.relative_to(TOP))
     crate = clone / "crates" / "heap_tool"
-    if not adapters:
-        shutil.rmtree(crate)
-        (crate / "src").mkdir(parents=True)
+    shutil.rmtree(crate)
+    (crate / "src").mkdir(parents=True)
     shutil.copy(HERE / text, crate / "src" / "main.rt")
     lines = (clone / "crates.txt").read_text()
     (clone / "crates.txt").write_text(re.sub(r"^heap_tool: .*$", f"heap_tool: {crates}", lines, flags=re.M))

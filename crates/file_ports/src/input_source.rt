@@ -59,7 +59,9 @@ fn read_retrying<R: Read>(reader: &mut R, buf: &mut [u8]) -> Result<usize, Faile
 #[cfg(test)]
 mod tests {
     use super::*;
+    use crate::asserts::must_hold;
     use std::io;
+    use std::process::Abort;
     use std::test::Fail;
     use tool_ports::{ReadAllFault, read_all};
 
@@ -91,32 +93,38 @@ mod tests {
         }
     }
 
+    // Reads all of three bytes, where a call fails, or none: so many bytes come, or none where it
+    // failed, and so many faults are counted.
+    fn must_read(
+        rt: &(impl Abort + AllocGlobal),
+        fails_at: u64,
+        wanted: Result<usize, ReadAllFault>,
+        faults: u64,
+    ) {
+        let mut source = InputSource::new(Uneven {
+            calls: 0,
+            fails_at,
+            left: 3,
+        });
+        let read = read_all(rt.alloc(), &mut source, 9).map(|bytes| bytes.len());
+        must_hold(rt, read == wanted, "what is read");
+        must_hold(rt, source.faults.count == faults, "its faults");
+    }
+
     #[test]
     fn a_reader_is_read_to_its_end_over_interruptions(rt: HostRuntime) -> Result<(), Fail> {
-        let alloc = rt.alloc();
-        for (fails_at, want, faults) in [
-            (0, Ok(3), 0),
-            (1, Err(ReadAllFault::Failed), 1),
-            (6, Err(ReadAllFault::Failed), 1),
-        ] {
-            let mut source = InputSource::new(Uneven {
-                calls: 0,
-                fails_at,
-                left: 3,
-            });
-            let read = read_all(alloc, &mut source, 9).map(|bytes| bytes.len());
-            assert_eq!(rt; read, want, "call {fails_at} fails");
-            assert_eq!(rt; source.faults.count, faults);
-        }
+        must_read(&rt, 0, Ok(3), 0);
+        must_read(&rt, 1, Err(ReadAllFault::Failed), 1);
+        must_read(&rt, 6, Err(ReadAllFault::Failed), 1);
         Ok(())
     }
 
     #[test]
     fn bytes_come_in_order(rt: HostRuntime) -> Result<(), Fail> {
-        let alloc = rt.alloc();
         let mut source = InputSource::new(b"abc".as_slice());
-        let read = read_all(alloc, &mut source, 9);
-        assert!(rt; read.is_ok_and(|bytes| bytes.as_slice() == b"abc".as_slice()));
+        let read = read_all(rt.alloc(), &mut source, 9);
+        let is_abc = read.is_ok_and(|bytes| bytes.as_slice() == b"abc".as_slice());
+        must_hold(&rt, is_abc, "what is read");
         Ok(())
     }
 }

@@ -2,7 +2,7 @@
 ghost use Rattle.std.specs.Prelude.{◌≡◌, ◌↔◌, ◌<◌, ◌≤◌, ◌+◌, [], None, false, length, IfOk, IsOkAnd, IfSome, OnOk, IsErrOf, IsErrAnd, take};
 ghost use Rattle.std.specs.IoError.{error_kind};
 ghost use Rattle.std.specs.Io.KnownBytes.{IsAtEnd};
-ghost use Rattle.heap_tool.specs.Reading.{ReadsPiece};
+ghost use Rattle.file_ports.specs.Reading.{ReadsPiece};
 ghost use Rattle.tool_ports.specs.Calls.{no_calls};
 
 use crate::replacing::put_file;

@@ -43,6 +43,7 @@ impl<W: Write> Sink for OutputSink<W> {
 #[cfg(test)]
 mod tests {
     use super::*;
+    use crate::asserts::must_hold;
     use std::test::Fail;
     use tool_ports::write_all;
 
@@ -50,10 +51,19 @@ mod tests {
     fn a_writer_that_takes_nothing_has_failed(rt: HostRuntime) -> Result<(), Fail> {
         let mut room = [b'-'; 4];
         let mut sink = OutputSink::new(&mut room[..]);
-        assert_eq!(rt; write_all(&mut sink, b"abc"), Ok(()));
-        assert_eq!(rt; write_all(&mut sink, b"def"), Err(Failed));
-        assert_eq!(rt; sink.faults.count, 1);
-        assert_eq!(rt; room.as_slice(), b"abcd".as_slice());
+        let first = write_all(&mut sink, b"abc");
+        let second = write_all(&mut sink, b"def");
+        let has_failed = first == Ok(()) && second == Err(Failed);
+        must_hold(
+            &rt,
+            has_failed && sink.faults.count == 1,
+            "the second fails",
+        );
+        must_hold(
+            &rt,
+            room.as_slice() == b"abcd".as_slice(),
+            "what is written",
+        );
         Ok(())
     }
 }

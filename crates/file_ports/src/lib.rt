@@ -1,0 +1,13 @@
+//! The outside of the tool as it really is: images in files, and its input and output.
+#![tactic(auto)]
+
+#[cfg(test)]
+mod asserts;
+mod file_store;
+mod input_source;
+mod output_sink;
+mod replacing;
+
+pub use file_store::FileStore;
+pub use input_source::InputSource;
+pub use output_sink::OutputSink;

@@ -1,0 +1,110 @@
+//! Writing a file that fails, and what is left beside it.
+use super::*;
+use crate::asserts::must_hold;
+use std::fs::Metadata;
+use std::os::unix::fs::symlink;
+use std::process::Abort;
+use std::test::Fail;
+
+// A file that takes bytes until it fails, and fails to be synced where it is told so.
+#[derive(Drop)]
+struct FaultyFile {
+    room: usize,
+    sync_fails: bool,
+}
+
+impl Write for FaultyFile {
+    fn write(&mut self, buf: &[u8]) -> io::Result<usize> {
+        let count = buf.len().min(self.room);
+        self.room -= count;
+        Ok(count)
+    }
+
+    fn flush(&mut self) -> io::Result<()> {
+        Ok(())
+    }
+}
+
+impl OpenFile for FaultyFile {
+    fn metadata(&self) -> io::Result<Metadata> {
+        Ok(Metadata::of_file(0))
+    }
+
+    fn set_len(&self, _size: u64) -> io::Result<()> {
+        Ok(())
+    }
+
+    fn sync_all(&self) -> io::Result<()> {
+        if self.sync_fails {
+            return Err(io::Error::from(ErrorKind::Other));
+        }
+        Ok(())
+    }
+
+    fn sync_data(&self) -> io::Result<()> {
+        self.sync_all()
+    }
+}
+
+// Writes three bytes to such a file, which has so much room left then.
+fn must_write(rt: &impl Abort, room: usize, sync_fails: bool, written: bool, left: usize) {
+    let mut file = FaultyFile { room, sync_fails };
+    let answer = write_file(&mut file, None, b"abc");
+    must_hold(rt, answer.is_ok() == written, "whether it is written");
+    must_hold(rt, file.room == left, "the room");
+}
+
+#[test]
+fn a_write_or_sync_that_fails_is_told(rt: HostRuntime) -> Result<(), Fail> {
+    must_write(&rt, 9, false, true, 6);
+    must_write(&rt, 3, false, true, 0);
+    must_write(&rt, 2, false, false, 0);
+    must_write(&rt, 0, false, false, 0);
+    must_write(&rt, 9, true, false, 6);
+    Ok(())
+}
+
+// Puts a file.
+fn must_put<R: Files + Abort + AllocGlobal>(rt: &R, name: &str, bytes: &[u8]) {
+    let answer = put_file(rt, rt.alloc(), name, bytes);
+    must_hold(rt, answer == Ok(()), name);
+}
+
+// Whether the file has these bytes.
+fn has<R: Files + AllocGlobal>(rt: &R, name: &str, bytes: &[u8]) -> Result<bool, Fail> {
+    Ok(fs::read(rt, name)?.as_slice() == bytes)
+}
+
+#[test]
+fn a_file_that_was_not_written_takes_no_place(rt: HostRuntime) -> Result<(), Fail> {
+    must_put(&rt, "kept", b"old");
+    must_put(&rt, "kept.new7", b"half");
+    let failed = Err(io::Error::from(ErrorKind::Other));
+    let answer = move_file(&rt, failed, "kept.new7", "kept");
+    must_hold(&rt, answer == Err(PutImageFault::Failed), "it has failed");
+    must_hold(&rt, has(&rt, "kept", b"old")?, "the old one is there");
+    must_hold(&rt, !fs::exists(&rt, "kept.new7")?, "the other is gone");
+    Ok(())
+}
+
+#[test]
+fn a_file_keeps_its_mode_and_its_links(rt: HostRuntime) -> Result<(), Fail> {
+    must_put(&rt, "owned", b"old");
+    fs::set_permissions(&rt, "owned", Permissions::from_mode(0o640))?;
+    symlink(&rt, "owned", "link")?;
+    must_put(&rt, "link", b"new");
+    must_hold(&rt, has(&rt, "owned", b"new")?, "the link leads to it");
+    let is_link = fs::symlink_metadata(&rt, "link")?.is_symlink();
+    must_hold(&rt, is_link, "the link is there");
+    must_hold(&rt, mode_of(&rt, "owned") == Some(0o640), "the mode stays");
+    Ok(())
+}
+
+#[test]
+fn the_folder_of_a_name_is_what_stands_before_it(rt: HostRuntime) -> Result<(), Fail> {
+    must_hold(&rt, folder_of("heap") == ".", "heap");
+    must_hold(&rt, folder_of("a/b/heap") == "a/b", "a/b/heap");
+    must_hold(&rt, folder_of("/heap") == "/", "/heap");
+    must_hold(&rt, folder_of("./heap") == ".", "./heap");
+    Ok(())
+}
