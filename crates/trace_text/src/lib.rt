@@ -2,7 +2,6 @@
 #![tactic(auto, using(heap_model::specs::Geometry::largest_capacity_fits))]
 
 mod answered;
-mod class;
 mod generate;
 mod keys;
 mod laws;

@@ -6,12 +6,13 @@ ghost use Rattle.heap_model.specs.declared.block.Block.{Block};
 ghost use Rattle.heap_model.specs.Header.{IsWellFormed, capacity_of, used_of};
 ghost use Rattle.trace_text.specs.HeapMap.{AreInOrder, begins_in, held_indexes, first_of, class_use, inside_use, line_of, superblock_line, used_line, map_of};
 
-use crate::class::words_of;
 use crate::ranges::write_ranges;
 use region_header::Bytes;
 use size_table::SizeClass;
 use std::alloc::{AllocError, Global};
-use super_block::{Block, CAPACITY_WORD, Geometry, Info, Ready, SUPERBLOCK_WORDS, USED_WORD};
+use super_block::{
+    Block, CAPACITY_WORD, Geometry, Info, Ready, SUPERBLOCK_WORDS, USED_WORD, block_words,
+};
 
 /// The map of a heap whose free superblocks are these: how many superblocks have been taken, are
 /// free and are fresh, and a line for each that has been taken.
@@ -115,7 +116,7 @@ fn indexes_in(
         indexes.items ≡ held_indexes geometry.capacity class.number d held.now) }
 {
     let start = geometry.start(d);
-    let words = words_of(class);
+    let words = block_words(class);
     begun_in(geometry, held, d)
         .iter()
         .map(|block| block.first_word.saturating_sub(start) / words)

@@ -6,13 +6,12 @@ ghost use Rattle.heap_model.specs.Geometry.{largest_capacity, superblock_words};
 ghost use Rattle.trace_text.specs.Report.{classes, heap_line_of, count_of, count_line, class_line, large_line};
 ghost use Rattle.trace_text.specs.Keys.{IsReport, WritesKeys};
 
-use crate::class::words_of;
 use crate::keys::write_keys;
 use region_header::Bytes;
 use size_table::{SizeClass, size_of};
 use std::alloc::{AllocError, Global};
 use std::collections::BTreeMap;
-use super_block::{Block, LAST_CLASS, SUPERBLOCK_WORDS};
+use super_block::{Block, LAST_CLASS, SUPERBLOCK_WORDS, block_words};
 
 /// The first line of a report: the capacity of the image, and whether it was closed.
 pub fn heap_line(alloc: Global, capacity: u64, clean: bool) -> Result<Bytes, AllocError>
@@ -93,7 +92,7 @@ fn write_class_line(text: &mut String, held: &[Block], class: SizeClass) -> Resu
         (string_bytes text.new ≡ string_bytes text.old ++ class_line held.now class.number) }
 {
     let bytes = size_of(class.number);
-    let count = count_of(held, words_of(class));
+    let count = count_of(held, block_words(class));
     if count == 0 {
         return Ok(());
     }
