@@ -12,7 +12,10 @@ use crate::reads::info;
 use crate::shares::{place, share};
 use crate::state::CoreState;
 use size_table::SizeClass;
-use super_block::{FIXED_WORDS, Geometry, LAST_CLASS, ROOT_WORD, SUPERBLOCK_WORDS, block_words};
+use super_block::{
+    ANCHOR_OFFSET, DESCRIPTOR_WORDS, FIXED_WORDS, Geometry, LAST_CLASS, LINK_OFFSET, ROOT_WORD,
+    SUPERBLOCK_WORDS, block_words,
+};
 
 /// The part of the image that a word is.
 pub fn part_at(geometry: Geometry, word: u64) -> Part
@@ -32,11 +35,11 @@ pub fn part_at(geometry: Geometry, word: u64) -> Part
     if word >= geometry.start(0) {
         return Part::Data { word };
     }
-    let d = (word - FIXED_WORDS) / 8;
-    match (word - FIXED_WORDS) % 8 {
+    let d = (word - FIXED_WORDS) / DESCRIPTOR_WORDS;
+    match (word - FIXED_WORDS) % DESCRIPTOR_WORDS {
         0 => Part::Info { d },
-        1 => Part::Anchor { d },
-        2 => Part::Link { d },
+        ANCHOR_OFFSET => Part::Anchor { d },
+        LINK_OFFSET => Part::Link { d },
         _ => Part::Shared,
     }
 }
