@@ -10,6 +10,7 @@ ghost use Rattle.dictionary.specs.Reading.{IsRead, IsLead, AddsNode};
 
 use crate::fault::MapFault;
 use crate::filter::SHARDS;
+use dict_model::LARGEST_VALUE;
 use filter_trace::{Scan, Target};
 use heap_model::Block;
 use region_header::{Bytes, words_to_bytes};
@@ -19,9 +20,6 @@ use std::collections::BTreeMap;
 
 /// How many buckets a table has: one for each of its words.
 pub const BUCKETS: u64 = 128;
-
-/// The bytes of the longest value.
-pub const LARGEST_VALUE: u64 = 131_072;
 
 /// The words of a node before its value: next, key and length.
 const NODE_WORDS: u64 = 3;

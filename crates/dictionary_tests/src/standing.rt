@@ -4,6 +4,7 @@ ghost use Rattle.heap_model.specs.Image.{Image};
 ghost use Rattle.trace_run.specs.Opened.{IsDictionary};
 
 use block_heap::{AllocFault, Chance, Closed, SeqHeap, Stopped};
+use dict_model::LARGEST_VALUE;
 use dict_seat::Shard;
 use dictionary::{DictFilter, read_maps, root_kinds};
 use heap_recover::{Recovered, recover};
@@ -57,7 +58,7 @@ impl<C: Chance> Standing<C> {
         if let Some(stopped) = self.stopped {
             return Ok(Err(AllocFault::Stopped(stopped)));
         }
-        if value.len() > 131_072 {
+        if value.len() as u64 > LARGEST_VALUE {
             return Err("the value is too long".into());
         }
         match Shard::at(key % 8).put(&mut self.heap, key, value) {

@@ -6,12 +6,10 @@ ghost use Rattle.trace_text.specs.Trace.{longest_value, IsLine, IsValue};
 use crate::number::parse_number;
 use crate::pieces::{behind, split_once};
 use crate::request::Request;
+use dict_model::LARGEST_VALUE;
 use hex::FromHexError;
 use region_header::Bytes;
 use std::alloc::{AllocError, Global};
-
-/// The most bytes of a value.
-pub(crate) const LONGEST_VALUE: usize = 131_072;
 
 /// The request that a line asks for, or `None` where it asks for nothing.
 pub(crate) fn parse_line(alloc: Global, line: &[u8]) -> Result<Option<Request>, AllocError>
@@ -66,5 +64,5 @@ fn parse_value(alloc: Global, word: &[u8]) -> Result<Option<Bytes>, AllocError>
 fn may_be_digits(word: &[u8]) -> bool
     ensures { IsTrue result ↔ ((1 ≤ length word.now) × (length word.now ≤ 2 * longest_value)) }
 {
-    !word.is_empty() && word.len() <= 2 * LONGEST_VALUE
+    !word.is_empty() && word.len() <= 2 * LARGEST_VALUE as usize
 }
