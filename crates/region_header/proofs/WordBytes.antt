@@ -108,9 +108,9 @@ one_word_more bytes words i word first is = record {
   word = λ k below. elim (cases_lt k i) [
     | inl before ↦ get_or-append words (word ∷ []) 0 k (let count = first.count in omega arith) ∙ first.word k before
     | inr past ↦
-      let last : k ≡ length words = let count = first.count in omega arith in
-      let same : k ≡ i = omega arith in
-      ap (λ n. slice_index (words ++ word ∷ []) n) last ∙ get_or-append_seam words word [] 0 ∙ is ∙ ap (image_of_bytes bytes) (sym same)
+        let last : k ≡ length words = let count = first.count in omega arith in
+        let same : k ≡ i = omega arith in
+        ap (λ n. slice_index (words ++ word ∷ []) n) last ∙ get_or-append_seam words word [] 0 ∙ is ∙ ap (image_of_bytes bytes) (sym same)
   ];
 }
 
