@@ -3,6 +3,7 @@
 use crate::{BadHeader, Header, bytes_to_words, check_bytes, format, read_header, words_to_bytes};
 use std::alloc::{AllocError, Global};
 use std::test::Fail;
+use super_block::{Ready, an_empty_heap_is_ready};
 
 // An empty image of one superblock, with other values in some words.
 fn image_with(alloc: Global, changes: &[(usize, u64)]) -> Result<Vec<u64>, AllocError> {
@@ -150,5 +151,18 @@ fn the_lowest_byte_of_a_word_comes_first(rt: HostRuntime) -> Result<(), Fail> {
         bytes_to_words(rt.alloc(), &want)?.as_slice(),
         words.as_slice()
     );
+    Ok(())
+}
+
+#[test]
+fn an_empty_heap_is_made_and_taken_apart(rt: HostRuntime) -> Result<(), Fail> {
+    an_empty_heap_is_ready();
+    let heap = Ready::new(format(rt.alloc(), 1)?, Vec::new(rt.alloc()));
+    assert_eq!(rt; heap.geometry().capacity(), 1);
+    assert_eq!(rt; heap.words().len(), 9_264);
+    assert!(rt; heap.held().is_empty());
+    let (words, held) = heap.into_parts();
+    assert_eq!(rt; words.len(), 9_264);
+    assert!(rt; held.is_empty());
     Ok(())
 }

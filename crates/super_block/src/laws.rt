@@ -4,12 +4,7 @@ ghost use Rattle.heap_model.specs.Sizes.{IsClass};
 ghost use Rattle.heap_model.specs.Words.{large_info};
 ghost use Rattle.heap_model.specs.Geometry.{magic, version, largest_capacity, clean, dirty, magic_word, version_word, capacity_word, state_word, used_word, head_word, roots, root_word, lists, line_words, fixed_words, info_word, anchor_word, link_word, superblock_words, start_word, image_words};
 
-use crate::layout::{
-    ANCHOR_OFFSET, CAPACITY_WORD, CLEAN, DESCRIPTOR_WORDS, DIRTY, FIXED_WORDS, HEAD_WORD,
-    LARGE_INFO, LARGE_STEP, LARGEST_CAPACITY, LAST_CLASS, LINE_WORDS, LINK_OFFSET, LISTS,
-    LONGEST_IMAGE, MAGIC, MAGIC_WORD, ROOT_WORD, ROOTS, STATE_WORD, SUPERBLOCK_WORDS, USED_WORD,
-    VERSION, VERSION_WORD,
-};
+use crate::layout::*;
 
 /// The constants of this crate are the numbers that the definitions of the image speak of.
 pub fn constants_agree()

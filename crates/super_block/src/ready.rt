@@ -92,36 +92,3 @@ pub fn an_empty_heap_is_ready()
     ensures { (capacity : ℕ) → 1 ≤ capacity → capacity ≤ largest_capacity
         → IsReady (empty_words capacity) [] }
 {}
-
-#[cfg(test)]
-mod tests {
-    use super::*;
-    use crate::layout::{CLEAN, MAGIC, MAGIC_WORD, STATE_WORD, VERSION, VERSION_WORD};
-    use std::alloc::{AllocError, Global};
-    use std::test::Fail;
-
-    /// The words of an empty heap of one superblock.
-    fn empty_words(alloc: Global) -> Result<Vec<u64>, AllocError>
-        ensures { IfOk result (λ words. IsReady words.items []) }
-    {
-        let mut words = vec![in alloc; 0; 9_264]?;
-        words[MAGIC_WORD as usize] = MAGIC;
-        words[VERSION_WORD as usize] = VERSION;
-        words[CAPACITY_WORD as usize] = 1;
-        words[STATE_WORD as usize] = CLEAN;
-        Ok(words)
-    }
-
-    #[test]
-    fn an_empty_heap_is_made_and_taken_apart(rt: HostRuntime) -> Result<(), Fail> {
-        let words = empty_words(rt.alloc())?;
-        let heap = Ready::new(words, Vec::new(rt.alloc()));
-        assert_eq!(rt; heap.geometry().capacity(), 1);
-        assert_eq!(rt; heap.words().len(), 9_264);
-        assert!(rt; heap.held().is_empty());
-        let (words, held) = heap.into_parts();
-        assert_eq!(rt; words.len(), 9_264);
-        assert!(rt; held.is_empty());
-        Ok(())
-    }
-}
