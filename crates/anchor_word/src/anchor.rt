@@ -31,7 +31,8 @@ pub const FULL: Anchor = Anchor {
     count: 0,
 };
 
-/// The anchor of a superblock of which all blocks are free, and none is linked to another.
+/// The anchor of a superblock that was never divided, or that recovery found free. One whose last
+/// block was given back has a count, and so another anchor.
 pub const EMPTY: Anchor = Anchor {
     state: State::Empty,
     first: 0,

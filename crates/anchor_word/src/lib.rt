@@ -2,9 +2,11 @@
 #![tactic(auto)]
 
 mod anchor;
+mod laws;
 mod word;
 
 pub use anchor::{Anchor, EMPTY, FULL, State, give, take_all};
+pub use laws::constants_agree;
 pub use word::{pack, unpack};
 
 #[cfg(test)]

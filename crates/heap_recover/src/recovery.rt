@@ -65,7 +65,7 @@ pub fn recover<F: Filter>(
     Ok(recovered)
 }
 
-/// The same in the room of the image, of which no copy is made.
+/// The same in the room of the image, which is gone where it is refused.
 pub fn recover_owned<F: Filter>(
     alloc: Global,
     words: Vec<u64>,

@@ -39,7 +39,7 @@ impl Info {
         Info::Nothing
     }
 
-    /// The word that says so.
+    /// The word that says so, of a large block of at least one superblock.
     pub fn pack(self) -> u64
         requires { word_of self < 2 ^ 64 }
         ensures { result ≡ word_of self }

@@ -55,6 +55,11 @@ impl ListHead {
     pub fn unpack(word: u64) -> ListHead
         ensures first { link_of result.first ≡ head_first word }
         ensures pops { result.pops ≡ head_pops word }
+
+        // `pack` undoes it.
+        ensures packed { head_of (link_of result.first) result.pops ≡ word }
+        ensures small { link_of result.first < 2 ^ 24 }
+        ensures few { result.pops < 2 ^ 40 }
     {
         ListHead {
             first: ListLink::unpack(word % (1 << POPS_SHIFT)).next,
@@ -78,7 +83,8 @@ impl ListHead {
         ListLink { next: self.first }
     }
 
-    /// The head once its first descriptor, which has this link, is popped.
+    /// The head once its first descriptor, which has this word for a link, is popped. Of the word the
+    /// low 24 bits count, as of a head: no list is so long that a link has more.
     pub fn popped(self, link: u64) -> ListHead
         requires { self.pops + 1 < 2 ^ 40 }
         ensures first { link_of result.first ≡ head_first link }
