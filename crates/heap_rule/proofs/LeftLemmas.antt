@@ -82,11 +82,12 @@ pub give_lost : (d : ℕ) (v w : View) (found : ℕ) → IsEvent (Give d) v foun
 give_lost d v w found e other = lost_as w (given v d) (record (lost v found) { seen_anchor = None }) found (seen_word v.seen_anchor) e.after other
 
 -- an exchange that is lost tells the word that it found, which the view keeps
-pub told_lost : (v w a : View) (seen found : ℕ) (result : Result ⊤ ℕ) → (found ≢ seen → w ≡ a) → a.lost_to ≡ found → a.losses ≡ v.losses + 1 → Tells seen found result
-    → IfErr result (λ word. HasLostTo seen word v w)
-told_lost v w a seen found (Ok x) after kept count told = tt
-told_lost v w a seen found (Err word) after kept count told = record {
+pub told_lost : (event : Event) (v w a : View) (seen found : ℕ) (result : Result ⊤ ℕ) → IsEvent event v found w → (found ≢ seen → w ≡ a) → a.lost_to ≡ found → a.losses ≡ v.losses + 1
+    → Tells seen found result → IfErr result (λ word. HasLostTo event seen word v w)
+told_lost event v w a seen found (Ok x) e after kept count told = tt
+told_lost event v w a seen found (Err word) e after kept count told = record {
   other = λ same. told.1 (sym told.0 ∙ same);
+  found_is = (e.before, told.0 ∙ e.found_is);
   lost_to = ap (λ (x : View). x.lost_to) (after told.1) ∙ kept ∙ sym told.0;
   losses = ap (λ (x : View). x.losses) (after told.1) ∙ count;
 }

@@ -78,23 +78,24 @@ pub fn an_exchange_is_won_or_lost()
         → found ≢ seen_word v.seen_anchor → w ≡ record (lost v found) { seen_anchor = None } }
 {}
 
-/// An exchange that is lost answers the word that it found itself: the view keeps that word.
+/// An exchange that is lost answers the word that it found itself, which the view keeps: what
+/// stands, in a sound state before it, in the word that the event works on.
 pub fn a_lost_exchange_answers_the_word_that_it_found()
     ensures taken { (n : ℕ) (v w : View) (found : ℕ) (result : Result ⊤ ℕ)
         → IsEvent (TakeFresh n) v found w → Tells (seen v.seen_used) found result
-        → IfErr result (λ word. HasLostTo (seen v.seen_used) word v w) }
+        → IfErr result (λ word. HasLostTo (TakeFresh n) (seen v.seen_used) word v w) }
     ensures popped { (v w : View) (found : ℕ) (result : Result ⊤ ℕ)
         → IsEvent Pop v found w → Tells (seen_word v.seen_head) found result
-        → IfErr result (λ word. HasLostTo (seen_word v.seen_head) word v w) }
+        → IfErr result (λ word. HasLostTo Pop (seen_word v.seen_head) word v w) }
     ensures pushed { (d : ℕ) (v w : View) (found : ℕ) (result : Result ⊤ ℕ)
         → IsEvent (Push d) v found w → Tells (seen_word v.seen_head) found result
-        → IfErr result (λ word. HasLostTo (seen_word v.seen_head) word v w) }
+        → IfErr result (λ word. HasLostTo (Push d) (seen_word v.seen_head) word v w) }
     ensures taken_all { (d : ℕ) (v w : View) (found : ℕ) (result : Result ⊤ ℕ)
         → IsEvent (TakeAll d) v found w → Tells (seen_word v.seen_anchor) found result
-        → IfErr result (λ word. HasLostTo (seen_word v.seen_anchor) word v w) }
+        → IfErr result (λ word. HasLostTo (TakeAll d) (seen_word v.seen_anchor) word v w) }
     ensures given { (d : ℕ) (v w : View) (found : ℕ) (result : Result ⊤ ℕ)
         → IsEvent (Give d) v found w → Tells (seen_word v.seen_anchor) found result
-        → IfErr result (λ word. HasLostTo (seen_word v.seen_anchor) word v w) }
+        → IfErr result (λ word. HasLostTo (Give d) (seen_word v.seen_anchor) word v w) }
 {}
 
 /// Draws with no change, looks, lost exchanges, and keeping the mark leave the seat its parts; so
