@@ -1,9 +1,11 @@
 //! Puts a file in the place of another, which stays whole until the new one is.
-ghost use Rattle.std.specs.Prelude.{IsOk, OnOk};
+ghost use Rattle.std.specs.Prelude.{◌≡◌, ◌↔◌, Ok, None, bit_and, IsOk, IsOkAnd, IfOk, IfSome, OnOk, IsErrAnd, IsOkUnless};
+ghost use Rattle.std.specs.Fs.{metadata_mode};
 ghost use Rattle.std.specs.Io.KnownBytes.{Appends};
+ghost use Rattle.std.specs.IoError.{error_kind};
 
 use std::alloc::Global;
-use std::fs::{OpenFile, OpenOptions, Permissions};
+use std::fs::{Metadata, OpenFile, OpenOptions, Permissions};
 use std::io::{ErrorKind, Write};
 use std::os::unix::fs::{OpenOptionsExt, PermissionsExt};
 use std::rt::Files;
@@ -19,8 +21,8 @@ const TRIES: u32 = 1000;
 /// The bits of a mode that say who may do what, without the file's type.
 const MODE_BITS: u32 = 0o7777;
 
-/// Puts these bytes in a file of this name. One that is there keeps its mode, and a link to it still
-/// leads to it.
+/// Puts these bytes in a file of this name. One that is there keeps its mode, and a link to it
+/// still leads to it.
 pub fn put_file<R: Files>(
     rt: &R,
     alloc: Global,
@@ -41,7 +43,7 @@ fn put_beside<R: Files>(
     name: &str,
     bytes: &[u8],
 ) -> Result<(), PutImageFault> {
-    let mode = mode_of(rt, name);
+    let mode = mode_of(fs::metadata(rt, name))?;
     for number in 0..TRIES {
         let temporary = format!(in alloc; "{name}{TEMPORARY}{number}")?;
         match create_new(rt, temporary.as_str(), mode) {
@@ -56,10 +58,19 @@ fn put_beside<R: Files>(
     Err(PutImageFault::Failed)
 }
 
-// The mode of a file that is there.
-fn mode_of<R: Files>(rt: &R, name: &str) -> Option<u32> {
-    let metadata = fs::metadata(rt, name).ok()?;
-    Some(metadata.permissions().mode() & MODE_BITS)
+// The mode of the file that is to be replaced, if there is one. A file whose mode can't be told is
+// not replaced: somebody might read the new one who may not read it.
+fn mode_of(found: io::Result<Metadata>) -> Result<Option<u32>, PutImageFault>
+    ensures mode { IfOk result (λ mode. IfSome mode (λ bits. IsOkAnd found (λ metadata.
+        bits ≡ bit_and (metadata_mode metadata) MODE_BITS))) }
+    ensures none { result ≡ Ok None ↔ IsErrAnd found (λ e. error_kind e ≡ ErrorKind.NotFound) }
+    ensures err { IsOkUnless result PutImageFault.Failed }
+{
+    match found {
+        Ok(metadata) => Ok(Some(metadata.permissions().mode() & MODE_BITS)),
+        Err(e) if e.kind() == ErrorKind::NotFound => Ok(None),
+        Err(_) => Err(PutImageFault::Failed),
+    }
 }
 
 // A new file, which from the start nobody may read who may not read the one that it is to replace.
@@ -100,7 +111,8 @@ fn move_file<R: Files>(
     Err(PutImageFault::Failed)
 }
 
-// Waits until the name of a file is on the disk. A folder that nobody may read isn't synced.
+// Waits until the name of a file is on the disk. A folder that can't be opened, for any cause,
+// isn't synced.
 fn sync_folder<R: Files>(rt: &R, name: &str) -> io::Result<()> {
     match fs::open(rt, folder_of(name)) {
         Ok(folder) => folder.sync_all(),

@@ -2,6 +2,7 @@
 //! tests run in one folder, so each has names of its own.
 use super::*;
 use crate::asserts::must_hold;
+use std::os::unix::fs::symlink;
 use std::process::Abort;
 use std::test::Fail;
 
@@ -82,6 +83,18 @@ fn a_long_file_gives_its_first_bytes(rt: HostRuntime) -> Result<(), Fail> {
     let calls = store.calls;
     let are_counted = calls.gets == 1 && calls.puts == 1;
     must_hold(&rt, are_counted && calls.most == 10_000, "the calls");
+    Ok(())
+}
+
+#[test]
+fn a_file_whose_mode_cannot_be_told_is_not_replaced(rt: HostRuntime) -> Result<(), Fail> {
+    let mut store = FileStore::new(&rt);
+    symlink(&rt, "loop", "loop")?;
+    must_refuse(&rt, &mut store, "loop");
+    must_hold(&rt, store.faults.count == 1, "a fault");
+    let is_link = fs::symlink_metadata(&rt, "loop")?.is_symlink();
+    must_hold(&rt, is_link, "the link is there");
+    must_hold(&rt, !fs::exists(&rt, "loop.new0")?, "no file is left");
     Ok(())
 }
 
