@@ -1,1 +1,4 @@
+pub mod FileStore
+pub mod InputSource
+pub mod OutputSink
 pub mod Reading

@@ -25,10 +25,12 @@ pub struct FileStore<'a, R: Files> {
 }
 
 impl<'a, R: Files> FileStore<'a, R> {
+    ghost use Rattle.file_ports.specs.FileStore.{fault_count, calls_of};
+
     /// The files that the runtime reaches, with no call and no failure yet.
     pub fn new(rt: &'a R) -> Self
-        ensures faults { result.faults.count ≡ 0 }
-        ensures calls { result.calls ≡ no_calls }
+        ensures faults { fault_count result ≡ 0 }
+        ensures calls { calls_of result ≡ no_calls }
     {
         FileStore {
             rt,
@@ -39,11 +41,13 @@ impl<'a, R: Files> FileStore<'a, R> {
 }
 
 impl<'a, R: Files> ImageStore for FileStore<'a, R> {
+    ghost use Rattle.file_ports.specs.FileStore.{fault_count, calls_of};
+
     ghost contents = { λ _. None };
 
-    ghost faults = { λ s. s.faults.count };
+    ghost faults = { fault_count };
 
-    ghost calls = { λ s. s.calls };
+    ghost calls = { calls_of };
 
     ghost faults_fit = { λ s. s.faults.fits };
 

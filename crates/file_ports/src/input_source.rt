@@ -14,8 +14,10 @@ pub struct InputSource<R: Read> {
 }
 
 impl<R: Read> InputSource<R> {
+    ghost use Rattle.file_ports.specs.InputSource.{fault_count};
+
     pub fn new(reader: R) -> Self
-        ensures { result.faults.count ≡ 0 }
+        ensures { fault_count result ≡ 0 }
     {
         InputSource {
             reader,
@@ -25,9 +27,11 @@ impl<R: Read> InputSource<R> {
 }
 
 impl<R: Read> Source for InputSource<R> {
+    ghost use Rattle.file_ports.specs.InputSource.{fault_count};
+
     ghost left = { λ _. None };
 
-    ghost faults = { λ s. s.faults.count };
+    ghost faults = { fault_count };
 
     ghost faults_fit = { λ s. s.faults.fits };
 

@@ -13,8 +13,10 @@ pub struct OutputSink<W: Write> {
 }
 
 impl<W: Write> OutputSink<W> {
+    ghost use Rattle.file_ports.specs.OutputSink.{fault_count};
+
     pub fn new(writer: W) -> Self
-        ensures { result.faults.count ≡ 0 }
+        ensures { fault_count result ≡ 0 }
     {
         OutputSink {
             writer,
@@ -24,9 +26,11 @@ impl<W: Write> OutputSink<W> {
 }
 
 impl<W: Write> Sink for OutputSink<W> {
+    ghost use Rattle.file_ports.specs.OutputSink.{fault_count};
+
     ghost taken = { λ _. None };
 
-    ghost faults = { λ s. s.faults.count };
+    ghost faults = { fault_count };
 
     ghost faults_fit = { λ s. s.faults.fits };
 
