@@ -196,7 +196,8 @@ impl<C: Chance> Arena<C> {
         requires open { IsOpen (parts_of self.old).capacity (parts_of self.old).words }
         requires superblock { d < (parts_of self.old).capacity }
         requires caches { length (parts_of self.old).caches ≡ lists }
-        requires sizes { length (parts_of self.old).blocks.words.items ≡ (parts_of self.old).capacity }
+        requires sizes { length (parts_of self.old).blocks.words.items
+            ≡ (parts_of self.old).capacity }
         requires none { (mark : ℕ) → IsMarked (parts_of self.old).blocks.marks.items mark
             → mark / superblock_marks ≢ d }
         ensures ok { OnOk result (Cuts class.number d (parts_of self.old) (parts_of self.new)) }

@@ -34,7 +34,8 @@ impl<C: Chance> Medium<C> {
             (medium_view self.old) (medium_view self.new)) }
         ensures others { StoresOnly (λ word. word ≡ used_word)
             (medium_view self.old) (medium_view self.new) }
-        ensures crash { MayLeaveStore used_word (volatile_at (medium_view self.old) used_word + count)
+        ensures crash { MayLeaveStore used_word
+            (volatile_at (medium_view self.old) used_word + count)
             (medium_view self.old) (medium_view self.new) }
         ensures fits { UsedFits geometry.capacity (medium_view self.old)
             → UsedFits geometry.capacity (medium_view self.new) }

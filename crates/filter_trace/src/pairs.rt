@@ -65,8 +65,10 @@ impl PairSet {
     pub fn holds(&self, block: Block) -> bool
         requires here { block.first_word * self.now.kinds + self.now.kinds ≤ length self.now.marks }
         requires short { length self.now.marks < 2 ^ 64 }
-        ensures some { IsTrue result → (kind : ℕ) × (kind < self.now.kinds) × IsMarked self.now block kind }
-        ensures each { (kind : ℕ) → kind < self.now.kinds → IsMarked self.now block kind → IsTrue result }
+        ensures some { IsTrue result → (kind : ℕ) × (kind < self.now.kinds)
+            × IsMarked self.now block kind }
+        ensures each { (kind : ℕ) → kind < self.now.kinds → IsMarked self.now block kind
+            → IsTrue result }
     {
         for kind in 0..self.kinds {
             if self.has(block, kind) {

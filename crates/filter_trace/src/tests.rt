@@ -63,7 +63,8 @@ fn node_link(block: &[u64], at: usize) -> Option<(usize, u32)>
 
 /// An image of one superblock, which is taken, and 0 elsewhere.
 fn empty(alloc: Global) -> Result<Vec<u64>, AllocError>
-    ensures { IfOk result (λ image. IsWellFormed (8 * length image.items) (slice_index image.items)) }
+    ensures { IfOk result (λ image. IsWellFormed (8 * length image.items)
+        (slice_index image.items)) }
 {
     let mut image = vec![in alloc; 0; 9_264]?;
     image[MAGIC_WORD as usize] = MAGIC;
@@ -76,7 +77,8 @@ fn empty(alloc: Global) -> Result<Vec<u64>, AllocError>
 
 /// Writes words behind the header.
 fn write(image: &mut [u64], words: &[(usize, u64)])
-    ensures { IsWellFormed (8 * length image.old) (slice_index image.old) → IsWellFormed (8 * length image.new) (slice_index image.new) }
+    ensures { IsWellFormed (8 * length image.old) (slice_index image.old)
+        → IsWellFormed (8 * length image.new) (slice_index image.new) }
 {
     for (at, value) in words {
         if ROOT_WORD as usize <= *at && *at < image.len() {

@@ -25,9 +25,12 @@ pub fn trace<F: Filter>(
     requires formed { IsWellFormed (8 * length words.now) (slice_index words.now) }
     requires roots { length kinds.now ≡ roots }
     requires kinds { All (λ kind. kind < F.KINDS) kinds.now }
-    ensures ok { IfOk result (AreReached (slice_index words.now) (slice_index kinds.now) (F.links_of filter.now)) }
-    ensures none { OnOk result ((at : ℕ) → IsOutside (slice_index words.now) (slice_index kinds.now) (F.links_of filter.now) at → ⊥) }
-    ensures err { IfErr result (TellsOutside (slice_index words.now) (slice_index kinds.now) (F.links_of filter.now)) }
+    ensures ok { IfOk result (AreReached (slice_index words.now) (slice_index kinds.now)
+        (F.links_of filter.now)) }
+    ensures none { OnOk result ((at : ℕ) → IsOutside (slice_index words.now)
+        (slice_index kinds.now) (F.links_of filter.now) at → ⊥) }
+    ensures err { IfErr result (TellsOutside (slice_index words.now) (slice_index kinds.now)
+        (F.links_of filter.now)) }
 {
     let directory = Directory::of(alloc, words)?;
     let mut found = PairSet::new(alloc, words.len(), F::KINDS)?;

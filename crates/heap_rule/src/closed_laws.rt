@@ -23,7 +23,8 @@ pub fn a_closed_heap_has_the_recorded_words()
 pub fn a_closed_heap_has_the_opened_header()
     ensures fixed { (k : Setup) (now kept : List ℕ) (views : List View)
         → IsClosedSound k now kept views
-        → (image : Image) → Mixes (slice_index now) (slice_index kept) image → HasFixedWords k image }
+        → (image : Image) → Mixes (slice_index now) (slice_index kept) image
+        → HasFixedWords k image }
     ensures header { (k : Setup) (now kept : List ℕ) (views : List View)
         → IsClosedSound k now kept views
         → IsWellFormed (8 * length k.opened) (slice_index k.opened)

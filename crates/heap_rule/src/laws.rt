@@ -24,7 +24,8 @@ ghost use Rattle.heap_rule.specs.Shown.{Shows};
 pub fn a_step_tells_of_the_heap()
     ensures firm { (event : Event) (v w : View) (found : ℕ) (e : IsEvent event v found w)
         → IsFirm v.setup.capacity e.before.words e.before.views }
-    ensures draw { (shift : Option Shift) (v w : View) (ticket : ℕ) → IsEvent (Tick shift) v ticket w
+    ensures draw { (shift : Option Shift) (v w : View) (ticket : ℕ)
+        → IsEvent (Tick shift) v ticket w
         → w.stopped ≡ None → (w.ticket ≡ Some ticket) × (ticket < v.setup.budget)
         × (v.draws ≤ ticket) × (w.draws ≡ v.draws + 1) }
     ensures stop { (shift : Option Shift) (v w : View) (ticket step : ℕ)

@@ -32,5 +32,6 @@ impl Model for Seat {
       marks = a.pending;
     } };
 
-    ghost invariant = { λ a. IsWholeSeat a.bare.me a.notes a.owned a.pending a.geometry.capacity a.budget };
+    ghost invariant = { λ a.
+        IsWholeSeat a.bare.me a.notes a.owned a.pending a.geometry.capacity a.budget };
 }

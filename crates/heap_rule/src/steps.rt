@@ -21,7 +21,8 @@ pub(crate) fn read(shared: &Shared, bare: &mut Bare, place: u64) -> u64
     requires inside { place < table_length (view_in bare.old.me.0).setup.capacity }
     ensures same { bare.new.me ≡ bare.old.me }
     ensures table { bare.new.table_id ≡ bare.old.table_id }
-    ensures found { (s : HasSoundState (view_in bare.old.me.0)) × (result ≡ get_or s.words place 0) }
+    ensures found { (s : HasSoundState (view_in bare.old.me.0))
+        × (result ≡ get_or s.words place 0) }
 {
     read_as(&shared.table.shared, bare, place as usize)
 }
@@ -105,7 +106,8 @@ pub(crate) fn store(shared: &Shared, bare: &mut Bare, place: u64, value: u64, ev
         (place_of (view_in bare.old.me.0) event) }
     requires store { IsStore event (view_in bare.old.me.0) value }
     ensures at { IsAt shared.now bare.new.table_id bare.new.me (view_in bare.new.me.0) }
-    ensures event { (found : ℕ) × IsEvent event (view_in bare.old.me.0) found (view_in bare.new.me.0) }
+    ensures event { (found : ℕ) × IsEvent event (view_in bare.old.me.0) found
+        (view_in bare.new.me.0) }
 {
     store_as::<Brand>(&shared.table.shared, bare, place as usize, value, event);
 }

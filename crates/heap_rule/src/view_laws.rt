@@ -15,7 +15,8 @@ ghost use Rattle.heap_rule.specs.Shown.{Shows, ShowsDurable};
 /// no block of the seat begins in it; each of its words may be stored to.
 pub fn a_superblock_without_a_class_is_the_seats_alone()
     ensures once { (v : View) → HasSoundState v → (d : ℕ) → times_raw d v ≤ 1 }
-    ensures inside { (v : View) → HasSoundState v → (d : ℕ) → 0 < times_raw d v → d < v.setup.capacity }
+    ensures inside { (v : View) → HasSoundState v → (d : ℕ) → 0 < times_raw d v
+        → d < v.setup.capacity }
     ensures blank { (v : View) → HasSoundState v → (word : ℕ)
         → 0 < times_raw (superblock_at v.setup.capacity word) v → MayChangeWord v word }
     ensures no_block { (v : View) → HasSoundState v → (word : ℕ)
@@ -24,8 +25,10 @@ pub fn a_superblock_without_a_class_is_the_seats_alone()
 
 /// A seat has room to record each word of the image.
 pub fn a_view_records_each_word()
-    ensures volatile { (v : View) → HasSoundState v → length v.volatile ≡ image_words v.setup.capacity }
-    ensures durable { (v : View) → HasSoundState v → length v.durable ≡ image_words v.setup.capacity }
+    ensures volatile { (v : View) → HasSoundState v
+        → length v.volatile ≡ image_words v.setup.capacity }
+    ensures durable { (v : View) → HasSoundState v
+        → length v.durable ≡ image_words v.setup.capacity }
 {}
 
 /// What was stored to an own word, or loaded of it, is recorded, and what was recorded of it before

@@ -15,7 +15,8 @@ ghost use Rattle.heap_shape.specs.Draining.{IsDrainable, IsToDrain};
 /// held block has a part is in the free list, and what is to be drained of a class is exactly what
 /// the image that was recovered had to give.
 pub fn what_recovery_leaves_is_drainable()
-    ensures drainable { (old new : Image) (kinds : ℕ → ℕ) (links : Links) (held : List Block) (class : ℕ)
+    ensures drainable { (old new : Image) (kinds : ℕ → ℕ) (links : Links)
+        (held : List Block) (class : ℕ)
         → IsRecovered old new (IsReached old kinds links)
         → ((b : Block) → Contains held b ↔ IsReached old kinds links b)
         → capacity_of old ≤ largest_capacity

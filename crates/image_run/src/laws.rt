@@ -15,7 +15,8 @@ pub fn a_run_over_what_recovery_leaves_is_one_over_the_image()
     ensures { (image words : Image) (maps : List (BTreeMap ℕ (List ℕ)))
         → RecoversTo image words → AreMaps words shards maps
         → (requests : List Request) (options : Options) (put text : List ℕ)
-        → RunsRequests words requests options put text → RunsRequests image requests options put text }
+        → RunsRequests words requests options put text
+        → RunsRequests image requests options put text }
 {}
 
 /// What a run over an image whose shards are maps puts is accepted by the next run: its bytes are

@@ -24,7 +24,8 @@ pub trait LineMemory {
     /// What loads see of the word.
     fn load(&mut self, word: u64) -> Result<u64, Stopped>
         requires { word < word_count (view self.old) }
-        ensures ok { IfOk result (λ value. Takes (IsLoad word value) (view self.old) (view self.new)) }
+        ensures ok { IfOk result (λ value. Takes (IsLoad word value) (view self.old)
+            (view self.new)) }
         ensures stopped { IfErr result (λ e. Refuses e.step (view self.old) (view self.new)) };
 
     /// Changes what loads see of the word. A crash may still leave its old value.

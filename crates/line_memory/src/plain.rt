@@ -63,7 +63,8 @@ impl<C: Chance> LineMemory for PlainMemory<C> {
 
     fn load(&mut self, word: u64) -> Result<u64, Stopped>
         requires { word < word_count (view_of self.old) }
-        ensures ok { IfOk result (λ value. PlainTakes C.draw_gives (IsLoad word value) self.old self.new) }
+        ensures ok { IfOk result (λ value. PlainTakes C.draw_gives (IsLoad word value)
+            self.old self.new) }
         ensures stopped { IfErr result (λ e. PlainRefuses C.draw_gives e.step self.old self.new) }
         ensures unchanged { IsSome (view_of self.old).stopped → self.new ≡ self.old }
     {

@@ -41,7 +41,8 @@ impl Origins {
 
     /// Whether another root than this one reaches the block, as one of any kind.
     pub fn is_reached_beside(&self, block: Block, root: u16) -> bool
-        requires { block.first_word * self.now.kinds + self.now.kinds ≤ length self.now.labels.items }
+        requires { block.first_word * self.now.kinds + self.now.kinds
+            ≤ length self.now.labels.items }
         ensures { (image : Image) (kinds : ℕ → ℕ) (links : Links)
             → AreOrigins image kinds links self.now → IsBlock (layout_of image) block
             → IsTrue result ↔ IsReachedBeside image kinds links root block }

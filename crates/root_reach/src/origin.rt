@@ -63,7 +63,8 @@ impl Origin {
 
     /// Whether another root than this one is told.
     pub fn is_beside(told: Option<Origin>, root: u16) -> bool
-        ensures yes { IsTrue result → (origin : Origin) × (told ≡ Some origin) × (origin ≢ One root) }
+        ensures yes { IsTrue result → (origin : Origin) × (told ≡ Some origin)
+            × (origin ≢ One root) }
         ensures no { result ≡ false → (origin : Origin) → told ≡ Some origin → origin ≡ One root }
     {
         match told {

@@ -51,7 +51,8 @@ pub fn follow_roots<F: Filter>(
     _filter: &F,
     found: &mut Labelling,
 ) -> Result<(), AllocError>
-    requires formed { IsWellFormed (8 * length scan.now.words.now) (slice_index scan.now.words.now) }
+    requires formed { IsWellFormed (8 * length scan.now.words.now)
+        (slice_index scan.now.words.now) }
     requires described { Describes scan.now.directory.now
         (layout_of (slice_index scan.now.words.now)) }
     requires roots { length kinds.now ≡ roots }
@@ -87,7 +88,8 @@ pub fn follow_links<F: Filter>(
     finding: Finding,
     found: &mut Labelling,
 ) -> Result<(), AllocError>
-    requires formed { IsWellFormed (8 * length scan.now.words.now) (slice_index scan.now.words.now) }
+    requires formed { IsWellFormed (8 * length scan.now.words.now)
+        (slice_index scan.now.words.now) }
     requires described { Describes scan.now.directory.now
         (layout_of (slice_index scan.now.words.now)) }
     requires kinds { found.old.origins.kinds ≡ F.KINDS }

@@ -24,7 +24,8 @@ pub fn trace_origins<F: Filter>(
     kinds: &[u32],
     filter: &F,
 ) -> Result<Origins, AllocError>
-    requires formed { IsWellFormed (8 * length scan.now.words.now) (slice_index scan.now.words.now) }
+    requires formed { IsWellFormed (8 * length scan.now.words.now)
+        (slice_index scan.now.words.now) }
     requires described { Describes scan.now.directory.now
         (layout_of (slice_index scan.now.words.now)) }
     requires roots { length kinds.now ≡ roots }

@@ -36,7 +36,8 @@ impl Directory {
     /// The directory of the image, whose header is well formed. One pass over the descriptors.
     pub fn of(alloc: Global, words: &[u64]) -> Result<Directory, AllocError>
         requires { IsWellFormed (8 * length words.now) (slice_index words.now) }
-        ensures ok { IfOk result (λ directory. Describes directory (layout_of (slice_index words.now))) }
+        ensures ok { IfOk result (λ directory.
+            Describes directory (layout_of (slice_index words.now))) }
     {
         let used = words[USED_WORD as usize];
         let mut divisions = Vec::with_capacity(alloc, used as usize)?;
@@ -52,7 +53,8 @@ impl Directory {
     /// The block that the byte offset names, or `None` where it names nothing.
     pub fn name(&self, offset: u64) -> Option<Block>
         ensures some { (l : Layout) → Describes self.now l → IfSome result (NamesIn l offset) }
-        ensures none { (l : Layout) → Describes self.now l → IfNone result ((b : Block) → NamesIn l offset b → ⊥) }
+        ensures none { (l : Layout) → Describes self.now l
+            → IfNone result ((b : Block) → NamesIn l offset b → ⊥) }
     {
         let Some(place) = place_of(self.capacity, offset) else {
             return None;

@@ -36,5 +36,6 @@ pub fn constants_agree()
     ensures superblock { SUPERBLOCK_WORDS ≡ superblock_words }
     ensures large_info { (count : ℕ) → LARGE_INFO + LARGE_STEP * count ≡ large_info count }
     ensures last_class { (class : ℕ) → IsClass class ↔ ((1 ≤ class) × (class ≤ LAST_CLASS)) }
-    ensures start { (capacity d : ℕ) → info_word capacity + SUPERBLOCK_WORDS * d ≡ start_word capacity d }
+    ensures start { (capacity d : ℕ) → info_word capacity + SUPERBLOCK_WORDS * d
+        ≡ start_word capacity d }
 {}

@@ -48,7 +48,8 @@ pub fn name(words: &[u64], offset: u64) -> Option<Block>
 pub(crate) fn place_of(capacity: u64, offset: u64) -> Option<Place>
     requires { capacity ≤ largest_capacity }
     ensures some { IfSome result (IsPlaceOf capacity offset) }
-    ensures none { IfNone result ((d within : ℕ) → offset ≡ 8 * (start_word capacity d + within) → ⊥) }
+    ensures none { IfNone result ((d within : ℕ)
+        → offset ≡ 8 * (start_word capacity d + within) → ⊥) }
 {
     let start = FIXED_WORDS + DESCRIPTOR_WORDS * capacity;
     let word = offset / WORD_BYTES;
@@ -109,7 +110,8 @@ mod tests {
 
     /// An image of two superblocks that have been taken, of these infos, and 0 elsewhere.
     fn two_superblocks(alloc: Global, infos: [u64; 2]) -> Result<Vec<u64>, AllocError>
-        ensures { IfOk result (λ words. IsWellFormed (8 * length words.items) (slice_index words.items)) }
+        ensures { IfOk result (λ words. IsWellFormed (8 * length words.items)
+            (slice_index words.items)) }
     {
         let mut words = vec![in alloc; 0; 17_464]?;
         words[MAGIC_WORD as usize] = MAGIC;

@@ -44,7 +44,8 @@ pub fn make<R, I: ImageStore, T: Source, G: Gate + Sync, C: Chances>(
     ensures ok { IfOk result (λ product. Makes (command_of command.entry) (I.contents images.old)
         (T.left trace.old) product.image product.text) }
     ensures err { IfErr result (RefusesEither (command_of command.entry)
-        (I.contents images.old) (T.left trace.old) (Rose (I.faults images.old) (I.faults images.new))
+        (I.contents images.old) (T.left trace.old)
+        (Rose (I.faults images.old) (I.faults images.new))
         (Rose (T.faults trace.old) (T.faults trace.new))) }
     ensures unread { IfErr result (λ fault. IsBeforeReading (command_of command.entry) fault
         → trace.new ≡ trace.old) }

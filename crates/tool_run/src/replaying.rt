@@ -33,7 +33,8 @@ pub fn replay_named<I: ImageStore, T: Source, C: Chances>(
         × ReplaysNamed (I.contents images.old) (T.left source.old) name.now product.text) }
     ensures end { OnOk result (IsAtEnd (T.left source.new)) }
     ensures err { IfErr result (RefusesEither (replay_image name.now seed)
-        (I.contents images.old) (T.left source.old) (Rose (I.faults images.old) (I.faults images.new))
+        (I.contents images.old) (T.left source.old)
+        (Rose (I.faults images.old) (I.faults images.new))
         (Rose (T.faults source.old) (T.faults source.new))) }
     ensures unread { IfErr result (λ fault. IsBeforeReading (replay_image name.now seed) fault
         → source.new ≡ source.old) }

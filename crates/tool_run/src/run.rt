@@ -61,15 +61,19 @@ pub fn run_tool<R, I: ImageStore, T: Source, O: Sink, G: Gate + Sync, C: Chances
         (λ line. Tells line (O.faults out.old) (O.faults out.new)
         (O.taken out.old) (O.taken out.new)) }
     ensures cause { result ≡ bad_header → IsBadHeader (texts words.now) (I.contents images.old)
-        (λ line. Tells line (O.faults out.old) (O.faults out.new) (O.taken out.old) (O.taken out.new)) }
+        (λ line. Tells line (O.faults out.old) (O.faults out.new)
+        (O.taken out.old) (O.taken out.new)) }
     ensures outside { result ≡ outside → IsOutsideAt (texts words.now) (I.contents images.old)
         (T.left trace.old)
-        (λ line. Tells line (O.faults out.old) (O.faults out.new) (O.taken out.old) (O.taken out.new)) }
+        (λ line. Tells line (O.faults out.old) (O.faults out.new)
+        (O.taken out.old) (O.taken out.new)) }
     ensures bad_shard { result ≡ bad_shard → IsBadShardAt (texts words.now) (I.contents images.old)
-        (λ line. Tells line (O.faults out.old) (O.faults out.new) (O.taken out.old) (O.taken out.new)) }
+        (λ line. Tells line (O.faults out.old) (O.faults out.new)
+        (O.taken out.old) (O.taken out.new)) }
     ensures bad_trace { result ≡ bad_trace → IsBadTrace (texts words.now) (I.contents images.old)
         (T.left trace.old)
-        (λ line. Tells line (O.faults out.old) (O.faults out.new) (O.taken out.old) (O.taken out.new)) }
+        (λ line. Tells line (O.faults out.old) (O.faults out.new)
+        (O.taken out.old) (O.taken out.new)) }
     ensures line { IfSome (own_line result)
         (λ line. Tells line (O.faults out.old) (O.faults out.new)
         (O.taken out.old) (O.taken out.new)) }
@@ -101,7 +105,8 @@ pub fn run_tool<R, I: ImageStore, T: Source, O: Sink, G: Gate + Sync, C: Chances
     ensures get_or_none { (name : List ℕ) → AsksToGet (texts words.now) name
         → result ≡ out_of_memory → (I.calls images.new ≡ I.calls images.old)
         ⊎ (I.calls images.new ≡ with_get get_limit (I.calls images.old)) }
-    ensures one_put { (image : List ℕ) (capacity : ℕ) → AsksToFormat (texts words.now) image capacity
+    ensures one_put { (image : List ℕ) (capacity : ℕ)
+        → AsksToFormat (texts words.now) image capacity
         → result ≢ out_of_memory → I.calls images.new ≡ with_put (I.calls images.old) }
     ensures no_put { (image : List ℕ) (capacity : ℕ) → AsksToFormat (texts words.now) image capacity
         → result ≡ out_of_memory → I.calls images.new ≡ I.calls images.old }

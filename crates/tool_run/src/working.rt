@@ -41,9 +41,11 @@ pub fn work_named<R, I: ImageStore, T: Source, G: Gate + Sync, C: Chances>(
         name.now (options_of options) product.image product.text) }
     ensures end { OnOk result (IsAtEnd (T.left trace.new)) }
     ensures err { IfErr result (RefusesEither (run_image name.now (options_of options))
-        (I.contents images.old) (T.left trace.old) (Rose (I.faults images.old) (I.faults images.new))
+        (I.contents images.old) (T.left trace.old)
+        (Rose (I.faults images.old) (I.faults images.new))
         (Rose (T.faults trace.old) (T.faults trace.new))) }
-    ensures unread { IfErr result (λ fault. IsBeforeReading (run_image name.now (options_of options))
+    ensures unread { IfErr result (λ fault.
+        IsBeforeReading (run_image name.now (options_of options))
         fault → trace.new ≡ trace.old) }
     ensures image_first { (at : ℕ) → HoldsOutside (I.contents images.old) name.now at
         → trace.new ≡ trace.old }

@@ -41,7 +41,8 @@ pub fn each_held_block_is_told()
 /// free ones.
 pub fn each_use_is_told()
     ensures { (words : List ℕ) (held : List Block) (free : List ℕ) (d : ℕ) → IsReady words held
-        → AreAscending (λ e. e) (IsFreeSuperblock (layout_of (slice_index words)) (Contains held)) free
+        → AreAscending (λ e. e)
+        (IsFreeSuperblock (layout_of (slice_index words)) (Contains held)) free
         → d < used_of (slice_index words)
         → IsUse (slice_index words) held d (use_of (slice_index words) held free d) }
 {}

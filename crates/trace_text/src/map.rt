@@ -92,7 +92,8 @@ fn write_class_line(
     requires superblock { d < geometry.capacity }
     requires in_order { AreInOrder held.now }
     ensures ok { OnOk result (string_bytes text.new
-        ≡ string_bytes text.old ++ line_of d (class_use geometry.capacity class.number held.now d)) }
+        ≡ string_bytes text.old ++ line_of d
+        (class_use geometry.capacity class.number held.now d)) }
 {
     let alloc = *text.allocator();
     let indexes = indexes_in(alloc, geometry, class, held, d)?;
