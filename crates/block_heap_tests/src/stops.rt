@@ -92,11 +92,11 @@ store 9 383 90
 load 7 127 70
 alloc 500
 store 8 1 81
-alloc 14336
+alloc 14000
 write-back 9 383
 free 7
 free 9
-alloc 65536
+alloc 60000
 load 8 1 81
 fence
 free 8";
