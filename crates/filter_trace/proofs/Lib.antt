@@ -3,4 +3,3 @@ pub mod PairLemmas
 pub mod StepLemmas
 pub mod TraceLemmas
 mod MarksLemmas
-mod TestLemmas

@@ -1,6 +1,5 @@
 pub mod Bits
 pub mod Pairs
-pub mod Tables
 pub mod Reached
 pub mod Trace
 pub mod Steps

@@ -14,6 +14,3 @@ pub use filter::Filter;
 pub use marks::Marks;
 pub use scan::{Scan, Target};
 pub use worklist::trace;
-
-#[cfg(test)]
-mod tests;

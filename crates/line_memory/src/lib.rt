@@ -16,6 +16,3 @@ pub use memory::{LineMemory, Stopped, only_stores_add, persist};
 pub use pending::Pending;
 pub use plain::PlainMemory;
 pub use recent::RecentStores;
-
-#[cfg(test)]
-mod tests;

@@ -13,6 +13,3 @@ pub use conversions::{bytes_to_words, words_to_bytes};
 pub use empty::format;
 pub use heap_model::BadHeader;
 pub use laws::conversions_are_inverse;
-
-#[cfg(test)]
-mod tests;

@@ -2,7 +2,7 @@
 ghost use Rattle.std.specs.Prelude.{◌≡◌, ℕ};
 ghost use Rattle.line_memory.specs.View.{word_count};
 
-use crate::{Chance, ConstantChance, LineMemory, PlainMemory, Stopped, persist};
+use line_memory::{Chance, ConstantChance, LineMemory, PlainMemory, Stopped, persist};
 use std::alloc::{AllocError, Global};
 use std::process::Abort;
 use std::test::Fail;

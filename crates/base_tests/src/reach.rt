@@ -1,19 +1,14 @@
-#![tactic(auto, unfolding(heap_model::specs::Geometry::largest_capacity))]
-
-ghost use Rattle.std.specs.Prelude.{◌≡◌, ◌<◌, ◌*◌, length, slice_index, slice_get, IfOk};
+//! What roots reach, through the links that a filter lists.
+ghost use Rattle.std.specs.Prelude.{◌≡◌, ◌<◌, length, slice_get, IfOk};
 ghost use Rattle.std.specs.List.{All};
 ghost use Rattle.heap_model.specs.Geometry.{roots};
-ghost use Rattle.heap_model.specs.Header.{IsWellFormed};
-ghost use Rattle.filter_trace.specs.Tables.{each_link, node_links};
+ghost use Rattle.base_tests.specs.Tables.{each_link, node_links};
 
-use super::*;
+use crate::images::taken_image;
+use filter_trace::{Filter, Marks, TraceFault, trace};
 use heap_model::Block;
 use std::alloc::{AllocError, Global};
 use std::test::Fail;
-use super_block::{
-    CAPACITY_WORD, CLEAN, MAGIC, MAGIC_WORD, ROOT_WORD, STATE_WORD, USED_WORD, VERSION,
-    VERSION_WORD,
-};
 
 /// A block of kind 0 has no links, a table (1) links each of its words to a node (2), and a node
 /// its first word to a node.
@@ -22,7 +17,7 @@ struct Tables;
 impl Filter for Tables {
     const KINDS: u32 = 3;
 
-    ghost use Rattle.filter_trace.specs.Tables.{table_links, table_links-inside, table_links-few};
+    ghost use Rattle.base_tests.specs.Tables.{table_links, table_links-inside, table_links-few};
 
     ghost KINDS = { 3 };
 
@@ -61,32 +56,6 @@ fn node_link(block: &[u64], at: usize) -> Option<(usize, u32)>
     }
 }
 
-/// An image of one superblock, which is taken, and 0 elsewhere.
-fn empty(alloc: Global) -> Result<Vec<u64>, AllocError>
-    ensures { IfOk result (λ image. IsWellFormed (8 * length image.items)
-        (slice_index image.items)) }
-{
-    let mut image = vec![in alloc; 0; 9_264]?;
-    image[MAGIC_WORD as usize] = MAGIC;
-    image[VERSION_WORD as usize] = VERSION;
-    image[CAPACITY_WORD as usize] = 1;
-    image[STATE_WORD as usize] = CLEAN;
-    image[USED_WORD as usize] = 1;
-    Ok(image)
-}
-
-/// Writes words behind the header.
-fn write(image: &mut [u64], words: &[(usize, u64)])
-    ensures { IsWellFormed (8 * length image.old) (slice_index image.old)
-        → IsWellFormed (8 * length image.new) (slice_index image.new) }
-{
-    for (at, value) in words {
-        if ROOT_WORD as usize <= *at && *at < image.len() {
-            image[*at] = *value;
-        }
-    }
-}
-
 /// The kinds of the roots: 0 but for the first two.
 fn kinds(alloc: Global, first: u32, second: u32) -> Result<Vec<u32>, AllocError>
     requires first { first < 3 }
@@ -100,20 +69,39 @@ fn kinds(alloc: Global, first: u32, second: u32) -> Result<Vec<u32>, AllocError>
     Ok(kinds)
 }
 
-/// What the two roots reach in the image with these words.
-fn traced(
+/// What the two roots reach in the image of one superblock with these words.
+fn traced(alloc: Global, words: &[(usize, u64)], first: u32, second: u32) -> Result<Marks, Fail>
+    requires first { first < 3 }
+    requires second { second < 3 }
+{
+    Ok(try_trace(alloc, words, first, second)??)
+}
+
+/// Why such a trace failed.
+fn fault_of(
     alloc: Global,
     words: &[(usize, u64)],
     first: u32,
     second: u32,
-) -> Result<Marks, TraceFault>
+) -> Result<Option<TraceFault>, Fail>
     requires first { first < 3 }
     requires second { second < 3 }
 {
-    let mut image = empty(alloc)?;
-    write(&mut image, words);
+    Ok(try_trace(alloc, words, first, second)?.err())
+}
+
+fn try_trace(
+    alloc: Global,
+    words: &[(usize, u64)],
+    first: u32,
+    second: u32,
+) -> Result<Result<Marks, TraceFault>, Fail>
+    requires first { first < 3 }
+    requires second { second < 3 }
+{
+    let image = taken_image(alloc, 1, words)?;
     let kinds = kinds(alloc, first, second)?;
-    trace(alloc, &image, &kinds, &Tables)
+    Ok(trace(alloc, &image, &kinds, &Tables))
 }
 
 // Three blocks of class 2, and pointers to them.
@@ -218,7 +206,7 @@ fn a_link_of_a_table_that_is_no_pointer_is_outside(rt: HostRuntime) -> Result<()
         value: 5,
     };
     let words = [(1_064, 12), (40, TO_A), (1_075, 5)];
-    assert_eq!(rt; traced(rt.alloc(), &words, 1, 0).err(), Some(fault));
+    assert_eq!(rt; fault_of(rt.alloc(), &words, 1, 0)?, Some(fault));
     let marks = traced(rt.alloc(), &words, 0, 0)?;
     assert_eq!(rt; kinds_of(&marks, table), [true, false, false]);
     Ok(())
@@ -247,7 +235,7 @@ fn cycles_and_shared_blocks_are_followed_once(rt: HostRuntime) -> Result<(), Fai
 }
 
 #[test]
-fn an_outside_word_deep_in_a_chain_is_told(rt: HostRuntime) {
+fn an_outside_word_deep_in_a_chain_is_told(rt: HostRuntime) -> Result<(), Fail> {
     for value in [7, 0x5250_0000_0000_2188, 0x5251_0000_0000_2180] {
         let words = [
             CLASS_2,
@@ -257,8 +245,9 @@ fn an_outside_word_deep_in_a_chain_is_told(rt: HostRuntime) {
             (1_080, value),
         ];
         let fault = TraceFault::Outside { at: 1_080, value };
-        assert_eq!(rt; traced(rt.alloc(), &words, 2, 0).err(), Some(fault));
+        assert_eq!(rt; fault_of(rt.alloc(), &words, 2, 0)?, Some(fault));
     }
+    Ok(())
 }
 
 #[test]

@@ -1,20 +1,10 @@
-#![tactic(auto, unfolding(heap_model::specs::Geometry::largest_capacity))]
-
-use crate::{BadHeader, Header, bytes_to_words, check_bytes, format, read_header, words_to_bytes};
-use std::alloc::{AllocError, Global};
+//! The header of an image, the image of an empty heap, and images as words and as bytes.
+use crate::images::image_with;
+use region_header::{
+    BadHeader, Header, bytes_to_words, check_bytes, format, read_header, words_to_bytes,
+};
 use std::test::Fail;
 use super_block::{Ready, an_empty_heap_is_ready};
-
-// An empty image of one superblock, with other values in some words.
-fn image_with(alloc: Global, changes: &[(usize, u64)]) -> Result<Vec<u64>, AllocError> {
-    let mut words = format(alloc, 1)?;
-    for (at, value) in changes {
-        if let Some(word) = words.get_mut(*at) {
-            *word = *value;
-        }
-    }
-    Ok(words)
-}
 
 // What the header of an image of one superblock tells.
 fn header(clean: bool, used: u64) -> Result<Header, BadHeader> {
@@ -82,7 +72,7 @@ fn each_cause_is_told_where_it_holds_and_not_beside_it(rt: HostRuntime) -> Resul
         (8, 2, Err(BadHeader::Used)),
         (9, 2, header(true, 0)),
     ] {
-        let words = image_with(rt.alloc(), &[(at, value)])?;
+        let words = image_with(rt.alloc(), 1, &[(at, value)])?;
         let bytes = words_to_bytes(rt.alloc(), &words)?;
         assert_eq!(rt; read_header(&words), want, "word {at} holds {value}");
         assert_eq!(rt;
@@ -101,7 +91,7 @@ fn the_first_cause_is_told(rt: HostRuntime) -> Result<(), Fail> {
         (1, 2, Err(BadHeader::Used)),
         (2, 1, header(false, 1)),
     ] {
-        let words = image_with(rt.alloc(), &[(3, state), (8, used)])?;
+        let words = image_with(rt.alloc(), 1, &[(3, state), (8, used)])?;
         let bytes = words_to_bytes(rt.alloc(), &words)?;
         assert_eq!(rt;
             check_bytes(bytes.as_slice()),

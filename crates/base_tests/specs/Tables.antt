@@ -1,9 +1,7 @@
 -- The links of the tests' filter, as those of a table of chains: a table (1) links each word to a node (2), and a node its first word.
-use Rattle.std.specs.Prelude.{◌≡◌, ℕ, zero, suc, ◌+◌, ◌<◌, ◌^◌, List, [], ◌∷◌, Bool, true, false, cond, nat_eq, map, length, Contains, slice_set, slice_index_or, replicate}
-use Rattle.std.specs.List.{range_with_len, All}
-use Rattle.std.proofs.Common.{arith, ap, sym, ◌∙◌, inl, inr, length-set, get_or-set_same, get_or-set_other}
-use Rattle.std.proofs.lemmas.Bool.{cases_eq}
-use Rattle.std.proofs.lemmas.List.{get_or-replicate, length-replicate}
+use Rattle.std.specs.Prelude.{◌≡◌, ℕ, zero, suc, ◌+◌, ◌<◌, ◌^◌, List, [], ◌∷◌, Bool, true, false, cond, nat_eq, map, length, Contains}
+use Rattle.std.specs.List.{range_with_len}
+use Rattle.std.proofs.Common.{arith, ap, sym, ◌∙◌}
 use Rattle.std.proofs.lemmas.List.FromFn.{length-map-range_with_len, get_or-map-range_with_len}
 use Rattle.heap_model.specs.Reach.{Links, AreInside}
 
@@ -65,15 +63,3 @@ cases_few false false words = omega arith
 
 pub table_links-few : (kind : ℕ) (words : List ℕ) → length words < 2 ^ 32 → length (table_links kind words) < 2 ^ 64
 table_links-few kind words short = let few = cases_few (nat_eq kind 1) (nat_eq kind 2) words in omega arith
-
--- a list of small numbers stays one
-pub small_set : (xs : List ℕ) (i v : ℕ) → All (λ k. k < 3) xs → v < 3 → All (λ k. k < 3) (slice_set xs i v)
-small_set xs i v small below k d inside =
-    let long : length (slice_set xs i v) ≡ length xs = length-set xs i v in
-    elim (cases_eq k i) as (λ _. slice_index_or (slice_set xs i v) k d < 3) [
-      | inl same ↦ rw (same) (let here : i < length xs = omega arith in rw get_or-set_same below)
-      | inr other ↦ rw (get_or-set_other xs i k v d other) (small k d (omega arith))
-    ]
-
-pub small_zeros : (n : ℕ) → All (λ k. k < 3) (replicate n 0)
-small_zeros n k d inside = rw (get_or-replicate n k 0 d (let long = length-replicate n zero in omega arith)) (omega arith)

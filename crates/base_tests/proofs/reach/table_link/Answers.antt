@@ -1,8 +1,8 @@
 use Rattle.std.proofs.Common.{◌<◌, length, sym, ◌∙◌, ap, arith, Some}
 use Rattle.std.proofs.lemmas.Option.{slice_get-get_or, slice_get_past}
 use Rattle.std.proofs.lemmas.List.FromFn.{length-map-range_with_len, get_or-map-range_with_len}
-use Rattle.filter_trace.specs.Tables.{each_link, to_node}
-use Rattle.filter_trace.proofs.tests.table_link.Goals as goal
+use Rattle.base_tests.specs.Tables.{each_link, to_node}
+use Rattle.base_tests.proofs.reach.table_link.Goals as goal
 
 pub returns-then-at-block : goal.returns-then-at-block
 returns-then-at-block c =

@@ -1,0 +1,13 @@
+//! Tests of the crates that all others stand on: tables and packed words, where things stand in an
+//! image, its header, what roots reach, and the memory of lines. The crate is nothing but these, so
+//! that each of those crates is proved once, and not again with its tests.
+#![tactic(auto, unfolding(heap_model::specs::Geometry::largest_capacity))]
+
+#[cfg(test)]
+mod headers;
+#[cfg(test)]
+mod images;
+#[cfg(test)]
+mod plain_memory;
+#[cfg(test)]
+mod reach;
