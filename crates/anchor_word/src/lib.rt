@@ -8,6 +8,3 @@ mod word;
 pub use anchor::{Anchor, EMPTY, FULL, State, give, take_all};
 pub use laws::constants_agree;
 pub use word::{pack, unpack};
-
-#[cfg(test)]
-mod tests;

@@ -4,7 +4,6 @@ use region_header::{
     BadHeader, Header, bytes_to_words, check_bytes, format, read_header, words_to_bytes,
 };
 use std::test::Fail;
-use super_block::{Ready, an_empty_heap_is_ready};
 
 // What the header of an image of one superblock tells.
 fn header(clean: bool, used: u64) -> Result<Header, BadHeader> {
@@ -141,18 +140,5 @@ fn the_lowest_byte_of_a_word_comes_first(rt: HostRuntime) -> Result<(), Fail> {
         bytes_to_words(rt.alloc(), &want)?.as_slice(),
         words.as_slice()
     );
-    Ok(())
-}
-
-#[test]
-fn an_empty_heap_is_made_and_taken_apart(rt: HostRuntime) -> Result<(), Fail> {
-    an_empty_heap_is_ready();
-    let heap = Ready::new(format(rt.alloc(), 1)?, Vec::new(rt.alloc()));
-    assert_eq!(rt; heap.geometry().capacity(), 1);
-    assert_eq!(rt; heap.words().len(), 9_264);
-    assert!(rt; heap.held().is_empty());
-    let (words, held) = heap.into_parts();
-    assert_eq!(rt; words.len(), 9_264);
-    assert!(rt; held.is_empty());
     Ok(())
 }

@@ -4,10 +4,20 @@
 #![tactic(auto, unfolding(heap_model::specs::Geometry::largest_capacity))]
 
 #[cfg(test)]
+mod anchors;
+#[cfg(test)]
 mod headers;
 #[cfg(test)]
 mod images;
 #[cfg(test)]
 mod plain_memory;
 #[cfg(test)]
+mod pointers;
+#[cfg(test)]
 mod reach;
+#[cfg(test)]
+mod roots;
+#[cfg(test)]
+mod size_classes;
+#[cfg(test)]
+mod superblocks;

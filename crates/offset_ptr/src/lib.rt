@@ -4,6 +4,3 @@
 mod pointer;
 
 pub use pointer::{Ptr, decode, encode};
-
-#[cfg(test)]
-mod tests;

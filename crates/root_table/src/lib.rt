@@ -4,6 +4,3 @@
 mod roots;
 
 pub use roots::{root, set_root};
-
-#[cfg(test)]
-mod tests;

@@ -8,6 +8,3 @@ mod span;
 pub use class::{LAST_CLASS, blocks_of, class_of, size_of};
 pub use size_class::SizeClass;
 pub use span::span_of;
-
-#[cfg(test)]
-mod tests;

@@ -69,38 +69,3 @@ impl Geometry {
         FIXED_WORDS + DESCRIPTOR_WORDS * self.capacity + SUPERBLOCK_WORDS * d
     }
 }
-
-#[cfg(test)]
-#[tactic(auto, unfolding(heap_model::specs::Geometry::largest_capacity))]
-mod tests {
-    use super::*;
-    use crate::layout::WORD_BYTES;
-
-    #[test]
-    fn an_image_has_the_length_of_its_capacity(rt: HostRuntime) {
-        for (capacity, words, start_byte) in [
-            (1, 9_264, 8_576),
-            (2, 17_464, 8_640),
-            (4, 33_864, 8_768),
-            (256, 2_100_264, 24_896),
-        ] {
-            assert!(rt; 1 <= capacity && capacity <= 256);
-            let geometry = Geometry::new(capacity);
-            assert_eq!(rt; geometry.length(), words, "at {capacity}");
-            assert_eq!(rt; WORD_BYTES * geometry.start(0), start_byte, "at {capacity}");
-        }
-    }
-
-    #[test]
-    fn a_descriptor_is_one_line_and_a_superblock_8192_words(rt: HostRuntime) {
-        let geometry = Geometry::new(4);
-        assert_eq!(rt; geometry.capacity(), 4);
-        for (d, info, start) in [(0, 1_064, 1_096), (1, 1_072, 9_288), (3, 1_088, 25_672)] {
-            assert!(rt; d < 4);
-            assert_eq!(rt; geometry.info(d), info, "at {d}");
-            assert_eq!(rt; geometry.anchor(d), info + 1, "at {d}");
-            assert_eq!(rt; geometry.link(d), info + 2, "at {d}");
-            assert_eq!(rt; geometry.start(d), start, "at {d}");
-        }
-    }
-}

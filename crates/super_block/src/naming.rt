@@ -1,6 +1,6 @@
 //! Which block a byte offset names.
 
-ghost use Rattle.std.specs.Prelude.{◌≡◌, ◌<◌, ◌≤◌, ◌+◌, ◌*◌, ◌^◌, ℕ, length, slice_index, IfSome, IfNone, IfOk};
+ghost use Rattle.std.specs.Prelude.{◌≡◌, ◌<◌, ◌≤◌, ◌+◌, ◌*◌, ◌^◌, ℕ, length, slice_index, IfSome, IfNone};
 ghost use Rattle.heap_model.specs.declared.block.Block.{Block};
 ghost use Rattle.heap_model.specs.Header.{IsWellFormed, capacity_of, used_of};
 ghost use Rattle.heap_model.specs.Blocks.{Begins, Layout, layout_of, Names, NamesIn};
@@ -96,73 +96,5 @@ pub fn block_at(geometry: &Geometry, d: u64, index: u64, class: SizeClass) -> Bl
     Block {
         first_word: geometry.start(d) + index * words,
         words,
-    }
-}
-
-#[cfg(test)]
-#[tactic(auto, unfolding(heap_model::specs::Geometry::largest_capacity))]
-mod tests {
-    use super::*;
-    use crate::directory::Directory;
-    use crate::layout::{CLEAN, MAGIC, MAGIC_WORD, STATE_WORD, VERSION, VERSION_WORD};
-    use std::alloc::{AllocError, Global};
-    use std::test::Fail;
-
-    /// An image of two superblocks that have been taken, of these infos, and 0 elsewhere.
-    fn two_superblocks(alloc: Global, infos: [u64; 2]) -> Result<Vec<u64>, AllocError>
-        ensures { IfOk result (λ words. IsWellFormed (8 * length words.items)
-            (slice_index words.items)) }
-    {
-        let mut words = vec![in alloc; 0; 17_464]?;
-        words[MAGIC_WORD as usize] = MAGIC;
-        words[VERSION_WORD as usize] = VERSION;
-        words[CAPACITY_WORD as usize] = 2;
-        words[STATE_WORD as usize] = CLEAN;
-        words[USED_WORD as usize] = 2;
-        words[1_064] = infos[0];
-        words[1_072] = infos[1];
-        Ok(words)
-    }
-
-    #[test]
-    fn an_offset_names_the_block_that_begins_there(rt: HostRuntime) -> Result<(), Fail> {
-        let table = Block {
-            first_word: 1_080,
-            words: 128,
-        };
-        let node = Block {
-            first_word: 9_276,
-            words: 4,
-        };
-        let large = Block {
-            first_word: 1_080,
-            words: 16_384,
-        };
-        for (infos, offset, block) in [
-            ([12, 2], 8_640, Some(table)),
-            ([12, 2], 8_648, None),
-            ([12, 2], 8_632, None),
-            ([12, 2], 74_208, Some(node)),
-            ([12, 21], 74_208, None),
-            ([767, 0], 8_640, Some(large)),
-            ([767, 0], 9_664, None),
-            ([767, 4], 8_640, None),
-            ([0, 767], 74_176, None),
-            ([255, 0], 8_640, None),
-        ] {
-            let words = two_superblocks(rt.alloc(), infos)?;
-            assert_eq!(rt; name(&words, offset), block, "{infos:?} at {offset}");
-            let directory = Directory::of(rt.alloc(), &words)?;
-            assert_eq!(rt; directory.name(offset), block, "{infos:?} at {offset}");
-        }
-        Ok(())
-    }
-
-    #[test]
-    fn a_block_of_a_class_lies_in_its_superblock(rt: HostRuntime) {
-        let geometry = Geometry::new(2);
-        assert!(rt; 1 < size_table::blocks_of(2));
-        let block = block_at(&geometry, 1, 1, SizeClass::new(2));
-        assert_eq!(rt; (block.first_word, block.words), (9_276, 4));
     }
 }

@@ -1,4 +1,5 @@
-use super::*;
+//! Pointer words, and words that are none.
+use offset_ptr::{Ptr, decode, encode};
 
 #[test]
 fn a_pointer_word_is_decoded_to_its_offset(rt: HostRuntime) {

@@ -1,4 +1,5 @@
-use super::*;
+//! The roots of an image.
+use root_table::{root, set_root};
 use super_block::FIXED_WORDS;
 
 #[test]

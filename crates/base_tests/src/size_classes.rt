@@ -1,4 +1,5 @@
-use super::*;
+//! The size classes, and the superblocks that a large request takes.
+use size_table::{blocks_of, class_of, size_of, span_of};
 
 #[test]
 fn each_class_has_the_size_and_count_of_the_table(rt: HostRuntime) {

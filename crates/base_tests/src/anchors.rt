@@ -1,4 +1,5 @@
-use super::*;
+//! The anchor of a superblock, as a word and as its parts.
+use anchor_word::{Anchor, FULL, State, give, pack, take_all, unpack};
 
 #[test]
 fn the_word_of_an_anchor_has_its_parts(rt: HostRuntime) {
