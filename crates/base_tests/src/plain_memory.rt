@@ -1,5 +1,5 @@
 //! The rules of the memory against a naive recomputation, and cases told by hand.
-ghost use Rattle.std.specs.Prelude.{◌≡◌, ℕ};
+ghost use Rattle.std.specs.Prelude.{◌≡◌};
 ghost use Rattle.line_memory.specs.View.{word_count};
 
 use line_memory::{Chance, ConstantChance, LineMemory, PlainMemory, Stopped, persist};

@@ -2,12 +2,12 @@
 
 ghost use Rattle.std.specs.Prelude.{◌≡◌, ◌<◌, ◌≤◌, ◌+◌, ◌*◌, ◌^◌, ℕ, length, slice_index, IfSome, IfNone};
 ghost use Rattle.heap_model.specs.declared.block.Block.{Block};
-ghost use Rattle.heap_model.specs.Header.{IsWellFormed, capacity_of, used_of};
-ghost use Rattle.heap_model.specs.Blocks.{Begins, Layout, layout_of, Names, NamesIn};
+ghost use Rattle.heap_model.specs.Header.{IsWellFormed};
+ghost use Rattle.heap_model.specs.Blocks.{Layout, Names, NamesIn};
 ghost use Rattle.heap_model.specs.Recovered.{IsBlockOfClass};
 ghost use Rattle.heap_model.specs.Geometry.{start_word, largest_capacity};
 ghost use Rattle.heap_model.specs.Sizes.{blocks_of};
-ghost use Rattle.super_block.specs.Division.{DividesAs, IsPlaceOf, IsFound};
+ghost use Rattle.super_block.specs.Division.{IsPlaceOf, IsFound};
 
 use crate::division::{Division, class_division, division_at};
 use crate::geometry::Geometry;
