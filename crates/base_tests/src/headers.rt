@@ -3,6 +3,7 @@ use crate::images::image_with;
 use region_header::{
     BadHeader, Header, bytes_to_words, check_bytes, format, read_header, words_to_bytes,
 };
+use std::process::Abort;
 use std::test::Fail;
 
 // What the header of an image of one superblock tells.
@@ -49,6 +50,23 @@ fn an_empty_image_has_the_size_of_its_capacity(rt: HostRuntime) -> Result<(), Fa
     Ok(())
 }
 
+/// Asserts that this is told of an image of one superblock with these changes, and of its bytes.
+fn must_tell(
+    rt: &(impl Abort + AllocGlobal),
+    changes: &[(usize, u64)],
+    want: Result<Header, BadHeader>,
+) -> Result<(), Fail> {
+    let words = image_with(rt.alloc(), 1, changes)?;
+    let bytes = words_to_bytes(rt.alloc(), &words)?;
+    assert_eq!(rt; read_header(&words), want, "words with {changes:?}");
+    assert_eq!(rt;
+        check_bytes(bytes.as_slice()),
+        want,
+        "bytes with {changes:?}"
+    );
+    Ok(())
+}
+
 #[test]
 fn each_cause_is_told_where_it_holds_and_not_beside_it(rt: HostRuntime) -> Result<(), Fail> {
     for (at, value, want) in [
@@ -71,14 +89,7 @@ fn each_cause_is_told_where_it_holds_and_not_beside_it(rt: HostRuntime) -> Resul
         (8, 2, Err(BadHeader::Used)),
         (9, 2, header(true, 0)),
     ] {
-        let words = image_with(rt.alloc(), 1, &[(at, value)])?;
-        let bytes = words_to_bytes(rt.alloc(), &words)?;
-        assert_eq!(rt; read_header(&words), want, "word {at} holds {value}");
-        assert_eq!(rt;
-            check_bytes(bytes.as_slice()),
-            want,
-            "word {at} of the file holds {value}"
-        );
+        must_tell(&rt, &[(at, value)], want)?;
     }
     Ok(())
 }
@@ -90,13 +101,7 @@ fn the_first_cause_is_told(rt: HostRuntime) -> Result<(), Fail> {
         (1, 2, Err(BadHeader::Used)),
         (2, 1, header(false, 1)),
     ] {
-        let words = image_with(rt.alloc(), 1, &[(3, state), (8, used)])?;
-        let bytes = words_to_bytes(rt.alloc(), &words)?;
-        assert_eq!(rt;
-            check_bytes(bytes.as_slice()),
-            want,
-            "state {state}, used {used}"
-        );
+        must_tell(&rt, &[(3, state), (8, used)], want)?;
     }
     Ok(())
 }
