@@ -25,16 +25,15 @@ use Rattle.heap_recover.proofs.SuperblockLemmas.{walks_same, spares_inside}
 pub role_spares : (old : Image) (kept : Block → Type 0) (d : ℕ) (role : Role) (spares : List ℕ) → IsRole (layout_of old) kept d role spares
     → HasSpares (capacity_of old) d spares role × HasInfo (old (info_word d)) role
 role_spares old kept d _ _ (is_free free) = (refl, tt)
-role_spares old kept d _ _ (is_partial class spares is partial chained) = (
+role_spares old kept d _ _ (is_partial class spares partial chained) = (
   record {
-    is_class = is;
     some = (let has = chained.complete partial.spare.0 partial.spare.1 in let below = has.1 in omega arith);
     ascending = chained.ascending;
     blocks = λ w has. let spare = chained.sound w has in (spare.index, record { below = spare.is_block.below; at = sym spare.first ∙ spare.is_block.at; size = refl });
   },
   partial.info_is,
 )
-role_spares old kept d _ _ (is_full class is full) = (refl, tt)
+role_spares old kept d _ _ (is_full class full) = (refl, tt)
 role_spares old kept d _ _ (is_large large) = (refl, tt)
 
 -- each word belongs to one superblock
@@ -124,7 +123,7 @@ described_same old new other d spares Free has same is = record { info_is = same
 described_same old new other d spares (Partial class) has same is = record {
   first = is.first;
   words = record { info_is = same.info ∙ is.words.info_is; anchor_is = same.anchor ∙ is.words.anchor_is };
-  walks = walks_same new other spares (start_word (capacity_of old) d + is.first * words_of_class class)
+  walks = walks_same new other spares (start_word (capacity_of old) d + is.first * words_of_class class.number)
       (λ b here. let inside = spares_inside (capacity_of old) d spares (Partial class) has b here in same.inside b inside.0 inside.1) is.walks;
 }
 described_same old new other d spares (Full class) has same is = record { info_is = same.info ∙ is.info_is; anchor_is = same.anchor ∙ is.anchor_is }
@@ -145,7 +144,7 @@ described_from old mid new d spares Free info capacity is = is
 described_from old mid new d spares (Partial class) info capacity is = record {
   first = is.first;
   words = is.words;
-  walks = subst (λ n. Walks new (start_word n d + is.first * words_of_class class) spares) capacity is.walks;
+  walks = subst (λ n. Walks new (start_word n d + is.first * words_of_class class.number) spares) capacity is.walks;
 }
 described_from old mid new d spares (Full class) info capacity is = record { info_is = is.info_is ∙ info; anchor_is = is.anchor_is }
 described_from old mid new d spares Large info capacity is = record { info_is = is.info_is ∙ info; anchor_is = is.anchor_is }

@@ -115,12 +115,12 @@ module _ (old done cleared listed new : Image) (kept : Block → Type 0) (held :
 
   -- the chain of a partial superblock
   chain_in_order : (class d : ℕ) → IsClass class → IsPartial (layout_of old) kept class d → (which : (d < used_of old) ⊎ (used_of old ≤ d)) → AreAscending (λ w. w) (IsSpare (layout_of old) kept class d) (chain_at d which)
-  chain_in_order class d is partial (inl below) = let here = taken_done d below in (partial_role (layout_of old) kept d class (role_of d) here.spares is here.has_role partial).1
+  chain_in_order class d is partial (inl below) = let here = taken_done d below in (partial_role (layout_of old) kept d (record { number = class; is = is }) (role_of d) here.spares here.has_role partial).1
   chain_in_order class d is partial (inr past) = absurd (let taken = partial.taken in omega arith)
 
   rechained : (class d : ℕ) → IsClass class → IsPartial (layout_of old) kept class d → (which : (d < used_of old) ⊎ (used_of old ≤ d)) → IsRechained old new class d (chain_at d which)
   rechained class d is partial (inl below) = let here = taken_done d below in
-      subst (λ r. IsDescribed old new d here.spares r) (partial_role (layout_of old) kept d class (role_of d) here.spares is here.has_role partial).0 here.described
+      subst (λ r. IsDescribed old new d here.spares r) (partial_role (layout_of old) kept d (record { number = class; is = is }) (role_of d) here.spares here.has_role partial).0 here.described
   rechained class d is partial (inr past) = absurd (let taken = partial.taken in omega arith)
 
   free_left : (d : ℕ) → IsFreeSuperblock (layout_of old) kept d → HasInfoAndAnchor new d 0 0
@@ -128,7 +128,7 @@ module _ (old done cleared listed new : Image) (kept : Block → Type 0) (held :
 
   full_left : (class d : ℕ) → IsClass class → IsFullyKept (layout_of old) kept class d → HasInfoAndAnchor new d class full_anchor
   full_left class d is full = let here = taken_done d full.taken in
-      let left : HasInfoAndAnchor new d (old (info_word d)) full_anchor = subst (λ r. IsDescribed old new d here.spares r) (full_role (layout_of old) kept d class (role_of d) here.spares is here.has_role full) here.described in
+      let left : HasInfoAndAnchor new d (old (info_word d)) full_anchor = subst (λ r. IsDescribed old new d here.spares r) (full_role (layout_of old) kept d (record { number = class; is = is }) (role_of d) here.spares here.has_role full) here.described in
       record { info_is = left.info_is ∙ full.info_is; anchor_is = left.anchor_is }
 
   large_left : (d : ℕ) → IsInLarge (layout_of old) kept d → HasInfoAndAnchor new d (old (info_word d)) full_anchor
@@ -141,8 +141,8 @@ module _ (old done cleared listed new : Image) (kept : Block → Type 0) (held :
   unlinked_in : (d word : ℕ) (role : Role) (spares : List ℕ) → IsRole (layout_of old) kept d role spares
       → ((class : ℕ) → IsClass class → IsPartial (layout_of old) kept class d → Contains (but_last spares) word → ⊥) → Contains (but_last spares) word → ⊥
   unlinked_in d word _ _ (is_free free) away linked = none_of refl linked
-  unlinked_in d word _ _ (is_partial class spares is partial chained) away linked = away class is partial linked
-  unlinked_in d word _ _ (is_full class is full) away linked = none_of refl linked
+  unlinked_in d word _ _ (is_partial class spares partial chained) away linked = away class.number class.is partial linked
+  unlinked_in d word _ _ (is_full class full) away linked = none_of refl linked
   unlinked_in d word _ _ (is_large large) away linked = none_of refl linked
 
   -- the words of the superblocks

@@ -1,4 +1,5 @@
 -- A superblock has one role, and the role tells its list.
+use Rattle.std.proofs.Math.Bridge.{le_prop}
 use Rattle.std.proofs.Common.{◌≡◌, ℕ, zero, suc, ◌+◌, ◌*◌, ◌<◌, Some, List, refl, ap, sym, subst, ◌∙◌, arith}
 use Rattle.heap_model.specs.declared.block.Block.{Block}
 use Rattle.heap_model.specs.Geometry.{start_word}
@@ -7,10 +8,17 @@ use Rattle.heap_model.specs.Blocks.{Layout}
 use Rattle.heap_model.specs.Recovered.{IsFreeSuperblock, IsBlockOfClass, AreAscending}
 use Rattle.heap_model.specs.Recovery.{HoldsKept, IsSpare, IsPartial, IsFullyKept, IsInLarge, IsListed}
 use Rattle.heap_model.proofs.SizeLemmas.{four_blocks}
+use Rattle.size_table.specs.declared.size_class.SizeClass.{SizeClass}
 use Rattle.heap_recover.specs.declared.roles.Role.{Role}
 use Rattle.heap_recover.specs.declared.roles.Role.TheVariants.{Free, Partial, Full, Large}
 use Rattle.heap_recover.specs.Roles.{IsRole, is_free, is_partial, is_full, is_large, list_of}
 use Rattle.heap_recover.proofs.SurveyLemmas.{class_inside}
+
+-- classes of one number are one
+same_class : (a b : SizeClass) → a.number ≡ b.number → a ≡ b
+same_class a b same = subst (λ n. (is : IsClass n) → a ≡ record { number = n; is = is }) same one b.is where
+  one : (is : IsClass a.number) → a ≡ record { number = a.number; is = is }
+  one is = λ i. record { number = a.number; is = record { some = le_prop a.is.some is.some i; last = le_prop a.is.last is.last i } }
 
 module _ (l : Layout) (kept : Block → Type 0) (d : ℕ) where
   -- a superblock that holds a part of a kept block is not free
@@ -29,42 +37,37 @@ module _ (l : Layout) (kept : Block → Type 0) (d : ℕ) where
   pub not_partial : (class : ℕ) → IsFullyKept l kept class d → IsPartial l kept class d → ⊥
   not_partial class full partial = let spare = partial.spare.1 in spare.unkept (full.all spare.index spare.block spare.is_block)
 
-  same_class : {class other : ℕ} → l.info d ≡ class → l.info d ≡ other → class ≡ other
-  same_class info info' = sym info ∙ info'
-
   -- a free one has the role of a free one
   pub free_role : (role : Role) (spares : List ℕ) → IsRole l kept d role spares → IsFreeSuperblock l kept d → role ≡ Free
   free_role _ _ (is_free free') free = refl
-  free_role _ _ (is_partial class spares is partial chained) free = absurd (not_free partial.holds free)
-  free_role _ _ (is_full class is full) free = absurd (not_free (full_holds class is full) free)
+  free_role _ _ (is_partial class spares partial chained) free = absurd (not_free partial.holds free)
+  free_role _ _ (is_full class full) free = absurd (not_free (full_holds class.number class.is full) free)
   free_role _ _ (is_large large) free = absurd (not_free large.holds free)
 
   -- a partial one that of a partial one, with all its spares
-  pub partial_role : (class : ℕ) (role : Role) (spares : List ℕ) → IsClass class → IsRole l kept d role spares → IsPartial l kept class d
-      → (role ≡ Partial class) × AreAscending (λ w. w) (IsSpare l kept class d) spares
-  partial_role class _ _ is (is_free free) partial = absurd (not_free partial.holds free)
-  partial_role class _ _ is (is_partial other spares is' partial' chained) partial =
-      let same : other ≡ class = sym partial'.info_is ∙ partial.info_is in
-      (ap Partial same, subst (λ c. AreAscending (λ w. w) (IsSpare l kept c d) spares) same chained)
-  partial_role class _ _ is (is_full other is' full) partial =
-      let same : other ≡ class = sym full.info_is ∙ partial.info_is in
-      absurd (not_partial class (subst (λ c. IsFullyKept l kept c d) same full) partial)
-  partial_role class _ _ is (is_large large) partial = absurd (large.no_class (subst IsClass (sym partial.info_is) is))
+  pub partial_role : (class : SizeClass) (role : Role) (spares : List ℕ) → IsRole l kept d role spares → IsPartial l kept class.number d
+      → (role ≡ Partial class) × AreAscending (λ w. w) (IsSpare l kept class.number d) spares
+  partial_role class _ _ (is_free free) partial = absurd (not_free partial.holds free)
+  partial_role class _ _ (is_partial other spares partial' chained) partial =
+      let same : other ≡ class = same_class other class (sym partial'.info_is ∙ partial.info_is) in
+      (ap Partial same, subst (λ (c : SizeClass). AreAscending (λ w. w) (IsSpare l kept c.number d) spares) same chained)
+  partial_role class _ _ (is_full other full) partial =
+      absurd (not_partial class.number (subst (λ c. IsFullyKept l kept c d) (sym full.info_is ∙ partial.info_is) full) partial)
+  partial_role class _ _ (is_large large) partial = absurd (large.no_class (subst IsClass (sym partial.info_is) class.is))
 
   -- a fully kept one that of a full one
-  pub full_role : (class : ℕ) (role : Role) (spares : List ℕ) → IsClass class → IsRole l kept d role spares → IsFullyKept l kept class d → role ≡ Full class
-  full_role class _ _ is (is_free free) full = absurd (not_free (full_holds class is full) free)
-  full_role class _ _ is (is_partial other spares is' partial chained) full =
-      let same : class ≡ other = sym full.info_is ∙ partial.info_is in
-      absurd (not_partial other (subst (λ c. IsFullyKept l kept c d) same full) partial)
-  full_role class _ _ is (is_full other is' full') full = ap Full (sym full'.info_is ∙ full.info_is)
-  full_role class _ _ is (is_large large) full = absurd (large.no_class (subst IsClass (sym full.info_is) is))
+  pub full_role : (class : SizeClass) (role : Role) (spares : List ℕ) → IsRole l kept d role spares → IsFullyKept l kept class.number d → role ≡ Full class
+  full_role class _ _ (is_free free) full = absurd (not_free (full_holds class.number class.is full) free)
+  full_role class _ _ (is_partial other spares partial chained) full =
+      absurd (not_partial other.number (subst (λ c. IsFullyKept l kept c d) (sym full.info_is ∙ partial.info_is) full) partial)
+  full_role class _ _ (is_full other full') full = ap Full (same_class other class (sym full'.info_is ∙ full.info_is))
+  full_role class _ _ (is_large large) full = absurd (large.no_class (subst IsClass (sym full.info_is) class.is))
 
   -- one in a large block that of such a one
   pub large_role : (role : Role) (spares : List ℕ) → IsRole l kept d role spares → IsInLarge l kept d → role ≡ Large
   large_role _ _ (is_free free) large = absurd (not_free large.holds free)
-  large_role _ _ (is_partial class spares is partial chained) large = absurd (large.no_class (subst IsClass (sym partial.info_is) is))
-  large_role _ _ (is_full class is full) large = absurd (large.no_class (subst IsClass (sym full.info_is) is))
+  large_role _ _ (is_partial class spares partial chained) large = absurd (large.no_class (subst IsClass (sym partial.info_is) class.is))
+  large_role _ _ (is_full class full) large = absurd (large.no_class (subst IsClass (sym full.info_is) class.is))
   large_role _ _ (is_large large') large = refl
 
   listed_partial : (class : ℕ) → IsClass class → IsPartial l kept class d → IsListed l kept class d
@@ -74,14 +77,15 @@ module _ (l : Layout) (kept : Block → Type 0) (d : ℕ) where
   -- the role puts it into a list
   pub role_listed : (list : ℕ) (role : Role) (spares : List ℕ) → IsRole l kept d role spares → list_of role ≡ Some list → IsListed l kept list d
   role_listed list _ _ (is_free free) same = let zeroth : 0 ≡ list = cc in subst (λ n. IsListed l kept n d) zeroth free
-  role_listed list _ _ (is_partial class spares is partial chained) same = let is_list : class ≡ list = cc in subst (λ n. IsListed l kept n d) is_list (listed_partial class is partial)
-  role_listed list _ _ (is_full class is full) same = absurd (cc)
+  role_listed list _ _ (is_partial class spares partial chained) same =
+      let is_list : class.number ≡ list = cc in subst (λ n. IsListed l kept n d) is_list (listed_partial class.number class.is partial)
+  role_listed list _ _ (is_full class full) same = absurd (cc)
   role_listed list _ _ (is_large large) same = absurd (cc)
 
   -- and that is the list that it is in
   pub listed_role : (list : ℕ) (role : Role) (spares : List ℕ) → list < 21 → IsRole l kept d role spares → IsListed l kept list d → list_of role ≡ Some list
   listed_role zero role spares few has listed = ap list_of (free_role role spares has listed)
-  listed_role (suc c) role spares few has listed = ap list_of (partial_role (suc c) role spares (record { some = omega arith; last = omega arith }) has listed).0
+  listed_role (suc c) role spares few has listed = ap list_of (partial_role (record { number = suc c; is = record { some = omega arith; last = omega arith } }) role spares has listed).0
 
   -- a superblock in a list has been taken
   pub listed_taken : (list : ℕ) → IsListed l kept list d → d < l.used

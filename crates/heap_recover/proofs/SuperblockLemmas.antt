@@ -10,6 +10,7 @@ use Rattle.heap_model.specs.Sizes.{words_of_class, blocks_of}
 use Rattle.heap_model.specs.Recovery.{but_last}
 use Rattle.heap_model.specs.Chains.{Walks}
 use Rattle.heap_model.proofs.SizeLemmas.{two_words, few_blocks}
+use Rattle.size_table.specs.declared.size_class.SizeClass.{SizeClass}
 use Rattle.heap_recover.specs.declared.roles.Role.{Role}
 use Rattle.heap_recover.specs.declared.roles.Role.TheVariants.{Free, Partial, Full, Large}
 use Rattle.heap_recover.specs.Rebuilt.{IsChained, IsOf, is_info, is_anchor, is_link, is_inside, AreSpares, HasSpares, HasInfo, IsAnchorOf, IsWrittenAs, IsDescribed, IsRebuiltAs}
@@ -35,7 +36,7 @@ pub spares_inside : (capacity d : ℕ) (spares : List ℕ) (role : Role) → Has
 spares_inside capacity d spares Free none w has = absurd (none_of none has)
 spares_inside capacity d spares (Partial class) are w has =
     let block = are.blocks w has in
-    let inside = class_inside capacity class d block.0 (record { first_word = w; words = words_of_class class }) are.is_class block.1 in
+    let inside = class_inside capacity class.number d block.0 (record { first_word = w; words = words_of_class class.number }) class.is block.1 in
     (inside.0, omega (arith, inside.1, inside.2))
 spares_inside capacity d spares (Full class) none w has = absurd (none_of none has)
 spares_inside capacity d spares Large none w has = absurd (none_of none has)
@@ -59,24 +60,25 @@ pub record IsFirstSpare (capacity class d : ℕ) (spares : List ℕ) (index : �
   pub quotient : (slice_index spares 0 - start_word capacity d) / words_of_class class ≡ index
   pub few : length spares < 2 ^ 31
 
-pub first_spare : (capacity class d : ℕ) (spares : List ℕ) → capacity ≤ largest_capacity → d < capacity → AreSpares capacity class d spares → (index : ℕ) × IsFirstSpare capacity class d spares index
+pub first_spare : (capacity : ℕ) (class : SizeClass) (d : ℕ) (spares : List ℕ) → capacity ≤ largest_capacity → d < capacity → AreSpares capacity class d spares
+    → (index : ℕ) × IsFirstSpare capacity class.number d spares index
 first_spare capacity class d spares small below are =
     let block = are.blocks (slice_index spares 0) (Contains-get_or spares 0 0 are.some) in
-    let at : slice_index spares 0 ≡ start_word capacity d + block.0 * words_of_class class = block.1.at in
-    let rest : slice_index spares 0 - start_word capacity d ≡ block.0 * words_of_class class = omega arith in
+    let at : slice_index spares 0 ≡ start_word capacity d + block.0 * words_of_class class.number = block.1.at in
+    let rest : slice_index spares 0 - start_word capacity d ≡ block.0 * words_of_class class.number = omega arith in
     let last = ascending_index spares are.ascending (length spares - 1) (let some = are.some in omega arith) in
     let inside = spares_inside capacity d spares (Partial class) are (slice_index spares (length spares - 1)) (Contains-get_or spares (length spares - 1) 0 (let some = are.some in omega arith)) in (
       block.0,
       record {
         below = block.1.below;
         at = at;
-        quotient = ap (λ x. x / words_of_class class) rest ∙ mul-div_cancel block.0 (let two = two_words class are.is_class in omega arith);
+        quotient = ap (λ x. x / words_of_class class.number) rest ∙ mul-div_cancel block.0 (let two = two_words class.number class.is in omega arith);
         few = omega (arith, inside.1, largest_capacity_fits);
       },
     )
 
 -- the spares of a partial superblock
-pub of_partial : (capacity d class : ℕ) (spares : List ℕ) (role : Role) → role ≡ Partial class → HasSpares capacity d spares role → AreSpares capacity class d spares
+pub of_partial : (capacity d : ℕ) (class : SizeClass) (spares : List ℕ) (role : Role) → role ≡ Partial class → HasSpares capacity d spares role → AreSpares capacity class d spares
 of_partial capacity d class spares role is has = subst (λ (r : Role). HasSpares capacity d spares r) is has
 
 -- its first spare block, as the code finds it
@@ -85,17 +87,17 @@ pub record IsFoundFirst (capacity class d : ℕ) (spares : List ℕ) (start word
   pub begins : start_word capacity d + (slice_index spares 0 - start) / words * words_of_class class ≡ slice_index spares 0
   pub few : length spares < 2 ^ 31
 
-pub found_first : (capacity class d : ℕ) (spares : List ℕ) (start words : ℕ) → capacity ≤ largest_capacity → d < capacity → AreSpares capacity class d spares
-    → start ≡ start_word capacity d → words ≡ words_of_class class → IsFoundFirst capacity class d spares start words
+pub found_first : (capacity : ℕ) (class : SizeClass) (d : ℕ) (spares : List ℕ) (start words : ℕ) → capacity ≤ largest_capacity → d < capacity → AreSpares capacity class d spares
+    → start ≡ start_word capacity d → words ≡ words_of_class class.number → IsFoundFirst capacity class.number d spares start words
 found_first capacity class d spares start words small below are start_is words_is =
     let first = first_spare capacity class d spares small below are in
-    let two = two_words class are.is_class in
+    let two = two_words class.number class.is in
     let at = first.1.at in
     let quotient : (slice_index spares 0 - start) / words ≡ first.0 =
     ap (λ x. (slice_index spares 0 - x) / words) start_is ∙ ap (λ w. (slice_index spares 0 - start_word capacity d) / w) words_is ∙ first.1.quotient in
     record {
-      below = subst (λ x. x < 2 ^ 31) (sym quotient) (let index = first.1.below in let few = few_blocks class are.is_class in omega arith);
-      begins = ap (λ i. start_word capacity d + i * words_of_class class) quotient ∙ sym at;
+      below = subst (λ x. x < 2 ^ 31) (sym quotient) (let index = first.1.below in let few = few_blocks class.number class.is in omega arith);
+      begins = ap (λ i. start_word capacity d + i * words_of_class class.number) quotient ∙ sym at;
       few = first.1.few;
     }
 
@@ -132,10 +134,10 @@ module _ (old chained new : Image) (capacity d : ℕ) (spares : List ℕ) (ancho
   described (Partial class) same info are counts written = record {
     first = counts.first;
     words = record { info_is = written.info ∙ before_chain (Partial class) are (info_word d) (inr (omega arith)) ∙ info; anchor_is = written.anchor_is ∙ counts.is };
-    walks = subst (λ n. Walks new (start_word n d + counts.first * words_of_class class) spares) (sym same)
-        (walks_same chained new spares (start_word capacity d + counts.first * words_of_class class)
+    walks = subst (λ n. Walks new (start_word n d + counts.first * words_of_class class.number) spares) (sym same)
+        (walks_same chained new spares (start_word capacity d + counts.first * words_of_class class.number)
         (λ b has. inside_kept (Partial class) are written b (spares_inside capacity d spares (Partial class) are b has).0)
-        (is_chained.walks (start_word capacity d + counts.first * words_of_class class) (λ some. counts.begins)));
+        (is_chained.walks (start_word capacity d + counts.first * words_of_class class.number) (λ some. counts.begins)));
   }
   described (Full class) same info none is written = record { info_is = written.info ∙ before_chain (Full class) none (info_word d) (inr (omega arith)); anchor_is = written.anchor_is ∙ is }
   described Large same info none is written = record { info_is = written.info ∙ before_chain Large none (info_word d) (inr (omega arith)); anchor_is = written.anchor_is ∙ is }

@@ -15,6 +15,7 @@ use Rattle.heap_model.proofs.BlockLemmas.{same_begins, block_begins, block_step}
 use Rattle.heap_model.proofs.PartLemmas.{same_fields}
 use Rattle.heap_model.proofs.SizeLemmas.{two_words, blocks_fit}
 use Rattle.heap_recover.specs.Marked.{KeepsBlocks, IsKeptAmong, IsSpareAmong, AreParted, IsKeptIn, GoOnTo}
+use Rattle.size_table.specs.declared.size_class.SizeClass.{SizeClass}
 use Rattle.heap_recover.specs.declared.roles.Role.{Role}
 use Rattle.heap_recover.specs.declared.roles.Role.TheVariants.{Free, Large}
 use Rattle.heap_recover.specs.declared.surveys.Survey.{Survey}
@@ -86,47 +87,47 @@ module _ (l : Layout) (kept : Block → Type 0) (blocks : KeepsBlocks l kept) wh
   pub ends_here : (d end : ℕ) → GoOnTo l kept d end → 1 ≤ l.info d → end ≤ d
   ends_here d end old info = elim (cases_lt d end) as (λ _. end ≤ d) [ inl before ↦ absurd (let none = (old.inside d (omega arith) before).no_info in omega arith) | inr past ↦ past ]
 
-  module _ (d class : ℕ) (taken : d < l.used) (is : IsClass class) (info : l.info d ≡ class) where
+  module _ (d : ℕ) (class : SizeClass) (taken : d < l.used) (info : l.info d ≡ class.number) where
     -- the kept blocks of a superblock of a class are those of its blocks that are kept
-    pub kept_among : (b : Block) → IsKeptIn l.capacity kept d b → IsKeptAmong kept l.capacity class d (blocks_of class) b
+    pub kept_among : (b : Block) → IsKeptIn l.capacity kept d b → IsKeptAmong kept l.capacity class.number d (blocks_of class.number) b
     kept_among b is_b =
         let begun = begun_by l d b (blocks.each b is_b.is_kept) is_b.from is_b.until in
-        let of_class' = class_block l d class b info is begun in
+        let of_class' = class_block l d class.number b info class.is begun in
         record { index = begun.index; is_block = of_class'; among = of_class'.below; is_kept = is_b.is_kept }
 
-    pub kept_in : (b : Block) → IsKeptAmong kept l.capacity class d (blocks_of class) b → IsKeptIn l.capacity kept d b
+    pub kept_in : (b : Block) → IsKeptAmong kept l.capacity class.number d (blocks_of class.number) b → IsKeptIn l.capacity kept d b
     kept_in b is_b =
-        let inside = class_inside l.capacity class d is_b.index b is is_b.is_block in
+        let inside = class_inside l.capacity class.number d is_b.index b class.is is_b.is_block in
         record { is_kept = is_b.is_kept; from = inside.0; until = omega arith }
 
-    pub class_held : (held : List Block) (spares : List ℕ) → AreParted kept l.capacity class d (blocks_of class) held spares
+    pub class_held : (held : List Block) (spares : List ℕ) → AreParted kept l.capacity class.number d (blocks_of class.number) held spares
         → AreAscending (λ (b : Block). b.first_word) (IsKeptIn l.capacity kept d) held
-    class_held held spares parted = ascending_same (λ (b : Block). b.first_word) (IsKeptAmong kept l.capacity class d (blocks_of class)) (IsKeptIn l.capacity kept d) held kept_in kept_among parted.kept_in_order
+    class_held held spares parted = ascending_same (λ (b : Block). b.first_word) (IsKeptAmong kept l.capacity class.number d (blocks_of class.number)) (IsKeptIn l.capacity kept d) held kept_in kept_among parted.kept_in_order
 
     -- they end where the superblock ends, or before
     pub class_goes_on : (end : ℕ) → GoOnTo l kept d end → GoOnTo l kept (d + 1) end
-    class_goes_on end old = go_on d end old (λ b is_b. let among = kept_among b is_b in let inside = class_inside l.capacity class d among.index b is among.is_block in inside.1)
+    class_goes_on end old = go_on d end old (λ b is_b. let among = kept_among b is_b in let inside = class_inside l.capacity class.number d among.index b class.is among.is_block in inside.1)
 
     -- one of them is a part of a kept block in the superblock
-    pub holds_among : (b : Block) → IsKeptAmong kept l.capacity class d (blocks_of class) b → HoldsKept l kept d
+    pub holds_among : (b : Block) → IsKeptAmong kept l.capacity class.number d (blocks_of class.number) b → HoldsKept l kept d
     holds_among b is_b =
-        let inside = class_inside l.capacity class d is_b.index b is is_b.is_block in
+        let inside = class_inside l.capacity class.number d is_b.index b class.is is_b.is_block in
         record { block = b; is_kept = is_b.is_kept; part = record { begins = omega arith; ends = omega arith } }
 
-    spare_of : (w : ℕ) → IsSpareAmong kept l.capacity class d (blocks_of class) w → IsSpare l kept class d w
+    spare_of : (w : ℕ) → IsSpareAmong kept l.capacity class.number d (blocks_of class.number) w → IsSpare l kept class.number d w
     spare_of w is_w = record { index = is_w.index; block = is_w.block; is_block = is_w.is_block; first = is_w.first; unkept = is_w.unkept }
 
-    spare_among : (w : ℕ) → IsSpare l kept class d w → IsSpareAmong kept l.capacity class d (blocks_of class) w
+    spare_among : (w : ℕ) → IsSpare l kept class.number d w → IsSpareAmong kept l.capacity class.number d (blocks_of class.number) w
     spare_among w is_w = record { index = is_w.index; block = is_w.block; is_block = is_w.is_block; among = is_w.is_block.below; first = is_w.first; unkept = is_w.unkept }
 
     -- the role that the parts give
     pub class_role : (end : ℕ) (held : List Block) (spares chained : List ℕ) (role : Role) → GoOnTo l kept d end
-        → AreParted kept l.capacity class d (blocks_of class) held spares → RoleOfParts class held spares role chained → IsRole l kept d role chained
+        → AreParted kept l.capacity class.number d (blocks_of class.number) held spares → RoleOfParts class held spares role chained → IsRole l kept d role chained
     class_role end held spares _ _ old parted (none_held empty) =
-        is_free (free_superblock d end old taken (ends_here d end old (let some = is.some in omega arith))
+        is_free (free_superblock d end old taken (ends_here d end old (let some = class.is.some in omega arith))
         (λ b is_b. none_of empty (parted.kept_in_order.complete b (kept_among b is_b))))
     class_role end held spares _ _ old parted (none_spare some empty) =
-        is_full class is (record {
+        is_full class (record {
           taken = taken;
           info_is = info;
           all = λ index b is_b. elim (parted.each index b is_b.below is_b) as (λ _. kept b) [
@@ -136,14 +137,14 @@ module _ (l : Layout) (kept : Block → Type 0) (blocks : KeepsBlocks l kept) wh
         })
     class_role end held spares _ _ old parted (some_of_both some_held some_spare) =
         let first : Block = get_or held 0 (record { first_word = 0; words = 0 }) in
-        is_partial class spares is
+        is_partial class spares
         (record {
           taken = taken;
           info_is = info;
           holds = holds_among first (parted.kept_in_order.sound first (Contains-get_or held 0 (record { first_word = 0; words = 0 }) some_held));
           spare = (get_or spares 0 0, spare_of (get_or spares 0 0) (parted.spares_in_order.sound (get_or spares 0 0) (Contains-get_or spares 0 0 some_spare)));
         })
-        (ascending_same (λ w. w) (IsSpareAmong kept l.capacity class d (blocks_of class)) (IsSpare l kept class d) spares spare_of spare_among parted.spares_in_order)
+        (ascending_same (λ w. w) (IsSpareAmong kept l.capacity class.number d (blocks_of class.number)) (IsSpare l kept class.number d) spares spare_of spare_among parted.spares_in_order)
 
   -- a superblock that begins no block holds none that is kept
   pub none_begun : (d : ℕ) → ((w m : ℕ) → Begins l d w m → ⊥) → (b : Block) → IsKeptIn l.capacity kept d b → ⊥
@@ -170,13 +171,13 @@ module _ (l : Layout) (kept : Block → Type 0) (blocks : KeepsBlocks l kept) wh
   }
 
   -- of one of a class
-  pub class_survey : (d end class : ℕ) → d < l.used → IsClass class → l.info d ≡ class → GoOnTo l kept d end
-      → (held : List Block) (spares : List ℕ) → AreParted kept l.capacity class d (blocks_of class) held spares
+  pub class_survey : (d end : ℕ) (class : SizeClass) → d < l.used → l.info d ≡ class.number → GoOnTo l kept d end
+      → (held : List Block) (spares : List ℕ) → AreParted kept l.capacity class.number d (blocks_of class.number) held spares
       → (survey : Survey) → RoleOfParts class held spares survey.role survey.spares.items → survey.held.items ≡ held → survey.end ≡ end → IsSurvey l kept d survey
-  class_survey d end class taken is info old held spares parted survey role same ends = record {
-    role = class_role d class taken is info end held spares survey.spares.items survey.role old parted role;
-    in_order = subst (λ xs. AreAscending (λ (b : Block). b.first_word) (IsKeptIn l.capacity kept d) xs) (sym same) (class_held d class taken is info held spares parted);
-    goes_on = subst (λ e. GoOnTo l kept (d + 1) e) (sym ends) (class_goes_on d class taken is info end old);
+  class_survey d end class taken info old held spares parted survey role same ends = record {
+    role = class_role d class taken info end held spares survey.spares.items survey.role old parted role;
+    in_order = subst (λ xs. AreAscending (λ (b : Block). b.first_word) (IsKeptIn l.capacity kept d) xs) (sym same) (class_held d class taken info held spares parted);
+    goes_on = subst (λ e. GoOnTo l kept (d + 1) e) (sym ends) (class_goes_on d class taken info end old);
   }
 
   module _ (d count : ℕ) (taken : d < l.used) (some : 1 ≤ count) (info : l.info d ≡ large_info count) where

@@ -4,12 +4,13 @@ use Rattle.heap_model.specs.declared.block.Block.{Block}
 use Rattle.heap_model.specs.Geometry.{info_word, anchor_word, link_word, head_word, start_word}
 use Rattle.heap_model.specs.Image.{Image}
 use Rattle.heap_model.specs.Header.{capacity_of, used_of}
-use Rattle.heap_model.specs.Sizes.{IsClass, words_of_class}
+use Rattle.heap_model.specs.Sizes.{words_of_class}
 use Rattle.heap_model.specs.Words.{anchor_of, partial_state, full_anchor}
 use Rattle.heap_model.specs.Blocks.{layout_of}
 use Rattle.heap_model.specs.Recovered.{IsBlockOfClass, IsFreeSuperblock, AreAscending}
 use Rattle.heap_model.specs.Recovery.{HasInfoAndAnchor, IsRechained, IsRecovered, but_last, first_number}
 use Rattle.heap_model.specs.Chains.{Follows, Walks}
+use Rattle.size_table.specs.declared.size_class.SizeClass.{SizeClass}
 use Rattle.heap_recover.specs.declared.roles.Role.{Role}
 use Rattle.heap_recover.specs.declared.roles.Role.TheVariants.{Free, Partial, Full, Large}
 use Rattle.heap_recover.specs.Marked.{IsKeptBelow}
@@ -28,11 +29,10 @@ pub data IsOf (capacity d : ℕ) : ℕ → Type 0 where
   is_inside : (word : ℕ) → start_word capacity d ≤ word → word < start_word capacity (d + 1) → IsOf capacity d word
 
 -- these are first words of blocks of the class in superblock d, in order, and there are some
-pub record AreSpares (capacity class d : ℕ) (spares : List ℕ) : Type 0 where
-  pub is_class : IsClass class
+pub record AreSpares (capacity : ℕ) (class : SizeClass) (d : ℕ) (spares : List ℕ) : Type 0 where
   pub some : 0 < length spares
   pub ascending : AllPairs (λ x y. x < y) spares
-  pub blocks : (w : ℕ) → Contains spares w → (index : ℕ) × IsBlockOfClass capacity class d index (record { first_word = w; words = words_of_class class })
+  pub blocks : (w : ℕ) → Contains spares w → (index : ℕ) × IsBlockOfClass capacity class.number d index (record { first_word = w; words = words_of_class class.number })
 
 -- a superblock of the role has such spares, or none
 abbrev pub HasSpares : ℕ → ℕ → List ℕ → Role → Type 0
@@ -44,7 +44,7 @@ HasSpares capacity d spares Large = spares ≡ []
 -- the info of a partial superblock is its class
 abbrev pub HasInfo : ℕ → Role → Type 0
 HasInfo info Free = Unit {0}
-HasInfo info (Partial class) = info ≡ class
+HasInfo info (Partial class) = info ≡ class.number
 HasInfo info (Full class) = Unit {0}
 HasInfo info Large = Unit {0}
 
@@ -57,7 +57,7 @@ pub record CountsSpares (capacity class d : ℕ) (spares : List ℕ) (word : ℕ
 -- the anchor of a superblock of the role
 abbrev pub IsAnchorOf : ℕ → ℕ → List ℕ → ℕ → Role → Type 0
 IsAnchorOf capacity d spares word Free = word ≡ 0
-IsAnchorOf capacity d spares word (Partial class) = CountsSpares capacity class d spares word
+IsAnchorOf capacity d spares word (Partial class) = CountsSpares capacity class.number d spares word
 IsAnchorOf capacity d spares word (Full class) = word ≡ full_anchor
 IsAnchorOf capacity d spares word Large = word ≡ full_anchor
 
@@ -78,7 +78,7 @@ pub record IsWrittenAs (old new : Image) (d : ℕ) (role : Role) (anchor : ℕ) 
 -- info, anchor and chain of a superblock of the role
 abbrev pub IsDescribed : Image → Image → ℕ → List ℕ → Role → Type 0
 IsDescribed old new d spares Free = HasInfoAndAnchor new d 0 0
-IsDescribed old new d spares (Partial class) = IsRechained old new class d spares
+IsDescribed old new d spares (Partial class) = IsRechained old new class.number d spares
 IsDescribed old new d spares (Full class) = HasInfoAndAnchor new d (old (info_word d)) full_anchor
 IsDescribed old new d spares Large = HasInfoAndAnchor new d (old (info_word d)) full_anchor
 

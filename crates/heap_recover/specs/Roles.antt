@@ -1,10 +1,10 @@
 -- What recovery makes of each superblock that has been taken.
 use Rattle.std.specs.Prelude.{◌≡◌, ℕ, zero, suc, ◌<◌, ◌+◌, Option, Some, None, List, [], ◌∷◌, length, slice_index_or}
 use Rattle.heap_model.specs.declared.block.Block.{Block}
-use Rattle.heap_model.specs.Sizes.{IsClass}
 use Rattle.heap_model.specs.Blocks.{Layout}
 use Rattle.heap_model.specs.Recovered.{IsFreeSuperblock, AreAscending}
 use Rattle.heap_model.specs.Recovery.{IsSpare, IsPartial, IsFullyKept, IsInLarge}
+use Rattle.size_table.specs.declared.size_class.SizeClass.{SizeClass}
 use Rattle.heap_recover.specs.declared.roles.Role.{Role}
 use Rattle.heap_recover.specs.declared.roles.Role.TheVariants.{Free, Partial, Full, Large}
 use Rattle.heap_recover.specs.declared.surveys.Survey.{Survey}
@@ -13,12 +13,12 @@ use Rattle.heap_recover.specs.Marked.{IsKeptIn, GoOnTo}
 -- the superblock has the role; `spares` are the first words that recovery chains there
 pub data IsRole (l : Layout) (kept : Block → Type 0) (d : ℕ) : Role → List ℕ → Type 0 where
   is_free : IsFreeSuperblock l kept d → IsRole l kept d Free []
-  is_partial : (class : ℕ) (spares : List ℕ) → IsClass class → IsPartial l kept class d → AreAscending (λ w. w) (IsSpare l kept class d) spares → IsRole l kept d (Partial class) spares
-  is_full : (class : ℕ) → IsClass class → IsFullyKept l kept class d → IsRole l kept d (Full class) []
+  is_partial : (class : SizeClass) (spares : List ℕ) → IsPartial l kept class.number d → AreAscending (λ w. w) (IsSpare l kept class.number d) spares → IsRole l kept d (Partial class) spares
+  is_full : (class : SizeClass) → IsFullyKept l kept class.number d → IsRole l kept d (Full class) []
   is_large : IsInLarge l kept d → IsRole l kept d Large []
 
 -- the role of a superblock of the class whose blocks are parted into these, and what recovery chains there
-pub data RoleOfParts (class : ℕ) (held : List Block) (spares : List ℕ) : Role → List ℕ → Type 0 where
+pub data RoleOfParts (class : SizeClass) (held : List Block) (spares : List ℕ) : Role → List ℕ → Type 0 where
   none_held : held ≡ [] → RoleOfParts class held spares Free []
   none_spare : 0 < length held → spares ≡ [] → RoleOfParts class held spares (Full class) []
   some_of_both : 0 < length held → 0 < length spares → RoleOfParts class held spares (Partial class) spares
@@ -32,7 +32,7 @@ pub record IsSurvey (l : Layout) (kept : Block → Type 0) (d : ℕ) (survey : S
 -- the list that a superblock of the role is in, if any
 abbrev pub list_of : Role → Option ℕ
 list_of Free = Some 0
-list_of (Partial class) = Some class
+list_of (Partial class) = Some class.number
 list_of (Full class) = None
 list_of Large = None
 

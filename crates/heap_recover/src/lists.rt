@@ -76,7 +76,7 @@ fn list_of(role: Role) -> Option<u8>
 {
     match role {
         Role::Free => Some(0),
-        Role::Partial(class) => Some(class),
+        Role::Partial(class) => Some(class.number),
         Role::Full(_) | Role::Large => None,
     }
 }

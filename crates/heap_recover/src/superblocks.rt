@@ -7,7 +7,6 @@ ghost use Rattle.heap_recover.specs.Rebuilt.{HasSpares, HasInfo, IsAnchorOf, IsW
 use crate::chains::link_chain;
 use crate::roles::Role;
 use anchor_word::{Anchor, EMPTY, FULL, State, pack};
-use size_table::SizeClass;
 use super_block::{Geometry, block_words};
 
 /// Rebuilds superblock `d` in its role: info, anchor, link, and the chain of its `spares`, the
@@ -60,7 +59,7 @@ fn anchor_word_of(geometry: &Geometry, d: u64, role: Role, spares: &[u64]) -> u6
         Role::Free => pack(&EMPTY),
         Role::Partial(class) => pack(&Anchor {
             state: State::Partial,
-            first: (spares[0] - geometry.start(d)) / block_words(SizeClass::new(class)),
+            first: (spares[0] - geometry.start(d)) / block_words(class),
             count: spares.len() as u64,
         }),
         Role::Full(_) | Role::Large => pack(&FULL),

@@ -7,6 +7,7 @@ ghost use Rattle.heap_recover.specs.Roles.{IsSurvey, RoleOfParts};
 use crate::parts::{SuperblockBlocks, part_blocks};
 use crate::roles::Role;
 use filter_trace::Marks;
+use size_table::SizeClass;
 use std::alloc::{AllocError, Global};
 use super_block::{Block, Geometry, Info, SUPERBLOCK_WORDS};
 
@@ -50,7 +51,7 @@ pub fn survey_superblock(
         Info::Nothing => Ok(Survey::without_blocks(alloc, Role::Free, end)),
         Info::Class(class) => {
             let parts = part_blocks(alloc, geometry, d, class, marks)?;
-            Ok(survey_parts(alloc, class.number, parts, end))
+            Ok(survey_parts(alloc, class, parts, end))
         }
         Info::Large(count) => {
             if count <= used - d {
@@ -73,7 +74,7 @@ pub fn survey_superblock(
 }
 
 /// The survey of a superblock of the class with these blocks.
-fn survey_parts(alloc: Global, class: u8, parts: SuperblockBlocks, end: u64) -> Survey
+fn survey_parts(alloc: Global, class: SizeClass, parts: SuperblockBlocks, end: u64) -> Survey
     ensures role { RoleOfParts class parts.held.items parts.spares.items
         result.role result.spares.items }
     ensures held { result.held.items ≡ parts.held.items }
