@@ -3,5 +3,4 @@ pub mod Roles
 pub mod Rebuilt
 pub mod Fault
 pub mod Answer
-pub mod PairLinks
 pub mod InPlace

@@ -19,10 +19,3 @@ pub use fault::RecoverFault;
 pub use in_place::rebuild;
 pub use laws::{reached_words_are_unchanged, recovery_begun_again_gives_the_same};
 pub use recovery::{recover, recover_owned};
-
-#[cfg(test)]
-mod in_place_tests;
-#[cfg(test)]
-mod rest_check;
-#[cfg(test)]
-mod tests;

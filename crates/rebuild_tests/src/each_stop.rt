@@ -1,6 +1,7 @@
 //! A recovery of an image of two superblocks, in which one block of 64 bytes is held, stopped at
 //! each of its steps: what each stop left is recovered to the same.
-use crate::in_place::{holds, in_place, torn, write};
+use crate::in_place::in_place;
+use heap_recover_tests::{holds, torn, write};
 use line_memory::ConstantChance;
 use std::alloc::Global;
 use std::process::Abort;

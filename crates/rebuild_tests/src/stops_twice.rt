@@ -1,47 +1,11 @@
 //! A recovery of an image of one superblock of the last class, in which two blocks are held, stopped
 //! at each of its steps; the recovery of what each stop left, stopped at each of its steps; and the
 //! recovery of what that left.
-use crate::in_place::{holds, in_place, torn, write};
+use crate::in_place::in_place;
+use heap_recover_tests::{HELD, WORDS, holds, image, torn};
 use line_memory::ConstantChance;
-use std::alloc::Global;
 use std::process::Abort;
 use std::test::Fail;
-use super_block::{Block, CLEAN, MAGIC, VERSION};
-
-/// The two blocks that are held, the first and the third.
-const HELD: [Block; 2] = [
-    Block {
-        first_word: 1_072,
-        words: 1_792,
-    },
-    Block {
-        first_word: 4_656,
-        words: 1_792,
-    },
-];
-
-/// Words of theirs.
-const WORDS: [(usize, u64); 4] = [(1_072, 7), (2_000, 11), (4_656, 3), (6_447, 13)];
-
-/// The image: roots 8 and 9 lead to the two blocks, and a block beside them has a word too.
-fn image(alloc: Global) -> Result<Vec<u64>, Fail> {
-    let mut image = vec![in alloc; 0; 9_264]?;
-    let words = [
-        (0, MAGIC),
-        (1, VERSION),
-        (2, 1),
-        (3, CLEAN),
-        (8, 1),
-        (48, 0x5250_0000_0000_2180),
-        (49, 0x5250_0000_0000_9180),
-        (1_064, 20),
-        (1_065, 9),
-        (2_864, 5),
-    ];
-    write(&mut image, &words);
-    write(&mut image, &WORDS);
-    Ok(image)
-}
 
 /// Stops the recovery of what a crash left at each step until it is done, and makes that of what
 /// each stop left.

@@ -1,6 +1,6 @@
 use Rattle.std.proofs.Common.{◌<◌, arith}
 use Rattle.std.proofs.lemmas.List.Elements.{All-set, All-replicate}
-use Rattle.heap_recover.proofs.tests.kinds.Goals as goal
+use Rattle.heap_recover_tests.proofs.pairs.kinds.Goals as goal
 
 pub returns-clause-below : goal.returns-clause-below
 returns-clause-below c =

@@ -1,66 +1,17 @@
-//! Images recovered. Each heap that comes of one is looked through by the slow check of `rest_check`.
-ghost use Rattle.std.specs.Prelude.{◌≡◌, ◌<◌, length, slice_get, IfOk};
-ghost use Rattle.std.specs.List.{All};
-ghost use Rattle.heap_model.specs.Geometry.{roots};
-ghost use Rattle.heap_recover.specs.PairLinks.{one_link};
+//! Images recovered. Each heap that comes of one is looked through by the slow check of
+//! `rest_check`.
+ghost use Rattle.std.specs.Prelude.{◌<◌};
 
-use super::*;
+use crate::pairs::{Pairs, kinds};
 use crate::rest_check::{is_at_rest, start};
-use filter_trace::Filter;
+use crate::words::{has_words, write};
 use heap_model::BadHeader;
+use heap_recover::{RecoverFault, Recovered, Was, recover};
 use size_table::{SizeClass, blocks_of};
 use std::alloc::{AllocError, Global};
 use std::process::Abort;
 use std::test::Fail;
 use super_block::{Block, CLEAN, LAST_CLASS, MAGIC, VERSION, block_words};
-
-/// Pairs, whose first link is in word 0 and leads to such a pair again (kind 2), or whose second is
-/// in word 2 and leads to a block without links (kind 1).
-pub struct Pairs;
-
-impl Filter for Pairs {
-    const KINDS: u32 = 3;
-
-    ghost use Rattle.heap_recover.specs.PairLinks.{pair_links, pair_links-inside, pair_links-few};
-
-    ghost KINDS = { 3 };
-
-    ghost links_of = { λ _. pair_links };
-
-    fn links(&self, kind: u32, block: &[u64], at: usize) -> Option<(usize, u32)> {
-        match kind {
-            1 => link_in(2, 0, block, at),
-            2 => link_in(0, 2, block, at),
-            _ => None,
-        }
-    }
-
-    ghost inside = { λ _. pair_links-inside };
-
-    ghost few = { λ _. pair_links-few };
-}
-
-/// The one link, in that word of the block, to a block of the kind.
-fn link_in(word: usize, kind: u32, block: &[u64], at: usize) -> Option<(usize, u32)>
-    ensures { result ≡ slice_get (one_link word kind block.now) at }
-{
-    if at == 0 && word < block.len() {
-        Some((word, kind))
-    } else {
-        None
-    }
-}
-
-/// The kinds of the roots: a pair for its first link, and for its second; 0 for the others.
-pub fn kinds(alloc: Global) -> Result<Vec<u32>, AllocError>
-    ensures long { IfOk result (λ kinds. length kinds.items ≡ roots) }
-    ensures below { IfOk result (λ kinds. All (λ kind. kind < 3) kinds.items) }
-{
-    let mut kinds = vec![in alloc; 0; 1_024]?;
-    kinds[0] = 2;
-    kinds[1] = 1;
-    Ok(kinds)
-}
 
 /// Recovers a clean image of so many superblocks, all of them taken, with these words.
 fn recovered(
@@ -100,25 +51,6 @@ fn at_rest(
         words.len()
     );
     Ok(found)
-}
-
-/// Writes words into an image.
-pub fn write(image: &mut [u64], words: &[(usize, u64)]) {
-    for (at, value) in words {
-        if *at < image.len() {
-            image[*at] = *value;
-        }
-    }
-}
-
-/// Whether the heap has these words.
-fn has_words(heap: &Recovered, words: &[(usize, u64)]) -> bool {
-    for (at, value) in words {
-        if heap.heap.words().get(*at) != Some(value) {
-            return false;
-        }
-    }
-    true
 }
 
 // Root 8, and pointers to the first superblock's blocks 0 to 3 of class 20, whose first words are
@@ -331,9 +263,9 @@ fn an_image_left_open_is_told(rt: HostRuntime) -> Result<(), Fail> {
     Ok(())
 }
 
-/// Words that take each superblock for the class, and hold blocks of the first `superblocks`: of each
-/// block `first` and those `step` apart behind it, linked one to the next, the first from root 0;
-/// and how many these are.
+/// Words that take each superblock for the class, and hold blocks of the first `superblocks`: of
+/// each block `first` and those `step` apart behind it, linked one to the next, the first from
+/// root 0; and how many these are.
 fn chained(
     alloc: Global,
     capacity: u64,

@@ -1,6 +1,6 @@
 //! A plain slow check of what a heap at rest is: nothing of recovery or of its proof stands in it.
-use crate::Recovered;
 use anchor_word::{State, unpack};
+use heap_recover::Recovered;
 use region_header::read_header;
 use size_table::{SizeClass, blocks_of};
 use super_block::{
