@@ -12,6 +12,3 @@ pub use fault::MapFault;
 pub use filter::{DictFilter, NODE, OTHER, SHARDS, TABLE, root_kinds};
 pub use laws::recovery_keeps_each_shard;
 pub use read::{maps_of, read_map, read_maps};
-
-#[cfg(test)]
-mod tests;

@@ -1,5 +1,6 @@
-//! Tests of the dictionary on a heap for one thread: what it answers, and what a stop leaves of it.
-//! The crate is nothing but these, so that a change of the program leaves them alone.
+//! Tests of the dictionary: its shards read as maps; and on a heap for one thread what it answers,
+//! and what a stop leaves of it. The crate is nothing but these, so that a change of the program
+//! leaves them alone.
 #![tactic(auto, unfolding(heap_model::specs::Geometry::largest_capacity))]
 
 mod runs;
@@ -16,5 +17,7 @@ mod bad_shards;
 mod checks;
 #[cfg(test)]
 mod run_tests;
+#[cfg(test)]
+mod shards;
 #[cfg(test)]
 mod tests;

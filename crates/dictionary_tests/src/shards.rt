@@ -1,7 +1,6 @@
 //! Shards read from hand-made images.
-#![tactic(auto, unfolding(heap_model::specs::Geometry::largest_capacity))]
 
-use super::*;
+use dictionary::{DictFilter, MapFault, OTHER, read_map, read_maps, root_kinds};
 use heap_recover::{RecoverFault, Recovered, recover};
 use region_header::{Bytes, format};
 use std::alloc::{AllocError, Global};
