@@ -1,0 +1,119 @@
+//! A file that takes the place of another: writing it may fail, and what is left beside it.
+use crate::asserts::must_hold;
+use crate::real_files::{
+    link, make_folder, must_be_link, must_have, must_have_mode, must_lack, set_mode,
+};
+use crate::stores::must_put;
+use crate::watched_files::{Plan, Watched};
+use file_ports::FileStore;
+use std::process::Abort;
+use std::rt::Files;
+use std::test::Fail;
+use tool_ports::{ImageStore, PutImageFault};
+
+// Puts a file over files that are watched.
+fn put_watched<R: Files + AllocGlobal>(
+    rt: &R,
+    plan: &Plan<'_>,
+    name: &str,
+    bytes: &[u8],
+) -> Result<(), PutImageFault> {
+    let files = Watched { files: rt, plan };
+    FileStore::new(&files).put(rt.alloc(), name, bytes)
+}
+
+// Writes three bytes where there is so much room, and so much is left then.
+fn must_write<R: Files + Abort + AllocGlobal>(
+    rt: &R,
+    (name, room): (&str, usize),
+    sync_fails: bool,
+    written: bool,
+    left: usize,
+) {
+    let mut plan = Plan::new();
+    plan.room.set(room);
+    plan.sync_fails = sync_fails;
+    let answer = put_watched(rt, &plan, name, b"abc");
+    must_hold(rt, answer.is_ok() == written, name);
+    must_hold(rt, plan.room.get() == left, name);
+}
+
+#[test]
+fn a_write_or_sync_that_fails_is_told(rt: HostRuntime) -> Result<(), Fail> {
+    must_write(&rt, ("ample", 9), false, true, 6);
+    must_write(&rt, ("exact", 3), false, true, 0);
+    must_write(&rt, ("short", 2), false, false, 0);
+    must_write(&rt, ("none", 0), false, false, 0);
+    must_write(&rt, ("unsynced", 9), true, false, 6);
+    Ok(())
+}
+
+// Puts a file.
+fn put<R: Files + Abort + AllocGlobal>(rt: &R, name: &str, bytes: &[u8]) {
+    must_put(rt, &mut FileStore::new(rt), name, bytes);
+}
+
+#[test]
+fn a_file_that_was_not_written_takes_no_place(rt: HostRuntime) -> Result<(), Fail> {
+    put(&rt, "kept", b"old");
+    let plan = Plan::new();
+    plan.room.set(2);
+    let answer = put_watched(&rt, &plan, "kept", b"half");
+    must_hold(&rt, answer == Err(PutImageFault::Failed), "it has failed");
+    must_have(&rt, "kept", b"old");
+    must_lack(&rt, "kept.new0");
+    Ok(())
+}
+
+#[test]
+fn a_file_keeps_its_mode_and_its_links(rt: HostRuntime) -> Result<(), Fail> {
+    put(&rt, "owned", b"old");
+    set_mode(&rt, "owned", 0o640);
+    link(&rt, "owned", "link");
+    put(&rt, "link", b"new");
+    must_have(&rt, "owned", b"new");
+    must_be_link(&rt, "link");
+    must_have_mode(&rt, "owned", 0o640);
+    Ok(())
+}
+
+// Replaces a file of this mode, which is watched.
+fn must_keep_mode<R: Files + Abort + AllocGlobal>(rt: &R, name: &str, mode: u32) {
+    put(rt, name, b"old");
+    set_mode(rt, name, mode);
+    let mut plan = Plan::new();
+    plan.mode = Some(mode);
+    let answer = put_watched(rt, &plan, name, b"new");
+    must_hold(rt, answer == Ok(()), name);
+    must_have(rt, name, b"new");
+}
+
+#[test]
+fn a_new_file_has_the_old_mode_before_it_takes_the_place(rt: HostRuntime) -> Result<(), Fail> {
+    must_keep_mode(&rt, "own", 0o600);
+    must_keep_mode(&rt, "group", 0o640);
+
+    // Every usual mask leaves out a bit of this one.
+    must_keep_mode(&rt, "all", 0o666);
+    Ok(())
+}
+
+// Puts a file under the name, and then opens this folder.
+fn must_open<R: Files + Abort + AllocGlobal>(rt: &R, name: &str, folder: &str) {
+    let mut plan = Plan::new();
+    plan.path = folder;
+    let answer = put_watched(rt, &plan, name, b"abc");
+    must_hold(rt, answer == Ok(()), name);
+    must_hold(rt, plan.is_opened.get(), folder);
+}
+
+#[test]
+fn the_folder_of_a_name_is_what_stands_before_it(rt: HostRuntime) -> Result<(), Fail> {
+    make_folder(&rt, "a");
+    make_folder(&rt, "a/b");
+    must_open(&rt, "heap", ".");
+    must_open(&rt, "a/b/heap", "a/b");
+    must_open(&rt, "/heap", "/");
+    must_open(&rt, "./heap", ".");
+    Ok(())
+}

@@ -1,0 +1,191 @@
+//! Real files that are watched, and fail as they are told.
+use std::alloc::Allocator;
+use std::cell::Cell;
+use std::fs::{Metadata, OpenFile, OpenOptions, Permissions};
+use std::io::{ErrorKind, Read, Seek, SeekFrom, Write};
+use std::os::unix::fs::PermissionsExt;
+use std::rt::Files;
+use std::{fs, io};
+
+/// The mode of a file, without its type.
+pub fn mode_at<R: Files>(rt: &R, name: &str) -> io::Result<u32> {
+    Ok(fs::metadata(rt, name)?.permissions().mode() & 0o7777)
+}
+
+/// What watched files do, and what was done with them.
+#[derive(Drop)]
+pub struct Plan<'a> {
+    /// A new file is to be made with no more than this mode, and to be renamed with exactly it.
+    pub mode: Option<u32>,
+    /// A file gives three bytes by each read, and this error at the second.
+    pub error: Option<ErrorKind>,
+    /// How many bytes may still be written.
+    pub room: Cell<usize>,
+    pub sync_fails: bool,
+    /// A path, and whether it was opened.
+    pub path: &'a str,
+    pub is_opened: Cell<bool>,
+}
+
+impl<'a> Plan<'a> {
+    /// Nothing fails before nine bytes are written.
+    pub fn new() -> Self {
+        Plan {
+            mode: None,
+            error: None,
+            room: Cell::new(9),
+            sync_fails: false,
+            path: "",
+            is_opened: Cell::new(false),
+        }
+    }
+}
+
+/// A file that is watched.
+#[derive(Drop)]
+pub struct WatchedFile<'a, F: Read + Write + Seek + OpenFile + Drop> {
+    file: F,
+    plan: &'a Plan<'a>,
+    reads: u8,
+}
+
+impl<'a, F: Read + Write + Seek + OpenFile + Drop> Read for WatchedFile<'a, F> {
+    fn read(&mut self, buf: &mut [u8]) -> io::Result<usize> {
+        let Some(error) = self.plan.error else {
+            return self.file.read(buf);
+        };
+        self.reads = self.reads.saturating_add(1);
+        if self.reads == 2 {
+            return Err(error.into());
+        }
+        let most = buf.len().min(3);
+        self.file.read(&mut buf[..most])
+    }
+}
+
+impl<'a, F: Read + Write + Seek + OpenFile + Drop> Write for WatchedFile<'a, F> {
+    fn write(&mut self, buf: &[u8]) -> io::Result<usize> {
+        let room = self.plan.room.get();
+        let count = self.file.write(&buf[..buf.len().min(room)])?;
+        self.plan.room.set(room - count);
+        Ok(count)
+    }
+
+    fn flush(&mut self) -> io::Result<()> {
+        self.file.flush()
+    }
+}
+
+impl<'a, F: Read + Write + Seek + OpenFile + Drop> Seek for WatchedFile<'a, F> {
+    fn seek(&mut self, _: SeekFrom) -> io::Result<u64> {
+        Err(ErrorKind::Unsupported.into())
+    }
+}
+
+impl<'a, F: Read + Write + Seek + OpenFile + Drop> OpenFile for WatchedFile<'a, F> {
+    fn metadata(&self) -> io::Result<Metadata> {
+        self.file.metadata()
+    }
+
+    fn set_len(&self, size: u64) -> io::Result<()> {
+        self.file.set_len(size)
+    }
+
+    fn sync_all(&self) -> io::Result<()> {
+        if self.plan.sync_fails {
+            return Err(ErrorKind::Other.into());
+        }
+        self.file.sync_all()
+    }
+
+    fn sync_data(&self) -> io::Result<()> {
+        self.sync_all()
+    }
+
+    fn set_permissions(&self, perm: Permissions) -> io::Result<()> {
+        self.file.set_permissions(perm)
+    }
+}
+
+/// Files that are watched. Their root is the folder that the tests run in.
+#[derive(Drop)]
+pub struct Watched<'a, R: Files> {
+    pub files: &'a R,
+    pub plan: &'a Plan<'a>,
+}
+
+// Where a path leads.
+fn place_of(path: &str) -> &str {
+    match path.strip_prefix('/') {
+        Some("") => ".",
+        Some(below) => below,
+        None => path,
+    }
+}
+
+// Has a mode that is to be watched, and not this one.
+fn is_wrong(mode: u32, plan: &Plan<'_>) -> bool {
+    plan.mode.unwrap_or(mode) != mode
+}
+
+impl<'a, R: Files> Files for Watched<'a, R> {
+    type File = WatchedFile<'a, R::File>;
+
+    type Dir = R::Dir;
+
+    fn open_file(&self, how: &OpenOptions, path: &str) -> io::Result<WatchedFile<'a, R::File>> {
+        let file = self.files.open_file(how, place_of(path))?;
+        if path == self.plan.path {
+            self.plan.is_opened.set(true);
+        }
+        let allowed = self.plan.mode.unwrap_or(u32::MAX);
+        if how.asks_create_new() && mode_at(self.files, place_of(path))? & !allowed != 0 {
+            return Err(ErrorKind::Other.into());
+        }
+        Ok(WatchedFile {
+            file,
+            plan: self.plan,
+            reads: 0,
+        })
+    }
+
+    fn rename(&self, from: &str, to: &str) -> io::Result<()> {
+        if is_wrong(mode_at(self.files, place_of(from))?, self.plan) {
+            return Err(ErrorKind::Other.into());
+        }
+        self.files.rename(place_of(from), place_of(to))
+    }
+
+    fn metadata(&self, path: &str) -> io::Result<Metadata> {
+        self.files.metadata(place_of(path))
+    }
+
+    fn remove_file(&self, path: &str) -> io::Result<()> {
+        self.files.remove_file(place_of(path))
+    }
+
+    // No get and no put calls the rest.
+    fn open_dir(&self, path: &str) -> io::Result<R::Dir> {
+        self.files.open_dir(path)
+    }
+
+    fn symlink_metadata(&self, path: &str) -> io::Result<Metadata> {
+        self.files.symlink_metadata(path)
+    }
+
+    fn copy(&self, from: &str, to: &str) -> io::Result<u64> {
+        self.files.copy(from, to)
+    }
+
+    fn create_dir(&self, path: &str) -> io::Result<()> {
+        self.files.create_dir(path)
+    }
+
+    fn remove_dir(&self, path: &str) -> io::Result<()> {
+        self.files.remove_dir(path)
+    }
+
+    fn remove_dir_all<B: Allocator>(&self, alloc: B, path: &str) -> io::Result<()> {
+        self.files.remove_dir_all(alloc, path)
+    }
+}
