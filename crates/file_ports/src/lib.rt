@@ -1,8 +1,6 @@
 //! The outside of the tool as it really is: images in files, and its input and output.
 #![tactic(auto)]
 
-#[cfg(test)]
-mod asserts;
 mod file_store;
 mod input_source;
 mod output_sink;

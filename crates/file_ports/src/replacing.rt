@@ -128,6 +128,3 @@ fn folder_of(name: &str) -> &str {
         None => ".",
     }
 }
-
-#[cfg(test)]
-mod tests;

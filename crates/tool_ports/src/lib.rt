@@ -28,6 +28,3 @@ pub use sink::{Failed, Sink, write_all};
 pub use source::Source;
 pub use store_calls::StoreCalls;
 pub use vec_sink::VecSink;
-
-#[cfg(test)]
-mod tests;
