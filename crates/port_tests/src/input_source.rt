@@ -1,5 +1,5 @@
-//! The tool's input as a source, over a reader that is interrupted and fails. What is counted is told
-//! by a clause, since the count is seen by no call.
+//! The tool's input as a source, over a reader that is interrupted and fails. What is counted is
+//! told by a clause, since the count is seen by no call.
 ghost use Rattle.std.specs.Prelude.{IsErrOf};
 ghost use Rattle.file_ports.specs.InputSource.{fault_count};
 ghost use Rattle.tool_ports.specs.Causes.{HasCause};
