@@ -25,7 +25,7 @@ fn must_keep<I: ImageStore>(rt: &(impl Abort + AllocGlobal), store: &mut I, byte
 }
 
 // A store that has kept images.
-fn keeper<'a, R: Files + Abort + AllocGlobal>(rt: &'a R, long: &[u8]) -> FileStore<'a, R>
+fn store_that_kept<'a, R: Files + Abort + AllocGlobal>(rt: &'a R, long: &[u8]) -> FileStore<'a, R>
     ensures { fault_count result ≡ 0 }
 {
     let mut store = FileStore::new(rt);
@@ -38,13 +38,13 @@ fn keeper<'a, R: Files + Abort + AllocGlobal>(rt: &'a R, long: &[u8]) -> FileSto
 #[test]
 fn an_image_is_put_in_a_file_and_got_back(rt: HostRuntime) -> Result<(), Fail> {
     let long = vec![in rt.alloc(); 7; 9_999]?;
-    let _ = keeper(&rt, &long);
+    let _ = store_that_kept(&rt, &long);
     must_lack(&rt, "image.new0");
     Ok(())
 }
 
 // A store that has put a long image, and got its first bytes.
-fn first_of_long<'a, R: Files + Abort + AllocGlobal>(
+fn store_that_gave_first<'a, R: Files + Abort + AllocGlobal>(
     rt: &'a R,
     long: &[u8],
     first: &[u8],
@@ -64,14 +64,14 @@ fn a_long_file_gives_its_first_bytes(rt: HostRuntime) -> Result<(), Fail> {
     let first = vec![in rt.alloc(); 7; 10_000]?;
     let mut long = vec![in rt.alloc(); 7; 10_000]?;
     long.push(8)?;
-    let _ = first_of_long(&rt, &long, &first);
+    let _ = store_that_gave_first(&rt, &long, &first);
     let length = fs::metadata(&rt, "long")?.len();
     must_hold(&rt, length == 10_001, "its length");
     Ok(())
 }
 
 // A store that has refused to put a file in the place of a link to itself.
-fn refuser<'a, R: Files + Abort + AllocGlobal>(rt: &'a R) -> FileStore<'a, R>
+fn store_that_refused<'a, R: Files + Abort + AllocGlobal>(rt: &'a R) -> FileStore<'a, R>
     ensures { 1 ≤ fault_count result }
 {
     let mut store = FileStore::new(rt);
@@ -82,7 +82,7 @@ fn refuser<'a, R: Files + Abort + AllocGlobal>(rt: &'a R) -> FileStore<'a, R>
 
 #[test]
 fn a_file_whose_mode_cannot_be_told_is_not_replaced(rt: HostRuntime) -> Result<(), Fail> {
-    let _ = refuser(&rt);
+    let _ = store_that_refused(&rt);
     must_be_link(&rt, "loop");
     must_lack(&rt, "loop.new0");
     Ok(())
@@ -98,7 +98,7 @@ fn a_put_touches_no_other_file(rt: HostRuntime) -> Result<(), Fail> {
 }
 
 // A store that has found no such image.
-fn misser<'a, R: Files + Abort + AllocGlobal>(rt: &'a R) -> FileStore<'a, R>
+fn store_that_missed<'a, R: Files + Abort + AllocGlobal>(rt: &'a R) -> FileStore<'a, R>
     ensures { fault_count result ≡ 0 }
 {
     let mut store = FileStore::new(rt);
@@ -118,7 +118,7 @@ fn fail_thrice<R: Files + Abort + AllocGlobal>(rt: &R, store: &mut FileStore<'_,
 #[test]
 fn what_is_not_there_is_absent_and_all_else_has_failed(rt: HostRuntime) -> Result<(), Fail> {
     make_folder(&rt, "folder");
-    let mut store = misser(&rt);
+    let mut store = store_that_missed(&rt);
     fail_thrice(&rt, &mut store);
     must_lack(&rt, "folder.new0");
     Ok(())
