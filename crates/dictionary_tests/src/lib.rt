@@ -1,6 +1,6 @@
-//! Tests of the dictionary: its shards read as maps; and on a heap for one thread what it answers,
-//! and what a stop leaves of it. The crate is nothing but these, so that a change of the program
-//! leaves them alone.
+//! Tests of the dictionary: its links, and its shards read as maps; and on a heap for one thread
+//! what it answers, and what a stop leaves of it. The crate is nothing but these, so that a change
+//! of the program leaves them alone.
 #![tactic(auto, unfolding(heap_model::specs::Geometry::largest_capacity))]
 
 mod runs;
@@ -15,6 +15,8 @@ mod asks;
 mod bad_shards;
 #[cfg(test)]
 mod checks;
+#[cfg(test)]
+mod filter;
 #[cfg(test)]
 mod run_tests;
 #[cfg(test)]
