@@ -1,5 +1,5 @@
 -- What a superblock is used for, by whether it is free and by its info.
-use Rattle.std.proofs.Common.{◌≡◌, ℕ, ◌+◌, ◌*◌, ◌/◌, ◌%◌, ◌≤◌, Bool, true, false, nat_eq, nat_le, ◌&&◌, List, codes, refl, ap, arith, leb-true, eqb-true}
+use Rattle.std.proofs.Common.{◌≡◌, ℕ, ◌+◌, ◌*◌, ◌/◌, ◌%◌, ◌≤◌, Bool, true, false, nat_eq, nat_le, ◌&&◌, List, codes, refl, ap, ◌∙◌, arith, leb-true, eqb-true}
 use Rattle.std.proofs.lemmas.Bool.{le-leb, eq-eqb}
 use Rattle.std.specs.List.{list_any}
 use Rattle.trace_text.proofs.OrderLemmas.{both}
@@ -10,7 +10,7 @@ use Rattle.heap_model.specs.Image.{Image}
 use Rattle.heap_model.specs.Sizes.{IsClass}
 use Rattle.super_block.specs.declared.info.Info.TheVariants.{Nothing}
 use Rattle.super_block.specs.Info.{Says}
-use Rattle.trace_text.specs.HeapMap.{is_class, is_large, use_of, class_use, large_use, inside_use, first_of}
+use Rattle.trace_text.specs.HeapMap.{is_class, is_large, use_if, use_of, class_use, large_use, inside_use, first_of}
 
 first_holds : (s t : Bool) → (s && t) ≡ true → s ≡ true
 first_holds true t h = refl
@@ -38,28 +38,40 @@ not_large w none = not_true (is_large w) (λ h.
     none (w / 256) (omega arith) (omega arith))
 
 -- it is one of a large block behind the first
+pub use_if-inside : (image : Image) (held : List Block) (d : ℕ) → Says (image (info_word d)) Nothing
+    → use_if false image held d ≡ inside_use (first_of (capacity_of image) d held)
+use_if-inside image held d says = rw (no_class (image (info_word d)) says.0, not_large (image (info_word d)) says.1) refl
+
 pub use_of-inside : (image : Image) (held : List Block) (free : List ℕ) (d : ℕ) → list_any (λ f. nat_eq f d) free ≡ false
     → Says (image (info_word d)) Nothing → use_of image held free d ≡ inside_use (first_of (capacity_of image) d held)
-use_of-inside image held free d taken says =
-    rw (taken, no_class (image (info_word d)) says.0, not_large (image (info_word d)) says.1) refl
+use_of-inside image held free d taken says = ap (λ is_free. use_if is_free image held d) taken ∙ use_if-inside image held d says
 
 -- the other uses
-pub use_of-free : (image : Image) (held : List Block) (free : List ℕ) (d : ℕ) → list_any (λ f. nat_eq f d) free ≡ true → use_of image held free d ≡ codes "free"
-use_of-free image held free d listed = rw listed refl
-
-pub use_of-class : (image : Image) (held : List Block) (free : List ℕ) (d : ℕ) → list_any (λ f. nat_eq f d) free ≡ false
-    → IsClass (image (info_word d)) → use_of image held free d ≡ class_use (capacity_of image) (image (info_word d)) held d
-use_of-class image held free d taken is =
+pub use_if-class : (image : Image) (held : List Block) (d : ℕ) → IsClass (image (info_word d))
+    → use_if false image held d ≡ class_use (capacity_of image) (image (info_word d)) held d
+use_if-class image held d is =
     let test : is_class (image (info_word d)) ≡ true =
     both (nat_le 1 (image (info_word d))) (nat_le (image (info_word d)) 20) (le-leb _ _ is.some) (le-leb _ _ is.last) in
-    rw (taken, test) refl
+    rw test refl
 
-pub use_of-large : (image : Image) (held : List Block) (free : List ℕ) (d superblocks : ℕ) → list_any (λ f. nat_eq f d) free ≡ false
-    → 1 ≤ superblocks → image (info_word d) ≡ 255 + 256 * superblocks → use_of image held free d ≡ large_use superblocks
-use_of-large image held free d superblocks taken some info =
+pub use_if-large : (image : Image) (held : List Block) (d superblocks : ℕ) → 1 ≤ superblocks → image (info_word d) ≡ 255 + 256 * superblocks
+    → use_if false image held d ≡ large_use superblocks
+use_if-large image held d superblocks some info =
     let other : is_class (image (info_word d)) ≡ false = no_class (image (info_word d)) (λ is. let last = is.last in omega arith) in
     let rest : image (info_word d) % 256 ≡ 255 = omega arith in
     let count : image (info_word d) / 256 ≡ superblocks = omega arith in
     let test : is_large (image (info_word d)) ≡ true =
     both (nat_le 511 (image (info_word d))) (nat_eq (image (info_word d) % 256) 255) (le-leb 511 _ (omega arith)) (eq-eqb _ 255 rest) in
-    rw (taken, other, test) (ap large_use count)
+    rw (other, test) (ap large_use count)
+
+pub use_of-free : (image : Image) (held : List Block) (free : List ℕ) (d : ℕ) → list_any (λ f. nat_eq f d) free ≡ true → use_of image held free d ≡ codes "free"
+use_of-free image held free d listed = rw listed refl
+
+pub use_of-class : (image : Image) (held : List Block) (free : List ℕ) (d : ℕ) → list_any (λ f. nat_eq f d) free ≡ false
+    → IsClass (image (info_word d)) → use_of image held free d ≡ class_use (capacity_of image) (image (info_word d)) held d
+use_of-class image held free d taken is = ap (λ is_free. use_if is_free image held d) taken ∙ use_if-class image held d is
+
+pub use_of-large : (image : Image) (held : List Block) (free : List ℕ) (d superblocks : ℕ) → list_any (λ f. nat_eq f d) free ≡ false
+    → 1 ≤ superblocks → image (info_word d) ≡ 255 + 256 * superblocks → use_of image held free d ≡ large_use superblocks
+use_of-large image held free d superblocks taken some info =
+    ap (λ is_free. use_if is_free image held d) taken ∙ use_if-large image held d superblocks some info

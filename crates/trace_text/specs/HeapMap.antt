@@ -6,7 +6,8 @@ use Rattle.heap_model.specs.declared.block.Block.{Block}
 use Rattle.heap_model.specs.Geometry.{info_word, start_word, superblock_words}
 use Rattle.heap_model.specs.Header.{capacity_of, used_of}
 use Rattle.heap_model.specs.Image.{Image}
-use Rattle.heap_model.specs.Sizes.{words_of_class}
+use Rattle.heap_model.specs.Sizes.{last_class, words_of_class}
+use Rattle.heap_model.specs.Words.{large_info}
 use Rattle.trace_text.specs.Report.{line_feed}
 use Rattle.trace_text.specs.Ranges.{ranges_of}
 
@@ -40,10 +41,10 @@ first_of capacity d held = option_map_or (superblock_of capacity) (find (reaches
 
 -- whether the info word is a class, or that of a large block's first superblock
 abbrev pub is_class : ℕ → Bool
-is_class info = nat_le 1 info && nat_le info 20
+is_class info = nat_le 1 info && nat_le info last_class
 
 abbrev pub is_large : ℕ → Bool
-is_large info = nat_le 511 info && (info % 256 == 255)
+is_large info = nat_le (large_info 1) info && (info % 256 == large_info 0)
 
 -- what a superblock that is cut for the class is used for, in words
 abbrev pub class_use : ℕ → ℕ → List Block → ℕ → List ℕ
@@ -57,13 +58,17 @@ large_use superblocks = codes "large " ++ decimal superblocks
 abbrev pub inside_use : ℕ → List ℕ
 inside_use first = codes "inside " ++ decimal first
 
--- what superblock d is used for, in words
-abbrev pub use_of : Image → List Block → List ℕ → ℕ → List ℕ
-use_of image held free d =
-    if list_any (λ f. f == d) free then codes "free"
+-- what superblock d is used for, in words, by whether it is free
+abbrev pub use_if : Bool → Image → List Block → ℕ → List ℕ
+use_if is_free image held d =
+    if is_free then codes "free"
     else if is_class (image (info_word d)) then class_use (capacity_of image) (image (info_word d)) held d
     else if is_large (image (info_word d)) then large_use (image (info_word d) / 256)
     else inside_use (first_of (capacity_of image) d held)
+
+-- the same where these are the free ones
+abbrev pub use_of : Image → List Block → List ℕ → ℕ → List ℕ
+use_of image held free d = use_if (list_any (λ f. f == d) free) image held d
 
 -- the line of a superblock
 abbrev pub line_of : ℕ → List ℕ → List ℕ

@@ -3,7 +3,7 @@ use Rattle.std.specs.Prelude.{ℕ, ◌*◌, ◌==◌, if◌then◌else◌, Bool,
 use Rattle.std.specs.List.{flat_map, range_with_len}
 use Rattle.heap_model.specs.declared.block.Block.{Block}
 use Rattle.heap_model.specs.Geometry.{superblock_words}
-use Rattle.heap_model.specs.Sizes.{size_of, words_of_class}
+use Rattle.heap_model.specs.Sizes.{last_class, size_of, words_of_class}
 
 -- how a line ends
 abbrev pub line_feed : List ℕ
@@ -29,7 +29,7 @@ count_line what number count = if count == 0 then [] else what ++ decimal number
 
 -- the size classes
 unfoldable pub classes : List ℕ
-classes = range_with_len 1 20
+classes = range_with_len 1 last_class
 
 -- how many blocks of the class are held, under their size in bytes
 abbrev pub class_line : List Block → ℕ → List ℕ

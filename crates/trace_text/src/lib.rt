@@ -1,4 +1,5 @@
-//! The texts that the tool prints of a heap, as bytes.
+//! The texts of the tool, as bytes: traces and schedules are read, and replies, answers, reports
+//! and maps of heaps are printed.
 #![tactic(auto, using(heap_model::specs::Geometry::largest_capacity_fits))]
 
 mod answered;

@@ -4,7 +4,8 @@ ghost use Rattle.std.specs.String.{string_bytes};
 ghost use Rattle.std.specs.List.{AllWithin};
 ghost use Rattle.heap_model.specs.declared.block.Block.{Block};
 ghost use Rattle.heap_model.specs.Header.{IsWellFormed, capacity_of, used_of};
-ghost use Rattle.trace_text.specs.HeapMap.{AreInOrder, begins_in, held_indexes, first_of, class_use, inside_use, line_of, superblock_line, used_line, map_of};
+ghost use Rattle.trace_text.specs.HeapMap.{AreInOrder, begins_in, held_indexes, first_of, class_use, inside_use, line_of, use_if, used_line, map_of};
+ghost use Rattle.trace_text.specs.Listed.{AreMarksOf};
 
 use crate::ranges::write_ranges;
 use region_header::Bytes;
@@ -35,12 +36,26 @@ pub(crate) fn map_of_image(
     ensures ok { IfOk result (λ text. text ≡ map_of (slice_index words.now) held.now free.now) }
 {
     let used = words[USED_WORD as usize];
+    let are_free = marks_of(alloc, free, used as usize)?;
     let mut text = String::new(alloc);
     write_used_line(&mut text, words, free)?;
     for d in 0..used {
-        write_superblock_line(&mut text, words, held, free, d)?;
+        write_superblock_line(&mut text, words, held, are_free[d as usize], d)?;
     }
     Ok(Bytes::from_vec(text.into_bytes()))
+}
+
+/// Of each of the first superblocks whether it is listed, so that a line needs no search.
+fn marks_of(alloc: Global, listed: &[u32], superblocks: usize) -> Result<Vec<bool>, AllocError>
+    ensures ok { IfOk result (λ marks. AreMarksOf listed.now superblocks marks.items) }
+{
+    let mut marks = vec![in alloc; false; superblocks]?;
+    for d in listed {
+        if (*d as usize) < superblocks {
+            marks[*d as usize] = true;
+        }
+    }
+    Ok(marks)
 }
 
 fn write_used_line(text: &mut String, words: &[u64], free: &[u32]) -> Result<(), AllocError>
@@ -58,16 +73,16 @@ fn write_superblock_line(
     text: &mut String,
     words: &[u64],
     held: &[Block],
-    free: &[u32],
+    is_free: bool,
     d: u64,
 ) -> Result<(), AllocError>
     requires formed { IsWellFormed (8 * length words.now) (slice_index words.now) }
     requires taken { d < used_of (slice_index words.now) }
     requires in_order { AreInOrder held.now }
     ensures ok { OnOk result (string_bytes text.new
-        ≡ string_bytes text.old ++ superblock_line (slice_index words.now) held.now free.now d) }
+        ≡ string_bytes text.old ++ line_of d (use_if is_free (slice_index words.now) held.now d)) }
 {
-    if free.contains(&(d as u32)) {
+    if is_free {
         return writeln!(text, "sb {d} free");
     }
     let geometry = Geometry::new(words[CAPACITY_WORD as usize]);
