@@ -143,6 +143,8 @@ impl ImageStore for MapStore {
         // the chosen calls fail, and no other, and leave what was chosen
         ensures failed { IsErrOf result PutImageFault.Failed → IsToFail self.old }
         ensures to_fail { IsToFail self.old → IsErr result }
+        ensures told { failed_put_of self.old ≡ FailedPut.LeavesOld → IsToFail self.old
+            → IsErrOf result PutImageFault.Failed }
         ensures leaves_old { IsErrOf result PutImageFault.Failed →
             failed_put_of self.old ≡ FailedPut.LeavesOld →
             images_of self.new ≡ images_of self.old }
