@@ -100,6 +100,8 @@ def main(runs="9", superblocks="256", path=None):
         each = f"{ms * 1e6 / count:,.0f}" if count else ""
         memory = f"{peak / 1e6:.1f} | {peak / held[name]:.1f}" if peak > own_peak() else "|"
         print(f"| {name} | {ms:.1f} | {each} | {cpu:.1f} | {memory} |")
+    printing, cpu = (least[f"run, gen {MOST:,}"][k] - least[f"run --sum, gen {MOST:,}"][k] for k in (0, 1))
+    print(f"| printing each reply in place of their sum, by difference | {printing:.1f} | {printing * 1e6 / MOST:,.0f} | {cpu:.1f} | | |")
     if path:
         write_rows(path, least)
     for way in ("gen", "run, gen", "run --sum, gen"):
