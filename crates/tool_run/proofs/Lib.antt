@@ -24,3 +24,5 @@ pub mod WalkingLemmas
 pub mod FormLemmas
 pub mod RunFormLemmas
 pub mod OutsideLeftLemmas
+pub mod FaultlessLemmas
+pub mod TakenLemmas

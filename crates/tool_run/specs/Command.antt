@@ -1,5 +1,5 @@
 -- The words of the command line, and the command that they ask for.
-use Rattle.std.specs.Prelude.{ℕ, ◌<◌, ◌≤◌, ◌^◌, Bool, List, [], map, String, string_bytes}
+use Rattle.std.specs.Prelude.{ℕ, ◌⊎◌, ◌<◌, ◌≤◌, ◌^◌, Bool, List, [], map, String, string_bytes}
 use Rattle.std.specs.declared.alloc.Global.{Global}
 use Rattle.clap.specs.Words.{matches_of}
 use Rattle.heap_model.specs.Geometry.{largest_capacity}
@@ -105,3 +105,8 @@ Asks words (replay_image image seed) = AsksToReplay words image seed
 -- the words ask for no command
 abbrev pub IsUsage : List (List ℕ) → Type 0
 IsUsage words = (command : Command) → ¬ (Asks words command)
+
+-- the first word names a command, and clap finds no fault in the words behind it
+abbrev pub IsFaultless : List (List ℕ) → Type 0
+IsFaultless words = IsTaken format_app words ⊎ IsTaken show_app words ⊎ IsTaken drain_app words ⊎ IsTaken gen_app words
+    ⊎ IsTaken run_app words ⊎ IsTaken rebuild_app words ⊎ IsTaken replay_app words

@@ -18,6 +18,6 @@ mod status;
 mod trace_plan;
 mod working;
 
-pub use laws::words_in_a_form_ask_for_its_command;
+pub use laws::{words_in_a_form_ask_for_its_command, words_without_a_fault_ask_for_a_command};
 pub use run::{run_tool, tell_out_of_memory};
 pub use status::Status;
