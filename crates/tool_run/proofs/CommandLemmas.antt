@@ -1,6 +1,7 @@
 -- What clap's matches say of the command that is asked for.
-use Rattle.std.proofs.Common.{◌≡◌, ◌≤◌, ◌<◌, ◌^◌, ◌∙◌, ℕ, Bool, List, [], Option, Some, None, Result, Ok, Err, IfNone, codes, refl, sym, ap, inl, inr, arith}
+use Rattle.std.proofs.Common.{◌≡◌, ◌≤◌, ◌<◌, ◌^◌, ◌∙◌, ℕ, Bool, List, [], ◌∷◌, length, String, Option, Some, None, Result, Ok, Err, IfNone, codes, refl, sym, ap, inl, inr, arith}
 use Rattle.std.specs.Prelude.{slice_get, unwrap_or}
+use Rattle.std.specs.declared.alloc.Global.{Global}
 use Rattle.std.specs.Str.Parse.{ParsesUnsigned}
 use Rattle.clap.specs.Words.{App, Row, ReadsOne, first_of, one_text, first_value, rows_of, found_of, fault_of, matches_of}
 use Rattle.clap.specs.declared.parser.matches.ArgMatches.{ArgMatches}
@@ -8,7 +9,7 @@ use Rattle.clap.specs.declared.parser.matches.Found.{Found}
 use Rattle.clap.proofs.WalkLemmas.{one_text-rows, first_value-rows}
 use Rattle.heap_model.specs.Geometry.{largest_capacity}
 use Rattle.heap_model.specs.Sizes.{IsClass}
-use Rattle.tool_run.specs.Command.{format_image, show_image, drain_image, gen_trace, run_image, rebuild_image, replay_image, AsksToFormat, AsksToShow, AsksToDrain, AsksToGen, AsksToRun, AsksToRebuild, AsksToReplay, IsUsage}
+use Rattle.tool_run.specs.Command.{format_image, show_image, drain_image, gen_trace, run_image, rebuild_image, replay_image, texts, AsksToFormat, AsksToShow, AsksToDrain, AsksToGen, AsksToRun, AsksToRebuild, AsksToReplay, IsUsage}
 use Rattle.tool_run.specs.declared.trace_plan.TheConstants.{MOST_REQUESTS, GREATEST_SEED}
 use Rattle.image_run.specs.Running.{Options}
 use Rattle.image_run.specs.declared.options.TheConstants.{MOST_WORKERS, MOST_BUDGET}
@@ -72,7 +73,7 @@ module _ (app : App) (words : List (List ℕ)) (m : ArgMatches) (taken : IsMatch
   rows_taken : (wanted : App) → app ≡ wanted → rows_of (found_of m) ≡ matches_of wanted words
   rows_taken wanted is = taken.rows_are ∙ ap (λ (a : App). matches_of a words) is
 
-  is_taken : (wanted : App) → app ≡ wanted → slice_get words 0 ≡ Some wanted.top.name → IsTaken wanted words
+  pub is_taken : (wanted : App) → app ≡ wanted → slice_get words 0 ≡ Some wanted.top.name → IsTaken wanted words
   is_taken wanted is first = record { named = first; faultless = sym (ap (λ (a : App). fault_of a words) is) ∙ taken.faultless }
 
   pub asks_format : app ≡ format_app → slice_get words 0 ≡ Some (codes "format") → (image : List ℕ) (n : ℕ)
@@ -235,6 +236,11 @@ no_name : (words : List (List ℕ)) (name : List ℕ) → words ≡ [] → slice
 no_name words name none first =
     let bad : None ≡ Some name = sym (ap (λ ws. slice_get ws 0) none) ∙ first in
     cc
+
+-- no words have no texts
+pub no_texts : (words : List (String Global)) → length words < 1 → texts words ≡ []
+no_texts [] none = refl
+no_texts (word ∷ rest) none = absurd (omega arith)
 
 -- nor do no words
 pub usage_none : (words : List (List ℕ)) → words ≡ [] → IsUsage words

@@ -1,5 +1,5 @@
 -- Words that clap takes ask for a command: each text and number that a command wants is there, and lies in its bounds.
-use Rattle.std.proofs.Common.{◌≡◌, ◌∙◌, ◌⊎◌, ◌↔◌, ◌≤◌, ◌<◌, ◌^◌, ◌-◌, ◌&&◌, ◌||◌, ◌++◌, ℕ, zero, suc, Bool, true, false, not, cond, List, [], ◌∷◌, Option, Some, None, codes, refl, sym, ap, subst, take, drop, is_some, inl, inr, true≢false, arith}
+use Rattle.std.proofs.Common.{◌≡◌, ◌∙◌, ◌⊎◌, ◌↔◌, ◌≤◌, ◌<◌, ◌^◌, ◌-◌, ◌&&◌, ◌||◌, ◌++◌, ℕ, zero, suc, Bool, true, false, not, cond, List, [], ◌∷◌, Option, Some, None, Result, Ok, Err, IfOk, codes, refl, sym, ap, subst, take, drop, is_some, inl, inr, true≢false, arith}
 use Rattle.std.specs.Prelude.{slice_get, unwrap_or}
 use Rattle.std.specs.List.{find, list_any}
 use Rattle.std.specs.Option.{option_map, option_map_or, option_and_then}
@@ -329,6 +329,7 @@ module _ (words : List Text) where
 -- ---- the first word names the command
 
 pub faultless_asks : (words : List Text) → IsFaultless words → (command : Command) × Asks words command
+unfolding IsFaultless
 faultless_asks words faultless = elim faultless [
   | inl taken ↦ let asked = format_asked words taken in (format_image asked.0 asked.1, asked.2)
   | inr (inl taken) ↦ let asked = show_asked words taken in (show_image asked.0 asked.1, asked.2)
@@ -340,6 +341,7 @@ faultless_asks words faultless = elim faultless [
 ]
 
 pub asks_faultless : (words : List Text) (command : Command) → Asks words command → IsFaultless words
+unfolding IsFaultless
 asks_faultless words (format_image image capacity) asks = inl asks.taken
 asks_faultless words (show_image image with_map) asks = inr (inl asks.taken)
 asks_faultless words (drain_image image class) asks = inr (inr (inl asks.taken))
@@ -352,3 +354,8 @@ pub usage_faulty : (words : List Text) → IsUsage words → IsFaultless words �
 usage_faulty words none faultless =
     let asked = faultless_asks words faultless in
     none asked.0 asked.1
+
+-- words that were read as a command are such
+pub faultless_if_ok : {T E : Type 0} (words : List Text) (command_of : T → Command) (result : Result T E) → IfOk result (λ x. Asks words (command_of x)) → IfOk result (λ x. IsFaultless words)
+faultless_if_ok words command_of (Ok x) asks = asks_faultless words (command_of x) asks
+faultless_if_ok words command_of (Err e) asks = tt

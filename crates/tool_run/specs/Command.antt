@@ -107,6 +107,6 @@ abbrev pub IsUsage : List (List ℕ) → Type 0
 IsUsage words = (command : Command) → ¬ (Asks words command)
 
 -- the first word names a command, and clap finds no fault in the words behind it
-abbrev pub IsFaultless : List (List ℕ) → Type 0
+unfoldable pub IsFaultless : List (List ℕ) → Type 0
 IsFaultless words = IsTaken format_app words ⊎ IsTaken show_app words ⊎ IsTaken drain_app words ⊎ IsTaken gen_app words
     ⊎ IsTaken run_app words ⊎ IsTaken rebuild_app words ⊎ IsTaken replay_app words

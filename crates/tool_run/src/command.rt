@@ -1,6 +1,8 @@
 //! The command that the words of the command line ask for, as the crate clap takes them.
-ghost use Rattle.std.specs.Prelude.{◌≡◌, ℕ, Bool, List, Some, codes, slice_get, IfOk, IsErrOf};
-ghost use Rattle.tool_run.specs.Command.{Asks, AsksToFormat, AsksToShow, AsksToDrain, AsksToGen, AsksToRun, AsksToRebuild, AsksToReplay, IsUsage, texts, image_name};
+ghost use Rattle.std.specs.Prelude.{◌≡◌, ◌≢◌, ℕ, Bool, List, [], Some, codes, slice_get, IfOk, IsErrOf};
+ghost use Rattle.clap.specs.Words.{fault_of};
+ghost use Rattle.tool_run.specs.Command.{Asks, AsksToFormat, AsksToShow, AsksToDrain, AsksToGen, AsksToRun, AsksToRebuild, AsksToReplay, IsFaultless, IsUsage, texts, image_name};
+ghost use Rattle.tool_run.specs.CommandLine.{format_app, show_app, drain_app, gen_app, run_app, rebuild_app, replay_app};
 ghost use Rattle.image_run.specs.Running.{Options};
 ghost use Rattle.tool_run.specs.Inside.{command_of};
 
@@ -68,10 +70,14 @@ impl<'a> Invocation<'a> {
     }
 }
 
-/// The invocation that the words are. The first one chooses the command; clap reads the others.
+/// The invocation that the words are. The first one chooses the command; clap reads the others, and
+/// where it finds no fault in them, they ask for the command: no words are refused but those that
+/// name none, and those in which clap finds a fault.
 pub fn parse<'a>(alloc: Global, words: &'a [String]) -> Result<Invocation<'a>, Refusal>
     ensures ok { IfOk result (λ invocation. Asks (texts words.entry.now) (command_of invocation)) }
     ensures err { IsErrOf result Refusal.Usage → IsUsage (texts words.entry.now) }
+    ensures faultless { IfOk result (λ _. IsFaultless (texts words.entry.now)) }
+    ensures faulty { IsErrOf result Refusal.Usage → ¬ (IsFaultless (texts words.entry.now)) }
 {
     match words {
         [first, ..] => parse_command(alloc, first.as_str(), words),
@@ -112,18 +118,22 @@ fn parse_command<'a>(
     Err(Refusal::Usage)
 }
 
+// In words that clap takes, each argument that has to be there is, and each number lies in its
+// bounds: the arms for the want of one are never reached, here and in the functions below.
 fn parse_format<'a>(alloc: Global, words: &'a [String]) -> Result<Invocation<'a>, Refusal>
     requires { slice_get (texts words.now) 0 ≡ Some (codes "format") }
     ensures ok { IfOk result (λ invocation. Asks (texts words.entry.now) (command_of invocation)) }
     ensures err { IsErrOf result Refusal.Usage → (image : List ℕ) (capacity : ℕ)
         → AsksToFormat (texts words.entry.now) image capacity → ⊥ }
+    ensures usage { IsErrOf result Refusal.Usage
+        → fault_of format_app (texts words.entry.now) ≢ [] }
 {
     let matches = match_words(format_command(alloc)?, words)?;
     let Some(image) = text_of(&matches, "IMAGE") else {
-        return Err(Refusal::Usage);
+        unreachable!();
     };
     let Some(capacity) = number_of(&matches, "S", 1, LARGEST_CAPACITY) else {
-        return Err(Refusal::Usage);
+        unreachable!();
     };
     let layout = Geometry::new(capacity);
     Ok(Invocation::Format { image, layout })
@@ -134,10 +144,12 @@ fn parse_show<'a>(alloc: Global, words: &'a [String]) -> Result<Invocation<'a>, 
     ensures ok { IfOk result (λ invocation. Asks (texts words.entry.now) (command_of invocation)) }
     ensures err { IsErrOf result Refusal.Usage → (image : List ℕ) (with_map : Bool)
         → AsksToShow (texts words.entry.now) image with_map → ⊥ }
+    ensures usage { IsErrOf result Refusal.Usage
+        → fault_of show_app (texts words.entry.now) ≢ [] }
 {
     let matches = match_words(show_command(alloc)?, words)?;
     let Some(image) = text_of(&matches, "IMAGE") else {
-        return Err(Refusal::Usage);
+        unreachable!();
     };
     let with_map = has_flag(&matches, "map");
     Ok(Invocation::Show { image, with_map })
@@ -148,13 +160,15 @@ fn parse_drain<'a>(alloc: Global, words: &'a [String]) -> Result<Invocation<'a>,
     ensures ok { IfOk result (λ invocation. Asks (texts words.entry.now) (command_of invocation)) }
     ensures err { IsErrOf result Refusal.Usage → (image : List ℕ) (class : ℕ)
         → AsksToDrain (texts words.entry.now) image class → ⊥ }
+    ensures usage { IsErrOf result Refusal.Usage
+        → fault_of drain_app (texts words.entry.now) ≢ [] }
 {
     let matches = match_words(drain_command(alloc)?, words)?;
     let Some(image) = text_of(&matches, "IMAGE") else {
-        return Err(Refusal::Usage);
+        unreachable!();
     };
     let Some(class) = number_of(&matches, "CLASS", 1, LAST_CLASS) else {
-        return Err(Refusal::Usage);
+        unreachable!();
     };
     let class = SizeClass::new(class as u8);
     Ok(Invocation::Drain { image, class })
@@ -165,13 +179,15 @@ fn parse_gen<'a>(alloc: Global, words: &'a [String]) -> Result<Invocation<'a>, R
     ensures ok { IfOk result (λ invocation. Asks (texts words.entry.now) (command_of invocation)) }
     ensures err { IsErrOf result Refusal.Usage → (requests seed : ℕ)
         → AsksToGen (texts words.entry.now) requests seed → ⊥ }
+    ensures usage { IsErrOf result Refusal.Usage
+        → fault_of gen_app (texts words.entry.now) ≢ [] }
 {
     let matches = match_words(gen_command(alloc)?, words)?;
     let Some(requests) = number_of(&matches, "N", 0, MOST_REQUESTS) else {
-        return Err(Refusal::Usage);
+        unreachable!();
     };
     let Some(seed) = number_of(&matches, "SEED", 0, GREATEST_SEED) else {
-        return Err(Refusal::Usage);
+        unreachable!();
     };
     let plan = TracePlan::new(requests, seed);
     Ok(Invocation::Gen { plan })
@@ -182,19 +198,21 @@ fn parse_run<'a>(alloc: Global, words: &'a [String]) -> Result<Invocation<'a>, R
     ensures ok { IfOk result (λ invocation. Asks (texts words.entry.now) (command_of invocation)) }
     ensures err { IsErrOf result Refusal.Usage → (image : List ℕ) (options : Options)
         → AsksToRun (texts words.entry.now) image options → ⊥ }
+    ensures usage { IsErrOf result Refusal.Usage
+        → fault_of run_app (texts words.entry.now) ≢ [] }
 {
     let matches = match_words(run_command(alloc)?, words)?;
     let Some(image) = text_of(&matches, "IMAGE") else {
-        return Err(Refusal::Usage);
+        unreachable!();
     };
     let Some(workers) = number_of(&matches, "workers", 1, MOST_WORKERS) else {
-        return Err(Refusal::Usage);
+        unreachable!();
     };
     let Some(budget) = number_or(&matches, "stop", MOST_BUDGET, 0, MOST_BUDGET) else {
-        return Err(Refusal::Usage);
+        unreachable!();
     };
     let Some(seed) = number_or(&matches, "seed", 0, 0, u64::MAX) else {
-        return Err(Refusal::Usage);
+        unreachable!();
     };
     let sum = has_flag(&matches, "sum");
     let map = has_flag(&matches, "map");
@@ -207,16 +225,18 @@ fn parse_rebuild<'a>(alloc: Global, words: &'a [String]) -> Result<Invocation<'a
     ensures ok { IfOk result (λ invocation. Asks (texts words.entry.now) (command_of invocation)) }
     ensures err { IsErrOf result Refusal.Usage → (image : List ℕ) (budget seed : ℕ)
         → AsksToRebuild (texts words.entry.now) image budget seed → ⊥ }
+    ensures usage { IsErrOf result Refusal.Usage
+        → fault_of rebuild_app (texts words.entry.now) ≢ [] }
 {
     let matches = match_words(rebuild_command(alloc)?, words)?;
     let Some(image) = text_of(&matches, "IMAGE") else {
-        return Err(Refusal::Usage);
+        unreachable!();
     };
     let Some(budget) = number_or(&matches, "stop", MOST_BUDGET, 0, MOST_BUDGET) else {
-        return Err(Refusal::Usage);
+        unreachable!();
     };
     let Some(seed) = number_or(&matches, "seed", 0, 0, u64::MAX) else {
-        return Err(Refusal::Usage);
+        unreachable!();
     };
     Ok(Invocation::Rebuild {
         image,
@@ -230,13 +250,15 @@ fn parse_replay<'a>(alloc: Global, words: &'a [String]) -> Result<Invocation<'a>
     ensures ok { IfOk result (λ invocation. Asks (texts words.entry.now) (command_of invocation)) }
     ensures err { IsErrOf result Refusal.Usage → (image : List ℕ) (seed : ℕ)
         → AsksToReplay (texts words.entry.now) image seed → ⊥ }
+    ensures usage { IsErrOf result Refusal.Usage
+        → fault_of replay_app (texts words.entry.now) ≢ [] }
 {
     let matches = match_words(replay_command(alloc)?, words)?;
     let Some(image) = text_of(&matches, "IMAGE") else {
-        return Err(Refusal::Usage);
+        unreachable!();
     };
     let Some(seed) = number_or(&matches, "seed", 0, 0, u64::MAX) else {
-        return Err(Refusal::Usage);
+        unreachable!();
     };
     Ok(Invocation::Replay { image, seed })
 }

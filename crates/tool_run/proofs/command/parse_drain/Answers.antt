@@ -1,13 +1,21 @@
 use Rattle.std.proofs.Common.{◌≡◌, ◌∙◌, ap, sym, rules, option_map, subst}
 use Rattle.heap_model.specs.Sizes.{IsClass}
 use Rattle.tool_run.specs.CommandLine.{drain_app, class_id}
-use Rattle.tool_run.proofs.CommandLemmas.{asks_drain, no_number_given, if_none}
+use Rattle.tool_run.proofs.CommandLemmas.{asks_drain, is_taken, no_image_given, no_number_given, if_none}
+use Rattle.tool_run.proofs.TakenLemmas.{drain_asked}
 use Rattle.tool_run.proofs.command.parse_drain.Goals as goal
 
-pub returns-in_default-number_of-clause-err : goal.returns-in_default-number_of-clause-err
-returns-in_default-number_of-clause-err c is image n asks =
-    no_number_given _ _ _ c.in_ok-matches.ensures.ok drain_app c.in_ok-drain_command.ensures class_id 1 20 n
-    (if_none c.number_of.result c.in_default-number_of.is c.number_of.ensures.none) asks.counted asks.is_class.some asks.is_class.last
+pub unreachable-requires : goal.unreachable-requires
+unreachable-requires c =
+    let asked = drain_asked _ (is_taken _ _ _ c.in_ok-matches.ensures.ok drain_app c.in_ok-drain_command.ensures c.requires) in
+    no_image_given _ _ _ c.in_ok-matches.ensures.ok drain_app c.in_ok-drain_command.ensures asked.0
+    (sym (ap (option_map (λ text. text.now)) c.in_default.is) ∙ c.text_of.ensures) asked.2.named
+
+pub unreachable-requires-in_default-number_of : goal.unreachable-requires-in_default-number_of
+unreachable-requires-in_default-number_of c =
+    let asked = drain_asked _ (is_taken _ _ _ c.in_ok-matches.ensures.ok drain_app c.in_ok-drain_command.ensures c.requires) in
+    no_number_given _ _ _ c.in_ok-matches.ensures.ok drain_app c.in_ok-drain_command.ensures class_id 1 20 asked.1
+    (if_none c.number_of.result c.in_default-number_of.is c.number_of.ensures.none) asked.2.counted asked.2.is_class.some asked.2.is_class.last
 
 pub returns-clause-ok : goal.returns-clause-ok
 returns-clause-ok c =

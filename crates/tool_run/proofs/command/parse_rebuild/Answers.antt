@@ -1,18 +1,27 @@
 use Rattle.std.proofs.Common.{◌∙◌, ap, sym, option_map, arith}
 use Rattle.image_run.specs.declared.options.TheConstants.{MOST_BUDGET}
 use Rattle.tool_run.specs.CommandLine.{rebuild_app, stop_id, seed_id}
-use Rattle.tool_run.proofs.CommandLemmas.{asks_rebuild, no_number_or, if_none}
+use Rattle.tool_run.proofs.CommandLemmas.{asks_rebuild, is_taken, no_image_given, no_number_or, if_none}
+use Rattle.tool_run.proofs.TakenLemmas.{rebuild_asked}
 use Rattle.tool_run.proofs.command.parse_rebuild.Goals as goal
 
-pub returns-in_default-number_or-clause-err : goal.returns-in_default-number_or-clause-err
-returns-in_default-number_or-clause-err c is image budget seed asks =
-    no_number_or _ _ _ c.in_ok-matches.ensures.ok rebuild_app c.in_ok-rebuild_command.ensures stop_id MOST_BUDGET 0 MOST_BUDGET budget
-    (if_none c.number_or.result c.in_default-number_or.is c.number_or.ensures.none) asks.within (omega arith) asks.below
+pub unreachable-requires : goal.unreachable-requires
+unreachable-requires c =
+    let asked = rebuild_asked _ (is_taken _ _ _ c.in_ok-matches.ensures.ok rebuild_app c.in_ok-rebuild_command.ensures c.requires) in
+    no_image_given _ _ _ c.in_ok-matches.ensures.ok rebuild_app c.in_ok-rebuild_command.ensures asked.0
+    (sym (ap (option_map (λ text. text.now)) c.in_default.is) ∙ c.text_of.ensures) asked.3.named
 
-pub returns-in_default-number_or-2-clause-err : goal.returns-in_default-number_or-2-clause-err
-returns-in_default-number_or-2-clause-err c is image budget seed asks =
-    no_number_or _ _ _ c.in_ok-matches.ensures.ok rebuild_app c.in_ok-rebuild_command.ensures seed_id 0 0 18446744073709551615 seed
-    (if_none c.number_or-2.result c.in_default-number_or-2.is c.number_or-2.ensures.none) asks.seeded (omega arith) (let fits = asks.fits in omega arith)
+pub unreachable-requires-in_default-number_or : goal.unreachable-requires-in_default-number_or
+unreachable-requires-in_default-number_or c =
+    let asked = rebuild_asked _ (is_taken _ _ _ c.in_ok-matches.ensures.ok rebuild_app c.in_ok-rebuild_command.ensures c.requires) in
+    no_number_or _ _ _ c.in_ok-matches.ensures.ok rebuild_app c.in_ok-rebuild_command.ensures stop_id MOST_BUDGET 0 MOST_BUDGET asked.1
+    (if_none c.number_or.result c.in_default-number_or.is c.number_or.ensures.none) asked.3.within (omega arith) asked.3.below
+
+pub unreachable-requires-in_default-number_or-2 : goal.unreachable-requires-in_default-number_or-2
+unreachable-requires-in_default-number_or-2 c =
+    let asked = rebuild_asked _ (is_taken _ _ _ c.in_ok-matches.ensures.ok rebuild_app c.in_ok-rebuild_command.ensures c.requires) in
+    no_number_or _ _ _ c.in_ok-matches.ensures.ok rebuild_app c.in_ok-rebuild_command.ensures seed_id 0 0 18446744073709551615 asked.2
+    (if_none c.number_or-2.result c.in_default-number_or-2.is c.number_or-2.ensures.none) asked.3.seeded (omega arith) (let fits = asked.3.fits in omega arith)
 
 pub returns-clause-ok : goal.returns-clause-ok
 returns-clause-ok c =

@@ -1,25 +1,42 @@
-use Rattle.std.proofs.Common.{◌≡◌, ◌∙◌, ap, sym, option_map, subst, arith}
-use Rattle.clap.specs.Words.{rows_of, found_of}
+use Rattle.std.proofs.Common.{◌≡◌, ◌∙◌, ap, sym, option_map, subst, arith, rules, IsErrOf}
+use Rattle.clap.specs.Words.{rows_of, found_of, fault_of}
 use Rattle.image_run.specs.Running.{options_of}
 use Rattle.image_run.specs.declared.options.TheConstants.{MOST_WORKERS, MOST_BUDGET}
 use Rattle.tool_run.specs.CommandLine.{run_app, workers_id, stop_id, seed_id, sum_id, map_id, HasNumber, HasNumberOr, HasFlag}
-use Rattle.tool_run.proofs.CommandLemmas.{asks_run, no_number_given, no_number_or, if_none}
+use Rattle.tool_run.specs.Command.{texts}
+use Rattle.tool_run.specs.declared.command_line.Refusal.TheVariants.{Usage}
+use Rattle.tool_run.proofs.CommandLemmas.{asks_run, is_taken, no_image_given, no_number_given, no_number_or, if_none}
+use Rattle.tool_run.proofs.TakenLemmas.{run_asked}
 use Rattle.tool_run.proofs.command.parse_run.Goals as goal
 
-pub returns-in_default-number_of-clause-err : goal.returns-in_default-number_of-clause-err
-returns-in_default-number_of-clause-err c is image options asks =
-    no_number_given _ _ _ c.in_ok-matches.ensures.ok run_app c.in_ok-run_command.ensures workers_id 1 MOST_WORKERS options.workers
-    (if_none c.number_of.result c.in_default-number_of.is c.number_of.ensures.none) asks.by asks.some asks.few
+pub returns-in_err-matches-clause-usage : goal.returns-in_err-matches-clause-usage
+returns-in_err-matches-clause-usage c is none =
+    let refused : IsErrOf c.match_words.result Usage = search rules in
+    c.match_words.ensures.err refused (ap (λ app. fault_of app (texts c.args.words.now)) c.in_ok-run_command.ensures ∙ none)
 
-pub returns-in_default-number_or-clause-err : goal.returns-in_default-number_or-clause-err
-returns-in_default-number_or-clause-err c is image options asks =
-    no_number_or _ _ _ c.in_ok-matches.ensures.ok run_app c.in_ok-run_command.ensures stop_id MOST_BUDGET 0 MOST_BUDGET options.budget
-    (if_none c.number_or.result c.in_default-number_or.is c.number_or.ensures.none) asks.within (omega arith) asks.below
+pub unreachable-requires : goal.unreachable-requires
+unreachable-requires c =
+    let asked = run_asked _ (is_taken _ _ _ c.in_ok-matches.ensures.ok run_app c.in_ok-run_command.ensures c.requires) in
+    no_image_given _ _ _ c.in_ok-matches.ensures.ok run_app c.in_ok-run_command.ensures asked.0
+    (sym (ap (option_map (λ text. text.now)) c.in_default.is) ∙ c.text_of.ensures) asked.2.named
 
-pub returns-in_default-number_or-2-clause-err : goal.returns-in_default-number_or-2-clause-err
-returns-in_default-number_or-2-clause-err c is image options asks =
-    no_number_or _ _ _ c.in_ok-matches.ensures.ok run_app c.in_ok-run_command.ensures seed_id 0 0 18446744073709551615 options.seed
-    (if_none c.number_or-2.result c.in_default-number_or-2.is c.number_or-2.ensures.none) asks.seeded (omega arith) (let fits = asks.fits in omega arith)
+pub unreachable-requires-in_default-number_of : goal.unreachable-requires-in_default-number_of
+unreachable-requires-in_default-number_of c =
+    let asked = run_asked _ (is_taken _ _ _ c.in_ok-matches.ensures.ok run_app c.in_ok-run_command.ensures c.requires) in
+    no_number_given _ _ _ c.in_ok-matches.ensures.ok run_app c.in_ok-run_command.ensures workers_id 1 MOST_WORKERS asked.1.workers
+    (if_none c.number_of.result c.in_default-number_of.is c.number_of.ensures.none) asked.2.by asked.2.some asked.2.few
+
+pub unreachable-requires-in_default-number_or : goal.unreachable-requires-in_default-number_or
+unreachable-requires-in_default-number_or c =
+    let asked = run_asked _ (is_taken _ _ _ c.in_ok-matches.ensures.ok run_app c.in_ok-run_command.ensures c.requires) in
+    no_number_or _ _ _ c.in_ok-matches.ensures.ok run_app c.in_ok-run_command.ensures stop_id MOST_BUDGET 0 MOST_BUDGET asked.1.budget
+    (if_none c.number_or.result c.in_default-number_or.is c.number_or.ensures.none) asked.2.within (omega arith) asked.2.below
+
+pub unreachable-requires-in_default-number_or-2 : goal.unreachable-requires-in_default-number_or-2
+unreachable-requires-in_default-number_or-2 c =
+    let asked = run_asked _ (is_taken _ _ _ c.in_ok-matches.ensures.ok run_app c.in_ok-run_command.ensures c.requires) in
+    no_number_or _ _ _ c.in_ok-matches.ensures.ok run_app c.in_ok-run_command.ensures seed_id 0 0 18446744073709551615 asked.1.seed
+    (if_none c.number_or-2.result c.in_default-number_or-2.is c.number_or-2.ensures.none) asked.2.seeded (omega arith) (let fits = asked.2.fits in omega arith)
 
 pub returns-clause-ok : goal.returns-clause-ok
 returns-clause-ok c =
