@@ -19,6 +19,8 @@ mod replays;
 #[cfg(test)]
 mod rows;
 #[cfg(test)]
+mod seeds;
+#[cfg(test)]
 mod session;
 #[cfg(test)]
 mod shows;

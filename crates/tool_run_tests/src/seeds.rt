@@ -1,0 +1,119 @@
+//! What a seed decides: the value that a put leaves where it is stopped, and the seed that each
+//! command gives its chances.
+use crate::harness::{NO_CALL, image_after, make, must_hold, plain, runs, store_with};
+use line_memory::ConstantChance;
+use std::process::Abort;
+use std::test::Fail;
+use tool_ports::{Chances, FailedPut, OpenGate};
+
+/// What the heap went through before the put that is stopped.
+const BEFORE: &str = "put 1 616e6e
+put 2 626561
+get 1
+del 2
+get 2
+put 9 -";
+
+/// Where a put of 6576 under key 1 is stopped, by which seed, and the value that is left. At 24 and
+/// 25 its word is stored and not yet durable: chance may have written it back.
+const STOPPED: &str = "
+23 --seed 69 => 616e6e
+24 => 616e6e
+24 --seed 14 => 616e6e
+24 --seed 69 => 6576
+25 => 616e6e
+25 --seed 0 => 616e6e
+25 --seed 13 => 616e6e
+25 --seed 14 => 6576
+25 --seed 69 => 6576
+26 => 6576
+26 --seed 13 => 6576
+";
+
+/// Stops the put as the options say, which leaves the value.
+fn must_leave(
+    rt: &(impl Abort + AllocGlobal),
+    image: &[u8],
+    options: &str,
+    value: &str,
+) -> Result<(), Fail> {
+    let alloc = rt.alloc();
+    let mut images = store_with(alloc, image, NO_CALL, FailedPut::LeavesOld)?;
+    let line = format!(in alloc; "run h --workers 1 --stop {options}")?;
+    let text = format!(in alloc;
+        "unanswered\nrun stopped\nheap 4 dirty\nkey 1 {value}\nkey 9 -\n\
+        held 32 2\nheld 1024 2\n"
+    )?;
+    runs(rt, &mut images, &line, b"put 1 6576", 0, &text)
+}
+
+#[test]
+fn a_seed_decides_whether_a_stopped_put_is_durable(rt: HostRuntime) -> Result<(), Fail> {
+    let image = image_after(rt.alloc(), "4", BEFORE)?;
+    for row in STOPPED.trim().split('\n') {
+        let (options, value) = row.split_once(" => ").ok_or("no row")?;
+        must_leave(&rt, &image, options, value)?;
+    }
+    Ok(())
+}
+
+/// Chances that count the seeds that they are given, and keep the latest.
+#[derive(Drop)]
+struct SeedRecorder {
+    count: u64,
+    latest: u64,
+}
+
+impl Chances for SeedRecorder {
+    type One = ConstantChance;
+
+    fn seed(&mut self, seed: u64) {
+        self.count = self.count.saturating_add(1);
+        self.latest = seed;
+    }
+
+    fn chance(&mut self, _: usize) -> ConstantChance {
+        ConstantChance(0)
+    }
+
+    fn word(&mut self) -> u64 {
+        0
+    }
+}
+
+/// A command, behind `<` its input, and the one seed that its chances are given.
+const SEEDS: &str = "
+drain h 20 => 0
+run h --workers 1 => 0
+run h --workers 1 --seed 14 => 14
+run h --workers 1 --seed 18446744073709551615 --stop 9 => 18446744073709551615
+rebuild h => 0
+rebuild h --seed 14 => 14
+replay h < seats 1 => 0
+replay h --seed 14 < seats 1 => 14
+";
+
+/// The seed that a call gives its chances, which are seeded once.
+fn seed_of_call(rt: &(impl Abort + AllocGlobal), image: &[u8], call: &str) -> Result<u64, Fail> {
+    let (line, input) = call.split_once(" < ").unwrap_or((call, ""));
+    let mut images = store_with(rt.alloc(), image, NO_CALL, FailedPut::LeavesOld)?;
+    let mut chances = SeedRecorder {
+        count: 0,
+        latest: 0,
+    };
+    let call = plain(line, input.as_bytes());
+    let (status, _) = make(rt.alloc(), call, &mut images, &OpenGate, &mut chances)?;
+    must_hold(rt, status == 0 && chances.count == 1, line);
+    Ok(chances.latest)
+}
+
+#[test]
+fn each_command_gives_its_chances_the_seed(rt: HostRuntime) -> Result<(), Fail> {
+    let image = image_after(rt.alloc(), "4", BEFORE)?;
+    for row in SEEDS.trim().split('\n') {
+        let (call, seed) = row.split_once(" => ").ok_or("no row")?;
+        let seed = seed.parse::<u64>().ok().ok_or("no seed")?;
+        must_hold(&rt, seed_of_call(&rt, &image, call)? == seed, call);
+    }
+    Ok(())
+}
