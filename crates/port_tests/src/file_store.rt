@@ -7,7 +7,7 @@ ghost use Rattle.tool_ports.specs.declared.store_calls.StoreCalls.{StoreCalls};
 use crate::asserts::{must_be, must_hold};
 use crate::real_files::{link, make_folder, must_be_link, must_lack};
 use crate::stores::{must_fail, must_get, must_miss, must_put, must_refuse};
-use crate::watched_files::{Plan, Watched};
+use crate::watched_files::{WatchPlan, Watched};
 use file_ports::FileStore;
 use std::fs;
 use std::io::ErrorKind;
@@ -126,7 +126,7 @@ fn what_is_not_there_is_absent_and_all_else_has_failed(rt: HostRuntime) -> Resul
 
 // Reads the first eight bytes of a file whose second read fails so.
 fn read_over<R: Files + AllocGlobal>(rt: &R, error: ErrorKind) -> Result<Vec<u8>, GetFault> {
-    let mut plan = Plan::new();
+    let mut plan = WatchPlan::new();
     plan.error = Some(error);
     let files = Watched {
         files: rt,

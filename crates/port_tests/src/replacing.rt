@@ -4,7 +4,7 @@ use crate::real_files::{
     link, make_folder, must_be_link, must_have, must_have_mode, must_lack, set_mode,
 };
 use crate::stores::must_put;
-use crate::watched_files::{Plan, Watched};
+use crate::watched_files::{WatchPlan, Watched};
 use file_ports::FileStore;
 use std::process::Abort;
 use std::rt::Files;
@@ -14,7 +14,7 @@ use tool_ports::{ImageStore, PutImageFault};
 // Puts a file over files that are watched.
 fn put_watched<R: Files + AllocGlobal>(
     rt: &R,
-    plan: &Plan<'_>,
+    plan: &WatchPlan<'_>,
     name: &str,
     bytes: &[u8],
 ) -> Result<(), PutImageFault> {
@@ -30,7 +30,7 @@ fn must_write<R: Files + Abort + AllocGlobal>(
     written: bool,
     left: usize,
 ) {
-    let mut plan = Plan::new();
+    let mut plan = WatchPlan::new();
     plan.room.set(room);
     plan.sync_fails = sync_fails;
     let answer = put_watched(rt, &plan, name, b"abc");
@@ -56,7 +56,7 @@ fn put<R: Files + Abort + AllocGlobal>(rt: &R, name: &str, bytes: &[u8]) {
 #[test]
 fn a_file_that_was_not_written_takes_no_place(rt: HostRuntime) -> Result<(), Fail> {
     put(&rt, "kept", b"old");
-    let plan = Plan::new();
+    let plan = WatchPlan::new();
     plan.room.set(2);
     let answer = put_watched(&rt, &plan, "kept", b"half");
     must_hold(&rt, answer == Err(PutImageFault::Failed), "it has failed");
@@ -81,7 +81,7 @@ fn a_file_keeps_its_mode_and_its_links(rt: HostRuntime) -> Result<(), Fail> {
 fn must_keep_mode<R: Files + Abort + AllocGlobal>(rt: &R, name: &str, mode: u32) {
     put(rt, name, b"old");
     set_mode(rt, name, mode);
-    let mut plan = Plan::new();
+    let mut plan = WatchPlan::new();
     plan.mode = Some(mode);
     let answer = put_watched(rt, &plan, name, b"new");
     must_hold(rt, answer == Ok(()), name);
@@ -100,7 +100,7 @@ fn a_new_file_has_the_old_mode_before_it_takes_the_place(rt: HostRuntime) -> Res
 
 // Puts a file under the name, and then opens this folder.
 fn must_open<R: Files + Abort + AllocGlobal>(rt: &R, name: &str, folder: &str) {
-    let mut plan = Plan::new();
+    let mut plan = WatchPlan::new();
     plan.path = folder;
     let answer = put_watched(rt, &plan, name, b"abc");
     must_hold(rt, answer == Ok(()), name);

@@ -17,7 +17,7 @@ pub fn mode_at<R: Files>(rt: &R, name: &str) -> io::Result<u32> {
 
 /// What watched files do, and what was done with them.
 #[derive(Drop)]
-pub struct Plan<'a> {
+pub struct WatchPlan<'a> {
     /// A new file is to be made with no more than this mode, and to be renamed with exactly it.
     pub mode: Option<u32>,
     /// A file gives three bytes by each read, and this error at the second.
@@ -30,10 +30,10 @@ pub struct Plan<'a> {
     pub is_opened: Cell<bool>,
 }
 
-impl<'a> Plan<'a> {
+impl<'a> WatchPlan<'a> {
     /// Nothing fails before nine bytes are written.
     pub fn new() -> Self {
-        Plan {
+        WatchPlan {
             mode: None,
             error: None,
             room: Cell::new(9),
@@ -48,7 +48,7 @@ impl<'a> Plan<'a> {
 #[derive(Drop)]
 pub struct WatchedFile<'a, F: Read + Write + Seek + OpenFile + Drop> {
     file: F,
-    plan: &'a Plan<'a>,
+    plan: &'a WatchPlan<'a>,
     reads: u8,
 }
 
@@ -114,7 +114,7 @@ impl<'a, F: Read + Write + Seek + OpenFile + Drop> OpenFile for WatchedFile<'a, 
 #[derive(Drop)]
 pub struct Watched<'a, R: Files> {
     pub files: &'a R,
-    pub plan: &'a Plan<'a>,
+    pub plan: &'a WatchPlan<'a>,
 }
 
 // Where a path leads.
@@ -127,7 +127,7 @@ fn place_of(path: &str) -> &str {
 }
 
 // Has a mode that is to be watched, and not this one.
-fn is_wrong(mode: u32, plan: &Plan<'_>) -> bool {
+fn is_wrong(mode: u32, plan: &WatchPlan<'_>) -> bool {
     plan.mode.unwrap_or(mode) != mode
 }
 
