@@ -98,22 +98,32 @@ fn a_new_file_has_the_old_mode_before_it_takes_the_place(rt: HostRuntime) -> Res
     Ok(())
 }
 
-// Puts a file under the name, and then opens this folder.
-fn must_open<R: Files + Abort + AllocGlobal>(rt: &R, name: &str, folder: &str) {
+// Puts a file under the name: it is synced before it takes the place, and this folder afterwards.
+fn must_sync<R: Files + Abort + AllocGlobal>(rt: &R, name: &str, folder: &str) {
     let mut plan = WatchPlan::new();
-    plan.path = folder;
+    plan.folder = folder;
     let answer = put_watched(rt, &plan, name, b"abc");
     must_hold(rt, answer == Ok(()), name);
-    must_hold(rt, plan.is_opened.get(), folder);
+    must_hold(rt, plan.file_syncs.get() == 1, name);
+    must_hold(rt, plan.folder_syncs.get() == 1, folder);
+}
+
+#[test]
+fn a_file_and_then_its_folder_are_synced(rt: HostRuntime) -> Result<(), Fail> {
+    must_sync(&rt, "synced", ".");
+    put(&rt, "synced", b"old");
+    must_sync(&rt, "synced", ".");
+    must_have(&rt, "synced", b"abc");
+    Ok(())
 }
 
 #[test]
 fn the_folder_of_a_name_is_what_stands_before_it(rt: HostRuntime) -> Result<(), Fail> {
     make_folder(&rt, "a");
     make_folder(&rt, "a/b");
-    must_open(&rt, "heap", ".");
-    must_open(&rt, "a/b/heap", "a/b");
-    must_open(&rt, "/heap", "/");
-    must_open(&rt, "./heap", ".");
+    must_sync(&rt, "heap", ".");
+    must_sync(&rt, "a/b/heap", "a/b");
+    must_sync(&rt, "/heap", "/");
+    must_sync(&rt, "./heap", ".");
     Ok(())
 }

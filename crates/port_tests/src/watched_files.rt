@@ -25,9 +25,13 @@ pub struct WatchPlan<'a> {
     /// How many bytes may still be written.
     pub room: Cell<usize>,
     pub sync_fails: bool,
-    /// A path, and whether it was opened.
-    pub path: &'a str,
-    pub is_opened: Cell<bool>,
+    /// The path of a folder that is watched.
+    pub folder: &'a str,
+    /// How often another file was synced between the last write and the rename.
+    pub file_syncs: Cell<u32>,
+    /// How often this folder was synced behind the rename.
+    pub folder_syncs: Cell<u32>,
+    is_renamed: Cell<bool>,
 }
 
 impl<'a> WatchPlan<'a> {
@@ -38,9 +42,24 @@ impl<'a> WatchPlan<'a> {
             error: None,
             room: Cell::new(9),
             sync_fails: false,
-            path: "",
-            is_opened: Cell::new(false),
+            folder: "",
+            file_syncs: Cell::new(0),
+            folder_syncs: Cell::new(0),
+            is_renamed: Cell::new(false),
         }
+    }
+
+    // A file's sync comes too late behind the rename, and the folder's too early before it.
+    fn count_sync(&self, is_folder: bool) {
+        if is_folder != self.is_renamed.get() {
+            return;
+        }
+        let syncs = if is_folder {
+            &self.folder_syncs
+        } else {
+            &self.file_syncs
+        };
+        syncs.set(syncs.get().saturating_add(1));
     }
 }
 
@@ -49,6 +68,7 @@ impl<'a> WatchPlan<'a> {
 pub struct WatchedFile<'a, F: Read + Write + Seek + OpenFile + Drop> {
     file: F,
     plan: &'a WatchPlan<'a>,
+    is_folder: bool,
     reads: u8,
 }
 
@@ -71,6 +91,7 @@ impl<'a, F: Read + Write + Seek + OpenFile + Drop> Write for WatchedFile<'a, F> 
         let room = self.plan.room.get();
         let count = self.file.write(&buf[..buf.len().min(room)])?;
         self.plan.room.set(room - count);
+        self.plan.file_syncs.set(0);
         Ok(count)
     }
 
@@ -98,7 +119,9 @@ impl<'a, F: Read + Write + Seek + OpenFile + Drop> OpenFile for WatchedFile<'a, 
         if self.plan.sync_fails {
             return Err(ErrorKind::Other.into());
         }
-        self.file.sync_all()
+        self.file.sync_all()?;
+        self.plan.count_sync(self.is_folder);
+        Ok(())
     }
 
     fn sync_data(&self) -> io::Result<()> {
@@ -138,9 +161,6 @@ impl<'a, R: Files> Files for Watched<'a, R> {
 
     fn open_file(&self, how: &OpenOptions, path: &str) -> io::Result<WatchedFile<'a, R::File>> {
         let file = self.files.open_file(how, place_of(path))?;
-        if path == self.plan.path {
-            self.plan.is_opened.set(true);
-        }
         let allowed = self.plan.mode.unwrap_or(u32::MAX);
         if how.asks_create_new() && mode_at(self.files, place_of(path))? & !allowed != 0 {
             return Err(ErrorKind::Other.into());
@@ -148,6 +168,7 @@ impl<'a, R: Files> Files for Watched<'a, R> {
         Ok(WatchedFile {
             file,
             plan: self.plan,
+            is_folder: path == self.plan.folder,
             reads: 0,
         })
     }
@@ -156,7 +177,9 @@ impl<'a, R: Files> Files for Watched<'a, R> {
         if is_wrong(mode_at(self.files, place_of(from))?, self.plan) {
             return Err(ErrorKind::Other.into());
         }
-        self.files.rename(place_of(from), place_of(to))
+        self.files.rename(place_of(from), place_of(to))?;
+        self.plan.is_renamed.set(true);
+        Ok(())
     }
 
     fn metadata(&self, path: &str) -> io::Result<Metadata> {
