@@ -1,9 +1,10 @@
 //! Traces that are read, and those outside the grammar.
 use crate::readings::{Grammar, must_hold, reads_each};
 use std::alloc::{AllocError, Global};
+use std::mem::size_of;
 use std::process::Abort;
 use std::test::Fail;
-use trace_text::parse_trace;
+use trace_text::{Request, parse_trace};
 
 const READ: &str = "
  =>
@@ -115,4 +116,10 @@ fn the_longest_value_has_131072_bytes(rt: HostRuntime) -> Result<(), Fail> {
     reads_digits(&rt, 262_143, false)?;
     reads_digits(&rt, 262_144, true)?;
     reads_digits(&rt, 262_146, false)
+}
+
+#[test]
+fn a_request_takes_at_most_64_bytes(rt: HostRuntime) -> Result<(), Fail> {
+    must_hold(&rt, size_of::<Request>() <= 64, "the room for a line");
+    Ok(())
 }
