@@ -2,34 +2,64 @@
 use crate::calls::{formatted, runs, store_with};
 use line_memory::ConstantChance;
 use std::alloc::{AllocError, Global};
+use std::process::Abort;
 use std::test::Fail;
 
 /// A request of sixteen bytes.
-const GET: &[u8] = b"get 12345678901\n";
+const SIXTEEN_BYTES: &[u8] = b"get 12345678901\n";
 
-/// The request, as often as it fits into the longest trace.
-fn longest_trace(alloc: Global) -> Result<Vec<u8>, AllocError> {
+/// The shortest request.
+const SHORTEST: &[u8] = b"get 1\n";
+
+/// What fills the trace where no more of the shortest fit beside it.
+const LAST: &[u8] = b"get 12345\n";
+
+/// The request so many times, and then the last one: the longest trace.
+fn longest_trace(
+    alloc: Global,
+    request: &[u8],
+    times: usize,
+    last: &[u8],
+) -> Result<Vec<u8>, AllocError> {
     let mut trace = Vec::new(alloc);
-    for _ in 0..1_048_576 {
-        trace.extend_from_slice(GET)?;
+    for _ in 0..times {
+        trace.extend_from_slice(request)?;
     }
+    trace.extend_from_slice(last)?;
     Ok(trace)
+}
+
+/// Works off a trace of the greatest length, which asks for no key that is there.
+fn must_answer(rt: &(impl Abort + AllocGlobal), trace: Vec<u8>, requests: u64) -> Result<(), Fail> {
+    let alloc = rt.alloc();
+    assert!(rt; trace.len() == 16_777_216);
+    let mut images = store_with(alloc, &formatted(alloc, "1")?)?;
+    let text = format!(in alloc;
+        "requests {requests} ok 0 none {requests} value 0 full 0 unanswered 0\nrun closed\n\
+         heap 1 clean\nkeys 0 bytes 0\n"
+    )?;
+    let line = "run h --workers 1 --sum";
+    runs(
+        rt,
+        &mut images,
+        &mut ConstantChance(0),
+        line,
+        trace,
+        0,
+        &text,
+    )
 }
 
 #[test]
 fn the_longest_trace_is_worked_off(rt: HostRuntime) -> Result<(), Fail> {
-    let alloc = rt.alloc();
-    let mut images = store_with(alloc, &formatted(alloc, "1")?)?;
-    runs(
-        &rt,
-        &mut images,
-        &mut ConstantChance(0),
-        "run h --workers 1 --sum",
-        longest_trace(alloc)?,
-        0,
-        "requests 1048576 ok 0 none 1048576 value 0 full 0 unanswered 0\nrun closed\n\
-         heap 1 clean\nkeys 0 bytes 0\n",
-    )
+    let trace = longest_trace(rt.alloc(), SIXTEEN_BYTES, 1_048_576, b"")?;
+    must_answer(&rt, trace, 1_048_576)
+}
+
+#[test]
+fn the_longest_trace_of_the_most_lines_is_worked_off(rt: HostRuntime) -> Result<(), Fail> {
+    let trace = longest_trace(rt.alloc(), SHORTEST, 2_796_201, LAST)?;
+    must_answer(&rt, trace, 2_796_202)
 }
 
 #[test]
