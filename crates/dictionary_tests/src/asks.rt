@@ -29,9 +29,9 @@ pub struct Left {
     pub closed: Closed,
 }
 
-/// What recovery finds in an image.
+/// The shards of an image that was recovered, and how many blocks it holds.
 #[derive(Drop)]
-pub struct Found {
+pub struct RecoveredShards {
     pub held: usize,
     maps: Vec<BTreeMap<u64, Bytes>>,
 }
@@ -138,9 +138,9 @@ pub fn run(
 }
 
 /// Recovers the image and reads its shards.
-pub fn found_in(alloc: Global, image: &[u64]) -> Result<Found, Fail> {
+pub fn found_in(alloc: Global, image: &[u64]) -> Result<RecoveredShards, Fail> {
     let heap = recover(alloc, image, &root_kinds(), &DictFilter)?;
-    Ok(Found {
+    Ok(RecoveredShards {
         held: heap.heap.held().len(),
         maps: read_maps(alloc, &heap)?,
     })
@@ -164,7 +164,7 @@ fn has_all(model: &Model, shard: &BTreeMap<u64, Bytes>) -> bool {
     true
 }
 
-impl Found {
+impl RecoveredShards {
     /// Whether the keys and values are those of the model.
     pub fn shows(&self, model: &Model) -> bool {
         let mut count: usize = 0;
