@@ -32,7 +32,7 @@ use Rattle.block_heap.specs.SeqState.{SeqState, IsSeqHeap, seat_of}
 use Rattle.block_heap.specs.Serving.{GetsBlock, Answers, DrainsTo, Costs, DrainsAs}
 use Rattle.block_heap.specs.Steps.{HasAtMost}
 use Rattle.heap_seat.specs.Tickets.{Runs, Stops}
-use Rattle.block_heap.proofs.DrainStepLemmas.{HasDrained, drains_first, drains_more}
+use Rattle.block_heap.proofs.DrainLemmas.{HasDrained, drains_first, drains_more}
 use Rattle.block_heap.proofs.SpendLemmas.{has_most}
 
 -- the offsets are those of blocks that are held now, each once; so there are few, and each superblock that may still be used up is paid for

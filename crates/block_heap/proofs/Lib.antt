@@ -3,14 +3,14 @@ pub mod AllocLemmas
 pub mod AnchorLemmas
 pub mod DivideLemmas
 pub mod HeldLemmas
-pub mod LargeStepLemmas
+pub mod AllocLargeLemmas
 pub mod ImageLemmas
 pub mod LookLemmas
 pub mod MediumLemmas
 pub mod OpeningLemmas
 pub mod OpenedLemmas
 pub mod PushLemmas
-pub mod SplitLemmas
+pub mod SplitLargeLemmas
 pub mod FreeLargeLemmas
 pub mod WalkLemmas
 pub mod StableLemmas
@@ -21,7 +21,7 @@ pub mod StoreLemmas
 pub mod RefillLemmas
 pub mod TakeLemmas
 pub mod CutWordLemmas
-pub mod CutStepLemmas
+pub mod CutLemmas
 pub mod BlockMarkLemmas
 pub mod SmallLemmas
 pub mod FlushLemmas
@@ -30,7 +30,7 @@ pub mod FreeLemmas
 pub mod RequestLemmas
 pub mod PartialLemmas
 pub mod FreeCallLemmas
-pub mod DrainStepLemmas
+pub mod DrainLemmas
 pub mod SpendLemmas
 pub mod DrawnLemmas
 pub mod ReopenLemmas

@@ -4,7 +4,7 @@ use Rattle.block_heap.specs.Parts.{parts_of}
 use Rattle.block_heap.proofs.RunningLemmas.{is_head}
 use Rattle.block_heap.proofs.RefillLemmas.{head_moved, serves_moved, emptied_fills, emptied, emptied_serves, popped_none}
 use Rattle.block_heap.proofs.SpendLemmas.{spends_none}
-use Rattle.block_heap.proofs.CutStepLemmas.{free_within, unmarked, free_none, free_serves, free_fills, free_found, free_spends, free_cuts}
+use Rattle.block_heap.proofs.CutLemmas.{free_within, unmarked, free_none, free_serves, free_fills, free_found, free_spends, free_cuts}
 use Rattle.block_heap.proofs.LookLemmas.{looks_kept}
 use Rattle.block_heap.proofs.arena.Arena.cut_free.Goals as goal
 

@@ -1,7 +1,7 @@
 use Rattle.block_heap.specs.Parts.{parts_of}
 use Rattle.block_heap.specs.MediumView.{medium_view}
 use Rattle.std.proofs.lemmas.Result.{on_ok_weaker}
-use Rattle.block_heap.proofs.SplitLemmas.{anchor_serves, split_serves, split_running, split_others, split_gives, split_frees}
+use Rattle.block_heap.proofs.SplitLargeLemmas.{anchor_serves, split_serves, split_running, split_others, split_gives, split_frees}
 use Rattle.block_heap.proofs.arena.Arena.split.Goals as goal
 
 pub returns-in_err-store-clause-serves : goal.returns-in_err-store-clause-serves

@@ -8,7 +8,7 @@ use Rattle.block_heap.specs.Laws.{seat_law, keeps_none_law, keeps_row_law}
 use Rattle.block_heap.specs.SeqState.{SeqState}
 use Rattle.block_heap.specs.Serving.{Answers, DrainsAs}
 use Rattle.block_heap.proofs.DrainKeepLemmas.{kept_first, kept_pushed, kept_unpushed, kept_last, kept_done, kept_stops}
-use Rattle.block_heap.proofs.DrainStepLemmas.{drains_last}
+use Rattle.block_heap.proofs.DrainLemmas.{drains_last}
 use Rattle.block_heap.proofs.DrawnLemmas.{draining_first, draining_more, room_for_one, drawn_few, drawn_halts}
 use Rattle.block_heap.proofs.seq_heap.SeqHeap.drain.Goals as goal
 
