@@ -77,7 +77,7 @@ abbrev pub at : List Row → Option (Text × List Text) → Waiting → ℕ → 
 at rows pending waiting position = record { held = held rows pending; waiting = waiting; position = position; is_trailing = false; stopped = None }
 
 -- from here the words are taken without a fault, and what they leave are these rows
-pub record Goes (s : Shape) (from : Walk) (words : List Text) (rows : List Row) : Type 0 where
+pub record Parses (s : Shape) (from : Walk) (words : List Text) (rows : List Row) : Type 0 where
   pub end : Walk
   pub faultless : walk_fault s [] from words ≡ []
   pub ends : fold (walked s.rules []) from words ≡ end
@@ -89,14 +89,14 @@ record Steps (s : Shape) (from : Walk) (word : Text) (to : Walk) : Type 0 where
   passes : turn_fault s [] from word ≡ []
   steps : walked s.rules [] from word ≡ to
 
-then : (s : Shape) (from to : Walk) (word : Text) (rest : List Text) (rows : List Row) → Steps s from word to → Goes s to rest rows → Goes s from (word ∷ rest) rows
+then : (s : Shape) (from to : Walk) (word : Text) (rest : List Text) (rows : List Row) → Steps s from word to → Parses s to rest rows → Parses s from (word ∷ rest) rows
 unfolding walk_fault
-then s from to word rest rows one goes = record {
-  end = goes.end;
-  faultless = past (turn_fault s [] from word) (walk_fault s [] (walked s.rules [] from word) rest) one.passes ∙ ap (λ w. walk_fault s [] w rest) one.steps ∙ goes.faultless;
-  ends = ap (λ w. fold (walked s.rules []) w rest) one.steps ∙ goes.ends;
-  settles = goes.settles;
-  leaves = goes.leaves;
+then s from to word rest rows one parses = record {
+  end = parses.end;
+  faultless = past (turn_fault s [] from word) (walk_fault s [] (walked s.rules [] from word) rest) one.passes ∙ ap (λ w. walk_fault s [] w rest) one.steps ∙ parses.faultless;
+  ends = ap (λ w. fold (walked s.rules []) w rest) one.steps ∙ parses.ends;
+  settles = parses.settles;
+  leaves = parses.leaves;
 }
 
 -- ---- one argument given
@@ -212,37 +212,37 @@ module _ (s : Shape) (rows : List Row) (a : Rule) (word : Text) (found : arg_by_
   is_used : settled_rows s.rules (Some (a.id, word ∷ [])) rows ≡ used a (word ∷ []) rows
   is_used = rw found refl
 
-pub goes : (s : Shape) (rows : List Row) (pending : Option (Text × List Text)) (position : ℕ) (settles : settle_fault s.rules s.args_override_self (held rows pending) ≡ [])
+pub parses : (s : Shape) (rows : List Row) (pending : Option (Text × List Text)) (position : ℕ) (settles : settle_fault s.rules s.args_override_self (held rows pending) ≡ [])
     (given : List Given) → AreTaken s position given → are_new (settled_rows s.rules pending rows) given ≡ true
-    → Goes s (at rows pending idle position) (words_of given) (rows_with (settled_rows s.rules pending rows) given)
+    → Parses s (at rows pending idle position) (words_of given) (rows_with (settled_rows s.rules pending rows) given)
 unfolding walk_fault
-goes s rows pending position settles [] taken new = record { end = at rows pending idle position; faultless = refl; ends = refl; settles = settles; leaves = refl }
-goes s rows pending position settles (in_place a word ∷ rest) taken new =
+parses s rows pending position settles [] taken new = record { end = at rows pending idle position; faultless = refl; ends = refl; settles = settles; leaves = refl }
+parses s rows pending position settles (in_place a word ∷ rest) taken new =
     let before = settled_rows s.rules pending rows in
     let next = min (position + 1) usize_max in
     let is_new = both (not (has_row a.id before)) (are_new (used a (word ∷ []) before) rest) new in
     let same = is_used s before a word taken.0.found in
     let waits = waits_well s before a word taken.0.found (taken.2 before (not-true _ is_new.0)) in
-    let on = goes s before (Some (a.id, word ∷ [])) next waits rest taken.3 (subst (λ left. are_new left rest ≡ true) (sym same) is_new.1) in
+    let on = parses s before (Some (a.id, word ∷ [])) next waits rest taken.3 (subst (λ left. are_new left rest ≡ true) (sym same) is_new.1) in
     then s (at rows pending idle position) (at before (Some (a.id, word ∷ [])) idle next) word (words_of rest) (rows_with (used a (word ∷ []) before) rest)
-    (placed s rows pending position settles a word taken.0 taken.1) (subst (λ left. Goes s (at before (Some (a.id, word ∷ [])) idle next) (words_of rest) (rows_with left rest)) same on)
-goes s rows pending position settles (by_name a option_word name word ∷ rest) taken new =
+    (placed s rows pending position settles a word taken.0 taken.1) (subst (λ left. Parses s (at before (Some (a.id, word ∷ [])) idle next) (words_of rest) (rows_with left rest)) same on)
+parses s rows pending position settles (by_name a option_word name word ∷ rest) taken new =
     let before = settled_rows s.rules pending rows in
     let is_new = both (not (has_row a.id before)) (are_new (used a (word ∷ []) before) rest) new in
     let same = is_used s before a word taken.0.found in
     let waits = waits_well s before a word taken.0.found (taken.2 before (not-true _ is_new.0)) in
-    let on = goes s before (Some (a.id, word ∷ [])) position waits rest taken.3 (subst (λ left. are_new left rest ≡ true) (sym same) is_new.1) in
+    let on = parses s before (Some (a.id, word ∷ [])) position waits rest taken.3 (subst (λ left. are_new left rest ≡ true) (sym same) is_new.1) in
     then s (at rows pending idle position) (at before (Some (a.id, [])) (option a.id) position) option_word (word ∷ words_of rest) (rows_with (used a (word ∷ []) before) rest)
     (named s rows pending position settles a option_word name taken.0)
     (then s (at before (Some (a.id, [])) (option a.id) position) (at before (Some (a.id, word ∷ [])) idle position) word (words_of rest) (rows_with (used a (word ∷ []) before) rest)
     (valued s rows pending position settles a option_word name word taken.0 taken.1)
-    (subst (λ left. Goes s (at before (Some (a.id, word ∷ [])) idle position) (words_of rest) (rows_with left rest)) same on))
-goes s rows pending position settles (alone_by_name a option_word name ∷ rest) taken new =
+    (subst (λ left. Parses s (at before (Some (a.id, word ∷ [])) idle position) (words_of rest) (rows_with left rest)) same on))
+parses s rows pending position settles (alone_by_name a option_word name ∷ rest) taken new =
     let before = settled_rows s.rules pending rows in
     let is_new = both (not (has_row a.id before)) (are_new (used a [] before) rest) new in
     then s (at rows pending idle position) (at (used a [] before) None idle position) option_word (words_of rest) (rows_with (used a [] before) rest)
     (alone s rows pending position settles a option_word name taken.0 (taken.1 before (not-true _ is_new.0)))
-    (goes s (used a [] before) None position refl rest taken.2 is_new.1)
+    (parses s (used a [] before) None position refl rest taken.2 is_new.1)
 
 -- ---- a whole command line
 
@@ -257,7 +257,7 @@ pub no_fault : (app : App) (name : Text) (given : List Given) → (built app).su
 no_fault app name given none binary taken new defaults checks =
     let s = (built app).top in
     let words = words_of given in
-    let g = goes s [] None 1 refl given taken new in
+    let g = parses s [] None 1 refl given taken new in
     ap (λ b. built_fault (built app) nothing_held (cond b (name ∷ words) (drop 1 (name ∷ words)))) binary
     ∙ leaf_fault (built app) nothing_held words none
     ∙ past (walk_fault s [] (walk_from nothing_held) words) _ g.faultless
@@ -273,7 +273,7 @@ pub matches_are : (app : App) (name : Text) (given : List Given) → (built app)
 matches_are app name given none binary taken new =
     let s = (built app).top in
     let words = words_of given in
-    let g = goes s [] None 1 refl given taken new in
+    let g = parses s [] None 1 refl given taken new in
     ap (λ b. rows_after s.rules (names_of (built app)) (cond b (name ∷ words) (drop 1 (name ∷ words)))) binary
     ∙ ap (λ subs. rows_after s.rules (map label_of subs) words) none
     ∙ ap (λ (w : Walk). finished s.rules w.held) g.ends ∙ ap (λ rows. fold with_default rows s.rules) g.leaves
