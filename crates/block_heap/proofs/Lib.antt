@@ -25,7 +25,7 @@ pub mod CutLemmas
 pub mod BlockMarkLemmas
 pub mod SmallLemmas
 pub mod FlushLemmas
-pub mod FrontLemmas
+pub mod PrefixLemmas
 pub mod FreeLemmas
 pub mod RequestLemmas
 pub mod PartialLemmas

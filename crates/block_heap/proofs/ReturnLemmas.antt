@@ -20,16 +20,16 @@ use Rattle.line_memory.specs.View.{View, volatile_at}
 use Rattle.anchor_word.specs.declared.anchor.Anchor.{Anchor}
 use Rattle.anchor_word.specs.declared.anchor.State.TheVariants.{Full}
 use Rattle.block_heap.specs.declared.cache.Cache.{Cache}
-use Rattle.block_heap.specs.declared.small.CacheFront.{CacheFront}
+use Rattle.block_heap.specs.declared.small.CachePrefix.{CachePrefix}
 use Rattle.block_heap.specs.Batches.{IsGiven, IsGiveWord}
-use Rattle.block_heap.specs.Flush.{IsFront, KeepsAll}
+use Rattle.block_heap.specs.Flush.{IsCachePrefix, KeepsAll}
 use Rattle.block_heap.specs.Links.{IsPushed, IsPushWord}
 use Rattle.block_heap.specs.Lists.{head_at, LeadsAlong, IsInList, KeepsFree}
 use Rattle.block_heap.specs.Medium.{StoresOnly}
 use Rattle.block_heap.specs.Parts.{Parts, image_of, held_in, cache_at}
 use Rattle.block_heap.specs.Returns.{CachesAlong, CachesAllOf, Flushes, IsLongest, GivesTo}
 use Rattle.block_heap.specs.Running.{IsRunning}
-use Rattle.block_heap.proofs.FlushLemmas.{give_low, split, rest_long, front_fits, gave_listed, gave_shape, gave_fixed, listed_fixed, all_shape, some_shape}
+use Rattle.block_heap.proofs.FlushLemmas.{give_low, split, rest_long, prefix_fits, gave_listed, gave_shape, gave_fixed, listed_fixed, all_shape, some_shape}
 use Rattle.std.proofs.lemmas.List.{nil_from_length}
 use Rattle.block_heap.proofs.OrderLemmas.{in_list_along, in_list_has, list_kept, list_same}
 use Rattle.block_heap.proofs.SmallLemmas.{changed}
@@ -64,10 +64,10 @@ along_one p class words is run along =
     let here = cached_along p class is run in
     one_walk (image_of p) (cache_at p.caches class).first words (run.shape.cached class) along.walks here.walks (sym along.count ∙ here.count)
 
--- The front of the cache was given back.
-module _ (p : Parts) (class : ℕ) (is : IsClass class) (run : IsRunning p) (front : CacheFront) (is_front : IsFront class front p)
-    (w : View) (anchor : Anchor) (given : IsGiven p.capacity class front.d front.batch anchor p.words w)
-    (stores : StoresOnly (IsGiveWord front.d front.batch) p.words w) where
+-- The prefix of the cache was given back.
+module _ (p : Parts) (class : ℕ) (is : IsClass class) (run : IsRunning p) (prefix : CachePrefix) (is_prefix : IsCachePrefix class prefix p)
+    (w : View) (anchor : Anchor) (given : IsGiven p.capacity class prefix.d prefix.batch anchor p.words w)
+    (stores : StoresOnly (IsGiveWord prefix.d prefix.batch) p.words w) where
   below : class < lists
   below = let last = is.last in omega arith
 
@@ -78,69 +78,69 @@ module _ (p : Parts) (class : ℕ) (is : IsClass class) (run : IsRunning p) (fro
   class_leads = run.is.follows class below
 
   abbrev parts_with : View → Parts
-  parts_with v = changed p v (set p.caches class front.rest) p.blocks
+  parts_with v = changed p v (set p.caches class prefix.rest) p.blocks
 
   -- the heads stay, but for that of a push
   head_given : (list : ℕ) → list < lists → volatile_at w (head_word list) ≡ image_of p (head_word list)
-  head_given list less = stores.volatile (head_word list) (give_low p class is run front is_front (head_word list) (omega arith) (omega arith))
+  head_given list less = stores.volatile (head_word list) (give_low p class is run prefix is_prefix (head_word list) (omega arith) (omega arith))
 
   -- to a superblock that has some of its blocks free
   module _ (other : anchor.state ≢ Full) where
-    stands : run.shape.place front.d ≡ in_list class
-    stands = gave_listed p class is run front is_front w anchor given stores other
+    stands : run.shape.place prefix.d ≡ in_list class
+    stands = gave_listed p class is run prefix is_prefix w anchor given stores other
 
-    not_all : front.batch.count ≢ blocks_of class
+    not_all : prefix.batch.count ≢ blocks_of class
     not_all all =
-        let of = in_class_list p.capacity (image_of p) (held_in p) run.shape run.is class front.d is is_front.within stands in
+        let of = in_class_list p.capacity (image_of p) (held_in p) run.shape run.is class prefix.d is is_prefix.within stands in
         let some = of.some in
         let count = of.of_class.count in
-        let fits = front_fits p class is run front is_front in
+        let fits = prefix_fits p class is run prefix is_prefix in
         omega arith
 
     class_now : LeadsAlong (parts_with w) class (run.shape.listed class)
-    class_now = (gave_shape p class is run front is_front w anchor given stores other).follows class below
+    class_now = (gave_shape p class is run prefix is_prefix w anchor given stores other).follows class below
 
     free_now : LeadsAlong (parts_with w) 0 (run.shape.listed 0)
-    free_now = (gave_shape p class is run front is_front w anchor given stores other).follows 0 (omega arith)
+    free_now = (gave_shape p class is run prefix is_prefix w anchor given stores other).follows 0 (omega arith)
 
-    pub gave_to : GivesTo class front p (parts_with w)
+    pub gave_to : GivesTo class prefix p (parts_with w)
     gave_to = record {
       free = list_kept p (parts_with w) 0 0 (run.shape.listed 0) (run.shape.listed 0) free_leads free_now (λ d has. has);
       listed = list_kept p (parts_with w) class class (run.shape.listed class) (run.shape.listed class) class_leads class_now (λ d has. has);
       all = λ all. absurd (not_all all);
-      some = λ some. in_list_along (parts_with w) class front.d (run.shape.listed class) class_now
-          (listed_where p.capacity (image_of p) (held_in p) run.shape run.is class front.d below stands);
+      some = λ some. in_list_along (parts_with w) class prefix.d (run.shape.listed class) class_now
+          (listed_where p.capacity (image_of p) (held_in p) run.shape run.is class prefix.d below stands);
       only = λ d there. inl (list_kept (parts_with w) p 0 0 (run.shape.listed 0) (run.shape.listed 0) free_now free_leads (λ e has. has) d there);
       heads = λ c is_c other. head_given c (let last = is_c.last in omega arith);
-      infos = (gave_fixed p class is run front is_front w anchor given stores).infos;
+      infos = (gave_fixed p class is run prefix is_prefix w anchor given stores).infos;
     }
 
   -- to a full one, which went to a list
-  module _ (full : anchor.state ≡ Full) (list : ℕ) (x : View) (pushed : IsPushed list front.d w x) (push_stores : StoresOnly (IsPushWord list front.d) w x)
+  module _ (full : anchor.state ≡ Full) (list : ℕ) (x : View) (pushed : IsPushed list prefix.d w x) (push_stores : StoresOnly (IsPushWord list prefix.d) w x)
       (list_below : list < lists) (t : Shape) (shape : IsShape p.capacity (λ word. volatile_at x word) (held_in p) t)
-      (listed : (l : ℕ) → t.listed l ≡ with_at run.shape.listed list (front.d ∷ run.shape.listed list) l) where
-    now_leads : (l : ℕ) → l < lists → LeadsAlong (parts_with x) l (with_at run.shape.listed list (front.d ∷ run.shape.listed list) l)
+      (listed : (l : ℕ) → t.listed l ≡ with_at run.shape.listed list (prefix.d ∷ run.shape.listed list) l) where
+    now_leads : (l : ℕ) → l < lists → LeadsAlong (parts_with x) l (with_at run.shape.listed list (prefix.d ∷ run.shape.listed list) l)
     now_leads l less = subst (λ (ds : List ℕ). LeadsAlong (parts_with x) l ds) (listed l) (shape.follows l less)
 
     kept_in : (l : ℕ) → l < lists → (d : ℕ) → IsInList p l d → IsInList (parts_with x) l d
-    kept_in l less = list_kept p (parts_with x) l l (run.shape.listed l) (with_at run.shape.listed list (front.d ∷ run.shape.listed list) l)
-        (run.is.follows l less) (now_leads l less) (with_more run.shape.listed list front.d l)
+    kept_in l less = list_kept p (parts_with x) l l (run.shape.listed l) (with_at run.shape.listed list (prefix.d ∷ run.shape.listed list) l)
+        (run.is.follows l less) (now_leads l less) (with_more run.shape.listed list prefix.d l)
 
-    here : IsInList (parts_with x) list front.d
-    here = in_list_along (parts_with x) list front.d (with_at run.shape.listed list (front.d ∷ run.shape.listed list) list) (now_leads list list_below)
-        (subst (λ ds. Contains ds front.d) (sym (with_at_same run.shape.listed list (front.d ∷ run.shape.listed list))) (in_head front.d (run.shape.listed list)))
+    here : IsInList (parts_with x) list prefix.d
+    here = in_list_along (parts_with x) list prefix.d (with_at run.shape.listed list (prefix.d ∷ run.shape.listed list) list) (now_leads list list_below)
+        (subst (λ ds. Contains ds prefix.d) (sym (with_at_same run.shape.listed list (prefix.d ∷ run.shape.listed list))) (in_head prefix.d (run.shape.listed list)))
 
-    free_only : (d : ℕ) → IsInList (parts_with x) 0 d → IsInList p 0 d ⊎ ((d ≡ front.d) × (list ≡ 0))
+    free_only : (d : ℕ) → IsInList (parts_with x) 0 d → IsInList p 0 d ⊎ ((d ≡ prefix.d) × (list ≡ 0))
     free_only d there =
-        let has = in_list_has (parts_with x) 0 d (with_at run.shape.listed list (front.d ∷ run.shape.listed list) 0) there (now_leads 0 (omega arith)) in
-        elim (cases_eq 0 list) as (λ _. IsInList p 0 d ⊎ ((d ≡ front.d) × (list ≡ 0))) [
+        let has = in_list_has (parts_with x) 0 d (with_at run.shape.listed list (prefix.d ∷ run.shape.listed list) 0) there (now_leads 0 (omega arith)) in
+        elim (cases_eq 0 list) as (λ _. IsInList p 0 d ⊎ ((d ≡ prefix.d) × (list ≡ 0))) [
           | inr other ↦ inl (in_list_along p 0 d (run.shape.listed 0) free_leads
-              (subst (λ ds. Contains ds d) (with_at_other run.shape.listed list (front.d ∷ run.shape.listed list) 0 other) has))
+              (subst (λ ds. Contains ds d) (with_at_other run.shape.listed list (prefix.d ∷ run.shape.listed list) 0 other) has))
           | inl same ↦
-              let at : with_at run.shape.listed list (front.d ∷ run.shape.listed list) 0 ≡ front.d ∷ run.shape.listed list =
-              subst (λ k. with_at run.shape.listed list (front.d ∷ run.shape.listed list) k ≡ front.d ∷ run.shape.listed list) (sym same)
-              (with_at_same run.shape.listed list (front.d ∷ run.shape.listed list)) in
-              elim (head_or_rest front.d d (run.shape.listed list) (subst (λ ds. Contains ds d) at has)) as (λ _. IsInList p 0 d ⊎ ((d ≡ front.d) × (list ≡ 0))) [
+              let at : with_at run.shape.listed list (prefix.d ∷ run.shape.listed list) 0 ≡ prefix.d ∷ run.shape.listed list =
+              subst (λ k. with_at run.shape.listed list (prefix.d ∷ run.shape.listed list) k ≡ prefix.d ∷ run.shape.listed list) (sym same)
+              (with_at_same run.shape.listed list (prefix.d ∷ run.shape.listed list)) in
+              elim (head_or_rest prefix.d d (run.shape.listed list) (subst (λ ds. Contains ds d) at has)) as (λ _. IsInList p 0 d ⊎ ((d ≡ prefix.d) × (list ≡ 0))) [
                 | inl one ↦ inr (sym one, sym same)
                 | inr before ↦ inl (in_list_along p 0 d (run.shape.listed 0) free_leads (subst (λ k. Contains (run.shape.listed k) d) (sym same) before))
               ]
@@ -155,15 +155,15 @@ module _ (p : Parts) (class : ℕ) (is : IsClass class) (run : IsRunning p) (fro
         ∙ head_given c (let last = is_c.last in omega arith)
 
     infos_kept : (d : ℕ) → d < p.capacity → volatile_at x (info_word d) ≡ image_of p (info_word d)
-    infos_kept = (listed_fixed p class is run front is_front w anchor given stores full list x pushed push_stores list_below).infos
+    infos_kept = (listed_fixed p class is run prefix is_prefix w anchor given stores full list x pushed push_stores list_below).infos
 
-    listed_to : ((front.batch.count ≡ blocks_of class) × (list ≡ 0)) ⊎ ((front.batch.count ≢ blocks_of class) × (list ≡ class)) → GivesTo class front p (parts_with x)
+    listed_to : ((prefix.batch.count ≡ blocks_of class) × (list ≡ 0)) ⊎ ((prefix.batch.count ≢ blocks_of class) × (list ≡ class)) → GivesTo class prefix p (parts_with x)
     listed_to (inl all) = record {
       free = kept_in 0 (omega arith);
       listed = kept_in class below;
-      all = λ _. subst (λ k. IsInList (parts_with x) k front.d) all.1 here;
+      all = λ _. subst (λ k. IsInList (parts_with x) k prefix.d) all.1 here;
       some = λ some. absurd (some all.0);
-      only = λ d there. elim (free_only d there) as (λ _. IsInList p 0 d ⊎ ((d ≡ front.d) × (front.batch.count ≡ blocks_of class)))
+      only = λ d there. elim (free_only d there) as (λ _. IsInList p 0 d ⊎ ((d ≡ prefix.d) × (prefix.batch.count ≡ blocks_of class)))
           [ inl before ↦ inl before | inr now ↦ inr (now.0, all.0) ];
       heads = heads_kept (inl all.1);
       infos = infos_kept;
@@ -172,23 +172,23 @@ module _ (p : Parts) (class : ℕ) (is : IsClass class) (run : IsRunning p) (fro
       free = kept_in 0 (omega arith);
       listed = kept_in class below;
       all = λ all. absurd (some.0 all);
-      some = λ _. subst (λ k. IsInList (parts_with x) k front.d) some.1 here;
-      only = λ d there. elim (free_only d there) as (λ _. IsInList p 0 d ⊎ ((d ≡ front.d) × (front.batch.count ≡ blocks_of class)))
+      some = λ _. subst (λ k. IsInList (parts_with x) k prefix.d) some.1 here;
+      only = λ d there. elim (free_only d there) as (λ _. IsInList p 0 d ⊎ ((d ≡ prefix.d) × (prefix.batch.count ≡ blocks_of class)))
           [ inl before ↦ inl before | inr now ↦ absurd (let from = is.some in let same = some.1 in let zero = now.1 in omega arith) ];
       heads = heads_kept (inr some.1);
       infos = infos_kept;
     }
 
-  module _ (full : anchor.state ≡ Full) (list : ℕ) (x : View) (pushed : IsPushed list front.d w x) (push_stores : StoresOnly (IsPushWord list front.d) w x) where
-    pub all_to : front.batch.count ≡ blocks_of class → list ≡ 0 → GivesTo class front p (parts_with x)
+  module _ (full : anchor.state ≡ Full) (list : ℕ) (x : View) (pushed : IsPushed list prefix.d w x) (push_stores : StoresOnly (IsPushWord list prefix.d) w x) where
+    pub all_to : prefix.batch.count ≡ blocks_of class → list ≡ 0 → GivesTo class prefix p (parts_with x)
     all_to all same = listed_to full list x pushed push_stores (omega arith) _
-        (all_shape p class is run front is_front w anchor given stores full list x pushed push_stores all same)
-        (λ l. ap (λ k. with_at run.shape.listed k (front.d ∷ run.shape.listed k) l) (sym same)) (inl (all, same))
+        (all_shape p class is run prefix is_prefix w anchor given stores full list x pushed push_stores all same)
+        (λ l. ap (λ k. with_at run.shape.listed k (prefix.d ∷ run.shape.listed k) l) (sym same)) (inl (all, same))
 
-    pub some_to : front.batch.count ≢ blocks_of class → list ≡ class → GivesTo class front p (parts_with x)
+    pub some_to : prefix.batch.count ≢ blocks_of class → list ≡ class → GivesTo class prefix p (parts_with x)
     some_to some same = listed_to full list x pushed push_stores (let under = below in omega arith) _
-        (some_shape p class is run front is_front w anchor given stores full list x pushed push_stores some same)
-        (λ l. ap (λ k. with_at run.shape.listed k (front.d ∷ run.shape.listed k) l) (sym same)) (inr (some, same))
+        (some_shape p class is run prefix is_prefix w anchor given stores full list x pushed push_stores some same)
+        (λ l. ap (λ k. with_at run.shape.listed k (prefix.d ∷ run.shape.listed k) l) (sym same)) (inr (some, same))
 
 -- the cache is the same where loads see the same
 pub only_same : (class d : ℕ) (p q : Parts) → q.capacity ≡ p.capacity → q.words.volatile ≡ p.words.volatile → cache_at q.caches class ≡ cache_at p.caches class
@@ -202,71 +202,71 @@ only_same class d p q capacity same cache all = (
   }) word has),
 )
 
--- Where the longest front is all of the cache, it is all of a superblock.
-module _ (p : Parts) (class : ℕ) (is : IsClass class) (run : IsRunning p) (front : CacheFront) (is_front : IsFront class front p) where
+-- Where the longest prefix is all of the cache, it is all of a superblock.
+module _ (p : Parts) (class : ℕ) (is : IsClass class) (run : IsRunning p) (prefix : CachePrefix) (is_prefix : IsCachePrefix class prefix p) where
   abbrev whole : List ℕ
-  whole = is_front.before ++ front.batch.last ∷ []
+  whole = is_prefix.before ++ prefix.batch.last ∷ []
 
   abbrev rest : List ℕ
-  rest = (split p class is run front is_front).0
+  rest = (split p class is run prefix is_prefix).0
 
   cached_is : run.shape.cached class ≡ whole ++ rest
-  cached_is = (split p class is run front is_front).1
+  cached_is = (split p class is run prefix is_prefix).1
 
   cached_walk : Walks (image_of p) (cache_at p.caches class).first (whole ++ rest)
   cached_walk = subst (λ ws. Walks (image_of p) (cache_at p.caches class).first ws) cached_is (cached_along p class is run).walks
 
   first_in : Contains whole (cache_at p.caches class).first
-  first_in = walk_begin (image_of p) (cache_at p.caches class).first whole is_front.walks
-      (let both = length-append is_front.before (front.batch.last ∷ []) in omega arith)
+  first_in = walk_begin (image_of p) (cache_at p.caches class).first whole is_prefix.walks
+      (let both = length-append is_prefix.before (prefix.batch.last ∷ []) in omega arith)
 
-  -- a cache with all blocks of a superblock has them in its longest front
-  pub all_in_front : IsLongest front p → (d : ℕ) → CachesAllOf class d p → (front.batch.count ≡ blocks_of class) × (front.d ≡ d)
-  all_in_front longest d all = (counted, sym one) where
+  -- a cache with all blocks of a superblock has them in its longest prefix
+  pub all_in_prefix : IsLongest prefix p → (d : ℕ) → CachesAllOf class d p → (prefix.batch.count ≡ blocks_of class) × (prefix.d ≡ d)
+  all_in_prefix longest d all = (counted, sym one) where
     in_all : (word : ℕ) → Contains (whole ++ rest) word → IsFirstOf p.capacity class d word
     in_all word has = all.1 (run.shape.cached class) (cached_along p class is run) word (subst (λ ws. Contains ws word) (sym cached_is) has)
 
-    same_superblock : (word : ℕ) → IsFirstOf p.capacity class d word → IsFirstOf p.capacity class front.d word → d ≡ front.d
-    same_superblock word a b = inside_one p.capacity d front.d word (first_inside p.capacity class d word is a) (first_inside p.capacity class front.d word is b)
+    same_superblock : (word : ℕ) → IsFirstOf p.capacity class d word → IsFirstOf p.capacity class prefix.d word → d ≡ prefix.d
+    same_superblock word a b = inside_one p.capacity d prefix.d word (first_inside p.capacity class d word is a) (first_inside p.capacity class prefix.d word is b)
 
-    one : d ≡ front.d
-    one = same_superblock (cache_at p.caches class).first (in_all (cache_at p.caches class).first (Contains-append_left whole rest (cache_at p.caches class).first first_in)) (is_front.firsts (cache_at p.caches class).first first_in)
+    one : d ≡ prefix.d
+    one = same_superblock (cache_at p.caches class).first (in_all (cache_at p.caches class).first (Contains-append_left whole rest (cache_at p.caches class).first first_in)) (is_prefix.firsts (cache_at p.caches class).first first_in)
 
-    none_behind : front.rest.count ≡ 0
-    none_behind = elim longest as (λ _. front.rest.count ≡ 0) [
+    none_behind : prefix.rest.count ≡ 0
+    none_behind = elim longest as (λ _. prefix.rest.count ≡ 0) [
       | inl none ↦ none
-      | inr outside ↦ elim (cases_eq front.rest.count 0) as (λ _. front.rest.count ≡ 0) [
+      | inr outside ↦ elim (cases_eq prefix.rest.count 0) as (λ _. prefix.rest.count ≡ 0) [
         | inl none ↦ none
         | inr some ↦
-            let long = rest_long p class is run front is_front in
-            let behind : Walks (image_of p) (image_of p front.batch.last) rest =
-            walk_behind (image_of p) (cache_at p.caches class).first is_front.before front.batch.last rest cached_walk in
-            let next : Contains rest (image_of p front.batch.last) = walk_begin (image_of p) (image_of p front.batch.last) rest behind (omega arith) in
-            let first = in_all (image_of p front.batch.last) (Contains-append_right whole rest (image_of p front.batch.last) next) in
-            let inside : IsInSuperblock p.capacity front.d (image_of p front.batch.last) =
-            subst (λ k. IsInSuperblock p.capacity k (image_of p front.batch.last)) one (first_inside p.capacity class d (image_of p front.batch.last) is first) in
-            absurd (outside (subst (λ word. IsInSuperblock p.capacity front.d word) (sym is_front.next) inside))
+            let long = rest_long p class is run prefix is_prefix in
+            let behind : Walks (image_of p) (image_of p prefix.batch.last) rest =
+            walk_behind (image_of p) (cache_at p.caches class).first is_prefix.before prefix.batch.last rest cached_walk in
+            let next : Contains rest (image_of p prefix.batch.last) = walk_begin (image_of p) (image_of p prefix.batch.last) rest behind (omega arith) in
+            let first = in_all (image_of p prefix.batch.last) (Contains-append_right whole rest (image_of p prefix.batch.last) next) in
+            let inside : IsInSuperblock p.capacity prefix.d (image_of p prefix.batch.last) =
+            subst (λ k. IsInSuperblock p.capacity k (image_of p prefix.batch.last)) one (first_inside p.capacity class d (image_of p prefix.batch.last) is first) in
+            absurd (outside (subst (λ word. IsInSuperblock p.capacity prefix.d word) (sym is_prefix.next) inside))
       ]
     ]
 
-    counted : front.batch.count ≡ blocks_of class
-    counted = let left = is_front.rest in let none = none_behind in let count = all.0 in omega arith
+    counted : prefix.batch.count ≡ blocks_of class
+    counted = let left = is_prefix.rest in let none = none_behind in let count = all.0 in omega arith
 
-  -- and a front of as many blocks is all that the cache has
-  pub front_is_all : front.batch.count ≡ blocks_of class → CachesAllOf class front.d p
-  front_is_all count = (
+  -- and a prefix of as many blocks is all that the cache has
+  pub prefix_is_all : prefix.batch.count ≡ blocks_of class → CachesAllOf class prefix.d p
+  prefix_is_all count = (
     full,
-    λ words along word has. is_front.firsts word
+    λ words along word has. is_prefix.firsts word
         (subst (λ ws. Contains ws word) only (subst (λ ws. Contains ws word) (along_one p class words is run along) has)),
   ) where
     most : (cache_at p.caches class).count ≤ blocks_of class
     most = (run.caches class is).most
 
     full : (cache_at p.caches class).count ≡ blocks_of class
-    full = let left = is_front.rest in let few = most in omega arith
+    full = let left = is_prefix.rest in let few = most in omega arith
 
     none : rest ≡ []
-    none = nil_from_length rest (let long = rest_long p class is run front is_front in let left = is_front.rest in let few = most in omega arith)
+    none = nil_from_length rest (let long = rest_long p class is run prefix is_prefix in let left = is_prefix.rest in let few = most in omega arith)
 
     only : run.shape.cached class ≡ whole
     only = cached_is ∙ ap (λ ws. whole ++ ws) none ∙ append-nil whole
@@ -285,18 +285,18 @@ pub record FlushesSoFar (class : ℕ) (p q : Parts) : Type 0 where
 pub flushes_none : (class : ℕ) (p : Parts) → FlushesSoFar class p p
 flushes_none class p = record { free = λ d there. there; listed = λ d there. there; only = λ d there. inl there; same_capacity = refl; heads = λ c is other. refl; infos = λ d below. refl; way = inl (refl, refl, refl) }
 
--- one front more
+-- one prefix more
 module _ (class : ℕ) (p q r t : Parts) (is : IsClass class) (most : (cache_at p.caches class).count ≤ blocks_of class) (before : FlushesSoFar class p q)
     (capacity : r.capacity ≡ q.capacity) (volatile : r.words.volatile ≡ q.words.volatile) (cache : cache_at r.caches class ≡ cache_at q.caches class)
-    (run : IsRunning r) (front : CacheFront) (is_front : IsFront class front r) (longest : IsLongest front r) (some : 1 ≤ front.batch.count)
-    (to : GivesTo class front r t) (now_capacity : t.capacity ≡ r.capacity) (back : cache_at t.caches class ≡ front.rest) where
+    (run : IsRunning r) (prefix : CachePrefix) (is_prefix : IsCachePrefix class prefix r) (longest : IsLongest prefix r) (some : 1 ≤ prefix.batch.count)
+    (to : GivesTo class prefix r t) (now_capacity : t.capacity ≡ r.capacity) (back : cache_at t.caches class ≡ prefix.rest) where
   loaded : (list d : ℕ) → IsInList q list d → IsInList r list d
   loaded list d there = list_same q r list d capacity volatile there
 
   now_free : (d : ℕ) → CachesAllOf class d p → IsInList t 0 d
   now_free d all = elim before.way as (λ _. IsInList t 0 d) [
     | inl same ↦
-        let found = all_in_front r class is run front is_front longest d (only_same class d p r (capacity ∙ same.0) (volatile ∙ same.1) (cache ∙ same.2) all) in
+        let found = all_in_prefix r class is run prefix is_prefix longest d (only_same class d p r (capacity ∙ same.0) (volatile ∙ same.1) (cache ∙ same.2) all) in
         subst (λ k. IsInList t 0 k) found.1 (to.all found.0)
     | inr less ↦ to.free d (loaded 0 d (less.1 d all))
   ]
@@ -307,12 +307,12 @@ module _ (class : ℕ) (p q r t : Parts) (is : IsClass class) (most : (cache_at 
     listed = λ d there. to.listed d (loaded class d (before.listed d there));
     only = λ d there. elim (to.only d there) as (λ _. IsInList p 0 d ⊎ CachesAllOf class d p) [
       | inl was ↦ before.only d (list_same r q 0 d (sym capacity) (sym volatile) was)
-      | inr now ↦ inr (subst (λ k. CachesAllOf class k p) (sym now.0) (elim before.way as (λ _. CachesAllOf class front.d p) [
-        | inl same ↦ only_same class front.d r p (sym (capacity ∙ same.0)) (sym (volatile ∙ same.1)) (sym (cache ∙ same.2))
-            (front_is_all r class is run front is_front now.1)
+      | inr now ↦ inr (subst (λ k. CachesAllOf class k p) (sym now.0) (elim before.way as (λ _. CachesAllOf class prefix.d p) [
+        | inl same ↦ only_same class prefix.d r p (sym (capacity ∙ same.0)) (sym (volatile ∙ same.1)) (sym (cache ∙ same.2))
+            (prefix_is_all r class is run prefix is_prefix now.1)
         | inr less ↦ absurd (
             let was : (cache_at r.caches class).count ≡ (cache_at q.caches class).count = ap (λ (x : Cache). x.count) cache in
-            let left = is_front.rest in
+            let left = is_prefix.rest in
             let all = now.1 in
             let fewer = less.0 in
             omega arith)
@@ -325,9 +325,9 @@ module _ (class : ℕ) (p q r t : Parts) (is : IsClass class) (most : (cache_at 
         let inside : d < r.capacity = subst (λ n. d < n) (sym (capacity ∙ before.same_capacity)) below in
         to.infos d inside ∙ ap (λ (xs : List ℕ). get_or xs (info_word d) 0) volatile ∙ before.infos d below;
     way = inr (
-      (let now : (cache_at t.caches class).count ≡ front.rest.count = ap (λ (x : Cache). x.count) back in
+      (let now : (cache_at t.caches class).count ≡ prefix.rest.count = ap (λ (x : Cache). x.count) back in
           let was : (cache_at r.caches class).count ≡ (cache_at q.caches class).count = ap (λ (x : Cache). x.count) cache in
-          let left = is_front.rest in
+          let left = is_prefix.rest in
           elim before.way as (λ _. (cache_at t.caches class).count < (cache_at p.caches class).count) [
             | inl same ↦ let count : (cache_at q.caches class).count ≡ (cache_at p.caches class).count = ap (λ (x : Cache). x.count) same.2 in omega arith
             | inr fewer ↦ omega (arith, fewer.0)

@@ -1,16 +1,16 @@
--- Walks along blocks: where one begins, its front, and when two are one.
+-- Walks along blocks: where one begins, its prefix, and when two are one.
 use Rattle.std.proofs.Common.{◌≡◌, ℕ, ◌≤◌, List, [], ◌∷◌, ◌++◌, length, Contains, refl, ap, sym, subst, ◌∙◌, arith}
 use Rattle.heap_model.specs.Chains.{Walks}
 use Rattle.heap_model.proofs.MemberLemmas.{in_head}
 
--- a walk along fewer blocks from where a longer one begins goes along its front
-pub walk_front : (next : ℕ → ℕ) (from : ℕ) (xs ys : List ℕ) → Walks next from xs → Walks next from ys → length xs ≤ length ys
+-- a walk along fewer blocks from where a longer one begins goes along its prefix
+pub walk_prefix : (next : ℕ → ℕ) (from : ℕ) (xs ys : List ℕ) → Walks next from xs → Walks next from ys → length xs ≤ length ys
     → (rest : List ℕ) × (ys ≡ xs ++ rest)
-walk_front next from [] ys walks all few = (ys, refl)
-walk_front next from (x ∷ xs) [] walks all few = absurd (omega arith)
-walk_front next from (x ∷ xs) (y ∷ ys) walks all few =
+walk_prefix next from [] ys walks all few = (ys, refl)
+walk_prefix next from (x ∷ xs) [] walks all few = absurd (omega arith)
+walk_prefix next from (x ∷ xs) (y ∷ ys) walks all few =
     let same : x ≡ y = sym walks.0 ∙ all.0 in
-    let rest = walk_front next (next x) xs ys walks.1 (subst (λ z. Walks next (next z) ys) (sym same) all.1) (omega arith) in
+    let rest = walk_prefix next (next x) xs ys walks.1 (subst (λ z. Walks next (next z) ys) (sym same) all.1) (omega arith) in
     (rest.0, ap (λ z. z ∷ ys) (sym same) ∙ ap (λ zs. x ∷ zs) rest.1)
 
 -- a walk that is not empty begins at its first block

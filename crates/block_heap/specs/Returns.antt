@@ -7,7 +7,7 @@ use Rattle.heap_model.specs.Recovered.{HasPartIn}
 use Rattle.heap_model.specs.Chains.{Walks}
 use Rattle.heap_shape.specs.Standing.{IsFirstOf}
 use Rattle.heap_shape.specs.Effects.{IsInSuperblock}
-use Rattle.block_heap.specs.declared.small.CacheFront.{CacheFront}
+use Rattle.block_heap.specs.declared.small.CachePrefix.{CachePrefix}
 use Rattle.block_heap.specs.Lists.{head_at, IsInList, KeepsFree}
 use Rattle.block_heap.specs.Parts.{Parts, image_of, cache_at}
 
@@ -71,17 +71,17 @@ pub record ComesBack (b : Block) (p q : Parts) : Type 0 where
   pub in_class : (class : ℕ) → IsClass class → b.words ≡ words_of_class class → FreesSmall class b.first_word p q
   pub as_large : ((class : ℕ) → IsClass class → b.words ≢ words_of_class class) → FreesLarge b p q
 
--- no longer front of the cache lies in its superblock
-abbrev pub IsLongest : CacheFront → Parts → Type 0
-IsLongest front p = (front.rest.count ≡ 0) ⊎ (IsInSuperblock p.capacity front.d front.rest.first → ⊥)
+-- no longer prefix of the cache lies in its superblock
+abbrev pub IsLongest : CachePrefix → Parts → Type 0
+IsLongest prefix p = (prefix.rest.count ≡ 0) ⊎ (IsInSuperblock p.capacity prefix.d prefix.rest.first → ⊥)
 
--- the superblock that got the front is in the free list if it got all its blocks, and else in that of the class; no list loses one
-pub record GivesTo (class : ℕ) (front : CacheFront) (p q : Parts) : Type 0 where
+-- the superblock that got the prefix is in the free list if it got all its blocks, and else in that of the class; no list loses one
+pub record GivesTo (class : ℕ) (prefix : CachePrefix) (p q : Parts) : Type 0 where
   pub free : KeepsFree p q
   pub listed : (d : ℕ) → IsInList p class d → IsInList q class d
-  pub all : front.batch.count ≡ blocks_of class → IsInList q 0 front.d
-  pub some : front.batch.count ≢ blocks_of class → IsInList q class front.d
-  pub only : (d : ℕ) → IsInList q 0 d → IsInList p 0 d ⊎ ((d ≡ front.d) × (front.batch.count ≡ blocks_of class))
+  pub all : prefix.batch.count ≡ blocks_of class → IsInList q 0 prefix.d
+  pub some : prefix.batch.count ≢ blocks_of class → IsInList q class prefix.d
+  pub only : (d : ℕ) → IsInList q 0 d → IsInList p 0 d ⊎ ((d ≡ prefix.d) × (prefix.batch.count ≡ blocks_of class))
   pub heads : (c : ℕ) → IsClass c → c ≢ class → head_at q c ≡ head_at p c
   pub infos : (d : ℕ) → d < p.capacity → image_of q (info_word d) ≡ image_of p (info_word d)
 

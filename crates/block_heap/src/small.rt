@@ -9,9 +9,9 @@ use line_memory::{Chance, Stopped};
 use size_table::{SizeClass, blocks_of};
 use super_block::{SUPERBLOCK_WORDS, block_words};
 
-/// Blocks at the front of a cache that lie in superblock `d`, and the cache behind them.
+/// A prefix of a cache, whose blocks lie in superblock `d`, and the cache behind it.
 #[derive(Clone, Copy, Debug, PartialEq, Eq)]
-pub(crate) struct CacheFront {
+pub(crate) struct CachePrefix {
     pub(crate) d: u64,
     pub(crate) batch: Batch,
     pub(crate) rest: Cache,
@@ -27,7 +27,7 @@ impl<C: Chance> Arena<C> {
     ghost use Rattle.block_heap.specs.Parts.{parts_of, held_in, cache_at};
     ghost use Rattle.block_heap.specs.Running.{IsRunning, CachesAreShort, LeavesHeld};
     ghost use Rattle.block_heap.specs.Steps.{HandsOut};
-    ghost use Rattle.block_heap.specs.Flush.{IsFront, KeepsAll, GivesBack};
+    ghost use Rattle.block_heap.specs.Flush.{IsCachePrefix, KeepsAll, GivesBack};
     ghost use Rattle.block_heap.specs.Returns.{FreesSmall, Flushes, IsLongest, GivesTo};
 
     /// Hands out the first block of the cache, which has one.
@@ -113,25 +113,25 @@ impl<C: Chance> Arena<C> {
         ensures taken { (parts_of self.new).taken ≡ (parts_of self.old).taken }
     {
         while self.caches[class.number as usize].count > 0 {
-            let front = self.front(class)?;
-            self.give(class, front)?;
+            let prefix = self.longest_prefix(class)?;
+            self.give(class, prefix)?;
         }
         Ok(())
     }
 
-    /// The longest front of the cache, which is not empty, that lies in one superblock.
-    fn front(&mut self, class: SizeClass) -> Result<CacheFront, Stopped>
+    /// The longest prefix of the cache, which is not empty, that lies in one superblock.
+    fn longest_prefix(&mut self, class: SizeClass) -> Result<CachePrefix, Stopped>
         requires running { IsRunning (parts_of self.old) }
         requires some { 1 ≤ (cache_at (parts_of self.old).caches class.number).count }
-        ensures ok { IfOk result (λ front. IsFront class.number front (parts_of self.new)) }
-        ensures longest { IfOk result (λ front. IsLongest front (parts_of self.new)) }
+        ensures ok { IfOk result (λ prefix. IsCachePrefix class.number prefix (parts_of self.new)) }
+        ensures longest { IfOk result (λ prefix. IsLongest prefix (parts_of self.new)) }
         ensures words { OnOk result ((parts_of self.new).words.volatile
             ≡ (parts_of self.old).words.volatile) }
         ensures running { OnOk result (IsRunning (parts_of self.new)) }
         ensures keeps { OnOk result (KeepsAll class.number
             (parts_of self.old) (parts_of self.new)) }
         ensures caches { (parts_of self.new).caches ≡ (parts_of self.old).caches }
-        ensures goes { IfOk result (λ front. RunsWithin front.batch.count
+        ensures goes { IfOk result (λ prefix. RunsWithin prefix.batch.count
             (parts_of self.old).words (parts_of self.new).words) }
         ensures stopped { IfErr result (λ e.
             StopsWithin e.step (cache_at (parts_of self.old).caches class.number).count
@@ -152,7 +152,7 @@ impl<C: Chance> Arena<C> {
             count += 1;
         }
         let words = block_words(class);
-        Ok(CacheFront {
+        Ok(CachePrefix {
             d,
             batch: Batch {
                 first: (cache.first - self.geometry.start(d)) / words,
@@ -166,15 +166,15 @@ impl<C: Chance> Arena<C> {
         })
     }
 
-    /// Gives the front of the cache back. A superblock that was full goes to a list: that of the
+    /// Gives the prefix of the cache back. A superblock that was full goes to a list: that of the
     /// free ones if all its blocks are given, else that of the class.
-    fn give(&mut self, class: SizeClass, front: CacheFront) -> Result<(), Stopped>
+    fn give(&mut self, class: SizeClass, prefix: CachePrefix) -> Result<(), Stopped>
         requires running { IsRunning (parts_of self.old) }
-        requires front { IsFront class.number front (parts_of self.old) }
+        requires prefix { IsCachePrefix class.number prefix (parts_of self.old) }
         ensures running { OnOk result (IsRunning (parts_of self.new)) }
-        ensures gives { OnOk result (GivesBack class.number front
+        ensures gives { OnOk result (GivesBack class.number prefix
             (parts_of self.old) (parts_of self.new)) }
-        ensures order { OnOk result (GivesTo class.number front
+        ensures order { OnOk result (GivesTo class.number prefix
             (parts_of self.old) (parts_of self.new)) }
         ensures goes { OnOk result (RunsWithin 6
             (parts_of self.old).words (parts_of self.new).words) }
@@ -187,12 +187,12 @@ impl<C: Chance> Arena<C> {
     {
         let anchor = self
             .medium
-            .give_blocks(self.geometry, front.d, class, front.batch)?;
-        self.caches[class.number as usize] = front.rest;
+            .give_blocks(self.geometry, prefix.d, class, prefix.batch)?;
+        self.caches[class.number as usize] = prefix.rest;
         if anchor.state == State::Full {
-            let all = front.batch.count == blocks_of(class.number);
+            let all = prefix.batch.count == blocks_of(class.number);
             let list = if all { 0 } else { class.number as u64 };
-            self.medium.push(self.geometry, list, front.d)?;
+            self.medium.push(self.geometry, list, prefix.d)?;
         }
         Ok(())
     }

@@ -4,45 +4,45 @@ use Rattle.block_heap.specs.MediumView.{medium_view}
 use Rattle.block_heap.specs.declared.cache.Cache.{Cache}
 use Rattle.block_heap.specs.Parts.{parts_of, cache_at}
 use Rattle.block_heap.proofs.SmallLemmas.{read_cache}
-use Rattle.block_heap.proofs.FrontLemmas.{flushed_serves, flushed_more, front_halts, give_halts, give_serves}
+use Rattle.block_heap.proofs.PrefixLemmas.{flushed_serves, flushed_more, prefix_halts, give_halts, give_serves}
 use Rattle.block_heap.proofs.ReturnLemmas.{flushes_all}
 use Rattle.block_heap.proofs.arena.Arena.flush.Goals as goal
 
-pub returns-in_err-front-clause-stopped : goal.returns-in_err-front-clause-stopped
-returns-in_err-front-clause-stopped g c =
-    let halts = front_halts c.args.class.number (parts_of c.args.self.now) (parts_of c.loop-class.self)
-    (medium_view c.front.new.self.medium) c.in_err-front.field-0.0.step c.loop-class.invariant c.args.class.is c.requires
-    c.in_err-front.ensures.stopped in
+pub returns-in_err-prefix-clause-stopped : goal.returns-in_err-prefix-clause-stopped
+returns-in_err-prefix-clause-stopped g c =
+    let halts = prefix_halts c.args.class.number (parts_of c.args.self.now) (parts_of c.loop-class.self)
+    (medium_view c.longest_prefix.new.self.medium) c.in_err-prefix.field-0.0.step c.loop-class.invariant c.args.class.is c.requires
+    c.in_err-prefix.ensures.stopped in
     let p = err_from_is_err_and c.from_residual.result c.from_residual.ensures.1 in
     rw (p.1, p.2) halts
 
-pub returns-in_err-front-clause-serves : goal.returns-in_err-front-clause-serves
-returns-in_err-front-clause-serves g c = flushed_serves c.args.class.number (parts_of c.args.self.now) (parts_of c.loop-class.self)
-    (parts_of c.front.new.self) c.loop-class.invariant c.front.ensures.serves
+pub returns-in_err-prefix-clause-serves : goal.returns-in_err-prefix-clause-serves
+returns-in_err-prefix-clause-serves g c = flushed_serves c.args.class.number (parts_of c.args.self.now) (parts_of c.loop-class.self)
+    (parts_of c.longest_prefix.new.self) c.loop-class.invariant c.longest_prefix.ensures.serves
 
 pub loop-class-preserved : goal.loop-class-preserved
 loop-class-preserved g c =
-    flushed_more c.args.class.number (parts_of c.args.self.now) (parts_of c.loop-class.self) (parts_of c.front.new.self) c.in_ok-front.front c.loop-class.invariant
-    c.in_ok-front.ensures.ok c.in_ok-front.ensures.running c.in_ok-front.ensures.keeps c.front.ensures.caches c.in_ok-front.ensures.goes c.front.ensures.held
-    c.front.ensures.serves c.front.ensures.taken
+    flushed_more c.args.class.number (parts_of c.args.self.now) (parts_of c.loop-class.self) (parts_of c.longest_prefix.new.self) c.in_ok-prefix.prefix c.loop-class.invariant
+    c.in_ok-prefix.ensures.ok c.in_ok-prefix.ensures.running c.in_ok-prefix.ensures.keeps c.longest_prefix.ensures.caches c.in_ok-prefix.ensures.goes c.longest_prefix.ensures.held
+    c.longest_prefix.ensures.serves c.longest_prefix.ensures.taken
     (parts_of c.give.new.self) c.in_ok-give.ensures.running c.in_ok-give.ensures.gives c.in_ok-give.ensures.goes c.give.ensures.held c.give.ensures.serves
-    c.give.ensures.taken c.args.class.is c.requires c.in_ok-front.ensures.words c.in_ok-front.ensures.longest c.in_ok-give.ensures.order
+    c.give.ensures.taken c.args.class.is c.requires c.in_ok-prefix.ensures.words c.in_ok-prefix.ensures.longest c.in_ok-give.ensures.order
 
 pub returns-in_err-give-clause-stopped : goal.returns-in_err-give-clause-stopped
 returns-in_err-give-clause-stopped g c =
     let halts = give_halts c.args.class.number (parts_of c.args.self.now) (parts_of c.loop-class.self)
-    (parts_of c.front.new.self) c.in_ok-front.front c.loop-class.invariant
-    c.in_ok-front.ensures.ok c.in_ok-front.ensures.running c.in_ok-front.ensures.keeps c.front.ensures.caches c.in_ok-front.ensures.goes
-    c.front.ensures.held c.front.ensures.serves c.front.ensures.taken
+    (parts_of c.longest_prefix.new.self) c.in_ok-prefix.prefix c.loop-class.invariant
+    c.in_ok-prefix.ensures.ok c.in_ok-prefix.ensures.running c.in_ok-prefix.ensures.keeps c.longest_prefix.ensures.caches c.in_ok-prefix.ensures.goes
+    c.longest_prefix.ensures.held c.longest_prefix.ensures.serves c.longest_prefix.ensures.taken
     (medium_view c.give.new.self.medium) c.in_err-give.field-0.0.step c.args.class.is c.requires c.in_err-give.ensures.stopped in
     let p = err_from_is_err_and c.from_residual-in_err-give.result c.from_residual-in_err-give.ensures.1 in
     rw (p.1, p.2) halts
 
 pub returns-in_err-give-clause-serves : goal.returns-in_err-give-clause-serves
 returns-in_err-give-clause-serves g c =
-    give_serves c.args.class.number (parts_of c.args.self.now) (parts_of c.loop-class.self) (parts_of c.front.new.self) c.in_ok-front.front c.loop-class.invariant
-    c.in_ok-front.ensures.ok c.in_ok-front.ensures.running c.in_ok-front.ensures.keeps c.front.ensures.caches c.in_ok-front.ensures.goes c.front.ensures.held
-    c.front.ensures.serves c.front.ensures.taken
+    give_serves c.args.class.number (parts_of c.args.self.now) (parts_of c.loop-class.self) (parts_of c.longest_prefix.new.self) c.in_ok-prefix.prefix c.loop-class.invariant
+    c.in_ok-prefix.ensures.ok c.in_ok-prefix.ensures.running c.in_ok-prefix.ensures.keeps c.longest_prefix.ensures.caches c.in_ok-prefix.ensures.goes c.longest_prefix.ensures.held
+    c.longest_prefix.ensures.serves c.longest_prefix.ensures.taken
     (parts_of c.give.new.self) c.give.ensures.serves
 
 pub returns-clause-order : goal.returns-clause-order

@@ -6,7 +6,7 @@ use Rattle.block_heap.specs.Accounts.{AreAccounted}
 use Rattle.block_heap.specs.Parts.{parts_of}
 use Rattle.block_heap.specs.Running.{IsRunning}
 use Rattle.block_heap.proofs.SmallLemmas.{changed}
-use Rattle.block_heap.proofs.FlushLemmas.{front_anchor, front_first, front_last, front_fits, gave_serves, pushed_serves, gave_running, gave_accounted, pushed_all, all_accounted, pushed_some, some_accounted}
+use Rattle.block_heap.proofs.FlushLemmas.{prefix_anchor, prefix_first, prefix_last, prefix_fits, gave_serves, pushed_serves, gave_running, gave_accounted, pushed_all, all_accounted, pushed_some, some_accounted}
 use Rattle.block_heap.specs.Returns.{GivesTo}
 use Rattle.block_heap.proofs.ReturnLemmas.{gave_to, all_to, some_to}
 use Rattle.block_heap.proofs.AccountLemmas.{gives_back}
@@ -14,26 +14,26 @@ use Rattle.block_heap.proofs.arena.Arena.give.Goals as goal
 use Rattle.block_heap.proofs.arena.Arena.give.Goals.{then-all, else-all}
 
 pub give_blocks-requires-clause-anchor : goal.give_blocks-requires-clause-anchor
-give_blocks-requires-clause-anchor g c = front_anchor (parts_of c.args.self.now) c.args.class.number c.args.class.is c.requires.running c.args.front
-    c.requires.front
+give_blocks-requires-clause-anchor g c = prefix_anchor (parts_of c.args.self.now) c.args.class.number c.args.class.is c.requires.running c.args.prefix
+    c.requires.prefix
 
 pub give_blocks-requires-clause-first : goal.give_blocks-requires-clause-first
-give_blocks-requires-clause-first g c = front_first (parts_of c.args.self.now) c.args.class.number c.args.class.is c.requires.running c.args.front c.requires.front
+give_blocks-requires-clause-first g c = prefix_first (parts_of c.args.self.now) c.args.class.number c.args.class.is c.requires.running c.args.prefix c.requires.prefix
 
 pub give_blocks-requires-clause-last : goal.give_blocks-requires-clause-last
-give_blocks-requires-clause-last g c = front_last (parts_of c.args.self.now) c.args.class.number c.args.class.is c.requires.running c.args.front c.requires.front
+give_blocks-requires-clause-last g c = prefix_last (parts_of c.args.self.now) c.args.class.number c.args.class.is c.requires.running c.args.prefix c.requires.prefix
 
 pub give_blocks-requires-clause-fits : goal.give_blocks-requires-clause-fits
-give_blocks-requires-clause-fits g c = front_fits (parts_of c.args.self.now) c.args.class.number c.args.class.is c.requires.running c.args.front c.requires.front
+give_blocks-requires-clause-fits g c = prefix_fits (parts_of c.args.self.now) c.args.class.number c.args.class.is c.requires.running c.args.prefix c.requires.prefix
 
 pub returns-in_err-anchor-clause-serves : goal.returns-in_err-anchor-clause-serves
 returns-in_err-anchor-clause-serves g c =
-    gave_serves (parts_of c.args.self.now) c.args.class.number c.args.class.is c.requires.running c.args.front c.requires.front _ refl refl refl
+    gave_serves (parts_of c.args.self.now) c.args.class.number c.args.class.is c.requires.running c.args.prefix c.requires.prefix _ refl refl refl
     c.give_blocks.ensures.others
 
 pub returns-in_err-push-clause-serves : goal.returns-in_err-push-clause-serves
 returns-in_err-push-clause-serves g c =
-    pushed_serves (parts_of c.args.self.now) c.args.class.number c.args.class.is c.requires.running c.args.front c.requires.front
+    pushed_serves (parts_of c.args.self.now) c.args.class.number c.args.class.is c.requires.running c.args.prefix c.requires.prefix
     (medium_view c.give_blocks.new.self) c.if-all.list _ (let last = c.args.class.is.last in elim c.if-all.branch as (λ _. c.if-all.list < lists)
     [ then-all w ↦ let e = w.list-is in omega arith | else-all w ↦ let e = w.list-is in omega arith ])
     refl refl refl c.give_blocks.ensures.others c.push.ensures.others
@@ -44,15 +44,15 @@ returns-in_ok-push-clause-running g c =
     let all = c.blocks_of.ensures in
     let same = c.eq.ensures in
     let full : c.in_ok-anchor.anchor.state ≡ Full = search rules in
-    elim c.if-all.branch as (λ _. IsRunning (changed p (medium_view c.push.new.self) (set p.caches c.args.class.number c.args.front.rest) c.args.self.now.held)) [
+    elim c.if-all.branch as (λ _. IsRunning (changed p (medium_view c.push.new.self) (set p.caches c.args.class.number c.args.prefix.rest) c.args.self.now.held)) [
       | then-all w ↦
-          pushed_all p c.args.class.number c.args.class.is c.requires.running c.args.front c.requires.front
+          pushed_all p c.args.class.number c.args.class.is c.requires.running c.args.prefix c.requires.prefix
           (medium_view c.give_blocks.new.self) c.in_ok-anchor.anchor
           c.in_ok-anchor.ensures.ok c.give_blocks.ensures.others full c.if-all.list (medium_view c.push.new.self) c.in_ok-push.ensures.ok
           c.push.ensures.others
           (let e = w.if-all.true in omega arith) w.list-is
       | else-all w ↦
-          pushed_some p c.args.class.number c.args.class.is c.requires.running c.args.front c.requires.front
+          pushed_some p c.args.class.number c.args.class.is c.requires.running c.args.prefix c.requires.prefix
           (medium_view c.give_blocks.new.self) c.in_ok-anchor.anchor
           c.in_ok-anchor.ensures.ok c.give_blocks.ensures.others full c.if-all.list (medium_view c.push.new.self) c.in_ok-push.ensures.ok
           c.push.ensures.others
@@ -61,20 +61,20 @@ returns-in_ok-push-clause-running g c =
 
 pub returns-in_ok-push-clause-serves : goal.returns-in_ok-push-clause-serves
 returns-in_ok-push-clause-serves g c =
-    pushed_serves (parts_of c.args.self.now) c.args.class.number c.args.class.is c.requires.running c.args.front c.requires.front
+    pushed_serves (parts_of c.args.self.now) c.args.class.number c.args.class.is c.requires.running c.args.prefix c.requires.prefix
     (medium_view c.give_blocks.new.self) c.if-all.list _ (let last = c.args.class.is.last in elim c.if-all.branch as (λ _. c.if-all.list < lists)
     [ then-all w ↦ let e = w.list-is in omega arith | else-all w ↦ let e = w.list-is in omega arith ])
     refl refl refl c.give_blocks.ensures.others c.push.ensures.others
 
 pub returns-else-eq-clause-running : goal.returns-else-eq-clause-running
 returns-else-eq-clause-running g c =
-    gave_running (parts_of c.args.self.now) c.args.class.number c.args.class.is c.requires.running c.args.front c.requires.front
+    gave_running (parts_of c.args.self.now) c.args.class.number c.args.class.is c.requires.running c.args.prefix c.requires.prefix
     (medium_view c.give_blocks.new.self) c.in_ok-anchor.anchor
     c.in_ok-anchor.ensures.ok c.give_blocks.ensures.others (λ e. search rules)
 
 pub returns-else-eq-clause-serves : goal.returns-else-eq-clause-serves
 returns-else-eq-clause-serves g c =
-    gave_serves (parts_of c.args.self.now) c.args.class.number c.args.class.is c.requires.running c.args.front c.requires.front _ refl refl refl
+    gave_serves (parts_of c.args.self.now) c.args.class.number c.args.class.is c.requires.running c.args.prefix c.requires.prefix _ refl refl refl
     c.give_blocks.ensures.others
 
 pub returns-in_ok-push-clause-gives : goal.returns-in_ok-push-clause-gives
@@ -83,16 +83,16 @@ returns-in_ok-push-clause-gives g c =
     let all = c.blocks_of.ensures in
     let same = c.eq.ensures in
     let full : c.in_ok-anchor.anchor.state ≡ Full = search rules in
-    gives_back p c.args.class.number c.args.front (medium_view c.push.new.self) c.args.class.is c.requires.running
-    (elim c.if-all.branch as (λ _. AreAccounted p → AreAccounted (changed p (medium_view c.push.new.self) (set p.caches c.args.class.number c.args.front.rest) c.args.self.now.held)) [
+    gives_back p c.args.class.number c.args.prefix (medium_view c.push.new.self) c.args.class.is c.requires.running
+    (elim c.if-all.branch as (λ _. AreAccounted p → AreAccounted (changed p (medium_view c.push.new.self) (set p.caches c.args.class.number c.args.prefix.rest) c.args.self.now.held)) [
       | then-all w ↦
-          all_accounted p c.args.class.number c.args.class.is c.requires.running c.args.front c.requires.front
+          all_accounted p c.args.class.number c.args.class.is c.requires.running c.args.prefix c.requires.prefix
           (medium_view c.give_blocks.new.self) c.in_ok-anchor.anchor
           c.in_ok-anchor.ensures.ok c.give_blocks.ensures.others full c.if-all.list (medium_view c.push.new.self) c.in_ok-push.ensures.ok
           c.push.ensures.others
           (let e = w.if-all.true in omega arith) w.list-is
       | else-all w ↦
-          some_accounted p c.args.class.number c.args.class.is c.requires.running c.args.front c.requires.front
+          some_accounted p c.args.class.number c.args.class.is c.requires.running c.args.prefix c.requires.prefix
           (medium_view c.give_blocks.new.self) c.in_ok-anchor.anchor
           c.in_ok-anchor.ensures.ok c.give_blocks.ensures.others full c.if-all.list (medium_view c.push.new.self) c.in_ok-push.ensures.ok
           c.push.ensures.others
@@ -101,8 +101,8 @@ returns-in_ok-push-clause-gives g c =
 
 pub returns-else-eq-clause-gives : goal.returns-else-eq-clause-gives
 returns-else-eq-clause-gives g c =
-    gives_back (parts_of c.args.self.now) c.args.class.number c.args.front (medium_view c.give_blocks.new.self) c.args.class.is c.requires.running
-    (gave_accounted (parts_of c.args.self.now) c.args.class.number c.args.class.is c.requires.running c.args.front c.requires.front
+    gives_back (parts_of c.args.self.now) c.args.class.number c.args.prefix (medium_view c.give_blocks.new.self) c.args.class.is c.requires.running
+    (gave_accounted (parts_of c.args.self.now) c.args.class.number c.args.class.is c.requires.running c.args.prefix c.requires.prefix
     (medium_view c.give_blocks.new.self) c.in_ok-anchor.anchor
     c.in_ok-anchor.ensures.ok c.give_blocks.ensures.others (λ e. search rules))
 
@@ -112,15 +112,15 @@ returns-in_ok-push-clause-order g c =
     let all = c.blocks_of.ensures in
     let same = c.eq.ensures in
     let full : c.in_ok-anchor.anchor.state ≡ Full = search rules in
-    elim c.if-all.branch as (λ _. GivesTo c.args.class.number c.args.front p (changed p (medium_view c.push.new.self) (set p.caches c.args.class.number c.args.front.rest) c.args.self.now.held)) [
+    elim c.if-all.branch as (λ _. GivesTo c.args.class.number c.args.prefix p (changed p (medium_view c.push.new.self) (set p.caches c.args.class.number c.args.prefix.rest) c.args.self.now.held)) [
       | then-all w ↦
-          all_to p c.args.class.number c.args.class.is c.requires.running c.args.front c.requires.front
+          all_to p c.args.class.number c.args.class.is c.requires.running c.args.prefix c.requires.prefix
           (medium_view c.give_blocks.new.self) c.in_ok-anchor.anchor
           c.in_ok-anchor.ensures.ok c.give_blocks.ensures.others full c.if-all.list (medium_view c.push.new.self) c.in_ok-push.ensures.ok
           c.push.ensures.others
           (let e = w.if-all.true in omega arith) w.list-is
       | else-all w ↦
-          some_to p c.args.class.number c.args.class.is c.requires.running c.args.front c.requires.front
+          some_to p c.args.class.number c.args.class.is c.requires.running c.args.prefix c.requires.prefix
           (medium_view c.give_blocks.new.self) c.in_ok-anchor.anchor
           c.in_ok-anchor.ensures.ok c.give_blocks.ensures.others full c.if-all.list (medium_view c.push.new.self) c.in_ok-push.ensures.ok
           c.push.ensures.others
@@ -129,6 +129,6 @@ returns-in_ok-push-clause-order g c =
 
 pub returns-else-eq-clause-order : goal.returns-else-eq-clause-order
 returns-else-eq-clause-order g c =
-    gave_to (parts_of c.args.self.now) c.args.class.number c.args.class.is c.requires.running c.args.front c.requires.front
+    gave_to (parts_of c.args.self.now) c.args.class.number c.args.class.is c.requires.running c.args.prefix c.requires.prefix
     (medium_view c.give_blocks.new.self) c.in_ok-anchor.anchor
     c.in_ok-anchor.ensures.ok c.give_blocks.ensures.others (λ e. search rules)

@@ -1,4 +1,4 @@
--- How the front of a cache is found: a walk along its blocks as far as they lie in one superblock.
+-- How the prefix of a cache is found: a walk along its blocks as far as they lie in one superblock.
 use Rattle.std.proofs.Common.{◌≡◌, ℕ, ◌+◌, ◌-◌, ◌*◌, ◌/◌, ◌<◌, ◌≤◌, inl, inr, List, [], ◌∷◌, ◌++◌, length, get_or, Contains, refl, ap, sym, subst, ◌∙◌, arith, length-append}
 use Rattle.std.proofs.Math.Nat.{mul-div_cancel}
 use Rattle.std.proofs.lemmas.List.Elements.{Contains-append_right, Contains-append_cases}
@@ -10,8 +10,8 @@ use Rattle.heap_model.proofs.SizeLemmas.{two_words, few_blocks}
 use Rattle.heap_shape.specs.Standing.{first_of, IsFirstOf}
 use Rattle.line_memory.specs.View.{View}
 use Rattle.block_heap.specs.declared.cache.Cache.{Cache}
-use Rattle.block_heap.specs.declared.small.CacheFront.{CacheFront}
-use Rattle.block_heap.specs.Flush.{IsFront, KeepsAll, GivesBack}
+use Rattle.block_heap.specs.declared.small.CachePrefix.{CachePrefix}
+use Rattle.block_heap.specs.Flush.{IsCachePrefix, KeepsAll, GivesBack}
 use Rattle.block_heap.specs.Medium.{StoresOnly, RunsWithin, StopsWithin, IsLoaded}
 use Rattle.block_heap.specs.Parts.{Parts, image_of, held_in, cache_at}
 use Rattle.block_heap.specs.Running.{IsRunning, LeavesHeld}
@@ -21,7 +21,7 @@ use Rattle.block_heap.proofs.RunningLemmas.{running_words}
 use Rattle.block_heap.proofs.SmallLemmas.{first_cached, first_of_d, serves_of, serves_none, serves_then}
 use Rattle.block_heap.proofs.LookLemmas.{looks_of}
 use Rattle.block_heap.specs.Returns.{IsLongest, GivesTo}
-use Rattle.block_heap.proofs.WalkLemmas.{walk_front, walk_begin}
+use Rattle.block_heap.proofs.WalkLemmas.{walk_prefix, walk_begin}
 use Rattle.block_heap.proofs.ReturnLemmas.{FlushesSoFar, flushes_none, flushes_more}
 use Rattle.heap_model.proofs.ListLemmas.{walk_behind}
 
@@ -64,17 +64,17 @@ module _ (p q : Parts) (most : ℕ) (run : IsRunning p) (loaded : HasLoaded most
       (ap (λ x. x.taken) loaded.same)
       (λ word out. absurd out) (λ out. out) loaded.stores
 
-  pub loaded_front : (class : ℕ) (front : CacheFront) → IsFront class front p → IsFront class front q
-  loaded_front class front is = subst (λ x. IsFront class front x) (sym loaded.same)
+  pub loaded_prefix : (class : ℕ) (prefix : CachePrefix) → IsCachePrefix class prefix p → IsCachePrefix class prefix q
+  loaded_prefix class prefix is = subst (λ x. IsCachePrefix class prefix x) (sym loaded.same)
       (record {
         within = is.within;
         before = is.before;
-        walks = subst (λ (xs : List ℕ). Walks (λ word. get_or xs word 0) (cache_at p.caches class).first (is.before ++ front.batch.last ∷ []))
+        walks = subst (λ (xs : List ℕ). Walks (λ word. get_or xs word 0) (cache_at p.caches class).first (is.before ++ prefix.batch.last ∷ []))
             (sym loaded.volatile) is.walks;
         firsts = is.firsts;
         first = is.first;
         count = is.count;
-        next = is.next ∙ ap (λ (xs : List ℕ). get_or xs front.batch.last 0) (sym loaded.volatile);
+        next = is.next ∙ ap (λ (xs : List ℕ). get_or xs prefix.batch.last 0) (sym loaded.volatile);
         rest = is.rest;
       })
 
@@ -157,7 +157,7 @@ module _ (p : Parts) (class : ℕ) (is : IsClass class) (run : IsRunning p) (cac
         let long : cache.count ≡ length (run.shape.cached class) = ap (λ (x : Cache). x.count) cache_is ∙ of.count in
         let count_is = walked.count_is in
         let all = run.is.walks class is in
-        let split = walk_front (image_of p) (run.shape.start class) blocks (run.shape.cached class)
+        let split = walk_prefix (image_of p) (run.shape.start class) blocks (run.shape.cached class)
         (subst (λ x. Walks (image_of p) x blocks) first walked.walks) all (omega arith) in
         let both = length-append blocks split.0 in
         let e : length (run.shape.cached class) ≡ length (blocks ++ split.0) = ap (λ (xs : List ℕ). length xs) split.1 in
@@ -198,15 +198,15 @@ module _ (p : Parts) (class : ℕ) (is : IsClass class) (run : IsRunning p) (cac
     pub first_behind : start_word p.capacity d ≤ cache.first
     first_behind = let at = first_there.at in omega arith
 
-    -- the front that was walked
-    pub walked_front : (start words : ℕ) → start ≡ start_word p.capacity d → words ≡ words_of_class class
-        → IsFront class (record {
+    -- the prefix that was walked
+    pub walked_prefix : (start words : ℕ) → start ≡ start_word p.capacity d → words ≡ words_of_class class
+        → IsCachePrefix class (record {
           d = d;
           batch = record { first = (cache.first - start) / words; last = last; count = count };
           rest = record
               { first = next; count = cache.count - count };
         }) p
-    walked_front start words start_is words_is =
+    walked_prefix start words start_is words_is =
         let first = first_there in
         let at = first.at in
         let two = two_words class is in
@@ -263,63 +263,63 @@ keeps_then class p q r a b = record {
 pub flushed_serves : (class : ℕ) (p q r : Parts) → IsFlushed class p q → LeavesHeld (held_in q) q r → LeavesHeld (held_in p) p r
 flushed_serves class p q r before serves = serves_then p q r (held_in p) before.serves (subst (λ held. LeavesHeld held q r) before.held serves)
 
--- a front was found
-module _ (class : ℕ) (p q r : Parts) (front : CacheFront) (before : IsFlushed class p q) (is_front : IsFront class front r) (run : IsRunning r)
+-- a prefix was found
+module _ (class : ℕ) (p q r : Parts) (prefix : CachePrefix) (before : IsFlushed class p q) (is_prefix : IsCachePrefix class prefix r) (run : IsRunning r)
     (keeps : KeepsAll class q r) (caches : r.caches ≡ q.caches)
-    (goes : RunsWithin front.batch.count q.words r.words) (held : held_in r ≡ held_in q) (serves : LeavesHeld (held_in q) q r) (taken : r.taken ≡ q.taken) where
-  some_given : 1 ≤ front.batch.count
-  some_given = let count = is_front.count in let both = length-append is_front.before (front.batch.last ∷ []) in omega arith
+    (goes : RunsWithin prefix.batch.count q.words r.words) (held : held_in r ≡ held_in q) (serves : LeavesHeld (held_in q) q r) (taken : r.taken ≡ q.taken) where
+  some_given : 1 ≤ prefix.batch.count
+  some_given = let count = is_prefix.count in let both = length-append is_prefix.before (prefix.batch.last ∷ []) in omega arith
 
   same_count : (cache_at r.caches class).count ≡ (cache_at q.caches class).count
   same_count = ap (λ (xs : List Cache). (cache_at xs class).count) caches
 
-  pub front_few : r.words.drawn + 8 * front.batch.count + 9 * front.rest.count ≤ p.words.drawn + 9 * (cache_at p.caches class).count
-  front_few =
+  pub prefix_few : r.words.drawn + 8 * prefix.batch.count + 9 * prefix.rest.count ≤ p.words.drawn + 9 * (cache_at p.caches class).count
+  prefix_few =
       let few = before.few in
-      let count = is_front.rest in
+      let count = is_prefix.rest in
       let same = same_count in
       let drew = goes.few in
       omega arith
 
-  pub front_held : held_in r ≡ held_in p
-  front_held = held ∙ before.held
+  pub prefix_held : held_in r ≡ held_in p
+  prefix_held = held ∙ before.held
 
-  pub front_serves : LeavesHeld (held_in p) p r
-  front_serves = flushed_serves class p q r before serves
+  pub prefix_serves : LeavesHeld (held_in p) p r
+  prefix_serves = flushed_serves class p q r before serves
 
   -- and given back
-  module _ (t : Parts) (gave_run : IsRunning t) (gives : GivesBack class front r t) (gave : RunsWithin 6 r.words t.words) (gave_held : held_in t ≡ held_in r)
+  module _ (t : Parts) (gave_run : IsRunning t) (gives : GivesBack class prefix r t) (gave : RunsWithin 6 r.words t.words) (gave_held : held_in t ≡ held_in r)
       (gave_serve : LeavesHeld (held_in r) r t) (gave_taken : t.taken ≡ r.taken) (is : IsClass class) (first : IsRunning p)
-      (volatile : r.words.volatile ≡ q.words.volatile) (longest : IsLongest front r) (to : GivesTo class front r t) where
+      (volatile : r.words.volatile ≡ q.words.volatile) (longest : IsLongest prefix r) (to : GivesTo class prefix r t) where
     pub flushed_more : IsFlushed class p t
     flushed_more = record {
       running = gave_run;
       keeps = keeps_then class p q t before.keeps (keeps_then class q r t keeps gives.keeps);
       more = let a = before.more in let b = goes.drew in let c = gave.drew in omega arith;
       few =
-          let a = front_few in
+          let a = prefix_few in
           let some = some_given in
           let b = gave.few in
-          let rest : (cache_at t.caches class).count ≡ front.rest.count = ap (λ (x : Cache). x.count) gives.cache in
+          let rest : (cache_at t.caches class).count ≡ prefix.rest.count = ap (λ (x : Cache). x.count) gives.cache in
           omega arith;
-      held = gave_held ∙ front_held;
-      serves = serves_then p r t (held_in p) front_serves (subst (λ h. LeavesHeld h r t) front_held gave_serve);
+      held = gave_held ∙ prefix_held;
+      serves = serves_then p r t (held_in p) prefix_serves (subst (λ h. LeavesHeld h r t) prefix_held gave_serve);
       taken = gave_taken ∙ taken ∙ before.taken;
       order = flushes_more class p q r t is (first.caches class is).most before.order serves.capacity volatile (ap (λ (xs : List Cache). cache_at xs class) caches)
-          run front is_front longest some_given to gave_serve.capacity gives.cache;
+          run prefix is_prefix longest some_given to gave_serve.capacity gives.cache;
     }
 
     pub flushed_less : (cache_at t.caches class).count < (cache_at q.caches class).count
     flushed_less =
-        let count = is_front.rest in
+        let count = is_prefix.rest in
         let same = same_count in
         let some = some_given in
-        let rest : (cache_at t.caches class).count ≡ front.rest.count = ap (λ (x : Cache). x.count) gives.cache in
+        let rest : (cache_at t.caches class).count ≡ prefix.rest.count = ap (λ (x : Cache). x.count) gives.cache in
         omega arith
 
   -- giving it serves the held blocks, however far it goes
   pub give_serves : (x : Parts) → LeavesHeld (held_in r) r x → LeavesHeld (held_in p) p x
-  give_serves x gave = serves_then p r x (held_in p) front_serves (subst (λ h. LeavesHeld h r x) front_held gave)
+  give_serves x gave = serves_then p r x (held_in p) prefix_serves (subst (λ h. LeavesHeld h r x) prefix_held gave)
 
   -- how far it went where giving it stopped
   pub give_halts : (w : View) (ticket : ℕ) → IsClass class → IsRunning p → StopsWithin ticket 6 r.words w → StopsWithin ticket 36864 p.words w
@@ -330,7 +330,7 @@ module _ (class : ℕ) (p q r : Parts) (front : CacheFront) (before : IsFlushed 
     until = halts.until;
     last = halts.last;
     few =
-        let a = front_few in
+        let a = prefix_few in
         let some = some_given in
         let b = halts.few in
         let of = first.caches class is in
@@ -340,9 +340,9 @@ module _ (class : ℕ) (p q r : Parts) (front : CacheFront) (before : IsFlushed 
   }
 
 -- and where finding it did
-pub front_halts : (class : ℕ) (p q : Parts) (w : View) (ticket : ℕ) → IsFlushed class p q → IsClass class → IsRunning p
+pub prefix_halts : (class : ℕ) (p q : Parts) (w : View) (ticket : ℕ) → IsFlushed class p q → IsClass class → IsRunning p
     → StopsWithin ticket (cache_at q.caches class).count q.words w → StopsWithin ticket 36864 p.words w
-front_halts class p q w ticket before is first halts = record {
+prefix_halts class p q w ticket before is first halts = record {
   stopped = halts.stopped;
   above = halts.above;
   from = let a = before.more in let c = halts.from in omega arith;

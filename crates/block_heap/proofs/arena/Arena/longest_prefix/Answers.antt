@@ -2,10 +2,10 @@ use Rattle.std.proofs.Common.{◌≡◌, ℕ, ◌-◌, ◌/◌, ◌≤◌, inl, 
 use Rattle.heap_model.specs.Geometry.{start_word}
 use Rattle.block_heap.specs.Parts.{parts_of, held_in}
 use Rattle.block_heap.proofs.SmallLemmas.{read_cache, first_from, first_below, serves_of}
-use Rattle.block_heap.proofs.FrontLemmas.{cache_first, walked_one, next_placed, walked_more, first_behind, walked_front, loaded_run, loaded_keeps, loaded_serves, stopped_serves, loaded_front, loaded_more, loaded_capacity}
+use Rattle.block_heap.proofs.PrefixLemmas.{cache_first, walked_one, next_placed, walked_more, first_behind, walked_prefix, loaded_run, loaded_keeps, loaded_serves, stopped_serves, loaded_prefix, loaded_more, loaded_capacity}
 use Rattle.block_heap.specs.MediumView.{medium_view}
-use Rattle.block_heap.proofs.arena.Arena.front.Goals.{then-loop-count-test+else-superblock_of-d, else-loop-count-test}
-use Rattle.block_heap.proofs.arena.Arena.front.Goals as goal
+use Rattle.block_heap.proofs.arena.Arena.longest_prefix.Goals.{then-loop-count-test+else-superblock_of-d, else-loop-count-test}
+use Rattle.block_heap.proofs.arena.Arena.longest_prefix.Goals as goal
 
 pub superblock_of-d-requires : goal.superblock_of-d-requires
 superblock_of-d-requires g c =
@@ -103,8 +103,8 @@ returns-clause-ok g c =
     let inv = c.loop-count.invariant in
     let capacity : c.loop-count.self.geometry.capacity ≡ c.args.self.now.geometry.capacity = loaded_capacity (parts_of c.args.self.now)
     (parts_of c.loop-count.self) c.loop-count.count inv.loaded in
-    loaded_front p q c.loop-count.count c.requires.running inv.loaded c.args.class.number _
-    (walked_front p c.args.class.number c.args.class.is c.requires.running c.index-cache.result.now inv.cache_is c.superblock_of-d.result c.loop-count.last
+    loaded_prefix p q c.loop-count.count c.requires.running inv.loaded c.args.class.number _
+    (walked_prefix p c.args.class.number c.args.class.is c.requires.running c.index-cache.result.now inv.cache_is c.superblock_of-d.result c.loop-count.last
     c.loop-count.next c.loop-count.count inv.walked
     c.start.result c.block_words-words.result (c.start.ensures ∙ ap (λ n. start_word n c.superblock_of-d.result) capacity)
     c.block_words-words.ensures.words)

@@ -1,7 +1,7 @@
 use Rattle.std.proofs.Common.{◌≡◌, ◌-◌}
 use Rattle.block_heap.specs.Parts.{parts_of, cache_at}
-use Rattle.block_heap.proofs.FrontLemmas.{IsWalked, HasLoaded}
-use Rattle.block_heap.proofs.arena.Arena.front.Given as goal
+use Rattle.block_heap.proofs.PrefixLemmas.{IsWalked, HasLoaded}
+use Rattle.block_heap.proofs.arena.Arena.longest_prefix.Given as goal
 
 abbrev pub invariant-loop-count : goal.invariant-loop-count
 invariant-loop-count g l = record {
