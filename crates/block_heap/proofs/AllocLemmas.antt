@@ -20,7 +20,7 @@ use Rattle.block_heap.specs.Parts.{Parts, image_of, held_in, cache_at}
 use Rattle.block_heap.specs.Returns.{FreesSmall, FreesLarge, ComesBack}
 use Rattle.block_heap.specs.Running.{IsRunning, CachesAreShort}
 use Rattle.block_heap.specs.Lists.{head_at}
-use Rattle.block_heap.specs.Steps.{IsRefilling, HandsOut}
+use Rattle.block_heap.specs.Steps.{IsRefilling, PopsBlock}
 use Rattle.block_heap.specs.Large.{JoinsAs}
 use Rattle.block_heap.specs.Serving.{HasRoom, in_cache, in_class_list, in_free_list, in_fresh, HasRoomFor, for_class, for_large, LookedInClass, FindsNone, GetsInClass, AnswersInClass, Answers, DrainsTo, DrainsNone}
 use Rattle.std.proofs.lemmas.List.{nil_from_length}
@@ -104,33 +104,33 @@ still_none class p q finds (in_fresh room) = let past = finds.looked.past in ome
 
 -- a request of a class that got a block
 pub gets_in_class : (class : ℕ) (b : Block) (p q r : Parts) → IsClass class → CachesAreShort p 0 → q.capacity ≡ p.capacity → r.capacity ≡ q.capacity → IsRefilling class p q → HasRoom p class
-    → HandsOut class b q r → GetsInClass class b p r
-gets_in_class class b p q r is short capacity same fills room hands = record {
-  running = hands.running;
-  short = short_but class p r short (λ c is_c other. hands.caches c is_c other ∙ fills.caches c is_c other)
-      (let count = hands.count in let most = (fills.running.caches class is).most in omega arith);
-  size = hands.size;
-  adds = subst (λ held. AddsTo b held (held_in r)) fills.held hands.adds;
-  new = λ holds. hands.new (subst (λ held. Contains held b) (sym fills.held) holds);
+    → PopsBlock class b q r → GetsInClass class b p r
+gets_in_class class b p q r is short capacity same fills room pops_block = record {
+  running = pops_block.running;
+  short = short_but class p r short (λ c is_c other. pops_block.caches c is_c other ∙ fills.caches c is_c other)
+      (let count = pops_block.count in let most = (fills.running.caches class is).most in omega arith);
+  size = pops_block.size;
+  adds = subst (λ held. AddsTo b held (held_in r)) fills.held pops_block.adds;
+  new = λ holds. pops_block.new (subst (λ held. Contains held b) (sym fills.held) holds);
   room = room;
   accounted = λ before.
       let filled : AreAccounted q = subst (λ n. IsAccounted n (image_of q) (held_in q)) (sym capacity)
       (subst (λ (held : List Block). IsAccounted p.capacity (image_of q) held) (sym fills.held) (fills.drains.accounted before)) in
       subst (λ n. IsAccounted n (image_of r) (held_in r)) (sym same)
-      (subst (λ (xs : List ℕ). IsAccounted q.capacity (λ word. get_or xs word 0) (held_in r)) (sym hands.volatile) (hands.drains.accounted filled));
+      (subst (λ (xs : List ℕ). IsAccounted q.capacity (λ word. get_or xs word 0) (held_in r)) (sym pops_block.volatile) (pops_block.drains.accounted filled));
 }
 
 -- it was one of those to be drained
-pub drains_block : (class : ℕ) (b : Block) (p q r : Parts) → q.capacity ≡ p.capacity → IsRefilling class p q → HandsOut class b q r → DrainsTo class b p r
-drains_block class b p q r capacity fills hands drainable =
+pub drains_block : (class : ℕ) (b : Block) (p q r : Parts) → q.capacity ≡ p.capacity → IsRefilling class p q → PopsBlock class b q r → DrainsTo class b p r
+drains_block class b p q r capacity fills pops_block drainable =
     let same = fills.drains in
     let first : DrainsOne p.capacity class (image_of q) (held_in p) (held_in r) b =
     subst (λ k. DrainsOne k class (image_of q) (held_in p) (held_in r) b) capacity
-    (subst (λ held. DrainsOne q.capacity class (image_of q) held (held_in r) b) fills.held hands.drains) in
+    (subst (λ held. DrainsOne q.capacity class (image_of q) held (held_in r) b) fills.held pops_block.drains) in
     let one : DrainsOne p.capacity class (image_of r) (held_in p) (held_in r) b =
-    subst (λ (xs : List ℕ). DrainsOne p.capacity class (λ word. get_or xs word 0) (held_in p) (held_in r) b) (sym hands.volatile) first in
+    subst (λ (xs : List ℕ). DrainsOne p.capacity class (λ word. get_or xs word 0) (held_in p) (held_in r) b) (sym pops_block.volatile) first in
     let before : DrainsSame p.capacity class (held_in p) (image_of p) (image_of r) =
-    subst (λ (xs : List ℕ). DrainsSame p.capacity class (held_in p) (image_of p) (λ word. get_or xs word 0)) (sym hands.volatile) same in (
+    subst (λ (xs : List ℕ). DrainsSame p.capacity class (held_in p) (image_of p) (λ word. get_or xs word 0)) (sym pops_block.volatile) same in (
       one.drainable (before.drainable drainable),
       before.only b one.was,
       one.gone,

@@ -18,7 +18,7 @@ use Rattle.block_heap.specs.Lists.{head_at, IsEmptyList, LeadsAlong, IsInList}
 use Rattle.block_heap.specs.Order.{HasNothing, KeepsSuperblock, Frees, TakesAll, CutsAll, CutsFirst, FillsFrom, from_free_list, TakesFirst, MovesEmpty, Stocked, in_stock, is_filled, IsServed, from_class_list, from_fresh}
 use Rattle.block_heap.specs.Parts.{Parts, image_of, held_in, cache_at}
 use Rattle.block_heap.specs.Running.{IsRunning}
-use Rattle.block_heap.specs.Steps.{HandsOut}
+use Rattle.block_heap.specs.Steps.{PopsBlock}
 
 -- caches with the same first block and count are the same
 pub same_cache : (a b : Cache) → a.first ≡ b.first → a.count ≡ b.count → a ≡ b
@@ -172,16 +172,16 @@ module _ (class : ℕ) (p a q : Parts) (moves : MovesEmpty class p a) (nothing :
   }) (cuts_after class d p a q moves first.cuts) (same ∙ taken)
 
 -- the first block of the cache was handed out
-pub takes_first : (class : ℕ) (b : Block) (p q : Parts) → q.capacity ≡ p.capacity → HandsOut class b p q → TakesFirst class p q
-takes_first class b p q capacity hands = record {
+pub takes_first : (class : ℕ) (b : Block) (p q : Parts) → q.capacity ≡ p.capacity → PopsBlock class b p q → TakesFirst class p q
+takes_first class b p q capacity pops_block = record {
   capacity = capacity;
   held = subst (λ x. AddsTo x (held_in p) (held_in q))
-      (same_fields b (record { first_word = (cache_at p.caches class).first; words = words_of_class class }) hands.at hands.size) hands.adds;
-  next = hands.next ∙ ap (λ x. image_of p x) hands.at;
-  count = hands.count;
-  caches = hands.caches;
-  volatile = hands.volatile;
-  taken = hands.taken;
+      (same_fields b (record { first_word = (cache_at p.caches class).first; words = words_of_class class }) pops_block.at pops_block.size) pops_block.adds;
+  next = pops_block.next ∙ ap (λ x. image_of p x) pops_block.at;
+  count = pops_block.count;
+  caches = pops_block.caches;
+  volatile = pops_block.volatile;
+  taken = pops_block.taken;
 }
 
 -- a request of the class that was served in order

@@ -25,7 +25,7 @@ use Rattle.block_heap.specs.Held.{held_of, HasMark, at_mark}
 use Rattle.block_heap.specs.Medium.{StoresOnly, IsLoaded}
 use Rattle.block_heap.specs.Parts.{Parts, image_of, held_in, cache_at}
 use Rattle.block_heap.specs.Running.{IsCacheOf, IsRunning, LeavesHeld}
-use Rattle.block_heap.specs.Steps.{HandsOut}
+use Rattle.block_heap.specs.Steps.{PopsBlock}
 use Rattle.block_heap.specs.Works.{IsAllocatorWord, StoresAsAllocator}
 use Rattle.block_heap.proofs.RunningLemmas.{settled_kept}
 use Rattle.block_heap.proofs.LookLemmas.{looks_of, looks_kept, looks_then}
@@ -279,11 +279,11 @@ module _ (p : Parts) (class : ℕ) (is : IsClass class) (run : IsRunning p) (cac
     (w : View) (next : ℕ) (h : HeldBlocks) (loaded : IsLoaded cache.first next p.words w) (stores : StoresOnly (λ _. ⊥) p.words w)
     (adds : AddsTo (at_mark p.blocks cache.first) (held_in p) (held_of h)) (words : h.words.items ≡ p.blocks.words.items)
     (start : h.start ≡ p.blocks.start) where
-  abbrev pub handed_cache : Cache
-  handed_cache = record { first = next; count = cache.count - 1 }
+  abbrev pub popped_cache : Cache
+  popped_cache = record { first = next; count = cache.count - 1 }
 
-  abbrev pub handed_parts : Parts
-  handed_parts = changed p w (set p.caches class handed_cache) h
+  abbrev pub popped_parts : Parts
+  popped_parts = changed p w (set p.caches class popped_cache) h
 
   front : IsFirstCached p class run cache.first
   front = first_cached p class is run cache cache_is some
@@ -319,38 +319,38 @@ module _ (p : Parts) (class : ℕ) (is : IsClass class) (run : IsRunning p) (cac
         both.1,
       )
 
-  pub handed_running : IsRunning handed_parts
-  handed_running = running_after p w (set p.caches class handed_cache) h (with_cache run.shape class next front.behind) run
+  pub popped_running : IsRunning popped_parts
+  popped_running = running_after p w (set p.caches class popped_cache) h (with_cache run.shape class next front.behind) run
       (keeps_fixed p w (λ _. ⊥) run stores loaded.goes.running loaded.goes.below (λ d within out. out) (λ out. out)
       (λ list less. ap head_pops (stores.volatile (head_word list) (λ out. out))))
-      (length-set p.caches class handed_cache ∙ run.caches_long) start words shape_after.0
-      (caches_set p run class (with_cache run.shape class next front.behind) next front.behind handed_cache is refl
+      (length-set p.caches class popped_cache ∙ run.caches_long) start words shape_after.0
+      (caches_set p run class (with_cache run.shape class next front.behind) next front.behind popped_cache is refl
       (let n = count_is in omega arith) few_behind (λ c. refl) (λ c. refl))
       (λ d within is_class place. place)
 
-  pub handed : (b : Block) → b ≡ at_mark h cache.first → HandsOut class b p handed_parts
-  handed b is_b =
+  pub popped_block : (b : Block) → b ≡ at_mark h cache.first → PopsBlock class b p popped_parts
+  popped_block b is_b =
       let e : b ≡ block = is_b ∙ cached_block p class is run cache.first h front start words in
       let last = is.last in
       let long = run.caches_long in
-      let now : cache_at (set p.caches class handed_cache) class ≡ handed_cache = get_or-set_same p.caches class handed_cache
+      let now : cache_at (set p.caches class popped_cache) class ≡ popped_cache = get_or-set_same p.caches class popped_cache
       (record { first = 0; count = 0 }) (omega arith) in
-      let now_count : (cache_at (set p.caches class handed_cache) class).count ≡ cache.count - 1 = ap (λ (x : Cache). x.count) now in
+      let now_count : (cache_at (set p.caches class popped_cache) class).count ≡ cache.count - 1 = ap (λ (x : Cache). x.count) now in
       let was : cache.count ≡ (cache_at p.caches class).count = ap (λ (x : Cache). x.count) cache_is in
-      subst (λ x. HandsOut class x p handed_parts) (sym e)
+      subst (λ x. PopsBlock class x p popped_parts) (sym e)
       (record {
-        running = handed_running;
+        running = popped_running;
         size = refl;
         adds = adds_block;
         new = shape_after.1;
         at = ap (λ (x : Cache). x.first) cache_is;
         next = ap (λ (x : Cache). x.first) now ∙ loaded.seen;
         count = omega arith;
-        caches = λ c is_c other. other_cache p.caches class handed_cache c other;
+        caches = λ c is_c other. other_cache p.caches class popped_cache c other;
         drains = hand_out_drains p.capacity class cache.first (image_of p) (held_in p) (held_of h) run.shape front.behind is run.is front.cached adds_block;
         volatile = loaded.volatile;
         taken = refl;
       })
 
-  pub handed_serves : LeavesHeld (held_in p) p handed_parts
-  handed_serves = serves_of p handed_parts (held_in p) (λ _. ⊥) run refl refl refl (λ word out. absurd out) (λ out. out) stores
+  pub popped_serves : LeavesHeld (held_in p) p popped_parts
+  popped_serves = serves_of p popped_parts (held_in p) (λ _. ⊥) run refl refl refl (λ word out. absurd out) (λ out. out) stores

@@ -67,7 +67,7 @@ FindsFirst class Recycled p q = ((cache_at q.caches class).count ≡ 0) × Recyc
 FindsFirst class Nothing p q = ((cache_at q.caches class).count ≡ 0) × FindsEmpty class p q × (q.taken ≡ p.taken)
 
 -- the first block left the cache of the class and is held
-pub record HandsOut (class : ℕ) (b : Block) (p q : Parts) : Type 0 where
+pub record PopsBlock (class : ℕ) (b : Block) (p q : Parts) : Type 0 where
   pub running : IsRunning q
   pub size : b.words ≡ words_of_class class
   pub adds : AddsTo b (held_in p) (held_in q)

@@ -72,7 +72,7 @@ impl<C: Chance> Arena<C> {
         if !self.stock(class)? {
             return Ok(None);
         }
-        Ok(Some(self.hand_out(class)?))
+        Ok(Some(self.pop_block(class)?))
     }
 
     /// Sees to it that the cache of the class has a block; `false` where there is no room.

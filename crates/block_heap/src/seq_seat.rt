@@ -42,7 +42,7 @@ impl<C: Chance> HeapSeat for SeqHeap<C> {
     }
 
     fn free(&mut self, b: Block) -> Result<(), Stopped> {
-        self.running()?;
+        self.check_running()?;
         let answer = self.arena.free(b);
         self.large_calls += 1;
         self.stopped = stop_of(&answer);
@@ -50,7 +50,7 @@ impl<C: Chance> HeapSeat for SeqHeap<C> {
     }
 
     fn load(&mut self, s: Spot) -> Result<u64, Stopped> {
-        self.running()?;
+        self.check_running()?;
         let answer = self.arena.medium.load(word_of(s));
         self.small_calls += 1;
         self.stopped = stop_of(&answer);
@@ -58,7 +58,7 @@ impl<C: Chance> HeapSeat for SeqHeap<C> {
     }
 
     fn store(&mut self, s: Spot, value: u64) -> Result<(), Stopped> {
-        self.running()?;
+        self.check_running()?;
         let answer = self.arena.medium.store(word_of(s), value);
         self.small_calls += 1;
         self.stopped = stop_of(&answer);
@@ -66,7 +66,7 @@ impl<C: Chance> HeapSeat for SeqHeap<C> {
     }
 
     fn write_back(&mut self, s: Spot) -> Result<(), Stopped> {
-        self.running()?;
+        self.check_running()?;
         let answer = self.arena.medium.write_back(word_of(s));
         self.small_calls += 1;
         self.stopped = stop_of(&answer);
@@ -74,7 +74,7 @@ impl<C: Chance> HeapSeat for SeqHeap<C> {
     }
 
     fn fence(&mut self) -> Result<(), Stopped> {
-        self.running()?;
+        self.check_running()?;
         let answer = self.arena.medium.fence();
         self.small_calls += 1;
         self.stopped = stop_of(&answer);
@@ -149,7 +149,7 @@ impl<C: Chance> SeqHeap<C> {
         ensures kept { KeepsFixed self.old self.new }
         ensures idle { (ticket : ℕ) → self.old.stopped ≡ Some ticket → self.new ≡ self.old }
     {
-        self.running()?;
+        self.check_running()?;
         let answer = self.arena.alloc(bytes);
         self.large_calls += 1;
         self.stopped = stop_of(&answer);
@@ -157,7 +157,7 @@ impl<C: Chance> SeqHeap<C> {
     }
 
     /// Refuses the call if the heap has stopped.
-    fn running(&self) -> Result<(), Stopped>
+    fn check_running(&self) -> Result<(), Stopped>
         ensures ok { OnOk result (self.now.stopped ≡ None) }
         ensures stopped { IfErr result (λ e. self.now.stopped ≡ Some e.step) }
     {

@@ -26,15 +26,15 @@ impl<C: Chance> Arena<C> {
     ghost use Rattle.block_heap.specs.Medium.{RunsWithin, StopsWithin};
     ghost use Rattle.block_heap.specs.Parts.{parts_of, held_in, cache_at};
     ghost use Rattle.block_heap.specs.Running.{IsRunning, CachesAreShort, LeavesHeld};
-    ghost use Rattle.block_heap.specs.Steps.{HandsOut};
+    ghost use Rattle.block_heap.specs.Steps.{PopsBlock};
     ghost use Rattle.block_heap.specs.Flush.{IsCachePrefix, KeepsAll, GivesBack};
     ghost use Rattle.block_heap.specs.Returns.{FreesSmall, Flushes, IsLongest, GivesTo};
 
-    /// Hands out the first block of the cache, which has one.
-    pub(crate) fn hand_out(&mut self, class: SizeClass) -> Result<Block, Stopped>
+    /// Pops the first block of the cache, which has one, and holds it.
+    pub(crate) fn pop_block(&mut self, class: SizeClass) -> Result<Block, Stopped>
         requires running { IsRunning (parts_of self.old) }
         requires some { 1 ≤ (cache_at (parts_of self.old).caches class.number).count }
-        ensures ok { IfOk result (λ b. HandsOut class.number b
+        ensures ok { IfOk result (λ b. PopsBlock class.number b
             (parts_of self.old) (parts_of self.new)) }
         ensures goes { OnOk result (RunsWithin 1
             (parts_of self.old).words (parts_of self.new).words) }

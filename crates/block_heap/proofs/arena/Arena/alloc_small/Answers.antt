@@ -14,31 +14,31 @@ returns-then-not-branch-clause-drains g c =
     let none = subst (λ (some : Bool). Refills c.args.class.number some p q) c.if-not-branch.true c.in_ok-stock.ensures.ok in
     (drains_nothing c.args.class.number p q c.args.class.is c.stock.ensures.serves.capacity c.in_ok-stock.ensures.fills none, still_none c.args.class.number p q none)
 
-pub returns-in_err-hand_out-clause-serves : goal.returns-in_err-hand_out-clause-serves
-returns-in_err-hand_out-clause-serves g c =
-    serves_all (parts_of c.args.self.now) (parts_of c.stock.new.self) (parts_of c.hand_out.new.self) c.stock.ensures.held c.stock.ensures.serves c.hand_out.ensures.serves
+pub returns-in_err-pop_block-clause-serves : goal.returns-in_err-pop_block-clause-serves
+returns-in_err-pop_block-clause-serves g c =
+    serves_all (parts_of c.args.self.now) (parts_of c.stock.new.self) (parts_of c.pop_block.new.self) c.stock.ensures.held c.stock.ensures.serves c.pop_block.ensures.serves
 
 pub returns-clause-serves : goal.returns-clause-serves
 returns-clause-serves g c =
-    serves_all (parts_of c.args.self.now) (parts_of c.stock.new.self) (parts_of c.hand_out.new.self) c.stock.ensures.held c.stock.ensures.serves c.hand_out.ensures.serves
+    serves_all (parts_of c.args.self.now) (parts_of c.stock.new.self) (parts_of c.pop_block.new.self) c.stock.ensures.held c.stock.ensures.serves c.pop_block.ensures.serves
 
 pub returns-clause-ok : goal.returns-clause-ok
 returns-clause-ok g c =
     let p = parts_of c.args.self.now in
     let q = parts_of c.stock.new.self in
     let found = subst (λ (some : Bool). Refills c.args.class.number some p q) c.if-not-branch.false c.in_ok-stock.ensures.ok in
-    gets_in_class c.args.class.number c.in_ok-hand_out.field-0 p q (parts_of c.hand_out.new.self) c.args.class.is c.requires.short
-    c.stock.ensures.serves.capacity c.hand_out.ensures.serves.capacity c.in_ok-stock.ensures.fills found.1
-    c.in_ok-hand_out.ensures.ok
+    gets_in_class c.args.class.number c.in_ok-pop_block.field-0 p q (parts_of c.pop_block.new.self) c.args.class.is c.requires.short
+    c.stock.ensures.serves.capacity c.pop_block.ensures.serves.capacity c.in_ok-stock.ensures.fills found.1
+    c.in_ok-pop_block.ensures.ok
 
 pub returns-clause-drains : goal.returns-clause-drains
 returns-clause-drains g c =
     let p = parts_of c.args.self.now in
     let q = parts_of c.stock.new.self in
-    let r = parts_of c.hand_out.new.self in (
-      drains_block c.args.class.number c.in_ok-hand_out.field-0 p q r c.stock.ensures.serves.capacity c.in_ok-stock.ensures.fills c.in_ok-hand_out.ensures.ok,
+    let r = parts_of c.pop_block.new.self in (
+      drains_block c.args.class.number c.in_ok-pop_block.field-0 p q r c.stock.ensures.serves.capacity c.in_ok-stock.ensures.fills c.in_ok-pop_block.ensures.ok,
       costs_of c.args.class.number c.in_ok-stock.field-0 p q r c.if-not-branch.false c.in_ok-stock.ensures.left c.in_ok-stock.ensures.steps
-          c.hand_out.ensures.serves.capacity c.in_ok-hand_out.ensures.ok.volatile c.in_ok-hand_out.ensures.goes.few,
+          c.pop_block.ensures.serves.capacity c.in_ok-pop_block.ensures.ok.volatile c.in_ok-pop_block.ensures.goes.few,
     )
 
 pub returns-then-not-branch-clause-order : goal.returns-then-not-branch-clause-order
@@ -48,6 +48,6 @@ pub returns-clause-order : goal.returns-clause-order
 returns-clause-order g c = record {
   between = parts_of c.stock.new.self;
   stocked = c.in_ok-stock.ensures.order c.if-not-branch.false;
-  takes = takes_first c.args.class.number c.in_ok-hand_out.field-0 (parts_of c.stock.new.self) (parts_of c.hand_out.new.self) c.hand_out.ensures.serves.capacity
-      c.in_ok-hand_out.ensures.ok;
+  takes = takes_first c.args.class.number c.in_ok-pop_block.field-0 (parts_of c.stock.new.self) (parts_of c.pop_block.new.self) c.pop_block.ensures.serves.capacity
+      c.in_ok-pop_block.ensures.ok;
 }

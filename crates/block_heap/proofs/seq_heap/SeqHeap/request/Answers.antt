@@ -20,7 +20,7 @@ invariant_of-self g c =
     large_heap c.alloc-answer.result _ (parts_of c.alloc-answer.new.self) 41201 c.stop_of-self-inside.result _ c.self.invariant
     (request_lasts c.alloc-answer.result (parts_of c.self.inside.arena) (parts_of c.alloc-answer.new.self) c.args.bytes c.self.inside.stopped c.stop_of-self-inside.result c.self.invariant.lasts
     c.alloc-answer.ensures.serves c.alloc-answer.ensures.ok c.alloc-answer.ensures.held c.stop_of-self-inside.ensures.ok c.stop_of-self-inside.ensures.stopped c.alloc-answer.ensures.stopped)
-    (request_runs c.alloc-answer.result c.args.bytes _ _ (c.self.invariant.running (ap (λ (s : SeqState). s.stopped) c.self.view_is ∙ c.in_ok-running.ensures.ok)).2
+    (request_runs c.alloc-answer.result c.args.bytes _ _ (c.self.invariant.running (ap (λ (s : SeqState). s.stopped) c.self.view_is ∙ c.in_ok-check_running.ensures.ok)).2
     c.alloc-answer.ensures.ok) c.alloc-answer.ensures.goes c.alloc-answer.ensures.stopped c.stop_of-self-inside.ensures.stopped
 
 pub returns-clause-drains : goal.returns-clause-drains

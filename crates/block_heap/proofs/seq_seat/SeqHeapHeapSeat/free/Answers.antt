@@ -21,14 +21,14 @@ invariant_of-self g c =
     (free_lasts c.free-answer.result (parts_of c.self.inside.arena) (parts_of c.free-answer.new.self) c.args.b c.self.inside.stopped c.stop_of-self-inside.result c.self.invariant.lasts
     c.free-answer.ensures.freed c.free-answer.ensures.serves c.stop_of-self-inside.ensures.ok c.stop_of-self-inside.ensures.stopped c.free-answer.ensures.stopped)
     (free_runs c.free-answer.result (parts_of c.self.inside.arena) (parts_of c.free-answer.new.self)
-    (c.self.invariant.running (ap (λ (s : SeqState). s.stopped) c.self.view_is ∙ c.in_ok-running.ensures.ok)).2
+    (c.self.invariant.running (ap (λ (s : SeqState). s.stopped) c.self.view_is ∙ c.in_ok-check_running.ensures.ok)).2
     c.free-answer.ensures.running c.free-answer.ensures.short c.free-answer.ensures.accounted)
     c.free-answer.ensures.goes c.free-answer.ensures.stopped c.stop_of-self-inside.ensures.stopped
 
 pub returns-clause-ok : goal.returns-clause-ok
 returns-clause-ok g c =
     frees _ (parts_of c.free-answer.new.self) c.stop_of-self-inside.result c.args.b c.self.invariant c.free-answer.ensures.freed c.free-answer.ensures.serves
-    c.free-answer.result c.args.self.now 40000 c.self.view_is c.in_ok-running.ensures.ok c.stop_of-self-inside.ensures.ok c.free-answer.ensures.goes
+    c.free-answer.result c.args.self.now 40000 c.self.view_is c.in_ok-check_running.ensures.ok c.stop_of-self-inside.ensures.ok c.free-answer.ensures.goes
 
 pub returns-clause-others : goal.returns-clause-others
 returns-clause-others g c =

@@ -19,7 +19,7 @@ word_of-requires g c = own_short _ c.args.s c.self.invariant (subst (λ (s : Seq
 
 pub store-answer-requires-clause-within : goal.store-answer-requires-clause-within
 store-answer-requires-clause-within g c =
-    at_within _ c.args.self.now c.args.s c.word_of.result c.self.invariant c.self.view_is c.word_of.ensures c.in_ok-running.ensures.ok c.requires
+    at_within _ c.args.self.now c.args.s c.word_of.result c.self.invariant c.self.view_is c.word_of.ensures c.in_ok-check_running.ensures.ok c.requires
 
 pub invariant_of-self-inside : goal.invariant_of-self-inside
 invariant_of-self-inside g c = (
@@ -31,14 +31,14 @@ invariant_of-self-inside g c = (
 
 pub invariant_of-self : goal.invariant_of-self
 invariant_of-self g c =
-    store_heap c.store-answer.result _ (medium_view c.store-answer.new.self) c.stop_of-self-inside.result _ c.word_of.result c.args.value c.self.invariant (ap (λ (s : SeqState). s.stopped) c.self.view_is ∙ c.in_ok-running.ensures.ok)
-    (own_at _ c.args.self.now c.args.s c.word_of.result c.self.invariant c.self.view_is c.word_of.ensures c.requires) (at_within _ c.args.self.now c.args.s c.word_of.result c.self.invariant c.self.view_is c.word_of.ensures c.in_ok-running.ensures.ok c.requires)
+    store_heap c.store-answer.result _ (medium_view c.store-answer.new.self) c.stop_of-self-inside.result _ c.word_of.result c.args.value c.self.invariant (ap (λ (s : SeqState). s.stopped) c.self.view_is ∙ c.in_ok-check_running.ensures.ok)
+    (own_at _ c.args.self.now c.args.s c.word_of.result c.self.invariant c.self.view_is c.word_of.ensures c.requires) (at_within _ c.args.self.now c.args.s c.word_of.result c.self.invariant c.self.view_is c.word_of.ensures c.in_ok-check_running.ensures.ok c.requires)
     c.store-answer.ensures.ok c.store-answer.ensures.stopped c.store-answer.ensures.others c.stop_of-self-inside.ensures.ok c.stop_of-self-inside.ensures.stopped
 
 pub returns-clause-ok : goal.returns-clause-ok
 returns-clause-ok g c =
     store_ok c.store-answer.result _ c.args.self.now (medium_view c.store-answer.new.self) c.stop_of-self-inside.result (word_of c.args.s) c.args.value c.self.invariant c.self.view_is
-    (subst (λ word. word < word_count (medium_view c.self.inside.arena.medium)) c.word_of.ensures (at_within _ c.args.self.now c.args.s c.word_of.result c.self.invariant c.self.view_is c.word_of.ensures c.in_ok-running.ensures.ok c.requires)) c.in_ok-running.ensures.ok
+    (subst (λ word. word < word_count (medium_view c.self.inside.arena.medium)) c.word_of.ensures (at_within _ c.args.self.now c.args.s c.word_of.result c.self.invariant c.self.view_is c.word_of.ensures c.in_ok-check_running.ensures.ok c.requires)) c.in_ok-check_running.ensures.ok
     c.stop_of-self-inside.ensures.ok (subst (λ word. OnOk c.store-answer.result (IsStored word c.args.value (medium_view c.self.inside.arena.medium) (medium_view c.store-answer.new.self))) c.word_of.ensures c.store-answer.ensures.ok)
 
 pub returns-clause-unchanged : goal.returns-clause-unchanged

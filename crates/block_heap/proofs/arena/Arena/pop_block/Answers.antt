@@ -1,8 +1,8 @@
 use Rattle.std.proofs.Common.{refl, arith}
 use Rattle.block_heap.specs.MediumView.{medium_view}
 use Rattle.block_heap.specs.Parts.{parts_of}
-use Rattle.block_heap.proofs.SmallLemmas.{read_cache, first_cached, first_below, first_mark, handed, handed_serves}
-use Rattle.block_heap.proofs.arena.Arena.hand_out.Goals as goal
+use Rattle.block_heap.proofs.SmallLemmas.{read_cache, first_cached, first_below, first_mark, popped_block, popped_serves}
+use Rattle.block_heap.proofs.arena.Arena.pop_block.Goals as goal
 
 pub load-requires-clause-within : goal.load-requires-clause-within
 load-requires-clause-within g c =
@@ -33,7 +33,7 @@ pub returns-clause-ok : goal.returns-clause-ok
 returns-clause-ok g c =
     let p = parts_of c.args.self.now in
     let is = read_cache p c.args.class.number c.index-cache.result.now c.args.class.is c.requires.running c.index-cache.ensures in
-    handed p c.args.class.number c.args.class.is c.requires.running c.index-cache.result.now is c.requires.some
+    popped_block p c.args.class.number c.args.class.is c.requires.running c.index-cache.result.now is c.requires.some
     (medium_view c.load.new.self) c.in_ok-next.next c.add.new.self
     c.in_ok-next.ensures.ok c.load.ensures.unchanged c.add.ensures.held c.add.ensures.words c.add.ensures.start c.at.result c.at.ensures
 
@@ -41,6 +41,6 @@ pub returns-clause-serves : goal.returns-clause-serves
 returns-clause-serves g c =
     let p = parts_of c.args.self.now in
     let is = read_cache p c.args.class.number c.index-cache.result.now c.args.class.is c.requires.running c.index-cache.ensures in
-    handed_serves p c.args.class.number c.args.class.is c.requires.running c.index-cache.result.now is c.requires.some
+    popped_serves p c.args.class.number c.args.class.is c.requires.running c.index-cache.result.now is c.requires.some
     (medium_view c.load.new.self) c.in_ok-next.next c.add.new.self
     c.in_ok-next.ensures.ok c.load.ensures.unchanged c.add.ensures.held c.add.ensures.words c.add.ensures.start
