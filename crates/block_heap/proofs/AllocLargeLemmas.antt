@@ -27,12 +27,12 @@ use Rattle.block_heap.specs.Links.{IsFresh}
 use Rattle.block_heap.specs.Medium.{StoresOnly, IsPersisted}
 use Rattle.block_heap.specs.Parts.{Parts, image_of, held_in}
 use Rattle.block_heap.specs.Running.{IsRunning, HasDurableInfos, LeavesHeld}
-use Rattle.block_heap.specs.Works.{UsedFits, is_info}
+use Rattle.block_heap.specs.AllocatorWords.{UsedFits, is_info}
 use Rattle.block_heap.proofs.AccountLemmas.{accounted_same}
 use Rattle.block_heap.proofs.RunningLemmas.{set_is, running_words}
 use Rattle.block_heap.proofs.HeldLemmas.{has_map}
 use Rattle.block_heap.proofs.LookLemmas.{IsNextLook, looked_at_used, looks_kept}
-use Rattle.block_heap.proofs.StableLemmas.{works_of, works_then, works_raised}
+use Rattle.block_heap.proofs.StableLemmas.{as_allocator_of, as_allocator_then, as_allocator_raised}
 
 -- what was found where too few superblocks were left, and where there were enough
 fresh_none : (capacity count : ℕ) (fresh : Fresh) (v w : View) → IsFresh capacity count fresh v w → fresh.first ≡ None
@@ -87,7 +87,7 @@ serves_looked p count fresh u look run is none seen when next =
     let used = is.used in
     record {
       capacity = refl;
-      works = (works_of p.capacity (held_in p) (λ _. ⊥) p.words u (λ word t. absurd t) (λ t. t) got.2 run.settled.used).0;
+      as_allocator = (as_allocator_of p.capacity (held_in p) (λ _. ⊥) p.words u (λ word t. absurd t) (λ t. t) got.2 run.settled.used).0;
       knows = omega arith;
       taken = omega arith;
       looks = looked_at_used p (record p { words = u; used_look = look }) look next is.goes.drew (omega arith) refl refl;
@@ -98,7 +98,7 @@ pub large_stops : (p : Parts) (count : ℕ) (w : View) → IsRunning p → Store
     → MayLeaveStore used_word (image_of p used_word + count) p.words w → (UsedFits p.capacity p.words → UsedFits p.capacity w) → LeavesHeld (held_in p) p (record p { words = w })
 large_stops p count w run stores crash fits = record {
   capacity = refl;
-  works = works_raised p.capacity (held_in p) (image_of p used_word + count) p.words w stores crash run.settled.used (omega arith) fits;
+  as_allocator = as_allocator_raised p.capacity (held_in p) (image_of p used_word + count) p.words w stores crash run.settled.used (omega arith) fits;
   knows = refl;
   taken = omega arith;
   looks = looks_kept p (record p { words = w }) refl;
@@ -159,9 +159,9 @@ module _ (p : Parts) (count d : ℕ) (fresh : Fresh) (u : View) (look : Look) (r
           → LeavesHeld (held_in p) p (record p { words = w; blocks = blocks; taken = p.taken + count; used_look = look })
       join_serves blocks next = record {
         capacity = refl;
-        works = works_then p.capacity (held_in p) p.words u w
-            (works_raised p.capacity (held_in p) (image_of p used_word + count) p.words u stores may run.settled.used (omega arith) fits)
-            (works_of p.capacity (held_in p) (λ word. word ≡ info_word d) u w
+        as_allocator = as_allocator_then p.capacity (held_in p) p.words u w
+            (as_allocator_raised p.capacity (held_in p) (image_of p used_word + count) p.words u stores may run.settled.used (omega arith) fits)
+            (as_allocator_of p.capacity (held_in p) (λ word. word ≡ info_word d) u w
             (λ word e. is_info d (fresh_within some) (none_past p.capacity d (image_of p) (held_in p) run.shape run.is (let at = was_used in omega arith)) e)
             (λ e. omega arith) info_stores (let at = raised in omega (arith, got.0, got.3))).0;
         knows = let knows = run.knows in let used = is_fresh.used in omega arith;

@@ -37,13 +37,13 @@ use Rattle.block_heap.specs.Running.{IsRunning, IsCacheOf, KnowsSizes, HasDurabl
 use Rattle.block_heap.specs.Lists.{head_at, IsEmptyList, LeadsAlong, IsInList}
 use Rattle.block_heap.specs.Order.{CutsAll, CutsFirst}
 use Rattle.block_heap.specs.Steps.{IsRefilling, Spends}
-use Rattle.block_heap.specs.Works.{UsedFits, StoresAsAllocator, IsAllocatorWord}
+use Rattle.block_heap.specs.AllocatorWords.{UsedFits, StoresAsAllocator, IsAllocatorWord}
 use Rattle.block_heap.proofs.HeldLemmas.{has_map}
 use Rattle.block_heap.proofs.MediumLemmas.{stores_then, stores_more}
 use Rattle.block_heap.proofs.OrderLemmas.{in_list_along, in_list_has, list_kept}
 use Rattle.block_heap.proofs.RunningLemmas.{set_is, settled_kept, running_words}
 use Rattle.block_heap.proofs.SpendLemmas.{spends_none, spends_by}
-use Rattle.block_heap.proofs.StableLemmas.{works_of, works_then, works_raised}
+use Rattle.block_heap.proofs.StableLemmas.{as_allocator_of, as_allocator_then, as_allocator_raised}
 use Rattle.block_heap.proofs.LookLemmas.{looks_kept, IsNextLook, looked_at_head, looked_at_used}
 use Rattle.block_heap.proofs.RefillLemmas.{IsMoved, moved_word, moved_info, moved_used, serves_of, drains_none, made, caches_filled, caches_other, none_cached, head_moved, popped_head, popped_of, popped_pops, popped_list, popped_place}
 use Rattle.block_heap.proofs.CutWordLemmas.{divide_word, divide_before, divide_info, cut_is, settled_cut, others_kept}
@@ -275,11 +275,11 @@ module _ (p : Parts) (class d : ℕ) (popped : Popped) (w : View) (look : Look) 
 module _ (p : Parts) (w : View) (run : IsRunning p) (stores : StoresOnly (λ word. word ≡ used_word) p.words w)
     (crash : MayLeaveStore used_word (image_of p used_word + 1) p.words w) (fits : UsedFits p.capacity p.words → UsedFits p.capacity w) where
   raised : StoresAsAllocator p.capacity (held_in p) p.words w
-  raised = works_raised p.capacity (held_in p) (image_of p used_word + 1) p.words w stores crash run.settled.used (omega arith) fits
+  raised = as_allocator_raised p.capacity (held_in p) (image_of p used_word + 1) p.words w stores crash run.settled.used (omega arith) fits
 
   -- it may stop within
   pub fresh_stops : LeavesHeld (held_in p) p (record p { words = w })
-  fresh_stops = record { capacity = refl; works = raised; knows = refl; taken = omega arith; looks = looks_kept p (record p { words = w }) refl }
+  fresh_stops = record { capacity = refl; as_allocator = raised; knows = refl; taken = omega arith; looks = looks_kept p (record p { words = w }) refl }
 
   module _ (class : ℕ) (fresh : Fresh) (look : Look) (took : IsFresh p.capacity 1 fresh p.words w) (seen : look.seen ≡ fresh.used)
       (taken_is : look.taken ≡ p.taken) where
@@ -373,8 +373,8 @@ module _ (p : Parts) (w : View) (run : IsRunning p) (stores : StoresOnly (λ wor
             let knew = run.knows in
             record {
               capacity = same.capacity;
-              works = works_then p.capacity (held_in p) p.words w q.words raised
-                  (works_of p.capacity (held_in p) (IsDivideWord p.capacity d) w q.words
+              as_allocator = as_allocator_then p.capacity (held_in p) p.words w q.words raised
+                  (as_allocator_of p.capacity (held_in p) (IsDivideWord p.capacity d) w q.words
                   (λ word t. divide_word p.capacity d (held_in p) word within none_held t)
                   (λ t. divide_before p.capacity d used_word (omega arith) t) cut_stores settled.used).0;
               knows = omega arith;

@@ -9,7 +9,7 @@ use Rattle.line_memory.specs.View.{View, volatile_at, durable_at}
 use Rattle.block_heap.specs.Divide.{IsDivideWord, IsDivided}
 use Rattle.block_heap.specs.Medium.{StoresOnly}
 use Rattle.block_heap.specs.Running.{HasDurableInfos}
-use Rattle.block_heap.specs.Works.{IsAllocatorWord, is_info, is_anchor, is_inside}
+use Rattle.block_heap.specs.AllocatorWords.{IsAllocatorWord, is_info, is_anchor, is_inside}
 use Rattle.heap_shape.proofs.BasicLemmas.{inside_one}
 use Rattle.block_heap.specs.Parts.{Parts}
 use Rattle.block_heap.specs.Order.{KeepsSuperblock}

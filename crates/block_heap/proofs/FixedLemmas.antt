@@ -12,7 +12,7 @@ use Rattle.block_heap.specs.Running.{LeavesHeld}
 use Rattle.block_heap.specs.SeqState.{SeqState, IsSeqHeap, all_roots, seat_of}
 use Rattle.heap_seat.specs.Words.{IsOwn}
 use Rattle.heap_model.specs.Geometry.{IsFixed}
-use Rattle.block_heap.specs.Works.{IsAllocatorWord}
+use Rattle.block_heap.specs.AllocatorWords.{IsAllocatorWord}
 use Rattle.heap_seat.specs.Rows.{IsRow}
 use Rattle.heap_model.specs.Geometry.{used_word}
 use Rattle.block_heap.proofs.StableLemmas.{not_fixed, own_not_fixed, stable_fewer}
@@ -69,7 +69,7 @@ fixed_store s seen t word heap same capacity own stores looks draws = fixed_by (
 pub fixed_request : (s seen t : SeqState) → IsSeqHeap s → s ≡ seen → LeavesHeld (held_in s.parts) s.parts t.parts
     → t.parts.words.drawn + (s.small_calls + most_large_draws * s.large_calls) ≤ s.parts.words.drawn + (t.small_calls + most_large_draws * t.large_calls) → KeepsFixed seen t
 fixed_request s seen t heap same serves draws =
-    fixed_by (IsAllocatorWord s.parts.capacity (held_in s.parts)) s seen t same serves.capacity serves.works.stores (λ word may is.
+    fixed_by (IsAllocatorWord s.parts.capacity (held_in s.parts)) s seen t same serves.capacity serves.as_allocator.stores (λ word may is.
     not_fixed s.parts.capacity (held_in s.parts) s.parts.words word heap.lasts.stable may is) serves.knows draws
 
 pub fixed_free : (s seen t : SeqState) (b : Block) → IsSeqHeap s → s ≡ seen → TakesFrom b (held_in s.parts) (held_in t.parts)
@@ -77,7 +77,7 @@ pub fixed_free : (s seen t : SeqState) (b : Block) → IsSeqHeap s → s ≡ see
     → t.parts.words.drawn + (s.small_calls + most_large_draws * s.large_calls) ≤ s.parts.words.drawn + (t.small_calls + most_large_draws * t.large_calls) → KeepsFixed seen t
 fixed_free s seen t b heap same takes serves draws =
     let stable = stable_fewer s.parts.capacity (held_in s.parts) (held_in t.parts) s.parts.words takes.only heap.lasts.stable in
-    fixed_by (IsAllocatorWord s.parts.capacity (held_in t.parts)) s seen t same serves.capacity serves.works.stores (λ word may is.
+    fixed_by (IsAllocatorWord s.parts.capacity (held_in t.parts)) s seen t same serves.capacity serves.as_allocator.stores (λ word may is.
     not_fixed s.parts.capacity (held_in t.parts) s.parts.words word stable may is) serves.knows draws
 
 -- the last look tells what was taken as the heap was opened

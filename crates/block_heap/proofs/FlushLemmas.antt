@@ -31,7 +31,7 @@ use Rattle.block_heap.specs.Links.{IsPushed, IsPushWord}
 use Rattle.block_heap.specs.Medium.{StoresOnly}
 use Rattle.block_heap.specs.Parts.{Parts, image_of, held_in, cache_at}
 use Rattle.block_heap.specs.Running.{IsRunning, IsCacheOf, LeavesHeld}
-use Rattle.block_heap.specs.Works.{IsAllocatorWord, is_head, is_anchor, is_link, is_inside}
+use Rattle.block_heap.specs.AllocatorWords.{IsAllocatorWord, is_head, is_anchor, is_link, is_inside}
 use Rattle.block_heap.proofs.MediumLemmas.{stores_then, stores_more}
 use Rattle.block_heap.proofs.RunningLemmas.{set_is}
 use Rattle.block_heap.proofs.LookLemmas.{looks_of}

@@ -9,7 +9,7 @@ use Rattle.heap_seat.specs.Free.{MayHaveFreed, Frees}
 use Rattle.block_heap.specs.Medium.{RunsWithin, StopsWithin}
 use Rattle.block_heap.specs.Parts.{Parts, held_in}
 use Rattle.block_heap.specs.Running.{IsRunning, CachesAreShort, LeavesHeld}
-use Rattle.block_heap.specs.Works.{IsAllocatorWord, IsStable, IsLasting}
+use Rattle.block_heap.specs.AllocatorWords.{IsAllocatorWord, IsStable, IsLasting}
 use Rattle.block_heap.specs.SeqState.{SeqState, IsSeqHeap, all_roots, seat_of}
 use Rattle.heap_seat.specs.Words.{IsOwn, in_block, in_root}
 use Rattle.block_heap.proofs.RequestLemmas.{large_lasts, large_view, word_kept, pending_kept}
@@ -20,7 +20,7 @@ pub free_stable : (p q : Parts) (b : Block) → IsStable p.capacity p.words (hel
     → IsStable q.capacity q.words (held_in q)
 free_stable p q b stable takes serves =
     subst (λ n. IsStable n q.words (held_in q)) (sym serves.capacity)
-    (stable_kept p.capacity (held_in q) p.words q.words (stable_fewer p.capacity (held_in p) (held_in q) p.words takes.only stable) serves.works)
+    (stable_kept p.capacity (held_in q) p.words q.words (stable_fewer p.capacity (held_in p) (held_in q) p.words takes.only stable) serves.as_allocator)
 
 -- what lasts over a free
 pub free_lasts : (r : Result Unit Stopped) (p q : Parts) (b : Block) (old o : Option ℕ) → IsLasting p.capacity p.words (held_in p) old
@@ -54,7 +54,7 @@ module _ (s : SeqState) (q : Parts) (o : Option ℕ) (b : Block) (heap : IsSeqHe
     only = takes.only;
     keeps = takes.keeps;
     roots = refl;
-    words = λ word own out. word_kept s q o (IsAllocatorWord s.parts.capacity (held_in q)) word serves.works.stores (not_stored word own out);
+    words = λ word own out. word_kept s q o (IsAllocatorWord s.parts.capacity (held_in q)) word serves.as_allocator.stores (not_stored word own out);
     refusals = record { count = refl; bytes = refl; looks = refl };
   })
 
@@ -64,6 +64,6 @@ module _ (s : SeqState) (q : Parts) (o : Option ℕ) (b : Block) (heap : IsSeqHe
   frees (Ok t) seen most same ran runs goes = subst (λ t. Frees b (seat_of t) (large_view s q o)) same (record {
     runs = record { ran = ap (λ (t : SeqState). t.stopped) same ∙ ran; running = runs; drew = goes.drew; below = goes.below };
     gone = takes.gone;
-    pending = λ word own out. pending_kept s q o (IsAllocatorWord s.parts.capacity (held_in q)) word serves.works.stores (not_stored word own out);
+    pending = λ word own out. pending_kept s q o (IsAllocatorWord s.parts.capacity (held_in q)) word serves.as_allocator.stores (not_stored word own out);
   })
   frees (Err e) seen most same ran runs goes = tt

@@ -26,7 +26,7 @@ use Rattle.block_heap.specs.Running.{IsRunning, LeavesHeld}
 use Rattle.block_heap.specs.Large.{IsDropped}
 use Rattle.block_heap.proofs.HeldLemmas.{only_map, mark_block}
 use Rattle.block_heap.proofs.LookLemmas.{looks_kept}
-use Rattle.block_heap.proofs.StableLemmas.{works_none}
+use Rattle.block_heap.proofs.StableLemmas.{as_allocator_none}
 use Rattle.block_heap.proofs.SmallLemmas.{serves_then}
 
 -- a held block is that of its mark
@@ -90,7 +90,7 @@ freed_more first d end p q r below freed running others gives frees goes blocks 
       | inl was ↦ inl was
       | inr one ↦ inr (one.0, omega (arith, one.1))
     ]
-    | inr same ↦ inr (let few = freed.few in let more = freed.serves.works.stores.drawn in omega arith, omega arith)
+    | inr same ↦ inr (let few = freed.few in let more = freed.serves.as_allocator.stores.drawn in omega arith, omega arith)
   ];
   free = λ e there. frees.free e (freed.free e there);
   heads = λ class is. frees.heads class is ∙ freed.heads class is;
@@ -115,7 +115,7 @@ pub freed_serves : (first d end : ℕ) (h : HeldBlocks) (p q r : Parts) → IsFr
 freed_serves first d end h p q r freed blocks serves =
     let all = serves_then (record p { blocks = h }) q r (held_of h) freed.serves (subst (λ (x : HeldBlocks). LeavesHeld (held_of x) q r) freed.blocks serves) in
     subst (λ (x : HeldBlocks). LeavesHeld (held_of x) p r) (sym (blocks ∙ freed.blocks))
-    (record { capacity = all.capacity; works = all.works; knows = all.knows; taken = all.taken; looks = record { used = all.looks.used; heads = all.looks.heads } })
+    (record { capacity = all.capacity; as_allocator = all.as_allocator; knows = all.knows; taken = all.taken; looks = record { used = all.looks.used; heads = all.looks.heads } })
 
 -- the block is held no more
 pub freed_takes : (p r : Parts) (b : Block) (h : HeldBlocks) → Contains (held_in p) b → TakesFrom (at_mark p.blocks b.first_word) (held_in p) (held_of h) → r.blocks ≡ h
@@ -218,7 +218,7 @@ module _ (p : Parts) (b : Block) (run : IsRunning p) (holds : Contains (held_in 
           infos = λ e. refl;
           serves = record {
             capacity = refl;
-            works = works_none p.capacity (held_of h) p.words;
+            as_allocator = as_allocator_none p.capacity (held_of h) p.words;
             knows = refl;
             taken = omega arith;
             looks = looks_kept (record p { blocks = h }) (record p { blocks = h }) refl;

@@ -28,7 +28,7 @@ use Rattle.block_heap.specs.Medium.{StoresOnly, IsStored, RunsWithin}
 use Rattle.block_heap.specs.Parts.{Parts, image_of, held_in, cache_at}
 use Rattle.block_heap.specs.Running.{IsRunning, CachesAreShort, LeavesHeld}
 use Rattle.block_heap.specs.Flush.{KeepsAll}
-use Rattle.block_heap.specs.Works.{IsAllocatorWord, is_inside}
+use Rattle.block_heap.specs.AllocatorWords.{IsAllocatorWord, is_inside}
 use Rattle.block_heap.proofs.RunningLemmas.{set_is}
 use Rattle.block_heap.proofs.LookLemmas.{looks_of}
 use Rattle.block_heap.proofs.SmallLemmas.{changed, KeepsFixed, keeps_fixed, running_after, caches_set, other_cache, serves_of, serves_then, even_words, even_product}

@@ -7,7 +7,7 @@ use Rattle.line_memory.specs.View.{View}
 use Rattle.heap_seat.specs.declared.fault.Looks.{Looks}
 use Rattle.block_heap.specs.Opening.{Opens}
 use Rattle.block_heap.specs.Parts.{Parts, held_in}
-use Rattle.block_heap.specs.Works.{IsLasting}
+use Rattle.block_heap.specs.AllocatorWords.{IsLasting}
 use Rattle.block_heap.specs.SeqState.{IsSeqHeap}
 use Rattle.block_heap.proofs.RunningLemmas.{running_stable}
 

@@ -91,7 +91,7 @@ walk_begins class p is run empty = record {
 module _ (class : ℕ) (p q r : Parts) (is : IsClass class) (walked : Walked class p q) (serves : LeavesHeld (held_in q) q r) (held : held_in r ≡ held_in q)
     (taken : r.taken ≡ q.taken) where
   begun : p.words.drawn ≤ q.words.drawn
-  begun = walked.serves.works.stores.drawn
+  begun = walked.serves.as_allocator.stores.drawn
 
   -- so far few steps were done
   so_far : q.words.drawn ≤ p.words.drawn + 8 * largest_capacity
@@ -210,13 +210,13 @@ module _ (class : ℕ) (p a b : Parts) (is : IsClass class) (a_serves : LeavesHe
       same_look list = ap (λ (ls : List Look). get_or ls list (record { seen = 0; ticket = None; taken = 0 })) fresh.4
 
       begun_a : p.words.drawn ≤ a.words.drawn
-      begun_a = a_serves.works.stores.drawn
+      begun_a = a_serves.as_allocator.stores.drawn
 
       begun_b : a.words.drawn ≤ b.words.drawn
-      begun_b = b_serves.works.stores.drawn
+      begun_b = b_serves.as_allocator.stores.drawn
 
       begun_q : b.words.drawn ≤ q.words.drawn
-      begun_q = q_serves.works.stores.drawn
+      begun_q = q_serves.as_allocator.stores.drawn
 
       class_look : IsLook p.words.drawn q (look_at q class) (head_at q class)
       class_look =

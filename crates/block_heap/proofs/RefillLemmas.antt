@@ -26,11 +26,11 @@ use Rattle.block_heap.specs.Parts.{Parts, image_of, held_in, cache_at}
 use Rattle.block_heap.specs.Running.{IsRunning, IsCacheOf, KnowsSizes, HasDurableInfos, LeavesHeld, MakesLooks}
 use Rattle.block_heap.specs.Steps.{IsRefilling}
 use Rattle.block_heap.specs.Lists.{head_at, IsEmptyList}
-use Rattle.block_heap.specs.Works.{IsAllocatorWord, is_head, is_anchor, is_link}
+use Rattle.block_heap.specs.AllocatorWords.{IsAllocatorWord, is_head, is_anchor, is_link}
 use Rattle.block_heap.proofs.MediumLemmas.{stores_more}
 use Rattle.block_heap.proofs.RunningLemmas.{set_is, running_words}
 use Rattle.block_heap.proofs.LookLemmas.{looks_kept, IsNextLook, looked_at_head}
-use Rattle.block_heap.proofs.StableLemmas.{works_of, works_none}
+use Rattle.block_heap.proofs.StableLemmas.{as_allocator_of, as_allocator_none}
 use Rattle.block_heap.proofs.SmallLemmas.{serves_then}
 
 -- a cache with these numbers
@@ -79,7 +79,7 @@ serves_of p q to run are not_used stores capacity look taken looks =
     let then : q.used_look.taken ≡ p.used_look.taken = ap (λ (l : Look). l.taken) look in
     record {
       capacity = capacity;
-      works = (works_of p.capacity (held_in p) to p.words q.words are not_used stores run.settled.used).0;
+      as_allocator = (as_allocator_of p.capacity (held_in p) to p.words q.words are not_used stores run.settled.used).0;
       knows = omega arith;
       taken = omega arith;
       looks = looks;
@@ -92,7 +92,7 @@ serves_moved p q run stores capacity look taken looks =
     look taken looks
 
 pub serves_same : (p : Parts) → LeavesHeld (held_in p) p p
-serves_same p = record { capacity = refl; works = works_none p.capacity (held_in p) p.words; knows = refl; taken = omega arith; looks = looks_kept p p refl }
+serves_same p = record { capacity = refl; as_allocator = as_allocator_none p.capacity (held_in p) p.words; knows = refl; taken = omega arith; looks = looks_kept p p refl }
 
 pub serves_all : (p u q : Parts) → held_in u ≡ held_in p → LeavesHeld (held_in p) p u → LeavesHeld (held_in u) u q → LeavesHeld (held_in p) p q
 serves_all p u q held a b = serves_then p u q (held_in p) a (subst (λ (h : List Block). LeavesHeld h u q) held b)

@@ -22,7 +22,7 @@ use Rattle.heap_seat.specs.declared.fault.AllocFault.TheVariants.{Full, Stopped 
 use Rattle.block_heap.specs.Steps.{look_at, IsLook}
 use Rattle.heap_seat.specs.Tickets.{Runs}
 use Rattle.block_heap.specs.Lists.{IsEmptyList, head_at}
-use Rattle.block_heap.specs.Works.{IsAllocatorWord, UsedFits, IsStable, IsLasting}
+use Rattle.block_heap.specs.AllocatorWords.{IsAllocatorWord, UsedFits, IsStable, IsLasting}
 use Rattle.block_heap.specs.SeqState.{SeqState, IsSeqHeap, all_roots, seat_of}
 use Rattle.heap_seat.specs.Words.{IsOwn, IsDurable, MayRead, KeepsWord, KeepsPending}
 use Rattle.block_heap.specs.Requests.{KeepsWords}
@@ -58,11 +58,11 @@ pub request_stable : (r : Result (Option Block) Stopped) (p q : Parts) (bytes : 
     → IfOk r (λ answer. Answers bytes answer p q)
     → OnErr r (held_in q ≡ held_in p) → IsStable q.capacity q.words (held_in q)
 request_stable (Ok answer) p q bytes stable serves answers held =
-    let kept = stable_kept p.capacity (held_in p) p.words q.words stable serves.works in
+    let kept = stable_kept p.capacity (held_in p) p.words q.words stable serves.as_allocator in
     running_stable q (answer_runs answer bytes p q answers).0 (kept.capacity_is ∙ sym serves.capacity) (kept.capacity_durable ∙ sym serves.capacity)
 request_stable (Err e) p q bytes stable serves answers held =
     subst (λ n. IsStable n q.words (held_in q)) (sym serves.capacity)
-    (subst (λ blocks. IsStable p.capacity q.words blocks) (sym held) (stable_kept p.capacity (held_in p) p.words q.words stable serves.works))
+    (subst (λ blocks. IsStable p.capacity q.words blocks) (sym held) (stable_kept p.capacity (held_in p) p.words q.words stable serves.as_allocator))
 
 -- what lasts over a request or a free
 pub large_lasts : {T : Type 0} (r : Result T Stopped) (p q : Parts) (held : List Block) (most : ℕ) (old o : Option ℕ)
@@ -73,7 +73,7 @@ large_lasts r p q held most old o lasts serves stable none stops halts = record 
   some = let same = serves.capacity in let some = lasts.some in omega arith;
   small = let same = serves.capacity in let small = lasts.small in omega arith;
   stable = stable;
-  used = subst (λ n. UsedFits n q.words) (sym serves.capacity) (serves.works.fits lasts.used);
+  used = subst (λ n. UsedFits n q.words) (sym serves.capacity) (serves.as_allocator.fits lasts.used);
   stopping = stop_above r o most p.words q.words none stops halts;
 }
 
@@ -129,8 +129,8 @@ pub request_words : (s seen : SeqState) (q : Parts) (o : Option ℕ) → IsSeqHe
     → KeepsWords (seat_of seen) (large_view s q o)
 request_words s seen q o heap same serves = subst (λ t. KeepsWords (seat_of t) (large_view s q o)) same (record {
   roots = refl;
-  words = λ word own. word_kept s q o (IsAllocatorWord s.parts.capacity (held_in s.parts)) word serves.works.stores (out word own);
-  pending = λ word own. pending_kept s q o (IsAllocatorWord s.parts.capacity (held_in s.parts)) word serves.works.stores (out word own);
+  words = λ word own. word_kept s q o (IsAllocatorWord s.parts.capacity (held_in s.parts)) word serves.as_allocator.stores (out word own);
+  pending = λ word own. pending_kept s q o (IsAllocatorWord s.parts.capacity (held_in s.parts)) word serves.as_allocator.stores (out word own);
   refusals = record { count = refl; bytes = refl; looks = refl };
 }) where
   out : (word : ℕ) → IsOwn (held_in s.parts) all_roots word → IsAllocatorWord s.parts.capacity (held_in s.parts) word → ⊥

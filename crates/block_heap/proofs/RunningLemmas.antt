@@ -11,7 +11,7 @@ use Rattle.block_heap.specs.Links.{IsHead}
 use Rattle.block_heap.specs.Medium.{StoresOnly}
 use Rattle.block_heap.specs.Parts.{Parts, image_of, held_in}
 use Rattle.block_heap.specs.Running.{IsRunning, HasDurableInfos}
-use Rattle.block_heap.specs.Works.{IsStable}
+use Rattle.block_heap.specs.AllocatorWords.{IsStable}
 use Rattle.block_heap.specs.Lists.{head_at}
 
 -- a list with another number at one place, as an image

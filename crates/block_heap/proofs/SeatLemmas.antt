@@ -5,7 +5,7 @@ use Rattle.line_memory.specs.View.{View, word_count, volatile_at, durable_at, li
 use Rattle.line_memory.specs.declared.memory.Stopped.{Stopped}
 use Rattle.block_heap.specs.Medium.{StoresOnly, RunsWithin, StopsWithin, IsLoaded, IsStored, IsWritten, IsFenced}
 use Rattle.block_heap.specs.Parts.{Parts, held_in}
-use Rattle.block_heap.specs.Works.{IsLasting}
+use Rattle.block_heap.specs.AllocatorWords.{IsLasting}
 use Rattle.block_heap.specs.SeqState.{SeqState, IsSeqHeap, all_roots, seat_of}
 use Rattle.heap_seat.specs.Words.{IsOwn, in_block, in_root, IsOwnSpot}
 use Rattle.heap_seat.specs.declared.spot.Spot.{Spot}

@@ -26,10 +26,10 @@ use Rattle.block_heap.specs.Medium.{StoresOnly, IsLoaded}
 use Rattle.block_heap.specs.Parts.{Parts, image_of, held_in, cache_at}
 use Rattle.block_heap.specs.Running.{IsCacheOf, IsRunning, LeavesHeld}
 use Rattle.block_heap.specs.Steps.{PopsBlock}
-use Rattle.block_heap.specs.Works.{IsAllocatorWord, StoresAsAllocator}
+use Rattle.block_heap.specs.AllocatorWords.{IsAllocatorWord, StoresAsAllocator}
 use Rattle.block_heap.proofs.RunningLemmas.{settled_kept}
 use Rattle.block_heap.proofs.LookLemmas.{looks_of, looks_kept, looks_then}
-use Rattle.block_heap.proofs.StableLemmas.{works_of, works_then, works_none}
+use Rattle.block_heap.proofs.StableLemmas.{as_allocator_of, as_allocator_then, as_allocator_none}
 
 -- the parts with other words, caches and held blocks
 abbrev pub changed : Parts → View → List Cache → HeldBlocks → Parts
@@ -157,7 +157,7 @@ pub serves_of : (p q : Parts) (held : List Block) (to : ℕ → Type 0) → IsRu
     → ((word : ℕ) → to word → IsAllocatorWord p.capacity held word) → (to used_word → ⊥) → StoresOnly to p.words q.words → LeavesHeld held p q
 serves_of p q held to run capacity look taken are not_used stores = record {
   capacity = capacity;
-  works = (works_of p.capacity held to p.words q.words are not_used stores run.settled.used).0;
+  as_allocator = (as_allocator_of p.capacity held to p.words q.words are not_used stores run.settled.used).0;
   knows =
       let seen : q.used_look.seen ≡ p.used_look.seen = ap (λ x. x.0.seen) look in
       let count : q.used_look.taken ≡ p.used_look.taken = ap (λ x. x.0.taken) look in
@@ -167,16 +167,16 @@ serves_of p q held to run capacity look taken are not_used stores = record {
 }
 
 pub serves_none : (p : Parts) (held : List Block) → LeavesHeld held p p
-serves_none p held = record { capacity = refl; works = works_none p.capacity held p.words; knows = omega arith; taken = omega arith; looks = looks_kept p p refl }
+serves_none p held = record { capacity = refl; as_allocator = as_allocator_none p.capacity held p.words; knows = omega arith; taken = omega arith; looks = looks_kept p p refl }
 
 pub serves_then : (p q r : Parts) (held : List Block) → LeavesHeld held p q → LeavesHeld held q r → LeavesHeld held p r
 serves_then p q r held a b = record {
   capacity = b.capacity ∙ a.capacity;
-  works = works_then p.capacity held p.words q.words r.words a.works (subst (λ n. StoresAsAllocator n held q.words r.words) a.capacity
-      b.works);
+  as_allocator = as_allocator_then p.capacity held p.words q.words r.words a.as_allocator (subst (λ n. StoresAsAllocator n held q.words r.words) a.capacity
+      b.as_allocator);
   knows = let x = a.knows in let y = b.knows in omega arith;
   taken = let x = a.taken in let y = b.taken in omega arith;
-  looks = looks_then p q r a.works.stores.drawn b.works.stores.drawn a.taken b.taken a.looks b.looks;
+  looks = looks_then p q r a.as_allocator.stores.drawn b.as_allocator.stores.drawn a.taken b.taken a.looks b.looks;
 }
 
 -- blocks have an even number of words

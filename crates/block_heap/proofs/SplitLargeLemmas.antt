@@ -27,12 +27,12 @@ use Rattle.block_heap.specs.Returns.{FreesOne}
 use Rattle.block_heap.specs.Parts.{Parts, image_of, held_in}
 use Rattle.block_heap.specs.Running.{IsRunning, LeavesHeld}
 use Rattle.block_heap.specs.Large.{IsDropped}
-use Rattle.block_heap.specs.Works.{IsAllocatorWord, is_head, is_anchor, is_link}
+use Rattle.block_heap.specs.AllocatorWords.{IsAllocatorWord, is_head, is_anchor, is_link}
 use Rattle.block_heap.proofs.MediumLemmas.{stores_then, stores_more}
 use Rattle.block_heap.proofs.OrderLemmas.{in_list_along, in_list_has, list_kept}
 use Rattle.block_heap.proofs.RunningLemmas.{set_is, settled_kept}
 use Rattle.block_heap.proofs.LookLemmas.{looks_kept}
-use Rattle.block_heap.proofs.StableLemmas.{works_of}
+use Rattle.block_heap.proofs.StableLemmas.{as_allocator_of}
 use Rattle.block_heap.proofs.PushLemmas.{pushed_is, pushed_pops, words_inside}
 
 -- parts with other words serve, where each word stored to is an allocator's
@@ -40,7 +40,7 @@ pub serves_words : (held : List Block) (p : Parts) (to : ℕ → Type 0) (w : Vi
     → StoresOnly to p.words w → durable_at p.words used_word ≡ volatile_at p.words used_word → LeavesHeld held p (record p { words = w })
 serves_words held p to w are not_used stores settled = record {
   capacity = refl;
-  works = (works_of p.capacity held to p.words w are not_used stores settled).0;
+  as_allocator = (as_allocator_of p.capacity held to p.words w are not_used stores settled).0;
   knows = refl;
   taken = omega arith;
   looks = looks_kept p (record p { words = w }) refl;

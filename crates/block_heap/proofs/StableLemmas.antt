@@ -13,21 +13,21 @@ use Rattle.heap_seat.specs.Words.{IsOwn, in_block, in_root}
 use Rattle.block_heap.specs.Stable.{root_below, low_layout, own_where}
 use Rattle.heap_model.proofs.PlaceLemmas.{block_more}
 use Rattle.heap_model.specs.Geometry.{IsFixed}
-use Rattle.block_heap.specs.Works.{IsAllocatorWord, is_used, is_head, is_info, is_anchor, is_link, is_inside, UsedFits, StoresAsAllocator, IsStable}
+use Rattle.block_heap.specs.AllocatorWords.{IsAllocatorWord, is_used, is_head, is_info, is_anchor, is_link, is_inside, UsedFits, StoresAsAllocator, IsStable}
 use Rattle.block_heap.proofs.MediumLemmas.{stores_then, stores_more, stores_nothing}
 
 module _ (capacity : ℕ) (held : List Block) where
   -- no step at all, two rows of steps, and steps while more blocks are held
-  pub works_none : (v : View) → StoresAsAllocator capacity held v v
-  works_none v = record {
+  pub as_allocator_none : (v : View) → StoresAsAllocator capacity held v v
+  as_allocator_none v = record {
     stores = stores_nothing (IsAllocatorWord capacity held) v;
     used = omega arith;
     used_durable = omega arith;
     fits = λ fits. fits;
   }
 
-  pub works_then : (v u w : View) → StoresAsAllocator capacity held v u → StoresAsAllocator capacity held u w → StoresAsAllocator capacity held v w
-  works_then v u w a b = record {
+  pub as_allocator_then : (v u w : View) → StoresAsAllocator capacity held v u → StoresAsAllocator capacity held u w → StoresAsAllocator capacity held v w
+  as_allocator_then v u w a b = record {
     stores = stores_then (IsAllocatorWord capacity held) v u w a.stores b.stores;
     used = let p = a.used in let q = b.used in omega arith;
     used_durable = let p = a.used_durable in let q = b.used_durable in omega arith;
@@ -43,18 +43,18 @@ module _ (capacity : ℕ) (held : List Block) where
   fewer_word fewer word are (is_link d below e) = is_link d below e
   fewer_word fewer word are (is_inside from none) = is_inside from (λ b p in_b. none b (are b p) in_b)
 
-  pub works_fewer : (fewer : List Block) (v w : View) → ((b : Block) → Contains fewer b → Contains held b) → StoresAsAllocator capacity held v w → StoresAsAllocator capacity fewer v w
-  works_fewer fewer v w are works = record {
-    stores = stores_more (IsAllocatorWord capacity held) (IsAllocatorWord capacity fewer) v w (λ word may. fewer_word fewer word are may) works.stores;
-    used = works.used;
-    used_durable = works.used_durable;
-    fits = works.fits;
+  pub as_allocator_fewer : (fewer : List Block) (v w : View) → ((b : Block) → Contains fewer b → Contains held b) → StoresAsAllocator capacity held v w → StoresAsAllocator capacity fewer v w
+  as_allocator_fewer fewer v w are as_allocator = record {
+    stores = stores_more (IsAllocatorWord capacity held) (IsAllocatorWord capacity fewer) v w (λ word may. fewer_word fewer word are may) as_allocator.stores;
+    used = as_allocator.used;
+    used_durable = as_allocator.used_durable;
+    fits = as_allocator.fits;
   }
 
   -- steps that store to such words, but not to `used`, which is durable as loads see it
-  pub works_of : (to : ℕ → Type 0) (v w : View) → ((word : ℕ) → to word → IsAllocatorWord capacity held word) → (to used_word → ⊥) → StoresOnly to v w → durable_at v used_word ≡ volatile_at v used_word
+  pub as_allocator_of : (to : ℕ → Type 0) (v w : View) → ((word : ℕ) → to word → IsAllocatorWord capacity held word) → (to used_word → ⊥) → StoresOnly to v w → durable_at v used_word ≡ volatile_at v used_word
       → StoresAsAllocator capacity held v w × (durable_at w used_word ≡ volatile_at w used_word) × (volatile_at w used_word ≡ volatile_at v used_word)
-  works_of to v w are not_used stores settled =
+  as_allocator_of to v w are not_used stores settled =
       let same : volatile_at w used_word ≡ volatile_at v used_word = stores.volatile used_word not_used in
       let durable : durable_at w used_word ≡ volatile_at v used_word =
       elim (stores.durable used_word not_used) as (λ _. durable_at w used_word ≡ volatile_at v used_word) [ inl e ↦ e ∙ settled | inr e ↦ e ] in (
@@ -69,9 +69,9 @@ module _ (capacity : ℕ) (held : List Block) where
       )
 
   -- steps that raise `used`
-  pub works_raised : (value : ℕ) (v w : View) → StoresOnly (λ word. word ≡ used_word) v w → MayLeaveStore used_word value v w → durable_at v used_word ≡ volatile_at v used_word → volatile_at v used_word ≤ value
+  pub as_allocator_raised : (value : ℕ) (v w : View) → StoresOnly (λ word. word ≡ used_word) v w → MayLeaveStore used_word value v w → durable_at v used_word ≡ volatile_at v used_word → volatile_at v used_word ≤ value
       → (UsedFits capacity v → UsedFits capacity w) → StoresAsAllocator capacity held v w
-  works_raised value v w stores may settled more fits = record {
+  as_allocator_raised value v w stores may settled more fits = record {
     stores = stores_more (λ word. word ≡ used_word) (IsAllocatorWord capacity held) v w (λ word e. is_used e) stores;
     used = elim may.seen as (λ _. volatile_at v used_word ≤ volatile_at w used_word) [ inl e ↦ omega arith | inr e ↦ omega arith ];
     used_durable = elim may.left as (λ _. durable_at v used_word ≤ durable_at w used_word) [
@@ -194,10 +194,10 @@ module _ (capacity : ℕ) (held : List Block) where
 
   -- held blocks stay named: their infos lie before the superblocks, where an allocator may store
   pub stable_kept : (v w : View) → IsStable capacity v held → StoresAsAllocator capacity held v w → IsStable capacity w held
-  stable_kept v w stable works =
+  stable_kept v w stable as_allocator =
       let fits = stable.fits in
-      stable_by (IsAllocatorWord capacity held) v w stable works.stores (λ may. not_first capacity_word may (omega arith))
-      (let p = stable.used in let q = works.used in omega arith) (let p = stable.used_durable in let q = works.used_durable in omega arith)
+      stable_by (IsAllocatorWord capacity held) v w stable as_allocator.stores (λ may. not_first capacity_word may (omega arith))
+      (let p = stable.used in let q = as_allocator.used in omega arith) (let p = stable.used_durable in let q = as_allocator.used_durable in omega arith)
       (λ b d holds part may.
       let taken = part_taken (low_layout capacity held v stable.low) b d (stable.named b holds) part in
       not_info b d (info_word d) holds part (omega arith) refl may)

@@ -17,7 +17,7 @@ use Rattle.block_heap.specs.Medium.{StoresOnly, RunsWithin, StopsWithin, IsStore
 use Rattle.block_heap.specs.Accounts.{AreAccounted}
 use Rattle.block_heap.specs.Parts.{Parts, held_in}
 use Rattle.block_heap.specs.Running.{IsRunning, KnowsSizes}
-use Rattle.block_heap.specs.Works.{IsLasting}
+use Rattle.block_heap.specs.AllocatorWords.{IsLasting}
 use Rattle.block_heap.specs.Stable.{root_below, own_where}
 use Rattle.block_heap.specs.SeqState.{SeqState, IsSeqHeap, all_roots, seat_of}
 use Rattle.heap_seat.specs.Words.{IsOwn, in_block, in_root, KeepsOwn, MayHaveStored, MayRead}

@@ -9,7 +9,7 @@ use Rattle.heap_model.specs.Sizes.{words_of_class, blocks_of, class_sizes}
 use Rattle.block_heap.specs.Parts.{image_of}
 use Rattle.block_heap.specs.Requests.{Drains}
 use Rattle.block_heap.specs.SeqState.{SeqState}
-use Rattle.block_heap.specs.Works.{IsAllocatorWord, is_used, is_head, is_info, is_anchor, is_link, is_inside}
+use Rattle.block_heap.specs.AllocatorWords.{IsAllocatorWord, is_used, is_head, is_info, is_anchor, is_link, is_inside}
 
 -- superblocks 3 and 5 of a class have nothing in use, and superblock 7 is free: 3 and then 5 go to the free list, so 5 is cut, and 3 and 7 stay
 abbrev three_then_five : List ℕ

@@ -15,7 +15,7 @@ use Rattle.heap_seat.specs.Words.{IsOwn, MixesOwn, NamesAll, MayRead, HasPicked}
 use Rattle.std.specs.Prelude.{Bool, true, false, cond, Some}
 use Rattle.block_heap.specs.Closing.{KeepsFixed}
 use Rattle.heap_model.specs.Geometry.{IsFixed}
-use Rattle.block_heap.specs.Works.{IsLasting}
+use Rattle.block_heap.specs.AllocatorWords.{IsLasting}
 use Rattle.block_heap.specs.Parts.{held_in}
 use Rattle.block_heap.specs.SeqState.{SeqState, all_roots, seat_of, MayLeave}
 use Rattle.block_heap.specs.Stable.{root_below, stable_placed, stable_apart, stable_names, own_lasts, own_value}

@@ -1,4 +1,5 @@
 pub mod Accounts
+pub mod AllocatorWords
 pub mod Anchors
 pub mod Batches
 pub mod Begun
@@ -25,4 +26,3 @@ pub mod SeqState
 pub mod Serving
 pub mod Stable
 pub mod Steps
-pub mod Works

@@ -11,7 +11,7 @@ use Rattle.block_heap.specs.declared.cache.Cache.{Cache}
 use Rattle.block_heap.specs.declared.held.HeldBlocks.{HeldBlocks}
 use Rattle.heap_model.specs.declared.block.Block.{Block}
 use Rattle.block_heap.specs.Links.{IsOpen}
-use Rattle.block_heap.specs.Works.{StoresAsAllocator}
+use Rattle.block_heap.specs.AllocatorWords.{StoresAsAllocator}
 use Rattle.block_heap.specs.Parts.{Parts, image_of, held_in, cache_at, head_look}
 
 -- the cache is that of the shape, and has no more blocks than a superblock
@@ -60,7 +60,7 @@ pub record MakesLooks (p q : Parts) : Type 0 where
 -- the parts work while these blocks are held, and what is known of `used` stays
 pub record LeavesHeld (held : List Block) (p q : Parts) : Type 0 where
   pub capacity : q.capacity ≡ p.capacity
-  pub works : StoresAsAllocator p.capacity held p.words q.words
+  pub as_allocator : StoresAsAllocator p.capacity held p.words q.words
   pub knows : p.used_look.seen + q.used_look.taken ≡ q.used_look.seen + p.used_look.taken
   pub taken : p.taken ≤ q.taken
   pub looks : MakesLooks p q

@@ -10,7 +10,7 @@ use Rattle.heap_seat.specs.View.{View}
 use Rattle.block_heap.specs.Accounts.{AreAccounted}
 use Rattle.block_heap.specs.Parts.{Parts, held_in, head_look}
 use Rattle.block_heap.specs.Running.{IsRunning, CachesAreShort}
-use Rattle.block_heap.specs.Works.{IsLasting}
+use Rattle.block_heap.specs.AllocatorWords.{IsLasting}
 
 pub record SeqState : Type 0 where
   pub parts : Parts

@@ -12,7 +12,7 @@ use Rattle.line_memory.specs.View.{View, volatile_at}
 use Rattle.line_memory.specs.Crash.{IsValueOf}
 use Rattle.heap_seat.specs.Words.{IsOwn, in_block, in_root, NamesAll}
 use Rattle.heap_seat.specs.Sound.{IsPlaced}
-use Rattle.block_heap.specs.Works.{IsStable}
+use Rattle.block_heap.specs.AllocatorWords.{IsStable}
 use Rattle.heap_model.proofs.ListLemmas.{in_numbers, numbers_below}
 
 -- the numbers of the roots

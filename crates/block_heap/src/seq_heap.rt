@@ -3,7 +3,7 @@ ghost use Rattle.std.specs.Prelude.{◌≡◌};
 ghost use Rattle.block_heap.specs.declared.seq_heap.DrainFault.TheVariants.{Memory as MemoryFault, Stopped as StoppedFault};
 ghost use Rattle.block_heap.specs.Held.{held_of};
 ghost use Rattle.block_heap.specs.MediumView.{medium_view};
-ghost use Rattle.block_heap.specs.Works.{IsLasting};
+ghost use Rattle.block_heap.specs.AllocatorWords.{IsLasting};
 
 use crate::arena::Arena;
 use heap_model::Block;

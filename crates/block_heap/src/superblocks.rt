@@ -20,7 +20,7 @@ impl<C: Chance> Medium<C> {
     ghost use Rattle.block_heap.specs.MediumView.{medium_view};
     ghost use Rattle.block_heap.specs.Medium.{StoresOnly, StopsWithin, IsPersisted};
     ghost use Rattle.block_heap.specs.Links.{IsOpen, IsFresh};
-    ghost use Rattle.block_heap.specs.Works.{UsedFits};
+    ghost use Rattle.block_heap.specs.AllocatorWords.{UsedFits};
 
     /// Takes so many superblocks that were never taken.
     pub(crate) fn take_fresh(&mut self, geometry: Geometry, count: u64) -> Result<Fresh, Stopped>

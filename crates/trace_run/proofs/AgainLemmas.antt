@@ -14,7 +14,7 @@ use Rattle.block_heap.specs.Closing.{IsOpened, KeepsFixed}
 use Rattle.block_heap.specs.Laws.{seat_law, mixed_law, named_law}
 use Rattle.block_heap.specs.Parts.{held_in}
 use Rattle.block_heap.specs.SeqState.{SeqState, seat_of, MayLeave}
-use Rattle.block_heap.specs.Works.{IsLasting}
+use Rattle.block_heap.specs.AllocatorWords.{IsLasting}
 use Rattle.block_heap.proofs.FixedLemmas.{long_opened}
 use Rattle.block_heap.proofs.ImageLemmas.{crash_left, closed_left}
 use Rattle.dict_model.specs.Links.{shards}

@@ -110,7 +110,7 @@ returns-in_ok-flush-clause-goes g c =
     flushed_goes p c.args.class.number c.args.class.is c.requires.running c.args.b c.requires.holds c.requires.size
     c.remove.new.self c.remove.ensures.held c.remove.ensures.words c.remove.ensures.start
     c.index-cache.result.now is (medium_view c.store.new.self) c.in_ok-store.ensures.ok c.store.ensures.others c.requires.short
-    (parts_of c.flush.new.self) c.in_ok-flush.ensures.running c.flush.ensures.serves.works.stores.drawn c.flush.ensures.few
+    (parts_of c.flush.new.self) c.in_ok-flush.ensures.running c.flush.ensures.serves.as_allocator.stores.drawn c.flush.ensures.few
 
 pub returns-else-cache-blocks_of-clause-running : goal.returns-else-cache-blocks_of-clause-running
 returns-else-cache-blocks_of-clause-running g c =
