@@ -79,21 +79,21 @@ leads_nowhere link capacity from (d ∷ ds) none leads = absurd (let first = lea
 
 -- where a request of a class found nothing there was nothing to drain
 pub drains_nothing : (class : ℕ) (p q : Parts) → IsClass class → q.capacity ≡ p.capacity → IsRefilling class p q → FindsNone class p q → DrainsNone class p
-drains_nothing class p q is capacity fills finds drainable b drained =
-    let run = fills.running in
+drains_nothing class p q is capacity refilling finds drainable b drained =
+    let run = refilling.running in
     let looked = finds.looked in
     let empty = finds.empty in
     let last = is.last in
     let shape : IsShape p.capacity (image_of q) (held_in p) run.shape =
-    subst (λ held. IsShape p.capacity (image_of q) held run.shape) fills.held (subst (λ k. IsShape k (image_of q) (held_in q) run.shape) capacity run.is) in
+    subst (λ held. IsShape p.capacity (image_of q) held run.shape) refilling.held (subst (λ k. IsShape k (image_of q) (held_in q) run.shape) capacity run.is) in
     let count = (run.caches class is).count in
     let cached : run.shape.cached class ≡ [] = nil_from_length (run.shape.cached class) (omega arith) in
     let listed : run.shape.listed class ≡ [] =
     leads_nowhere (λ d. image_of q (link_word d)) q.capacity (head_first (head_at q class)) (run.shape.listed class) looked.class_empty (run.is.follows class (omega arith)) in
     let free : run.shape.listed 0 ≡ [] =
     leads_nowhere (λ d. image_of q (link_word d)) q.capacity (head_first (head_at q 0)) (run.shape.listed 0) looked.free_empty (run.is.follows 0 (omega arith)) in
-    drained_none p.capacity class (image_of q) (held_in p) run.shape is shape cached listed free (let past = looked.past in omega arith) (fills.drains.drainable drainable) b
-    (fills.drains.has b drained)
+    drained_none p.capacity class (image_of q) (held_in p) run.shape is shape cached listed free (let past = looked.past in omega arith) (refilling.drains.drainable drainable) b
+    (refilling.drains.has b drained)
 
 -- and there is no room after it too
 pub still_none : (class : ℕ) (p q : Parts) → FindsNone class p q → HasRoom q class → ⊥
@@ -105,28 +105,28 @@ still_none class p q finds (in_fresh room) = let past = finds.looked.past in ome
 -- a request of a class that got a block
 pub gets_in_class : (class : ℕ) (b : Block) (p q r : Parts) → IsClass class → CachesAreShort p 0 → q.capacity ≡ p.capacity → r.capacity ≡ q.capacity → IsRefilling class p q → HasRoom p class
     → PopsBlock class b q r → GetsInClass class b p r
-gets_in_class class b p q r is short capacity same fills room pops_block = record {
+gets_in_class class b p q r is short capacity same refilling room pops_block = record {
   running = pops_block.running;
-  short = short_but class p r short (λ c is_c other. pops_block.caches c is_c other ∙ fills.caches c is_c other)
-      (let count = pops_block.count in let most = (fills.running.caches class is).most in omega arith);
+  short = short_but class p r short (λ c is_c other. pops_block.caches c is_c other ∙ refilling.caches c is_c other)
+      (let count = pops_block.count in let most = (refilling.running.caches class is).most in omega arith);
   size = pops_block.size;
-  adds = subst (λ held. AddsTo b held (held_in r)) fills.held pops_block.adds;
-  new = λ holds. pops_block.new (subst (λ held. Contains held b) (sym fills.held) holds);
+  adds = subst (λ held. AddsTo b held (held_in r)) refilling.held pops_block.adds;
+  new = λ holds. pops_block.new (subst (λ held. Contains held b) (sym refilling.held) holds);
   room = room;
   accounted = λ before.
       let filled : AreAccounted q = subst (λ n. IsAccounted n (image_of q) (held_in q)) (sym capacity)
-      (subst (λ (held : List Block). IsAccounted p.capacity (image_of q) held) (sym fills.held) (fills.drains.accounted before)) in
+      (subst (λ (held : List Block). IsAccounted p.capacity (image_of q) held) (sym refilling.held) (refilling.drains.accounted before)) in
       subst (λ n. IsAccounted n (image_of r) (held_in r)) (sym same)
       (subst (λ (xs : List ℕ). IsAccounted q.capacity (λ word. get_or xs word 0) (held_in r)) (sym pops_block.volatile) (pops_block.drains.accounted filled));
 }
 
 -- it was one of those to be drained
 pub drains_block : (class : ℕ) (b : Block) (p q r : Parts) → q.capacity ≡ p.capacity → IsRefilling class p q → PopsBlock class b q r → DrainsTo class b p r
-drains_block class b p q r capacity fills pops_block drainable =
-    let same = fills.drains in
+drains_block class b p q r capacity refilling pops_block drainable =
+    let same = refilling.drains in
     let first : DrainsOne p.capacity class (image_of q) (held_in p) (held_in r) b =
     subst (λ k. DrainsOne k class (image_of q) (held_in p) (held_in r) b) capacity
-    (subst (λ held. DrainsOne q.capacity class (image_of q) held (held_in r) b) fills.held pops_block.drains) in
+    (subst (λ held. DrainsOne q.capacity class (image_of q) held (held_in r) b) refilling.held pops_block.drains) in
     let one : DrainsOne p.capacity class (image_of r) (held_in p) (held_in r) b =
     subst (λ (xs : List ℕ). DrainsOne p.capacity class (λ word. get_or xs word 0) (held_in p) (held_in r) b) (sym pops_block.volatile) first in
     let before : DrainsSame p.capacity class (held_in p) (image_of p) (image_of r) =

@@ -221,8 +221,8 @@ module _ (p : Parts) (class d : ℕ) (popped : Popped) (w : View) (look : Look) 
           stores.volatile (head_word c) (divide_before p.capacity d (head_word c) (let last = is_c.last in omega arith))
           ∙ pop_stores.volatile (head_word c) (λ at. let first = is_c.some in omega arith)
 
-      pub free_fills : IsRefilling class p q
-      free_fills = record {
+      pub free_refilling : IsRefilling class p q
+      free_refilling = record {
         running = free_running;
         held = same.held;
         caches = cut_others p class d w (set p.head_looks 0 look) p.used_look p.taken q run is free_within stores same cuts;
@@ -299,8 +299,8 @@ module _ (p : Parts) (w : View) (run : IsRunning p) (stores : StoresOnly (λ wor
       pub none_spends : Spends 0 class p none_fresh
       none_spends = spends_none class p none_fresh refl no_words.0
 
-      pub none_fills : IsRefilling class p none_fresh
-      none_fills = record {
+      pub none_refilling : IsRefilling class p none_fresh
+      none_refilling = record {
         running = record {
           words_open = none_running.words_open;
           below = none_running.below;
@@ -405,8 +405,8 @@ module _ (p : Parts) (w : View) (run : IsRunning p) (stores : StoresOnly (λ wor
               (let now : volatile_at w used_word ≡ d + 1 = used_set.at in let first = some_words.0 in omega arith)
               (let now : volatile_at w used_word ≡ d + 1 = used_set.at in let at = past in let least = run.few in omega arith)
 
-          pub fresh_fills : IsRefilling class p q
-          fresh_fills = record {
+          pub fresh_refilling : IsRefilling class p q
+          fresh_refilling = record {
             running = fresh_running;
             held = same.held;
             caches = cut_others p class d w p.head_looks look (p.taken + 1) q run is within cut_stores same cuts;

@@ -15,7 +15,7 @@ use Rattle.heap_shape.proofs.OwnLemmas.{one_following}
 use Rattle.block_heap.specs.declared.cache.Cache.{Cache}
 use Rattle.block_heap.specs.Divide.{AreLinked}
 use Rattle.block_heap.specs.Lists.{head_at, IsEmptyList, LeadsAlong, IsInList}
-use Rattle.block_heap.specs.Order.{HasNothing, KeepsSuperblock, Frees, TakesAll, CutsAll, CutsFirst, FillsFrom, from_free_list, TakesFirst, MovesEmpty, Stocked, in_stock, is_filled, IsServed, from_class_list, from_fresh}
+use Rattle.block_heap.specs.Order.{HasNothing, KeepsSuperblock, Frees, TakesAll, CutsAll, CutsFirst, RefillsFrom, from_free_list, TakesFirst, MovesEmpty, Stocked, in_stock, is_filled, IsServed, from_class_list, from_fresh}
 use Rattle.block_heap.specs.Parts.{Parts, image_of, held_in, cache_at}
 use Rattle.block_heap.specs.Running.{IsRunning}
 use Rattle.block_heap.specs.Steps.{PopsBlock}
@@ -158,8 +158,8 @@ cuts_after class d p q r moves cuts = record {
 module _ (class : ℕ) (p a q : Parts) (moves : MovesEmpty class p a) (nothing : HasNothing class p) (taken : a.taken ≡ p.taken)
     (run : IsRunning p) (empty : IsEmptyList a class) where
   -- the first free superblock was cut
-  pub fills_free : (d : ℕ) → CutsFirst class d a q → q.taken ≡ a.taken → FillsFrom class p q
-  fills_free d first same = from_free_list d nothing (record {
+  pub refills_from_free : (d : ℕ) → CutsFirst class d a q → q.taken ≡ a.taken → RefillsFrom class p q
+  refills_from_free d first same = from_free_list d nothing (record {
     listed = moves.moved;
     free = run.shape.listed 0;
     behind = first.behind;
@@ -192,14 +192,14 @@ module _ (class : ℕ) (p r : Parts) (served : IsServed class p r) where
   -- took a superblock for the first time only where there was nothing else
   pub fresh_last : r.taken ≢ p.taken → ((cache_at p.caches class).count ≡ 0) × IsEmptyList p class × IsEmptyList p 0
   fresh_last taken = by_stock served.stocked where
-    by_source : FillsFrom class p q → IsEmptyList p class × IsEmptyList p 0
+    by_source : RefillsFrom class p q → IsEmptyList p class × IsEmptyList p 0
     by_source (from_class_list d takes) = absurd (taken (served.takes.taken ∙ takes.taken))
     by_source (from_free_list d nothing takes cuts same) = absurd (taken (served.takes.taken ∙ same))
     by_source (from_fresh class_empty free_empty cuts more) = (class_empty, free_empty)
 
     by_stock : Stocked class p q → ((cache_at p.caches class).count ≡ 0) × IsEmptyList p class × IsEmptyList p 0
     by_stock (in_stock some same) = absurd (taken (served.takes.taken ∙ ap (λ (x : Parts). x.taken) same))
-    by_stock (is_filled empty held others fills) = let found = by_source fills in (empty, found.0, found.1)
+    by_stock (is_filled empty held others refills) = let found = by_source refills in (empty, found.0, found.1)
 
   -- and took one from the free list only where the list of the class had nothing to give
   pub free_later : (d : ℕ) → IsInList p 0 d → (IsInList r 0 d → ⊥) → ((cache_at p.caches class).count ≡ 0) × HasNothing class p
@@ -207,11 +207,11 @@ module _ (class : ℕ) (p r : Parts) (served : IsServed class p r) where
     still : IsInList q 0 d → ⊥
     still there = gone (list_same q r 0 d served.takes.capacity served.takes.volatile there)
 
-    by_source : FillsFrom class p q → HasNothing class p
+    by_source : RefillsFrom class p q → HasNothing class p
     by_source (from_class_list e takes) = absurd (still (takes.free d before))
     by_source (from_free_list e nothing takes cuts same) = nothing
     by_source (from_fresh class_empty free_empty cuts more) = nothing_in_empty class p class_empty
 
     by_stock : Stocked class p q → ((cache_at p.caches class).count ≡ 0) × HasNothing class p
     by_stock (in_stock some same) = absurd (still (subst (λ (x : Parts). IsInList x 0 d) (sym same) before))
-    by_stock (is_filled empty held others fills) = (empty, by_source fills)
+    by_stock (is_filled empty held others refills) = (empty, by_source refills)

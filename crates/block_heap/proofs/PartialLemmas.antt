@@ -18,18 +18,18 @@ use Rattle.block_heap.specs.Running.{IsRunning, LeavesHeld}
 use Rattle.block_heap.specs.Serving.{HasRoom, in_cache, in_class_list, in_free_list, in_fresh}
 use Rattle.block_heap.specs.Lists.{head_at, IsEmptyList, LeadsAlong}
 use Rattle.block_heap.specs.Steps.{look_at, IsLook, IsRefilling, FindsFirst, FindsEmpty, Recycles, Spends, used_up}
-use Rattle.block_heap.specs.Order.{CutsAll, FillsFrom, from_fresh, MovesEmpty, OrdersFirst, OrdersPartial, OrdersFresh}
+use Rattle.block_heap.specs.Order.{CutsAll, RefillsFrom, from_fresh, MovesEmpty, OrdersFirst, OrdersPartial, OrdersFresh}
 use Rattle.block_heap.proofs.OrderLemmas.{moves_none, moves_then, moves_same, takes_after, cuts_after, nothing_in_empty}
 use Rattle.block_heap.proofs.SpendLemmas.{spends_none, spends_then}
 use Rattle.std.proofs.lemmas.Bool.{cases_eq}
 use Rattle.block_heap.proofs.RefillLemmas.{serves_same, drains_none, drains_then, serves_all}
 
 -- nothing done yet, and two rows of steps
-pub fills_none : (class : ℕ) (p : Parts) → IsRunning p → IsRefilling class p p
-fills_none class p run = record { running = run; held = refl; caches = λ c is other. refl; heads = λ c is other. refl; drains = drains_none p.capacity class (held_in p) (image_of p) }
+pub refilling_none : (class : ℕ) (p : Parts) → IsRunning p → IsRefilling class p p
+refilling_none class p run = record { running = run; held = refl; caches = λ c is other. refl; heads = λ c is other. refl; drains = drains_none p.capacity class (held_in p) (image_of p) }
 
-pub fills_then : (class : ℕ) (p u q : Parts) → u.capacity ≡ p.capacity → IsRefilling class p u → IsRefilling class u q → IsRefilling class p q
-fills_then class p u q capacity a b = record {
+pub refilling_then : (class : ℕ) (p u q : Parts) → u.capacity ≡ p.capacity → IsRefilling class p u → IsRefilling class u q → IsRefilling class p q
+refilling_then class p u q capacity a b = record {
   running = b.running;
   held = b.held ∙ a.held;
   caches = λ c is other. b.caches c is other ∙ a.caches c is other;
@@ -57,7 +57,7 @@ look_later from first p q look seen before later same is = record {
 
 -- on the way along the list of the class: what was found there went to the free list, and eight steps for each that is left are few
 pub record Walked (class : ℕ) (p q : Parts) : Type 0 where
-  pub fills : IsRefilling class p q
+  pub refilling : IsRefilling class p q
   pub serves : LeavesHeld (held_in p) p q
   pub empty : (cache_at q.caches class).count ≡ 0
   pub taken : q.taken ≡ p.taken
@@ -69,7 +69,7 @@ pub record Walked (class : ℕ) (p q : Parts) : Type 0 where
 
 pub walk_begins : (class : ℕ) (p : Parts) → IsClass class → IsRunning p → (cache_at p.caches class).count ≡ 0 → Walked class p p
 walk_begins class p is run empty = record {
-  fills = fills_none class p run;
+  refilling = refilling_none class p run;
   serves = serves_same p;
   empty = empty;
   taken = refl;
@@ -96,7 +96,7 @@ module _ (class : ℕ) (p q r : Parts) (is : IsClass class) (walked : Walked cla
   -- so far few steps were done
   so_far : q.words.drawn ≤ p.words.drawn + 8 * largest_capacity
   so_far =
-      let run = walked.fills.running in
+      let run = walked.refilling.running in
       let few = walked.few (run.shape.listed class) (run.is.follows class (let last = is.last in omega arith)) in
       omega arith
 
@@ -104,7 +104,7 @@ module _ (class : ℕ) (p q r : Parts) (is : IsClass class) (walked : Walked cla
   was_some some none = elim walked.way as (λ _. ⊥) [ inl same ↦ some (empty_same p q class same none) | inr way ↦ way.1 none ]
 
   pub walk_serves : LeavesHeld (held_in p) p r
-  walk_serves = serves_all p q r walked.fills.held walked.serves serves
+  walk_serves = serves_all p q r walked.refilling.held walked.serves serves
 
   pub walk_halts : (ticket : ℕ) → StopsWithin ticket 8 q.words r.words → StopsWithin ticket (8 * largest_capacity + 8) p.words r.words
   walk_halts ticket halts =
@@ -115,7 +115,7 @@ module _ (class : ℕ) (p q r : Parts) (is : IsClass class) (walked : Walked cla
       record { stopped = halts.stopped; above = halts.above; from = omega arith; until = halts.until; last = halts.last; few = omega arith }
 
   pub walk_held : held_in r ≡ held_in p
-  walk_held = held ∙ walked.fills.held
+  walk_held = held ∙ walked.refilling.held
 
   pub walk_taken : r.taken ≡ p.taken
   walk_taken = taken ∙ walked.taken
@@ -137,7 +137,7 @@ module _ (class : ℕ) (p q r : Parts) (is : IsClass class) (walked : Walked cla
         walked.moves.nothing (nothing_in_empty class q finds.1.empty),
       )
 
-  module _ (fills : IsRefilling class q r) (goes : RunsWithin 8 q.words r.words) where
+  module _ (refilling : IsRefilling class q r) (goes : RunsWithin 8 q.words r.words) where
     pub walk_goes : RunsWithin (8 * largest_capacity + 8) p.words r.words
     walk_goes =
         let drew = goes.drew in
@@ -146,8 +146,8 @@ module _ (class : ℕ) (p q r : Parts) (is : IsClass class) (walked : Walked cla
         let most = so_far in
         record { running = goes.running; drew = omega arith; few = omega arith; below = goes.below }
 
-    pub walk_fills : IsRefilling class p r
-    walk_fills = fills_then class p q r walked.serves.capacity walked.fills fills
+    pub walk_refilling : IsRefilling class p r
+    walk_refilling = refilling_then class p q r walked.serves.capacity walked.refilling refilling
 
     pub walk_more : (found : Found) → found ≡ Recycled → FindsFirst class found q r → OrdersFirst class found q r → Spends (used_up found) class q r
         → Walked class p r
@@ -156,7 +156,7 @@ module _ (class : ℕ) (p q r : Parts) (is : IsClass class) (walked : Walked cla
       by_first first = more first.0 first.1 where
         more : (cache_at r.caches class).count ≡ 0 → Recycles class q r → Walked class p r
         more empty recycles = record {
-          fills = walk_fills;
+          refilling = walk_refilling;
           serves = walk_serves;
           empty = empty;
           taken = walk_taken;
@@ -183,8 +183,8 @@ module _ (class : ℕ) (p a b : Parts) (is : IsClass class) (a_serves : LeavesHe
     used_then = ap (λ (xs : List ℕ). get_or xs used_word 0) finds.volatile ∙ part.2
 
     -- a superblock that was never taken is cut only where both lists were empty
-    pub fills_fresh : OrdersPartial class false p a → (some : Bool) → OrdersFresh class some b q → some ≡ true → FillsFrom class p q
-    fills_fresh found some orders is =
+    pub refills_from_fresh : OrdersPartial class false p a → (some : Bool) → OrdersFresh class some b q → some ≡ true → RefillsFrom class p q
+    refills_from_fresh found some orders is =
         let cuts = subst (λ s. OrdersFresh class s b q) is orders in
         let none = part.3 finds.empty in
         from_fresh none.1 none.0

@@ -298,8 +298,8 @@ module _ (p : Parts) (class list : ℕ) (popped : Popped) (w : View) (look : Loo
   emptied_serves next = serves_moved p emptied run (pop_moved p list popped w run below pop stores) refl refl refl
       (looked_at_head p emptied list look (let long = run.looks_long in omega arith) next pop.goes.drew (omega arith) refl refl)
 
-  pub emptied_fills : IsRefilling class p emptied
-  emptied_fills = record {
+  pub emptied_refilling : IsRefilling class p emptied
+  emptied_refilling = record {
     running = emptied_running;
     held = refl;
     caches = λ c is other. refl;

@@ -149,8 +149,8 @@ module _ (p : Parts) (class d : ℕ) (popped : Popped) (w : View) (look : Look) 
             take_moved.volatile used_word (λ m. moved_used p.capacity used_word m refl) in let least = run.few in omega arith;
       }
 
-      pub taken_fills : IsRefilling class p taken_parts
-      taken_fills = record {
+      pub taken_refilling : IsRefilling class p taken_parts
+      taken_refilling = record {
         running = made p taken_parts shape run made_taken;
         held = refl;
         caches = λ c is_c other. caches_other p.caches class cache c is_c other;
@@ -210,7 +210,7 @@ module _ (p : Parts) (class d : ℕ) (popped : Popped) (w : View) (look : Look) 
           let long : length (run.shape.listed class) ≡ length (d ∷ rest) = ap length listed in
           let same : volatile_at u used_word ≡ image_of p used_word =
           take_moved.volatile used_word (λ m. moved_used p.capacity used_word m refl) in
-          spends_by 1 class p taken_parts run rest (run.shape.listed 0) is taken_fills.running refl
+          spends_by 1 class p taken_parts run rest (run.shape.listed 0) is taken_refilling.running refl
           (taken_list class rest below (with_at_same run.shape.listed class rest))
           free_stays (omega arith)
 
@@ -318,8 +318,8 @@ module _ (p : Parts) (class d : ℕ) (popped : Popped) (w : View) (look : Look) 
               push_moved.volatile used_word (λ m. moved_used p.capacity used_word m refl) in let least = run.few in omega arith;
         }
 
-        pub recycled_fills : IsRefilling class p recycled
-        recycled_fills = record {
+        pub recycled_refilling : IsRefilling class p recycled
+        recycled_refilling = record {
           running = made p recycled shape_then run made_recycled;
           held = refl;
           caches = λ c is_c other. refl;
@@ -411,5 +411,5 @@ module _ (p : Parts) (class d : ℕ) (popped : Popped) (w : View) (look : Look) 
         recycled_spends =
             let long : length (run.shape.listed class) ≡ length (d ∷ rest) = ap length listed in
             let same : volatile_at v used_word ≡ image_of p used_word = push_moved.volatile used_word (λ m. moved_used p.capacity used_word m refl) in
-            spends_by 0 class p recycled run rest (d ∷ run.shape.listed 0) is recycled_fills.running refl
+            spends_by 0 class p recycled run rest (d ∷ run.shape.listed 0) is recycled_refilling.running refl
             rest_leads free_leads (omega arith)

@@ -68,12 +68,12 @@ pub record TakesFree (class d : ℕ) (p q : Parts) : Type 0 where
   pub rest : LeadsAlong q 0 behind
 
 -- where the empty cache of a class is filled from: its list; if that has nothing to give a free superblock, which may have been in it; if there is none a superblock that was never taken
-pub data FillsFrom (class : ℕ) (p q : Parts) : Type 0 where
-  from_class_list : (d : ℕ) → TakesAll class d p q → FillsFrom class p q
+pub data RefillsFrom (class : ℕ) (p q : Parts) : Type 0 where
+  from_class_list : (d : ℕ) → TakesAll class d p q → RefillsFrom class p q
   from_free_list : (d : ℕ) → HasNothing class p → TakesFree class d p q → CutsAll class d p q → q.taken ≡ p.taken
-      → FillsFrom class p q
+      → RefillsFrom class p q
   from_fresh : IsEmptyList p class → IsEmptyList p 0 → CutsAll class (image_of p used_word) p q → q.taken ≡ p.taken + 1
-      → FillsFrom class p q
+      → RefillsFrom class p q
 
 -- the caches and the lists of the other classes stay
 pub record KeepsOtherClasses (class : ℕ) (p q : Parts) : Type 0 where
@@ -83,7 +83,7 @@ pub record KeepsOtherClasses (class : ℕ) (p q : Parts) : Type 0 where
 -- the cache has blocks, or is filled
 pub data Stocked (class : ℕ) (p q : Parts) : Type 0 where
   in_stock : 1 ≤ (cache_at p.caches class).count → q ≡ p → Stocked class p q
-  is_filled : (cache_at p.caches class).count ≡ 0 → held_in q ≡ held_in p → KeepsOtherClasses class p q → FillsFrom class p q
+  is_filled : (cache_at p.caches class).count ≡ 0 → held_in q ≡ held_in p → KeepsOtherClasses class p q → RefillsFrom class p q
       → Stocked class p q
 
 -- the first block of the cache left it and is held: no word is stored to, and the other caches stay

@@ -82,7 +82,7 @@ impl<C: Chance> Arena<C> {
             (parts_of self.old) (parts_of self.new)) }
         ensures order { IfOk result (λ some. some ≡ true → Stocked class.number
             (parts_of self.old) (parts_of self.new)) }
-        ensures fills { OnOk result (IsRefilling class.number
+        ensures refilling { OnOk result (IsRefilling class.number
             (parts_of self.old) (parts_of self.new)) }
         ensures left { IfOk result (λ some. Stocks class.number some
             (parts_of self.old) (parts_of self.new)) }

@@ -31,7 +31,7 @@ impl<C: Chance> Arena<C> {
     ghost use Rattle.block_heap.specs.Running.{IsRunning, LeavesHeld};
     ghost use Rattle.block_heap.specs.Lists.{IsEmptyList};
     ghost use Rattle.block_heap.specs.Steps.{IsRefilling, FindsFirst, Spends, used_up};
-    ghost use Rattle.block_heap.specs.Order.{FillsFrom, OrdersFirst, OrdersPartial, OrdersFree, OrdersFresh};
+    ghost use Rattle.block_heap.specs.Order.{RefillsFrom, OrdersFirst, OrdersPartial, OrdersFree, OrdersFresh};
     ghost use Rattle.block_heap.specs.Refill.{Cuts, SameBut, FindsFree, FindsFresh, FindsPartial, Refills};
 
     /// Fills the empty cache of the class; `false` where there is no room.
@@ -40,9 +40,9 @@ impl<C: Chance> Arena<C> {
         requires empty { (cache_at (parts_of self.old).caches class.number).count ≡ 0 }
         ensures ok { IfOk result (λ some. Refills class.number some
             (parts_of self.old) (parts_of self.new)) }
-        ensures order { IfOk result (λ some. some ≡ true → FillsFrom class.number
+        ensures order { IfOk result (λ some. some ≡ true → RefillsFrom class.number
             (parts_of self.old) (parts_of self.new)) }
-        ensures fills { OnOk result (IsRefilling class.number
+        ensures refilling { OnOk result (IsRefilling class.number
             (parts_of self.old) (parts_of self.new)) }
         ensures left { IfOk result (λ some. Spends (one_if some) class.number
             (parts_of self.old) (parts_of self.new)) }
@@ -70,7 +70,7 @@ impl<C: Chance> Arena<C> {
             (parts_of self.old) (parts_of self.new)) }
         ensures order { IfOk result (λ some. OrdersPartial class.number some
             (parts_of self.old) (parts_of self.new)) }
-        ensures fills { OnOk result (IsRefilling class.number
+        ensures refilling { OnOk result (IsRefilling class.number
             (parts_of self.old) (parts_of self.new)) }
         ensures left { IfOk result (λ some. Spends (one_if some) class.number
             (parts_of self.old) (parts_of self.new)) }
@@ -101,7 +101,7 @@ impl<C: Chance> Arena<C> {
             (parts_of self.old) (parts_of self.new)) }
         ensures order { IfOk result (λ found. OrdersFirst class.number found
             (parts_of self.old) (parts_of self.new)) }
-        ensures fills { OnOk result (IsRefilling class.number
+        ensures refilling { OnOk result (IsRefilling class.number
             (parts_of self.old) (parts_of self.new)) }
         ensures left { IfOk result (λ found. Spends (used_up found) class.number
             (parts_of self.old) (parts_of self.new)) }
@@ -136,7 +136,7 @@ impl<C: Chance> Arena<C> {
             (parts_of self.old) (parts_of self.new)) }
         ensures order { IfOk result (λ some. OrdersFree class.number some
             (parts_of self.old) (parts_of self.new)) }
-        ensures fills { OnOk result (IsRefilling class.number
+        ensures refilling { OnOk result (IsRefilling class.number
             (parts_of self.old) (parts_of self.new)) }
         ensures left { IfOk result (λ some. Spends (one_if some) class.number
             (parts_of self.old) (parts_of self.new)) }
@@ -167,7 +167,7 @@ impl<C: Chance> Arena<C> {
             (parts_of self.old) (parts_of self.new)) }
         ensures order { IfOk result (λ some. OrdersFresh class.number some
             (parts_of self.old) (parts_of self.new)) }
-        ensures fills { OnOk result (IsRefilling class.number
+        ensures refilling { OnOk result (IsRefilling class.number
             (parts_of self.old) (parts_of self.new)) }
         ensures left { IfOk result (λ some. Spends (one_if some) class.number
             (parts_of self.old) (parts_of self.new)) }

@@ -12,7 +12,7 @@ returns-then-not-branch-clause-drains g c =
     let p = parts_of c.args.self.now in
     let q = parts_of c.stock.new.self in
     let none = subst (λ (some : Bool). Refills c.args.class.number some p q) c.if-not-branch.true c.in_ok-stock.ensures.ok in
-    (drains_nothing c.args.class.number p q c.args.class.is c.stock.ensures.serves.capacity c.in_ok-stock.ensures.fills none, still_none c.args.class.number p q none)
+    (drains_nothing c.args.class.number p q c.args.class.is c.stock.ensures.serves.capacity c.in_ok-stock.ensures.refilling none, still_none c.args.class.number p q none)
 
 pub returns-in_err-pop_block-clause-serves : goal.returns-in_err-pop_block-clause-serves
 returns-in_err-pop_block-clause-serves g c =
@@ -28,7 +28,7 @@ returns-clause-ok g c =
     let q = parts_of c.stock.new.self in
     let found = subst (λ (some : Bool). Refills c.args.class.number some p q) c.if-not-branch.false c.in_ok-stock.ensures.ok in
     gets_in_class c.args.class.number c.in_ok-pop_block.field-0 p q (parts_of c.pop_block.new.self) c.args.class.is c.requires.short
-    c.stock.ensures.serves.capacity c.pop_block.ensures.serves.capacity c.in_ok-stock.ensures.fills found.1
+    c.stock.ensures.serves.capacity c.pop_block.ensures.serves.capacity c.in_ok-stock.ensures.refilling found.1
     c.in_ok-pop_block.ensures.ok
 
 pub returns-clause-drains : goal.returns-clause-drains
@@ -36,7 +36,7 @@ returns-clause-drains g c =
     let p = parts_of c.args.self.now in
     let q = parts_of c.stock.new.self in
     let r = parts_of c.pop_block.new.self in (
-      drains_block c.args.class.number c.in_ok-pop_block.field-0 p q r c.stock.ensures.serves.capacity c.in_ok-stock.ensures.fills c.in_ok-pop_block.ensures.ok,
+      drains_block c.args.class.number c.in_ok-pop_block.field-0 p q r c.stock.ensures.serves.capacity c.in_ok-stock.ensures.refilling c.in_ok-pop_block.ensures.ok,
       costs_of c.args.class.number c.in_ok-stock.field-0 p q r c.if-not-branch.false c.in_ok-stock.ensures.left c.in_ok-stock.ensures.steps
           c.pop_block.ensures.serves.capacity c.in_ok-pop_block.ensures.ok.volatile c.in_ok-pop_block.ensures.goes.few,
     )

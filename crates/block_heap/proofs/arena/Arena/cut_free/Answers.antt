@@ -2,9 +2,9 @@ use Rattle.std.proofs.Common.{refl, arith, ap, ◌∙◌, Some}
 use Rattle.block_heap.specs.MediumView.{medium_view}
 use Rattle.block_heap.specs.Parts.{parts_of}
 use Rattle.block_heap.proofs.RunningLemmas.{is_head}
-use Rattle.block_heap.proofs.RefillLemmas.{head_moved, serves_moved, emptied_fills, emptied, emptied_serves, popped_none}
+use Rattle.block_heap.proofs.RefillLemmas.{head_moved, serves_moved, emptied_refilling, emptied, emptied_serves, popped_none}
 use Rattle.block_heap.proofs.SpendLemmas.{spends_none}
-use Rattle.block_heap.proofs.CutLemmas.{free_within, unmarked, free_none, free_serves, free_fills, free_found, free_spends, free_cuts}
+use Rattle.block_heap.proofs.CutLemmas.{free_within, unmarked, free_none, free_serves, free_refilling, free_found, free_spends, free_cuts}
 use Rattle.block_heap.proofs.LookLemmas.{looks_kept}
 use Rattle.block_heap.proofs.arena.Arena.cut_free.Goals as goal
 
@@ -19,9 +19,9 @@ returns-in_err-popped-clause-serves g c =
     (head_moved p.capacity 0 p.words (medium_view c.pop.new.self) (omega arith) c.pop.ensures.others) refl refl refl
     (looks_kept p (record p { words = medium_view c.pop.new.self }) refl)
 
-pub returns-in_default-clause-fills : goal.returns-in_default-clause-fills
-returns-in_default-clause-fills g c =
-    emptied_fills (parts_of c.args.self.now) c.args.class.number 0 c.in_ok-popped.popped (medium_view c.pop.new.self) c.by.result c.requires.running (omega arith)
+pub returns-in_default-clause-refilling : goal.returns-in_default-clause-refilling
+returns-in_default-clause-refilling g c =
+    emptied_refilling (parts_of c.args.self.now) c.args.class.number 0 c.in_ok-popped.popped (medium_view c.pop.new.self) c.by.result c.requires.running (omega arith)
     c.in_ok-popped.ensures.ok c.pop.ensures.others c.in_default.is
 
 pub returns-in_default-clause-serves : goal.returns-in_default-clause-serves
@@ -54,9 +54,9 @@ returns-clause-ok g c =
     c.args.class.is c.in_ok-popped.ensures.ok c.pop.ensures.others c.in-Some.is
     (parts_of c.cut.new.self) c.cut.ensures.others c.cut.ensures.same c.requires.empty c.in_ok-cut.ensures.ok
 
-pub returns-clause-fills : goal.returns-clause-fills
-returns-clause-fills g c =
-    free_fills (parts_of c.args.self.now) c.args.class.number c.in-Some.d c.in_ok-popped.popped (medium_view c.pop.new.self) c.by.result c.requires.running
+pub returns-clause-refilling : goal.returns-clause-refilling
+returns-clause-refilling g c =
+    free_refilling (parts_of c.args.self.now) c.args.class.number c.in-Some.d c.in_ok-popped.popped (medium_view c.pop.new.self) c.by.result c.requires.running
     c.args.class.is c.in_ok-popped.ensures.ok c.pop.ensures.others c.in-Some.is
     (parts_of c.cut.new.self) c.cut.ensures.others c.cut.ensures.same c.requires.empty c.in_ok-cut.ensures.ok
 

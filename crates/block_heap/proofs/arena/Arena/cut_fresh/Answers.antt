@@ -1,16 +1,16 @@
 use Rattle.std.proofs.Common.{arith, ap, ◌∙◌, Some}
 use Rattle.block_heap.specs.MediumView.{medium_view}
 use Rattle.block_heap.specs.Parts.{parts_of}
-use Rattle.block_heap.proofs.CutLemmas.{fresh_stops, none_fills, none_spends, fresh_unmarked, fresh_serves, fresh_fills, fresh_found, fresh_cuts, fresh_spends}
+use Rattle.block_heap.proofs.CutLemmas.{fresh_stops, none_refilling, none_spends, fresh_unmarked, fresh_serves, fresh_refilling, fresh_found, fresh_cuts, fresh_spends}
 use Rattle.block_heap.proofs.arena.Arena.cut_fresh.Goals as goal
 
 pub returns-in_err-fresh-clause-serves : goal.returns-in_err-fresh-clause-serves
 returns-in_err-fresh-clause-serves g c =
     fresh_stops (parts_of c.args.self.now) (medium_view c.take_fresh.new.self) c.requires.running c.take_fresh.ensures.others c.take_fresh.ensures.crash c.take_fresh.ensures.fits
 
-pub returns-in_default-clause-fills : goal.returns-in_default-clause-fills
-returns-in_default-clause-fills g c =
-    none_fills (parts_of c.args.self.now) (medium_view c.take_fresh.new.self) c.requires.running c.take_fresh.ensures.others c.take_fresh.ensures.crash c.take_fresh.ensures.fits
+pub returns-in_default-clause-refilling : goal.returns-in_default-clause-refilling
+returns-in_default-clause-refilling g c =
+    none_refilling (parts_of c.args.self.now) (medium_view c.take_fresh.new.self) c.requires.running c.take_fresh.ensures.others c.take_fresh.ensures.crash c.take_fresh.ensures.fits
     c.args.class.number c.in_ok-fresh.fresh c.by-self.result c.in_ok-fresh.ensures.ok
     c.by-self.ensures.seen c.by-self.ensures.taken c.in_default.is
 
@@ -38,9 +38,9 @@ returns-clause-ok g c =
     c.by-self.ensures.seen c.by-self.ensures.taken c.in-Some.d c.in-Some.is (parts_of c.cut.new.self) c.cut.ensures.others c.cut.ensures.same
     c.args.class.is c.requires.empty c.in_ok-cut.ensures.ok
 
-pub returns-clause-fills : goal.returns-clause-fills
-returns-clause-fills g c =
-    fresh_fills (parts_of c.args.self.now) (medium_view c.take_fresh.new.self) c.requires.running c.take_fresh.ensures.others c.take_fresh.ensures.crash c.take_fresh.ensures.fits
+pub returns-clause-refilling : goal.returns-clause-refilling
+returns-clause-refilling g c =
+    fresh_refilling (parts_of c.args.self.now) (medium_view c.take_fresh.new.self) c.requires.running c.take_fresh.ensures.others c.take_fresh.ensures.crash c.take_fresh.ensures.fits
     c.args.class.number c.in_ok-fresh.fresh c.by-self.result c.in_ok-fresh.ensures.ok
     c.by-self.ensures.seen c.by-self.ensures.taken c.in-Some.d c.in-Some.is (parts_of c.cut.new.self) c.cut.ensures.others c.cut.ensures.same
     c.args.class.is c.requires.empty c.in_ok-cut.ensures.ok

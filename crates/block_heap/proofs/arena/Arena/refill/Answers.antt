@@ -7,9 +7,9 @@ use Rattle.block_heap.specs.Refill.{FindsPartial, FindsFree, Refills}
 use Rattle.block_heap.specs.Running.{LeavesHeld}
 use Rattle.block_heap.specs.Steps.{IsRefilling, Spends}
 use Rattle.block_heap.proofs.SpendLemmas.{spends_then}
-use Rattle.block_heap.proofs.PartialLemmas.{fills_then, fresh_refills, partial_refills, free_refills, fills_fresh}
-use Rattle.block_heap.specs.Order.{FillsFrom, from_class_list, OrdersPartial, OrdersFree}
-use Rattle.block_heap.proofs.OrderLemmas.{fills_free}
+use Rattle.block_heap.proofs.PartialLemmas.{refilling_then, fresh_refills, partial_refills, free_refills, refills_from_fresh}
+use Rattle.block_heap.specs.Order.{RefillsFrom, from_class_list, OrdersPartial, OrdersFree}
+use Rattle.block_heap.proofs.OrderLemmas.{refills_from_free}
 use Rattle.block_heap.proofs.arena.Arena.refill.Goals.{then-branch-via-then-branch, then-branch-via-else-branch+in_ok-cut_free+then-branch-2}
 use Rattle.block_heap.proofs.arena.Arena.refill.Goals as goal
 use Rattle.block_heap.proofs.RefillLemmas.{serves_all}
@@ -19,14 +19,14 @@ returns-in_err-cut_free-clause-serves g c =
     serves_all (parts_of c.args.self.now) (parts_of c.take_partial.new.self) (parts_of c.cut_free.new.self) c.take_partial.ensures.held
     c.take_partial.ensures.serves c.cut_free.ensures.serves
 
-pub returns-then-branch-clause-fills : goal.returns-then-branch-clause-fills
-returns-then-branch-clause-fills g c =
+pub returns-then-branch-clause-refilling : goal.returns-then-branch-clause-refilling
+returns-then-branch-clause-refilling g c =
     let p = parts_of c.args.self.now in
     elim c.then-branch.branch as (λ _. IsRefilling c.args.class.number p (parts_of c.then-branch.self)) [
-      | then-branch-via-then-branch w ↦ subst (λ (a : Arena _). IsRefilling c.args.class.number p (parts_of a)) (sym w.self-is) c.in_ok-take_partial.ensures.fills
+      | then-branch-via-then-branch w ↦ subst (λ (a : Arena _). IsRefilling c.args.class.number p (parts_of a)) (sym w.self-is) c.in_ok-take_partial.ensures.refilling
       | then-branch-via-else-branch+in_ok-cut_free+then-branch-2 w ↦ subst (λ (a : Arena _). IsRefilling c.args.class.number p (parts_of a)) (sym w.self-is)
-          (fills_then c.args.class.number p (parts_of c.take_partial.new.self) (parts_of w.cut_free.new.self) c.take_partial.ensures.serves.capacity
-          c.in_ok-take_partial.ensures.fills w.in_ok-cut_free.ensures.fills)
+          (refilling_then c.args.class.number p (parts_of c.take_partial.new.self) (parts_of w.cut_free.new.self) c.take_partial.ensures.serves.capacity
+          c.in_ok-take_partial.ensures.refilling w.in_ok-cut_free.ensures.refilling)
     ]
 
 pub returns-then-branch-clause-serves : goal.returns-then-branch-clause-serves
@@ -51,14 +51,14 @@ returns-clause-ok g c =
     (subst (λ some. FindsFree c.args.class.number some a b) c.if-branch-2.false c.in_ok-cut_free.ensures.ok) c.requires.empty)
     c.cut_fresh.ensures.ok
 
-pub returns-clause-fills : goal.returns-clause-fills
-returns-clause-fills g c =
+pub returns-clause-refilling : goal.returns-clause-refilling
+returns-clause-refilling g c =
     let p = parts_of c.args.self.now in
     let a = parts_of c.take_partial.new.self in
     let b = parts_of c.cut_free.new.self in
-    let then = fills_then c.args.class.number p a b c.take_partial.ensures.serves.capacity c.in_ok-take_partial.ensures.fills c.in_ok-cut_free.ensures.fills in
-    on_ok_weaker c.cut_fresh.result (fills_then c.args.class.number p b (parts_of c.cut_fresh.new.self)
-    (c.cut_free.ensures.serves.capacity ∙ c.take_partial.ensures.serves.capacity) then) c.cut_fresh.ensures.fills
+    let then = refilling_then c.args.class.number p a b c.take_partial.ensures.serves.capacity c.in_ok-take_partial.ensures.refilling c.in_ok-cut_free.ensures.refilling in
+    on_ok_weaker c.cut_fresh.result (refilling_then c.args.class.number p b (parts_of c.cut_fresh.new.self)
+    (c.cut_free.ensures.serves.capacity ∙ c.take_partial.ensures.serves.capacity) then) c.cut_fresh.ensures.refilling
 
 pub returns-clause-serves : goal.returns-clause-serves
 returns-clause-serves g c =
@@ -98,14 +98,14 @@ returns-then-branch-clause-order g c = λ is.
     let p = parts_of c.args.self.now in
     let a = parts_of c.take_partial.new.self in
     let class = c.args.class.number in
-    elim c.then-branch.branch as (λ _. FillsFrom class p (parts_of c.then-branch.self)) [
-      | then-branch-via-then-branch w ↦ subst (λ (x : Arena _). FillsFrom class p (parts_of x)) (sym w.self-is)
+    elim c.then-branch.branch as (λ _. RefillsFrom class p (parts_of c.then-branch.self)) [
+      | then-branch-via-then-branch w ↦ subst (λ (x : Arena _). RefillsFrom class p (parts_of x)) (sym w.self-is)
           (let takes = subst (λ some. OrdersPartial class some p a) w.if-branch.true c.in_ok-take_partial.ensures.order in from_class_list takes.0 takes.1)
-      | then-branch-via-else-branch+in_ok-cut_free+then-branch-2 w ↦ subst (λ (x : Arena _). FillsFrom class p (parts_of x)) (sym w.self-is)
+      | then-branch-via-else-branch+in_ok-cut_free+then-branch-2 w ↦ subst (λ (x : Arena _). RefillsFrom class p (parts_of x)) (sym w.self-is)
           (let found = subst (λ some. OrdersPartial class some p a) w.if-branch.false c.in_ok-take_partial.ensures.order in
           let cuts = subst (λ some. OrdersFree class some a (parts_of w.cut_free.new.self)) w.if-branch-2.true w.in_ok-cut_free.ensures.order in
           let part = subst (λ some. FindsPartial class some p a) w.if-branch.false c.in_ok-take_partial.ensures.ok in
-          fills_free class p a (parts_of w.cut_free.new.self) found.0 found.1 c.in_ok-take_partial.ensures.taken c.requires.running part.1.0 cuts.0 cuts.1
+          refills_from_free class p a (parts_of w.cut_free.new.self) found.0 found.1 c.in_ok-take_partial.ensures.taken c.requires.running part.1.0 cuts.0 cuts.1
           w.in_ok-cut_free.ensures.taken)
     ]
 
@@ -115,7 +115,7 @@ returns-clause-order g c =
     let a = parts_of c.take_partial.new.self in
     let b = parts_of c.cut_free.new.self in
     IfOk-weaker c.cut_fresh.result _ _
-    (fills_fresh c.args.class.number p a b c.args.class.is c.take_partial.ensures.serves c.in_ok-take_partial.ensures.taken c.cut_free.ensures.serves
+    (refills_from_fresh c.args.class.number p a b c.args.class.is c.take_partial.ensures.serves c.in_ok-take_partial.ensures.taken c.cut_free.ensures.serves
     (parts_of c.cut_fresh.new.self) c.in_ok-cut_free.ensures.taken c.cut_fresh.ensures.serves
     (subst (λ some. FindsPartial c.args.class.number some p a) c.if-branch.false c.in_ok-take_partial.ensures.ok)
     (subst (λ some. FindsFree c.args.class.number some a b) c.if-branch-2.false c.in_ok-cut_free.ensures.ok)

@@ -3,9 +3,9 @@ use Rattle.heap_model.specs.Geometry.{lists}
 use Rattle.block_heap.specs.MediumView.{medium_view}
 use Rattle.block_heap.specs.Parts.{parts_of}
 use Rattle.block_heap.proofs.RunningLemmas.{is_head}
-use Rattle.block_heap.proofs.RefillLemmas.{head_moved, serves_moved, emptied, emptied_fills, emptied_serves, popped_none}
+use Rattle.block_heap.proofs.RefillLemmas.{head_moved, serves_moved, emptied, emptied_refilling, emptied_serves, popped_none}
 use Rattle.block_heap.proofs.SpendLemmas.{spends_none}
-use Rattle.block_heap.proofs.TakeLemmas.{first_within, first_anchor, take_moved, taken_some, taken_fills, taken_serves, taken_spends, recycled_serves, recycled_fills, recycled_first, recycled_spends, first_looked, taken_all, recycled_moves}
+use Rattle.block_heap.proofs.TakeLemmas.{first_within, first_anchor, take_moved, taken_some, taken_refilling, taken_serves, taken_spends, recycled_serves, recycled_refilling, recycled_first, recycled_spends, first_looked, taken_all, recycled_moves}
 use Rattle.block_heap.proofs.LookLemmas.{looks_kept}
 use Rattle.block_heap.proofs.arena.Arena.take_first.Goals as goal
 
@@ -19,9 +19,9 @@ returns-in_err-popped-clause-serves g c =
     (head_moved p.capacity c.args.class.number p.words (medium_view c.pop.new.self) (let last = c.args.class.is.last in omega arith) c.pop.ensures.others) refl
     refl refl (looks_kept p (record p { words = medium_view c.pop.new.self }) refl)
 
-pub returns-in_default-clause-fills : goal.returns-in_default-clause-fills
-returns-in_default-clause-fills g c =
-    emptied_fills (parts_of c.args.self.now) c.args.class.number c.args.class.number c.in_ok-popped.popped (medium_view c.pop.new.self) c.by.result c.requires.running
+pub returns-in_default-clause-refilling : goal.returns-in_default-clause-refilling
+returns-in_default-clause-refilling g c =
+    emptied_refilling (parts_of c.args.self.now) c.args.class.number c.args.class.number c.in_ok-popped.popped (medium_view c.pop.new.self) c.by.result c.requires.running
     (let last = c.args.class.is.last in omega arith) c.in_ok-popped.ensures.ok c.pop.ensures.others c.in_default.is
 
 pub returns-in_default-clause-serves : goal.returns-in_default-clause-serves
@@ -59,9 +59,9 @@ returns-in-Some-2-clause-ok g c =
     (medium_view c.take_blocks.new.self) c.take_blocks.ensures.others c.in-Some-2.cache c.in_ok-cache.field-0 c.in-Some-2.is c.requires.empty
     c.in_ok-cache.ensures.ok
 
-pub returns-in-Some-2-clause-fills : goal.returns-in-Some-2-clause-fills
-returns-in-Some-2-clause-fills g c =
-    taken_fills (parts_of c.args.self.now) c.args.class.number c.in-Some.d c.in_ok-popped.popped (medium_view c.pop.new.self) c.by.result c.requires.running
+pub returns-in-Some-2-clause-refilling : goal.returns-in-Some-2-clause-refilling
+returns-in-Some-2-clause-refilling g c =
+    taken_refilling (parts_of c.args.self.now) c.args.class.number c.in-Some.d c.in_ok-popped.popped (medium_view c.pop.new.self) c.by.result c.requires.running
     c.args.class.is c.in_ok-popped.ensures.ok c.pop.ensures.others c.in-Some.is
     (medium_view c.take_blocks.new.self) c.take_blocks.ensures.others c.in-Some-2.cache c.in_ok-cache.field-0 c.in-Some-2.is c.requires.empty
     c.in_ok-cache.ensures.ok
@@ -96,9 +96,9 @@ returns-clause-ok g c = (
   refl,
 )
 
-pub returns-clause-fills : goal.returns-clause-fills
-returns-clause-fills g c =
-    recycled_fills (parts_of c.args.self.now) c.args.class.number c.in-Some.d c.in_ok-popped.popped (medium_view c.pop.new.self) c.by.result c.requires.running
+pub returns-clause-refilling : goal.returns-clause-refilling
+returns-clause-refilling g c =
+    recycled_refilling (parts_of c.args.self.now) c.args.class.number c.in-Some.d c.in_ok-popped.popped (medium_view c.pop.new.self) c.by.result c.requires.running
     c.args.class.is c.in_ok-popped.ensures.ok c.pop.ensures.others c.in-Some.is
     (medium_view c.take_blocks.new.self) c.take_blocks.ensures.others (medium_view c.push.new.self) c.push.ensures.others c.in_ok-cache.field-0
     c.in_default-2.is c.in_ok-cache.ensures.ok c.in_ok-push.ensures.ok

@@ -2,7 +2,7 @@ use Rattle.std.proofs.Common.{◌≤◌, sym, subst, arith}
 use Rattle.std.proofs.lemmas.Result.{err_from_is_err_and}
 use Rattle.block_heap.specs.Parts.{parts_of}
 use Rattle.block_heap.specs.Steps.{used_up}
-use Rattle.block_heap.proofs.PartialLemmas.{walk_begins, walk_serves, walk_halts, walk_goes, walk_fills, walk_more, walk_left, walk_takes, walk_nothing}
+use Rattle.block_heap.proofs.PartialLemmas.{walk_begins, walk_serves, walk_halts, walk_goes, walk_refilling, walk_more, walk_left, walk_takes, walk_nothing}
 use Rattle.block_heap.proofs.arena.Arena.take_partial.Goals as goal
 
 pub loop-init : goal.loop-init
@@ -22,15 +22,15 @@ returns-in_err-take_first-clause-serves g c =
     walk_serves c.args.class.number (parts_of c.args.self.now) (parts_of c.loop.self) (parts_of c.take_first.new.self) c.args.class.is c.loop.invariant
     c.take_first.ensures.serves c.take_first.ensures.held c.take_first.ensures.taken
 
-pub returns-in-Blocks-clause-fills : goal.returns-in-Blocks-clause-fills
-returns-in-Blocks-clause-fills g c =
-    walk_fills c.args.class.number (parts_of c.args.self.now) (parts_of c.loop.self) (parts_of c.take_first.new.self) c.args.class.is c.loop.invariant
-    c.take_first.ensures.serves c.take_first.ensures.held c.take_first.ensures.taken c.in_ok-take_first.ensures.fills c.in_ok-take_first.ensures.goes
+pub returns-in-Blocks-clause-refilling : goal.returns-in-Blocks-clause-refilling
+returns-in-Blocks-clause-refilling g c =
+    walk_refilling c.args.class.number (parts_of c.args.self.now) (parts_of c.loop.self) (parts_of c.take_first.new.self) c.args.class.is c.loop.invariant
+    c.take_first.ensures.serves c.take_first.ensures.held c.take_first.ensures.taken c.in_ok-take_first.ensures.refilling c.in_ok-take_first.ensures.goes
 
 pub returns-in-Blocks-clause-goes : goal.returns-in-Blocks-clause-goes
 returns-in-Blocks-clause-goes g c =
     walk_goes c.args.class.number (parts_of c.args.self.now) (parts_of c.loop.self) (parts_of c.take_first.new.self) c.args.class.is c.loop.invariant
-    c.take_first.ensures.serves c.take_first.ensures.held c.take_first.ensures.taken c.in_ok-take_first.ensures.fills c.in_ok-take_first.ensures.goes
+    c.take_first.ensures.serves c.take_first.ensures.held c.take_first.ensures.taken c.in_ok-take_first.ensures.refilling c.in_ok-take_first.ensures.goes
 
 pub returns-in-Blocks-clause-serves : goal.returns-in-Blocks-clause-serves
 returns-in-Blocks-clause-serves g c =
@@ -40,18 +40,18 @@ returns-in-Blocks-clause-serves g c =
 pub loop-preserved : goal.loop-preserved
 loop-preserved g c =
     walk_more c.args.class.number (parts_of c.args.self.now) (parts_of c.loop.self) (parts_of c.take_first.new.self) c.args.class.is c.loop.invariant
-    c.take_first.ensures.serves c.take_first.ensures.held c.take_first.ensures.taken c.in_ok-take_first.ensures.fills c.in_ok-take_first.ensures.goes
+    c.take_first.ensures.serves c.take_first.ensures.held c.take_first.ensures.taken c.in_ok-take_first.ensures.refilling c.in_ok-take_first.ensures.goes
     c.in_ok-take_first.field-0 c.in-Recycled.is c.in_ok-take_first.ensures.ok c.in_ok-take_first.ensures.order c.in_ok-take_first.ensures.left
 
-pub returns-in-Nothing-clause-fills : goal.returns-in-Nothing-clause-fills
-returns-in-Nothing-clause-fills g c =
-    walk_fills c.args.class.number (parts_of c.args.self.now) (parts_of c.loop.self) (parts_of c.take_first.new.self) c.args.class.is c.loop.invariant
-    c.take_first.ensures.serves c.take_first.ensures.held c.take_first.ensures.taken c.in_ok-take_first.ensures.fills c.in_ok-take_first.ensures.goes
+pub returns-in-Nothing-clause-refilling : goal.returns-in-Nothing-clause-refilling
+returns-in-Nothing-clause-refilling g c =
+    walk_refilling c.args.class.number (parts_of c.args.self.now) (parts_of c.loop.self) (parts_of c.take_first.new.self) c.args.class.is c.loop.invariant
+    c.take_first.ensures.serves c.take_first.ensures.held c.take_first.ensures.taken c.in_ok-take_first.ensures.refilling c.in_ok-take_first.ensures.goes
 
 pub returns-in-Nothing-clause-goes : goal.returns-in-Nothing-clause-goes
 returns-in-Nothing-clause-goes g c =
     walk_goes c.args.class.number (parts_of c.args.self.now) (parts_of c.loop.self) (parts_of c.take_first.new.self) c.args.class.is c.loop.invariant
-    c.take_first.ensures.serves c.take_first.ensures.held c.take_first.ensures.taken c.in_ok-take_first.ensures.fills c.in_ok-take_first.ensures.goes
+    c.take_first.ensures.serves c.take_first.ensures.held c.take_first.ensures.taken c.in_ok-take_first.ensures.refilling c.in_ok-take_first.ensures.goes
 
 pub returns-in-Nothing-clause-serves : goal.returns-in-Nothing-clause-serves
 returns-in-Nothing-clause-serves g c =
