@@ -79,9 +79,9 @@ pub looked_accounted : (p : Parts) (count : ℕ) (fresh : Fresh) (u : View) (loo
 looked_accounted p count fresh u look is none =
     accounted_same p (record p { words = u; used_look = look }) refl (fresh_none p.capacity count fresh p.words u is none).0 refl
 
-pub serves_looked : (p : Parts) (count : ℕ) (fresh : Fresh) (u : View) (look : Look) → IsRunning p → IsFresh p.capacity count fresh p.words u → fresh.first ≡ None
+pub leaves_held_looked : (p : Parts) (count : ℕ) (fresh : Fresh) (u : View) (look : Look) → IsRunning p → IsFresh p.capacity count fresh p.words u → fresh.first ≡ None
     → look.seen ≡ fresh.used → look.taken ≡ p.taken → IsNextLook p look → LeavesHeld (held_in p) p (record p { words = u; used_look = look })
-serves_looked p count fresh u look run is none seen when next =
+leaves_held_looked p count fresh u look run is none seen when next =
     let got = fresh_none p.capacity count fresh p.words u is none in
     let knows = run.knows in
     let used = is.used in
@@ -155,9 +155,9 @@ module _ (p : Parts) (count d : ℕ) (fresh : Fresh) (u : View) (look : Look) (r
           let at = (set_is p.words.volatile u.volatile used_word (fresh.used + count) inside got.2).at in
           omega (arith, got.0)
 
-      pub join_serves : (blocks : HeldBlocks) → IsNextLook p look
+      pub join_leaves_held : (blocks : HeldBlocks) → IsNextLook p look
           → LeavesHeld (held_in p) p (record p { words = w; blocks = blocks; taken = p.taken + count; used_look = look })
-      join_serves blocks next = record {
+      join_leaves_held blocks next = record {
         capacity = refl;
         as_allocator = as_allocator_then p.capacity (held_in p) p.words u w
             (as_allocator_raised p.capacity (held_in p) (image_of p used_word + count) p.words u stores may run.settled.used (omega arith) fits)

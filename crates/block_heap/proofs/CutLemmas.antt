@@ -45,7 +45,7 @@ use Rattle.block_heap.proofs.RunningLemmas.{set_is, settled_kept, running_words}
 use Rattle.block_heap.proofs.SpendLemmas.{spends_none, spends_by}
 use Rattle.block_heap.proofs.StableLemmas.{as_allocator_of, as_allocator_then, as_allocator_raised}
 use Rattle.block_heap.proofs.LookLemmas.{looks_kept, IsNextLook, looked_at_head, looked_at_used}
-use Rattle.block_heap.proofs.RefillLemmas.{IsMoved, moved_word, moved_info, moved_used, serves_of, drains_none, made, caches_filled, caches_other, none_cached, head_moved, popped_head, popped_of, popped_pops, popped_list, popped_place}
+use Rattle.block_heap.proofs.RefillLemmas.{IsMoved, moved_word, moved_info, moved_used, leaves_held_of, drains_none, made, caches_filled, caches_other, none_cached, head_moved, popped_head, popped_of, popped_pops, popped_list, popped_place}
 use Rattle.block_heap.proofs.CutWordLemmas.{divide_word, divide_before, divide_info, cut_is, settled_cut, others_kept}
 
 -- no mark lies in a superblock that no held block has a part in
@@ -182,8 +182,8 @@ module _ (p : Parts) (class d : ℕ) (popped : Popped) (w : View) (look : Look) 
     free_not_used : IsFreeWord used_word → ⊥
     free_not_used t = elim t as (λ _. ⊥) [ inl m ↦ moved_used p.capacity used_word m refl | inr t ↦ divide_before p.capacity d used_word (omega arith) t ]
 
-    pub free_serves : IsNextLook p look → LeavesHeld (held_in p) p q
-    free_serves next = serves_of p q IsFreeWord run
+    pub free_leaves_held : IsNextLook p look → LeavesHeld (held_in p) p q
+    free_leaves_held next = leaves_held_of p q IsFreeWord run
         (λ word t. elim t as (λ _. IsAllocatorWord p.capacity (held_in p) word)
         [ inl m ↦ moved_word p.capacity (held_in p) word m | inr t ↦ divide_word p.capacity d (held_in p) word free_within free_none t ])
         free_not_used free_stores same.capacity same.used_look same.taken
@@ -364,8 +364,8 @@ module _ (p : Parts) (w : View) (run : IsRunning p) (stores : StoresOnly (λ wor
 
       module _ (q : Parts) (cut_stores : StoresOnly (IsDivideWord p.capacity d) w q.words)
           (same : SameBut (record p { words = w; used_look = look; taken = p.taken + 1 }) q) where
-        pub fresh_serves : IsNextLook p look → LeavesHeld (held_in p) p q
-        fresh_serves next =
+        pub fresh_leaves_held : IsNextLook p look → LeavesHeld (held_in p) p q
+        fresh_leaves_held next =
             let seen_now : q.used_look.seen ≡ look.seen = ap (λ (l : Look). l.seen) same.used_look in
             let then : q.used_look.taken ≡ look.taken = ap (λ (l : Look). l.taken) same.used_look in
             let now : q.taken ≡ p.taken + 1 = same.taken in

@@ -68,17 +68,17 @@ fixed_store s seen t word heap same capacity own stores looks draws = fixed_by (
 -- a request, and a free
 pub fixed_request : (s seen t : SeqState) → IsSeqHeap s → s ≡ seen → LeavesHeld (held_in s.parts) s.parts t.parts
     → t.parts.words.drawn + (s.small_calls + most_large_draws * s.large_calls) ≤ s.parts.words.drawn + (t.small_calls + most_large_draws * t.large_calls) → KeepsFixed seen t
-fixed_request s seen t heap same serves draws =
-    fixed_by (IsAllocatorWord s.parts.capacity (held_in s.parts)) s seen t same serves.capacity serves.as_allocator.stores (λ word may is.
-    not_fixed s.parts.capacity (held_in s.parts) s.parts.words word heap.lasts.stable may is) serves.knows draws
+fixed_request s seen t heap same leaves_held draws =
+    fixed_by (IsAllocatorWord s.parts.capacity (held_in s.parts)) s seen t same leaves_held.capacity leaves_held.as_allocator.stores (λ word may is.
+    not_fixed s.parts.capacity (held_in s.parts) s.parts.words word heap.lasts.stable may is) leaves_held.knows draws
 
 pub fixed_free : (s seen t : SeqState) (b : Block) → IsSeqHeap s → s ≡ seen → TakesFrom b (held_in s.parts) (held_in t.parts)
     → LeavesHeld (held_in t.parts) s.parts t.parts
     → t.parts.words.drawn + (s.small_calls + most_large_draws * s.large_calls) ≤ s.parts.words.drawn + (t.small_calls + most_large_draws * t.large_calls) → KeepsFixed seen t
-fixed_free s seen t b heap same takes serves draws =
+fixed_free s seen t b heap same takes leaves_held draws =
     let stable = stable_fewer s.parts.capacity (held_in s.parts) (held_in t.parts) s.parts.words takes.only heap.lasts.stable in
-    fixed_by (IsAllocatorWord s.parts.capacity (held_in t.parts)) s seen t same serves.capacity serves.as_allocator.stores (λ word may is.
-    not_fixed s.parts.capacity (held_in t.parts) s.parts.words word stable may is) serves.knows draws
+    fixed_by (IsAllocatorWord s.parts.capacity (held_in t.parts)) s seen t same leaves_held.capacity leaves_held.as_allocator.stores (λ word may is.
+    not_fixed s.parts.capacity (held_in t.parts) s.parts.words word stable may is) leaves_held.knows draws
 
 -- the last look tells what was taken as the heap was opened
 pub looks_opened : (words : List ℕ) (held : List Block) (budget : ℕ) (s t : SeqState) → IsOpened words held budget s → KeepsFixed s t

@@ -35,7 +35,7 @@ use Rattle.block_heap.specs.AllocatorWords.{IsAllocatorWord, is_head, is_anchor,
 use Rattle.block_heap.proofs.MediumLemmas.{stores_then, stores_more}
 use Rattle.block_heap.proofs.RunningLemmas.{set_is}
 use Rattle.block_heap.proofs.LookLemmas.{looks_of}
-use Rattle.block_heap.proofs.SmallLemmas.{changed, KeepsFixed, keeps_fixed, running_after, caches_set, serves_of}
+use Rattle.block_heap.proofs.SmallLemmas.{changed, KeepsFixed, keeps_fixed, running_after, caches_set, leaves_held_of}
 use Rattle.std.proofs.lemmas.List.{nil_from_length}
 use Rattle.block_heap.proofs.WalkLemmas.{walk_prefix, walk_first}
 
@@ -174,9 +174,9 @@ module _ (p : Parts) (class : ℕ) (is : IsClass class) (run : IsRunning p) (pre
   both_low list word low not_anchor not_link not_head (inr (inl at)) = not_head at
   both_low list word low not_anchor not_link not_head (inr (inr at)) = not_link at
 
-  pub gave_serves : (q : Parts) → q.capacity ≡ p.capacity → looks_of q ≡ looks_of p → q.taken ≡ p.taken
+  pub gave_leaves_held : (q : Parts) → q.capacity ≡ p.capacity → looks_of q ≡ looks_of p → q.taken ≡ p.taken
       → StoresOnly (IsGiveWord prefix.d prefix.batch) p.words q.words → LeavesHeld (held_in p) p q
-  gave_serves q capacity look taken stores = serves_of p q (held_in p) (IsGiveWord prefix.d prefix.batch) run capacity look taken give_word
+  gave_leaves_held q capacity look taken stores = leaves_held_of p q (held_in p) (IsGiveWord prefix.d prefix.batch) run capacity look taken give_word
       (λ at. give_low used_word (omega arith) (omega arith) at) stores
 
   both_stores : (w x : View) (list : ℕ) → StoresOnly (IsGiveWord prefix.d prefix.batch) p.words w → StoresOnly (IsPushWord list prefix.d) w x
@@ -185,9 +185,9 @@ module _ (p : Parts) (class : ℕ) (is : IsClass class) (run : IsRunning p) (pre
       (stores_more (IsGiveWord prefix.d prefix.batch) (IsEitherWord list) p.words w (λ word at. inl at) given)
       (stores_more (IsPushWord list prefix.d) (IsEitherWord list) w x (λ word at. inr at) pushed)
 
-  pub pushed_serves : (w : View) (list : ℕ) (q : Parts) → list < lists → q.capacity ≡ p.capacity → looks_of q ≡ looks_of p → q.taken ≡ p.taken
+  pub pushed_leaves_held : (w : View) (list : ℕ) (q : Parts) → list < lists → q.capacity ≡ p.capacity → looks_of q ≡ looks_of p → q.taken ≡ p.taken
       → StoresOnly (IsGiveWord prefix.d prefix.batch) p.words w → StoresOnly (IsPushWord list prefix.d) w q.words → LeavesHeld (held_in p) p q
-  pushed_serves w list q below capacity look taken given pushed = serves_of p q (held_in p) (IsEitherWord list) run capacity look taken
+  pushed_leaves_held w list q below capacity look taken given pushed = leaves_held_of p q (held_in p) (IsEitherWord list) run capacity look taken
       (λ word at. both_word list word below at)
       (λ at. both_low list used_word (omega arith) (omega arith) (omega arith) (omega arith) at) (both_stores w q.words list given pushed)
 

@@ -18,16 +18,16 @@ use Rattle.block_heap.proofs.StableLemmas.{not_own, stable_kept, stable_fewer}
 -- held blocks are stable after a free
 pub free_stable : (p q : Parts) (b : Block) → IsStable p.capacity p.words (held_in p) → TakesFrom b (held_in p) (held_in q) → LeavesHeld (held_in q) p q
     → IsStable q.capacity q.words (held_in q)
-free_stable p q b stable takes serves =
-    subst (λ n. IsStable n q.words (held_in q)) (sym serves.capacity)
-    (stable_kept p.capacity (held_in q) p.words q.words (stable_fewer p.capacity (held_in p) (held_in q) p.words takes.only stable) serves.as_allocator)
+free_stable p q b stable takes leaves_held =
+    subst (λ n. IsStable n q.words (held_in q)) (sym leaves_held.capacity)
+    (stable_kept p.capacity (held_in q) p.words q.words (stable_fewer p.capacity (held_in p) (held_in q) p.words takes.only stable) leaves_held.as_allocator)
 
 -- what lasts over a free
 pub free_lasts : (r : Result Unit Stopped) (p q : Parts) (b : Block) (old o : Option ℕ) → IsLasting p.capacity p.words (held_in p) old
     → TakesFrom b (held_in p) (held_in q) → LeavesHeld (held_in q) p q
     → OnOk r (o ≡ None) → IfErr r (λ e. o ≡ Some e.step) → IfErr r (λ e. StopsWithin e.step 40000 p.words q.words) → IsLasting q.capacity q.words (held_in q) o
-free_lasts r p q b old o lasts takes serves none stops halts =
-    large_lasts r p q (held_in q) 40000 old o lasts serves (free_stable p q b lasts.stable takes serves) none stops halts
+free_lasts r p q b old o lasts takes leaves_held none stops halts =
+    large_lasts r p q (held_in q) 40000 old o lasts leaves_held (free_stable p q b lasts.stable takes leaves_held) none stops halts
 
 -- the parts after a free that was done
 pub free_runs : (r : Result Unit Stopped) (p q : Parts) → AreAccounted p → OnOk r (IsRunning q) → OnOk r (CachesAreShort q 0)
@@ -36,7 +36,7 @@ free_runs (Ok t) p q before run short accounted = (run, short, accounted before)
 free_runs (Err e) p q before run short accounted = tt
 
 module _ (s : SeqState) (q : Parts) (o : Option ℕ) (b : Block) (heap : IsSeqHeap s)
-    (takes : TakesFrom b (held_in s.parts) (held_in q)) (serves : LeavesHeld (held_in q) s.parts q) where
+    (takes : TakesFrom b (held_in s.parts) (held_in q)) (leaves_held : LeavesHeld (held_in q) s.parts q) where
   -- an own word outside the block is own after it
   still_own : (word : ℕ) → (IsIn b word → ⊥) → IsOwn (held_in s.parts) all_roots word → IsOwn (held_in q) all_roots word
   still_own _ out (in_block a word holds in_a) = in_block a word (takes.keeps a holds (λ e. out (subst (λ x. IsIn x word) e in_a))) in_a
@@ -54,7 +54,7 @@ module _ (s : SeqState) (q : Parts) (o : Option ℕ) (b : Block) (heap : IsSeqHe
     only = takes.only;
     keeps = takes.keeps;
     roots = refl;
-    words = λ word own out. word_kept s q o (IsAllocatorWord s.parts.capacity (held_in q)) word serves.as_allocator.stores (not_stored word own out);
+    words = λ word own out. word_kept s q o (IsAllocatorWord s.parts.capacity (held_in q)) word leaves_held.as_allocator.stores (not_stored word own out);
     refusals = record { count = refl; bytes = refl; looks = refl };
   })
 
@@ -64,6 +64,6 @@ module _ (s : SeqState) (q : Parts) (o : Option ℕ) (b : Block) (heap : IsSeqHe
   frees (Ok t) seen most same ran runs goes = subst (λ t. Frees b (seat_of t) (large_view s q o)) same (record {
     runs = record { ran = ap (λ (t : SeqState). t.stopped) same ∙ ran; running = runs; drew = goes.drew; below = goes.below };
     gone = takes.gone;
-    pending = λ word own out. pending_kept s q o (IsAllocatorWord s.parts.capacity (held_in q)) word serves.as_allocator.stores (not_stored word own out);
+    pending = λ word own out. pending_kept s q o (IsAllocatorWord s.parts.capacity (held_in q)) word leaves_held.as_allocator.stores (not_stored word own out);
   })
   frees (Err e) seen most same ran runs goes = tt

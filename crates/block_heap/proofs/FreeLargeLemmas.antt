@@ -27,7 +27,7 @@ use Rattle.block_heap.specs.Large.{IsDropped}
 use Rattle.block_heap.proofs.HeldLemmas.{only_map, mark_block}
 use Rattle.block_heap.proofs.LookLemmas.{looks_kept}
 use Rattle.block_heap.proofs.StableLemmas.{as_allocator_none}
-use Rattle.block_heap.proofs.SmallLemmas.{serves_then}
+use Rattle.block_heap.proofs.SmallLemmas.{leaves_held_then}
 
 -- a held block is that of its mark
 pub held_mark : (h : HeldBlocks) (b : Block) → Contains (held_of h) b → at_mark h b.first_word ≡ b
@@ -63,7 +63,7 @@ pub record IsFreed (first d end : ℕ) (p q : Parts) : Type 0 where
   pub free : KeepsFree p q
   pub heads : (class : ℕ) → IsClass class → head_at q class ≡ head_at p class
   pub infos : (e : ℕ) → image_of q (info_word e) ≡ image_of p (info_word e)
-  pub serves : LeavesHeld (held_in p) p q
+  pub leaves_held : LeavesHeld (held_in p) p q
   pub blocks : q.blocks ≡ p.blocks
   pub caches : q.caches ≡ p.caches
   pub taken : q.taken ≡ p.taken
@@ -73,7 +73,7 @@ pub record IsFreed (first d end : ℕ) (p q : Parts) : Type 0 where
 -- one superblock more is in the free list
 pub freed_more : (first d end : ℕ) (p q r : Parts) → d < end → IsFreed first d end p q → IsRunning r → ((e : ℕ) → e ≢ d → IsDropped q e → IsDropped r e)
     → GivesUse d q r → FreesOne d q r → RunsWithin 4 q.words r.words → r.blocks ≡ q.blocks → LeavesHeld (held_in q) q r → r.caches ≡ q.caches → r.taken ≡ q.taken → IsFreed first (d + 1) end p r
-freed_more first d end p q r below freed running others gives frees goes blocks serves caches taken = record {
+freed_more first d end p q r below freed running others gives frees goes blocks leaves_held caches taken = record {
   some = freed.some;
   most = freed.most;
   until = omega arith;
@@ -90,12 +90,12 @@ freed_more first d end p q r below freed running others gives frees goes blocks 
       | inl was ↦ inl was
       | inr one ↦ inr (one.0, omega (arith, one.1))
     ]
-    | inr same ↦ inr (let few = freed.few in let more = freed.serves.as_allocator.stores.drawn in omega arith, omega arith)
+    | inr same ↦ inr (let few = freed.few in let more = freed.leaves_held.as_allocator.stores.drawn in omega arith, omega arith)
   ];
   free = λ e there. frees.free e (freed.free e there);
   heads = λ class is. frees.heads class is ∙ freed.heads class is;
   infos = λ e. frees.infos e ∙ freed.infos e;
-  serves = serves_then p q r (held_in p) freed.serves (subst (λ (h : HeldBlocks). LeavesHeld (held_of h) q r) freed.blocks serves);
+  leaves_held = leaves_held_then p q r (held_in p) freed.leaves_held (subst (λ (h : HeldBlocks). LeavesHeld (held_of h) q r) freed.blocks leaves_held);
   blocks = blocks ∙ freed.blocks;
   caches = caches ∙ freed.caches;
   taken = taken ∙ freed.taken;
@@ -109,11 +109,11 @@ freed_more first d end p q r below freed running others gives frees goes blocks 
     | inr other ↦ gives.uses e (inr (freed.uses e (inl (done.0, omega (arith, done.1)))))
   ]
 
--- the parts serve the blocks that are held still
-pub freed_serves : (first d end : ℕ) (h : HeldBlocks) (p q r : Parts) → IsFreed first d end (record p { blocks = h }) q → r.blocks ≡ q.blocks → LeavesHeld (held_in q) q r
+-- the parts leave the blocks that are held still
+pub freed_leaves_held : (first d end : ℕ) (h : HeldBlocks) (p q r : Parts) → IsFreed first d end (record p { blocks = h }) q → r.blocks ≡ q.blocks → LeavesHeld (held_in q) q r
     → LeavesHeld (held_in r) p r
-freed_serves first d end h p q r freed blocks serves =
-    let all = serves_then (record p { blocks = h }) q r (held_of h) freed.serves (subst (λ (x : HeldBlocks). LeavesHeld (held_of x) q r) freed.blocks serves) in
+freed_leaves_held first d end h p q r freed blocks leaves_held =
+    let all = leaves_held_then (record p { blocks = h }) q r (held_of h) freed.leaves_held (subst (λ (x : HeldBlocks). LeavesHeld (held_of x) q r) freed.blocks leaves_held) in
     subst (λ (x : HeldBlocks). LeavesHeld (held_of x) p r) (sym (blocks ∙ freed.blocks))
     (record { capacity = all.capacity; as_allocator = all.as_allocator; knows = all.knows; taken = all.taken; looks = record { used = all.looks.used; heads = all.looks.heads } })
 
@@ -216,7 +216,7 @@ module _ (p : Parts) (b : Block) (run : IsRunning p) (holds : Contains (held_in 
           free = λ e there. there;
           heads = λ class is. refl;
           infos = λ e. refl;
-          serves = record {
+          leaves_held = record {
             capacity = refl;
             as_allocator = as_allocator_none p.capacity (held_of h) p.words;
             knows = refl;

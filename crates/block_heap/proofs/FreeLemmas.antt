@@ -31,7 +31,7 @@ use Rattle.block_heap.specs.Flush.{KeepsAll}
 use Rattle.block_heap.specs.AllocatorWords.{IsAllocatorWord, is_inside}
 use Rattle.block_heap.proofs.RunningLemmas.{set_is}
 use Rattle.block_heap.proofs.LookLemmas.{looks_of}
-use Rattle.block_heap.proofs.SmallLemmas.{changed, KeepsFixed, keeps_fixed, running_after, caches_set, other_cache, serves_of, serves_then, even_words, even_product}
+use Rattle.block_heap.proofs.SmallLemmas.{changed, KeepsFixed, keeps_fixed, running_after, caches_set, other_cache, leaves_held_of, leaves_held_then, even_words, even_product}
 
 -- a superblock of a class with a held block stands in the list of its class, or is full
 place_known : (capacity : ℕ) (image : Image) (s : Shape) (held : List Block) (d : ℕ) (place : Place) → IsClass (image (info_word d)) → d < image used_word
@@ -118,9 +118,9 @@ module _ (p : Parts) (class : ℕ) (is : IsClass class) (run : IsRunning p) (b :
     not_first : (word : ℕ) → word < start_word p.capacity 0 → word ≡ b.first_word → ⊥
     not_first word low at = let from = inside.0 in omega arith
 
-    pub freed_serves : (q : Parts) → q.capacity ≡ p.capacity → looks_of q ≡ looks_of p → q.taken ≡ p.taken
+    pub freed_leaves_held : (q : Parts) → q.capacity ≡ p.capacity → looks_of q ≡ looks_of p → q.taken ≡ p.taken
         → StoresOnly (λ word. word ≡ b.first_word) p.words q.words → LeavesHeld (held_of h) p q
-    freed_serves q capacity look taken stores = serves_of p q (held_of h) (λ word. word ≡ b.first_word) run capacity look taken freed_word
+    freed_leaves_held q capacity look taken stores = leaves_held_of p q (held_of h) (λ word. word ≡ b.first_word) run capacity look taken freed_word
         (λ at. not_first used_word (omega arith) at) stores
 
     module _ (cache : Cache) (cache_is : cache ≡ cache_at p.caches class) (w : View) (stored : IsStored b.first_word cache.first p.words w)
@@ -220,8 +220,8 @@ module _ (p : Parts) (class : ℕ) (is : IsClass class) (run : IsRunning p) (b :
       flushed_held r same = subst (λ now. TakesFrom b (held_in p) now) (sym same) taken_back
 
       pub flushed_serve : (r : Parts) → held_in r ≡ held_of h → LeavesHeld (held_of h) freed_parts r → LeavesHeld (held_in r) p r
-      flushed_serve r same serves = subst (λ now. LeavesHeld now p r) (sym same) (serves_then p freed_parts r (held_of h)
-          (freed_serves freed_parts refl refl refl stores) serves)
+      flushed_serve r same leaves_held = subst (λ now. LeavesHeld now p r) (sym same) (leaves_held_then p freed_parts r (held_of h)
+          (freed_leaves_held freed_parts refl refl refl stores) leaves_held)
 
       pub flushed_goes : (r : Parts) → IsRunning r → freed_parts.words.drawn ≤ r.words.drawn
           → r.words.drawn ≤ freed_parts.words.drawn + 9 * (cache_at freed_parts.caches class).count → RunsWithin 40000 p.words r.words

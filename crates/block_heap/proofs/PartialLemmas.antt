@@ -22,7 +22,7 @@ use Rattle.block_heap.specs.Order.{CutsAll, RefillsFrom, from_fresh, MovesEmpty,
 use Rattle.block_heap.proofs.OrderLemmas.{moves_none, moves_then, moves_same, takes_after, cuts_after, nothing_in_empty}
 use Rattle.block_heap.proofs.SpendLemmas.{spends_none, spends_then}
 use Rattle.std.proofs.lemmas.Bool.{cases_eq}
-use Rattle.block_heap.proofs.RefillLemmas.{serves_same, drains_none, drains_then, serves_all}
+use Rattle.block_heap.proofs.RefillLemmas.{leaves_held_same, drains_none, drains_then, leaves_held_all}
 
 -- nothing done yet, and two rows of steps
 pub refilling_none : (class : ℕ) (p : Parts) → IsRunning p → IsRefilling class p p
@@ -58,7 +58,7 @@ look_later from first p q look seen before later same is = record {
 -- on the way along the list of the class: what was found there went to the free list, and eight steps for each that is left are few
 pub record Walked (class : ℕ) (p q : Parts) : Type 0 where
   pub refilling : IsRefilling class p q
-  pub serves : LeavesHeld (held_in p) p q
+  pub leaves_held : LeavesHeld (held_in p) p q
   pub empty : (cache_at q.caches class).count ≡ 0
   pub taken : q.taken ≡ p.taken
   pub used : image_of q used_word ≡ image_of p used_word
@@ -70,7 +70,7 @@ pub record Walked (class : ℕ) (p q : Parts) : Type 0 where
 pub walk_begins : (class : ℕ) (p : Parts) → IsClass class → IsRunning p → (cache_at p.caches class).count ≡ 0 → Walked class p p
 walk_begins class p is run empty = record {
   refilling = refilling_none class p run;
-  serves = serves_same p;
+  leaves_held = leaves_held_same p;
   empty = empty;
   taken = refl;
   used = refl;
@@ -88,10 +88,10 @@ walk_begins class p is run empty = record {
 }
 
 -- one more look at the first of the list
-module _ (class : ℕ) (p q r : Parts) (is : IsClass class) (walked : Walked class p q) (serves : LeavesHeld (held_in q) q r) (held : held_in r ≡ held_in q)
+module _ (class : ℕ) (p q r : Parts) (is : IsClass class) (walked : Walked class p q) (leaves_held : LeavesHeld (held_in q) q r) (held : held_in r ≡ held_in q)
     (taken : r.taken ≡ q.taken) where
   begun : p.words.drawn ≤ q.words.drawn
-  begun = walked.serves.as_allocator.stores.drawn
+  begun = walked.leaves_held.as_allocator.stores.drawn
 
   -- so far few steps were done
   so_far : q.words.drawn ≤ p.words.drawn + 8 * largest_capacity
@@ -103,8 +103,8 @@ module _ (class : ℕ) (p q r : Parts) (is : IsClass class) (walked : Walked cla
   was_some : (IsEmptyList q class → ⊥) → IsEmptyList p class → ⊥
   was_some some none = elim walked.way as (λ _. ⊥) [ inl same ↦ some (empty_same p q class same none) | inr way ↦ way.1 none ]
 
-  pub walk_serves : LeavesHeld (held_in p) p r
-  walk_serves = serves_all p q r walked.refilling.held walked.serves serves
+  pub walk_leaves_held : LeavesHeld (held_in p) p r
+  walk_leaves_held = leaves_held_all p q r walked.refilling.held walked.leaves_held leaves_held
 
   pub walk_halts : (ticket : ℕ) → StopsWithin ticket 8 q.words r.words → StopsWithin ticket (8 * largest_capacity + 8) p.words r.words
   walk_halts ticket halts =
@@ -133,7 +133,7 @@ module _ (class : ℕ) (p q r : Parts) (is : IsClass class) (walked : Walked cla
   pub walk_nothing : (found : Found) → found ≡ Nothing → FindsFirst class found q r → OrdersPartial class false p r
   walk_nothing found is_found found_first =
       let finds = subst (λ f. FindsFirst class f q r) is_found found_first in (
-        moves_then class p q r walked.moves (moves_same class q r serves.capacity finds.1.volatile),
+        moves_then class p q r walked.moves (moves_same class q r leaves_held.capacity finds.1.volatile),
         walked.moves.nothing (nothing_in_empty class q finds.1.empty),
       )
 
@@ -147,7 +147,7 @@ module _ (class : ℕ) (p q r : Parts) (is : IsClass class) (walked : Walked cla
         record { running = goes.running; drew = omega arith; few = omega arith; below = goes.below }
 
     pub walk_refilling : IsRefilling class p r
-    walk_refilling = refilling_then class p q r walked.serves.capacity walked.refilling refilling
+    walk_refilling = refilling_then class p q r walked.leaves_held.capacity walked.refilling refilling
 
     pub walk_more : (found : Found) → found ≡ Recycled → FindsFirst class found q r → OrdersFirst class found q r → Spends (used_up found) class q r
         → Walked class p r
@@ -157,7 +157,7 @@ module _ (class : ℕ) (p q r : Parts) (is : IsClass class) (walked : Walked cla
         more : (cache_at r.caches class).count ≡ 0 → Recycles class q r → Walked class p r
         more empty recycles = record {
           refilling = walk_refilling;
-          serves = walk_serves;
+          leaves_held = walk_leaves_held;
           empty = empty;
           taken = walk_taken;
           used = recycles.used ∙ walked.used;
@@ -172,9 +172,9 @@ module _ (class : ℕ) (p q r : Parts) (is : IsClass class) (walked : Walked cla
         }
 
 -- First the list of the class is looked through, then the free list, and then superblocks that were never taken.
-module _ (class : ℕ) (p a b : Parts) (is : IsClass class) (a_serves : LeavesHeld (held_in p) p a) (a_taken : a.taken ≡ p.taken)
-    (b_serves : LeavesHeld (held_in a) a b) where
-  module _ (q : Parts) (b_taken : b.taken ≡ a.taken) (q_serves : LeavesHeld (held_in b) b q) (part : FindsPartial class false p a)
+module _ (class : ℕ) (p a b : Parts) (is : IsClass class) (a_leaves_held : LeavesHeld (held_in p) p a) (a_taken : a.taken ≡ p.taken)
+    (b_leaves_held : LeavesHeld (held_in a) a b) where
+  module _ (q : Parts) (b_taken : b.taken ≡ a.taken) (q_leaves_held : LeavesHeld (held_in b) b q) (part : FindsPartial class false p a)
       (free : FindsFree class false a b) where
     finds : FindsEmpty 0 a b
     finds = free.1
@@ -189,12 +189,12 @@ module _ (class : ℕ) (p a b : Parts) (is : IsClass class) (a_serves : LeavesHe
         let none = part.3 finds.empty in
         from_fresh none.1 none.0
         (subst (λ d. CutsAll class d p q) used_then (cuts_after class (image_of b used_word) p b q
-        (moves_then class p a b found.0 (moves_same class a b b_serves.capacity finds.volatile)) cuts.0))
+        (moves_then class p a b found.0 (moves_same class a b b_leaves_held.capacity finds.volatile)) cuts.0))
         (let now = cuts.1 in let before = b_taken in let first = a_taken in omega arith)
 
     some_fresh : FindsFresh class true b q → Refills class true p q
     some_fresh fresh =
-        let same : b.capacity ≡ p.capacity = b_serves.capacity ∙ a_serves.capacity in
+        let same : b.capacity ≡ p.capacity = b_leaves_held.capacity ∙ a_leaves_held.capacity in
         let used = used_then in
         (fresh.0, in_fresh (omega (arith, fresh.1)))
 
@@ -210,13 +210,13 @@ module _ (class : ℕ) (p a b : Parts) (is : IsClass class) (a_serves : LeavesHe
       same_look list = ap (λ (ls : List Look). get_or ls list (record { seen = 0; ticket = None; taken = 0 })) fresh.4
 
       begun_a : p.words.drawn ≤ a.words.drawn
-      begun_a = a_serves.as_allocator.stores.drawn
+      begun_a = a_leaves_held.as_allocator.stores.drawn
 
       begun_b : a.words.drawn ≤ b.words.drawn
-      begun_b = b_serves.as_allocator.stores.drawn
+      begun_b = b_leaves_held.as_allocator.stores.drawn
 
       begun_q : b.words.drawn ≤ q.words.drawn
-      begun_q = q_serves.as_allocator.stores.drawn
+      begun_q = q_leaves_held.as_allocator.stores.drawn
 
       class_look : IsLook p.words.drawn q (look_at q class) (head_at q class)
       class_look =
@@ -248,7 +248,7 @@ module _ (class : ℕ) (p a b : Parts) (is : IsClass class) (a_serves : LeavesHe
       no_room empty (in_class_list some) = some (part.3 finds.empty).1
       no_room empty (in_free_list some) = some (part.3 finds.empty).0
       no_room empty (in_fresh room) =
-          let same : b.capacity ≡ p.capacity = b_serves.capacity ∙ a_serves.capacity in
+          let same : b.capacity ≡ p.capacity = b_leaves_held.capacity ∙ a_leaves_held.capacity in
           let used = used_then in
           omega (arith, fresh.1)
 
@@ -261,7 +261,7 @@ module _ (class : ℕ) (p a b : Parts) (is : IsClass class) (a_serves : LeavesHe
           free_empty = empty_same a q 0 words finds.empty;
           used_look = used_look;
           past =
-              let same : q.capacity ≡ b.capacity = q_serves.capacity in
+              let same : q.capacity ≡ b.capacity = q_leaves_held.capacity in
               let used : image_of q used_word ≡ image_of b used_word = ap (λ (xs : List ℕ). get_or xs used_word 0) fresh.2 in
               omega (arith, fresh.1);
         };

@@ -18,7 +18,7 @@ use Rattle.block_heap.specs.Running.{IsRunning, LeavesHeld}
 use Rattle.block_heap.proofs.AccountLemmas.{accounted_same}
 use Rattle.block_heap.proofs.MediumLemmas.{stores_then}
 use Rattle.block_heap.proofs.RunningLemmas.{running_words}
-use Rattle.block_heap.proofs.SmallLemmas.{first_cached, first_of_d, serves_of, serves_none, serves_then}
+use Rattle.block_heap.proofs.SmallLemmas.{first_cached, first_of_d, leaves_held_of, leaves_held_none, leaves_held_then}
 use Rattle.block_heap.proofs.LookLemmas.{looks_of}
 use Rattle.block_heap.specs.Returns.{IsLongest, GivesTo}
 use Rattle.block_heap.proofs.WalkLemmas.{walk_prefix, walk_begin}
@@ -42,7 +42,7 @@ pub record HasLoaded (most : ℕ) (p q : Parts) : Type 0 where
   pub volatile : q.words.volatile ≡ p.words.volatile
   pub stores : StoresOnly (λ _. ⊥) p.words q.words
 
--- loads leave a heap right, and serve it
+-- loads leave a heap right, and its held blocks too
 module _ (p q : Parts) (most : ℕ) (run : IsRunning p) (loaded : HasLoaded most p q) where
   loaded_running : IsRunning (record p { words = q.words })
   loaded_running = running_words p q.words (λ _. ⊥) run loaded.goes.running loaded.volatile loaded.stores (λ d within out. out) (λ out. out) loaded.goes.below
@@ -59,8 +59,8 @@ module _ (p q : Parts) (most : ℕ) (run : IsRunning p) (loaded : HasLoaded most
     accounted = accounted_same p q (ap (λ (x : Parts). x.capacity) loaded.same) loaded.volatile (ap (λ (x : Parts). held_in x) loaded.same);
   }
 
-  pub loaded_serves : LeavesHeld (held_in p) p q
-  loaded_serves = serves_of p q (held_in p) (λ _. ⊥) run (ap (λ x. x.capacity) loaded.same) (ap looks_of loaded.same)
+  pub loaded_leaves_held : LeavesHeld (held_in p) p q
+  loaded_leaves_held = leaves_held_of p q (held_in p) (λ _. ⊥) run (ap (λ x. x.capacity) loaded.same) (ap looks_of loaded.same)
       (ap (λ x. x.taken) loaded.same)
       (λ word out. absurd out) (λ out. out) loaded.stores
 
@@ -79,8 +79,8 @@ module _ (p q : Parts) (most : ℕ) (run : IsRunning p) (loaded : HasLoaded most
       })
 
   -- also where the next load stopped
-  pub stopped_serves : (r : Parts) → r ≡ record q { words = r.words } → StoresOnly (λ _. ⊥) q.words r.words → LeavesHeld (held_in p) p r
-  stopped_serves r same stores = serves_of p r (held_in p) (λ _. ⊥) run
+  pub stopped_leaves_held : (r : Parts) → r ≡ record q { words = r.words } → StoresOnly (λ _. ⊥) q.words r.words → LeavesHeld (held_in p) p r
+  stopped_leaves_held r same stores = leaves_held_of p r (held_in p) (λ _. ⊥) run
       (ap (λ (x : Parts). x.capacity) same ∙ ap (λ (x : Parts). x.capacity) loaded.same)
       (ap looks_of same ∙ ap looks_of loaded.same)
       (ap (λ (x : Parts). x.taken) same ∙ ap (λ (x : Parts). x.taken) loaded.same)
@@ -235,7 +235,7 @@ pub record IsFlushed (class : ℕ) (p q : Parts) : Type 0 where
   pub more : p.words.drawn ≤ q.words.drawn
   pub few : q.words.drawn + 9 * (cache_at q.caches class).count ≤ p.words.drawn + 9 * (cache_at p.caches class).count
   pub held : held_in q ≡ held_in p
-  pub serves : LeavesHeld (held_in p) p q
+  pub leaves_held : LeavesHeld (held_in p) p q
   pub taken : q.taken ≡ p.taken
   pub order : FlushesSoFar class p q
 
@@ -247,7 +247,7 @@ flushed_none class p run = record {
   more = omega arith;
   few = omega arith;
   held = refl;
-  serves = serves_none p (held_in p);
+  leaves_held = leaves_held_none p (held_in p);
   taken = refl;
   order = flushes_none class p;
 }
@@ -260,13 +260,13 @@ keeps_then class p q r a b = record {
   accounted = λ before. b.accounted (a.accounted before);
 }
 
-pub flushed_serves : (class : ℕ) (p q r : Parts) → IsFlushed class p q → LeavesHeld (held_in q) q r → LeavesHeld (held_in p) p r
-flushed_serves class p q r before serves = serves_then p q r (held_in p) before.serves (subst (λ held. LeavesHeld held q r) before.held serves)
+pub flushed_leaves_held : (class : ℕ) (p q r : Parts) → IsFlushed class p q → LeavesHeld (held_in q) q r → LeavesHeld (held_in p) p r
+flushed_leaves_held class p q r before leaves_held = leaves_held_then p q r (held_in p) before.leaves_held (subst (λ held. LeavesHeld held q r) before.held leaves_held)
 
 -- a prefix was found
 module _ (class : ℕ) (p q r : Parts) (prefix : CachePrefix) (before : IsFlushed class p q) (is_prefix : IsCachePrefix class prefix r) (run : IsRunning r)
     (keeps : KeepsAll class q r) (caches : r.caches ≡ q.caches)
-    (goes : RunsWithin prefix.batch.count q.words r.words) (held : held_in r ≡ held_in q) (serves : LeavesHeld (held_in q) q r) (taken : r.taken ≡ q.taken) where
+    (goes : RunsWithin prefix.batch.count q.words r.words) (held : held_in r ≡ held_in q) (leaves_held : LeavesHeld (held_in q) q r) (taken : r.taken ≡ q.taken) where
   some_given : 1 ≤ prefix.batch.count
   some_given = let count = is_prefix.count in let both = length-append is_prefix.before (prefix.batch.last ∷ []) in omega arith
 
@@ -284,8 +284,8 @@ module _ (class : ℕ) (p q r : Parts) (prefix : CachePrefix) (before : IsFlushe
   pub prefix_held : held_in r ≡ held_in p
   prefix_held = held ∙ before.held
 
-  pub prefix_serves : LeavesHeld (held_in p) p r
-  prefix_serves = flushed_serves class p q r before serves
+  pub prefix_leaves_held : LeavesHeld (held_in p) p r
+  prefix_leaves_held = flushed_leaves_held class p q r before leaves_held
 
   -- and given back
   module _ (t : Parts) (gave_run : IsRunning t) (gives : GivesBack class prefix r t) (gave : RunsWithin 6 r.words t.words) (gave_held : held_in t ≡ held_in r)
@@ -303,9 +303,9 @@ module _ (class : ℕ) (p q r : Parts) (prefix : CachePrefix) (before : IsFlushe
           let rest : (cache_at t.caches class).count ≡ prefix.rest.count = ap (λ (x : Cache). x.count) gives.cache in
           omega arith;
       held = gave_held ∙ prefix_held;
-      serves = serves_then p r t (held_in p) prefix_serves (subst (λ h. LeavesHeld h r t) prefix_held gave_serve);
+      leaves_held = leaves_held_then p r t (held_in p) prefix_leaves_held (subst (λ h. LeavesHeld h r t) prefix_held gave_serve);
       taken = gave_taken ∙ taken ∙ before.taken;
-      order = flushes_more class p q r t is (first.caches class is).most before.order serves.capacity volatile (ap (λ (xs : List Cache). cache_at xs class) caches)
+      order = flushes_more class p q r t is (first.caches class is).most before.order leaves_held.capacity volatile (ap (λ (xs : List Cache). cache_at xs class) caches)
           run prefix is_prefix longest some_given to gave_serve.capacity gives.cache;
     }
 
@@ -317,9 +317,9 @@ module _ (class : ℕ) (p q r : Parts) (prefix : CachePrefix) (before : IsFlushe
         let rest : (cache_at t.caches class).count ≡ prefix.rest.count = ap (λ (x : Cache). x.count) gives.cache in
         omega arith
 
-  -- giving it serves the held blocks, however far it goes
-  pub give_serves : (x : Parts) → LeavesHeld (held_in r) r x → LeavesHeld (held_in p) p x
-  give_serves x gave = serves_then p r x (held_in p) prefix_serves (subst (λ h. LeavesHeld h r x) prefix_held gave)
+  -- giving it leaves the held blocks, however far it goes
+  pub give_leaves_held : (x : Parts) → LeavesHeld (held_in r) r x → LeavesHeld (held_in p) p x
+  give_leaves_held x gave = leaves_held_then p r x (held_in p) prefix_leaves_held (subst (λ h. LeavesHeld h r x) prefix_held gave)
 
   -- how far it went where giving it stopped
   pub give_halts : (w : View) (ticket : ℕ) → IsClass class → IsRunning p → StopsWithin ticket 6 r.words w → StopsWithin ticket 36864 p.words w

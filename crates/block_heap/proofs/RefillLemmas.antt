@@ -31,7 +31,7 @@ use Rattle.block_heap.proofs.MediumLemmas.{stores_more}
 use Rattle.block_heap.proofs.RunningLemmas.{set_is, running_words}
 use Rattle.block_heap.proofs.LookLemmas.{looks_kept, IsNextLook, looked_at_head}
 use Rattle.block_heap.proofs.StableLemmas.{as_allocator_of, as_allocator_none}
-use Rattle.block_heap.proofs.SmallLemmas.{serves_then}
+use Rattle.block_heap.proofs.SmallLemmas.{leaves_held_then}
 
 -- a cache with these numbers
 pub cache_set : (caches : List Cache) (class first count f n : ℕ) → first ≡ f → count ≡ n
@@ -71,10 +71,10 @@ moved_word capacity held word (an_anchor d below at) = is_anchor d below at
 moved_word capacity held word (a_link d below at) = is_link d below at
 
 -- a row of steps that doesn't store to `used`; one that stores to such words alone, or none at all; and two rows
-pub serves_of : (p q : Parts) (to : ℕ → Type 0) → IsRunning p → ((word : ℕ) → to word → IsAllocatorWord p.capacity (held_in p) word) → (to used_word → ⊥)
+pub leaves_held_of : (p q : Parts) (to : ℕ → Type 0) → IsRunning p → ((word : ℕ) → to word → IsAllocatorWord p.capacity (held_in p) word) → (to used_word → ⊥)
     → StoresOnly to p.words q.words
     → q.capacity ≡ p.capacity → q.used_look ≡ p.used_look → q.taken ≡ p.taken → MakesLooks p q → LeavesHeld (held_in p) p q
-serves_of p q to run are not_used stores capacity look taken looks =
+leaves_held_of p q to run are not_used stores capacity look taken looks =
     let seen : q.used_look.seen ≡ p.used_look.seen = ap (λ (l : Look). l.seen) look in
     let then : q.used_look.taken ≡ p.used_look.taken = ap (λ (l : Look). l.taken) look in
     record {
@@ -85,17 +85,17 @@ serves_of p q to run are not_used stores capacity look taken looks =
       looks = looks;
     }
 
-pub serves_moved : (p q : Parts) → IsRunning p → StoresOnly (IsMoved p.capacity) p.words q.words → q.capacity ≡ p.capacity → q.used_look ≡ p.used_look
+pub leaves_held_moved : (p q : Parts) → IsRunning p → StoresOnly (IsMoved p.capacity) p.words q.words → q.capacity ≡ p.capacity → q.used_look ≡ p.used_look
     → q.taken ≡ p.taken → MakesLooks p q → LeavesHeld (held_in p) p q
-serves_moved p q run stores capacity look taken looks =
-    serves_of p q (IsMoved p.capacity) run (λ word m. moved_word p.capacity (held_in p) word m) (λ m. moved_used p.capacity used_word m refl) stores capacity
+leaves_held_moved p q run stores capacity look taken looks =
+    leaves_held_of p q (IsMoved p.capacity) run (λ word m. moved_word p.capacity (held_in p) word m) (λ m. moved_used p.capacity used_word m refl) stores capacity
     look taken looks
 
-pub serves_same : (p : Parts) → LeavesHeld (held_in p) p p
-serves_same p = record { capacity = refl; as_allocator = as_allocator_none p.capacity (held_in p) p.words; knows = refl; taken = omega arith; looks = looks_kept p p refl }
+pub leaves_held_same : (p : Parts) → LeavesHeld (held_in p) p p
+leaves_held_same p = record { capacity = refl; as_allocator = as_allocator_none p.capacity (held_in p) p.words; knows = refl; taken = omega arith; looks = looks_kept p p refl }
 
-pub serves_all : (p u q : Parts) → held_in u ≡ held_in p → LeavesHeld (held_in p) p u → LeavesHeld (held_in u) u q → LeavesHeld (held_in p) p q
-serves_all p u q held a b = serves_then p u q (held_in p) a (subst (λ (h : List Block). LeavesHeld h u q) held b)
+pub leaves_held_all : (p u q : Parts) → held_in u ≡ held_in p → LeavesHeld (held_in p) p u → LeavesHeld (held_in u) u q → LeavesHeld (held_in p) p q
+leaves_held_all p u q held a b = leaves_held_then p u q (held_in p) a (subst (λ (h : List Block). LeavesHeld h u q) held b)
 
 -- what is to be drained where nothing changes, and over two rows of steps
 pub drains_none : (capacity class : ℕ) (held : List Block) (image : Image) → DrainsSame capacity class held image image
@@ -294,8 +294,8 @@ module _ (p : Parts) (class list : ℕ) (popped : Popped) (w : View) (look : Loo
       (running_words p w (IsMoved p.capacity) run pop.goes.running same_words (pop_moved p list popped w run below pop stores) (λ d less m. moved_info p.capacity d (info_word d) m refl)
       (λ m. moved_used p.capacity used_word m refl) pop.goes.below)
 
-  pub emptied_serves : IsNextLook p look → LeavesHeld (held_in p) p emptied
-  emptied_serves next = serves_moved p emptied run (pop_moved p list popped w run below pop stores) refl refl refl
+  pub emptied_leaves_held : IsNextLook p look → LeavesHeld (held_in p) p emptied
+  emptied_leaves_held next = leaves_held_moved p emptied run (pop_moved p list popped w run below pop stores) refl refl refl
       (looked_at_head p emptied list look (let long = run.looks_long in omega arith) next pop.goes.drew (omega arith) refl refl)
 
   pub emptied_refilling : IsRefilling class p emptied

@@ -57,23 +57,23 @@ answer_runs (Some b) bytes p q gets = (gets.running, gets.short, gets.accounted)
 pub request_stable : (r : Result (Option Block) Stopped) (p q : Parts) (bytes : ℕ) → IsStable p.capacity p.words (held_in p) → LeavesHeld (held_in p) p q
     → IfOk r (λ answer. Answers bytes answer p q)
     → OnErr r (held_in q ≡ held_in p) → IsStable q.capacity q.words (held_in q)
-request_stable (Ok answer) p q bytes stable serves answers held =
-    let kept = stable_kept p.capacity (held_in p) p.words q.words stable serves.as_allocator in
-    running_stable q (answer_runs answer bytes p q answers).0 (kept.capacity_is ∙ sym serves.capacity) (kept.capacity_durable ∙ sym serves.capacity)
-request_stable (Err e) p q bytes stable serves answers held =
-    subst (λ n. IsStable n q.words (held_in q)) (sym serves.capacity)
-    (subst (λ blocks. IsStable p.capacity q.words blocks) (sym held) (stable_kept p.capacity (held_in p) p.words q.words stable serves.as_allocator))
+request_stable (Ok answer) p q bytes stable leaves_held answers held =
+    let kept = stable_kept p.capacity (held_in p) p.words q.words stable leaves_held.as_allocator in
+    running_stable q (answer_runs answer bytes p q answers).0 (kept.capacity_is ∙ sym leaves_held.capacity) (kept.capacity_durable ∙ sym leaves_held.capacity)
+request_stable (Err e) p q bytes stable leaves_held answers held =
+    subst (λ n. IsStable n q.words (held_in q)) (sym leaves_held.capacity)
+    (subst (λ blocks. IsStable p.capacity q.words blocks) (sym held) (stable_kept p.capacity (held_in p) p.words q.words stable leaves_held.as_allocator))
 
 -- what lasts over a request or a free
 pub large_lasts : {T : Type 0} (r : Result T Stopped) (p q : Parts) (held : List Block) (most : ℕ) (old o : Option ℕ)
     → IsLasting p.capacity p.words (held_in p) old → LeavesHeld held p q
     → IsStable q.capacity q.words (held_in q) → OnOk r (o ≡ None) → IfErr r (λ e. o ≡ Some e.step) → IfErr r (λ e. StopsWithin e.step most p.words q.words)
     → IsLasting q.capacity q.words (held_in q) o
-large_lasts r p q held most old o lasts serves stable none stops halts = record {
-  some = let same = serves.capacity in let some = lasts.some in omega arith;
-  small = let same = serves.capacity in let small = lasts.small in omega arith;
+large_lasts r p q held most old o lasts leaves_held stable none stops halts = record {
+  some = let same = leaves_held.capacity in let some = lasts.some in omega arith;
+  small = let same = leaves_held.capacity in let small = lasts.small in omega arith;
   stable = stable;
-  used = subst (λ n. UsedFits n q.words) (sym serves.capacity) (serves.as_allocator.fits lasts.used);
+  used = subst (λ n. UsedFits n q.words) (sym leaves_held.capacity) (leaves_held.as_allocator.fits lasts.used);
   stopping = stop_above r o most p.words q.words none stops halts;
 }
 
@@ -83,8 +83,8 @@ pub request_lasts : (r : Result (Option Block) Stopped) (p q : Parts) (bytes : �
     → IfOk r (λ answer. Answers bytes answer p q) → OnErr r (held_in q ≡ held_in p) → OnOk r (o ≡ None) → IfErr r (λ e. o ≡ Some e.step)
     → IfErr r (λ e. StopsWithin e.step 41201 p.words q.words)
     → IsLasting q.capacity q.words (held_in q) o
-request_lasts r p q bytes old o lasts serves answers held none stops halts =
-    large_lasts r p q (held_in p) 41201 old o lasts serves (request_stable r p q bytes lasts.stable serves answers held) none stops halts
+request_lasts r p q bytes old o lasts leaves_held answers held none stops halts =
+    large_lasts r p q (held_in p) 41201 old o lasts leaves_held (request_stable r p q bytes lasts.stable leaves_held answers held) none stops halts
 
 -- a request or a free keeps the heap
 pub large_heap : {T : Type 0} (r : Result T Stopped) (s : SeqState) (q : Parts) (most : ℕ) (o : Option ℕ) (l : ∥ IsLasting q.capacity q.words (held_in q) o ∥₁)
@@ -127,10 +127,10 @@ pending_kept s q o to word stores out = λ p. elim (stores.pending word out p) a
 -- a request keeps all own words
 pub request_words : (s seen : SeqState) (q : Parts) (o : Option ℕ) → IsSeqHeap s → s ≡ seen → LeavesHeld (held_in s.parts) s.parts q
     → KeepsWords (seat_of seen) (large_view s q o)
-request_words s seen q o heap same serves = subst (λ t. KeepsWords (seat_of t) (large_view s q o)) same (record {
+request_words s seen q o heap same leaves_held = subst (λ t. KeepsWords (seat_of t) (large_view s q o)) same (record {
   roots = refl;
-  words = λ word own. word_kept s q o (IsAllocatorWord s.parts.capacity (held_in s.parts)) word serves.as_allocator.stores (out word own);
-  pending = λ word own. pending_kept s q o (IsAllocatorWord s.parts.capacity (held_in s.parts)) word serves.as_allocator.stores (out word own);
+  words = λ word own. word_kept s q o (IsAllocatorWord s.parts.capacity (held_in s.parts)) word leaves_held.as_allocator.stores (out word own);
+  pending = λ word own. pending_kept s q o (IsAllocatorWord s.parts.capacity (held_in s.parts)) word leaves_held.as_allocator.stores (out word own);
   refusals = record { count = refl; bytes = refl; looks = refl };
 }) where
   out : (word : ℕ) → IsOwn (held_in s.parts) all_roots word → IsAllocatorWord s.parts.capacity (held_in s.parts) word → ⊥

@@ -152,10 +152,10 @@ read_cache p class cache is run e =
 pub other_cache : (caches : List Cache) (class : ℕ) (new : Cache) (c : ℕ) → c ≢ class → cache_at (set caches class new) c ≡ cache_at caches c
 other_cache caches class new c other = get_or-set_other caches class c new (record { first = 0; count = 0 }) other
 
--- steps that store to words of an allocator serve the held blocks
-pub serves_of : (p q : Parts) (held : List Block) (to : ℕ → Type 0) → IsRunning p → q.capacity ≡ p.capacity → looks_of q ≡ looks_of p → q.taken ≡ p.taken
+-- steps that store to words of an allocator leave the held blocks
+pub leaves_held_of : (p q : Parts) (held : List Block) (to : ℕ → Type 0) → IsRunning p → q.capacity ≡ p.capacity → looks_of q ≡ looks_of p → q.taken ≡ p.taken
     → ((word : ℕ) → to word → IsAllocatorWord p.capacity held word) → (to used_word → ⊥) → StoresOnly to p.words q.words → LeavesHeld held p q
-serves_of p q held to run capacity look taken are not_used stores = record {
+leaves_held_of p q held to run capacity look taken are not_used stores = record {
   capacity = capacity;
   as_allocator = (as_allocator_of p.capacity held to p.words q.words are not_used stores run.settled.used).0;
   knows =
@@ -166,11 +166,11 @@ serves_of p q held to run capacity look taken are not_used stores = record {
   looks = looks_kept p q look;
 }
 
-pub serves_none : (p : Parts) (held : List Block) → LeavesHeld held p p
-serves_none p held = record { capacity = refl; as_allocator = as_allocator_none p.capacity held p.words; knows = omega arith; taken = omega arith; looks = looks_kept p p refl }
+pub leaves_held_none : (p : Parts) (held : List Block) → LeavesHeld held p p
+leaves_held_none p held = record { capacity = refl; as_allocator = as_allocator_none p.capacity held p.words; knows = omega arith; taken = omega arith; looks = looks_kept p p refl }
 
-pub serves_then : (p q r : Parts) (held : List Block) → LeavesHeld held p q → LeavesHeld held q r → LeavesHeld held p r
-serves_then p q r held a b = record {
+pub leaves_held_then : (p q r : Parts) (held : List Block) → LeavesHeld held p q → LeavesHeld held q r → LeavesHeld held p r
+leaves_held_then p q r held a b = record {
   capacity = b.capacity ∙ a.capacity;
   as_allocator = as_allocator_then p.capacity held p.words q.words r.words a.as_allocator (subst (λ n. StoresAsAllocator n held q.words r.words) a.capacity
       b.as_allocator);
@@ -352,5 +352,5 @@ module _ (p : Parts) (class : ℕ) (is : IsClass class) (run : IsRunning p) (cac
         taken = refl;
       })
 
-  pub popped_serves : LeavesHeld (held_in p) p popped_parts
-  popped_serves = serves_of p popped_parts (held_in p) (λ _. ⊥) run refl refl refl (λ word out. absurd out) (λ out. out) stores
+  pub popped_leaves_held : LeavesHeld (held_in p) p popped_parts
+  popped_leaves_held = leaves_held_of p popped_parts (held_in p) (λ _. ⊥) run refl refl refl (λ word out. absurd out) (λ out. out) stores

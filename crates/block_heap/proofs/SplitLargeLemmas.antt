@@ -35,10 +35,10 @@ use Rattle.block_heap.proofs.LookLemmas.{looks_kept}
 use Rattle.block_heap.proofs.StableLemmas.{as_allocator_of}
 use Rattle.block_heap.proofs.PushLemmas.{pushed_is, pushed_pops, words_inside}
 
--- parts with other words serve, where each word stored to is an allocator's
-pub serves_words : (held : List Block) (p : Parts) (to : ℕ → Type 0) (w : View) → ((word : ℕ) → to word → IsAllocatorWord p.capacity held word) → (to used_word → ⊥)
+-- parts with other words leave the held blocks, where each word stored to is an allocator's
+pub leaves_held_words : (held : List Block) (p : Parts) (to : ℕ → Type 0) (w : View) → ((word : ℕ) → to word → IsAllocatorWord p.capacity held word) → (to used_word → ⊥)
     → StoresOnly to p.words w → durable_at p.words used_word ≡ volatile_at p.words used_word → LeavesHeld held p (record p { words = w })
-serves_words held p to w are not_used stores settled = record {
+leaves_held_words held p to w are not_used stores settled = record {
   capacity = refl;
   as_allocator = (as_allocator_of p.capacity held to p.words w are not_used stores settled).0;
   knows = refl;
@@ -99,16 +99,16 @@ module _ (p : Parts) (d anchor : ℕ) (u w : View) (run : IsRunning p) (dropped 
   pub anchor_stores : StoresOnly (IsSplitWord d) p.words u
   anchor_stores = stores_more (λ word. word ≡ anchor) (IsSplitWord d) p.words u (λ word e. inl (e ∙ at)) store
 
-  pub anchor_serves : LeavesHeld (held_in p) p (record p { words = u })
-  anchor_serves = serves_words (held_in p) p (IsSplitWord d) u (split_words p.capacity d (held_in p) within) (split_not_used d) anchor_stores run.settled.used
+  pub anchor_leaves_held : LeavesHeld (held_in p) p (record p { words = u })
+  anchor_leaves_held = leaves_held_words (held_in p) p (IsSplitWord d) u (split_words p.capacity d (held_in p) within) (split_not_used d) anchor_stores run.settled.used
 
   -- after both
   module _ (push : StoresOnly (IsPushWord 0 d) u w) where
     pub split_stores : StoresOnly (IsSplitWord d) p.words w
     split_stores = stores_then (IsSplitWord d) p.words u w anchor_stores (stores_more (IsPushWord 0 d) (IsSplitWord d) u w (λ word e. inr e) push)
 
-    pub split_serves : LeavesHeld (held_in p) p (record p { words = w })
-    split_serves = serves_words (held_in p) p (IsSplitWord d) w (split_words p.capacity d (held_in p) within) (split_not_used d) split_stores run.settled.used
+    pub split_leaves_held : LeavesHeld (held_in p) p (record p { words = w })
+    split_leaves_held = leaves_held_words (held_in p) p (IsSplitWord d) w (split_words p.capacity d (held_in p) within) (split_not_used d) split_stores run.settled.used
 
     -- where both were done
     module _ (stored : IsStored anchor 0 p.words u) (pushed : IsPushed 0 d u w) where

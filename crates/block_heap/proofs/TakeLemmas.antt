@@ -32,7 +32,7 @@ use Rattle.block_heap.proofs.MediumLemmas.{stores_then, stores_more}
 use Rattle.block_heap.proofs.RunningLemmas.{set_is, settled_kept}
 use Rattle.block_heap.proofs.SpendLemmas.{spends_by}
 use Rattle.block_heap.proofs.LookLemmas.{IsNextLook, looked_at_head}
-use Rattle.block_heap.proofs.RefillLemmas.{IsMoved, a_head, an_anchor, a_link, moved_info, moved_used, moved_inside, serves_moved, IsMade, made, caches_filled, caches_other, sizes_kept, none_cached, pop_moved, popped_head, popped_of, popped_pops, popped_list, popped_place}
+use Rattle.block_heap.proofs.RefillLemmas.{IsMoved, a_head, an_anchor, a_link, moved_info, moved_used, moved_inside, leaves_held_moved, IsMade, made, caches_filled, caches_other, sizes_kept, none_cached, pop_moved, popped_head, popped_of, popped_pops, popped_list, popped_place}
 
 module _ (p : Parts) (class d : ℕ) (popped : Popped) (w : View) (look : Look) (run : IsRunning p) (is : IsClass class) (pop : IsPopped class popped p.words w)
     (pop_stores : StoresOnly (λ word. word ≡ head_word class) p.words w) (some : popped.first ≡ Some d) where
@@ -161,8 +161,8 @@ module _ (p : Parts) (class d : ℕ) (popped : Popped) (w : View) (look : Look) 
             (popped_of p class popped w run below pop pop_stores d some) anchor_set;
       }
 
-      pub taken_serves : IsNextLook p look → LeavesHeld (held_in p) p taken_parts
-      taken_serves next = serves_moved p taken_parts run take_moved refl refl refl (first_looked taken_parts next take_stores.drawn (omega arith) refl refl)
+      pub taken_leaves_held : IsNextLook p look → LeavesHeld (held_in p) p taken_parts
+      taken_leaves_held next = leaves_held_moved p taken_parts run take_moved refl refl refl (first_looked taken_parts next take_stores.drawn (omega arith) refl refl)
 
       pub taken_some : (1 ≤ (cache_at (set p.caches class cache) class).count) × (IsEmptyList p class → ⊥)
       taken_some =
@@ -224,8 +224,8 @@ module _ (p : Parts) (class d : ℕ) (popped : Popped) (w : View) (look : Look) 
       abbrev pub recycled : Parts
       recycled = record p { words = v; head_looks = set p.head_looks class look }
 
-      pub recycled_serves : IsNextLook p look → LeavesHeld (held_in p) p recycled
-      recycled_serves next = serves_moved p recycled run push_moved refl refl refl
+      pub recycled_leaves_held : IsNextLook p look → LeavesHeld (held_in p) p recycled
+      recycled_leaves_held next = leaves_held_moved p recycled run push_moved refl refl refl
           (first_looked recycled next (let a = take_stores.drawn in let b = push_stores.drawn in omega arith) (omega arith) refl refl)
 
       module _ (answer : Option Cache) (answer_is : answer ≡ None) (took : IsTakenFrom p.capacity class d answer w u) (pushed : IsPushed 0 d u v) where

@@ -37,7 +37,7 @@ impl<C: Chance> Arena<C> {
             (parts_of self.old).words (parts_of self.new).words) }
         ensures stopped { IfErr result (λ e. StopsWithin e.step 41201
             (parts_of self.old).words (parts_of self.new).words) }
-        ensures serves { LeavesHeld (held_in (parts_of self.old))
+        ensures leaves_held { LeavesHeld (held_in (parts_of self.old))
             (parts_of self.old) (parts_of self.new) }
         ensures held { OnErr result
             (held_in (parts_of self.new) ≡ held_in (parts_of self.old)) }
@@ -63,7 +63,7 @@ impl<C: Chance> Arena<C> {
             (parts_of self.old).words (parts_of self.new).words) }
         ensures stopped { IfErr result (λ e. StopsWithin e.step 41201
             (parts_of self.old).words (parts_of self.new).words) }
-        ensures serves { LeavesHeld (held_in (parts_of self.old))
+        ensures leaves_held { LeavesHeld (held_in (parts_of self.old))
             (parts_of self.old) (parts_of self.new) }
         ensures held { OnErr result
             (held_in (parts_of self.new) ≡ held_in (parts_of self.old)) }
@@ -90,7 +90,7 @@ impl<C: Chance> Arena<C> {
             ≤ (parts_of self.old).words.drawn + 41200) }
         ensures stopped { IfErr result (λ e. StopsWithin e.step 41200
             (parts_of self.old).words (parts_of self.new).words) }
-        ensures serves { LeavesHeld (held_in (parts_of self.old))
+        ensures leaves_held { LeavesHeld (held_in (parts_of self.old))
             (parts_of self.old) (parts_of self.new) }
         ensures held { held_in (parts_of self.new) ≡ held_in (parts_of self.old) }
         ensures few { (parts_of self.new).taken ≤ (parts_of self.old).taken + 1 }
@@ -114,7 +114,7 @@ impl<C: Chance> Arena<C> {
             (parts_of self.old).words (parts_of self.new).words) }
         ensures freed { TakesFrom b (held_in (parts_of self.old)) (held_in (parts_of self.new)) }
         ensures order { OnOk result (ComesBack b (parts_of self.old) (parts_of self.new)) }
-        ensures serves { LeavesHeld (held_in (parts_of self.new))
+        ensures leaves_held { LeavesHeld (held_in (parts_of self.new))
             (parts_of self.old) (parts_of self.new) }
         ensures taken { (parts_of self.new).taken ≡ (parts_of self.old).taken }
         ensures accounted { OnOk result (AreAccounted (parts_of self.old)

@@ -30,7 +30,7 @@ impl<C: Chance> Arena<C> {
             (parts_of self.old).words (parts_of self.new).words) }
         ensures stopped { IfErr result (λ e. StopsWithin e.step 7
             (parts_of self.old).words (parts_of self.new).words) }
-        ensures serves { LeavesHeld (held_in (parts_of self.old))
+        ensures leaves_held { LeavesHeld (held_in (parts_of self.old))
             (parts_of self.old) (parts_of self.new) }
         ensures held { OnErr result
             (held_in (parts_of self.new) ≡ held_in (parts_of self.old)) }
@@ -65,7 +65,7 @@ impl<C: Chance> Arena<C> {
             (parts_of self.old).words (parts_of self.new).words) }
         ensures freed { TakesFrom b (held_in (parts_of self.old)) (held_in (parts_of self.new)) }
         ensures order { OnOk result (FreesLarge b (parts_of self.old) (parts_of self.new)) }
-        ensures serves { LeavesHeld (held_in (parts_of self.new))
+        ensures leaves_held { LeavesHeld (held_in (parts_of self.new))
             (parts_of self.old) (parts_of self.new) }
         ensures caches { (parts_of self.new).caches ≡ (parts_of self.old).caches }
         ensures taken { (parts_of self.new).taken ≡ (parts_of self.old).taken }
@@ -96,7 +96,7 @@ impl<C: Chance> Arena<C> {
         ensures stopped { IfErr result (λ e. StopsWithin e.step 4
             (parts_of self.old).words (parts_of self.new).words) }
         ensures held { (parts_of self.new).blocks ≡ (parts_of self.old).blocks }
-        ensures serves { LeavesHeld (held_in (parts_of self.old))
+        ensures leaves_held { LeavesHeld (held_in (parts_of self.old))
             (parts_of self.old) (parts_of self.new) }
         ensures caches { (parts_of self.new).caches ≡ (parts_of self.old).caches }
         ensures taken { (parts_of self.new).taken ≡ (parts_of self.old).taken }

@@ -50,7 +50,7 @@ impl<C: Chance> Arena<C> {
             (parts_of self.old).words (parts_of self.new).words) }
         ensures stopped { IfErr result (λ e. StopsWithin e.step 41200
             (parts_of self.old).words (parts_of self.new).words) }
-        ensures serves { LeavesHeld (held_in (parts_of self.old))
+        ensures leaves_held { LeavesHeld (held_in (parts_of self.old))
             (parts_of self.old) (parts_of self.new) }
         ensures held { held_in (parts_of self.new) ≡ held_in (parts_of self.old) }
         ensures few { (parts_of self.new).taken ≤ (parts_of self.old).taken + 1 }
@@ -78,7 +78,7 @@ impl<C: Chance> Arena<C> {
             (parts_of self.old).words (parts_of self.new).words) }
         ensures stopped { IfErr result (λ e. StopsWithin e.step (8 * largest_capacity + 8)
             (parts_of self.old).words (parts_of self.new).words) }
-        ensures serves { LeavesHeld (held_in (parts_of self.old))
+        ensures leaves_held { LeavesHeld (held_in (parts_of self.old))
             (parts_of self.old) (parts_of self.new) }
         ensures held { held_in (parts_of self.new) ≡ held_in (parts_of self.old) }
         ensures taken { (parts_of self.new).taken ≡ (parts_of self.old).taken }
@@ -109,7 +109,7 @@ impl<C: Chance> Arena<C> {
             (parts_of self.old).words (parts_of self.new).words) }
         ensures stopped { IfErr result (λ e. StopsWithin e.step 8
             (parts_of self.old).words (parts_of self.new).words) }
-        ensures serves { LeavesHeld (held_in (parts_of self.old))
+        ensures leaves_held { LeavesHeld (held_in (parts_of self.old))
             (parts_of self.old) (parts_of self.new) }
         ensures held { held_in (parts_of self.new) ≡ held_in (parts_of self.old) }
         ensures taken { (parts_of self.new).taken ≡ (parts_of self.old).taken }
@@ -144,7 +144,7 @@ impl<C: Chance> Arena<C> {
             (parts_of self.old).words (parts_of self.new).words) }
         ensures stopped { IfErr result (λ e. StopsWithin e.step 4203
             (parts_of self.old).words (parts_of self.new).words) }
-        ensures serves { LeavesHeld (held_in (parts_of self.old))
+        ensures leaves_held { LeavesHeld (held_in (parts_of self.old))
             (parts_of self.old) (parts_of self.new) }
         ensures held { held_in (parts_of self.new) ≡ held_in (parts_of self.old) }
         ensures taken { (parts_of self.new).taken ≡ (parts_of self.old).taken }
@@ -175,7 +175,7 @@ impl<C: Chance> Arena<C> {
             (parts_of self.old).words (parts_of self.new).words) }
         ensures stopped { IfErr result (λ e. StopsWithin e.step 4204
             (parts_of self.old).words (parts_of self.new).words) }
-        ensures serves { LeavesHeld (held_in (parts_of self.old))
+        ensures leaves_held { LeavesHeld (held_in (parts_of self.old))
             (parts_of self.old) (parts_of self.new) }
         ensures held { held_in (parts_of self.new) ≡ held_in (parts_of self.old) }
         ensures few { (parts_of self.new).taken ≤ (parts_of self.old).taken + 1 }

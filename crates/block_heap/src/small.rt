@@ -40,7 +40,7 @@ impl<C: Chance> Arena<C> {
             (parts_of self.old).words (parts_of self.new).words) }
         ensures stopped { IfErr result (λ e. StopsWithin e.step 1
             (parts_of self.old).words (parts_of self.new).words) }
-        ensures serves { LeavesHeld (held_in (parts_of self.old))
+        ensures leaves_held { LeavesHeld (held_in (parts_of self.old))
             (parts_of self.old) (parts_of self.new) }
         ensures held { OnErr result
             (held_in (parts_of self.new) ≡ held_in (parts_of self.old)) }
@@ -73,7 +73,7 @@ impl<C: Chance> Arena<C> {
         ensures freed { TakesFrom b (held_in (parts_of self.old)) (held_in (parts_of self.new)) }
         ensures order { OnOk result (FreesSmall class.number b.first_word
             (parts_of self.old) (parts_of self.new)) }
-        ensures serves { LeavesHeld (held_in (parts_of self.new))
+        ensures leaves_held { LeavesHeld (held_in (parts_of self.new))
             (parts_of self.old) (parts_of self.new) }
         ensures taken { (parts_of self.new).taken ≡ (parts_of self.old).taken }
         ensures accounted { OnOk result (AreAccounted (parts_of self.old)
@@ -108,7 +108,7 @@ impl<C: Chance> Arena<C> {
         ensures stopped { IfErr result (λ e. StopsWithin e.step 36864
             (parts_of self.old).words (parts_of self.new).words) }
         ensures held { held_in (parts_of self.new) ≡ held_in (parts_of self.old) }
-        ensures serves { LeavesHeld (held_in (parts_of self.old))
+        ensures leaves_held { LeavesHeld (held_in (parts_of self.old))
             (parts_of self.old) (parts_of self.new) }
         ensures taken { (parts_of self.new).taken ≡ (parts_of self.old).taken }
     {
@@ -137,7 +137,7 @@ impl<C: Chance> Arena<C> {
             StopsWithin e.step (cache_at (parts_of self.old).caches class.number).count
             (parts_of self.old).words (parts_of self.new).words) }
         ensures held { held_in (parts_of self.new) ≡ held_in (parts_of self.old) }
-        ensures serves { LeavesHeld (held_in (parts_of self.old))
+        ensures leaves_held { LeavesHeld (held_in (parts_of self.old))
             (parts_of self.old) (parts_of self.new) }
         ensures taken { (parts_of self.new).taken ≡ (parts_of self.old).taken }
     {
@@ -181,7 +181,7 @@ impl<C: Chance> Arena<C> {
         ensures stopped { IfErr result (λ e. StopsWithin e.step 6
             (parts_of self.old).words (parts_of self.new).words) }
         ensures held { held_in (parts_of self.new) ≡ held_in (parts_of self.old) }
-        ensures serves { LeavesHeld (held_in (parts_of self.old))
+        ensures leaves_held { LeavesHeld (held_in (parts_of self.old))
             (parts_of self.old) (parts_of self.new) }
         ensures taken { (parts_of self.new).taken ≡ (parts_of self.old).taken }
     {

@@ -37,7 +37,7 @@ returns-in-None-clause-ok g c =
     both_ok c.alloc_large.result (λ answer. JoinsAs (span_of c.args.bytes) answer p q × one answer) (λ answer. Answers c.args.bytes answer p q)
     (IsRunning q × (AreAccounted p → AreAccounted q))
     (λ answer join runs. answers_large c.args.bytes answer p q large c.requires.short join.0 runs.0 runs.1 c.alloc_large.ensures.caches
-    c.alloc_large.ensures.serves.capacity join.1) (if_ok_both c.alloc_large.result (λ answer. JoinsAs (span_of c.args.bytes) answer p q) one joins c.alloc_large.ensures.one_look)
+    c.alloc_large.ensures.leaves_held.capacity join.1) (if_ok_both c.alloc_large.result (λ answer. JoinsAs (span_of c.args.bytes) answer p q) one joins c.alloc_large.ensures.one_look)
     (on_ok_both c.alloc_large.result (IsRunning q) (AreAccounted p → AreAccounted q) c.alloc_large.ensures.running c.alloc_large.ensures.accounted)
 
 pub returns-in-None-clause-drains : goal.returns-in-None-clause-drains

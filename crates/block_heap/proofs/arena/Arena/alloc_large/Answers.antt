@@ -2,7 +2,7 @@ use Rattle.heap_model.specs.Geometry.{largest_capacity_fits}
 use Rattle.std.proofs.Common.{arith, ap, ◌∙◌, Some}
 use Rattle.block_heap.specs.Parts.{parts_of}
 use Rattle.block_heap.specs.MediumView.{medium_view}
-use Rattle.block_heap.proofs.AllocLargeLemmas.{large_stops, running_looked, taken_fits, fresh_unmarked, join_serves, join_running, join_answers, join_accounted, serves_looked, looked_accounted}
+use Rattle.block_heap.proofs.AllocLargeLemmas.{large_stops, running_looked, taken_fits, fresh_unmarked, join_leaves_held, join_running, join_answers, join_accounted, leaves_held_looked, looked_accounted}
 use Rattle.block_heap.proofs.arena.Arena.alloc_large.Goals as goal
 
 pub returns-in_default-clause-running : goal.returns-in_default-clause-running
@@ -16,9 +16,9 @@ overflow_add-self g c =
     c.requires.running c.in_ok-fresh.ensures.ok c.in-Some.is in
     omega (arith, largest_capacity_fits)
 
-pub returns-in_err-join-clause-serves : goal.returns-in_err-join-clause-serves
-returns-in_err-join-clause-serves g c =
-    join_serves (parts_of c.args.self.now) c.args.count c.in-Some.d c.in_ok-fresh.fresh (medium_view c.take_fresh.new.self) c.by-self.result
+pub returns-in_err-join-clause-leaves_held : goal.returns-in_err-join-clause-leaves_held
+returns-in_err-join-clause-leaves_held g c =
+    join_leaves_held (parts_of c.args.self.now) c.args.count c.in-Some.d c.in_ok-fresh.fresh (medium_view c.take_fresh.new.self) c.by-self.result
     c.requires.running c.in_ok-fresh.ensures.ok c.in-Some.is (medium_view c.join.new.self) c.requires.some c.take_fresh.ensures.others c.take_fresh.ensures.crash c.take_fresh.ensures.fits
     c.by-self.ensures.seen c.by-self.ensures.taken c.join.ensures.others c.args.self.now.held
     (record { by = c.by-self.ensures.ticket ∙ ap Some c.next_ticket-ticket.ensures; taken = c.by-self.ensures.taken })
@@ -28,9 +28,9 @@ divide-requires-clause-none g c =
     fresh_unmarked (parts_of c.args.self.now) c.args.count c.in-Some.d c.in_ok-fresh.fresh (medium_view c.take_fresh.new.self) c.by-self.result
     c.requires.running c.in_ok-fresh.ensures.ok c.in-Some.is
 
-pub returns-clause-serves : goal.returns-clause-serves
-returns-clause-serves g c =
-    join_serves (parts_of c.args.self.now) c.args.count c.in-Some.d c.in_ok-fresh.fresh (medium_view c.take_fresh.new.self) c.by-self.result
+pub returns-clause-leaves_held : goal.returns-clause-leaves_held
+returns-clause-leaves_held g c =
+    join_leaves_held (parts_of c.args.self.now) c.args.count c.in-Some.d c.in_ok-fresh.fresh (medium_view c.take_fresh.new.self) c.by-self.result
     c.requires.running c.in_ok-fresh.ensures.ok c.in-Some.is (medium_view c.join.new.self) c.requires.some c.take_fresh.ensures.others c.take_fresh.ensures.crash c.take_fresh.ensures.fits
     c.by-self.ensures.seen c.by-self.ensures.taken c.join.ensures.others c.add.new.self
     (record { by = c.by-self.ensures.ticket ∙ ap Some c.next_ticket-ticket.ensures; taken = c.by-self.ensures.taken })
@@ -50,9 +50,9 @@ returns-clause-running g c =
     c.by-self.ensures.seen c.by-self.ensures.taken c.join.ensures.others c.divide.new.self c.add.new.self c.start-first_word.result c.in_ok-join.ensures.ok
     c.divide.ensures.held c.divide.ensures.words c.divide.ensures.start c.start-first_word.ensures c.add.ensures.held c.add.ensures.words c.add.ensures.start
 
-pub returns-in_default-clause-serves : goal.returns-in_default-clause-serves
-returns-in_default-clause-serves g c =
-    serves_looked (parts_of c.args.self.now) c.args.count c.in_ok-fresh.fresh (medium_view c.take_fresh.new.self) c.by-self.result
+pub returns-in_default-clause-leaves_held : goal.returns-in_default-clause-leaves_held
+returns-in_default-clause-leaves_held g c =
+    leaves_held_looked (parts_of c.args.self.now) c.args.count c.in_ok-fresh.fresh (medium_view c.take_fresh.new.self) c.by-self.result
     c.requires.running c.in_ok-fresh.ensures.ok c.in_default.is c.by-self.ensures.seen c.by-self.ensures.taken
     (record { by = c.by-self.ensures.ticket ∙ ap Some c.next_ticket-ticket.ensures; taken = c.by-self.ensures.taken })
 
@@ -68,8 +68,8 @@ returns-clause-accounted g c =
     c.by-self.ensures.seen c.by-self.ensures.taken c.join.ensures.others c.divide.new.self c.add.new.self c.start-first_word.result c.in_ok-join.ensures.ok
     c.divide.ensures.held c.divide.ensures.words c.divide.ensures.start c.start-first_word.ensures c.add.ensures.held c.add.ensures.words c.add.ensures.start
 
-pub returns-in_err-fresh-clause-serves : goal.returns-in_err-fresh-clause-serves
-returns-in_err-fresh-clause-serves g c =
+pub returns-in_err-fresh-clause-leaves_held : goal.returns-in_err-fresh-clause-leaves_held
+returns-in_err-fresh-clause-leaves_held g c =
     large_stops (parts_of c.args.self.now) c.args.count (medium_view c.take_fresh.new.self) c.requires.running c.take_fresh.ensures.others c.take_fresh.ensures.crash
     c.take_fresh.ensures.fits
 

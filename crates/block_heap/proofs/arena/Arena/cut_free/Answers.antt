@@ -2,9 +2,9 @@ use Rattle.std.proofs.Common.{refl, arith, ap, ◌∙◌, Some}
 use Rattle.block_heap.specs.MediumView.{medium_view}
 use Rattle.block_heap.specs.Parts.{parts_of}
 use Rattle.block_heap.proofs.RunningLemmas.{is_head}
-use Rattle.block_heap.proofs.RefillLemmas.{head_moved, serves_moved, emptied_refilling, emptied, emptied_serves, popped_none}
+use Rattle.block_heap.proofs.RefillLemmas.{head_moved, leaves_held_moved, emptied_refilling, emptied, emptied_leaves_held, popped_none}
 use Rattle.block_heap.proofs.SpendLemmas.{spends_none}
-use Rattle.block_heap.proofs.CutLemmas.{free_within, unmarked, free_none, free_serves, free_refilling, free_found, free_spends, free_cuts}
+use Rattle.block_heap.proofs.CutLemmas.{free_within, unmarked, free_none, free_leaves_held, free_refilling, free_found, free_spends, free_cuts}
 use Rattle.block_heap.proofs.LookLemmas.{looks_kept}
 use Rattle.block_heap.proofs.arena.Arena.cut_free.Goals as goal
 
@@ -12,10 +12,10 @@ pub pop-requires-clause-head : goal.pop-requires-clause-head
 pop-requires-clause-head g c =
     is_head (parts_of c.args.self.now) 0 c.requires.running (omega arith)
 
-pub returns-in_err-popped-clause-serves : goal.returns-in_err-popped-clause-serves
-returns-in_err-popped-clause-serves g c =
+pub returns-in_err-popped-clause-leaves_held : goal.returns-in_err-popped-clause-leaves_held
+returns-in_err-popped-clause-leaves_held g c =
     let p = parts_of c.args.self.now in
-    serves_moved p (record p { words = medium_view c.pop.new.self }) c.requires.running
+    leaves_held_moved p (record p { words = medium_view c.pop.new.self }) c.requires.running
     (head_moved p.capacity 0 p.words (medium_view c.pop.new.self) (omega arith) c.pop.ensures.others) refl refl refl
     (looks_kept p (record p { words = medium_view c.pop.new.self }) refl)
 
@@ -24,9 +24,9 @@ returns-in_default-clause-refilling g c =
     emptied_refilling (parts_of c.args.self.now) c.args.class.number 0 c.in_ok-popped.popped (medium_view c.pop.new.self) c.by.result c.requires.running (omega arith)
     c.in_ok-popped.ensures.ok c.pop.ensures.others c.in_default.is
 
-pub returns-in_default-clause-serves : goal.returns-in_default-clause-serves
-returns-in_default-clause-serves g c =
-    emptied_serves (parts_of c.args.self.now) c.args.class.number 0 c.in_ok-popped.popped (medium_view c.pop.new.self) c.by.result c.requires.running (omega arith)
+pub returns-in_default-clause-leaves_held : goal.returns-in_default-clause-leaves_held
+returns-in_default-clause-leaves_held g c =
+    emptied_leaves_held (parts_of c.args.self.now) c.args.class.number 0 c.in_ok-popped.popped (medium_view c.pop.new.self) c.by.result c.requires.running (omega arith)
     c.in_ok-popped.ensures.ok c.pop.ensures.others c.in_default.is
     (record { by = c.by.ensures.ticket ∙ ap Some c.next_ticket-ticket.ensures; taken = c.by.ensures.taken })
 
@@ -41,9 +41,9 @@ cut-requires-clause-none g c =
     (free_none (parts_of c.args.self.now) c.args.class.number c.in-Some.d c.in_ok-popped.popped (medium_view c.pop.new.self) c.by.result c.requires.running
     c.args.class.is c.in_ok-popped.ensures.ok c.pop.ensures.others c.in-Some.is)
 
-pub returns-in_err-cut-clause-serves : goal.returns-in_err-cut-clause-serves
-returns-in_err-cut-clause-serves g c =
-    free_serves (parts_of c.args.self.now) c.args.class.number c.in-Some.d c.in_ok-popped.popped (medium_view c.pop.new.self) c.by.result c.requires.running
+pub returns-in_err-cut-clause-leaves_held : goal.returns-in_err-cut-clause-leaves_held
+returns-in_err-cut-clause-leaves_held g c =
+    free_leaves_held (parts_of c.args.self.now) c.args.class.number c.in-Some.d c.in_ok-popped.popped (medium_view c.pop.new.self) c.by.result c.requires.running
     c.args.class.is c.in_ok-popped.ensures.ok c.pop.ensures.others c.in-Some.is
     (parts_of c.cut.new.self) c.cut.ensures.others c.cut.ensures.same
     (record { by = c.by.ensures.ticket ∙ ap Some c.next_ticket-ticket.ensures; taken = c.by.ensures.taken })
@@ -60,9 +60,9 @@ returns-clause-refilling g c =
     c.args.class.is c.in_ok-popped.ensures.ok c.pop.ensures.others c.in-Some.is
     (parts_of c.cut.new.self) c.cut.ensures.others c.cut.ensures.same c.requires.empty c.in_ok-cut.ensures.ok
 
-pub returns-clause-serves : goal.returns-clause-serves
-returns-clause-serves g c =
-    free_serves (parts_of c.args.self.now) c.args.class.number c.in-Some.d c.in_ok-popped.popped (medium_view c.pop.new.self) c.by.result c.requires.running
+pub returns-clause-leaves_held : goal.returns-clause-leaves_held
+returns-clause-leaves_held g c =
+    free_leaves_held (parts_of c.args.self.now) c.args.class.number c.in-Some.d c.in_ok-popped.popped (medium_view c.pop.new.self) c.by.result c.requires.running
     c.args.class.is c.in_ok-popped.ensures.ok c.pop.ensures.others c.in-Some.is
     (parts_of c.cut.new.self) c.cut.ensures.others c.cut.ensures.same
     (record { by = c.by.ensures.ticket ∙ ap Some c.next_ticket-ticket.ensures; taken = c.by.ensures.taken })

@@ -3,7 +3,7 @@ use Rattle.heap_model.proofs.SizeLemmas.{few_blocks}
 use Rattle.block_heap.specs.MediumView.{medium_view}
 use Rattle.block_heap.specs.Parts.{parts_of}
 use Rattle.block_heap.proofs.SmallLemmas.{read_cache}
-use Rattle.block_heap.proofs.FreeLemmas.{held_mark, held_below, taken_back, freed_serves, count_short, freed_running, freed_accounted, freed_short, flushed_short, flushed_held, flushed_serve, flushed_goes}
+use Rattle.block_heap.proofs.FreeLemmas.{held_mark, held_below, taken_back, freed_leaves_held, count_short, freed_running, freed_accounted, freed_short, flushed_short, flushed_held, flushed_serve, flushed_goes}
 use Rattle.block_heap.proofs.FreedLemmas.{frees_below, frees_at}
 use Rattle.block_heap.proofs.arena.Arena.free_small.Goals as goal
 
@@ -24,10 +24,10 @@ returns-in_err-store-clause-freed g c =
     taken_back p c.args.class.number c.args.class.is c.requires.running c.args.b c.requires.holds c.requires.size
     c.remove.new.self c.remove.ensures.held c.remove.ensures.words c.remove.ensures.start
 
-pub returns-in_err-store-clause-serves : goal.returns-in_err-store-clause-serves
-returns-in_err-store-clause-serves g c =
+pub returns-in_err-store-clause-leaves_held : goal.returns-in_err-store-clause-leaves_held
+returns-in_err-store-clause-leaves_held g c =
     let p = parts_of c.args.self.now in
-    freed_serves p c.args.class.number c.args.class.is c.requires.running c.args.b c.requires.holds c.requires.size
+    freed_leaves_held p c.args.class.number c.args.class.is c.requires.running c.args.b c.requires.holds c.requires.size
     c.remove.new.self c.remove.ensures.held c.remove.ensures.words c.remove.ensures.start _ refl refl refl c.store.ensures.others
 
 pub overflow_add-cache : goal.overflow_add-cache
@@ -67,14 +67,14 @@ returns-in_err-flush-clause-freed g c =
     c.index-cache.result.now is (medium_view c.store.new.self) c.in_ok-store.ensures.ok c.store.ensures.others c.requires.short
     (parts_of c.flush.new.self) c.flush.ensures.held
 
-pub returns-in_err-flush-clause-serves : goal.returns-in_err-flush-clause-serves
-returns-in_err-flush-clause-serves g c =
+pub returns-in_err-flush-clause-leaves_held : goal.returns-in_err-flush-clause-leaves_held
+returns-in_err-flush-clause-leaves_held g c =
     let p = parts_of c.args.self.now in
     let is = read_cache p c.args.class.number c.index-cache.result.now c.args.class.is c.requires.running c.index-cache.ensures in
     flushed_serve p c.args.class.number c.args.class.is c.requires.running c.args.b c.requires.holds c.requires.size
     c.remove.new.self c.remove.ensures.held c.remove.ensures.words c.remove.ensures.start
     c.index-cache.result.now is (medium_view c.store.new.self) c.in_ok-store.ensures.ok c.store.ensures.others c.requires.short
-    (parts_of c.flush.new.self) c.flush.ensures.held c.flush.ensures.serves
+    (parts_of c.flush.new.self) c.flush.ensures.held c.flush.ensures.leaves_held
 
 pub returns-in_ok-flush-clause-freed : goal.returns-in_ok-flush-clause-freed
 returns-in_ok-flush-clause-freed g c =
@@ -85,14 +85,14 @@ returns-in_ok-flush-clause-freed g c =
     c.index-cache.result.now is (medium_view c.store.new.self) c.in_ok-store.ensures.ok c.store.ensures.others c.requires.short
     (parts_of c.flush.new.self) c.flush.ensures.held
 
-pub returns-in_ok-flush-clause-serves : goal.returns-in_ok-flush-clause-serves
-returns-in_ok-flush-clause-serves g c =
+pub returns-in_ok-flush-clause-leaves_held : goal.returns-in_ok-flush-clause-leaves_held
+returns-in_ok-flush-clause-leaves_held g c =
     let p = parts_of c.args.self.now in
     let is = read_cache p c.args.class.number c.index-cache.result.now c.args.class.is c.requires.running c.index-cache.ensures in
     flushed_serve p c.args.class.number c.args.class.is c.requires.running c.args.b c.requires.holds c.requires.size
     c.remove.new.self c.remove.ensures.held c.remove.ensures.words c.remove.ensures.start
     c.index-cache.result.now is (medium_view c.store.new.self) c.in_ok-store.ensures.ok c.store.ensures.others c.requires.short
-    (parts_of c.flush.new.self) c.flush.ensures.held c.flush.ensures.serves
+    (parts_of c.flush.new.self) c.flush.ensures.held c.flush.ensures.leaves_held
 
 pub returns-in_ok-flush-clause-short : goal.returns-in_ok-flush-clause-short
 returns-in_ok-flush-clause-short g c =
@@ -110,7 +110,7 @@ returns-in_ok-flush-clause-goes g c =
     flushed_goes p c.args.class.number c.args.class.is c.requires.running c.args.b c.requires.holds c.requires.size
     c.remove.new.self c.remove.ensures.held c.remove.ensures.words c.remove.ensures.start
     c.index-cache.result.now is (medium_view c.store.new.self) c.in_ok-store.ensures.ok c.store.ensures.others c.requires.short
-    (parts_of c.flush.new.self) c.in_ok-flush.ensures.running c.flush.ensures.serves.as_allocator.stores.drawn c.flush.ensures.few
+    (parts_of c.flush.new.self) c.in_ok-flush.ensures.running c.flush.ensures.leaves_held.as_allocator.stores.drawn c.flush.ensures.few
 
 pub returns-else-cache-blocks_of-clause-running : goal.returns-else-cache-blocks_of-clause-running
 returns-else-cache-blocks_of-clause-running g c =
@@ -135,10 +135,10 @@ returns-else-cache-blocks_of-clause-freed g c =
     taken_back p c.args.class.number c.args.class.is c.requires.running c.args.b c.requires.holds c.requires.size
     c.remove.new.self c.remove.ensures.held c.remove.ensures.words c.remove.ensures.start
 
-pub returns-else-cache-blocks_of-clause-serves : goal.returns-else-cache-blocks_of-clause-serves
-returns-else-cache-blocks_of-clause-serves g c =
+pub returns-else-cache-blocks_of-clause-leaves_held : goal.returns-else-cache-blocks_of-clause-leaves_held
+returns-else-cache-blocks_of-clause-leaves_held g c =
     let p = parts_of c.args.self.now in
-    freed_serves p c.args.class.number c.args.class.is c.requires.running c.args.b c.requires.holds c.requires.size
+    freed_leaves_held p c.args.class.number c.args.class.is c.requires.running c.args.b c.requires.holds c.requires.size
     c.remove.new.self c.remove.ensures.held c.remove.ensures.words c.remove.ensures.start _ refl refl refl c.store.ensures.others
 
 pub returns-in_ok-flush-clause-accounted : goal.returns-in_ok-flush-clause-accounted

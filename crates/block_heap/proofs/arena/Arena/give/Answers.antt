@@ -6,7 +6,7 @@ use Rattle.block_heap.specs.Accounts.{AreAccounted}
 use Rattle.block_heap.specs.Parts.{parts_of}
 use Rattle.block_heap.specs.Running.{IsRunning}
 use Rattle.block_heap.proofs.SmallLemmas.{changed}
-use Rattle.block_heap.proofs.FlushLemmas.{prefix_anchor, prefix_first, prefix_last, prefix_fits, gave_serves, pushed_serves, gave_running, gave_accounted, pushed_all, all_accounted, pushed_some, some_accounted}
+use Rattle.block_heap.proofs.FlushLemmas.{prefix_anchor, prefix_first, prefix_last, prefix_fits, gave_leaves_held, pushed_leaves_held, gave_running, gave_accounted, pushed_all, all_accounted, pushed_some, some_accounted}
 use Rattle.block_heap.specs.Returns.{GivesTo}
 use Rattle.block_heap.proofs.ReturnLemmas.{gave_to, all_to, some_to}
 use Rattle.block_heap.proofs.AccountLemmas.{gives_back}
@@ -26,14 +26,14 @@ give_blocks-requires-clause-last g c = prefix_last (parts_of c.args.self.now) c.
 pub give_blocks-requires-clause-fits : goal.give_blocks-requires-clause-fits
 give_blocks-requires-clause-fits g c = prefix_fits (parts_of c.args.self.now) c.args.class.number c.args.class.is c.requires.running c.args.prefix c.requires.prefix
 
-pub returns-in_err-anchor-clause-serves : goal.returns-in_err-anchor-clause-serves
-returns-in_err-anchor-clause-serves g c =
-    gave_serves (parts_of c.args.self.now) c.args.class.number c.args.class.is c.requires.running c.args.prefix c.requires.prefix _ refl refl refl
+pub returns-in_err-anchor-clause-leaves_held : goal.returns-in_err-anchor-clause-leaves_held
+returns-in_err-anchor-clause-leaves_held g c =
+    gave_leaves_held (parts_of c.args.self.now) c.args.class.number c.args.class.is c.requires.running c.args.prefix c.requires.prefix _ refl refl refl
     c.give_blocks.ensures.others
 
-pub returns-in_err-push-clause-serves : goal.returns-in_err-push-clause-serves
-returns-in_err-push-clause-serves g c =
-    pushed_serves (parts_of c.args.self.now) c.args.class.number c.args.class.is c.requires.running c.args.prefix c.requires.prefix
+pub returns-in_err-push-clause-leaves_held : goal.returns-in_err-push-clause-leaves_held
+returns-in_err-push-clause-leaves_held g c =
+    pushed_leaves_held (parts_of c.args.self.now) c.args.class.number c.args.class.is c.requires.running c.args.prefix c.requires.prefix
     (medium_view c.give_blocks.new.self) c.if-all.list _ (let last = c.args.class.is.last in elim c.if-all.branch as (λ _. c.if-all.list < lists)
     [ then-all w ↦ let e = w.list-is in omega arith | else-all w ↦ let e = w.list-is in omega arith ])
     refl refl refl c.give_blocks.ensures.others c.push.ensures.others
@@ -59,9 +59,9 @@ returns-in_ok-push-clause-running g c =
           (let e = w.if-all.false in λ f. e (f ∙ sym all)) w.list-is
     ]
 
-pub returns-in_ok-push-clause-serves : goal.returns-in_ok-push-clause-serves
-returns-in_ok-push-clause-serves g c =
-    pushed_serves (parts_of c.args.self.now) c.args.class.number c.args.class.is c.requires.running c.args.prefix c.requires.prefix
+pub returns-in_ok-push-clause-leaves_held : goal.returns-in_ok-push-clause-leaves_held
+returns-in_ok-push-clause-leaves_held g c =
+    pushed_leaves_held (parts_of c.args.self.now) c.args.class.number c.args.class.is c.requires.running c.args.prefix c.requires.prefix
     (medium_view c.give_blocks.new.self) c.if-all.list _ (let last = c.args.class.is.last in elim c.if-all.branch as (λ _. c.if-all.list < lists)
     [ then-all w ↦ let e = w.list-is in omega arith | else-all w ↦ let e = w.list-is in omega arith ])
     refl refl refl c.give_blocks.ensures.others c.push.ensures.others
@@ -72,9 +72,9 @@ returns-else-eq-clause-running g c =
     (medium_view c.give_blocks.new.self) c.in_ok-anchor.anchor
     c.in_ok-anchor.ensures.ok c.give_blocks.ensures.others (λ e. search rules)
 
-pub returns-else-eq-clause-serves : goal.returns-else-eq-clause-serves
-returns-else-eq-clause-serves g c =
-    gave_serves (parts_of c.args.self.now) c.args.class.number c.args.class.is c.requires.running c.args.prefix c.requires.prefix _ refl refl refl
+pub returns-else-eq-clause-leaves_held : goal.returns-else-eq-clause-leaves_held
+returns-else-eq-clause-leaves_held g c =
+    gave_leaves_held (parts_of c.args.self.now) c.args.class.number c.args.class.is c.requires.running c.args.prefix c.requires.prefix _ refl refl refl
     c.give_blocks.ensures.others
 
 pub returns-in_ok-push-clause-gives : goal.returns-in_ok-push-clause-gives

@@ -1,8 +1,8 @@
 use Rattle.std.proofs.Common.{◌≡◌, ℕ, ◌-◌, ◌/◌, ◌≤◌, inl, inr, List, get_or, refl, sym, ◌∙◌, ap, subst, arith}
 use Rattle.heap_model.specs.Geometry.{start_word}
 use Rattle.block_heap.specs.Parts.{parts_of, held_in}
-use Rattle.block_heap.proofs.SmallLemmas.{read_cache, first_from, first_below, serves_of}
-use Rattle.block_heap.proofs.PrefixLemmas.{cache_first, walked_one, next_placed, walked_more, first_behind, walked_prefix, loaded_run, loaded_keeps, loaded_serves, stopped_serves, loaded_prefix, loaded_more, loaded_capacity}
+use Rattle.block_heap.proofs.SmallLemmas.{read_cache, first_from, first_below, leaves_held_of}
+use Rattle.block_heap.proofs.PrefixLemmas.{cache_first, walked_one, next_placed, walked_more, first_behind, walked_prefix, loaded_run, loaded_keeps, loaded_leaves_held, stopped_leaves_held, loaded_prefix, loaded_more, loaded_capacity}
 use Rattle.block_heap.specs.MediumView.{medium_view}
 use Rattle.block_heap.proofs.arena.Arena.longest_prefix.Goals.{then-loop-count-test+else-superblock_of-d, else-loop-count-test}
 use Rattle.block_heap.proofs.arena.Arena.longest_prefix.Goals as goal
@@ -56,9 +56,9 @@ load-requires-in-loop-count-clause-within g c =
     let words = inv.loaded.stores.words in
     omega arith
 
-pub returns-in_err-next-2-clause-serves : goal.returns-in_err-next-2-clause-serves
-returns-in_err-next-2-clause-serves g c =
-    stopped_serves (parts_of c.args.self.now) (parts_of c.loop-count.self) c.loop-count.count c.requires.running c.loop-count.invariant.loaded _ refl
+pub returns-in_err-next-2-clause-leaves_held : goal.returns-in_err-next-2-clause-leaves_held
+returns-in_err-next-2-clause-leaves_held g c =
+    stopped_leaves_held (parts_of c.args.self.now) (parts_of c.loop-count.self) c.loop-count.count c.requires.running c.loop-count.invariant.loaded _ refl
     c.load-in-loop-count.ensures.unchanged
 
 pub loop-count-preserved : goal.loop-count-preserved
@@ -113,18 +113,18 @@ pub returns-clause-running : goal.returns-clause-running
 returns-clause-running g c = loaded_run (parts_of c.args.self.now) (parts_of c.loop-count.self) c.loop-count.count c.requires.running
     c.loop-count.invariant.loaded
 
-pub returns-clause-serves : goal.returns-clause-serves
-returns-clause-serves g c = loaded_serves (parts_of c.args.self.now) (parts_of c.loop-count.self) c.loop-count.count c.requires.running
+pub returns-clause-leaves_held : goal.returns-clause-leaves_held
+returns-clause-leaves_held g c = loaded_leaves_held (parts_of c.args.self.now) (parts_of c.loop-count.self) c.loop-count.count c.requires.running
     c.loop-count.invariant.loaded
 
 pub returns-clause-keeps : goal.returns-clause-keeps
 returns-clause-keeps g c = loaded_keeps (parts_of c.args.self.now) (parts_of c.loop-count.self) c.loop-count.count c.requires.running
     c.loop-count.invariant.loaded c.args.class.number
 
-pub returns-in_err-next-clause-serves : goal.returns-in_err-next-clause-serves
-returns-in_err-next-clause-serves g c =
+pub returns-in_err-next-clause-leaves_held : goal.returns-in_err-next-clause-leaves_held
+returns-in_err-next-clause-leaves_held g c =
     let p = parts_of c.args.self.now in
-    serves_of p (record p { words = medium_view c.load.new.self }) (held_in p) (λ _. ⊥) c.requires.running refl refl refl (λ word out. absurd out) (λ out. out)
+    leaves_held_of p (record p { words = medium_view c.load.new.self }) (held_in p) (λ _. ⊥) c.requires.running refl refl refl (λ word out. absurd out) (λ out. out)
     c.load.ensures.unchanged
 
 pub returns-clause-longest : goal.returns-clause-longest

@@ -1,7 +1,7 @@
 use Rattle.std.proofs.Common.{refl, arith}
 use Rattle.block_heap.specs.MediumView.{medium_view}
 use Rattle.block_heap.specs.Parts.{parts_of}
-use Rattle.block_heap.proofs.SmallLemmas.{read_cache, first_cached, first_below, first_mark, popped_block, popped_serves}
+use Rattle.block_heap.proofs.SmallLemmas.{read_cache, first_cached, first_below, first_mark, popped_block, popped_leaves_held}
 use Rattle.block_heap.proofs.arena.Arena.pop_block.Goals as goal
 
 pub load-requires-clause-within : goal.load-requires-clause-within
@@ -37,10 +37,10 @@ returns-clause-ok g c =
     (medium_view c.load.new.self) c.in_ok-next.next c.add.new.self
     c.in_ok-next.ensures.ok c.load.ensures.unchanged c.add.ensures.held c.add.ensures.words c.add.ensures.start c.at.result c.at.ensures
 
-pub returns-clause-serves : goal.returns-clause-serves
-returns-clause-serves g c =
+pub returns-clause-leaves_held : goal.returns-clause-leaves_held
+returns-clause-leaves_held g c =
     let p = parts_of c.args.self.now in
     let is = read_cache p c.args.class.number c.index-cache.result.now c.args.class.is c.requires.running c.index-cache.ensures in
-    popped_serves p c.args.class.number c.args.class.is c.requires.running c.index-cache.result.now is c.requires.some
+    popped_leaves_held p c.args.class.number c.args.class.is c.requires.running c.index-cache.result.now is c.requires.some
     (medium_view c.load.new.self) c.in_ok-next.next c.add.new.self
     c.in_ok-next.ensures.ok c.load.ensures.unchanged c.add.ensures.held c.add.ensures.words c.add.ensures.start

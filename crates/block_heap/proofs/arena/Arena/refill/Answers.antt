@@ -12,12 +12,12 @@ use Rattle.block_heap.specs.Order.{RefillsFrom, from_class_list, OrdersPartial, 
 use Rattle.block_heap.proofs.OrderLemmas.{refills_from_free}
 use Rattle.block_heap.proofs.arena.Arena.refill.Goals.{then-branch-via-then-branch, then-branch-via-else-branch+in_ok-cut_free+then-branch-2}
 use Rattle.block_heap.proofs.arena.Arena.refill.Goals as goal
-use Rattle.block_heap.proofs.RefillLemmas.{serves_all}
+use Rattle.block_heap.proofs.RefillLemmas.{leaves_held_all}
 
-pub returns-in_err-cut_free-clause-serves : goal.returns-in_err-cut_free-clause-serves
-returns-in_err-cut_free-clause-serves g c =
-    serves_all (parts_of c.args.self.now) (parts_of c.take_partial.new.self) (parts_of c.cut_free.new.self) c.take_partial.ensures.held
-    c.take_partial.ensures.serves c.cut_free.ensures.serves
+pub returns-in_err-cut_free-clause-leaves_held : goal.returns-in_err-cut_free-clause-leaves_held
+returns-in_err-cut_free-clause-leaves_held g c =
+    leaves_held_all (parts_of c.args.self.now) (parts_of c.take_partial.new.self) (parts_of c.cut_free.new.self) c.take_partial.ensures.held
+    c.take_partial.ensures.leaves_held c.cut_free.ensures.leaves_held
 
 pub returns-then-branch-clause-refilling : goal.returns-then-branch-clause-refilling
 returns-then-branch-clause-refilling g c =
@@ -25,18 +25,18 @@ returns-then-branch-clause-refilling g c =
     elim c.then-branch.branch as (λ _. IsRefilling c.args.class.number p (parts_of c.then-branch.self)) [
       | then-branch-via-then-branch w ↦ subst (λ (a : Arena _). IsRefilling c.args.class.number p (parts_of a)) (sym w.self-is) c.in_ok-take_partial.ensures.refilling
       | then-branch-via-else-branch+in_ok-cut_free+then-branch-2 w ↦ subst (λ (a : Arena _). IsRefilling c.args.class.number p (parts_of a)) (sym w.self-is)
-          (refilling_then c.args.class.number p (parts_of c.take_partial.new.self) (parts_of w.cut_free.new.self) c.take_partial.ensures.serves.capacity
+          (refilling_then c.args.class.number p (parts_of c.take_partial.new.self) (parts_of w.cut_free.new.self) c.take_partial.ensures.leaves_held.capacity
           c.in_ok-take_partial.ensures.refilling w.in_ok-cut_free.ensures.refilling)
     ]
 
-pub returns-then-branch-clause-serves : goal.returns-then-branch-clause-serves
-returns-then-branch-clause-serves g c =
+pub returns-then-branch-clause-leaves_held : goal.returns-then-branch-clause-leaves_held
+returns-then-branch-clause-leaves_held g c =
     let p = parts_of c.args.self.now in
     elim c.then-branch.branch as (λ _. LeavesHeld (held_in p) p (parts_of c.then-branch.self)) [
-      | then-branch-via-then-branch w ↦ subst (λ (a : Arena _). LeavesHeld (held_in p) p (parts_of a)) (sym w.self-is) c.take_partial.ensures.serves
+      | then-branch-via-then-branch w ↦ subst (λ (a : Arena _). LeavesHeld (held_in p) p (parts_of a)) (sym w.self-is) c.take_partial.ensures.leaves_held
       | then-branch-via-else-branch+in_ok-cut_free+then-branch-2 w ↦ subst (λ (a : Arena _). LeavesHeld (held_in p) p (parts_of a)) (sym w.self-is)
-          (serves_all p (parts_of c.take_partial.new.self) (parts_of w.cut_free.new.self) c.take_partial.ensures.held c.take_partial.ensures.serves
-          w.cut_free.ensures.serves)
+          (leaves_held_all p (parts_of c.take_partial.new.self) (parts_of w.cut_free.new.self) c.take_partial.ensures.held c.take_partial.ensures.leaves_held
+          w.cut_free.ensures.leaves_held)
     ]
 
 pub returns-clause-ok : goal.returns-clause-ok
@@ -45,8 +45,8 @@ returns-clause-ok g c =
     let a = parts_of c.take_partial.new.self in
     let b = parts_of c.cut_free.new.self in
     IfOk-weaker c.cut_fresh.result _ _
-    (fresh_refills c.args.class.number p a b c.args.class.is c.take_partial.ensures.serves c.in_ok-take_partial.ensures.taken c.cut_free.ensures.serves
-    (parts_of c.cut_fresh.new.self) c.in_ok-cut_free.ensures.taken c.cut_fresh.ensures.serves
+    (fresh_refills c.args.class.number p a b c.args.class.is c.take_partial.ensures.leaves_held c.in_ok-take_partial.ensures.taken c.cut_free.ensures.leaves_held
+    (parts_of c.cut_fresh.new.self) c.in_ok-cut_free.ensures.taken c.cut_fresh.ensures.leaves_held
     (subst (λ some. FindsPartial c.args.class.number some p a) c.if-branch.false c.in_ok-take_partial.ensures.ok)
     (subst (λ some. FindsFree c.args.class.number some a b) c.if-branch-2.false c.in_ok-cut_free.ensures.ok) c.requires.empty)
     c.cut_fresh.ensures.ok
@@ -56,16 +56,16 @@ returns-clause-refilling g c =
     let p = parts_of c.args.self.now in
     let a = parts_of c.take_partial.new.self in
     let b = parts_of c.cut_free.new.self in
-    let then = refilling_then c.args.class.number p a b c.take_partial.ensures.serves.capacity c.in_ok-take_partial.ensures.refilling c.in_ok-cut_free.ensures.refilling in
+    let then = refilling_then c.args.class.number p a b c.take_partial.ensures.leaves_held.capacity c.in_ok-take_partial.ensures.refilling c.in_ok-cut_free.ensures.refilling in
     on_ok_weaker c.cut_fresh.result (refilling_then c.args.class.number p b (parts_of c.cut_fresh.new.self)
-    (c.cut_free.ensures.serves.capacity ∙ c.take_partial.ensures.serves.capacity) then) c.cut_fresh.ensures.refilling
+    (c.cut_free.ensures.leaves_held.capacity ∙ c.take_partial.ensures.leaves_held.capacity) then) c.cut_fresh.ensures.refilling
 
-pub returns-clause-serves : goal.returns-clause-serves
-returns-clause-serves g c =
-    serves_all (parts_of c.args.self.now) (parts_of c.cut_free.new.self) (parts_of c.cut_fresh.new.self)
+pub returns-clause-leaves_held : goal.returns-clause-leaves_held
+returns-clause-leaves_held g c =
+    leaves_held_all (parts_of c.args.self.now) (parts_of c.cut_free.new.self) (parts_of c.cut_fresh.new.self)
     (c.cut_free.ensures.held ∙ c.take_partial.ensures.held)
-    (serves_all (parts_of c.args.self.now) (parts_of c.take_partial.new.self) (parts_of c.cut_free.new.self) c.take_partial.ensures.held
-    c.take_partial.ensures.serves c.cut_free.ensures.serves) c.cut_fresh.ensures.serves
+    (leaves_held_all (parts_of c.args.self.now) (parts_of c.take_partial.new.self) (parts_of c.cut_free.new.self) c.take_partial.ensures.held
+    c.take_partial.ensures.leaves_held c.cut_free.ensures.leaves_held) c.cut_fresh.ensures.leaves_held
 
 pub returns-then-branch-clause-left : goal.returns-then-branch-clause-left
 returns-then-branch-clause-left g c =
@@ -115,8 +115,8 @@ returns-clause-order g c =
     let a = parts_of c.take_partial.new.self in
     let b = parts_of c.cut_free.new.self in
     IfOk-weaker c.cut_fresh.result _ _
-    (refills_from_fresh c.args.class.number p a b c.args.class.is c.take_partial.ensures.serves c.in_ok-take_partial.ensures.taken c.cut_free.ensures.serves
-    (parts_of c.cut_fresh.new.self) c.in_ok-cut_free.ensures.taken c.cut_fresh.ensures.serves
+    (refills_from_fresh c.args.class.number p a b c.args.class.is c.take_partial.ensures.leaves_held c.in_ok-take_partial.ensures.taken c.cut_free.ensures.leaves_held
+    (parts_of c.cut_fresh.new.self) c.in_ok-cut_free.ensures.taken c.cut_fresh.ensures.leaves_held
     (subst (λ some. FindsPartial c.args.class.number some p a) c.if-branch.false c.in_ok-take_partial.ensures.ok)
     (subst (λ some. FindsFree c.args.class.number some a b) c.if-branch-2.false c.in_ok-cut_free.ensures.ok)
     (subst (λ some. OrdersPartial c.args.class.number some p a) c.if-branch.false c.in_ok-take_partial.ensures.order))

@@ -1,17 +1,17 @@
 use Rattle.block_heap.specs.Parts.{parts_of}
 use Rattle.block_heap.specs.MediumView.{medium_view}
 use Rattle.std.proofs.lemmas.Result.{on_ok_weaker}
-use Rattle.block_heap.proofs.SplitLargeLemmas.{anchor_serves, split_serves, split_running, split_others, split_gives, split_frees}
+use Rattle.block_heap.proofs.SplitLargeLemmas.{anchor_leaves_held, split_leaves_held, split_running, split_others, split_gives, split_frees}
 use Rattle.block_heap.proofs.arena.Arena.split.Goals as goal
 
-pub returns-in_err-store-clause-serves : goal.returns-in_err-store-clause-serves
-returns-in_err-store-clause-serves g c =
-    anchor_serves (parts_of c.args.self.now) c.args.d c.anchor.result (medium_view c.store.new.self) (medium_view c.store.new.self)
+pub returns-in_err-store-clause-leaves_held : goal.returns-in_err-store-clause-leaves_held
+returns-in_err-store-clause-leaves_held g c =
+    anchor_leaves_held (parts_of c.args.self.now) c.args.d c.anchor.result (medium_view c.store.new.self) (medium_view c.store.new.self)
     c.requires.running c.requires.dropped c.anchor.ensures c.store.ensures.others
 
-pub returns-clause-serves : goal.returns-clause-serves
-returns-clause-serves g c =
-    split_serves (parts_of c.args.self.now) c.args.d c.anchor.result (medium_view c.store.new.self) (medium_view c.push.new.self)
+pub returns-clause-leaves_held : goal.returns-clause-leaves_held
+returns-clause-leaves_held g c =
+    split_leaves_held (parts_of c.args.self.now) c.args.d c.anchor.result (medium_view c.store.new.self) (medium_view c.push.new.self)
     c.requires.running c.requires.dropped c.anchor.ensures c.store.ensures.others c.push.ensures.others
 
 pub returns-clause-running : goal.returns-clause-running

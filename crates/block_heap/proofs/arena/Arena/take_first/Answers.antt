@@ -3,19 +3,19 @@ use Rattle.heap_model.specs.Geometry.{lists}
 use Rattle.block_heap.specs.MediumView.{medium_view}
 use Rattle.block_heap.specs.Parts.{parts_of}
 use Rattle.block_heap.proofs.RunningLemmas.{is_head}
-use Rattle.block_heap.proofs.RefillLemmas.{head_moved, serves_moved, emptied, emptied_refilling, emptied_serves, popped_none}
+use Rattle.block_heap.proofs.RefillLemmas.{head_moved, leaves_held_moved, emptied, emptied_refilling, emptied_leaves_held, popped_none}
 use Rattle.block_heap.proofs.SpendLemmas.{spends_none}
-use Rattle.block_heap.proofs.TakeLemmas.{first_within, first_anchor, take_moved, taken_some, taken_refilling, taken_serves, taken_spends, recycled_serves, recycled_refilling, recycled_first, recycled_spends, first_looked, taken_all, recycled_moves}
+use Rattle.block_heap.proofs.TakeLemmas.{first_within, first_anchor, take_moved, taken_some, taken_refilling, taken_leaves_held, taken_spends, recycled_leaves_held, recycled_refilling, recycled_first, recycled_spends, first_looked, taken_all, recycled_moves}
 use Rattle.block_heap.proofs.LookLemmas.{looks_kept}
 use Rattle.block_heap.proofs.arena.Arena.take_first.Goals as goal
 
 pub pop-requires-clause-head : goal.pop-requires-clause-head
 pop-requires-clause-head g c = is_head (parts_of c.args.self.now) c.args.class.number c.requires.running (let last = c.args.class.is.last in omega arith)
 
-pub returns-in_err-popped-clause-serves : goal.returns-in_err-popped-clause-serves
-returns-in_err-popped-clause-serves g c =
+pub returns-in_err-popped-clause-leaves_held : goal.returns-in_err-popped-clause-leaves_held
+returns-in_err-popped-clause-leaves_held g c =
     let p = parts_of c.args.self.now in
-    serves_moved p (record p { words = medium_view c.pop.new.self }) c.requires.running
+    leaves_held_moved p (record p { words = medium_view c.pop.new.self }) c.requires.running
     (head_moved p.capacity c.args.class.number p.words (medium_view c.pop.new.self) (let last = c.args.class.is.last in omega arith) c.pop.ensures.others) refl
     refl refl (looks_kept p (record p { words = medium_view c.pop.new.self }) refl)
 
@@ -24,9 +24,9 @@ returns-in_default-clause-refilling g c =
     emptied_refilling (parts_of c.args.self.now) c.args.class.number c.args.class.number c.in_ok-popped.popped (medium_view c.pop.new.self) c.by.result c.requires.running
     (let last = c.args.class.is.last in omega arith) c.in_ok-popped.ensures.ok c.pop.ensures.others c.in_default.is
 
-pub returns-in_default-clause-serves : goal.returns-in_default-clause-serves
-returns-in_default-clause-serves g c =
-    emptied_serves (parts_of c.args.self.now) c.args.class.number c.args.class.number c.in_ok-popped.popped (medium_view c.pop.new.self) c.by.result c.requires.running
+pub returns-in_default-clause-leaves_held : goal.returns-in_default-clause-leaves_held
+returns-in_default-clause-leaves_held g c =
+    emptied_leaves_held (parts_of c.args.self.now) c.args.class.number c.args.class.number c.in_ok-popped.popped (medium_view c.pop.new.self) c.by.result c.requires.running
     (let last = c.args.class.is.last in omega arith) c.in_ok-popped.ensures.ok c.pop.ensures.others c.in_default.is
     (record { by = c.by.ensures.ticket ∙ ap Some c.next_ticket-ticket.ensures; taken = c.by.ensures.taken })
 
@@ -40,10 +40,10 @@ take_blocks-requires-clause-anchor g c =
     first_anchor (parts_of c.args.self.now) c.args.class.number c.in-Some.d c.in_ok-popped.popped (medium_view c.pop.new.self) c.by.result c.requires.running
     c.args.class.is c.in_ok-popped.ensures.ok c.pop.ensures.others c.in-Some.is
 
-pub returns-in_err-cache-clause-serves : goal.returns-in_err-cache-clause-serves
-returns-in_err-cache-clause-serves g c =
+pub returns-in_err-cache-clause-leaves_held : goal.returns-in_err-cache-clause-leaves_held
+returns-in_err-cache-clause-leaves_held g c =
     let p = parts_of c.args.self.now in
-    serves_moved p (record p { words = medium_view c.take_blocks.new.self; head_looks = set p.head_looks c.args.class.number c.by.result }) c.requires.running
+    leaves_held_moved p (record p { words = medium_view c.take_blocks.new.self; head_looks = set p.head_looks c.args.class.number c.by.result }) c.requires.running
     (take_moved (parts_of c.args.self.now) c.args.class.number c.in-Some.d c.in_ok-popped.popped (medium_view c.pop.new.self) c.by.result c.requires.running
     c.args.class.is c.in_ok-popped.ensures.ok c.pop.ensures.others c.in-Some.is
     (medium_view c.take_blocks.new.self) c.take_blocks.ensures.others) refl refl refl
@@ -66,9 +66,9 @@ returns-in-Some-2-clause-refilling g c =
     (medium_view c.take_blocks.new.self) c.take_blocks.ensures.others c.in-Some-2.cache c.in_ok-cache.field-0 c.in-Some-2.is c.requires.empty
     c.in_ok-cache.ensures.ok
 
-pub returns-in-Some-2-clause-serves : goal.returns-in-Some-2-clause-serves
-returns-in-Some-2-clause-serves g c =
-    taken_serves (parts_of c.args.self.now) c.args.class.number c.in-Some.d c.in_ok-popped.popped (medium_view c.pop.new.self) c.by.result c.requires.running
+pub returns-in-Some-2-clause-leaves_held : goal.returns-in-Some-2-clause-leaves_held
+returns-in-Some-2-clause-leaves_held g c =
+    taken_leaves_held (parts_of c.args.self.now) c.args.class.number c.in-Some.d c.in_ok-popped.popped (medium_view c.pop.new.self) c.by.result c.requires.running
     c.args.class.is c.in_ok-popped.ensures.ok c.pop.ensures.others c.in-Some.is
     (medium_view c.take_blocks.new.self) c.take_blocks.ensures.others c.in-Some-2.cache c.in_ok-cache.field-0 c.in-Some-2.is c.requires.empty
     c.in_ok-cache.ensures.ok
@@ -79,9 +79,9 @@ push-requires-clause-descriptor g c =
     first_within (parts_of c.args.self.now) c.args.class.number c.in-Some.d c.in_ok-popped.popped (medium_view c.pop.new.self) c.by.result c.requires.running
     c.args.class.is c.in_ok-popped.ensures.ok c.pop.ensures.others c.in-Some.is
 
-pub returns-in_err-push-clause-serves : goal.returns-in_err-push-clause-serves
-returns-in_err-push-clause-serves g c =
-    recycled_serves (parts_of c.args.self.now) c.args.class.number c.in-Some.d c.in_ok-popped.popped (medium_view c.pop.new.self) c.by.result c.requires.running
+pub returns-in_err-push-clause-leaves_held : goal.returns-in_err-push-clause-leaves_held
+returns-in_err-push-clause-leaves_held g c =
+    recycled_leaves_held (parts_of c.args.self.now) c.args.class.number c.in-Some.d c.in_ok-popped.popped (medium_view c.pop.new.self) c.by.result c.requires.running
     c.args.class.is c.in_ok-popped.ensures.ok c.pop.ensures.others c.in-Some.is
     (medium_view c.take_blocks.new.self) c.take_blocks.ensures.others (medium_view c.push.new.self) c.push.ensures.others
     (record { by = c.by.ensures.ticket ∙ ap Some c.next_ticket-ticket.ensures; taken = c.by.ensures.taken })
@@ -103,9 +103,9 @@ returns-clause-refilling g c =
     (medium_view c.take_blocks.new.self) c.take_blocks.ensures.others (medium_view c.push.new.self) c.push.ensures.others c.in_ok-cache.field-0
     c.in_default-2.is c.in_ok-cache.ensures.ok c.in_ok-push.ensures.ok
 
-pub returns-clause-serves : goal.returns-clause-serves
-returns-clause-serves g c =
-    recycled_serves (parts_of c.args.self.now) c.args.class.number c.in-Some.d c.in_ok-popped.popped (medium_view c.pop.new.self) c.by.result c.requires.running
+pub returns-clause-leaves_held : goal.returns-clause-leaves_held
+returns-clause-leaves_held g c =
+    recycled_leaves_held (parts_of c.args.self.now) c.args.class.number c.in-Some.d c.in_ok-popped.popped (medium_view c.pop.new.self) c.by.result c.requires.running
     c.args.class.is c.in_ok-popped.ensures.ok c.pop.ensures.others c.in-Some.is
     (medium_view c.take_blocks.new.self) c.take_blocks.ensures.others (medium_view c.push.new.self) c.push.ensures.others
     (record { by = c.by.ensures.ticket ∙ ap Some c.next_ticket-ticket.ensures; taken = c.by.ensures.taken })
