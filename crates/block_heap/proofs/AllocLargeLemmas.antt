@@ -54,7 +54,7 @@ pub running_looked : (p : Parts) (count : ℕ) (fresh : Fresh) (u : View) (look 
     → look.seen ≡ fresh.used → look.taken ≡ p.taken → IsRunning (record p { words = u; used_look = look })
 running_looked p count fresh u look run is none seen when =
     let got = fresh_none p.capacity count fresh p.words u is none in
-    let now = running_words p u (λ _. ⊥) run is.goes.running got.0 got.2 (λ d below t. t) (λ t. t) is.goes.below in
+    let now = running_words p u (λ _. ⊥) run is.runs_within.running got.0 got.2 (λ d below t. t) (λ t. t) is.runs_within.below in
     let same : volatile_at u used_word ≡ image_of p used_word = ap (λ xs. get_or xs used_word 0) got.0 in
     let used = is.used in
     record {
@@ -90,7 +90,7 @@ leaves_held_looked p count fresh u look run is none seen when next =
       as_allocator = (as_allocator_of p.capacity (held_in p) (λ _. ⊥) p.words u (λ word t. absurd t) (λ t. t) got.2 run.settled.used).0;
       knows = omega arith;
       taken = omega arith;
-      looks = looked_at_used p (record p { words = u; used_look = look }) look next is.goes.drew (omega arith) refl refl;
+      looks = looked_at_used p (record p { words = u; used_look = look }) look next is.runs_within.drew (omega arith) refl refl;
     }
 
 -- raising `used` may stop within
@@ -167,7 +167,7 @@ module _ (p : Parts) (count d : ℕ) (fresh : Fresh) (u : View) (look : Look) (r
         knows = let knows = run.knows in let used = is_fresh.used in omega arith;
         taken = omega arith;
         looks = looked_at_used p (record p { words = w; blocks = blocks; taken = p.taken + count; used_look = look }) look next
-            (let drew = is_fresh.goes.drew in let more = info_stores.drawn in omega arith) (omega arith) refl refl;
+            (let drew = is_fresh.runs_within.drew in let more = info_stores.drawn in omega arith) (omega arith) refl refl;
       }
 
       module _ (divided added : HeldBlocks) (first_word : ℕ) (persisted : IsPersisted (info_word d) (large_info count) u w)
@@ -253,8 +253,8 @@ module _ (p : Parts) (count d : ℕ) (fresh : Fresh) (u : View) (look : Look) (r
 
         pub join_running : IsRunning (record p { words = w; blocks = added; taken = p.taken + count; used_look = look })
         join_running = record {
-          words_open = record { running = persisted.goes.running; long = info_stores.words ∙ stores.words ∙ run.words_open.long };
-          below = persisted.goes.below;
+          words_open = record { running = persisted.runs_within.running; long = info_stores.words ∙ stores.words ∙ run.words_open.long };
+          below = persisted.runs_within.below;
           bounded = let first = stores.budget in let second = info_stores.budget in let bounded = run.bounded in subst (λ n. n < 2 ^ 40) (sym (second ∙ first)) bounded;
           caches_long = run.caches_long;
           looks_long = run.looks_long;

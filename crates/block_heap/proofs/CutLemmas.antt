@@ -119,10 +119,10 @@ module _ (p : Parts) (class d : ℕ) (w : View) (looks : List Look) (look : Look
   cut_running t words budget looks_long settled infos shape place start cached pops knows few = made p q t run (record {
     capacity = same.capacity;
     held = same.held;
-    running = cuts.divided.goes.running;
+    running = cuts.divided.runs_within.running;
     words = stores.words ∙ words;
     budget = stores.budget ∙ budget;
-    below = cuts.divided.goes.below;
+    below = cuts.divided.runs_within.below;
     caches_long = ap length cuts.caches ∙ length-set p.caches class filled ∙ run.caches_long;
     looks_long = ap length same.head_looks ∙ looks_long;
     is = shape;
@@ -134,7 +134,7 @@ module _ (p : Parts) (class d : ℕ) (w : View) (looks : List Look) (look : Look
     settled = settled_cut p.capacity class d w q.words settled stores cuts.divided;
     pops = λ list less.
         let before = pops list less in
-        let drew = cuts.divided.goes.drew in
+        let drew = cuts.divided.runs_within.drew in
         let kept : head_at q list ≡ volatile_at w (head_word list) = stores.volatile (head_word list)
         (divide_before p.capacity d (head_word list) (omega arith)) in
         omega arith;
@@ -187,7 +187,7 @@ module _ (p : Parts) (class d : ℕ) (popped : Popped) (w : View) (look : Look) 
         (λ word t. elim t as (λ _. IsAllocatorWord p.capacity (held_in p) word)
         [ inl m ↦ moved_word p.capacity (held_in p) word m | inr t ↦ divide_word p.capacity d (held_in p) word free_within free_none t ])
         free_not_used free_stores same.capacity same.used_look same.taken
-        (looked_at_head p q 0 look (let long = run.looks_long in omega arith) next (let drew = pop.goes.drew in let more = stores.drawn in omega arith)
+        (looked_at_head p q 0 look (let long = run.looks_long in omega arith) next (let drew = pop.runs_within.drew in let more = stores.drawn in omega arith)
         (let e : q.taken ≡ p.taken = same.taken in omega arith) same.used_look same.head_looks)
 
     module _ (empty : (cache_at p.caches class).count ≡ 0) (cuts : Cuts class d (record p { words = w; head_looks = set p.head_looks 0 look }) q) where
@@ -209,7 +209,7 @@ module _ (p : Parts) (class d : ℕ) (popped : Popped) (w : View) (look : Look) 
           (λ list less.
           let before = run.pops list less in
           let once = popped_pops p 0 popped w run zero_list pop pop_stores d some list less in
-          let drew = pop.goes.drew in
+          let drew = pop.runs_within.drew in
           omega arith)
           (let kept : volatile_at w used_word ≡ image_of p used_word = (head_moved p.capacity 0 p.words w zero_list pop_stores).volatile used_word (λ m. moved_used p.capacity used_word m refl) in let knew =
           run.knows in omega arith)
@@ -294,7 +294,7 @@ module _ (p : Parts) (w : View) (run : IsRunning p) (stores : StoresOnly (λ wor
           used_word ≡ fresh.used + 1))) none took.words
 
       none_running : IsRunning (record p { words = w })
-      none_running = running_words p w (λ _. ⊥) run took.goes.running no_words.0 no_words.2 (λ e less t. t) (λ t. t) took.goes.below
+      none_running = running_words p w (λ _. ⊥) run took.runs_within.running no_words.0 no_words.2 (λ e less t. t) (λ t. t) took.runs_within.below
 
       pub none_spends : Spends 0 class p none_fresh
       none_spends = spends_none class p none_fresh refl no_words.0
@@ -379,7 +379,7 @@ module _ (p : Parts) (w : View) (run : IsRunning p) (stores : StoresOnly (λ wor
                   (λ t. divide_before p.capacity d used_word (omega arith) t) cut_stores settled.used).0;
               knows = omega arith;
               taken = omega arith;
-              looks = looked_at_used p q look next (let drew = took.goes.drew in let more = cut_stores.drawn in omega arith) (omega arith) same.used_look same.head_looks;
+              looks = looked_at_used p q look next (let drew = took.runs_within.drew in let more = cut_stores.drawn in omega arith) (omega arith) same.used_look same.head_looks;
             }
 
         module _ (is : IsClass class) (empty : (cache_at p.caches class).count ≡ 0)
@@ -400,7 +400,7 @@ module _ (p : Parts) (w : View) (run : IsRunning p) (stores : StoresOnly (λ wor
               (λ list less.
               let before = run.pops list less in
               let kept : volatile_at w (head_word list) ≡ head_at p list = stores.volatile (head_word list) (λ at. omega arith) in
-              let drew = took.goes.drew in
+              let drew = took.runs_within.drew in
               omega arith)
               (let now : volatile_at w used_word ≡ d + 1 = used_set.at in let first = some_words.0 in omega arith)
               (let now : volatile_at w used_word ≡ d + 1 = used_set.at in let at = past in let least = run.few in omega arith)

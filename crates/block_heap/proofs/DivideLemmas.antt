@@ -52,12 +52,12 @@ module _ (capacity class d i : ℕ) (v u w : View) (before next : ℕ) (is : IsC
 
   pub chain_step : IsStored before next u w → AreInOneChain capacity class d (i + 2) v w
   chain_step stored =
-      let goes = stored.goes in
-      let drew = goes.drew in
-      let most = goes.few in
+      let runs_within = stored.runs_within in
+      let drew = runs_within.drew in
+      let most = runs_within.few in
       let drawn = chained.drawn in
       record {
-        open_still = record { running = goes.running; long = stores.words ∙ chained.open_still.long };
+        open_still = record { running = runs_within.running; long = stores.words ∙ chained.open_still.long };
         drawn = omega arith;
         stores = step_stores;
         linked = λ k less. linked_at stored k less (cases_eq k i);
@@ -127,38 +127,38 @@ module _ (capacity class d : ℕ) (v u t w : View) (info anchor value : ℕ) (is
 
   drawn_few : t.drawn ≤ v.drawn + 4098
   drawn_few =
-      let a = persisted.goes.few in
+      let a = persisted.runs_within.few in
       let b = chained.drawn in
       let c = few_blocks class is in
       omega arith
 
   drawn_more : v.drawn ≤ t.drawn
   drawn_more =
-      let a = persisted.goes.drew in
+      let a = persisted.runs_within.drew in
       let b = chained.drawn in
       let c = four_blocks class is in
       omega arith
 
-  pub divide_halts : (ticket : ℕ) → StopsWithin ticket 1 t w → StopsWithin ticket 4200 v w
-  divide_halts ticket halts =
+  pub divide_stops_within : (ticket : ℕ) → StopsWithin ticket 1 t w → StopsWithin ticket 4200 v w
+  divide_stops_within ticket stops_within =
       let few = drawn_few in
       let more = drawn_more in
-      let from = halts.from in
-      let most = halts.few in
-      record { stopped = halts.stopped; above = halts.above; from = omega arith; until = halts.until; last = halts.last; few = omega arith }
+      let from = stops_within.from in
+      let most = stops_within.few in
+      record { stopped = stops_within.stopped; above = stops_within.above; from = omega arith; until = stops_within.until; last = stops_within.last; few = omega arith }
 
   pub divided : IsStored anchor value t w → IsDivided capacity class d v w
   divided stored =
-      let goes = stored.goes in
+      let runs_within = stored.runs_within in
       let few = drawn_few in
       let more = drawn_more in
-      let drew = goes.drew in
-      let most = goes.few in
+      let drew = runs_within.drew in
+      let most = runs_within.few in
       let long : length t.volatile ≡ image_words capacity = chained.open_still.long in
       let within : anchor < length t.volatile = omega arith in
       let there : volatile_at w anchor ≡ value = ap (λ (xs : List ℕ). get_or xs anchor 0) stored.volatile ∙ get_or-set_same t.volatile anchor value 0 within in
       record {
-        goes = record { running = goes.running; drew = omega arith; few = omega arith; below = goes.below };
+        runs_within = record { running = runs_within.running; drew = omega arith; few = omega arith; below = runs_within.below };
         info = subst (λ (word : ℕ). volatile_at w word ≡ class) info_at seen_last;
         info_durable = subst (λ (word : ℕ). durable_at w word ≡ class) info_at left_last;
         anchor = subst (λ (word : ℕ). volatile_at w word ≡ full_anchor) anchor_at (there ∙ value_is);

@@ -240,11 +240,11 @@ step_of (StoppedFault stopped) = stopped.step
 step_of MemoryFault = 0
 
 -- and if it stops the heap, the budget is used up
-pub drawn_halts : (class most : ℕ) (stopped e : Stopped) (s t u : SeqState) (offsets : List ℕ) → HasDrawn class s t offsets
+pub drawn_stops_within : (class most : ℕ) (stopped e : Stopped) (s t u : SeqState) (offsets : List ℕ) → HasDrawn class s t offsets
     → u.parts.words.drawn ≤ t.parts.words.drawn + 41201 → IsLargeCall most (seat_of t) (seat_of u) → Stops stopped.step (seat_of t) (seat_of u)
     → StoppedFault stopped ≡ StoppedFault e → s.stopped ≡ None
     → (s.parts.words.budget ≤ e.step) × (e.step < s.parts.words.drawn + 2 ^ 32)
-drawn_halts class most stopped e s t u offsets has draws counted stops one running =
+drawn_stops_within class most stopped e s t u offsets has draws counted stops one running =
     let few = drawn_few class s t u offsets has draws in
     let above : u.parts.words.budget ≤ stopped.step = stops.above in
     let until : stopped.step < u.parts.words.drawn = (stops.now (has.runs running)).until in

@@ -296,7 +296,7 @@ module _ (p : Parts) (class : ℕ) (is : IsClass class) (run : IsRunning p) (pre
     pub gave_fixed : KeepsFixed p w
     gave_fixed =
         let within = is_prefix.within in
-        keeps_fixed p w (IsGiveWord prefix.d prefix.batch) run stores given.goes.running given.goes.below
+        keeps_fixed p w (IsGiveWord prefix.d prefix.batch) run stores given.runs_within.running given.runs_within.below
         (λ e below. give_low (info_word e) (omega arith) (omega arith)) (give_low used_word (omega arith) (omega arith))
         (λ list below. ap head_pops (stores.volatile (head_word list) (give_low (head_word list) (omega arith) (omega arith))))
 
@@ -365,7 +365,7 @@ module _ (p : Parts) (class : ℕ) (is : IsClass class) (run : IsRunning p) (pre
       pub listed_fixed : list < lists → KeepsFixed p x
       listed_fixed below =
           let within = is_prefix.within in
-          keeps_fixed p x (IsEitherWord list) run (both_stores w x list stores push_stores) pushed.goes.running pushed.goes.below
+          keeps_fixed p x (IsEitherWord list) run (both_stores w x list stores push_stores) pushed.runs_within.running pushed.runs_within.below
           (λ e e_below. both_low list (info_word e) (omega arith) (omega arith) (omega arith) (omega arith))
           (both_low list used_word (omega arith) (omega arith) (omega arith) (omega arith)) (pops_now below)
 

@@ -26,8 +26,8 @@ free_stable p q b stable takes leaves_held =
 pub free_lasts : (r : Result Unit Stopped) (p q : Parts) (b : Block) (old o : Option ℕ) → IsLasting p.capacity p.words (held_in p) old
     → TakesFrom b (held_in p) (held_in q) → LeavesHeld (held_in q) p q
     → OnOk r (o ≡ None) → IfErr r (λ e. o ≡ Some e.step) → IfErr r (λ e. StopsWithin e.step 40000 p.words q.words) → IsLasting q.capacity q.words (held_in q) o
-free_lasts r p q b old o lasts takes leaves_held none stops halts =
-    large_lasts r p q (held_in q) 40000 old o lasts leaves_held (free_stable p q b lasts.stable takes leaves_held) none stops halts
+free_lasts r p q b old o lasts takes leaves_held none stops stops_within =
+    large_lasts r p q (held_in q) 40000 old o lasts leaves_held (free_stable p q b lasts.stable takes leaves_held) none stops stops_within
 
 -- the parts after a free that was done
 pub free_runs : (r : Result Unit Stopped) (p q : Parts) → AreAccounted p → OnOk r (IsRunning q) → OnOk r (CachesAreShort q 0)
@@ -61,9 +61,9 @@ module _ (s : SeqState) (q : Parts) (o : Option ℕ) (b : Block) (heap : IsSeqHe
   -- and where it was done
   pub frees : (r : Result Unit Stopped) (seen : SeqState) (most : ℕ) → s ≡ seen → seen.stopped ≡ None → OnOk r (o ≡ None)
       → OnOk r (RunsWithin most s.parts.words q.words) → OnOk r (Frees b (seat_of seen) (large_view s q o))
-  frees (Ok t) seen most same ran runs goes = subst (λ t. Frees b (seat_of t) (large_view s q o)) same (record {
-    runs = record { ran = ap (λ (t : SeqState). t.stopped) same ∙ ran; running = runs; drew = goes.drew; below = goes.below };
+  frees (Ok t) seen most same ran runs runs_within = subst (λ t. Frees b (seat_of t) (large_view s q o)) same (record {
+    runs = record { ran = ap (λ (t : SeqState). t.stopped) same ∙ ran; running = runs; drew = runs_within.drew; below = runs_within.below };
     gone = takes.gone;
     pending = λ word own out. pending_kept s q o (IsAllocatorWord s.parts.capacity (held_in q)) word leaves_held.as_allocator.stores (not_stored word own out);
   })
-  frees (Err e) seen most same ran runs goes = tt
+  frees (Err e) seen most same ran runs runs_within = tt

@@ -73,7 +73,7 @@ pub record IsFreed (first d end : ℕ) (p q : Parts) : Type 0 where
 -- one superblock more is in the free list
 pub freed_more : (first d end : ℕ) (p q r : Parts) → d < end → IsFreed first d end p q → IsRunning r → ((e : ℕ) → e ≢ d → IsDropped q e → IsDropped r e)
     → GivesUse d q r → FreesOne d q r → RunsWithin 4 q.words r.words → r.blocks ≡ q.blocks → LeavesHeld (held_in q) q r → r.caches ≡ q.caches → r.taken ≡ q.taken → IsFreed first (d + 1) end p r
-freed_more first d end p q r below freed running others gives frees goes blocks leaves_held caches taken = record {
+freed_more first d end p q r below freed running others gives frees runs_within blocks leaves_held caches taken = record {
   some = freed.some;
   most = freed.most;
   until = omega arith;
@@ -99,8 +99,8 @@ freed_more first d end p q r below freed running others gives frees goes blocks 
   blocks = blocks ∙ freed.blocks;
   caches = caches ∙ freed.caches;
   taken = taken ∙ freed.taken;
-  few = let before = freed.few in let more = goes.few in omega arith;
-  drew = let before = freed.drew in let more = goes.drew in omega arith;
+  few = let before = freed.few in let more = runs_within.few in omega arith;
+  drew = let before = freed.drew in let more = runs_within.drew in omega arith;
 } where
   uses : (e : ℕ) → ((first ≤ e) × (e < d + 1)) ⊎ IsUsed p e → IsUsed r e
   uses e (inr before) = gives.uses e (inr (freed.uses e (inr before)))

@@ -150,7 +150,7 @@ module _ (p : Parts) (class : ℕ) (is : IsClass class) (run : IsRunning p) (b :
 
       -- infos and `used` stay, and the shape is kept
       freed_fixed : KeepsFixed p w
-      freed_fixed = keeps_fixed p w (λ word. word ≡ b.first_word) run stores stored.goes.running stored.goes.below
+      freed_fixed = keeps_fixed p w (λ word. word ≡ b.first_word) run stores stored.runs_within.running stored.runs_within.below
           (λ d d_below. not_first (info_word d) (omega arith)) (not_first used_word (omega arith))
           (λ list list_below. ap head_pops (stores.volatile (head_word list) (not_first (head_word list) (omega arith))))
 
@@ -223,11 +223,11 @@ module _ (p : Parts) (class : ℕ) (is : IsClass class) (run : IsRunning p) (b :
       flushed_serve r same leaves_held = subst (λ now. LeavesHeld now p r) (sym same) (leaves_held_then p freed_parts r (held_of h)
           (freed_leaves_held freed_parts refl refl refl stores) leaves_held)
 
-      pub flushed_goes : (r : Parts) → IsRunning r → freed_parts.words.drawn ≤ r.words.drawn
+      pub flushed_runs_within : (r : Parts) → IsRunning r → freed_parts.words.drawn ≤ r.words.drawn
           → r.words.drawn ≤ freed_parts.words.drawn + 9 * (cache_at freed_parts.caches class).count → RunsWithin 40000 p.words r.words
-      flushed_goes r running more few =
-          let drew = stored.goes.drew in
-          let one = stored.goes.few in
+      flushed_runs_within r running more few =
+          let drew = stored.runs_within.drew in
+          let one = stored.runs_within.few in
           let count = freed_count in
           let most = count_short in
           let blocks = few_blocks class is in

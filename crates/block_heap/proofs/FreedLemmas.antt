@@ -79,13 +79,13 @@ module _ (p : Parts) (class : ℕ) (is : IsClass class) (run : IsRunning p) (b :
   frees_below not_all =
       let few = count_short p class is run b holds size h takes words start cache cache_is w stored stores short in
       let same = same_count in record {
-        goes = below_limit (omega arith) freed_caches;
+        freed = below_limit (omega arith) freed_caches;
         all = λ d first count only. absurd (not_all (omega arith));
       }
 
   -- at the limit the cache is given back
   pub frees_at : (r : Parts) → cache.count + 1 ≡ blocks_of class → Flushes class q r → FreesSmall class b.first_word p r
   frees_at r full flushes = let same = same_count in record {
-    goes = at_limit q (omega arith) freed_caches flushes;
+    freed = at_limit q (omega arith) freed_caches flushes;
     all = λ d first count only. flushes.all d (freed_all d first count only);
   }

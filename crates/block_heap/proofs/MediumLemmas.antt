@@ -85,8 +85,8 @@ refused_stores gives ticket v w refused =
           })
     ]
 
-pub refused_halts : (gives : ℕ → Type 0) (ticket : ℕ) (v w : View) → v.stopped ≡ None → RefusesBy gives ticket v w → StopsWithin ticket 1 v w
-refused_halts gives ticket v w running refused =
+pub refused_stops_within : (gives : ℕ → Type 0) (ticket : ℕ) (v w : View) → v.stopped ≡ None → RefusesBy gives ticket v w → StopsWithin ticket 1 v w
+refused_stops_within gives ticket v w running refused =
     elim refused [
       | inl had ↦ let e = had.stopped in absurd (cc)
       | inr stops ↦
@@ -104,8 +104,8 @@ refused_halts gives ticket v w running refused =
     ]
 
 -- tickets of a step that was done
-same_goes : (r : ℕ) (v w : View) → v.stopped ≡ None → v.drawn < v.budget → SameTickets (after_draw r v) w → RunsWithin 1 v w
-same_goes r v w running allowed same =
+same_runs_within : (r : ℕ) (v w : View) → v.stopped ≡ None → v.drawn < v.budget → SameTickets (after_draw r v) w → RunsWithin 1 v w
+same_runs_within r v w running allowed same =
     let drawn : w.drawn ≡ v.drawn + 1 = same.drawn in
     let budget : w.budget ≡ v.budget = same.budget in
     record { running = same.stopped ∙ running; drew = omega arith; few = omega arith; below = omega arith }
@@ -115,7 +115,7 @@ load_is gives word value v w takes =
     let done = takes.done in
     let same : SameTickets (after_draw takes.number v) w = subst (λ (x : View). SameTickets (after_draw takes.number v) x) (sym done.unchanged) (record { drawn = refl; budget = refl; stopped = refl }) in (
       record {
-        goes = same_goes takes.number v w takes.running takes.allowed same;
+        runs_within = same_runs_within takes.number v w takes.running takes.allowed same;
         seen = done.seen;
         volatile = ap (λ (x : View). x.volatile) done.unchanged;
         pending = ap (λ (x : View). x.pending) done.unchanged;
@@ -131,7 +131,7 @@ store_is gives word value v w takes =
     let durable : w.durable ≡ (after_draw takes.number v).durable = done.durable in
     let tickets : w.drawn ≡ v.drawn + 1 = done.tickets.drawn in (
       record {
-        goes = same_goes takes.number v w takes.running takes.allowed done.tickets;
+        runs_within = same_runs_within takes.number v w takes.running takes.allowed done.tickets;
         volatile = volatile;
         pending = λ other out p. (done.pending other out).1 p;
       },
@@ -153,7 +153,7 @@ write_back_is gives line word v w sound at takes =
     let durable : w.durable ≡ (after_draw takes.number v).durable = done.durable in
     let tickets : w.drawn ≡ v.drawn + 1 = done.tickets.drawn in (
       record {
-        goes = same_goes takes.number v w takes.running takes.allowed done.tickets;
+        runs_within = same_runs_within takes.number v w takes.running takes.allowed done.tickets;
         volatile = volatile;
         line = λ other within same. done.in_line other within (same ∙ sym at);
         pending = λ other p.
@@ -183,7 +183,7 @@ fence_is gives v w takes =
     let volatile : w.volatile ≡ v.volatile = done.volatile in
     let tickets : w.drawn ≡ v.drawn + 1 = done.tickets.drawn in (
       record {
-        goes = same_goes takes.number v w takes.running takes.allowed done.tickets;
+        runs_within = same_runs_within takes.number v w takes.running takes.allowed done.tickets;
         volatile = volatile;
         durable = λ word p. done.durable word p ∙ sym (ap (λ (xs : List ℕ). get_or xs word 0) volatile);
       },

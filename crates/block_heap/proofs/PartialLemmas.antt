@@ -106,13 +106,13 @@ module _ (class : ℕ) (p q r : Parts) (is : IsClass class) (walked : Walked cla
   pub walk_leaves_held : LeavesHeld (held_in p) p r
   walk_leaves_held = leaves_held_all p q r walked.refilling.held walked.leaves_held leaves_held
 
-  pub walk_halts : (ticket : ℕ) → StopsWithin ticket 8 q.words r.words → StopsWithin ticket (8 * largest_capacity + 8) p.words r.words
-  walk_halts ticket halts =
-      let from = halts.from in
-      let few = halts.few in
+  pub walk_stops_within : (ticket : ℕ) → StopsWithin ticket 8 q.words r.words → StopsWithin ticket (8 * largest_capacity + 8) p.words r.words
+  walk_stops_within ticket stops_within =
+      let from = stops_within.from in
+      let few = stops_within.few in
       let first = begun in
       let most = so_far in
-      record { stopped = halts.stopped; above = halts.above; from = omega arith; until = halts.until; last = halts.last; few = omega arith }
+      record { stopped = stops_within.stopped; above = stops_within.above; from = omega arith; until = stops_within.until; last = stops_within.last; few = omega arith }
 
   pub walk_held : held_in r ≡ held_in p
   walk_held = held ∙ walked.refilling.held
@@ -137,14 +137,14 @@ module _ (class : ℕ) (p q r : Parts) (is : IsClass class) (walked : Walked cla
         walked.moves.nothing (nothing_in_empty class q finds.1.empty),
       )
 
-  module _ (refilling : IsRefilling class q r) (goes : RunsWithin 8 q.words r.words) where
-    pub walk_goes : RunsWithin (8 * largest_capacity + 8) p.words r.words
-    walk_goes =
-        let drew = goes.drew in
-        let few = goes.few in
+  module _ (refilling : IsRefilling class q r) (runs_within : RunsWithin 8 q.words r.words) where
+    pub walk_runs_within : RunsWithin (8 * largest_capacity + 8) p.words r.words
+    walk_runs_within =
+        let drew = runs_within.drew in
+        let few = runs_within.few in
         let first = begun in
         let most = so_far in
-        record { running = goes.running; drew = omega arith; few = omega arith; below = goes.below }
+        record { running = runs_within.running; drew = omega arith; few = omega arith; below = runs_within.below }
 
     pub walk_refilling : IsRefilling class p r
     walk_refilling = refilling_then class p q r walked.leaves_held.capacity walked.refilling refilling
@@ -167,7 +167,7 @@ module _ (class : ℕ) (p q r : Parts) (is : IsClass class) (walked : Walked cla
           few = λ ds leads.
               let before = recycles.shorter ds leads in
               let few = walked.few (before.0 ∷ ds) before.1 in
-              let most = goes.few in
+              let most = runs_within.few in
               omega arith;
         }
 

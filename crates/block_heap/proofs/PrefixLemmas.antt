@@ -38,14 +38,14 @@ pub record IsWalked (class d last next count : ℕ) (cache : Cache) (p : Parts) 
 -- so many words at most were loaded, and nothing else was done
 pub record HasLoaded (most : ℕ) (p q : Parts) : Type 0 where
   pub same : q ≡ record p { words = q.words }
-  pub goes : RunsWithin most p.words q.words
+  pub runs_within : RunsWithin most p.words q.words
   pub volatile : q.words.volatile ≡ p.words.volatile
   pub stores : StoresOnly (λ _. ⊥) p.words q.words
 
 -- loads leave a heap right, and its held blocks too
 module _ (p q : Parts) (most : ℕ) (run : IsRunning p) (loaded : HasLoaded most p q) where
   loaded_running : IsRunning (record p { words = q.words })
-  loaded_running = running_words p q.words (λ _. ⊥) run loaded.goes.running loaded.volatile loaded.stores (λ d within out. out) (λ out. out) loaded.goes.below
+  loaded_running = running_words p q.words (λ _. ⊥) run loaded.runs_within.running loaded.volatile loaded.stores (λ d within out. out) (λ out. out) loaded.runs_within.below
 
   pub loaded_run : IsRunning q
   loaded_run = subst (λ x. IsRunning x) (sym loaded.same) loaded_running
@@ -95,11 +95,11 @@ pub loaded_more : (p q r : Parts) (most : ℕ) (word value : ℕ) → HasLoaded 
     → HasLoaded (most + 1) p r
 loaded_more p q r most word value before same loaded stores = record {
   same = same ∙ ap (λ (x : Parts). record x { words = r.words }) before.same;
-  goes = record {
-    running = loaded.goes.running;
-    drew = let a = before.goes.drew in let b = loaded.goes.drew in omega arith;
-    few = let a = before.goes.few in let b = loaded.goes.few in omega arith;
-    below = loaded.goes.below;
+  runs_within = record {
+    running = loaded.runs_within.running;
+    drew = let a = before.runs_within.drew in let b = loaded.runs_within.drew in omega arith;
+    few = let a = before.runs_within.few in let b = loaded.runs_within.few in omega arith;
+    below = loaded.runs_within.below;
   };
   volatile = loaded.volatile ∙ before.volatile;
   stores = stores_then (λ _. ⊥) p.words q.words r.words before.stores stores;
@@ -266,7 +266,7 @@ flushed_leaves_held class p q r before leaves_held = leaves_held_then p q r (hel
 -- a prefix was found
 module _ (class : ℕ) (p q r : Parts) (prefix : CachePrefix) (before : IsFlushed class p q) (is_prefix : IsCachePrefix class prefix r) (run : IsRunning r)
     (keeps : KeepsAll class q r) (caches : r.caches ≡ q.caches)
-    (goes : RunsWithin prefix.batch.count q.words r.words) (held : held_in r ≡ held_in q) (leaves_held : LeavesHeld (held_in q) q r) (taken : r.taken ≡ q.taken) where
+    (runs_within : RunsWithin prefix.batch.count q.words r.words) (held : held_in r ≡ held_in q) (leaves_held : LeavesHeld (held_in q) q r) (taken : r.taken ≡ q.taken) where
   some_given : 1 ≤ prefix.batch.count
   some_given = let count = is_prefix.count in let both = length-append is_prefix.before (prefix.batch.last ∷ []) in omega arith
 
@@ -278,7 +278,7 @@ module _ (class : ℕ) (p q r : Parts) (prefix : CachePrefix) (before : IsFlushe
       let few = before.few in
       let count = is_prefix.rest in
       let same = same_count in
-      let drew = goes.few in
+      let drew = runs_within.few in
       omega arith
 
   pub prefix_held : held_in r ≡ held_in p
@@ -295,7 +295,7 @@ module _ (class : ℕ) (p q r : Parts) (prefix : CachePrefix) (before : IsFlushe
     flushed_more = record {
       running = gave_run;
       keeps = keeps_then class p q t before.keeps (keeps_then class q r t keeps gives.keeps);
-      more = let a = before.more in let b = goes.drew in let c = gave.drew in omega arith;
+      more = let a = before.more in let b = runs_within.drew in let c = gave.drew in omega arith;
       few =
           let a = prefix_few in
           let some = some_given in
@@ -322,17 +322,17 @@ module _ (class : ℕ) (p q r : Parts) (prefix : CachePrefix) (before : IsFlushe
   give_leaves_held x gave = leaves_held_then p r x (held_in p) prefix_leaves_held (subst (λ h. LeavesHeld h r x) prefix_held gave)
 
   -- how far it went where giving it stopped
-  pub give_halts : (w : View) (ticket : ℕ) → IsClass class → IsRunning p → StopsWithin ticket 6 r.words w → StopsWithin ticket 36864 p.words w
-  give_halts w ticket is first halts = record {
-    stopped = halts.stopped;
-    above = halts.above;
-    from = let a = before.more in let b = goes.drew in let c = halts.from in omega arith;
-    until = halts.until;
-    last = halts.last;
+  pub give_stops_within : (w : View) (ticket : ℕ) → IsClass class → IsRunning p → StopsWithin ticket 6 r.words w → StopsWithin ticket 36864 p.words w
+  give_stops_within w ticket is first stops_within = record {
+    stopped = stops_within.stopped;
+    above = stops_within.above;
+    from = let a = before.more in let b = runs_within.drew in let c = stops_within.from in omega arith;
+    until = stops_within.until;
+    last = stops_within.last;
     few =
         let a = prefix_few in
         let some = some_given in
-        let b = halts.few in
+        let b = stops_within.few in
         let of = first.caches class is in
         let most : (cache_at p.caches class).count ≤ blocks_of class = of.most in
         let few = few_blocks class is in
@@ -340,17 +340,17 @@ module _ (class : ℕ) (p q r : Parts) (prefix : CachePrefix) (before : IsFlushe
   }
 
 -- and where finding it did
-pub prefix_halts : (class : ℕ) (p q : Parts) (w : View) (ticket : ℕ) → IsFlushed class p q → IsClass class → IsRunning p
+pub prefix_stops_within : (class : ℕ) (p q : Parts) (w : View) (ticket : ℕ) → IsFlushed class p q → IsClass class → IsRunning p
     → StopsWithin ticket (cache_at q.caches class).count q.words w → StopsWithin ticket 36864 p.words w
-prefix_halts class p q w ticket before is first halts = record {
-  stopped = halts.stopped;
-  above = halts.above;
-  from = let a = before.more in let c = halts.from in omega arith;
-  until = halts.until;
-  last = halts.last;
+prefix_stops_within class p q w ticket before is first stops_within = record {
+  stopped = stops_within.stopped;
+  above = stops_within.above;
+  from = let a = before.more in let c = stops_within.from in omega arith;
+  until = stops_within.until;
+  last = stops_within.last;
   few =
       let a = before.few in
-      let b = halts.few in
+      let b = stops_within.few in
       let of = first.caches class is in
       let most : (cache_at p.caches class).count ≤ blocks_of class = of.most in
       let few = few_blocks class is in

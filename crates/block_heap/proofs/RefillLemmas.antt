@@ -291,12 +291,12 @@ module _ (p : Parts) (class list : ℕ) (popped : Popped) (w : View) (look : Loo
 
   pub emptied_running : IsRunning emptied
   emptied_running = running_looks (record p { words = w }) (set p.head_looks list look) (length-set p.head_looks list look ∙ run.looks_long)
-      (running_words p w (IsMoved p.capacity) run pop.goes.running same_words (pop_moved p list popped w run below pop stores) (λ d less m. moved_info p.capacity d (info_word d) m refl)
-      (λ m. moved_used p.capacity used_word m refl) pop.goes.below)
+      (running_words p w (IsMoved p.capacity) run pop.runs_within.running same_words (pop_moved p list popped w run below pop stores) (λ d less m. moved_info p.capacity d (info_word d) m refl)
+      (λ m. moved_used p.capacity used_word m refl) pop.runs_within.below)
 
   pub emptied_leaves_held : IsNextLook p look → LeavesHeld (held_in p) p emptied
   emptied_leaves_held next = leaves_held_moved p emptied run (pop_moved p list popped w run below pop stores) refl refl refl
-      (looked_at_head p emptied list look (let long = run.looks_long in omega arith) next pop.goes.drew (omega arith) refl refl)
+      (looked_at_head p emptied list look (let long = run.looks_long in omega arith) next pop.runs_within.drew (omega arith) refl refl)
 
   pub emptied_refilling : IsRefilling class p emptied
   emptied_refilling = record {

@@ -69,12 +69,12 @@ pub large_lasts : {T : Type 0} (r : Result T Stopped) (p q : Parts) (held : List
     → IsLasting p.capacity p.words (held_in p) old → LeavesHeld held p q
     → IsStable q.capacity q.words (held_in q) → OnOk r (o ≡ None) → IfErr r (λ e. o ≡ Some e.step) → IfErr r (λ e. StopsWithin e.step most p.words q.words)
     → IsLasting q.capacity q.words (held_in q) o
-large_lasts r p q held most old o lasts leaves_held stable none stops halts = record {
+large_lasts r p q held most old o lasts leaves_held stable none stops stops_within = record {
   some = let same = leaves_held.capacity in let some = lasts.some in omega arith;
   small = let same = leaves_held.capacity in let small = lasts.small in omega arith;
   stable = stable;
   used = subst (λ n. UsedFits n q.words) (sym leaves_held.capacity) (leaves_held.as_allocator.fits lasts.used);
-  stopping = stop_above r o most p.words q.words none stops halts;
+  stopping = stop_above r o most p.words q.words none stops stops_within;
 }
 
 -- over a request
@@ -83,8 +83,8 @@ pub request_lasts : (r : Result (Option Block) Stopped) (p q : Parts) (bytes : �
     → IfOk r (λ answer. Answers bytes answer p q) → OnErr r (held_in q ≡ held_in p) → OnOk r (o ≡ None) → IfErr r (λ e. o ≡ Some e.step)
     → IfErr r (λ e. StopsWithin e.step 41201 p.words q.words)
     → IsLasting q.capacity q.words (held_in q) o
-request_lasts r p q bytes old o lasts leaves_held answers held none stops halts =
-    large_lasts r p q (held_in p) 41201 old o lasts leaves_held (request_stable r p q bytes lasts.stable leaves_held answers held) none stops halts
+request_lasts r p q bytes old o lasts leaves_held answers held none stops stops_within =
+    large_lasts r p q (held_in p) 41201 old o lasts leaves_held (request_stable r p q bytes lasts.stable leaves_held answers held) none stops stops_within
 
 -- a request or a free keeps the heap
 pub large_heap : {T : Type 0} (r : Result T Stopped) (s : SeqState) (q : Parts) (most : ℕ) (o : Option ℕ) (l : ∥ IsLasting q.capacity q.words (held_in q) o ∥₁)
@@ -101,10 +101,10 @@ pub large_heap : {T : Type 0} (r : Result T Stopped) (s : SeqState) (q : Parts) 
       refused_looks = s.refused_looks;
       lasts = l;
     })
-large_heap r s q most o l heap lasts runs goes halts stops = record {
+large_heap r s q most o l heap lasts runs runs_within stops_within stops = record {
   lasts = lasts;
   running = λ running. done_of r o (IsRunning q × CachesAreShort q 0 × AreAccounted q) runs stops running;
-  calls = let few = heap.calls in let more = drew r most s.parts.words q.words goes halts in omega arith;
+  calls = let few = heap.calls in let more = drew r most s.parts.words q.words runs_within stops_within in omega arith;
   refused = let few = heap.refused in omega arith;
 }
 

@@ -22,23 +22,23 @@ use Rattle.block_heap.proofs.RunningLemmas.{running_words}
 -- the ticket of a stop is not allowed
 pub stop_above : {T : Type 0} (r : Result T Stopped) (o : Option ℕ) (most : ℕ) (v w : View) → OnOk r (o ≡ None) → IfErr r (λ e. o ≡ Some e.step) → IfErr r (λ e. StopsWithin e.step most v w)
     → (ticket : ℕ) → o ≡ Some ticket → (w.budget ≤ ticket) × (w.drawn ≡ ticket + 1)
-stop_above (Ok x) o most v w none stops halts ticket at = absurd (cc)
-stop_above (Err e) o most v w none stops halts ticket at =
+stop_above (Ok x) o most v w none stops stops_within ticket at = absurd (cc)
+stop_above (Err e) o most v w none stops stops_within ticket at =
     let same : Some e.step ≡ Some ticket = sym stops ∙ at in
     let one : e.step ≡ ticket = cc in
-    let above = halts.above in
-    let last = halts.last in
+    let above = stops_within.above in
+    let last = stops_within.last in
     (omega arith, omega arith)
 
 -- a call that ran drew a ticket
 pub drew : {T : Type 0} (r : Result T Stopped) (most : ℕ) (v w : View) → OnOk r (RunsWithin most v w) → IfErr r (λ e. StopsWithin e.step most v w) → v.drawn < w.drawn
-drew (Ok x) most v w goes halts = goes.drew
-drew (Err e) most v w goes halts = let from = halts.from in let until = halts.until in omega arith
+drew (Ok x) most v w runs_within stops_within = runs_within.drew
+drew (Err e) most v w runs_within stops_within = let from = stops_within.from in let until = stops_within.until in omega arith
 
 -- and few
 pub few_drawn : {T : Type 0} (r : Result T Stopped) (most : ℕ) (v w : View) → OnOk r (RunsWithin most v w) → IfErr r (λ e. StopsWithin e.step most v w) → w.drawn ≤ v.drawn + most
-few_drawn (Ok x) most v w goes halts = goes.few
-few_drawn (Err e) most v w goes halts = halts.few
+few_drawn (Ok x) most v w runs_within stops_within = runs_within.few
+few_drawn (Err e) most v w runs_within stops_within = stops_within.few
 
 -- no stop, so it was done
 pub done_of : {T : Type 0} (r : Result T Stopped) (o : Option ℕ) (P : Type 0) → OnOk r P → IfErr r (λ e. o ≡ Some e.step) → o ≡ None → P
@@ -61,16 +61,16 @@ pub quiet_heap : {T : Type 0} (r : Result T Stopped) (s : SeqState) (w : View) (
     → OnOk r (RunsWithin 1 s.parts.words w) → OnOk r (w.volatile ≡ s.parts.words.volatile) → IfErr r (λ e. StopsWithin e.step 1 s.parts.words w) → StoresOnly (λ _. ⊥) s.parts.words w
     → OnOk r (o ≡ None) → IfErr r (λ e. o ≡ Some e.step)
     → IsSeqHeap (record { parts = record s.parts { words = w }; stopped = o; small_calls = s.small_calls + 1; large_calls = s.large_calls; refusals = s.refusals; refused_bytes = s.refused_bytes; refused_looks = s.refused_looks; lasts = l })
-quiet_heap r s w o l heap ran goes same halts stores none stops = record {
-  lasts = small_lasts s.parts w (λ _. ⊥) s.stopped o heap.lasts stores (λ word t. absurd t) (stop_above r o 1 s.parts.words w none stops halts);
+quiet_heap r s w o l heap ran runs_within same stops_within stores none stops = record {
+  lasts = small_lasts s.parts w (λ _. ⊥) s.stopped o heap.lasts stores (λ word t. absurd t) (stop_above r o 1 s.parts.words w none stops stops_within);
   running = λ running.
       let before = heap.running ran in
-      let went = done_of r o (RunsWithin 1 s.parts.words w) goes stops running in (
+      let went = done_of r o (RunsWithin 1 s.parts.words w) runs_within stops running in (
         running_words s.parts w (λ _. ⊥) before.0 went.running (done_of r o (w.volatile ≡ s.parts.words.volatile) same stops running) stores (λ d below t. t) (λ t. t) went.below,
         record { each = before.1.each },
         accounted_same s.parts (record s.parts { words = w }) refl (done_of r o (w.volatile ≡ s.parts.words.volatile) same stops running) refl before.2,
       );
-  calls = let few = heap.calls in let more = drew r 1 s.parts.words w goes halts in omega arith;
+  calls = let few = heap.calls in let more = drew r 1 s.parts.words w runs_within stops_within in omega arith;
   refused = heap.refused;
 }
 
@@ -111,12 +111,12 @@ small_view s w o = record (seat_of s) {
 
 -- a call that was done
 runs_of : (s : SeqState) (w : View) (o : Option ℕ) → s.stopped ≡ None → o ≡ None → RunsWithin 1 s.parts.words w → Runs (seat_of s) (small_view s w o)
-runs_of s w o ran runs goes = record { ran = ran; running = runs; drew = goes.drew; below = goes.below }
+runs_of s w o ran runs runs_within = record { ran = ran; running = runs; drew = runs_within.drew; below = runs_within.below }
 
 pub load_ok : (r : Result ℕ Stopped) (s seen : SeqState) (w : View) (o : Option ℕ) (word : ℕ) → IsSeqHeap s → s ≡ seen → seen.stopped ≡ None → OnOk r (o ≡ None)
     → IfOk r (λ value. IsLoaded word value s.parts.words w) → IfOk r (λ value. Loads word value (seat_of seen) (small_view s w o))
 load_ok (Ok value) s seen w o word heap same ran runs loaded = subst (λ t. Loads word value (seat_of t) (small_view s w o)) same (record {
-  runs = runs_of s w o (ap (λ (t : SeqState). t.stopped) same ∙ ran) runs loaded.goes;
+  runs = runs_of s w o (ap (λ (t : SeqState). t.stopped) same ∙ ran) runs loaded.runs_within;
   seen = ap Some (ap (λ xs. get_or xs word 0) loaded.volatile ∙ sym loaded.seen);
   pending = λ other p. subst (λ xs. Contains xs other) (sym loaded.pending) p;
 })
@@ -125,7 +125,7 @@ load_ok (Err e) s seen w o word heap same ran runs loaded = tt
 pub store_ok : (r : Result Unit Stopped) (s seen : SeqState) (w : View) (o : Option ℕ) (word value : ℕ) → IsSeqHeap s → s ≡ seen → word < word_count s.parts.words → seen.stopped ≡ None → OnOk r (o ≡ None)
     → OnOk r (IsStored word value s.parts.words w) → OnOk r (Stores word value (seat_of seen) (small_view s w o))
 store_ok (Ok t) s seen w o word value heap same within ran runs stored = subst (λ t. Stores word value (seat_of t) (small_view s w o)) same (record {
-  runs = runs_of s w o (ap (λ (t : SeqState). t.stopped) same ∙ ran) runs stored.goes;
+  runs = runs_of s w o (ap (λ (t : SeqState). t.stopped) same ∙ ran) runs stored.runs_within;
   seen = ap Some (ap (λ xs. get_or xs word 0) stored.volatile ∙ get_or-set_same s.parts.words.volatile word value 0 within);
   pending = stored.pending;
 })
@@ -134,7 +134,7 @@ store_ok (Err e) s seen w o word value heap same within ran runs stored = tt
 pub write_back_ok : (r : Result Unit Stopped) (s seen : SeqState) (w : View) (o : Option ℕ) (spot : Spot) → IsSeqHeap s → s ≡ seen → seen.stopped ≡ None → IsOwnSpot (seat_of seen) spot
     → OnOk r (o ≡ None) → OnOk r (IsWritten (word_of spot) s.parts.words w) → OnOk r (WritesBack spot (seat_of seen) (small_view s w o))
 write_back_ok (Ok t) s seen w o spot heap same ran own runs written = subst (λ t. WritesBack spot (seat_of t) (small_view s w o)) same (record {
-  runs = runs_of s w o ran_before runs written.goes;
+  runs = runs_of s w o ran_before runs written.runs_within;
   line = λ word p. in_line word (spot_words spot own_before word p);
   pending = written.pending;
 }) where
@@ -158,15 +158,15 @@ write_back_ok (Err e) s seen w o spot heap same ran own runs written = tt
 pub fence_ok : (r : Result Unit Stopped) (s seen : SeqState) (w : View) (o : Option ℕ) → s ≡ seen → seen.stopped ≡ None → OnOk r (o ≡ None)
     → OnOk r (IsFenced s.parts.words w) → OnOk r (Fences (seat_of seen) (small_view s w o))
 fence_ok (Ok t) s seen w o same ran runs fenced = subst (λ t. Fences (seat_of t) (small_view s w o)) same (record {
-  runs = runs_of s w o (ap (λ (t : SeqState). t.stopped) same ∙ ran) runs fenced.goes;
+  runs = runs_of s w o (ap (λ (t : SeqState). t.stopped) same ∙ ran) runs fenced.runs_within;
   durable = λ word own pending. record { value = volatile_at w word; seen = refl; left = ap Some (fenced.durable word pending) };
 })
 fence_ok (Err e) s seen w o same ran runs fenced = tt
 
 -- of a load that was done
-pub loaded_goes : (r : Result ℕ Stopped) (word : ℕ) (v w : View) → IfOk r (λ value. IsLoaded word value v w) → OnOk r (RunsWithin 1 v w)
-loaded_goes (Ok value) word v w loaded = loaded.goes
-loaded_goes (Err e) word v w loaded = tt
+pub loaded_runs_within : (r : Result ℕ Stopped) (word : ℕ) (v w : View) → IfOk r (λ value. IsLoaded word value v w) → OnOk r (RunsWithin 1 v w)
+loaded_runs_within (Ok value) word v w loaded = loaded.runs_within
+loaded_runs_within (Err e) word v w loaded = tt
 
 pub loaded_same : (r : Result ℕ Stopped) (word : ℕ) (v w : View) → IfOk r (λ value. IsLoaded word value v w) → OnOk r (w.volatile ≡ v.volatile)
 loaded_same (Ok value) word v w loaded = loaded.volatile

@@ -321,7 +321,7 @@ module _ (p : Parts) (class : ℕ) (is : IsClass class) (run : IsRunning p) (cac
 
   pub popped_running : IsRunning popped_parts
   popped_running = running_after p w (set p.caches class popped_cache) h (with_cache run.shape class next front.behind) run
-      (keeps_fixed p w (λ _. ⊥) run stores loaded.goes.running loaded.goes.below (λ d within out. out) (λ out. out)
+      (keeps_fixed p w (λ _. ⊥) run stores loaded.runs_within.running loaded.runs_within.below (λ d within out. out) (λ out. out)
       (λ list less. ap head_pops (stores.volatile (head_word list) (λ out. out))))
       (length-set p.caches class popped_cache ∙ run.caches_long) start words shape_after.0
       (caches_set p run class (with_cache run.shape class next front.behind) next front.behind popped_cache is refl

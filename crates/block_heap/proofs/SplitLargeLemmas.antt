@@ -160,8 +160,8 @@ module _ (p : Parts) (d anchor : ℕ) (u w : View) (run : IsRunning p) (dropped 
 
       pub split_running : IsRunning (record p { words = w })
       split_running = record {
-        words_open = record { running = pushed.goes.running; long = split_stores.words ∙ run.words_open.long };
-        below = pushed.goes.below;
+        words_open = record { running = pushed.runs_within.running; long = split_stores.words ∙ run.words_open.long };
+        below = pushed.runs_within.below;
         bounded = let same = split_stores.budget in let bounded = run.bounded in subst (λ n. n < 2 ^ 40) (sym same) bounded;
         caches_long = run.caches_long;
         looks_long = run.looks_long;

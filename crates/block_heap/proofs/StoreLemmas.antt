@@ -44,8 +44,8 @@ knows_same capacity s old new blocks same knows = record {
 pub own_stored : (p : Parts) (w : View) (o : Option ℕ) (word value : ℕ) → IsRunning p → IsLasting p.capacity p.words (held_in p) o → IsOwn (held_in p) all_roots word → word < word_count p.words
     → IsStored word value p.words w → StoresOnly (λ other. other ≡ word) p.words w → IsRunning (record p { words = w })
 own_stored p w o word value run lasts own within stored stores = record {
-  words_open = record { running = stored.goes.running; long = stores.words ∙ run.words_open.long };
-  below = stored.goes.below;
+  words_open = record { running = stored.runs_within.running; long = stores.words ∙ run.words_open.long };
+  below = stored.runs_within.below;
   bounded = subst (λ n. n < 2 ^ 40) (sym stores.budget) run.bounded;
   caches_long = run.caches_long;
   looks_long = run.looks_long;
@@ -94,8 +94,8 @@ pub store_heap : (r : Result Unit Stopped) (s : SeqState) (w : View) (o : Option
     → IsOwn (held_in s.parts) all_roots word → word < word_count s.parts.words → OnOk r (IsStored word value s.parts.words w) → IfErr r (λ e. StopsWithin e.step 1 s.parts.words w)
     → StoresOnly (λ other. other ≡ word) s.parts.words w → OnOk r (o ≡ None) → IfErr r (λ e. o ≡ Some e.step)
     → IsSeqHeap (record { parts = record s.parts { words = w }; stopped = o; small_calls = s.small_calls + 1; large_calls = s.large_calls; refusals = s.refusals; refused_bytes = s.refused_bytes; refused_looks = s.refused_looks; lasts = l })
-store_heap r s w o l word value heap ran own within stored halts stores none stops = record {
-  lasts = small_lasts s.parts w (λ other. other ≡ word) s.stopped o heap.lasts stores (λ other e. subst (IsOwn (held_in s.parts) all_roots) (sym e) own) (stop_above r o 1 s.parts.words w none stops halts);
+store_heap r s w o l word value heap ran own within stored stops_within stores none stops = record {
+  lasts = small_lasts s.parts w (λ other. other ≡ word) s.stopped o heap.lasts stores (λ other e. subst (IsOwn (held_in s.parts) all_roots) (sym e) own) (stop_above r o 1 s.parts.words w none stops stops_within);
   running = λ running.
       let before = heap.running ran in
       let done = done_of r o (IsStored word value s.parts.words w) stored stops running in (
@@ -103,12 +103,12 @@ store_heap r s w o l word value heap ran own within stored halts stores none sto
         record { each = before.1.each },
         own_accounted s.parts w s.stopped word value before.0 heap.lasts own within done stores before.2,
       );
-  calls = let few = heap.calls in let more = drew r 1 s.parts.words w (stored_goes r stored) halts in omega arith;
+  calls = let few = heap.calls in let more = drew r 1 s.parts.words w (stored_runs_within r stored) stops_within in omega arith;
   refused = heap.refused;
 } where
-  stored_goes : (q : Result Unit Stopped) → OnOk q (IsStored word value s.parts.words w) → OnOk q (RunsWithin 1 s.parts.words w)
-  stored_goes (Ok t) is = is.goes
-  stored_goes (Err e) is = tt
+  stored_runs_within : (q : Result Unit Stopped) → OnOk q (IsStored word value s.parts.words w) → OnOk q (RunsWithin 1 s.parts.words w)
+  stored_runs_within (Ok t) is = is.runs_within
+  stored_runs_within (Err e) is = tt
 
 -- at each exit no other own word is stored to
 pub store_keeps : (s seen : SeqState) (w : View) (o : Option ℕ) (word value : ℕ) → s ≡ seen → StoresOnly (λ other. other ≡ word) s.parts.words w → MayStoreWord word value s.parts.words w

@@ -49,7 +49,7 @@ module _ (p : Parts) (class d : ℕ) (popped : Popped) (w : View) (look : Look) 
   pub first_looked : (q : Parts) → IsNextLook p look → w.drawn ≤ q.words.drawn → p.taken ≤ q.taken → q.used_look ≡ p.used_look
       → q.head_looks ≡ set p.head_looks class look → MakesLooks p q
   first_looked q next later more used heads =
-      looked_at_head p q class look (let long = run.looks_long in omega arith) next (let drew = pop.goes.drew in omega arith) more used heads
+      looked_at_head p q class look (let long = run.looks_long in omega arith) next (let drew = pop.runs_within.drew in omega arith) more used heads
 
   -- the free list is that of the shape
   free_one : (fs : List ℕ) → LeadsAlong p 0 fs → run.shape.listed 0 ≡ fs
@@ -121,10 +121,10 @@ module _ (p : Parts) (class d : ℕ) (popped : Popped) (w : View) (look : Look) 
       made_taken = record {
         capacity = refl;
         held = refl;
-        running = is_taken.goes.running;
+        running = is_taken.runs_within.running;
         words = take_stores.words ∙ pop_stores.words;
         budget = take_stores.budget ∙ pop_stores.budget;
-        below = is_taken.goes.below;
+        below = is_taken.runs_within.below;
         caches_long = length-set p.caches class cache ∙ run.caches_long;
         looks_long = length-set p.head_looks class look ∙ run.looks_long;
         is = take p.capacity class d (image_of p) (λ word. volatile_at w word) (image_of taken_parts) (held_in p) run.shape rest is run.is listed
@@ -140,8 +140,8 @@ module _ (p : Parts) (class d : ℕ) (popped : Popped) (w : View) (look : Look) 
             let before = run.pops list less in
             let popped_once = popped_pops p class popped w run below pop pop_stores d some list less in
             let same : volatile_at u (head_word list) ≡ volatile_at w (head_word list) = take_stores.volatile (head_word list) (λ e. omega arith) in
-            let drew = pop.goes.drew in
-            let more = is_taken.goes.drew in
+            let drew = pop.runs_within.drew in
+            let more = is_taken.runs_within.drew in
             omega arith;
         knows = let same : volatile_at u used_word ≡ image_of p used_word =
             take_moved.volatile used_word (λ m. moved_used p.capacity used_word m refl) in let knew = run.knows in omega arith;
@@ -292,10 +292,10 @@ module _ (p : Parts) (class d : ℕ) (popped : Popped) (w : View) (look : Look) 
         made_recycled = record {
           capacity = refl;
           held = refl;
-          running = pushed.goes.running;
+          running = pushed.runs_within.running;
           words = push_stores.words ∙ long;
           budget = push_stores.budget ∙ take_stores.budget ∙ pop_stores.budget;
-          below = pushed.goes.below;
+          below = pushed.runs_within.below;
           caches_long = run.caches_long;
           looks_long = length-set p.head_looks class look ∙ run.looks_long;
           is = recycle p.capacity class d (image_of p) (λ word. volatile_at w word) (image_of recycled) (held_in p) run.shape rest is run.is listed state
@@ -308,9 +308,9 @@ module _ (p : Parts) (class d : ℕ) (popped : Popped) (w : View) (look : Look) 
           pops = λ list less.
               let before = run.pops list less in
               let once = count_then list less in
-              let drew = pop.goes.drew in
-              let more = not_taken.goes.drew in
-              let last = pushed.goes.drew in
+              let drew = pop.runs_within.drew in
+              let more = not_taken.runs_within.drew in
+              let last = pushed.runs_within.drew in
               omega arith;
           knows = let same : volatile_at v used_word ≡ image_of p used_word =
               push_moved.volatile used_word (λ m. moved_used p.capacity used_word m refl) in let knew = run.knows in omega arith;

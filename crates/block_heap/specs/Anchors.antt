@@ -15,14 +15,14 @@ anchor_at v d = volatile_at v (anchor_word d)
 
 -- the anchor was read, and nothing stored
 pub record AnchorRead (d : ℕ) (anchor : Anchor) (v w : View) : Type 0 where
-  pub goes : RunsWithin 1 v w
+  pub runs_within : RunsWithin 1 v w
   pub parts : HasParts (anchor_at v d) anchor
   pub packable : IsPackable anchor
   pub volatile : w.volatile ≡ v.volatile
 
 -- the free blocks were taken, if some were free and not all: their chain, and a full anchor
 pub record IsTakenFrom (capacity class d : ℕ) (taken : Option Cache) (v w : View) : Type 0 where
-  pub goes : RunsWithin 2 v w
+  pub runs_within : RunsWithin 2 v w
   pub words : MatchOption taken ((anchor_state (anchor_at v d) ≢ partial_state) × (w.volatile ≡ v.volatile))
       (λ cache. (anchor_state (anchor_at v d) ≡ partial_state)
       × (cache.first ≡ start_word capacity d + anchor_first (anchor_at v d) * words_of_class class)

@@ -28,7 +28,7 @@ given_to anchor batch most =
 
 -- the batch was given to superblock d, whose anchor was this one
 pub record IsGiven (capacity class d : ℕ) (batch : Batch) (anchor : Anchor) (v w : View) : Type 0 where
-  pub goes : RunsWithin 3 v w
+  pub runs_within : RunsWithin 3 v w
   pub parts : HasParts (volatile_at v (anchor_word d)) anchor
   pub words : w.volatile ≡ slice_set (linked_words capacity class d batch anchor v.volatile) (anchor_word d) (given_to anchor batch (blocks_of class))
 

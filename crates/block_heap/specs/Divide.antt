@@ -26,7 +26,7 @@ pub record AreInOneChain (capacity class d count : ℕ) (v w : View) : Type 0 wh
 
 -- the superblock has the class, durably, and its blocks are in one chain that belongs to nobody
 pub record IsDivided (capacity class d : ℕ) (v w : View) : Type 0 where
-  pub goes : RunsWithin 4200 v w
+  pub runs_within : RunsWithin 4200 v w
   pub info : volatile_at w (info_word d) ≡ class
   pub info_durable : durable_at w (info_word d) ≡ class
   pub anchor : volatile_at w (anchor_word d) ≡ full_anchor

@@ -20,7 +20,7 @@ pub record IsHead (capacity head : ℕ) : Type 0 where
 
 -- the first descriptor was taken off the list, if it had one
 pub record IsPopped (list : ℕ) (popped : Popped) (v w : View) : Type 0 where
-  pub goes : RunsWithin 3 v w
+  pub runs_within : RunsWithin 3 v w
   pub head : popped.head ≡ volatile_at v (head_word list)
   pub first : link_of popped.first ≡ head_first popped.head
   pub words : MatchOption popped.first (w.volatile ≡ v.volatile)
@@ -28,7 +28,7 @@ pub record IsPopped (list : ℕ) (popped : Popped) (v w : View) : Type 0 where
 
 -- the descriptor was put in front of the list
 pub record IsPushed (list d : ℕ) (v w : View) : Type 0 where
-  pub goes : RunsWithin 3 v w
+  pub runs_within : RunsWithin 3 v w
   pub words : w.volatile ≡ slice_set (slice_set v.volatile (link_word d) (head_first (volatile_at v (head_word list))))
       (head_word list) (head_of (d + 1) (head_pops (volatile_at v (head_word list))))
 
@@ -38,7 +38,7 @@ IsPushWord list d word = (word ≡ head_word list) ⊎ (word ≡ link_word d)
 
 -- so many superblocks were taken for the first time, or there were too few
 pub record IsFresh (capacity count : ℕ) (fresh : Fresh) (v w : View) : Type 0 where
-  pub goes : RunsWithin 4 v w
+  pub runs_within : RunsWithin 4 v w
   pub used : fresh.used ≡ volatile_at v used_word
   pub words : MatchOption fresh.first ((w.volatile ≡ v.volatile) × (capacity < fresh.used + count) × StoresOnly (λ _. ⊥) v w)
       (λ d. (d ≡ fresh.used) × (fresh.used + count ≤ capacity)

@@ -33,28 +33,28 @@ pub record StopsWithin (ticket most : ℕ) (v w : View) : Type 0 where
   pub few : w.drawn ≤ v.drawn + most
 
 pub record IsLoaded (word value : ℕ) (v w : View) : Type 0 where
-  pub goes : RunsWithin 1 v w
+  pub runs_within : RunsWithin 1 v w
   pub seen : value ≡ volatile_at v word
   pub volatile : w.volatile ≡ v.volatile
   pub pending : w.pending ≡ v.pending
 
 pub record IsStored (word value : ℕ) (v w : View) : Type 0 where
-  pub goes : RunsWithin 1 v w
+  pub runs_within : RunsWithin 1 v w
   pub volatile : w.volatile ≡ slice_set v.volatile word value
   pub pending : (other : ℕ) → other ≢ word → IsPending v other → IsPending w other
 
 pub record IsWritten (word : ℕ) (v w : View) : Type 0 where
-  pub goes : RunsWithin 1 v w
+  pub runs_within : RunsWithin 1 v w
   pub volatile : w.volatile ≡ v.volatile
   pub line : (other : ℕ) → other < word_count v → line_of other ≡ line_of word → IsPending w other
   pub pending : (other : ℕ) → IsPending v other → IsPending w other
 
 pub record IsFenced (v w : View) : Type 0 where
-  pub goes : RunsWithin 1 v w
+  pub runs_within : RunsWithin 1 v w
   pub volatile : w.volatile ≡ v.volatile
   pub durable : (word : ℕ) → IsPending v word → durable_at w word ≡ volatile_at w word
 
 pub record IsPersisted (word value : ℕ) (v w : View) : Type 0 where
-  pub goes : RunsWithin 3 v w
+  pub runs_within : RunsWithin 3 v w
   pub volatile : w.volatile ≡ slice_set v.volatile word value
   pub durable : durable_at w word ≡ value

@@ -53,7 +53,7 @@ pub data FreesInClass (class word : ℕ) (p r : Parts) : Type 0 where
 
 -- so where the cache had exactly the other blocks of its superblock, that is in the free list
 pub record FreesSmall (class word : ℕ) (p r : Parts) : Type 0 where
-  pub goes : FreesInClass class word p r
+  pub freed : FreesInClass class word p r
   pub all : (d : ℕ) → IsFirstOf p.capacity class d word → (cache_at p.caches class).count + 1 ≡ blocks_of class
       → CachesOnlyOf class d p → IsInList r 0 d
 

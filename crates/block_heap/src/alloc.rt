@@ -33,7 +33,7 @@ impl<C: Chance> Arena<C> {
         ensures order { (class : ℕ) → IsLeastClassFor bytes class
             → IfOk result (λ answer. ServesInOrder class answer
             (parts_of self.old) (parts_of self.new)) }
-        ensures goes { OnOk result (RunsWithin 41201
+        ensures runs_within { OnOk result (RunsWithin 41201
             (parts_of self.old).words (parts_of self.new).words) }
         ensures stopped { IfErr result (λ e. StopsWithin e.step 41201
             (parts_of self.old).words (parts_of self.new).words) }
@@ -59,7 +59,7 @@ impl<C: Chance> Arena<C> {
             (parts_of self.old) (parts_of self.new)) }
         ensures order { IfOk result (λ answer. ServesInOrder class.number answer
             (parts_of self.old) (parts_of self.new)) }
-        ensures goes { OnOk result (RunsWithin 41201
+        ensures runs_within { OnOk result (RunsWithin 41201
             (parts_of self.old).words (parts_of self.new).words) }
         ensures stopped { IfErr result (λ e. StopsWithin e.step 41201
             (parts_of self.old).words (parts_of self.new).words) }
@@ -108,7 +108,7 @@ impl<C: Chance> Arena<C> {
         requires holds { Contains (held_in (parts_of self.old)) b }
         ensures running { OnOk result (IsRunning (parts_of self.new)) }
         ensures short { OnOk result (CachesAreShort (parts_of self.new) 0) }
-        ensures goes { OnOk result (RunsWithin 40000
+        ensures runs_within { OnOk result (RunsWithin 40000
             (parts_of self.old).words (parts_of self.new).words) }
         ensures stopped { IfErr result (λ e. StopsWithin e.step 40000
             (parts_of self.old).words (parts_of self.new).words) }

@@ -26,7 +26,7 @@ impl<C: Chance> Arena<C> {
         ensures one_look { IfOk result (λ answer. answer ≡ None
             → (parts_of self.new).words.drawn ≡ (parts_of self.old).words.drawn + 1) }
         ensures running { OnOk result (IsRunning (parts_of self.new)) }
-        ensures goes { OnOk result (RunsWithin 7
+        ensures runs_within { OnOk result (RunsWithin 7
             (parts_of self.old).words (parts_of self.new).words) }
         ensures stopped { IfErr result (λ e. StopsWithin e.step 7
             (parts_of self.old).words (parts_of self.new).words) }
@@ -59,7 +59,7 @@ impl<C: Chance> Arena<C> {
         requires holds { Contains (held_in (parts_of self.old)) b }
         requires large { (class : ℕ) → IsClass class → b.words ≢ words_of_class class }
         ensures running { OnOk result (IsRunning (parts_of self.new)) }
-        ensures goes { OnOk result (RunsWithin (4 * largest_capacity)
+        ensures runs_within { OnOk result (RunsWithin (4 * largest_capacity)
             (parts_of self.old).words (parts_of self.new).words) }
         ensures stopped { IfErr result (λ e. StopsWithin e.step (4 * largest_capacity)
             (parts_of self.old).words (parts_of self.new).words) }
@@ -91,7 +91,7 @@ impl<C: Chance> Arena<C> {
             → IsDropped (parts_of self.new) e) }
         ensures gives { OnOk result (GivesUse d (parts_of self.old) (parts_of self.new)) }
         ensures order { OnOk result (FreesOne d (parts_of self.old) (parts_of self.new)) }
-        ensures goes { OnOk result (RunsWithin 4
+        ensures runs_within { OnOk result (RunsWithin 4
             (parts_of self.old).words (parts_of self.new).words) }
         ensures stopped { IfErr result (λ e. StopsWithin e.step 4
             (parts_of self.old).words (parts_of self.new).words) }

@@ -46,7 +46,7 @@ impl<C: Chance> Arena<C> {
             (parts_of self.old) (parts_of self.new)) }
         ensures left { IfOk result (λ some. Spends (one_if some) class.number
             (parts_of self.old) (parts_of self.new)) }
-        ensures goes { OnOk result (RunsWithin 41200
+        ensures runs_within { OnOk result (RunsWithin 41200
             (parts_of self.old).words (parts_of self.new).words) }
         ensures stopped { IfErr result (λ e. StopsWithin e.step 41200
             (parts_of self.old).words (parts_of self.new).words) }
@@ -74,7 +74,7 @@ impl<C: Chance> Arena<C> {
             (parts_of self.old) (parts_of self.new)) }
         ensures left { IfOk result (λ some. Spends (one_if some) class.number
             (parts_of self.old) (parts_of self.new)) }
-        ensures goes { OnOk result (RunsWithin (8 * largest_capacity + 8)
+        ensures runs_within { OnOk result (RunsWithin (8 * largest_capacity + 8)
             (parts_of self.old).words (parts_of self.new).words) }
         ensures stopped { IfErr result (λ e. StopsWithin e.step (8 * largest_capacity + 8)
             (parts_of self.old).words (parts_of self.new).words) }
@@ -105,7 +105,7 @@ impl<C: Chance> Arena<C> {
             (parts_of self.old) (parts_of self.new)) }
         ensures left { IfOk result (λ found. Spends (used_up found) class.number
             (parts_of self.old) (parts_of self.new)) }
-        ensures goes { OnOk result (RunsWithin 8
+        ensures runs_within { OnOk result (RunsWithin 8
             (parts_of self.old).words (parts_of self.new).words) }
         ensures stopped { IfErr result (λ e. StopsWithin e.step 8
             (parts_of self.old).words (parts_of self.new).words) }
@@ -140,7 +140,7 @@ impl<C: Chance> Arena<C> {
             (parts_of self.old) (parts_of self.new)) }
         ensures left { IfOk result (λ some. Spends (one_if some) class.number
             (parts_of self.old) (parts_of self.new)) }
-        ensures goes { OnOk result (RunsWithin 4203
+        ensures runs_within { OnOk result (RunsWithin 4203
             (parts_of self.old).words (parts_of self.new).words) }
         ensures stopped { IfErr result (λ e. StopsWithin e.step 4203
             (parts_of self.old).words (parts_of self.new).words) }
@@ -171,7 +171,7 @@ impl<C: Chance> Arena<C> {
             (parts_of self.old) (parts_of self.new)) }
         ensures left { IfOk result (λ some. Spends (one_if some) class.number
             (parts_of self.old) (parts_of self.new)) }
-        ensures goes { OnOk result (RunsWithin 4204
+        ensures runs_within { OnOk result (RunsWithin 4204
             (parts_of self.old).words (parts_of self.new).words) }
         ensures stopped { IfErr result (λ e. StopsWithin e.step 4204
             (parts_of self.old).words (parts_of self.new).words) }

@@ -36,7 +36,7 @@ impl<C: Chance> Arena<C> {
         requires some { 1 ≤ (cache_at (parts_of self.old).caches class.number).count }
         ensures ok { IfOk result (λ b. PopsBlock class.number b
             (parts_of self.old) (parts_of self.new)) }
-        ensures goes { OnOk result (RunsWithin 1
+        ensures runs_within { OnOk result (RunsWithin 1
             (parts_of self.old).words (parts_of self.new).words) }
         ensures stopped { IfErr result (λ e. StopsWithin e.step 1
             (parts_of self.old).words (parts_of self.new).words) }
@@ -66,7 +66,7 @@ impl<C: Chance> Arena<C> {
         requires size { b.words ≡ words_of_class class.number }
         ensures running { OnOk result (IsRunning (parts_of self.new)) }
         ensures short { OnOk result (CachesAreShort (parts_of self.new) 0) }
-        ensures goes { OnOk result (RunsWithin 40000
+        ensures runs_within { OnOk result (RunsWithin 40000
             (parts_of self.old).words (parts_of self.new).words) }
         ensures stopped { IfErr result (λ e. StopsWithin e.step 40000
             (parts_of self.old).words (parts_of self.new).words) }
@@ -131,7 +131,7 @@ impl<C: Chance> Arena<C> {
         ensures keeps { OnOk result (KeepsAll class.number
             (parts_of self.old) (parts_of self.new)) }
         ensures caches { (parts_of self.new).caches ≡ (parts_of self.old).caches }
-        ensures goes { IfOk result (λ prefix. RunsWithin prefix.batch.count
+        ensures runs_within { IfOk result (λ prefix. RunsWithin prefix.batch.count
             (parts_of self.old).words (parts_of self.new).words) }
         ensures stopped { IfErr result (λ e.
             StopsWithin e.step (cache_at (parts_of self.old).caches class.number).count
@@ -176,7 +176,7 @@ impl<C: Chance> Arena<C> {
             (parts_of self.old) (parts_of self.new)) }
         ensures order { OnOk result (GivesTo class.number prefix
             (parts_of self.old) (parts_of self.new)) }
-        ensures goes { OnOk result (RunsWithin 6
+        ensures runs_within { OnOk result (RunsWithin 6
             (parts_of self.old).words (parts_of self.new).words) }
         ensures stopped { IfErr result (λ e. StopsWithin e.step 6
             (parts_of self.old).words (parts_of self.new).words) }

@@ -38,7 +38,7 @@ returns-clause-drains g c =
     let r = parts_of c.pop_block.new.self in (
       drains_block c.args.class.number c.in_ok-pop_block.field-0 p q r c.stock.ensures.leaves_held.capacity c.in_ok-stock.ensures.refilling c.in_ok-pop_block.ensures.ok,
       costs_of c.args.class.number c.in_ok-stock.field-0 p q r c.if-not-branch.false c.in_ok-stock.ensures.left c.in_ok-stock.ensures.steps
-          c.pop_block.ensures.leaves_held.capacity c.in_ok-pop_block.ensures.ok.volatile c.in_ok-pop_block.ensures.goes.few,
+          c.pop_block.ensures.leaves_held.capacity c.in_ok-pop_block.ensures.ok.volatile c.in_ok-pop_block.ensures.runs_within.few,
     )
 
 pub returns-then-not-branch-clause-order : goal.returns-then-not-branch-clause-order

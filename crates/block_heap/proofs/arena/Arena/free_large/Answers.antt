@@ -35,7 +35,7 @@ loop-d-preserved g c =
     let kept = c.in_ok-split.ensures in
     freed_more c.superblock_of-first.result c.loop-d.d (c.superblock_of-first.result + c.args.b.words / 8192)
     (record (parts_of c.args.self.now) { blocks = c.remove.new.self }) (parts_of c.loop-d.self) (parts_of c.split.new.self) c.loop-d-test.true c.loop-d.invariant
-    kept.running kept.others kept.gives kept.order kept.goes kept.held kept.leaves_held kept.caches kept.taken
+    kept.running kept.others kept.gives kept.order kept.runs_within kept.held kept.leaves_held kept.caches kept.taken
 
 pub returns-clause-freed : goal.returns-clause-freed
 returns-clause-freed g c =

@@ -3,7 +3,7 @@ use Rattle.heap_model.proofs.SizeLemmas.{few_blocks}
 use Rattle.block_heap.specs.MediumView.{medium_view}
 use Rattle.block_heap.specs.Parts.{parts_of}
 use Rattle.block_heap.proofs.SmallLemmas.{read_cache}
-use Rattle.block_heap.proofs.FreeLemmas.{held_mark, held_below, taken_back, freed_leaves_held, count_short, freed_running, freed_accounted, freed_short, flushed_short, flushed_held, flushed_serve, flushed_goes}
+use Rattle.block_heap.proofs.FreeLemmas.{held_mark, held_below, taken_back, freed_leaves_held, count_short, freed_running, freed_accounted, freed_short, flushed_short, flushed_held, flushed_serve, flushed_runs_within}
 use Rattle.block_heap.proofs.FreedLemmas.{frees_below, frees_at}
 use Rattle.block_heap.proofs.arena.Arena.free_small.Goals as goal
 
@@ -103,11 +103,11 @@ returns-in_ok-flush-clause-short g c =
     c.index-cache.result.now is (medium_view c.store.new.self) c.in_ok-store.ensures.ok c.store.ensures.others c.requires.short
     (parts_of c.flush.new.self) c.in_ok-flush.ensures.keeps c.in_ok-flush.ensures.empty
 
-pub returns-in_ok-flush-clause-goes : goal.returns-in_ok-flush-clause-goes
-returns-in_ok-flush-clause-goes g c =
+pub returns-in_ok-flush-clause-runs_within : goal.returns-in_ok-flush-clause-runs_within
+returns-in_ok-flush-clause-runs_within g c =
     let p = parts_of c.args.self.now in
     let is = read_cache p c.args.class.number c.index-cache.result.now c.args.class.is c.requires.running c.index-cache.ensures in
-    flushed_goes p c.args.class.number c.args.class.is c.requires.running c.args.b c.requires.holds c.requires.size
+    flushed_runs_within p c.args.class.number c.args.class.is c.requires.running c.args.b c.requires.holds c.requires.size
     c.remove.new.self c.remove.ensures.held c.remove.ensures.words c.remove.ensures.start
     c.index-cache.result.now is (medium_view c.store.new.self) c.in_ok-store.ensures.ok c.store.ensures.others c.requires.short
     (parts_of c.flush.new.self) c.in_ok-flush.ensures.running c.flush.ensures.leaves_held.as_allocator.stores.drawn c.flush.ensures.few

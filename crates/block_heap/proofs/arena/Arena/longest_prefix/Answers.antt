@@ -28,7 +28,7 @@ loop-count-init g c =
     let p = parts_of c.args.self.now in
     let is = read_cache p c.args.class.number c.index-cache.result.now c.args.class.is c.requires.running c.index-cache.ensures in
     record {
-      loaded = record { same = refl; goes = c.in_ok-next.ensures.ok.goes; volatile = c.in_ok-next.ensures.ok.volatile; stores = c.load.ensures.unchanged };
+      loaded = record { same = refl; runs_within = c.in_ok-next.ensures.ok.runs_within; volatile = c.in_ok-next.ensures.ok.volatile; stores = c.load.ensures.unchanged };
       walked = walked_one p c.args.class.number c.args.class.is c.requires.running c.index-cache.result.now is c.requires.some c.superblock_of-d.result
           c.in_ok-next.next c.superblock_of-d.ensures c.in_ok-next.ensures.ok.seen;
       cache_is = is;

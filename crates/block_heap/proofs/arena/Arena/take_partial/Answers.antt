@@ -2,7 +2,7 @@ use Rattle.std.proofs.Common.{◌≤◌, sym, subst, arith}
 use Rattle.std.proofs.lemmas.Result.{err_from_is_err_and}
 use Rattle.block_heap.specs.Parts.{parts_of}
 use Rattle.block_heap.specs.Steps.{used_up}
-use Rattle.block_heap.proofs.PartialLemmas.{walk_begins, walk_leaves_held, walk_halts, walk_goes, walk_refilling, walk_more, walk_left, walk_takes, walk_nothing}
+use Rattle.block_heap.proofs.PartialLemmas.{walk_begins, walk_leaves_held, walk_stops_within, walk_runs_within, walk_refilling, walk_more, walk_left, walk_takes, walk_nothing}
 use Rattle.block_heap.proofs.arena.Arena.take_partial.Goals as goal
 
 pub loop-init : goal.loop-init
@@ -13,7 +13,7 @@ pub returns-in_err-take_first-clause-stopped : goal.returns-in_err-take_first-cl
 returns-in_err-take_first-clause-stopped g c =
     let told = err_from_is_err_and c.from_residual.result c.from_residual.ensures.1 in
     rw (told.1, told.2)
-    (walk_halts c.args.class.number (parts_of c.args.self.now) (parts_of c.loop.self) (parts_of c.take_first.new.self) c.args.class.is c.loop.invariant
+    (walk_stops_within c.args.class.number (parts_of c.args.self.now) (parts_of c.loop.self) (parts_of c.take_first.new.self) c.args.class.is c.loop.invariant
     c.take_first.ensures.leaves_held c.take_first.ensures.held c.take_first.ensures.taken
     c.in_err-take_first.field-0.0.step c.in_err-take_first.ensures.stopped)
 
@@ -25,12 +25,12 @@ returns-in_err-take_first-clause-leaves_held g c =
 pub returns-in-Blocks-clause-refilling : goal.returns-in-Blocks-clause-refilling
 returns-in-Blocks-clause-refilling g c =
     walk_refilling c.args.class.number (parts_of c.args.self.now) (parts_of c.loop.self) (parts_of c.take_first.new.self) c.args.class.is c.loop.invariant
-    c.take_first.ensures.leaves_held c.take_first.ensures.held c.take_first.ensures.taken c.in_ok-take_first.ensures.refilling c.in_ok-take_first.ensures.goes
+    c.take_first.ensures.leaves_held c.take_first.ensures.held c.take_first.ensures.taken c.in_ok-take_first.ensures.refilling c.in_ok-take_first.ensures.runs_within
 
-pub returns-in-Blocks-clause-goes : goal.returns-in-Blocks-clause-goes
-returns-in-Blocks-clause-goes g c =
-    walk_goes c.args.class.number (parts_of c.args.self.now) (parts_of c.loop.self) (parts_of c.take_first.new.self) c.args.class.is c.loop.invariant
-    c.take_first.ensures.leaves_held c.take_first.ensures.held c.take_first.ensures.taken c.in_ok-take_first.ensures.refilling c.in_ok-take_first.ensures.goes
+pub returns-in-Blocks-clause-runs_within : goal.returns-in-Blocks-clause-runs_within
+returns-in-Blocks-clause-runs_within g c =
+    walk_runs_within c.args.class.number (parts_of c.args.self.now) (parts_of c.loop.self) (parts_of c.take_first.new.self) c.args.class.is c.loop.invariant
+    c.take_first.ensures.leaves_held c.take_first.ensures.held c.take_first.ensures.taken c.in_ok-take_first.ensures.refilling c.in_ok-take_first.ensures.runs_within
 
 pub returns-in-Blocks-clause-leaves_held : goal.returns-in-Blocks-clause-leaves_held
 returns-in-Blocks-clause-leaves_held g c =
@@ -40,18 +40,18 @@ returns-in-Blocks-clause-leaves_held g c =
 pub loop-preserved : goal.loop-preserved
 loop-preserved g c =
     walk_more c.args.class.number (parts_of c.args.self.now) (parts_of c.loop.self) (parts_of c.take_first.new.self) c.args.class.is c.loop.invariant
-    c.take_first.ensures.leaves_held c.take_first.ensures.held c.take_first.ensures.taken c.in_ok-take_first.ensures.refilling c.in_ok-take_first.ensures.goes
+    c.take_first.ensures.leaves_held c.take_first.ensures.held c.take_first.ensures.taken c.in_ok-take_first.ensures.refilling c.in_ok-take_first.ensures.runs_within
     c.in_ok-take_first.field-0 c.in-Recycled.is c.in_ok-take_first.ensures.ok c.in_ok-take_first.ensures.order c.in_ok-take_first.ensures.left
 
 pub returns-in-Nothing-clause-refilling : goal.returns-in-Nothing-clause-refilling
 returns-in-Nothing-clause-refilling g c =
     walk_refilling c.args.class.number (parts_of c.args.self.now) (parts_of c.loop.self) (parts_of c.take_first.new.self) c.args.class.is c.loop.invariant
-    c.take_first.ensures.leaves_held c.take_first.ensures.held c.take_first.ensures.taken c.in_ok-take_first.ensures.refilling c.in_ok-take_first.ensures.goes
+    c.take_first.ensures.leaves_held c.take_first.ensures.held c.take_first.ensures.taken c.in_ok-take_first.ensures.refilling c.in_ok-take_first.ensures.runs_within
 
-pub returns-in-Nothing-clause-goes : goal.returns-in-Nothing-clause-goes
-returns-in-Nothing-clause-goes g c =
-    walk_goes c.args.class.number (parts_of c.args.self.now) (parts_of c.loop.self) (parts_of c.take_first.new.self) c.args.class.is c.loop.invariant
-    c.take_first.ensures.leaves_held c.take_first.ensures.held c.take_first.ensures.taken c.in_ok-take_first.ensures.refilling c.in_ok-take_first.ensures.goes
+pub returns-in-Nothing-clause-runs_within : goal.returns-in-Nothing-clause-runs_within
+returns-in-Nothing-clause-runs_within g c =
+    walk_runs_within c.args.class.number (parts_of c.args.self.now) (parts_of c.loop.self) (parts_of c.take_first.new.self) c.args.class.is c.loop.invariant
+    c.take_first.ensures.leaves_held c.take_first.ensures.held c.take_first.ensures.taken c.in_ok-take_first.ensures.refilling c.in_ok-take_first.ensures.runs_within
 
 pub returns-in-Nothing-clause-leaves_held : goal.returns-in-Nothing-clause-leaves_held
 returns-in-Nothing-clause-leaves_held g c =

@@ -5,7 +5,7 @@ use Rattle.block_heap.specs.Medium.{IsPersisted}
 use Rattle.block_heap.specs.Divide.{IsDivideWord}
 use Rattle.heap_shape.specs.Effects.{IsInSuperblock}
 use Rattle.block_heap.proofs.MediumLemmas.{stores_then, stores_more}
-use Rattle.block_heap.proofs.DivideLemmas.{divided, divide_halts}
+use Rattle.block_heap.proofs.DivideLemmas.{divided, divide_stops_within}
 use Rattle.block_heap.proofs.medium.Medium.divide.Given.{Over}
 use Rattle.block_heap.proofs.medium.Medium.divide.Goals as goal
 
@@ -33,7 +33,7 @@ returns-clause-ok g c =
 pub returns-clause-stopped : goal.returns-clause-stopped
 returns-clause-stopped g c =
     IfErr-weaker c.store.result _ _
-    (λ e. divide_halts c.args.geometry.capacity c.args.class.number c.args.d (medium_view c.args.self.now) (medium_view c.persist.new.self) (medium_view c.chain.new.self) (medium_view c.store.new.self)
+    (λ e. divide_stops_within c.args.geometry.capacity c.args.class.number c.args.d (medium_view c.args.self.now) (medium_view c.persist.new.self) (medium_view c.chain.new.self) (medium_view c.store.new.self)
     c.info.result c.anchor.result c.pack-2.result c.args.class.is c.requires.superblock c.requires.open c.info.ensures c.anchor.ensures c.pack-2.ensures
     (persisted g c) c.persist.ensures.others c.in_ok-chain.ensures.ok c.store.ensures.others e.step)
     c.store.ensures.stopped

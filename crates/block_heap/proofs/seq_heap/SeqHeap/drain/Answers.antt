@@ -9,7 +9,7 @@ use Rattle.block_heap.specs.SeqState.{SeqState}
 use Rattle.block_heap.specs.Serving.{Answers, DrainsAs}
 use Rattle.block_heap.proofs.DrainKeepLemmas.{kept_first, kept_pushed, kept_unpushed, kept_last, kept_done, kept_stops}
 use Rattle.block_heap.proofs.DrainLemmas.{drains_last}
-use Rattle.block_heap.proofs.DrawnLemmas.{draining_first, draining_more, room_for_one, drawn_few, drawn_halts}
+use Rattle.block_heap.proofs.DrawnLemmas.{draining_first, draining_more, room_for_one, drawn_few, drawn_stops_within}
 use Rattle.block_heap.proofs.seq_heap.SeqHeap.drain.Goals as goal
 
 pub overflow_mul-most : goal.overflow_mul-most
@@ -69,7 +69,7 @@ pub returns-in_err-b-clause-above : goal.returns-in_err-b-clause-above
 returns-in_err-b-clause-above g c =
     let told = err_from_is_err_and c.from_residual-in_err-b.result c.from_residual-in_err-b.ensures.1 in
     rw (told.1, told.2)
-    (λ e one running. drawn_halts c.args.class _ c.in_err-b.field-0.0 e c.args.self.now c.loop-offsets.self c.request.new.self c.loop-offsets.offsets.items
+    (λ e one running. drawn_stops_within c.args.class _ c.in_err-b.field-0.0 e c.args.self.now c.loop-offsets.self c.request.new.self c.loop-offsets.offsets.items
     c.loop-offsets.invariant.0.1 c.request.ensures.draws c.request.ensures.counted c.in_err-b.ensures.stopped one running)
 
 pub returns-in_err-b-clause-stops : goal.returns-in_err-b-clause-stops

@@ -21,7 +21,7 @@ invariant_of-self g c =
     (request_lasts c.alloc-answer.result (parts_of c.self.inside.arena) (parts_of c.alloc-answer.new.self) c.args.bytes c.self.inside.stopped c.stop_of-self-inside.result c.self.invariant.lasts
     c.alloc-answer.ensures.leaves_held c.alloc-answer.ensures.ok c.alloc-answer.ensures.held c.stop_of-self-inside.ensures.ok c.stop_of-self-inside.ensures.stopped c.alloc-answer.ensures.stopped)
     (request_runs c.alloc-answer.result c.args.bytes _ _ (c.self.invariant.running (ap (λ (s : SeqState). s.stopped) c.self.view_is ∙ c.in_ok-check_running.ensures.ok)).2
-    c.alloc-answer.ensures.ok) c.alloc-answer.ensures.goes c.alloc-answer.ensures.stopped c.stop_of-self-inside.ensures.stopped
+    c.alloc-answer.ensures.ok) c.alloc-answer.ensures.runs_within c.alloc-answer.ensures.stopped c.stop_of-self-inside.ensures.stopped
 
 pub returns-clause-drains : goal.returns-clause-drains
 returns-clause-drains g c = λ class is at.
@@ -32,7 +32,7 @@ returns-clause-words g c = request_words _ c.args.self.now (parts_of c.alloc-ans
 
 pub returns-clause-kept : goal.returns-clause-kept
 returns-clause-kept g c = fixed_request _ c.args.self.now _ c.self.invariant c.self.view_is c.alloc-answer.ensures.leaves_held
-    (let few = few_drawn c.alloc-answer.result 41201 _ _ c.alloc-answer.ensures.goes c.alloc-answer.ensures.stopped in omega arith)
+    (let few = few_drawn c.alloc-answer.result 41201 _ _ c.alloc-answer.ensures.runs_within c.alloc-answer.ensures.stopped in omega arith)
 
 pub returns-clause-order : goal.returns-clause-order
 returns-clause-order g c = λ class least.

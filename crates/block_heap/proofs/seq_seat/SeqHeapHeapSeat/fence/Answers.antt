@@ -16,7 +16,7 @@ invariant_of-self-inside g c = (
 pub invariant_of-self : goal.invariant_of-self
 invariant_of-self g c =
     quiet_heap c.fence-answer.result _ (medium_view c.fence-answer.new.self) c.stop_of-self-inside.result _ c.self.invariant (ap (λ (s : SeqState). s.stopped) c.self.view_is ∙ c.in_ok-check_running.ensures.ok)
-    (on_ok_weaker c.fence-answer.result (λ f. f.goes) c.fence-answer.ensures.ok) (on_ok_weaker c.fence-answer.result (λ f. f.volatile) c.fence-answer.ensures.ok)
+    (on_ok_weaker c.fence-answer.result (λ f. f.runs_within) c.fence-answer.ensures.ok) (on_ok_weaker c.fence-answer.result (λ f. f.volatile) c.fence-answer.ensures.ok)
     c.fence-answer.ensures.stopped c.fence-answer.ensures.unchanged c.stop_of-self-inside.ensures.ok c.stop_of-self-inside.ensures.stopped
 
 pub returns-clause-ok : goal.returns-clause-ok

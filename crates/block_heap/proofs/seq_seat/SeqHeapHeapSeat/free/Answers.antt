@@ -23,12 +23,12 @@ invariant_of-self g c =
     (free_runs c.free-answer.result (parts_of c.self.inside.arena) (parts_of c.free-answer.new.self)
     (c.self.invariant.running (ap (λ (s : SeqState). s.stopped) c.self.view_is ∙ c.in_ok-check_running.ensures.ok)).2
     c.free-answer.ensures.running c.free-answer.ensures.short c.free-answer.ensures.accounted)
-    c.free-answer.ensures.goes c.free-answer.ensures.stopped c.stop_of-self-inside.ensures.stopped
+    c.free-answer.ensures.runs_within c.free-answer.ensures.stopped c.stop_of-self-inside.ensures.stopped
 
 pub returns-clause-ok : goal.returns-clause-ok
 returns-clause-ok g c =
     frees _ (parts_of c.free-answer.new.self) c.stop_of-self-inside.result c.args.b c.self.invariant c.free-answer.ensures.freed c.free-answer.ensures.leaves_held
-    c.free-answer.result c.args.self.now 40000 c.self.view_is c.in_ok-check_running.ensures.ok c.stop_of-self-inside.ensures.ok c.free-answer.ensures.goes
+    c.free-answer.result c.args.self.now 40000 c.self.view_is c.in_ok-check_running.ensures.ok c.stop_of-self-inside.ensures.ok c.free-answer.ensures.runs_within
 
 pub returns-clause-others : goal.returns-clause-others
 returns-clause-others g c =
@@ -36,7 +36,7 @@ returns-clause-others g c =
 
 pub returns-clause-kept : goal.returns-clause-kept
 returns-clause-kept g c = fixed_free _ c.args.self.now _ c.args.b c.self.invariant c.self.view_is c.free-answer.ensures.freed c.free-answer.ensures.leaves_held
-    (let few = few_drawn c.free-answer.result 40000 _ _ c.free-answer.ensures.goes c.free-answer.ensures.stopped in omega arith)
+    (let few = few_drawn c.free-answer.result 40000 _ _ c.free-answer.ensures.runs_within c.free-answer.ensures.stopped in omega arith)
 
 pub returns-clause-given : goal.returns-clause-given
 returns-clause-given g c =

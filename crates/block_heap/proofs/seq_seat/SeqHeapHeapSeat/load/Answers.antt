@@ -6,7 +6,7 @@ use Rattle.block_heap.specs.Parts.{parts_of}
 use Rattle.heap_seat.specs.View.{word_of}
 use Rattle.heap_seat.specs.Words.{IsOwnSpot}
 use Rattle.block_heap.specs.SeqState.{SeqState, seat_of}
-use Rattle.block_heap.proofs.SeatLemmas.{small_lasts, stop_above, quiet_heap, own_short, own_within, load_ok, loaded_goes, loaded_same}
+use Rattle.block_heap.proofs.SeatLemmas.{small_lasts, stop_above, quiet_heap, own_short, own_within, load_ok, loaded_runs_within, loaded_same}
 use Rattle.block_heap.proofs.seq_seat.SeqHeapHeapSeat.load.Goals as goal
 
 pub word_of-requires : goal.word_of-requires
@@ -27,7 +27,7 @@ invariant_of-self-inside g c = (
 pub invariant_of-self : goal.invariant_of-self
 invariant_of-self g c =
     quiet_heap c.load-answer.result _ (medium_view c.load-answer.new.self) c.stop_of-self-inside.result _ c.self.invariant (ap (λ (s : SeqState). s.stopped) c.self.view_is ∙ c.in_ok-check_running.ensures.ok)
-    (loaded_goes c.load-answer.result _ _ _ c.load-answer.ensures.ok) (loaded_same c.load-answer.result _ _ _ c.load-answer.ensures.ok)
+    (loaded_runs_within c.load-answer.result _ _ _ c.load-answer.ensures.ok) (loaded_same c.load-answer.result _ _ _ c.load-answer.ensures.ok)
     c.load-answer.ensures.stopped c.load-answer.ensures.unchanged c.stop_of-self-inside.ensures.ok c.stop_of-self-inside.ensures.stopped
 
 pub returns-clause-ok : goal.returns-clause-ok

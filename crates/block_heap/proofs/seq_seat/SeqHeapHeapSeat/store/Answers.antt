@@ -55,4 +55,4 @@ pub returns-clause-kept : goal.returns-clause-kept
 returns-clause-kept g c =
     fixed_store _ c.args.self.now _ c.word_of.result c.self.invariant c.self.view_is refl
     (own_at _ c.args.self.now c.args.s c.word_of.result c.self.invariant c.self.view_is c.word_of.ensures c.requires) c.store-answer.ensures.others
-    refl (let few = few_drawn c.store-answer.result 1 _ _ (on_ok_weaker c.store-answer.result (λ f. f.goes) c.store-answer.ensures.ok) c.store-answer.ensures.stopped in omega arith)
+    refl (let few = few_drawn c.store-answer.result 1 _ _ (on_ok_weaker c.store-answer.result (λ f. f.runs_within) c.store-answer.ensures.ok) c.store-answer.ensures.stopped in omega arith)
