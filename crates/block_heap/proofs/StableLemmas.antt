@@ -11,7 +11,7 @@ use Rattle.line_memory.specs.Crash.{MayLeaveStore}
 use Rattle.block_heap.specs.Medium.{StoresOnly}
 use Rattle.heap_seat.specs.Words.{IsOwn, in_block, in_root}
 use Rattle.block_heap.specs.Stable.{root_below, low_layout, own_where}
-use Rattle.heap_model.proofs.PlaceLemmas.{block_more}
+use Rattle.heap_at_rest.proofs.LayoutLemmas.{block_more}
 use Rattle.heap_model.specs.Geometry.{IsFixed}
 use Rattle.block_heap.specs.AllocatorWords.{IsAllocatorWord, is_used, is_head, is_info, is_anchor, is_link, is_inside, UsedFits, StoresAsAllocator, IsStable}
 use Rattle.block_heap.proofs.MediumLemmas.{stores_then, stores_more, stores_nothing}

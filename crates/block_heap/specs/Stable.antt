@@ -7,7 +7,7 @@ use Rattle.heap_model.specs.Blocks.{Layout, layout_of, AreOneOrApart}
 use Rattle.heap_model.specs.Durability.{IsTransient, is_head as head_lost, is_anchor as anchor_lost, is_link as link_lost}
 use Rattle.heap_model.specs.Recovered.{HasPartIn}
 use Rattle.heap_model.proofs.BlockLemmas.{never_overlap, block_words, block_inside}
-use Rattle.heap_model.proofs.PlaceLemmas.{block_more}
+use Rattle.heap_at_rest.proofs.LayoutLemmas.{block_more}
 use Rattle.line_memory.specs.View.{View, volatile_at}
 use Rattle.line_memory.specs.Crash.{IsValueOf}
 use Rattle.heap_seat.specs.Words.{IsOwn, in_block, in_root, NamesAll}

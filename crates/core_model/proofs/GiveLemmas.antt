@@ -22,7 +22,7 @@ use Rattle.core_model.proofs.QuietLemmas.{not_there}
 use Rattle.core_model.proofs.CountLemmas.{all_home, chain_short}
 use Rattle.core_model.proofs.ListLemmas.{class_of}
 use Rattle.core_model.proofs.BlockLemmas.{superblock_is, walks_append, after_last, at_one, at_other, first_there}
-use Rattle.heap_model.proofs.ChainLemmas.{anchor_parts}
+use Rattle.heap_model.proofs.WordLemmas.{anchor_parts}
 use Rattle.core_model.proofs.AnchorLemmas as on_anchor
 
 module _ (k : Setup) (m : Memory) (views : List View) (i : ℕ) (v : View) (below_i : i < length views) (at : get_or views i v ≡ v) (good : Good k m views)

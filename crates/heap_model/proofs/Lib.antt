@@ -1,4 +1,5 @@
 pub mod SizeLemmas
+pub mod WordLemmas
 pub mod BlockLemmas
 pub mod ImageLemmas
 pub mod ReachLemmas
@@ -8,12 +9,5 @@ pub mod CountingLemmas
 pub mod ListLemmas
 pub mod PartLemmas
 pub mod DecisionLemmas
-pub mod StandingLemmas
-pub mod ChainLemmas
-pub mod LeftLemmas
-pub mod PlaceLemmas
-pub mod RecoveredLemmas
-pub mod ReadyLemmas
 pub mod EmptyLemmas
-pub mod CutLemmas
 mod ExampleLemmas

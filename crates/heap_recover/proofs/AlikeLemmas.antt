@@ -13,9 +13,9 @@ use Rattle.heap_model.specs.Durability.{Mixes, IsCrashImage, IsTransient, is_hea
 use Rattle.heap_model.proofs.BlockLemmas.{block_inside}
 use Rattle.heap_model.proofs.ImageLemmas.{length-words_from}
 use Rattle.heap_model.proofs.ReachLemmas.{reached_block, reach_kept, nothing_more}
-use Rattle.heap_model.proofs.LeftLemmas.{IsLeft}
-use Rattle.heap_model.proofs.PlaceLemmas.{same_there}
-use Rattle.heap_model.proofs.RecoveredLemmas.{info_left}
+use Rattle.heap_at_rest.proofs.LeftLemmas.{IsLeft}
+use Rattle.heap_at_rest.proofs.LayoutLemmas.{same_there}
+use Rattle.heap_at_rest.proofs.RecoveredLemmas.{info_left}
 use Rattle.heap_recover.proofs.UnchangedLemmas.{words_unchanged, roots_unchanged}
 use Rattle.line_memory.specs.View.{View}
 use Rattle.heap_recover.specs.InPlace.{IsRecoveryOf, RecoversAlike, IsBetween, IsPartlyRecovered}

@@ -6,6 +6,7 @@ use Rattle.heap_model.specs.Geometry.{lists, head_word, link_word}
 use Rattle.heap_model.specs.Image.{Image}
 use Rattle.heap_model.specs.Sizes.{IsClass, blocks_of, words_of_class}
 use Rattle.heap_model.specs.Words.{head_first}
+use Rattle.heap_model.specs.Recovered.{HasPartIn, IsBlockOfClass}
 use Rattle.heap_model.specs.Chains.{Follows, Walks}
 use Rattle.heap_model.specs.Counting.{times, one_if}
 use Rattle.heap_model.proofs.SizeLemmas.{two_words, blocks_fit}
@@ -82,6 +83,16 @@ first_inside capacity class d word is first =
     let two = two_words class is in
     let at = first.at in
     record { from = omega arith; until = omega arith }
+
+-- a block of a class has a part in its superblock
+pub class_part : (capacity class d index : ℕ) (b : Block) → IsClass class → IsBlockOfClass capacity class d index b → HasPartIn capacity b d
+class_part capacity class d index b is of =
+    let step = block_step index (blocks_of class) (words_of_class class) of.below in
+    let fit = blocks_fit class is in
+    let two = two_words class is in
+    let at = of.at in
+    let size = of.size in
+    record { begins = omega arith; ends = omega arith }
 
 pub inside_one : (capacity d e word : ℕ) → IsInSuperblock capacity d word → IsInSuperblock capacity e word → d ≡ e
 inside_one capacity d e word in_d in_e =

@@ -13,7 +13,7 @@ use Rattle.heap_model.specs.Counting.{times, one_if}
 use Rattle.heap_model.proofs.CountingLemmas.{times_none, one_if_true, one_if_false}
 use Rattle.heap_model.proofs.MemberLemmas.{in_none, head_or_rest}
 use Rattle.heap_model.proofs.PartLemmas.{part_taken}
-use Rattle.heap_model.proofs.PlaceLemmas.{block_more}
+use Rattle.heap_at_rest.proofs.LayoutLemmas.{block_more}
 use Rattle.heap_shape.specs.Shape.{Place, in_list, is_full, in_large, is_new, Shape, stands_in, with_at}
 use Rattle.heap_shape.specs.Standing.{first_of, IsFirstOf, HoldsAt, HasOneOwner, a_free, a_held, IsOfClass, IsFullSuperblock, IsAs}
 use Rattle.heap_shape.specs.Whole.{layout_at, IsCachedIn, IsShape}

@@ -21,12 +21,11 @@ use Rattle.heap_shape.specs.Whole.{layout_at, IsShape}
 use Rattle.heap_shape.specs.Effects.{IsSet, IsPoppedOf, IsPushedOn, IsCut}
 use Rattle.heap_shape.specs.Moves.{with_cache, AddsTo}
 use Rattle.heap_shape.specs.Draining.{IsInFreeList, HasUse, for_class, for_held, for_later, IsDrainable, IsAccounted, IsToDrain, DrainsSame, DrainsOne}
-use Rattle.heap_shape.proofs.BasicLemmas.{one_list, first_place, member_place, in_free_list, cached_of_class}
+use Rattle.heap_shape.proofs.BasicLemmas.{class_part, one_list, first_place, member_place, in_free_list, cached_of_class}
 use Rattle.heap_model.proofs.ListLemmas.{follows_same}
 use Rattle.heap_shape.proofs.CutLemmas.{follows_popped}
 use Rattle.heap_shape.proofs.HandLemmas.{hand_out}
 use Rattle.heap_shape.proofs.OwnLemmas.{one_following, none_past}
-use Rattle.heap_model.proofs.CutLemmas.{class_part}
 use Rattle.heap_shape.proofs.RefillLemmas.{cut_before}
 
 -- superblock e gets the class, or keeps its info and stays in the free list

@@ -14,7 +14,7 @@ use Rattle.heap_model.proofs.SizeLemmas.{few_blocks}
 use Rattle.heap_model.proofs.MemberLemmas.{in_head, in_rest}
 use Rattle.heap_model.proofs.CountingLemmas.{times_none, one_if_true, one_if_false}
 use Rattle.heap_model.proofs.PartLemmas.{part_taken}
-use Rattle.heap_model.proofs.PlaceLemmas.{same_there}
+use Rattle.heap_at_rest.proofs.LayoutLemmas.{same_there}
 use Rattle.heap_shape.specs.Shape.{Place, in_list, is_full, is_new, Shape, stands_in, with_at}
 use Rattle.heap_shape.specs.Standing.{first_of, IsFirstOf, HasOneOwner, times_free, IsOfClass, HasFreeBlocks, IsFree, IsAs}
 use Rattle.heap_shape.specs.Whole.{layout_at, IsShape}
@@ -25,7 +25,7 @@ use Rattle.heap_model.proofs.ListLemmas.{follows_same, times_append, times_of, w
 use Rattle.heap_shape.proofs.FrameLemmas.{SameThere, frame, owner_same}
 use Rattle.heap_shape.proofs.CountLemmas.{few_given, all_given}
 use Rattle.heap_shape.proofs.HandLemmas.{at_or_other, at_or_other_two, free_once}
-use Rattle.heap_model.proofs.ChainLemmas.{anchor_parts}
+use Rattle.heap_model.proofs.WordLemmas.{anchor_parts}
 
 -- a walk along the given blocks and then others begins at a given block
 walk_begins : (next : ℕ → ℕ) (from : ℕ) (before : List ℕ) (last : ℕ) (rest : List ℕ) → Walks next from ((before ++ last ∷ []) ++ rest) → Contains (before ++ last ∷ []) from

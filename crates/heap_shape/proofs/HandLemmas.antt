@@ -14,7 +14,7 @@ use Rattle.heap_model.proofs.SizeLemmas.{blocks_fit, two_words}
 use Rattle.heap_model.proofs.BlockLemmas.{block_step, never_overlap, block_words, same_first}
 use Rattle.heap_model.proofs.MemberLemmas.{in_head, in_rest, head_or_rest}
 use Rattle.heap_model.proofs.PartLemmas.{cases_of_part, part_taken}
-use Rattle.heap_model.proofs.PlaceLemmas.{class_block, same_there}
+use Rattle.heap_at_rest.proofs.LayoutLemmas.{class_block, same_there}
 use Rattle.heap_shape.specs.Shape.{Place, in_list, is_full, in_large, is_new, Shape, with_at}
 use Rattle.heap_shape.specs.Standing.{first_of, IsFirstOf, HoldsAt, HasOneOwner, a_free, a_held, times_free, IsOfClass, HasFreeBlocks, IsFullSuperblock, HasNoHeld, IsAs}
 use Rattle.heap_shape.specs.Whole.{layout_at, IsCachedIn, IsShape}

@@ -13,7 +13,7 @@ use Rattle.heap_model.specs.Counting.{times, one_if}
 use Rattle.heap_model.proofs.BlockLemmas.{never_overlap}
 use Rattle.heap_model.proofs.CountingLemmas.{one_if_true, one_if_false}
 use Rattle.heap_model.proofs.PartLemmas.{part_taken, long_takes}
-use Rattle.heap_model.proofs.PlaceLemmas.{same_there}
+use Rattle.heap_at_rest.proofs.LayoutLemmas.{same_there}
 use Rattle.heap_shape.specs.Shape.{Place, in_list, is_full, in_large, is_new, Shape, stands_in, with_at}
 use Rattle.heap_shape.specs.Standing.{HasNoHeld, IsFree, IsTakenByLarge, IsAs}
 use Rattle.heap_shape.specs.Whole.{layout_at, IsCachedIn, IsShape}

@@ -9,7 +9,7 @@ use Rattle.heap_model.specs.Words.{anchor_state, empty_state, partial_state, hea
 use Rattle.heap_model.specs.Chains.{Follows}
 use Rattle.heap_model.specs.Counting.{times}
 use Rattle.heap_model.proofs.MemberLemmas.{in_none}
-use Rattle.heap_model.proofs.PlaceLemmas.{same_there}
+use Rattle.heap_at_rest.proofs.LayoutLemmas.{same_there}
 use Rattle.heap_shape.specs.Shape.{in_list, Shape, stands_in, with_at}
 use Rattle.heap_shape.specs.Standing.{IsFirstOf, HasFreeBlocks, HasNoHeld, IsNew, IsAs}
 use Rattle.heap_shape.specs.Whole.{layout_at, IsCachedIn, IsShape}

@@ -25,4 +25,4 @@ pub use layout::{
 };
 pub use list_words::{ListHead, ListLink};
 pub use naming::{block_at, name};
-pub use ready::{Ready, an_empty_heap_is_ready, what_recovery_leaves_is_ready};
+pub use ready::{Ready, an_empty_heap_is_ready};

@@ -6,7 +6,7 @@ use Rattle.heap_model.specs.Blocks.{layout_of}
 use Rattle.heap_model.specs.Recovered.{IsFreeSuperblock, AreAscending}
 use Rattle.heap_model.specs.Recovery.{IsRecovered}
 use Rattle.heap_model.specs.Rest.{IsReady}
-use Rattle.heap_model.proofs.ReadyLemmas.{ready_left}
+use Rattle.heap_at_rest.proofs.ReadyLemmas.{ready_left}
 use Rattle.heap_recover.specs.Marked.{IsMarked}
 use Rattle.heap_recover.specs.Roles.{IsMember}
 use Rattle.heap_recover.specs.Rebuilt.{IsRebuild}

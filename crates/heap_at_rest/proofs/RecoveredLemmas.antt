@@ -12,9 +12,10 @@ use Rattle.heap_model.specs.Chains.{IsChain}
 use Rattle.heap_model.specs.Recovery.{IsPartial, in_header}
 use Rattle.heap_model.specs.Rest.{IsAnchored}
 use Rattle.heap_model.proofs.PartLemmas.{part_taken}
-use Rattle.heap_model.proofs.StandingLemmas.{Standing, is_untaken, is_free, is_partial, is_fully_kept, is_in_large, cases_superblock}
-use Rattle.heap_model.proofs.ChainLemmas.{anchor_parts, some_spare, not_all_spare, first_short}
-use Rattle.heap_model.proofs.LeftLemmas.{IsLeft}
+use Rattle.heap_at_rest.proofs.StandingLemmas.{Standing, is_untaken, is_free, is_partial, is_fully_kept, is_in_large, cases_superblock}
+use Rattle.heap_model.proofs.WordLemmas.{anchor_parts}
+use Rattle.heap_at_rest.proofs.ChainLemmas.{some_spare, not_all_spare, first_short}
+use Rattle.heap_at_rest.proofs.LeftLemmas.{IsLeft}
 
 module _ (old new : Image) (kept : Block → Type 0) (held : List Block) (left : IsLeft old new kept held) where
   pub capacity_is : capacity_of new ≡ capacity_of old

@@ -1,4 +1,4 @@
--- The anchor and the chain that recovery gives a partial superblock: an anchor's parts, and how many blocks the chain has.
+-- The chain that recovery gives a partial superblock: how many blocks it has, and where it begins.
 use Rattle.std.proofs.Common.{◌≡◌, ℕ, suc, ◌+◌, ◌*◌, ◌<◌, ◌≤◌, inl, inr, List, [], ◌∷◌, length, Contains, ap, sym, subst, ◌∙◌, arith}
 use Rattle.std.specs.Prelude.{AllPairs}
 use Rattle.std.proofs.Math.Nat.{mul-le-mul_right}
@@ -6,7 +6,6 @@ use Rattle.std.proofs.lemmas.Bool.{cases_lt, cases_order}
 use Rattle.heap_model.specs.declared.block.Block.{Block}
 use Rattle.heap_model.specs.Geometry.{start_word}
 use Rattle.heap_model.specs.Sizes.{IsClass, words_of_class, blocks_of}
-use Rattle.heap_model.specs.Words.{anchor_of, anchor_state, anchor_first, anchor_count}
 use Rattle.heap_model.specs.Blocks.{Layout, IsBlock}
 use Rattle.heap_model.specs.Recovered.{IsBlockOfClass, AreAscending}
 use Rattle.heap_model.specs.Chains.{Walks}
@@ -15,11 +14,6 @@ use Rattle.heap_model.proofs.SizeLemmas.{two_words, few_blocks}
 use Rattle.heap_model.proofs.BlockLemmas.{block_step}
 use Rattle.heap_model.proofs.MemberLemmas.{in_head, in_rest, order_head, order_rest}
 use Rattle.heap_model.proofs.PartLemmas.{cases_of_part, same_start}
-
--- the parts of an anchor
-pub anchor_parts : (state first count : ℕ) → state < 4 → first < 2147483648
-    → (anchor_state (anchor_of state first count) ≡ state) × (anchor_first (anchor_of state first count) ≡ first) × (anchor_count (anchor_of state first count) ≡ count)
-anchor_parts state first count few short = (omega arith, omega arith, omega arith)
 
 -- the number is `start` and so many steps, of those from `low` to below `n`
 record IsStep (start words low n x : ℕ) : Type 0 where

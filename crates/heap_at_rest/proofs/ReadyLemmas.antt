@@ -15,11 +15,12 @@ use Rattle.heap_model.specs.Recovery.{first_number, IsPartial, IsRecovered}
 use Rattle.heap_model.specs.Rest.{list_numbers, large_part, IsAnchored, IsShaped, IsReady}
 use Rattle.heap_model.proofs.CountingLemmas.{times_none, times_once}
 use Rattle.heap_model.proofs.PartLemmas.{TakesAll, part_taken, same_start}
-use Rattle.heap_model.proofs.StandingLemmas.{Standing, is_untaken, is_free, is_partial, is_fully_kept, is_in_large, cases_kept}
-use Rattle.heap_model.proofs.ChainLemmas.{some_spare}
-use Rattle.heap_model.proofs.LeftLemmas.{IsLeft, listed_cases, listed_partial, free_not_partial, large_not_partial, in_list, large_some}
-use Rattle.heap_model.proofs.PlaceLemmas.{full_mark, chain_mark, chain_of_partial, class_block, same_there, one_place, held_once, held_none}
-use Rattle.heap_model.proofs.RecoveredLemmas.{capacity_is, used_is, formed_left, standing, info_left, anchored}
+use Rattle.heap_at_rest.proofs.LayoutLemmas.{class_block, same_there}
+use Rattle.heap_at_rest.proofs.StandingLemmas.{Standing, is_untaken, is_free, is_partial, is_fully_kept, is_in_large, cases_kept}
+use Rattle.heap_at_rest.proofs.ChainLemmas.{some_spare}
+use Rattle.heap_at_rest.proofs.LeftLemmas.{IsLeft, listed_cases, listed_partial, free_not_partial, large_not_partial, in_list, large_some}
+use Rattle.heap_at_rest.proofs.PlaceLemmas.{full_mark, chain_mark, chain_of_partial, one_place, held_once, held_none}
+use Rattle.heap_at_rest.proofs.RecoveredLemmas.{capacity_is, used_is, formed_left, standing, info_left, anchored}
 
 module _ (old new : Image) (kept : Block → Type 0) (held : List Block) (left : IsLeft old new kept held) where
   -- a superblock in the list of a class is partial

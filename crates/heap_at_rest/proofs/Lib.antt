@@ -1,0 +1,7 @@
+pub mod LayoutLemmas
+pub mod StandingLemmas
+pub mod ChainLemmas
+pub mod LeftLemmas
+pub mod PlaceLemmas
+pub mod RecoveredLemmas
+pub mod ReadyLemmas
