@@ -9,7 +9,7 @@ use Rattle.std.proofs.lemmas.List.Elements.{Contains-push, Contains-push_cases, 
 use Rattle.heap_model.specs.declared.block.Block.{Block}
 use Rattle.heap_model.specs.Blocks.{Layout, IsBlock}
 use Rattle.heap_model.proofs.BlockLemmas.{same_first}
-use Rattle.filter_trace.specs.Pairs.{mark_of, Inserts, present, added, AreMarked}
+use Rattle.filter_trace.specs.Pairs.{mark_of, Inserts, present, added, IsMarkOfPair, AreMarked}
 
 -- a pair in a list of one more is that one, or was there
 pub pair_cases : (pairs : List (Block × ℕ)) (b c : Block) (k j : ℕ) → Contains (pairs ++ (b, k) ∷ []) (c, j) → Contains pairs (c, j) ⊎ ((b ≡ c) × (k ≡ j))
@@ -24,6 +24,15 @@ pub one_mark : (l : Layout) (kinds : ℕ) (b c : Block) (k j : ℕ) → IsBlock 
 one_mark l kinds b c k j is_b is_c k_below j_below same =
     let place = same_from_place b.first_word k c.first_word j kinds k_below j_below same in
     (same_first l b c is_b is_c place.0, place.1)
+
+-- a block and a kind whose mark is set are a pair
+pub marked_pair : (l : Layout) (kinds : ℕ) (pairs : List (Block × ℕ)) (marks : List Bool) (b : Block) (k : ℕ)
+    → AreMarked l kinds pairs marks → IsBlock l b → k < kinds → get_or marks (mark_of kinds b k) false ≡ true → Contains pairs (b, k)
+marked_pair l kinds pairs marks b k work is below set_b =
+    let found = work.only (mark_of kinds b k) set_b in
+    let of = work.blocks found.block found.kind found.pair in
+    let one = one_mark l kinds b found.block k found.kind is of.0 below of.1 found.at_is in
+    subst (λ x. Contains pairs (x, k)) (sym one.0) (subst (λ x. Contains pairs (found.block, x)) (sym one.1) found.pair)
 
 -- the mark of a pair is there
 pub mark_inside : (l : Layout) (kinds : ℕ) (pairs : List (Block × ℕ)) (marks : List Bool) (b : Block) (k : ℕ)
@@ -59,11 +68,11 @@ added_marked l kinds b k pairs marks work is below clear =
           | inr same ↦ absurd (other (sym (ap (λ (x : Block). mark_of kinds x k) same.0 ∙ ap (λ x. mark_of kinds c x) same.1)))
         ]
       ];
-      only = λ c j is_c j_below set_c. elim (cases_eq (mark_of kinds c j) at) as (λ _. Contains (pairs ++ (b, k) ∷ []) (c, j)) [
-        | inl one ↦
-            let same = one_mark l kinds b c k j is is_c below j_below (sym one) in
-            subst (λ x. Contains (pairs ++ (b, k) ∷ []) (x, j)) same.0 (subst (λ x. Contains (pairs ++ (b, k) ∷ []) (b, x)) same.1 (Contains-push pairs (b, k)))
-        | inr other ↦ Contains-append_left pairs ((b, k) ∷ []) (c, j) (work.only c j is_c j_below (sym (get_or-set_other marks at (mark_of kinds c j) true false other) ∙ set_c))
+      only = λ j set_j. elim (cases_eq j at) as (λ _. IsMarkOfPair kinds (pairs ++ (b, k) ∷ []) j) [
+        | inl one ↦ record { block = b; kind = k; pair = Contains-push pairs (b, k); at_is = one }
+        | inr other ↦
+            let old = work.only j (sym (get_or-set_other marks at j true false other) ∙ set_j) in
+            record { block = old.block; kind = old.kind; pair = Contains-append_left pairs ((b, k) ∷ []) (old.block, old.kind) old.pair; at_is = old.at_is }
       ];
       room = λ c is_c. let room = work.room c is_c in omega arith;
       short = let short = work.short in omega arith;
@@ -83,6 +92,6 @@ insert_marked l kinds b k pairs pairs' marks marks' work is below (added clear n
 pub insert_has : (l : Layout) (kinds : ℕ) (b : Block) (k : ℕ) (pairs pairs' : List (Block × ℕ)) (marks marks' : List Bool)
     → AreMarked l kinds pairs marks → IsBlock l b → k < kinds → Inserts kinds b k pairs pairs' marks marks' → Contains pairs' (b, k)
 insert_has l kinds b k pairs pairs' marks marks' work is below (present marked same_pairs same_marks) =
-    subst (λ ps. Contains ps (b, k)) (sym same_pairs) (work.only b k is below marked)
+    subst (λ ps. Contains ps (b, k)) (sym same_pairs) (marked_pair l kinds pairs marks b k work is below marked)
 insert_has l kinds b k pairs pairs' marks marks' work is below (added clear new_pairs new_marks) =
     subst (λ ps. Contains ps (b, k)) (sym new_pairs) (Contains-push pairs (b, k))

@@ -3,7 +3,7 @@ use Rattle.std.proofs.Common.{◌≡◌, ℕ, ◌+◌, ◌*◌, ◌<◌, ◌≤�
 use Rattle.std.specs.Prelude.{Contains, Some, None, cond}
 use Rattle.std.specs.List.{slice_get, All}
 use Rattle.std.proofs.lemmas.Option.{slice_get_within, get_or_from_slice_get, slice_get-get_or}
-use Rattle.std.proofs.lemmas.List.{take_more, take-append-le}
+use Rattle.std.proofs.lemmas.List.{take_more, take-append-le, get_or_past}
 use Rattle.std.proofs.lemmas.List.Sums.{sum_by-le, count_by-le-length}
 use Rattle.std.proofs.lemmas.Nat.{row_fits}
 use Rattle.std.proofs.lemmas.List.Elements.{Contains-push_cases}
@@ -20,7 +20,7 @@ use Rattle.filter_trace.specs.declared.fault.TraceFault.{TraceFault}
 use Rattle.filter_trace.specs.declared.fault.TraceFault.TheVariants.{Outside, Memory}
 use Rattle.filter_trace.specs.Reached.{TellsOutside, AreReached}
 use Rattle.filter_trace.specs.Trace.{Follows, IsFollowedWord, Each, IsExtended, FollowsRoots, FollowsLinks, TellsOfWord, TellsOfRoots, HasSettled, IsWork}
-use Rattle.filter_trace.specs.Pairs.{mark_of, HasMarks, AreMarked}
+use Rattle.filter_trace.specs.Pairs.{HasMarks, AreMarked}
 use Rattle.filter_trace.proofs.PairLemmas.{pair_cases}
 use Rattle.filter_trace.proofs.StepLemmas.{follow_marked, follow_each, follow_grows, follow_settles, follow_long, still_settled, more_and_more, block_within}
 
@@ -121,9 +121,10 @@ nothing_marked image n count marks formed room clear =
     in record {
       blocks = λ b kind here. let none = here.1 in absurd (omega arith);
       marked = λ b kind here. let none = here.1 in absurd (omega arith);
-      only = λ b kind is below set.
-          let inside : mark_of count b kind < length marks = let fit = fits b is in omega arith in
-          absurd (false≢true (sym (clear (mark_of count b kind) false inside) ∙ set));
+      only = λ at set. absurd (false≢true (sym (elim (cases_lt at (length marks)) as (λ _. get_or marks at false ≡ false) [
+        | inl inside ↦ clear at false inside
+        | inr past ↦ get_or_past marks at false past
+      ]) ∙ set));
       room = fits;
       short = room.short;
       once = let none = sum_by-le (λ (mark : Bool). cond mark 1 0) 0 marks (λ k d below. rw (clear k d below) (omega arith)) in omega arith;

@@ -19,11 +19,18 @@ pub data Inserts (kinds : ℕ) (b : Block) (kind : ℕ) (pairs pairs' : List (Bl
   added : slice_index_or marks (mark_of kinds b kind) false ≡ false → pairs' ≡ pairs ++ (b, kind) ∷ [] → marks' ≡ slice_set marks (mark_of kinds b kind) true
       → Inserts kinds b kind pairs pairs' marks marks'
 
+-- the mark is that of one of the pairs
+pub record IsMarkOfPair (kinds : ℕ) (pairs : List (Block × ℕ)) (at : ℕ) : Type 0 where
+  pub block : Block
+  pub kind : ℕ
+  pub pair : Contains pairs (block, kind)
+  pub at_is : at ≡ mark_of kinds block kind
+
 -- the pairs are of blocks of the layout and of kinds that there are, each once, and the marks tell them
 pub record AreMarked (l : Layout) (kinds : ℕ) (pairs : List (Block × ℕ)) (marks : List Bool) : Type 0 where
   pub blocks : (b : Block) (kind : ℕ) → Contains pairs (b, kind) → IsBlock l b × (kind < kinds)
   pub marked : (b : Block) (kind : ℕ) → Contains pairs (b, kind) → slice_index_or marks (mark_of kinds b kind) false ≡ true
-  pub only : (b : Block) (kind : ℕ) → IsBlock l b → kind < kinds → slice_index_or marks (mark_of kinds b kind) false ≡ true → Contains pairs (b, kind)
+  pub only : (at : ℕ) → slice_index_or marks at false ≡ true → IsMarkOfPair kinds pairs at
   pub room : (b : Block) → IsBlock l b → b.first_word * kinds + kinds ≤ length marks
   pub short : length marks < 2 ^ 64
   pub once : count_by (λ mark. mark) marks ≡ length pairs

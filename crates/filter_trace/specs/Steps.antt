@@ -1,21 +1,21 @@
 -- What the steps of a trace ask and leave, said of an image's words and of a set of pairs.
-use Rattle.std.specs.Prelude.{ℕ, ◌*◌, ◌≡◌, List, slice_index, slice_index_or, length, true, false}
+use Rattle.std.specs.Prelude.{ℕ, ◌+◌, ◌*◌, ◌≡◌, List, slice_index, slice_index_or, length, true, false}
 use Rattle.heap_model.specs.declared.block.Block.{Block}
 use Rattle.heap_model.specs.Geometry.{roots}
 use Rattle.heap_model.specs.Header.{IsWellFormed}
 use Rattle.heap_model.specs.Blocks.{layout_of}
 use Rattle.heap_model.specs.Reach.{Links, words_in}
 use Rattle.filter_trace.specs.declared.pairs.PairSet.{PairSet}
-use Rattle.filter_trace.specs.Pairs.{mark_of, Inserts, AreMarked}
+use Rattle.filter_trace.specs.Pairs.{Inserts, AreMarked}
 use Rattle.filter_trace.specs.Trace.{Follows, FollowsRoots, FollowsLinks, AreFoundPairs}
 
 -- the words are those of an image with a good header
 abbrev pub IsImage : List ℕ → Type 0
 IsImage words = IsWellFormed (8 * length words) (slice_index words)
 
--- the pair is marked
-abbrev pub IsMarked : PairSet → Block → ℕ → Type 0
-IsMarked set b kind = slice_index_or set.marks (mark_of set.kinds b kind) false ≡ true
+-- the kind is marked at the word
+abbrev pub IsMarkedAt : PairSet → ℕ → ℕ → Type 0
+IsMarkedAt set word kind = slice_index_or set.marks (word * set.kinds + kind) false ≡ true
 
 -- inserting the pair leaves this
 abbrev pub Adds : Block → ℕ → PairSet → PairSet → Type 0

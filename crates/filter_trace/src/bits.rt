@@ -36,6 +36,14 @@ impl Bits {
         })
     }
 
+    /// How many bits there are.
+    pub fn len(&self) -> usize
+        requires { length self.now < 2 ^ 64 }
+        ensures { result ≡ length self.now }
+    {
+        WORD_BITS * self.words.len()
+    }
+
     /// The bit at the index.
     pub fn get(&self, at: usize) -> bool
         requires { at < length self.now }

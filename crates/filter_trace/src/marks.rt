@@ -3,6 +3,7 @@ ghost use Rattle.std.specs.Prelude.{◌≡◌, ℕ, ◌<◌, ◌^◌, ◌↔◌,
 ghost use Rattle.heap_model.specs.declared.block.Block.{Block};
 ghost use Rattle.heap_model.specs.Blocks.{Layout, IsBlock};
 ghost use Rattle.super_block.specs.Division.{Describes};
+ghost use Rattle.filter_trace.specs.Reached.{IsReachedAt};
 
 use crate::pairs::PairSet;
 use heap_model::Block;
@@ -41,14 +42,17 @@ impl Marks {
         kind < self.found.kinds && self.found.has(block, kind)
     }
 
-    /// Whether the block has been reached at all, in time that grows with the number of kinds.
-    pub fn holds(&self, block: Block) -> bool
-        ensures { IsTrue result ↔ ((kind : ℕ) × Contains self.now (block, kind)) }
+    /// Whether a block has been reached that begins at the word, in time that grows with the number
+    /// of kinds.
+    pub fn holds_at(&self, first_word: u64) -> bool
+        ensures { IsTrue result ↔ IsReachedAt self.now first_word }
     {
-        if !is_block(&self.directory, block) {
+        let found = &self.found;
+        // (no block begins later)
+        if first_word > u32::MAX as u64 {
             return false;
         }
-        self.found.holds(block)
+        found.holds_at(first_word)
     }
 }
 

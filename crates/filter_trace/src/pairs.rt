@@ -19,7 +19,7 @@ pub struct PairSet {
 }
 
 impl PairSet {
-    ghost use Rattle.filter_trace.specs.Steps.{Adds, IsMarked};
+    ghost use Rattle.filter_trace.specs.Steps.{Adds, IsMarkedAt};
 
     /// The empty set, for the blocks of an image of so many words.
     pub fn new(alloc: Global, words: usize, kinds: u32) -> Result<Self, AllocError>
@@ -43,7 +43,7 @@ impl PairSet {
         ensures kinds { self.new.kinds ≡ self.old.kinds }
         ensures ok { OnOk result (Adds block kind self.old self.new) }
     {
-        let mark = self.mark_of(block, kind);
+        let mark = mark_at(self.kinds, block.first_word, kind);
         if self.marks.get(mark) {
             return Ok(());
         }
@@ -58,31 +58,33 @@ impl PairSet {
         requires short { length self.now.marks < 2 ^ 64 }
         ensures { result ≡ slice_index_or self.now.marks (mark_of self.now.kinds block kind) false }
     {
-        self.marks.get(self.mark_of(block, kind))
+        self.marks.get(mark_at(self.kinds, block.first_word, kind))
     }
 
-    /// Whether the block is marked with some kind.
-    pub fn holds(&self, block: Block) -> bool
-        requires here { block.first_word * self.now.kinds + self.now.kinds ≤ length self.now.marks }
+    /// Whether some kind is marked at the word.
+    pub fn holds_at(&self, word: u64) -> bool
+        requires early { word < 2 ^ 32 }
         requires short { length self.now.marks < 2 ^ 64 }
         ensures some { IsTrue result → (kind : ℕ) × (kind < self.now.kinds)
-            × IsMarked self.now block kind }
-        ensures each { (kind : ℕ) → kind < self.now.kinds → IsMarked self.now block kind
+            × IsMarkedAt self.now word kind }
+        ensures each { (kind : ℕ) → kind < self.now.kinds → IsMarkedAt self.now word kind
             → IsTrue result }
     {
         for kind in 0..self.kinds {
-            if self.has(block, kind) {
+            let mark = mark_at(self.kinds, word, kind);
+            if mark < self.marks.len() && self.marks.get(mark) {
                 return true;
             }
         }
         false
     }
+}
 
-    /// The index of the pair's mark.
-    pub fn mark_of(&self, block: Block, kind: u32) -> usize
-        requires { mark_of self.now.kinds block kind < 2 ^ 64 }
-        ensures { result ≡ mark_of self.now.kinds block kind }
-    {
-        (block.first_word * self.kinds as u64 + kind as u64) as usize
-    }
+/// The index of the mark of a block that begins at the word, as one of the kind, where each word
+/// has a mark for each of so many kinds.
+pub fn mark_at(kinds: u32, word: u64, kind: u32) -> usize
+    requires { word * kinds + kind < 2 ^ 64 }
+    ensures { result ≡ word * kinds + kind }
+{
+    (word * kinds as u64 + kind as u64) as usize
 }

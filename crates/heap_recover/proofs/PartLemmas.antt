@@ -1,14 +1,16 @@
 -- How the blocks of a superblock of a class are parted, one after the other.
-use Rattle.std.proofs.Common.{◌≡◌, ◌↔◌, ℕ, ◌+◌, ◌<◌, ◌⊎◌, inl, inr, Bool, true, false, IsTrue, List, [], ◌∷◌, ◌++◌, ap, sym, subst, ◌∙◌, arith}
+use Rattle.std.proofs.Common.{◌≡◌, ◌↔◌, ℕ, ◌+◌, ◌<◌, ◌⊎◌, inl, inr, Bool, true, false, IsTrue, List, [], ◌∷◌, ◌++◌, refl, ap, sym, subst, ◌∙◌, arith}
 use Rattle.std.specs.List.{Contains}
 use Rattle.std.proofs.lemmas.Bool.{cases_lt, false≢true}
 use Rattle.std.proofs.lemmas.List.Elements.{Contains-append_left, Contains-push}
 use Rattle.heap_model.specs.declared.block.Block.{Block}
 use Rattle.heap_model.specs.Sizes.{IsClass, words_of_class}
 use Rattle.heap_model.specs.Recovered.{IsBlockOfClass}
-use Rattle.heap_model.proofs.BlockLemmas.{block_step}
+use Rattle.heap_model.specs.Blocks.{Layout, IsBlock}
+use Rattle.heap_model.proofs.BlockLemmas.{block_step, same_first}
 use Rattle.heap_model.proofs.SizeLemmas.{two_words}
-use Rattle.heap_recover.specs.Marked.{IsMarked, IsKeptAmong, IsSpareAmong, AreParted}
+use Rattle.filter_trace.specs.Reached.{IsReachedAt}
+use Rattle.heap_recover.specs.Marked.{IsMarked, KeepsBlocks, IsKeptAmong, IsSpareAmong, AreParted}
 use Rattle.heap_recover.proofs.AscendingLemmas.{ascending_none, ascending_same, ascending_push}
 
 -- a superblock has one block of an index
@@ -101,9 +103,16 @@ module _ (kept : Block → Type 0) (capacity class d : ℕ) (is : IsClass class)
           inr (subst (λ (y : Block). Contains (spares ++ b.first_word ∷ []) y.first_word) (sym same) (Contains-push spares b.first_word))
     ]
 
--- the answer of the marks decides whether the block is marked
-pub marked_if : (pairs : List (Block × ℕ)) (b : Block) (answer : Bool) → (IsTrue answer ↔ ((kind : ℕ) × Contains pairs (b, kind))) → answer ≡ true → IsMarked pairs b
-marked_if pairs b answer says is = let here = says.0 is in record { kind = here.0; pair = here.1 }
+-- a block of the layout with its first word marked is marked, since no other begins there
+pub marked_at : (l : Layout) (pairs : List (Block × ℕ)) (b : Block) → KeepsBlocks l (IsMarked pairs) → IsBlock l b → IsReachedAt pairs b.first_word → IsMarked pairs b
+marked_at l pairs b keeps is at =
+    let one : at.block ≡ b = same_first l at.block b (keeps.each at.block (record { kind = at.kind; pair = at.pair })) is at.begins in
+    record { kind = at.kind; pair = subst (λ x. Contains pairs (x, at.kind)) one at.pair }
 
-pub unmarked_if : (pairs : List (Block × ℕ)) (b : Block) (answer : Bool) → (IsTrue answer ↔ ((kind : ℕ) × Contains pairs (b, kind))) → answer ≡ false → IsMarked pairs b → ⊥
-unmarked_if pairs b answer says is marked = false≢true (sym is ∙ says.1 (marked.kind, marked.pair))
+-- the answer of the marks decides whether a block of the layout is marked
+pub marked_if : (l : Layout) (pairs : List (Block × ℕ)) (b : Block) (answer : Bool) → KeepsBlocks l (IsMarked pairs) → IsBlock l b
+    → (IsTrue answer ↔ IsReachedAt pairs b.first_word) → answer ≡ true → IsMarked pairs b
+marked_if l pairs b answer keeps is_b says is = marked_at l pairs b keeps is_b (says.0 is)
+
+pub unmarked_if : (pairs : List (Block × ℕ)) (b : Block) (answer : Bool) → (IsTrue answer ↔ IsReachedAt pairs b.first_word) → answer ≡ false → IsMarked pairs b → ⊥
+unmarked_if pairs b answer says is marked = false≢true (sym is ∙ says.1 (record { block = b; kind = marked.kind; begins = refl; pair = marked.pair }))

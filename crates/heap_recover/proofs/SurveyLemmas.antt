@@ -198,6 +198,12 @@ module _ (l : Layout) (kept : Block → Type 0) (blocks : KeepsBlocks l kept) wh
             let size = is_of.size in
             (omega arith, omega arith, λ i low high. zeros i low (omega arith))
 
+    -- the large block is kept, if a kept block begins where it does
+    pub large_kept : (block : Block) → block.first_word ≡ start_word l.capacity d → block.words ≡ superblock_words * count → (b : Block) → kept b → b.first_word ≡ block.first_word → kept block
+    large_kept block first words b is_kept begins =
+        let begun = large_begun b (record { is_kept = is_kept; from = omega arith; until = omega arith }) in
+        subst kept (same_fields b block begins (begun.1 ∙ sym words)) is_kept
+
     -- no kept block, if that one is not kept
     pub large_unkept : (block : Block) → block.first_word ≡ start_word l.capacity d → block.words ≡ superblock_words * count → (kept block → ⊥) → (b : Block) → IsKeptIn l.capacity kept d b → ⊥
     large_unkept block first words unkept b is_b = unkept (subst kept (same_fields b block ((large_begun b is_b).0 ∙ sym first) ((large_begun b is_b).1 ∙ sym words)) is_b.is_kept)

@@ -1,7 +1,8 @@
 //! The blocks of a superblock, parted by whether they are kept.
-ghost use Rattle.std.specs.Prelude.{◌<◌, IfOk};
+ghost use Rattle.std.specs.Prelude.{◌≡◌, ◌<◌, IfOk};
 ghost use Rattle.heap_model.specs.Sizes.{blocks_of};
-ghost use Rattle.heap_recover.specs.Marked.{IsMarked, AreParted};
+ghost use Rattle.heap_model.specs.Blocks.{Layout};
+ghost use Rattle.heap_recover.specs.Marked.{IsMarked, KeepsBlocks, AreParted};
 
 use filter_trace::Marks;
 use size_table::{SizeClass, blocks_of};
@@ -17,7 +18,7 @@ pub struct SuperblockBlocks {
     pub spares: Vec<u64>,
 }
 
-/// Parts the blocks of superblock `d`, which is of the class.
+/// Parts the blocks of superblock `d`, which has been taken and is of the class.
 pub fn part_blocks(
     alloc: Global,
     geometry: &Geometry,
@@ -25,7 +26,12 @@ pub fn part_blocks(
     class: SizeClass,
     marks: &Marks,
 ) -> Result<SuperblockBlocks, AllocError>
-    requires { d < geometry.now.capacity }
+    ghost layout: { Layout }
+    requires capacity { geometry.now.capacity ≡ layout.capacity }
+    requires inside { d < geometry.now.capacity }
+    requires taken { d < layout.used }
+    requires info { layout.info d ≡ class.number }
+    requires keeps { KeepsBlocks layout (IsMarked marks.now) }
     ensures ok { IfOk result (λ parts. AreParted (IsMarked marks.now)
         geometry.now.capacity class.number d (blocks_of class.number)
         parts.held.items parts.spares.items) }
@@ -34,7 +40,7 @@ pub fn part_blocks(
     let mut spares = Vec::new(alloc);
     for index in 0..blocks_of(class.number) {
         let block = block_at(geometry, d, index, class);
-        if marks.holds(block) {
+        if marks.holds_at(block.first_word) {
             held.push(block)?;
         } else {
             spares.push(block.first_word)?;

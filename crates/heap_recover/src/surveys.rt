@@ -59,7 +59,7 @@ pub fn survey_superblock(
                     first_word: geometry.start(d),
                     words: SUPERBLOCK_WORDS * count,
                 };
-                if marks.holds(block) {
+                if marks.holds_at(block.first_word) {
                     return Ok(Survey {
                         role: Role::Large,
                         held: vec![in alloc; block]?,

@@ -12,6 +12,7 @@ ghost use Rattle.root_reach.specs.Reaching.{AreOrigins, IsReachedBeside};
 ghost use Rattle.root_reach.specs.Steps.{AddsOrigin};
 
 use crate::origin::Origin;
+use filter_trace::mark_at;
 use heap_model::Block;
 use std::alloc::{AllocError, Global};
 
@@ -36,7 +37,7 @@ impl Origins {
         requires { mark_of self.now.kinds block kind < length self.now.labels.items }
         ensures { result ≡ origin_at self.now.kinds self.now.labels.items block kind }
     {
-        Origin::unpack(self.labels[self.index_of(block, kind)])
+        Origin::unpack(self.labels[mark_at(self.kinds, block.first_word, kind)])
     }
 
     /// Whether another root than this one reaches the block, as one of any kind.
@@ -53,14 +54,6 @@ impl Origins {
             }
         }
         false
-    }
-
-    /// Where the label stands.
-    fn index_of(&self, block: Block, kind: u32) -> usize
-        requires { mark_of self.now.kinds block kind < 2 ^ 64 }
-        ensures { result ≡ mark_of self.now.kinds block kind }
-    {
-        (block.first_word * self.kinds as u64 + kind as u64) as usize
     }
 }
 
@@ -106,7 +99,7 @@ impl Labelling {
                 kind,
                 origin: joined,
             })?;
-            let at = self.origins.index_of(block, kind);
+            let at = mark_at(self.origins.kinds, block.first_word, kind);
             self.origins.labels[at] = joined.pack();
         }
         Ok(())

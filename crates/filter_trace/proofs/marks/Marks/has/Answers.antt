@@ -1,8 +1,9 @@
-use Rattle.std.proofs.Common.{ℕ, List, sym, subst, arith}
+use Rattle.std.proofs.Common.{ℕ, List, sym, subst, ◌∙◌, arith}
 use Rattle.std.specs.Prelude.{Contains}
 use Rattle.std.proofs.lemmas.Bool.{false≢true, ltb-true}
 use Rattle.heap_model.specs.declared.block.Block.{Block}
 use Rattle.heap_model.specs.Blocks.{layout_of}
+use Rattle.filter_trace.proofs.PairLemmas.{marked_pair}
 use Rattle.filter_trace.proofs.MarksLemmas.{block_low}
 use Rattle.filter_trace.proofs.marks.Marks.has.Goals as goal
 
@@ -24,3 +25,16 @@ returns-else-kind-self c = (
       let is = c.self.invariant.marked.blocks c.args.block c.args.kind found in
       absurd (omega arith),
 )
+
+pub returns-then-kind-self : goal.returns-then-kind-self
+returns-then-kind-self c =
+    let l = layout_of c.self.invariant.image in
+    let found = c.self.inside.found in (
+      λ yes.
+          let is = c.is_block.ensures.yes l c.self.invariant.described c.if-not-is_block.false in
+          let pair = marked_pair l found.kinds found.pairs.items found.marks c.args.block c.args.kind c.self.invariant.marked is c.if-kind-self.true (sym c.has.ensures ∙ yes) in
+          subst (λ (ps : List (Block × ℕ)). Contains ps (c.args.block, c.args.kind)) c.self.view_is pair,
+      λ here.
+          let pair : Contains found.pairs.items (c.args.block, c.args.kind) = subst (λ (ps : List (Block × ℕ)). Contains ps (c.args.block, c.args.kind)) (sym c.self.view_is) here in
+          c.has.ensures ∙ c.self.invariant.marked.marked c.args.block c.args.kind pair,
+    )
