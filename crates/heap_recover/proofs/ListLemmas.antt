@@ -61,6 +61,11 @@ pub first_of : (ds : List ℕ) → number_at ds 0 ≡ first_number ds
 first_of [] = refl
 first_of (d ∷ ds) = refl
 
+-- which is small, as the superblocks of the list are
+pub first_small : (ds : List ℕ) (n : ℕ) → All (λ d. d < n) ds → number_at ds 0 ≤ n
+first_small [] n below = omega arith
+first_small (d ∷ ds) n below = let first : d < n = below 0 d (omega arith) in omega arith
+
 -- the number at an index, of which there is one
 pub number_inside : (ds : List ℕ) (i : ℕ) → i < length ds → number_at ds i ≡ slice_index ds i + 1
 number_inside [] i below = absurd (omega arith)

@@ -2,12 +2,13 @@
 ghost use Rattle.std.specs.Prelude.{◌≡◌, ◌<◌, ◌≤◌, ◌+◌, ◌^◌, All, AllPairs, length, slice_index, IfOk, OnOk};
 ghost use Rattle.heap_model.specs.Geometry.{image_words, lists};
 ghost use Rattle.heap_model.specs.Recovered.{AreAscending};
+ghost use Rattle.super_block.specs.Links.{link_of};
 ghost use Rattle.heap_recover.specs.Roles.{list_of, number_at, IsMember};
 ghost use Rattle.heap_recover.specs.Rebuilt.{IsLinked, AreListed};
 
 use crate::roles::Role;
 use std::alloc::{AllocError, Global};
-use super_block::{Geometry, HEAD_WORD, LISTS, ListLink};
+use super_block::{Geometry, HEAD_WORD, LISTS, ListHead, ListLink};
 
 /// Links all lists, of superblocks with these roles.
 #[tactic(auto, using(heap_model::specs::Geometry::largest_capacity_fits))]
@@ -53,21 +54,25 @@ fn link_list(words: &mut [u64], geometry: &Geometry, list: u8, ds: &[u32])
         ds.now }
 {
     for i in 0..ds.len() {
-        words[geometry.link(ds[i] as u64) as usize] = number_at(ds, i + 1);
+        let next = member_at(ds, i + 1);
+        words[geometry.link(ds[i] as u64) as usize] = ListLink { next }.pack();
     }
-    words[(HEAD_WORD + list as u64) as usize] = number_at(ds, 0);
+    let head = ListHead {
+        first: member_at(ds, 0),
+        pops: 0,
+    };
+    words[(HEAD_WORD + list as u64) as usize] = head.pack();
 }
 
-/// How a link or a head speaks of superblock `i` of the list: 1 more than its index, or 0 behind
-/// the last one.
-fn number_at(ds: &[u32], i: usize) -> u64
-    ensures { result ≡ number_at ds.now i }
+/// Superblock `i` of the list, or none behind the last one.
+fn member_at(ds: &[u32], i: usize) -> Option<u64>
+    ensures number { link_of result ≡ number_at ds.now i }
+    ensures small { link_of result ≤ 2 ^ 32 }
 {
     if i < ds.len() {
-        let next = Some(ds[i] as u64);
-        return ListLink { next }.pack();
+        return Some(ds[i] as u64);
     }
-    ListLink { next: None }.pack()
+    None
 }
 
 /// The list that a superblock of the role is in, if any.

@@ -7,7 +7,7 @@ ghost use Rattle.heap_recover.specs.Rebuilt.{HasSpares, HasInfo, IsAnchorOf, IsW
 use crate::chains::link_chain;
 use crate::roles::Role;
 use anchor_word::{Anchor, EMPTY, FULL, State, pack};
-use super_block::{Geometry, block_words};
+use super_block::{Geometry, Info, ListLink, block_words};
 
 /// Rebuilds superblock `d` in its role: info, anchor, link, and the chain of its `spares`, the
 /// first words of the blocks that are not kept.
@@ -43,10 +43,10 @@ fn write_descriptor(words: &mut [u64], geometry: &Geometry, d: u64, role: Role, 
     ensures { IsWrittenAs (slice_index words.old) (slice_index words.new) d role anchor }
 {
     if let Role::Free = role {
-        words[geometry.info(d) as usize] = 0;
+        words[geometry.info(d) as usize] = Info::Nothing.pack();
     }
     words[geometry.anchor(d) as usize] = anchor;
-    words[geometry.link(d) as usize] = 0;
+    words[geometry.link(d) as usize] = ListLink { next: None }.pack();
 }
 
 /// The anchor of superblock `d` in its role.
