@@ -1,10 +1,10 @@
 //! How each superblock of an image is divided, read once, so that a name is found in constant time.
 
-ghost use Rattle.std.specs.Prelude.{◌≡◌, ◌<◌, ◌*◌, ℕ, length, slice_index, IfOk, IfSome, IfNone};
+ghost use Rattle.std.specs.Prelude.{◌*◌, length, slice_index, IfOk, IfSome, IfNone};
 ghost use Rattle.heap_model.specs.declared.block.Block.{Block};
 ghost use Rattle.heap_model.specs.Header.{IsWellFormed};
 ghost use Rattle.heap_model.specs.Blocks.{Layout, layout_of, NamesIn};
-ghost use Rattle.super_block.specs.Division.{Describes, DividesAs};
+ghost use Rattle.super_block.specs.Division.{Describes};
 
 use crate::division::{Division, division_at};
 use crate::layout::{CAPACITY_WORD, USED_WORD};
@@ -66,13 +66,5 @@ impl Directory {
             return None;
         };
         block_in(self.capacity, place, division)
-    }
-
-    /// What superblock `d`, which has been taken, begins.
-    pub fn division(&self, d: u64) -> Option<Division>
-        requires { d < length self.now.of }
-        ensures { (l : Layout) → Describes self.now l → DividesAs l d result }
-    {
-        self.divisions[d as usize]
     }
 }
