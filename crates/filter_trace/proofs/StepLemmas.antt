@@ -48,8 +48,8 @@ more_and_more pairs pairs' pairs'' one two = record { more = one.more ++ two.mor
 pub kept : (pairs pairs' : List (Block × ℕ)) (b : Block) (k : ℕ) → IsExtended pairs pairs' → Contains pairs (b, k) → Contains pairs' (b, k)
 kept pairs pairs' b k grown here = subst (λ ps. Contains ps (b, k)) (sym grown.is) (Contains-append_left pairs grown.more (b, k) here)
 
-pub still_settled : (image : Image) (pairs pairs' : List (Block × ℕ)) (at kind : ℕ) → IsExtended pairs pairs' → IsFollowedWord image pairs at kind → IsFollowedWord image pairs' at kind
-still_settled image pairs pairs' at kind grown was = record {
+pub still_followed : (image : Image) (pairs pairs' : List (Block × ℕ)) (at kind : ℕ) → IsExtended pairs pairs' → IsFollowedWord image pairs at kind → IsFollowedWord image pairs' at kind
+still_followed image pairs pairs' at kind grown was = record {
   inside = was.inside;
   here = λ b leads. kept pairs pairs' b kind grown (was.here b leads);
 }
@@ -101,14 +101,14 @@ follow_each holds image count at kind pairs pairs' marks marks' was this (lead b
     insert_each holds count b kind pairs pairs' marks marks' was (this b leads) inserts
 
 -- and that is there then
-pub follow_settles : (image : Image) (count at kind : ℕ) (pairs pairs' : List (Block × ℕ)) (marks marks' : List Bool)
+pub follow_followed : (image : Image) (count at kind : ℕ) (pairs pairs' : List (Block × ℕ)) (marks marks' : List Bool)
     → AreMarked (layout_of image) count pairs marks → kind < count → Follows image count at kind pairs pairs' marks marks'
     → IsFollowedWord image pairs' at kind
-follow_settles image count at kind pairs pairs' marks marks' work below (null is same_pairs same_marks) = record {
+follow_followed image count at kind pairs pairs' marks marks' work below (null is same_pairs same_marks) = record {
   inside = λ outside. outside.not_null is;
   here = λ b leads. absurd (not_null (image at) (8 * b.first_word) leads.pointer is);
 }
-follow_settles image count at kind pairs pairs' marks marks' work below (lead b leads inserts) = record {
+follow_followed image count at kind pairs pairs' marks marks' work below (lead b leads inserts) = record {
   inside = λ outside. outside.nowhere b leads;
   here = λ c to_c. subst (λ x. Contains pairs' (x, kind)) (one_block image (image at) b c leads to_c)
       (insert_has (layout_of image) count b kind pairs pairs' marks marks' work leads.names.block below inserts);

@@ -19,10 +19,10 @@ use Rattle.heap_model.specs.Reach.{Links, AnyRoot, RootLeads, Reach, IsOutside, 
 use Rattle.filter_trace.specs.declared.fault.TraceFault.{TraceFault}
 use Rattle.filter_trace.specs.declared.fault.TraceFault.TheVariants.{Outside, Memory}
 use Rattle.filter_trace.specs.Reached.{TellsOutside, AreReached}
-use Rattle.filter_trace.specs.Trace.{Follows, IsFollowedWord, Each, IsExtended, FollowsRoots, FollowsLinks, TellsOfWord, TellsOfRoots, HasSettled, IsWork}
+use Rattle.filter_trace.specs.Trace.{Follows, IsFollowedWord, Each, IsExtended, FollowsRoots, FollowsLinks, TellsOfWord, TellsOfRoots, IsFollowedBlock, IsWork}
 use Rattle.filter_trace.specs.Pairs.{HasMarks, AreMarked}
 use Rattle.filter_trace.proofs.PairLemmas.{pair_cases}
-use Rattle.filter_trace.proofs.StepLemmas.{follow_marked, follow_each, follow_grows, follow_settles, follow_long, still_settled, more_and_more, block_within}
+use Rattle.filter_trace.proofs.StepLemmas.{follow_marked, follow_each, follow_grows, follow_followed, follow_long, still_followed, more_and_more, block_within}
 
 -- one more root
 pub roots_step : (image : Image) (kinds : ℕ → ℕ) (count n : ℕ) (pairs pairs' : List (Block × ℕ)) (marks marks' : List Bool)
@@ -34,9 +34,9 @@ roots_step image kinds count n pairs pairs' marks marks' was below kind follows 
       marked = follow_marked image count (root_word n) (kinds n) pairs pairs' marks marks' was.marked kind follows;
       rooted = follow_each (RootLeads image AnyRoot kinds) image count (root_word n) (kinds n) pairs pairs' marks marks' was.rooted
           (λ b leads. record { root = n; below = below; is_chosen = tt; kind_is = refl; leads = leads }) follows;
-      settled = below_more (λ i. IsFollowedWord image pairs' (root_word i) (kinds i)) n
-          (λ i low. still_settled image pairs pairs' (root_word i) (kinds i) grown (was.settled i low))
-          (follow_settles image count (root_word n) (kinds n) pairs pairs' marks marks' was.marked kind follows);
+      followed = below_more (λ i. IsFollowedWord image pairs' (root_word i) (kinds i)) n
+          (λ i low. still_followed image pairs pairs' (root_word i) (kinds i) grown (was.followed i low))
+          (follow_followed image count (root_word n) (kinds n) pairs pairs' marks marks' was.marked kind follows);
     }
 
 -- one more link
@@ -49,7 +49,7 @@ pub links_step : (image : Image) (kinds : ℕ → ℕ) (links : Links) (count : 
 links_step image kinds links count a from upto position kind pairs pairs' pairs'' marks marks' marks'' was reached listed below follows =
     let at : ℕ = a.first_word + position in
     let grown = follow_grows image count at kind pairs' pairs'' marks' marks'' follows in
-    let here = follow_settles image count at kind pairs' pairs'' marks' marks'' was.found.marked below follows in
+    let here = follow_followed image count at kind pairs' pairs'' marks' marks'' was.found.marked below follows in
     record {
       long = follow_long image count at kind pairs' pairs'' marks' marks'' follows ∙ was.long;
       found = record {
@@ -58,8 +58,8 @@ links_step image kinds links count a from upto position kind pairs pairs' pairs'
             (λ b leads. by_link a b from kind reached (record { position = position; listed = listed; leads = leads })) follows;
       };
       grown = more_and_more pairs pairs' pairs'' was.grown grown;
-      settled = λ p k in_upto. elim (Contains-push_cases upto (position, kind) (p, k) in_upto) as (λ _. IsFollowedWord image pairs'' (a.first_word + p) k) [
-        | inl old ↦ still_settled image pairs' pairs'' (a.first_word + p) k grown (was.settled p k old)
+      followed = λ p k in_upto. elim (Contains-push_cases upto (position, kind) (p, k) in_upto) as (λ _. IsFollowedWord image pairs'' (a.first_word + p) k) [
+        | inl old ↦ still_followed image pairs' pairs'' (a.first_word + p) k grown (was.followed p k old)
         | inr same ↦ subst (λ (l : ℕ × ℕ). IsFollowedWord image pairs'' (a.first_word + l.0) l.1) same here
       ];
     }
@@ -138,15 +138,15 @@ work_begins image kinds links count pairs marks roots_done = record {
     marked = roots_done.marked;
     reached = record { each = λ b kind here. by_start b kind (roots_done.rooted.each b kind here) };
   };
-  roots_settled = roots_done.settled;
-  links_settled = record { each = λ b kind here. let none = here.1 in absurd (omega arith) };
+  roots_followed = roots_done.followed;
+  links_followed = record { each = λ b kind here. let none = here.1 in absurd (omega arith) };
   within = omega arith;
 }
 
--- what was settled is still
-still_has : (image : Image) (links : Links) (pairs pairs' : List (Block × ℕ)) (a : Block) (from : ℕ) → IsExtended pairs pairs' → HasSettled image links pairs a from → HasSettled image links pairs' a from
+-- what was followed is still
+still_has : (image : Image) (links : Links) (pairs pairs' : List (Block × ℕ)) (a : Block) (from : ℕ) → IsExtended pairs pairs' → IsFollowedBlock image links pairs a from → IsFollowedBlock image links pairs' a from
 still_has image links pairs pairs' a from grown was = record {
-  each = λ position kind listed. still_settled image pairs pairs' (a.first_word + position) kind grown (was.each position kind listed);
+  each = λ position kind listed. still_followed image pairs pairs' (a.first_word + position) kind grown (was.each position kind listed);
 }
 
 -- one more pair
@@ -164,11 +164,11 @@ work_step image kinds links count next a from pairs pairs' marks marks' work bel
     ∙ ap (λ (p : Block × ℕ). take next pairs ++ p ∷ []) read in
     record {
       found = follows.found;
-      roots_settled = λ i low. still_settled image pairs pairs' (root_word i) (kinds i) grown (work.roots_settled i low);
-      links_settled = record {
-        each = λ b kind here. elim (pair_cases (take next pairs) a b from kind (subst (λ ps. Contains ps (b, kind)) front here)) as (λ _. HasSettled image links pairs' b kind) [
-          | inl old ↦ still_has image links pairs pairs' b kind grown (work.links_settled.each b kind old)
-          | inr same ↦ subst (λ x. HasSettled image links pairs' x kind) same.0 (subst (λ x. HasSettled image links pairs' a x) same.1 (record { each = follows.settled }))
+      roots_followed = λ i low. still_followed image pairs pairs' (root_word i) (kinds i) grown (work.roots_followed i low);
+      links_followed = record {
+        each = λ b kind here. elim (pair_cases (take next pairs) a b from kind (subst (λ ps. Contains ps (b, kind)) front here)) as (λ _. IsFollowedBlock image links pairs' b kind) [
+          | inl old ↦ still_has image links pairs pairs' b kind grown (work.links_followed.each b kind old)
+          | inr same ↦ subst (λ x. IsFollowedBlock image links pairs' x kind) same.0 (subst (λ x. IsFollowedBlock image links pairs' a x) same.1 (record { each = follows.followed }))
         ];
       };
       within = omega arith;
@@ -180,7 +180,7 @@ few_pairs l count pairs marks marked = let some = count_by-le-length (λ (mark :
 
 -- when all pairs have been followed, each that is reached is there
 complete : (image : Image) (kinds : ℕ → ℕ) (links : Links) (pairs : List (Block × ℕ))
-    → ((i : ℕ) → i < roots → IsFollowedWord image pairs (root_word i) (kinds i)) → Each (HasSettled image links pairs) pairs
+    → ((i : ℕ) → i < roots → IsFollowedWord image pairs (root_word i) (kinds i)) → Each (IsFollowedBlock image links pairs) pairs
     → (b : Block) (kind : ℕ) → Reach image kinds links b kind → Contains pairs (b, kind)
 complete image kinds links pairs from_roots from_links _ _ (by_start b kind start) =
     subst (λ k. Contains pairs (b, k)) (sym start.kind_is) ((from_roots start.root start.below).here b start.leads)
@@ -189,7 +189,7 @@ complete image kinds links pairs from_roots from_links _ _ (by_link a b from kin
 
 -- and no word is outside
 inside_all : (image : Image) (kinds : ℕ → ℕ) (links : Links) (pairs : List (Block × ℕ))
-    → ((i : ℕ) → i < roots → IsFollowedWord image pairs (root_word i) (kinds i)) → Each (HasSettled image links pairs) pairs
+    → ((i : ℕ) → i < roots → IsFollowedWord image pairs (root_word i) (kinds i)) → Each (IsFollowedBlock image links pairs) pairs
     → (at : ℕ) → IsTraced image kinds links at → LeadsOutside image (image at) → ⊥
 inside_all image kinds links pairs from_roots from_links _ (is_root i at below chosen is) outside =
     (from_roots i below).inside (subst (λ n. LeadsOutside image (image n)) is outside)
@@ -197,18 +197,18 @@ inside_all image kinds links pairs from_roots from_links _ (is_linked a from pos
     ((from_links.each a from (complete image kinds links pairs from_roots from_links a from reached)).each position kind listed).inside
     (subst (λ n. LeadsOutside image (image n)) is outside)
 
-all_settled : (image : Image) (kinds : ℕ → ℕ) (links : Links) (count next : ℕ) (pairs : List (Block × ℕ)) (marks : List Bool)
-    → IsWork image kinds links count next pairs marks → length pairs ≤ next → Each (HasSettled image links pairs) pairs
-all_settled image kinds links count next pairs marks work past = subst (λ ps. Each (HasSettled image links pairs) ps) (take_all next pairs past) work.links_settled
+all_followed : (image : Image) (kinds : ℕ → ℕ) (links : Links) (count next : ℕ) (pairs : List (Block × ℕ)) (marks : List Bool)
+    → IsWork image kinds links count next pairs marks → length pairs ≤ next → Each (IsFollowedBlock image links pairs) pairs
+all_followed image kinds links count next pairs marks work past = subst (λ ps. Each (IsFollowedBlock image links pairs) ps) (take_all next pairs past) work.links_followed
 
 -- so the pairs are those that are reached
 pub work_ends : (image : Image) (kinds : ℕ → ℕ) (links : Links) (count next : ℕ) (pairs : List (Block × ℕ)) (marks : List Bool)
     → IsWork image kinds links count next pairs marks → length pairs ≤ next → AreReached image kinds links pairs
 work_ends image kinds links count next pairs marks work past = record {
-  each = λ b kind. (work.found.reached.each b kind, complete image kinds links pairs work.roots_settled (all_settled image kinds links count next pairs marks work past) b kind);
+  each = λ b kind. (work.found.reached.each b kind, complete image kinds links pairs work.roots_followed (all_followed image kinds links count next pairs marks work past) b kind);
 }
 
 pub work_inside : (image : Image) (kinds : ℕ → ℕ) (links : Links) (count next : ℕ) (pairs : List (Block × ℕ)) (marks : List Bool)
     → IsWork image kinds links count next pairs marks → length pairs ≤ next → (at : ℕ) → IsOutside image kinds links at → ⊥
 work_inside image kinds links count next pairs marks work past at outside =
-    inside_all image kinds links pairs work.roots_settled (all_settled image kinds links count next pairs marks work past) at outside.traced outside.outside
+    inside_all image kinds links pairs work.roots_followed (all_followed image kinds links count next pairs marks work past) at outside.traced outside.outside

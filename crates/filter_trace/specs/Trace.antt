@@ -39,7 +39,7 @@ pub record IsFollowedWord (image : Image) (pairs : List (Block × ℕ)) (at kind
   pub here : (b : Block) → Leads image (image at) b → Contains pairs (b, kind)
 
 -- each linked word of the block has been followed
-pub record HasSettled (image : Image) (links : Links) (pairs : List (Block × ℕ)) (a : Block) (from : ℕ) : Type 0 where
+pub record IsFollowedBlock (image : Image) (links : Links) (pairs : List (Block × ℕ)) (a : Block) (from : ℕ) : Type 0 where
   pub each : (position kind : ℕ) → Contains (links from (words_in image a)) (position, kind) → IsFollowedWord image pairs (a.first_word + position) kind
 
 -- what holds of each pair
@@ -60,18 +60,18 @@ pub record AreFoundPairs (image : Image) (kinds : ℕ → ℕ) (links : Links) (
 pub record FollowsRoots (image : Image) (kinds : ℕ → ℕ) (count upto : ℕ) (pairs : List (Block × ℕ)) (marks : List Bool) : Type 0 where
   pub marked : AreMarked (layout_of image) count pairs marks
   pub rooted : Each (RootLeads image AnyRoot kinds) pairs
-  pub settled : (i : ℕ) → i < upto → IsFollowedWord image pairs (root_word i) (kinds i)
+  pub followed : (i : ℕ) → i < upto → IsFollowedWord image pairs (root_word i) (kinds i)
 
 -- what following these links of a block leaves
 pub record FollowsLinks (image : Image) (kinds : ℕ → ℕ) (links : Links) (count : ℕ) (a : Block) (upto : List (ℕ × ℕ)) (pairs pairs' : List (Block × ℕ)) (marks marks' : List Bool) : Type 0 where
   pub long : length marks' ≡ length marks
   pub found : AreFoundPairs image kinds links count pairs' marks'
   pub grown : IsExtended pairs pairs'
-  pub settled : (position kind : ℕ) → Contains upto (position, kind) → IsFollowedWord image pairs' (a.first_word + position) kind
+  pub followed : (position kind : ℕ) → Contains upto (position, kind) → IsFollowedWord image pairs' (a.first_word + position) kind
 
 -- what a trace knows when it has followed the roots and the links of the first `next` pairs
 pub record IsWork (image : Image) (kinds : ℕ → ℕ) (links : Links) (count next : ℕ) (pairs : List (Block × ℕ)) (marks : List Bool) : Type 0 where
   pub found : AreFoundPairs image kinds links count pairs marks
-  pub roots_settled : (i : ℕ) → i < roots → IsFollowedWord image pairs (root_word i) (kinds i)
-  pub links_settled : Each (HasSettled image links pairs) (take next pairs)
+  pub roots_followed : (i : ℕ) → i < roots → IsFollowedWord image pairs (root_word i) (kinds i)
+  pub links_followed : Each (IsFollowedBlock image links pairs) (take next pairs)
   pub within : next ≤ length pairs

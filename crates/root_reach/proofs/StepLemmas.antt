@@ -42,17 +42,17 @@ pub kept : (found found' : List Finding) (labels labels' : List ℕ) (f : Findin
 kept found found' labels labels' f grown here = subst (λ fs. Contains fs f) (sym grown.is) (Contains-append_left found grown.more f here)
 
 module _ (image : Image) (kinds : ℕ → ℕ) (links : Links) (count : ℕ) where
-  -- what was settled is still
-  pub still_settled : (found found' : List Finding) (labels labels' : List ℕ) (at kind : ℕ) (o : Origin) → Grows found found' labels labels'
+  -- what was followed is still
+  pub still_followed : (found found' : List Finding) (labels labels' : List ℕ) (at kind : ℕ) (o : Origin) → Grows found found' labels labels'
       → IsPropagated image count labels at kind o → IsPropagated image count labels' at kind o
-  still_settled found found' labels labels' at kind o grown was = record {
+  still_followed found found' labels labels' at kind o grown was = record {
     here = λ b leads. ((was.here b leads).0, grown.still (mark_of count b kind) o (was.here b leads).1);
   }
 
   pub all_still : (found found' : List Finding) (labels labels' : List ℕ) (a : Block) (o : Origin) (upto : List (ℕ × ℕ)) → Grows found found' labels labels'
       → ArePropagated image count labels a o upto → ArePropagated image count labels' a o upto
   all_still found found' labels labels' a o upto grown was = record {
-    each = λ position kind here. still_settled found found' labels labels' (a.first_word + position) kind o grown (was.each position kind here);
+    each = λ position kind here. still_followed found found' labels labels' (a.first_word + position) kind o grown (was.each position kind here);
   }
 
   -- a label is there
@@ -191,10 +191,10 @@ module _ (image : Image) (kinds : ℕ → ℕ) (links : Links) (count : ℕ) whe
   follow_grows found found' labels labels' at kind o room below (lead b leads adds) =
       add_grows found found' labels labels' b kind o (label_inside found labels b kind room leads.names.block below) adds
 
-  pub follow_settles : (found found' : List Finding) (labels labels' : List ℕ) (at kind : ℕ) (o : Origin) → HasLabels (layout_of image) count labels → kind < count
+  pub follow_followed : (found found' : List Finding) (labels labels' : List ℕ) (at kind : ℕ) (o : Origin) → HasLabels (layout_of image) count labels → kind < count
       → Propagates image count at kind o found found' labels labels' → IsPropagated image count labels' at kind o
-  follow_settles found found' labels labels' at kind o room below (nowhere none same_found same_labels) = record { here = λ b leads. absurd (none b leads) }
-  follow_settles found found' labels labels' at kind o room below (lead b leads adds) = record {
+  follow_followed found found' labels labels' at kind o room below (nowhere none same_found same_labels) = record { here = λ b leads. absurd (none b leads) }
+  follow_followed found found' labels labels' at kind o room below (lead b leads adds) = record {
     here = λ c to_c. (
       below,
       subst (λ (x : Block). Covers (origin_at count labels' x kind) o) (one_block image (image at) b c leads to_c)

@@ -24,7 +24,7 @@ use Rattle.root_reach.specs.Origins.{Covers, same, several, origin_in, origin_at
 use Rattle.root_reach.specs.Reaching.{Tells, ReachesFrom, HasLabels, AreOrigins, IsReachedBeside}
 use Rattle.root_reach.specs.Steps.{Propagates, IsPropagated, HasPropagated, AreFindings, PropagatesRoots, PropagatesLinks, IsWorklist}
 use Rattle.root_reach.proofs.OriginLemmas.{one_root}
-use Rattle.root_reach.proofs.StepLemmas.{no_more, more_and_more, still_settled, all_still, follow_found, follow_grows, follow_settles}
+use Rattle.root_reach.proofs.StepLemmas.{no_more, more_and_more, still_followed, all_still, follow_found, follow_grows, follow_followed}
 
 -- a label is 0, 1 or 2 ranks up
 small_rank : (label : ℕ) → rank label ≤ 2
@@ -78,9 +78,9 @@ module _ (image : Image) (kinds : ℕ → ℕ) (links : Links) (count : ℕ) whe
       let grown = follow_grows image kinds links count found found' labels labels' (root_word n) (kinds n) (One n) was.so_far.room kind follows in
       record {
         so_far = follow_found image kinds links count found found' labels labels' (root_word n) (kinds n) (One n) was.so_far kind (tells_root n below) follows;
-        settled = below_more (λ i. IsPropagated image count labels' (root_word i) (kinds i) (One i)) n
-            (λ i low. still_settled image kinds links count found found' labels labels' (root_word i) (kinds i) (One i) grown (was.settled i low))
-            (follow_settles image kinds links count found found' labels labels' (root_word n) (kinds n) (One n) was.so_far.room kind follows);
+        followed = below_more (λ i. IsPropagated image count labels' (root_word i) (kinds i) (One i)) n
+            (λ i low. still_followed image kinds links count found found' labels labels' (root_word i) (kinds i) (One i) grown (was.followed i low))
+            (follow_followed image kinds links count found found' labels labels' (root_word n) (kinds n) (One n) was.so_far.room kind follows);
       }
 
   pub links_begin : (found : List Finding) (labels : List ℕ) (a : Block) (o : Origin) → AreFindings image kinds links count found labels
@@ -88,7 +88,7 @@ module _ (image : Image) (kinds : ℕ → ℕ) (links : Links) (count : ℕ) whe
   links_begin found labels a o so_far = record {
     so_far = so_far;
     grown = no_more found found labels labels refl refl;
-    settled = record { each = λ position kind here. let none = here.1 in absurd (omega arith) };
+    followed = record { each = λ position kind here. let none = here.1 in absurd (omega arith) };
   }
 
   -- one more link
@@ -100,13 +100,13 @@ module _ (image : Image) (kinds : ℕ → ℕ) (links : Links) (count : ℕ) whe
   links_step a from o upto position kind found found' found'' labels labels' labels'' was tells listed below follows =
       let at : ℕ = a.first_word + position in
       let grown = follow_grows image kinds links count found' found'' labels' labels'' at kind o was.so_far.room below follows in
-      let here = follow_settles image kinds links count found' found'' labels' labels'' at kind o was.so_far.room below follows in
+      let here = follow_followed image kinds links count found' found'' labels' labels'' at kind o was.so_far.room below follows in
       record {
         so_far = follow_found image kinds links count found' found'' labels' labels'' at kind o was.so_far below (tells_link a from position kind o tells listed) follows;
         grown = more_and_more found found' found'' labels labels' labels'' was.grown grown;
-        settled = record {
+        followed = record {
           each = λ p k in_upto. elim (Contains-push_cases upto (position, kind) (p, k) in_upto) as (λ _. IsPropagated image count labels'' (a.first_word + p) k o) [
-            | inl old ↦ still_settled image kinds links count found' found'' labels' labels'' (a.first_word + p) k o grown (was.settled.each p k old)
+            | inl old ↦ still_followed image kinds links count found' found'' labels' labels'' (a.first_word + p) k o grown (was.followed.each p k old)
             | inr one ↦ subst (λ (l : ℕ × ℕ). IsPropagated image count labels'' (a.first_word + l.0) l.1 o) one here
           ];
         };
@@ -116,8 +116,8 @@ module _ (image : Image) (kinds : ℕ → ℕ) (links : Links) (count : ℕ) whe
   pub work_begins : (found : List Finding) (labels : List ℕ) → PropagatesRoots image kinds links count roots found labels → IsWorklist image kinds links count 0 found labels
   work_begins found labels done = record {
     so_far = done.so_far;
-    roots_settled = done.settled;
-    links_settled = λ f here. let none = here.1 in absurd (omega arith);
+    roots_followed = done.followed;
+    links_followed = λ f here. let none = here.1 in absurd (omega arith);
     within = omega arith;
   }
 
@@ -135,10 +135,10 @@ module _ (image : Image) (kinds : ℕ → ℕ) (links : Links) (count : ℕ) whe
       ∙ ap (λ (x : Finding). take next found ++ x ∷ []) read in
       record {
         so_far = follows.so_far;
-        roots_settled = λ i low. still_settled image kinds links count found found' labels labels' (root_word i) (kinds i) (One i) grown (work.roots_settled i low);
-        links_settled = λ g here. elim (Contains-push_cases (take next found) f g (subst (λ fs. Contains fs g) front here)) as (λ _. HasPropagated image links count labels' g) [
-          | inl old ↦ all_still image kinds links count found found' labels labels' g.block g.origin (links g.kind (words_in image g.block)) grown (work.links_settled g old)
-          | inr one ↦ subst (λ (x : Finding). HasPropagated image links count labels' x) one follows.settled
+        roots_followed = λ i low. still_followed image kinds links count found found' labels labels' (root_word i) (kinds i) (One i) grown (work.roots_followed i low);
+        links_followed = λ g here. elim (Contains-push_cases (take next found) f g (subst (λ fs. Contains fs g) front here)) as (λ _. HasPropagated image links count labels' g) [
+          | inl old ↦ all_still image kinds links count found found' labels labels' g.block g.origin (links g.kind (words_in image g.block)) grown (work.links_followed g old)
+          | inr one ↦ subst (λ (x : Finding). HasPropagated image links count labels' x) one follows.followed
         ];
         within = omega arith;
       }
@@ -169,8 +169,8 @@ module _ (image : Image) (kinds : ℕ → ℕ) (links : Links) (count : ℕ) whe
       handed_on (origin_at count labels a from) root ((kind < count) × Covers (origin_at count labels b kind) (One root)) told.1
       (λ o is covers.
       let here = so_far.told a from o (reached_block image kinds links a from reached) told.0 is in
-      let settled = ((from_links (record { block = a; kind = from; origin = o }) here).each link.position kind link.listed).here b link.leads in
-      (settled.0, covers_on (origin_at count labels b kind) o root settled.1 covers)))
+      let followed = ((from_links (record { block = a; kind = from; origin = o }) here).each link.position kind link.listed).here b link.leads in
+      (followed.0, covers_on (origin_at count labels b kind) o root followed.1 covers)))
 
   -- when all that was found has been followed, the labels tell which roots reach each block
   pub work_ends : (next : ℕ) (found : List Finding) (origins : Origins) → origins.kinds ≡ count → IsWorklist image kinds links count next found origins.labels.items
@@ -178,13 +178,13 @@ module _ (image : Image) (kinds : ℕ → ℕ) (links : Links) (count : ℕ) whe
   work_ends next found origins is work past =
       let labels : List ℕ = origins.labels.items in
       let all : (f : Finding) → Contains found f → HasPropagated image links count labels f =
-      subst (λ fs. (f : Finding) → Contains fs f → HasPropagated image links count labels f) (take_all next found past) work.links_settled in
+      subst (λ fs. (f : Finding) → Contains fs f → HasPropagated image links count labels f) (take_all next found past) work.links_followed in
       record {
         room = subst (λ n. HasLabels (layout_of image) n labels) (sym is) work.so_far.room;
         sound = subst (λ n. (b : Block) (kind : ℕ) (o : Origin) → IsBlock (layout_of image) b → kind < n → origin_at n labels b kind ≡ Some o → Tells image kinds links b kind o) (sym is)
             (λ b kind o block below tells. (work.so_far.sound (record { block = b; kind = kind; origin = o }) (work.so_far.told b kind o block below tells)).1);
         complete = subst (λ n. (b : Block) (kind root : ℕ) → ReachesFrom image kinds links root b kind → (kind < n) × Covers (origin_at n labels b kind) (One root)) (sym is)
-            (λ b kind root reached. complete found labels work.so_far work.roots_settled all root b kind reached);
+            (λ b kind root reached. complete found labels work.so_far work.roots_followed all root b kind reached);
       }
 
 -- a root that reaches, of the chosen ones

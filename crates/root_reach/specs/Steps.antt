@@ -63,18 +63,18 @@ pub record Grows (found found' : List Finding) (labels labels' : List ℕ) : Typ
 pub record PropagatesRoots (image : Image) (kinds : ℕ → ℕ) (links : Links) (count upto : ℕ) (found : List Finding)
     (labels : List ℕ) : Type 0 where
   pub so_far : AreFindings image kinds links count found labels
-  pub settled : (i : ℕ) → i < upto → IsPropagated image count labels (root_word i) (kinds i) (One i)
+  pub followed : (i : ℕ) → i < upto → IsPropagated image count labels (root_word i) (kinds i) (One i)
 
 -- what following these links of a block leaves
 pub record PropagatesLinks (image : Image) (kinds : ℕ → ℕ) (links : Links) (count : ℕ) (a : Block) (origin : Origin) (upto : List (ℕ × ℕ))
     (found found' : List Finding) (labels labels' : List ℕ) : Type 0 where
   pub so_far : AreFindings image kinds links count found' labels'
   pub grown : Grows found found' labels labels'
-  pub settled : ArePropagated image count labels' a origin upto
+  pub followed : ArePropagated image count labels' a origin upto
 
 -- what the trace knows when it has followed the roots and the links of what was found first
 pub record IsWorklist (image : Image) (kinds : ℕ → ℕ) (links : Links) (count next : ℕ) (found : List Finding) (labels : List ℕ) : Type 0 where
   pub so_far : AreFindings image kinds links count found labels
-  pub roots_settled : (i : ℕ) → i < roots → IsPropagated image count labels (root_word i) (kinds i) (One i)
-  pub links_settled : (f : Finding) → Contains (take next found) f → HasPropagated image links count labels f
+  pub roots_followed : (i : ℕ) → i < roots → IsPropagated image count labels (root_word i) (kinds i) (One i)
+  pub links_followed : (f : Finding) → Contains (take next found) f → HasPropagated image links count labels f
   pub within : next ≤ length found
