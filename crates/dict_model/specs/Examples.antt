@@ -46,7 +46,13 @@ module _ (root first : ℕ) (words : List (ℕ × ℕ)) where
         index = 0;
         words = 128;
         count = 64;
-        is_of = record { taken = omega arith; begins = of_class 12 refl (record { some = omega arith; last = omega arith }); below = omega arith; at = refl; size = refl };
+        is_of = record {
+          taken = omega arith;
+          begins = of_class 12 refl (record { some = omega arith; last = omega arith });
+          below = omega arith;
+          at = refl;
+          size = refl;
+        };
       };
     };
   }
@@ -62,7 +68,13 @@ module _ (root first : ℕ) (words : List (ℕ × ℕ)) where
         index = 0;
         words = 4;
         count = 2048;
-        is_of = record { taken = omega arith; begins = of_class 2 refl (record { some = omega arith; last = omega arith }); below = omega arith; at = refl; size = refl };
+        is_of = record {
+          taken = omega arith;
+          begins = of_class 2 refl (record { some = omega arith; last = omega arith });
+          below = omega arith;
+          at = refl;
+          size = refl;
+        };
       };
     };
   }
@@ -75,7 +87,8 @@ pub apart : ◌≢◌ {A = Block} node table
 apart same = let firsts : ◌≡◌ {A = ℕ} 9272 1080 = ap (λ (b : Block). b.first_word) same in omega arith
 
 -- the shard's root leads to the table
-pub table_there : (first : ℕ) (words : List (ℕ × ℕ)) → HasTable (Leads (shard_with to_table first words)) (shard_with to_table first words) 0 table
+pub table_there : (first : ℕ) (words : List (ℕ × ℕ))
+    → HasTable (Leads (shard_with to_table first words)) (shard_with to_table first words) 0 table
 unfolding shard_with
 table_there first words = record { leads_there = table_leads to_table first words; size = refl }
 
@@ -109,26 +122,31 @@ good_node = record { in_shard = refl; in_bucket = refl; short = omega arith; fit
 -- a node that leads to itself
 bad_next : IsBadAt (Leads (shard_with to_table to_node ((9272, to_node) ∷ []))) (shard_with to_table to_node ((9272, to_node) ∷ [])) 0 9272
 unfolding shard_with
-bad_next = at_link table (λ _. []) 0 9272 (node ∷ []) (table_there to_node ((9272, to_node) ∷ [])) (omega arith) (λ k less. absurd (omega arith)) (
-  (node_leads to_table to_node ((9272, to_node) ∷ []), apart),
-  record { in_shard = refl; in_bucket = refl; short = omega arith; fits = omega arith },
-  refl,
-  tt,
-) refl
+bad_next = at_link table (λ _. []) 0 9272 (node ∷ []) (table_there to_node ((9272, to_node) ∷ []))
+    (omega arith) (λ k less. absurd (omega arith)) (
+      (node_leads to_table to_node ((9272, to_node) ∷ []), apart),
+      record { in_shard = refl; in_bucket = refl; short = omega arith; fits = omega arith },
+      refl,
+      tt,
+    ) refl
     (record {
       not_null = λ null. omega arith;
       nowhere = λ b leads next.
           let same = only_node to_table to_node ((9272, to_node) ∷ []) b leads.0 in
-          let found : Some [] ≡ None = subst (λ (x : Block). find (shard_with to_table to_node ((9272, to_node) ∷ [])) (key_in (shard_with to_table to_node ((9272, to_node) ∷ [])) x) (node ∷ []) ≡ None) same next.new in
+          let found : Some [] ≡ None = subst (λ (x : Block). find (shard_with to_table to_node ((9272, to_node) ∷ []))
+          (key_in (shard_with to_table to_node ((9272, to_node) ∷ [])) x)
+          (node ∷ []) ≡ None) same next.new in
           absurd (cc);
     })
 
 -- a node in two buckets: bucket 0 has it, and it is none of bucket 1
-bad_second : IsBadAt (Leads (shard_with to_table to_node ((1081, to_node) ∷ []))) (shard_with to_table to_node ((1081, to_node) ∷ [])) 0 1081
+bad_second : IsBadAt (Leads (shard_with to_table to_node ((1081, to_node) ∷ [])))
+    (shard_with to_table to_node ((1081, to_node) ∷ [])) 0 1081
 unfolding shard_with
 bad_second = at_link table (λ _. node ∷ []) 1 1081 [] (table_there to_node ((1081, to_node) ∷ [])) (omega arith)
     (λ k less. let first : k ≡ 0 = omega arith in
-    subst (λ j. IsBucketChain (but table (Leads (shard_with to_table to_node ((1081, to_node) ∷ [])))) (shard_with to_table to_node ((1081, to_node) ∷ [])) 0 j (1080 + j) (node ∷ []))
+    subst (λ j. IsBucketChain (but table (Leads (shard_with to_table to_node ((1081, to_node) ∷ []))))
+    (shard_with to_table to_node ((1081, to_node) ∷ [])) 0 j (1080 + j) (node ∷ []))
     (sym first) (record {
       path = (
         (node_leads to_table to_node ((1081, to_node) ∷ []), apart),
@@ -143,7 +161,8 @@ bad_second = at_link table (λ _. node ∷ []) 1 1081 [] (table_there to_node ((
       not_null = λ null. omega arith;
       nowhere = λ b leads next.
           let same = only_node to_table to_node ((1081, to_node) ∷ []) b leads.0 in
-          let one : ◌≡◌ {A = ℕ} 0 1 = (subst (λ (x : Block). IsNode (shard_with to_table to_node ((1081, to_node) ∷ [])) 0 1 x) same next.node).in_bucket in omega arith;
+          let one : ◌≡◌ {A = ℕ} 0 1 = (subst (λ (x : Block). IsNode (shard_with to_table to_node ((1081, to_node) ∷ [])) 0 1 x)
+          same next.node).in_bucket in omega arith;
     })
 
 -- a root that leads to a node and not to a table
@@ -175,16 +194,26 @@ looped_leads index word below is = record {
       index = index;
       words = 128;
       count = 64;
-      is_of = record { taken = omega arith; begins = of_class 12 refl (record { some = omega arith; last = omega arith }); below = omega arith; at = refl; size = refl };
+      is_of = record {
+        taken = omega arith;
+        begins = of_class 12 refl (record { some = omega arith; last = omega arith });
+        below = omega arith;
+        at = refl;
+        size = refl;
+      };
     };
   };
 }
 
 bad_loop : IsBadAt (Leads looped) looped 0 1328
 unfolding looped
-bad_loop = at_link (block_at 0) (λ _. []) 0 1328 (block_at 2 ∷ []) (record { leads_there = looped_leads 0 0x5250000000002180 (omega arith) refl; size = refl })
+bad_loop = at_link (block_at 0) (λ _. []) 0 1328 (block_at 2 ∷ [])
+    (record { leads_there = looped_leads 0 0x5250000000002180 (omega arith) refl; size = refl })
     (omega arith) (λ k less. absurd (omega arith)) (
-      (looped_leads 2 0x5250000000002980 (omega arith) refl, λ same. let firsts : ◌≡◌ {A = ℕ} 1328 1072 = ap (λ (b : Block). b.first_word) same in omega arith),
+      (
+        looped_leads 2 0x5250000000002980 (omega arith) refl,
+        λ same. let firsts : ◌≡◌ {A = ℕ} 1328 1072 = ap (λ (b : Block). b.first_word) same in omega arith,
+      ),
       record { in_shard = refl; in_bucket = refl; short = omega arith; fits = omega arith },
       refl,
       tt,
@@ -220,7 +249,8 @@ alone : (root first : ℕ) (b : Block) (kind : ℕ) → ReachFrom (shard_with ro
 alone root first = closure_least (λ b kind. ⊥)
     (λ b kind start.
     not_null (shard_with root first [] (root_word start.root)) (8 * b.first_word) start.leads.pointer
-    (null_word root first (root_word start.root) (omega (arith, start.below)) (λ e. start.is_chosen (omega arith)) (λ e. omega (arith, start.below))
+    (null_word root first (root_word start.root) (omega (arith, start.below)) (λ e. start.is_chosen (omega arith))
+    (λ e. omega (arith, start.below))
     (λ e. omega (arith, start.below)) (λ e. omega (arith, start.below))))
     (λ a b from kind reached none leads. none)
 
@@ -240,7 +270,8 @@ good_chains zero below = record {
 }
 good_chains (suc k) below = record {
   path = tt;
-  ends = null_word to_table to_node (1080 + suc k) (omega arith) (λ e. omega arith) (λ e. omega arith) (λ e. omega arith) (λ e. omega arith);
+  ends = null_word to_table to_node (1080 + suc k) (omega arith)
+      (λ e. omega arith) (λ e. omega arith) (λ e. omega arith) (λ e. omega arith);
 }
 
 -- a key of bucket 0 of the shard is looked for in the node
@@ -252,12 +283,15 @@ not_there (suc k) n = refl
 good_map : (key : ℕ) → one_key key ≡ map_of (shard_with to_table to_node []) 0 one_node key
 unfolding shard_with
 good_map zero = refl
-good_map (suc n) = cond-false (nat_eq 0 (suc n)) (Some []) None (ne_eqb 0 (suc n) (λ e. omega arith)) ∙ cond_both (nat_eq (shard_of (suc n)) 0) (find (shard_with to_table to_node []) (suc n) (one_node (bucket_of (suc n)))) None (λ found. None ≡ found)
+good_map (suc n) = cond-false (nat_eq 0 (suc n)) (Some []) None (ne_eqb 0 (suc n) (λ e. omega arith))
+    ∙ cond_both (nat_eq (shard_of (suc n)) 0)
+    (find (shard_with to_table to_node []) (suc n) (one_node (bucket_of (suc n)))) None (λ found. None ≡ found)
     (λ _. sym (not_there (bucket_of (suc n)) n)) (λ _. refl)
 
 base : MapOf (shard_with to_table to_node []) 0 one_key
 unfolding shard_with
-base = has_table table one_node (record { leads_there = (table_leads to_table to_node [], alone to_table to_node table); size = refl }) good_chains good_map
+base = has_table table one_node
+    (record { leads_there = (table_leads to_table to_node [], alone to_table to_node table); size = refl }) good_chains good_map
 
 -- another root that leads to the table, and one that leads to the node
 shared_table : BadShard (shard_with to_table to_node ((41, to_table) ∷ [])) 0 40

@@ -54,7 +54,8 @@ pub data PutRefused (reads : ℕ → Type 0) (bytes shard : ℕ) (looks : Looks)
 
 -- why a put answers a fault: a request was refused, and every mixture gives the map as before; or the seat stopped
 abbrev pub PutAnswers : (ℕ → Type 0) → ℕ → ℕ → AllocFault → View → View → Type 0
-PutAnswers reads bytes shard (Full looks) v w = PutRefused reads bytes shard looks v w × ((map : Map) → GivesMap v shard map → GivesMap w shard map)
+PutAnswers reads bytes shard (Full looks) v w =
+    PutRefused reads bytes shard looks v w × ((map : Map) → GivesMap v shard map → GivesMap w shard map)
 PutAnswers reads bytes shard (Stopped stopped) v w = Stops stopped.step v w × SameRefusals v w
 
 -- the superblocks that a put took: for its node, and for a table where there was none

@@ -52,4 +52,5 @@ pub are_few : (kind : ℕ) (words : List ℕ) → length words < 2 ^ 32 → leng
 are_few kind words below =
     cond_both (nat_eq kind 1) (all_to_nodes 0 words) (cond (nat_eq kind 2) (first_to_node words) []) (λ links. length links < 2 ^ 64)
     (λ _. omega (arith, length-all_to_nodes 0 words))
-    (λ _. cond_both (nat_eq kind 2) (first_to_node words) [] (λ links. length links < 2 ^ 64) (λ _. omega (arith, few_first words)) (λ _. omega arith))
+    (λ _. cond_both (nat_eq kind 2) (first_to_node words) [] (λ links. length links < 2 ^ 64)
+    (λ _. omega (arith, few_first words)) (λ _. omega arith))

@@ -15,8 +15,10 @@ pub record HasMarks (words kinds : ℕ) (marks : List Bool) : Type 0 where
 
 -- what inserting a pair leaves: nothing new if it is marked, else the pair at the end and its mark
 pub data Inserts (kinds : ℕ) (b : Block) (kind : ℕ) (pairs pairs' : List (Block × ℕ)) (marks marks' : List Bool) : Type 0 where
-  present : slice_index_or marks (mark_of kinds b kind) false ≡ true → pairs' ≡ pairs → marks' ≡ marks → Inserts kinds b kind pairs pairs' marks marks'
-  added : slice_index_or marks (mark_of kinds b kind) false ≡ false → pairs' ≡ pairs ++ (b, kind) ∷ [] → marks' ≡ slice_set marks (mark_of kinds b kind) true
+  present : slice_index_or marks (mark_of kinds b kind) false ≡ true → pairs' ≡ pairs → marks' ≡ marks
+      → Inserts kinds b kind pairs pairs' marks marks'
+  added : slice_index_or marks (mark_of kinds b kind) false ≡ false
+      → pairs' ≡ pairs ++ (b, kind) ∷ [] → marks' ≡ slice_set marks (mark_of kinds b kind) true
       → Inserts kinds b kind pairs pairs' marks marks'
 
 -- the mark is that of one of the pairs

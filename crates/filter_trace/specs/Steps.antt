@@ -40,4 +40,5 @@ HasFound words kinds links count set = AreFoundPairs (slice_index words) (slice_
 -- following all links of a block leaves this
 abbrev pub FollowsAllLinks : List ℕ → List ℕ → Links → ℕ → Block → ℕ → PairSet → PairSet → Type 0
 FollowsAllLinks words kinds links count b kind old new =
-    FollowsLinks (slice_index words) (slice_index kinds) links count b (links kind (words_in (slice_index words) b)) old.pairs.items new.pairs.items old.marks new.marks
+    FollowsLinks (slice_index words) (slice_index kinds) links count b (links kind (words_in (slice_index words) b))
+    old.pairs.items new.pairs.items old.marks new.marks

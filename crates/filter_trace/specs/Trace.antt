@@ -31,7 +31,8 @@ LeadsTo image word Nowhere = LeadsOutside image word
 -- what following a word leaves: nothing new if it is null, else what it leads to, inserted
 pub data Follows (image : Image) (count at kind : ℕ) (pairs pairs' : List (Block × ℕ)) (marks marks' : List Bool) : Type 0 where
   null : image at ≡ 0 → pairs' ≡ pairs → marks' ≡ marks → Follows image count at kind pairs pairs' marks marks'
-  lead : (b : Block) → Leads image (image at) b → Inserts count b kind pairs pairs' marks marks' → Follows image count at kind pairs pairs' marks marks'
+  lead : (b : Block) → Leads image (image at) b → Inserts count b kind pairs pairs' marks marks'
+      → Follows image count at kind pairs pairs' marks marks'
 
 -- the word has been followed: it is not outside, and what it leads to is there
 pub record IsFollowedWord (image : Image) (pairs : List (Block × ℕ)) (at kind : ℕ) : Type 0 where
@@ -40,7 +41,8 @@ pub record IsFollowedWord (image : Image) (pairs : List (Block × ℕ)) (at kind
 
 -- each linked word of the block has been followed
 pub record IsFollowedBlock (image : Image) (links : Links) (pairs : List (Block × ℕ)) (a : Block) (from : ℕ) : Type 0 where
-  pub each : (position kind : ℕ) → Contains (links from (words_in image a)) (position, kind) → IsFollowedWord image pairs (a.first_word + position) kind
+  pub each : (position kind : ℕ) → Contains (links from (words_in image a)) (position, kind)
+      → IsFollowedWord image pairs (a.first_word + position) kind
 
 -- what holds of each pair
 pub record Each (holds : Block → ℕ → Type 0) (pairs : List (Block × ℕ)) : Type 0 where
@@ -52,7 +54,8 @@ pub record IsExtended (pairs pairs' : List (Block × ℕ)) : Type 0 where
   pub is : pairs' ≡ pairs ++ more
 
 -- all pairs that have been found are reached, and marked
-pub record AreFoundPairs (image : Image) (kinds : ℕ → ℕ) (links : Links) (count : ℕ) (pairs : List (Block × ℕ)) (marks : List Bool) : Type 0 where
+pub record AreFoundPairs (image : Image) (kinds : ℕ → ℕ) (links : Links) (count : ℕ)
+    (pairs : List (Block × ℕ)) (marks : List Bool) : Type 0 where
   pub marked : AreMarked (layout_of image) count pairs marks
   pub reached : Each (Reach image kinds links) pairs
 
@@ -63,14 +66,16 @@ pub record FollowsRoots (image : Image) (kinds : ℕ → ℕ) (count upto : ℕ)
   pub followed : (i : ℕ) → i < upto → IsFollowedWord image pairs (root_word i) (kinds i)
 
 -- what following these links of a block leaves
-pub record FollowsLinks (image : Image) (kinds : ℕ → ℕ) (links : Links) (count : ℕ) (a : Block) (upto : List (ℕ × ℕ)) (pairs pairs' : List (Block × ℕ)) (marks marks' : List Bool) : Type 0 where
+pub record FollowsLinks (image : Image) (kinds : ℕ → ℕ) (links : Links) (count : ℕ) (a : Block)
+    (upto : List (ℕ × ℕ)) (pairs pairs' : List (Block × ℕ)) (marks marks' : List Bool) : Type 0 where
   pub long : length marks' ≡ length marks
   pub found : AreFoundPairs image kinds links count pairs' marks'
   pub grown : IsExtended pairs pairs'
   pub followed : (position kind : ℕ) → Contains upto (position, kind) → IsFollowedWord image pairs' (a.first_word + position) kind
 
 -- what a trace knows when it has followed the roots and the links of the first `next` pairs
-pub record IsWork (image : Image) (kinds : ℕ → ℕ) (links : Links) (count next : ℕ) (pairs : List (Block × ℕ)) (marks : List Bool) : Type 0 where
+pub record IsWork (image : Image) (kinds : ℕ → ℕ) (links : Links) (count next : ℕ)
+    (pairs : List (Block × ℕ)) (marks : List Bool) : Type 0 where
   pub found : AreFoundPairs image kinds links count pairs marks
   pub roots_followed : (i : ℕ) → i < roots → IsFollowedWord image pairs (root_word i) (kinds i)
   pub links_followed : Each (IsFollowedBlock image links pairs) (take next pairs)

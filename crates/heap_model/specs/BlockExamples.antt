@@ -55,7 +55,13 @@ large_block = record {
   index = 0;
   words = 16384;
   count = 1;
-  is_of = record { taken = omega arith; begins = as_large 2 (omega arith) refl (omega arith) no_more_inside; below = omega arith; at = refl; size = refl };
+  is_of = record {
+    taken = omega arith;
+    begins = as_large 2 (omega arith) refl (omega arith) no_more_inside;
+    below = omega arith;
+    at = refl;
+    size = refl;
+  };
 }
 
 -- with another info in its second superblock it is none

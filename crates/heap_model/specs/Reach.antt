@@ -20,7 +20,8 @@ pub record AreInside (limit : ℕ) (links : Links) : Type 0 where
   pub kind : (kind : ℕ) (words : List ℕ) (at to : ℕ) → Contains (links kind words) (at, to) → to < limit
 
 -- the least set of pairs of a block and a kind that has those to start from, and those that links lead to from its own pairs
-pub data Closure {Kind : Type 0} (starts : Block → Kind → Type 0) (leads : Block → Kind → Block → Kind → Type 0) : Block → Kind → Type 0 where
+pub data Closure {Kind : Type 0} (starts : Block → Kind → Type 0) (leads : Block → Kind → Block → Kind → Type 0)
+    : Block → Kind → Type 0 where
   by_start : (b : Block) (kind : Kind) → starts b kind → Closure starts leads b kind
   by_link : (a b : Block) (from kind : Kind) → Closure starts leads a from → leads a from b kind → Closure starts leads b kind
 
@@ -63,7 +64,8 @@ IsTraced image = IsTracedFrom image AnyRoot
 pub record TracesAlike (image other : Image) (chosen : ℕ → Type 0) (kinds : ℕ → ℕ) (links : Links) : Type 0 where
   pub same_words : (at : ℕ) → IsTracedFrom image chosen kinds links at → other at ≡ image at
   pub are_blocks : (b : Block) (kind : ℕ) → ReachFrom image chosen kinds links b kind → IsBlock (layout_of other) b
-  pub same_links : (b : Block) (kind : ℕ) → ReachFrom image chosen kinds links b kind → links kind (words_in other b) ≡ links kind (words_in image b)
+  pub same_links : (b : Block) (kind : ℕ) → ReachFrom image chosen kinds links b kind
+      → links kind (words_in other b) ≡ links kind (words_in image b)
 
 -- tracing looks at the word at the index, which is neither null nor a pointer to a block
 pub record IsOutside (image : Image) (kinds : ℕ → ℕ) (links : Links) (at : ℕ) : Type 0 where

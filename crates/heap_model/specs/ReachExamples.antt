@@ -40,7 +40,13 @@ table_leads = record {
       index = 0;
       words = 128;
       count = 64;
-      is_of = record { taken = omega arith; begins = of_class 12 refl (record { some = omega arith; last = omega arith }); below = omega arith; at = refl; size = refl };
+      is_of = record {
+        taken = omega arith;
+        begins = of_class 12 refl (record { some = omega arith; last = omega arith });
+        below = omega arith;
+        at = refl;
+        size = refl;
+      };
     };
   };
 }
@@ -56,14 +62,21 @@ node_leads = record {
       index = 0;
       words = 4;
       count = 2048;
-      is_of = record { taken = omega arith; begins = of_class 2 refl (record { some = omega arith; last = omega arith }); below = omega arith; at = refl; size = refl };
+      is_of = record {
+        taken = omega arith;
+        begins = of_class 2 refl (record { some = omega arith; last = omega arith });
+        below = omega arith;
+        at = refl;
+        size = refl;
+      };
     };
   };
 }
 
 node_reached : Reach table_and_node (λ _. 1) table_links node 2
 node_reached =
-    by_link table node 1 2 (by_start table 1 (record { root = 0; below = omega arith; is_chosen = tt; kind_is = refl; leads = table_leads }))
+    by_link table node 1 2 (by_start table 1
+    (record { root = 0; below = omega arith; is_chosen = tt; kind_is = refl; leads = table_leads }))
     (record { position = 0; listed = (0, omega arith, refl); leads = node_leads })
 
 -- where each word is null, nothing is reached, whatever the filter lists

@@ -61,7 +61,8 @@ but_last (x ∷ y ∷ ys) = x ∷ but_last (y ∷ ys)
 
 -- the words that recovery leaves alone outside superblocks: the header's but the state, the roots, and those without a meaning
 pub data IsKeptWord (capacity : ℕ) : ℕ → Type 0 where
-  in_header : (word : ℕ) → (word ≡ magic_word) ⊎ ((word ≡ version_word) ⊎ ((word ≡ capacity_word) ⊎ (word ≡ used_word))) → IsKeptWord capacity word
+  in_header : (word : ℕ) → (word ≡ magic_word) ⊎ ((word ≡ version_word) ⊎ ((word ≡ capacity_word) ⊎ (word ≡ used_word)))
+      → IsKeptWord capacity word
   is_root : (i word : ℕ) → i < roots → word ≡ root_word i → IsKeptWord capacity word
   is_reserved : (word : ℕ) → IsReserved capacity word → IsKeptWord capacity word
 
@@ -81,11 +82,13 @@ pub record IsRecovered (old new : Image) (kept : Block → Type 0) : Type 0 wher
   pub descriptors : ℕ → List ℕ
   pub chains : ℕ → List ℕ
   pub listed : (list : ℕ) → list < lists → AreAscending (λ d. d) (IsListed (layout_of old) kept list) (descriptors list)
-  pub chained : (class d : ℕ) → IsClass class → IsPartial (layout_of old) kept class d → AreAscending (λ w. w) (IsSpare (layout_of old) kept class d) (chains d)
+  pub chained : (class d : ℕ) → IsClass class → IsPartial (layout_of old) kept class d
+      → AreAscending (λ w. w) (IsSpare (layout_of old) kept class d) (chains d)
   pub state : new state_word ≡ dirty
   pub same : (word : ℕ) → IsKeptWord (capacity_of old) word → new word ≡ old word
   pub heads : (list : ℕ) → list < lists → new (head_word list) ≡ first_number (descriptors list)
-  pub links : (list : ℕ) → list < lists → Follows (λ d. new (link_word d)) (capacity_of old) (first_number (descriptors list)) (descriptors list)
+  pub links : (list : ℕ) → list < lists
+      → Follows (λ d. new (link_word d)) (capacity_of old) (first_number (descriptors list)) (descriptors list)
   pub unlisted : (d : ℕ) → d < capacity_of old → ((list : ℕ) → list < lists → Contains (descriptors list) d → ⊥) → new (link_word d) ≡ 0
   pub free : (d : ℕ) → IsFreeSuperblock (layout_of old) kept d → HasInfoAndAnchor new d 0 0
   pub partial : (class d : ℕ) → IsClass class → IsPartial (layout_of old) kept class d → IsRechained old new class d (chains d)
@@ -93,4 +96,5 @@ pub record IsRecovered (old new : Image) (kept : Block → Type 0) : Type 0 wher
   pub in_large : (d : ℕ) → IsInLarge (layout_of old) kept d → HasInfoAndAnchor new d (old (info_word d)) full_anchor
   pub untaken : (d : ℕ) → (layout_of old).used ≤ d → d < capacity_of old → HasInfoAndAnchor new d 0 0
   pub inside : (word : ℕ) → start_word (capacity_of old) 0 ≤ word
-      → ((class d : ℕ) → IsClass class → IsPartial (layout_of old) kept class d → Contains (but_last (chains d)) word → ⊥) → new word ≡ old word
+      → ((class d : ℕ) → IsClass class → IsPartial (layout_of old) kept class d → Contains (but_last (chains d)) word → ⊥)
+      → new word ≡ old word

@@ -17,11 +17,14 @@ list_numbers = 0 ∷ 1 ∷ 2 ∷ 3 ∷ 4 ∷ 5 ∷ 6 ∷ 7 ∷ 8 ∷ 9 ∷ 10 �
 
 -- 1 where superblock d is one of those that the large block takes: a block of a superblock or more that has a word in d
 abbrev pub large_part : ℕ → ℕ → Block → ℕ
-large_part capacity d b = one_if (nat_le superblock_words b.words && (nat_lt b.first_word (start_word capacity (d + 1)) && nat_lt (start_word capacity d) (b.first_word + b.words)))
+large_part capacity d b =
+    one_if (nat_le superblock_words b.words
+    && (nat_lt b.first_word (start_word capacity (d + 1)) && nat_lt (start_word capacity d) (b.first_word + b.words)))
 
 -- the anchor of a superblock of the class tells the chain of its free blocks: how many, the first, and the state, which is empty where all are free, full where none is, and else partial
 pub record IsAnchored (image : Image) (class d : ℕ) (chain : List ℕ) : Type 0 where
-  pub linked : IsChain image (capacity_of image) class d (start_word (capacity_of image) d + anchor_first (image (anchor_word d)) * words_of_class class) chain
+  pub linked : IsChain image (capacity_of image) class d
+      (start_word (capacity_of image) d + anchor_first (image (anchor_word d)) * words_of_class class) chain
   pub count : anchor_count (image (anchor_word d)) ≡ length chain
   pub empty : (anchor_state (image (anchor_word d)) ≡ empty_state) ↔ (length chain ≡ blocks_of class)
   pub full : (image (anchor_word d) ≡ full_anchor) ↔ (length chain ≡ 0)
@@ -32,8 +35,11 @@ pub record IsShaped (image : Image) (held : List Block) : Type 0 where
   pub descriptors : ℕ → List ℕ
   pub full : ℕ → ℕ
   pub chains : ℕ → List ℕ
-  pub follows : (list : ℕ) → list < lists → Follows (λ d. image (link_word d)) (capacity_of image) (image (head_word list)) (descriptors list)
-  pub one_place : (d : ℕ) → total (λ list. times d (descriptors list)) list_numbers + full d + total (large_part (capacity_of image) d) held ≡ below d (used_of image)
+  pub follows : (list : ℕ) → list < lists
+      → Follows (λ d. image (link_word d)) (capacity_of image) (image (head_word list)) (descriptors list)
+  pub one_place : (d : ℕ)
+      → total (λ list. times d (descriptors list)) list_numbers + full d + total (large_part (capacity_of image) d) held
+      ≡ below d (used_of image)
   pub free : (d : ℕ) → 0 < times d (descriptors 0)
       → (anchor_state (image (anchor_word d)) ≡ empty_state) × ((b : Block) → Contains held b → HasPartIn (capacity_of image) b d → ⊥)
   pub in_class : (class d : ℕ) → IsClass class → 0 < times d (descriptors class)
@@ -41,8 +47,10 @@ pub record IsShaped (image : Image) (held : List Block) : Type 0 where
   pub is_full : (d : ℕ) → 0 < full d → IsClass (image (info_word d)) × (image (anchor_word d) ≡ full_anchor) × (chains d ≡ [])
   pub in_large : (d : ℕ) → 0 < total (large_part (capacity_of image) d) held → anchor_state (image (anchor_word d)) ≢ partial_state
   pub one_owner : (class d index : ℕ) (b : Block) → IsClass class → 0 < times d (descriptors class) + full d → image (info_word d) ≡ class
-      → IsBlockOfClass (capacity_of image) class d index b → times b.first_word (chains d) + times b.first_word (map (λ (h : Block). h.first_word) held) ≡ 1
-  pub untaken : (d : ℕ) → used_of image ≤ d → d < capacity_of image → (image (info_word d) ≡ 0) × (image (anchor_word d) ≡ 0) × (image (link_word d) ≡ 0)
+      → IsBlockOfClass (capacity_of image) class d index b
+      → times b.first_word (chains d) + times b.first_word (map (λ (h : Block). h.first_word) held) ≡ 1
+  pub untaken : (d : ℕ) → used_of image ≤ d → d < capacity_of image
+      → (image (info_word d) ≡ 0) × (image (anchor_word d) ≡ 0) × (image (link_word d) ≡ 0)
 
 -- a heap at rest with these words and held blocks: a good header, and the held blocks in order of offset
 pub record IsReady (words : List ℕ) (held : List Block) : Type 0 where

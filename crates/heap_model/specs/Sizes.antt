@@ -4,7 +4,8 @@ use Rattle.heap_model.specs.Geometry.{superblock_words}
 
 -- the block size in bytes of each class, after a 0 for class 0, which is none
 unfoldable pub class_sizes : List ℕ
-class_sizes = 0 ∷ 16 ∷ 32 ∷ 48 ∷ 64 ∷ 96 ∷ 128 ∷ 192 ∷ 256 ∷ 384 ∷ 512 ∷ 768 ∷ 1024 ∷ 1536 ∷ 2048 ∷ 3072 ∷ 4096 ∷ 6144 ∷ 8192 ∷ 12288 ∷ 14336 ∷ []
+class_sizes = 0 ∷ 16 ∷ 32 ∷ 48 ∷ 64 ∷ 96 ∷ 128 ∷ 192 ∷ 256 ∷ 384 ∷ 512 ∷ 768 ∷ 1024 ∷ 1536 ∷ 2048 ∷
+    3072 ∷ 4096 ∷ 6144 ∷ 8192 ∷ 12288 ∷ 14336 ∷ []
 
 -- the greatest class
 abbrev pub last_class : ℕ

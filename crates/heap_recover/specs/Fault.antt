@@ -16,5 +16,6 @@ of_trace MemoryTraced = Memory
 -- The first cause that makes the header of an image of so many bytes bad; or, where it is good, a word that is outside, and its value. Of want of memory nothing is said.
 abbrev pub TellsFault : ℕ → Image → (ℕ → ℕ) → Links → RecoverFault → Type 0
 TellsFault bytes image kinds links (Header cause) = header_fault bytes image ≡ Some cause
-TellsFault bytes image kinds links (Outside at value) = (header_fault bytes image ≡ None) × IsOutside image kinds links at × (value ≡ image at)
+TellsFault bytes image kinds links (Outside at value) =
+    (header_fault bytes image ≡ None) × IsOutside image kinds links at × (value ≡ image at)
 TellsFault bytes image kinds links Memory = Unit {0}

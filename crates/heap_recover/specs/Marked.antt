@@ -35,7 +35,8 @@ pub record IsSpareAmong (kept : Block → Type 0) (capacity class d count w : �
 pub record AreParted (kept : Block → Type 0) (capacity class d count : ℕ) (held : List Block) (spares : List ℕ) : Type 0 where
   pub kept_in_order : AreAscending (λ (b : Block). b.first_word) (IsKeptAmong kept capacity class d count) held
   pub spares_in_order : AreAscending (λ w. w) (IsSpareAmong kept capacity class d count) spares
-  pub each : (index : ℕ) (b : Block) → index < count → IsBlockOfClass capacity class d index b → Contains held b ⊎ Contains spares b.first_word
+  pub each : (index : ℕ) (b : Block) → index < count → IsBlockOfClass capacity class d index b
+      → Contains held b ⊎ Contains spares b.first_word
 
 -- a kept block that begins in superblock d
 pub record IsKeptIn (capacity : ℕ) (kept : Block → Type 0) (d : ℕ) (b : Block) : Type 0 where
@@ -56,4 +57,5 @@ pub record IsInside (l : Layout) (kept : Block → Type 0) (e : ℕ) : Type 0 wh
 -- of the kept blocks that begin below superblock d, one may go on through the superblocks from d up to `end`; the others end at d, or before
 pub record GoOnTo (l : Layout) (kept : Block → Type 0) (d end : ℕ) : Type 0 where
   pub inside : (e : ℕ) → d ≤ e → e < end → IsInside l kept e
-  pub ends : (b : Block) (e : ℕ) → kept b → b.first_word < start_word l.capacity d → d ≤ e → end ≤ e → b.first_word + b.words ≤ start_word l.capacity e
+  pub ends : (b : Block) (e : ℕ) → kept b → b.first_word < start_word l.capacity d → d ≤ e → end ≤ e
+      → b.first_word + b.words ≤ start_word l.capacity e

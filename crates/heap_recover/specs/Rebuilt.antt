@@ -32,7 +32,8 @@ pub data IsOf (capacity d : ℕ) : ℕ → Type 0 where
 pub record AreSpares (capacity : ℕ) (class : SizeClass) (d : ℕ) (spares : List ℕ) : Type 0 where
   pub some : 0 < length spares
   pub ascending : AllPairs (λ x y. x < y) spares
-  pub blocks : (w : ℕ) → Contains spares w → (index : ℕ) × IsBlockOfClass capacity class.number d index (record { first_word = w; words = words_of_class class.number })
+  pub blocks : (w : ℕ) → Contains spares w
+      → (index : ℕ) × IsBlockOfClass capacity class.number d index (record { first_word = w; words = words_of_class class.number })
 
 -- a superblock of the role has such spares, or none
 abbrev pub HasSpares : ℕ → ℕ → List ℕ → Role → Type 0
@@ -84,7 +85,8 @@ IsDescribed old new d spares Large = HasInfoAndAnchor new d (old (info_word d)) 
 
 -- inside superblock d only the first words of chained blocks, but the last, change
 pub record KeepsInside (old new : Image) (capacity d : ℕ) (spares : List ℕ) : Type 0 where
-  pub each : (word : ℕ) → start_word capacity d ≤ word → word < start_word capacity (d + 1) → (Contains (but_last spares) word → ⊥) → new word ≡ old word
+  pub each : (word : ℕ) → start_word capacity d ≤ word → word < start_word capacity (d + 1)
+      → (Contains (but_last spares) word → ⊥) → new word ≡ old word
 
 -- superblock d is rebuilt in its role, and no word of another changes
 pub record IsRebuiltAs (old new : Image) (capacity d : ℕ) (role : Role) (spares : List ℕ) : Type 0 where
@@ -131,7 +133,8 @@ pub record IsList (new : Image) (capacity : ℕ) (roles : List Role) (list : ℕ
 -- the lists below `list` are linked, and no other word changes
 pub record AreListed (old new : Image) (capacity : ℕ) (roles : List Role) (list : ℕ) : Type 0 where
   pub each : (j : ℕ) → j < list → IsList new capacity roles j
-  pub others : (word : ℕ) → ((j : ℕ) → j < list → word ≢ head_word j) → ((d j : ℕ) → j < list → IsMember roles j d → word ≢ link_word d) → new word ≡ old word
+  pub others : (word : ℕ) → ((j : ℕ) → j < list → word ≢ head_word j)
+      → ((d j : ℕ) → j < list → IsMember roles j d → word ≢ link_word d) → new word ≡ old word
 
 -- the whole rebuild: the new image, the held blocks and the roles
 pub record IsRebuild (old new : Image) (kept : Block → Type 0) (held : List Block) (roles : List Role) : Type 0 where

@@ -13,7 +13,8 @@ use Rattle.heap_recover.specs.Marked.{IsKeptIn, GoOnTo}
 -- the superblock has the role; `spares` are the first words that recovery chains there
 pub data IsRole (l : Layout) (kept : Block → Type 0) (d : ℕ) : Role → List ℕ → Type 0 where
   is_free : IsFreeSuperblock l kept d → IsRole l kept d Free []
-  is_partial : (class : SizeClass) (spares : List ℕ) → IsPartial l kept class.number d → AreAscending (λ w. w) (IsSpare l kept class.number d) spares → IsRole l kept d (Partial class) spares
+  is_partial : (class : SizeClass) (spares : List ℕ) → IsPartial l kept class.number d
+      → AreAscending (λ w. w) (IsSpare l kept class.number d) spares → IsRole l kept d (Partial class) spares
   is_full : (class : SizeClass) → IsFullyKept l kept class.number d → IsRole l kept d (Full class) []
   is_large : IsInLarge l kept d → IsRole l kept d Large []
 

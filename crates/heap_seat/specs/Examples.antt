@@ -144,9 +144,11 @@ words_of_spots = refl
 
 -- a write-back takes the block's words of the line, and neither those behind the border nor those of its neighbour
 written_with : IsWrittenWith (InBlock small_block 1) 1078 × IsWrittenWith (InBlock small_block 2) 1083 × IsWrittenWith (Root 2) 42
-written_with = ((record { from = omega arith; until = omega arith }, refl), (record { from = omega arith; until = omega arith }, refl), refl)
+written_with =
+    ((record { from = omega arith; until = omega arith }, refl), (record { from = omega arith; until = omega arith }, refl), refl)
 
-not_written_with : (IsWrittenWith (InBlock small_block 1) 1080 → ⊥) × (IsWrittenWith (InBlock small_block 1) 1077 → ⊥) × (IsWrittenWith (Root 2) 43 → ⊥)
+not_written_with : (IsWrittenWith (InBlock small_block 1) 1080 → ⊥) × (IsWrittenWith (InBlock small_block 1) 1077 → ⊥)
+    × (IsWrittenWith (Root 2) 43 → ⊥)
 not_written_with = (λ behind. omega (arith, behind.1), λ neighbour. let from = neighbour.0.from in omega arith, λ other. omega arith)
 
 -- a call counts until the seat stops

@@ -12,7 +12,8 @@ use Rattle.heap_shape.specs.Whole.{layout_at}
 
 -- the superblock is in the free list
 abbrev pub IsInFreeList : ℕ → Image → ℕ → Type 0
-IsInFreeList capacity image d = (ds : List ℕ) → Follows (λ e. image (link_word e)) capacity (head_first (image (head_word 0))) ds → Contains ds d
+IsInFreeList capacity image d =
+    (ds : List ℕ) → Follows (λ e. image (link_word e)) capacity (head_first (image (head_word 0))) ds → Contains ds d
 
 -- each taken superblock that no held block has a part in is in the free list, or is cut for the class
 pub record IsDrainable (capacity : ℕ) (image : Image) (held : List Block) (class : ℕ) : Type 0 where

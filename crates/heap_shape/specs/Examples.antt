@@ -63,7 +63,8 @@ holds_third = record { block = record { first_word = 4656; words = 1792 }; holds
 abbrev taken : Shape
 taken = after_take partial 20 0 [] 2864
 
-take_moves : (taken.place 0 ≡ is_full) × (taken.listed 20 ≡ []) × (taken.chain 0 ≡ []) × (taken.cached 20 ≡ 2864 ∷ 6448 ∷ []) × (taken.cached 19 ≡ [])
+take_moves : (taken.place 0 ≡ is_full) × (taken.listed 20 ≡ []) × (taken.chain 0 ≡ [])
+    × (taken.cached 20 ≡ 2864 ∷ 6448 ∷ []) × (taken.cached 19 ≡ [])
 take_moves = (refl, refl, refl, refl, refl)
 
 free_once : times_free partial 20 0 6448 ∷ times_free taken 20 0 6448 ∷ times_free taken 20 0 4656 ∷ [] ≡ 1 ∷ 1 ∷ 0 ∷ []
@@ -73,7 +74,8 @@ free_once = refl
 abbrev cut : Shape
 cut = after_cut (after_recycle partial 20 0 []) 1 20 0 []
 
-cut_moves : (cut.place 0 ≡ is_full) × (cut.listed 0 ≡ []) × (cut.chain 0 ≡ []) × (cut.cached 20 ≡ all_firsts 1 20 0) × (cut.start 20 ≡ first_of 1 20 0 0)
+cut_moves : (cut.place 0 ≡ is_full) × (cut.listed 0 ≡ []) × (cut.chain 0 ≡ [])
+    × (cut.cached 20 ≡ all_firsts 1 20 0) × (cut.start 20 ≡ first_of 1 20 0 0)
 cut_moves = (refl, refl, refl, refl, refl)
 
 abbrev all_given : Shape
@@ -91,7 +93,8 @@ abbrev unlisted : Image
 unlisted = image_with ((8, 1) ∷ (1064, 20) ∷ [])
 
 drainable_for_own : IsDrainable 1 unlisted [] 20
-drainable_for_own = record { each = λ d taken none. let only : d ≡ 0 = omega arith in inl (subst (λ e. unlisted (1064 + 8 * e) ≡ 20) (sym only) refl) }
+drainable_for_own =
+    record { each = λ d taken none. let only : d ≡ 0 = omega arith in inl (subst (λ e. unlisted (1064 + 8 * e) ≡ 20) (sym only) refl) }
 
 undrainable_for_other : IsDrainable 1 unlisted [] 19 → ⊥
 undrainable_for_other drainable = elim (drainable.each 0 (omega arith) (λ b holds part. let none = holds.1 in omega arith)) as (λ _. ⊥) [

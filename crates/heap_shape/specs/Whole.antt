@@ -27,7 +27,8 @@ pub record IsShape (capacity : ℕ) (image : Image) (held : List Block) (s : Sha
   pub small : capacity ≤ largest_capacity
   pub used : image used_word ≤ capacity
   pub named : (b : Block) → Contains held b → IsBlock (layout_at capacity image) b
-  pub follows : (list : ℕ) → list < lists → Follows (λ d. image (link_word d)) capacity (head_first (image (head_word list))) (s.listed list)
+  pub follows : (list : ℕ) → list < lists
+      → Follows (λ d. image (link_word d)) capacity (head_first (image (head_word list))) (s.listed list)
   pub listed : (list d : ℕ) → list < lists → times d (s.listed list) ≡ stands_in (s.place d) list
   pub places : (d : ℕ) → d < capacity → IsAs capacity image s held d (s.place d)
   pub cached : (class word : ℕ) → IsClass class → Contains (s.cached class) word → IsCachedIn capacity image s class word

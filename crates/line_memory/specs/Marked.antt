@@ -27,11 +27,14 @@ marked_from-has from (false ∷ marks) (suc k) m =
     subst (λ (x : ℕ). Contains (marked_from (from + 1) marks) x) e (marked_from-has (from + 1) marks k m)
 
 -- one mark further on
-marked_later : (from : ℕ) (b : Bool) (marks : List Bool) (x : ℕ) → (k : ℕ) × (x ≡ (from + 1) + k) × IsMarked marks k → (k : ℕ) × (x ≡ from + k) × IsMarked (b ∷ marks) k
+marked_later : (from : ℕ) (b : Bool) (marks : List Bool) (x : ℕ) → (k : ℕ) × (x ≡ (from + 1) + k) × IsMarked marks k
+    → (k : ℕ) × (x ≡ from + k) × IsMarked (b ∷ marks) k
 marked_later from b marks x h = (suc h.0, omega (arith, h.1), h.2)
 
 -- a listed word is marked
-pub marked_from-only : (from : ℕ) (marks : List Bool) (x j : ℕ) → j < length (marked_from from marks) → get_or (marked_from from marks) j x ≡ x → (k : ℕ) × (x ≡ from + k) × IsMarked marks k
+pub marked_from-only : (from : ℕ) (marks : List Bool) (x j : ℕ) → j < length (marked_from from marks)
+    → get_or (marked_from from marks) j x ≡ x
+    → (k : ℕ) × (x ≡ from + k) × IsMarked marks k
 marked_from-only from [] x j l e = absurd (omega arith)
 marked_from-only from (true ∷ marks) x zero l e = (0, omega arith, refl)
 marked_from-only from (true ∷ marks) x (suc j) l e =
@@ -53,7 +56,8 @@ marked_words-only marks k h =
     subst (λ (x : ℕ). IsMarked marks x) e found.2
 
 -- two lists of marks that agree at a word
-pub marked_words-same : (old new : List Bool) (k : ℕ) → get_or new k false ≡ get_or old k false → (Contains (marked_words new) k ↔ Contains (marked_words old) k)
+pub marked_words-same : (old new : List Bool) (k : ℕ) → get_or new k false ≡ get_or old k false
+    → (Contains (marked_words new) k ↔ Contains (marked_words old) k)
 marked_words-same old new k e = (
   (λ h. marked_words-has old k (sym e ∙ marked_words-only new k h)),
   (λ h. marked_words-has new k (e ∙ marked_words-only old k h)),

@@ -15,7 +15,8 @@ use Rattle.root_reach.specs.Origins.{Covers, Joins, origin_in, origin_at, label_
 use Rattle.root_reach.specs.Reaching.{Tells, HasLabels}
 
 -- what adding an origin of a pair leaves: nothing new where it is covered, else the joined one, found and in its label
-pub data AddsOrigin (count : ℕ) (b : Block) (kind : ℕ) (origin : Origin) (found found' : List Finding) (labels labels' : List ℕ) : Type 0 where
+pub data AddsOrigin (count : ℕ) (b : Block) (kind : ℕ) (origin : Origin) (found found' : List Finding)
+    (labels labels' : List ℕ) : Type 0 where
   present : Covers (origin_at count labels b kind) origin → found' ≡ found → labels' ≡ labels
       → AddsOrigin count b kind origin found found' labels labels'
   added : (joined : Origin) → Joins (origin_at count labels b kind) origin joined
@@ -73,7 +74,8 @@ pub record PropagatesLinks (image : Image) (kinds : ℕ → ℕ) (links : Links)
   pub followed : ArePropagated image count labels' a origin upto
 
 -- what the trace knows when it has followed the roots and the links of what was found first
-pub record IsWorklist (image : Image) (kinds : ℕ → ℕ) (links : Links) (count next : ℕ) (found : List Finding) (labels : List ℕ) : Type 0 where
+pub record IsWorklist (image : Image) (kinds : ℕ → ℕ) (links : Links) (count next : ℕ)
+    (found : List Finding) (labels : List ℕ) : Type 0 where
   pub so_far : AreFindings image kinds links count found labels
   pub roots_followed : (i : ℕ) → i < roots → IsPropagated image count labels (root_word i) (kinds i) (One i)
   pub links_followed : (f : Finding) → Contains (take next found) f → HasPropagated image links count labels f

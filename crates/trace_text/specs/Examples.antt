@@ -31,18 +31,21 @@ no_number = refl
 held_two : List Block
 held_two = record { first_word = 1096; words = 128 } ∷ record { first_word = 9288; words = 16384 } ∷ []
 
-two_reported : report_of 4 true [] held_two ≡ codes "heap 4 clean" ++ line_feed ++ codes "held 1024 1" ++ line_feed ++ codes "held large 2 1" ++ line_feed
+two_reported : report_of 4 true [] held_two
+    ≡ codes "heap 4 clean" ++ line_feed ++ codes "held 1024 1" ++ line_feed ++ codes "held large 2 1" ++ line_feed
 unfolding held_two digits classes class_sizes size_of words_of_class
 two_reported = refl
 
 two_mapped : map_of (formatted 4 ((8, 3) ∷ (1064, 12) ∷ (1072, 767) ∷ [])) held_two []
-    ≡ codes "used 3 free 0 fresh 1" ++ line_feed ++ codes "sb 0 class 12 held 0" ++ line_feed ++ codes "sb 1 large 2" ++ line_feed ++ codes "sb 2 inside 1" ++ line_feed
+    ≡ codes "used 3 free 0 fresh 1" ++ line_feed ++ codes "sb 0 class 12 held 0" ++ line_feed
+    ++ codes "sb 1 large 2" ++ line_feed ++ codes "sb 2 inside 1" ++ line_feed
 unfolding held_two digits class_sizes words_of_class
 two_mapped = refl
 
 -- the same heap without the large block
 one_freed : map_of (formatted 4 ((8, 3) ∷ (1064, 12) ∷ [])) (record { first_word = 1480; words = 128 } ∷ []) (1 ∷ 2 ∷ [])
-    ≡ codes "used 3 free 2 fresh 1" ++ line_feed ++ codes "sb 0 class 12 held 3" ++ line_feed ++ codes "sb 1 free" ++ line_feed ++ codes "sb 2 free" ++ line_feed
+    ≡ codes "used 3 free 2 fresh 1" ++ line_feed ++ codes "sb 0 class 12 held 3" ++ line_feed
+    ++ codes "sb 1 free" ++ line_feed ++ codes "sb 2 free" ++ line_feed
 unfolding digits class_sizes words_of_class
 one_freed = refl
 
@@ -63,6 +66,7 @@ unfolding digits
 no_keys_summed = refl
 
 -- what is told of keys stands behind the first line
-keys_reported : report_of 1 false (keys_text false ((7, 0 ∷ []) ∷ [])) [] ≡ codes "heap 1 dirty" ++ line_feed ++ codes "key 7 00" ++ line_feed
+keys_reported : report_of 1 false (keys_text false ((7, 0 ∷ []) ∷ [])) []
+    ≡ codes "heap 1 dirty" ++ line_feed ++ codes "key 7 00" ++ line_feed
 unfolding digits encode_with classes class_sizes size_of words_of_class
 keys_reported = refl

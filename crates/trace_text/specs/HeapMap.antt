@@ -79,7 +79,9 @@ superblock_line image held free d = line_of d (use_of image held free d)
 
 -- the map's first line: how many superblocks have been taken, how many of those are free, and how many have not been taken
 abbrev pub used_line : Image → List ℕ → List ℕ
-used_line image free = codes "used " ++ decimal (used_of image) ++ codes " free " ++ decimal (length free) ++ codes " fresh " ++ decimal (capacity_of image - used_of image) ++ line_feed
+used_line image free =
+    codes "used " ++ decimal (used_of image) ++ codes " free " ++ decimal (length free)
+    ++ codes " fresh " ++ decimal (capacity_of image - used_of image) ++ line_feed
 
 -- the map: its first line, and a line for each superblock that has been taken
 abbrev pub map_of : Image → List Block → List ℕ → List ℕ

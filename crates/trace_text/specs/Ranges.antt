@@ -19,7 +19,9 @@ longest_runs (n ∷ ns) = with_run (record { first = n; last = n }) (longest_run
 
 -- a run as it is printed, behind a space
 abbrev pub run_text : Run → List ℕ
-run_text run = if run.first == run.last then codes " " ++ decimal run.first else codes " " ++ decimal run.first ++ codes "-" ++ decimal run.last
+run_text run =
+    if run.first == run.last then codes " " ++ decimal run.first
+    else codes " " ++ decimal run.first ++ codes "-" ++ decimal run.last
 
 -- the numbers as their longest runs
 abbrev pub ranges_of : List ℕ → List ℕ
@@ -33,7 +35,8 @@ numbers_of run = range_with_len run.first (run.last + 1 - run.first)
 pub data AreSeparate : List Run → Type 0 where
   none : AreSeparate []
   one : (run : Run) → run.first ≤ run.last → AreSeparate (run ∷ [])
-  more : (run next : Run) (runs : List Run) → run.first ≤ run.last → next.first ≢ run.last + 1 → AreSeparate (next ∷ runs) → AreSeparate (run ∷ next ∷ runs)
+  more : (run next : Run) (runs : List Run) → run.first ≤ run.last → next.first ≢ run.last + 1 → AreSeparate (next ∷ runs)
+      → AreSeparate (run ∷ next ∷ runs)
 
 -- the runs have these numbers, in this order, and no two of them could be one
 pub record AreLongestRuns (ns : List ℕ) (runs : List Run) : Type 0 where

@@ -44,7 +44,8 @@ unfolding digits
 eight_seats = record { some = omega arith; at_most_8 = omega arith; line_is = refl }
 
 -- a whole schedule, of which the last line may lack its line feed
-two_lines : (s : Schedule) → s.seats ≡ 8 → s.lines.items ≡ (1, Tick (Some (Cut 3))) ∷ [] → IsSchedule (codes "seats 8" ++ line_feed ++ codes "1 cut 3") s
+two_lines : (s : Schedule) → s.seats ≡ 8 → s.lines.items ≡ (1, Tick (Some (Cut 3))) ∷ []
+    → IsSchedule (codes "seats 8" ++ line_feed ++ codes "1 cut 3") s
 two_lines s seats steps = record {
   first = codes "seats 8";
   further = codes "1 cut 3" ∷ [];
@@ -61,7 +62,8 @@ empty_line : IsFirstBad (lines_of line_feed) 1
 empty_line = inl (λ seats is. cc is.line_is, refl)
 
 -- answers
-three_answers : answers_text_of (Done ∷ NotNow ∷ Stopped 4 ∷ []) ≡ codes "done" ++ line_feed ++ codes "not now" ++ line_feed ++ codes "not now" ++ line_feed
+three_answers : answers_text_of (Done ∷ NotNow ∷ Stopped 4 ∷ [])
+    ≡ codes "done" ++ line_feed ++ codes "not now" ++ line_feed ++ codes "not now" ++ line_feed
 three_answers = refl
 
 some_tickets : tickets_line_of 120 ≡ codes "tickets 120" ++ line_feed
