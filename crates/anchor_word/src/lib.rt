@@ -7,4 +7,4 @@ mod word;
 
 pub use anchor::{Anchor, EMPTY, FULL, State, give, take_all};
 pub use laws::constants_agree;
-pub use word::{pack, unpack};
+pub use word::{anchor_count, anchor_first, is_partial, pack, unpack};

@@ -5,8 +5,8 @@
 //! | count of free blocks  | first free block's index | state |
 //! ```
 
-ghost use Rattle.std.specs.Prelude.{◌≡◌, ◌↔◌, IsNone, IfSome};
-ghost use Rattle.heap_model.specs.Words.{anchor_state};
+ghost use Rattle.std.specs.Prelude.{◌≡◌, ◌↔◌, IsNone, IfSome, true};
+ghost use Rattle.heap_model.specs.Words.{anchor_state, anchor_first, anchor_count, partial_state};
 ghost use Rattle.anchor_word.specs.declared.anchor.Anchor.{Anchor};
 ghost use Rattle.anchor_word.specs.Anchor.{HasParts, IsPackable, word_of};
 
@@ -45,11 +45,36 @@ pub fn unpack(word: u64) -> Option<Anchor>
         2 => State::Full,
         _ => return None,
     };
-    let first = (word >> FIRST_SHIFT) % (1 << FIRST_BITS);
-    let count = word >> COUNT_SHIFT;
     Some(Anchor {
         state,
-        first,
-        count,
+        first: anchor_first(word),
+        count: anchor_count(word),
     })
+}
+
+/// The index of the first free block, of a word of any state.
+pub fn anchor_first(word: u64) -> u64
+    ensures { result ≡ anchor_first word }
+{
+    (word >> FIRST_SHIFT) % (1 << FIRST_BITS)
+}
+
+/// The count of free blocks, of a word of any state.
+pub fn anchor_count(word: u64) -> u64
+    ensures { result ≡ anchor_count word }
+{
+    word >> COUNT_SHIFT
+}
+
+/// Whether the word says that some blocks are free, but not all.
+pub fn is_partial(word: u64) -> bool
+    ensures { (result ≡ true) ↔ (anchor_state word ≡ partial_state) }
+{
+    match unpack(word) {
+        Some(anchor) => match anchor.state {
+            State::Partial => true,
+            State::Empty | State::Full => false,
+        },
+        None => false,
+    }
 }
