@@ -8,7 +8,7 @@ use Rattle.core_model.specs.Guards.{MayLookAt}
 use Rattle.crash_core.specs.Standing.{share_for, no_superblock, raw_in, split_in, classed_in, IsShare, IsKept, KeepsViews}
 use Rattle.core_model.proofs.SoundLemmas.{taken, batched}
 use Rattle.crash_core.proofs.StandingLemmas.{memory_in}
-use Rattle.crash_core.proofs.PushDecision.{settled_cut}
+use Rattle.crash_core.proofs.PushDecision.{freely_not_cutting}
 
 module _ (c : CoreState) (k : Setup) (views : List View) (i : ℕ) (v : View) (t : SeatNotes) (keeps : KeepsViews c k views) (below : i < length views) (at : get_or views i v ≡ v)
     (at_t : get_or c.seats.items i t ≡ t) (d : ℕ) where
@@ -25,8 +25,8 @@ module _ (c : CoreState) (k : Setup) (views : List View) (i : ℕ) (v : View) (t
   anchor_beyond past (inl claimed) = let l = taken k (memory_in c k) views i v below at keeps.sound.good d (let g = claimed.claimed in omega arith) in let cap = keeps.capacity in absurd (omega arith)
   anchor_beyond past (inr batch) = let l = batched k (memory_in c k) views i v below at keeps.sound.good d batch.0 batch.1 in let cap = keeps.capacity in absurd (omega arith)
 
-  pub anchor_settled : 0 < raw_in x + split_in x + classed_in x → MayLookAt v d
-  anchor_settled some = inl (record { claimed = (let a = s.is_raw in let b = s.is_split in let f = s.is_classed in omega arith); not_cutting = s.is_cutting ∙ settled_cut x some })
+  pub anchor_freely : 0 < raw_in x + split_in x + classed_in x → MayLookAt v d
+  anchor_freely some = inl (record { claimed = (let a = s.is_raw in let b = s.is_split in let f = s.is_classed in omega arith); not_cutting = s.is_cutting ∙ freely_not_cutting x some })
 
   pub anchor_unbatched : raw_in x + split_in x + classed_in x ≡ 0 → t.batch.count ≡ 0 → MayLookAt v d → ⊥
   anchor_unbatched none empty (inl claimed) = let a = s.is_raw in let b = s.is_split in let e = s.is_cutting in let f = s.is_classed in let g = claimed.claimed in let h = claimed.not_cutting in absurd (omega arith)

@@ -28,17 +28,14 @@ none_beyond [] i d past = either (nat_eq 0 i) where
 none_beyond (o ∷ owners) i zero past = absurd (omega arith)
 none_beyond (o ∷ owners) i (suc d) past = none_beyond owners i d (omega arith)
 
--- a settled claim is not being cut
-pub settled_cut : (x : Share) → 0 < raw_in x + split_in x + classed_in x → cutting_in x ≡ 0
-settled_cut share.Nothing some = refl
-settled_cut share.Raw some = refl
-settled_cut share.Split some = refl
-settled_cut share.Cutting some = absurd (omega arith)
-settled_cut (share.Classed class) some = refl
-settled_cut (share.Large count) some = refl
-
-pub settled_some : (x : Share) → raw_in x + split_in x + classed_in x ≡ 0 → cutting_in x ≡ 0 → raw_in x + split_in x + cutting_in x + classed_in x ≡ 0
-settled_some x none cut = omega arith
+-- a superblock that is freely claimed is not being cut
+pub freely_not_cutting : (x : Share) → 0 < raw_in x + split_in x + classed_in x → cutting_in x ≡ 0
+freely_not_cutting share.Nothing some = refl
+freely_not_cutting share.Raw some = refl
+freely_not_cutting share.Split some = refl
+freely_not_cutting share.Cutting some = absurd (omega arith)
+freely_not_cutting (share.Classed class) some = refl
+freely_not_cutting (share.Large count) some = refl
 
 module _ (c : CoreState) (k : Setup) (views : List View) (i : ℕ) (v : View) (t : SeatNotes) (keeps : KeepsViews c k views) (below : i < length views) (at : get_or views i v ≡ v)
     (at_t : get_or c.seats.items i t ≡ t) (d : ℕ) where
@@ -54,15 +51,15 @@ module _ (c : CoreState) (k : Setup) (views : List View) (i : ℕ) (v : View) (t
   abbrev x : Share
   x = share_for i (get_or c.superblocks.items d no_superblock)
 
-  settled_of : (list : ℕ) → MayList m v d list → 0 < raw_in x + split_in x + classed_in x
-  settled_of list (as_free l is_zero claimed empty) = let a = (kept.superblocks d).is_raw in let b = (kept.superblocks d).is_split in let e = (kept.superblocks d).is_cutting in let f = (kept.superblocks d).is_classed in let g = claimed.claimed in let h = claimed.not_cutting in omega arith
-  settled_of list (of_its_class l some classed is state) = let f = (kept.superblocks d).is_classed in omega arith
+  freely_of : (list : ℕ) → MayList m v d list → 0 < raw_in x + split_in x + classed_in x
+  freely_of list (as_free l is_zero claimed empty) = let a = (kept.superblocks d).is_raw in let b = (kept.superblocks d).is_split in let e = (kept.superblocks d).is_cutting in let f = (kept.superblocks d).is_classed in let g = claimed.claimed in let h = claimed.not_cutting in omega arith
+  freely_of list (of_its_class l some classed is state) = let f = (kept.superblocks d).is_classed in omega arith
 
-  pub unsettled : (y : Share) → y ≡ x → raw_in y + split_in y + classed_in y ≡ 0 → MayPush m v d → ⊥
-  unsettled y is none may = let some = settled_of (seen_of v.seen_head) may.listed in let e = ap (λ z. raw_in z + split_in z + classed_in z) is in omega arith
+  pub not_freely : (y : Share) → y ≡ x → raw_in y + split_in y + classed_in y ≡ 0 → MayPush m v d → ⊥
+  not_freely y is none may = let some = freely_of (seen_of v.seen_head) may.listed in let e = ap (λ z. raw_in z + split_in z + classed_in z) is in omega arith
 
   pub beyond : c.geometry.capacity ≤ d → MayPush m v d → ⊥
-  beyond past may = unsettled share.Nothing (sym (none_beyond c.superblocks.items i d (let n = keeps.superblocks in let cap = keeps.capacity in omega arith))) refl may
+  beyond past may = not_freely share.Nothing (sym (none_beyond c.superblocks.items i d (let n = keeps.superblocks in let cap = keeps.capacity in omega arith))) refl may
 
   pub undurable : (mark : ℕ) → mark ≡ durable_used (memory_at c) → mark ≤ d → MayPush m v d → ⊥
   undurable mark is past may = let less = may.durable in let e : durable_used m ≡ mark = ap durable_used (sym same) ∙ sym is in omega arith
@@ -74,7 +71,7 @@ module _ (c : CoreState) (k : Setup) (views : List View) (i : ℕ) (v : View) (t
     pub unlinked : (to first : ℕ) → to ≡ link (memory_at c) d → first ≡ head_first head.word → to ≢ first → MayPush m v d → ⊥
     unlinked to first to_is first_is differs may = differs (to_is ∙ ap (λ n. link n d) same ∙ may.linked ∙ ap head_first (ap seen_word (facts.saw c k views i v t keeps below at at_t head some)) ∙ sym first_is)
 
-    module _ (settled : 0 < raw_in x + split_in x + classed_in x) (mark : ℕ) (mark_is : mark ≡ durable_used (memory_at c)) (less : d < mark)
+    module _ (freely : 0 < raw_in x + split_in x + classed_in x) (mark : ℕ) (mark_is : mark ≡ durable_used (memory_at c)) (less : d < mark)
         (to first : ℕ) (to_is : to ≡ link (memory_at c) d) (first_is : first ≡ head_first head.word) (linked : to ≡ first) (state word : ℕ) (state_is : state ≡ anchor_state word) (anchor_is : word ≡ anchor (memory_at c) d) where
       now : anchor_state (anchor m d) ≡ state
       now = ap (λ n. anchor_state (anchor n d)) (sym same) ∙ ap anchor_state (sym anchor_is) ∙ sym state_is
@@ -94,7 +91,7 @@ module _ (c : CoreState) (k : Setup) (views : List View) (i : ℕ) (v : View) (t
       pub as_free_one : head.of ≡ 0 → (nat_eq state 0 ≡ true) ↔ MayPush m v d
       as_free_one zero_list = (
         λ e. may_push (as_free (seen_of v.seen_head) (of_is ∙ zero_list)
-            (record { claimed = (let a = (kept.superblocks d).is_raw in let b = (kept.superblocks d).is_split in let f = (kept.superblocks d).is_classed in omega arith); not_cutting = (kept.superblocks d).is_cutting ∙ settled_cut x settled })
+            (record { claimed = (let a = (kept.superblocks d).is_raw in let b = (kept.superblocks d).is_split in let f = (kept.superblocks d).is_classed in omega arith); not_cutting = (kept.superblocks d).is_cutting ∙ freely_not_cutting x freely })
             (now ∙ eqb-true state 0 e)),
         λ may. eq-eqb state 0 (sym now ∙ empty_of (seen_of v.seen_head) (of_is ∙ zero_list) may.listed),
       )

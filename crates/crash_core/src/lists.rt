@@ -110,7 +110,7 @@ fn may_push(core: &CoreState, seat: usize, d: u64) -> bool
         return false;
     }
     let share = share(core, seat, d);
-    if !share.is_settled() {
+    if !share.is_freely_claimed() {
         return false;
     }
     if d >= durable_used(core) {

@@ -121,7 +121,7 @@ fn may_look_at(core: &CoreState, seat: usize, d: u64) -> bool
     if d >= core.geometry.capacity() {
         return false;
     }
-    if share(core, seat, d).is_settled() {
+    if share(core, seat, d).is_freely_claimed() {
         return true;
     }
     if batch.count == 0 {
