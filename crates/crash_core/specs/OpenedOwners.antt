@@ -15,9 +15,11 @@ pub record AreBlockOwners (words : List ℕ) (held : List Block) (block_owners :
       (λ d. slice_index words (info_word d)) class (picked i held block_owners)) 0 lists) (replicate lists []) []
 
 -- each seat has the superblocks of its large blocks, and claims none
-pub record AreSuperblockOwners (words : List ℕ) (held : List Block) (block_owners : List ℕ) (superblocks : List SuperblockOwner) : Type 0 where
+pub record AreSuperblockOwners (words : List ℕ) (held : List Block) (block_owners : List ℕ)
+    (superblocks : List SuperblockOwner) : Type 0 where
   pub long : length superblocks ≡ slice_index words capacity_word
-  pub each : (i : ℕ) → HasSuperblocks superblocks i [] [] [] [] (large_blocks (slice_index words capacity_word) (picked i held block_owners))
+  pub each : (i : ℕ)
+      → HasSuperblocks superblocks i [] [] [] [] (large_blocks (slice_index words capacity_word) (picked i held block_owners))
 
 -- the superblocks of a large block have the seat as owner: the first one tells how many they are
 pub record IsLargeGiven (old new : List SuperblockOwner) (seat d count : ℕ) : Type 0 where

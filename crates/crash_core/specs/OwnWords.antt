@@ -13,7 +13,8 @@ IsPart capacity word (part.Root i) = (cell_at capacity word ≡ root_cell i) × 
 IsPart capacity word (part.Info d) = (cell_at capacity word ≡ info_cell d) × (d < capacity)
 IsPart capacity word (part.Anchor d) = (cell_at capacity word ≡ anchor_cell d) × (d < capacity)
 IsPart capacity word (part.Link d) = (cell_at capacity word ≡ link_cell d) × (d < capacity)
-IsPart capacity word (part.Data w) = (cell_at capacity word ≡ data_cell w) × (w ≡ word) × (start_word capacity 0 ≤ w) × (w < image_words capacity)
+IsPart capacity word (part.Data w) = (cell_at capacity word ≡ data_cell w) × (w ≡ word)
+    × (start_word capacity 0 ≤ w) × (w < image_words capacity)
 
 -- a store to it changes nothing else
 abbrev pub IsPlain : Cell → Type 0

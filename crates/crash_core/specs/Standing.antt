@@ -170,7 +170,8 @@ pub record KeepsViews (c : CoreState) (k : Setup) (views : List View) : Type 0 w
   pub blocks : length c.blocks.items ≡ image_words k.capacity
   pub superblocks : length c.superblocks.items ≡ k.capacity
   pub roots : length c.roots.items ≡ roots
-  pub each : (i : ℕ) (t : SeatNotes) (v : View) → i < length views → get_or c.seats.items i t ≡ t → get_or views i v ≡ v → IsKept c i t v
+  pub each : (i : ℕ) (t : SeatNotes) (v : View) → i < length views → get_or c.seats.items i t ≡ t → get_or views i v ≡ v
+      → IsKept c i t v
 
 -- the core stands for the state
 pub record StandsFor (c : CoreState) (k : Setup) (s : TableState) : Type 0 where
@@ -252,11 +253,13 @@ pub record IsMoved (old new : CoreState) (views : List View) (i : ℕ) (t : Seat
 
 abbrev pub Moves : CoreState → ℕ → (Memory → View → View) → CoreState → Type 0
 Moves old i change new = (k : Setup) (views : List View) (v : View) (t : SeatNotes) → KeepsViews old k views → i < length views
-    → get_or views i v ≡ v → get_or old.seats.items i t ≡ t → IsMoved old new views i t (change (memory_of k.capacity old.words.items) v)
+    → get_or views i v ≡ v → get_or old.seats.items i t ≡ t
+    → IsMoved old new views i t (change (memory_of k.capacity old.words.items) v)
 
 -- the answer to whether a guard holds of the seat, in each state that the core stands for
 abbrev pub Decides : CoreState → ℕ → (Memory → View → Type 0) → Bool → Type 0
-Decides c i Guard answer = (k : Setup) (views : List View) (v : View) → KeepsViews c k views → i < length views → get_or views i v ≡ v
+Decides c i Guard answer = (k : Setup) (views : List View) (v : View) → KeepsViews c k views → i < length views
+    → get_or views i v ≡ v
     → (answer ≡ true) ↔ Guard (memory_of k.capacity c.words.items) v
 
 -- superblock e may be one of the n from d on that become a large block
