@@ -30,11 +30,17 @@ claims = record seat { raw = 1 ∷ []; seen_head = Some (record { of = 0; word =
 
 -- it may be pushed, since its link leads to the first of the list
 pub pushes : CanPush claims 1
-pushes = record { is_seen = refl; durable = omega arith; linked = refl; listed = as_free (record { claimed = omega arith; not_cutting = refl }) (by_claim (omega arith)) }
+pushes = record {
+  is_seen = refl;
+  durable = omega arith;
+  linked = refl;
+  listed = as_free (record { claimed = omega arith; not_cutting = refl }) (by_claim (omega arith));
+}
 
 -- not where the link leads elsewhere
 pub leads_elsewhere : CanPush (record claims { volatile = only 1074 2 }) 1 → ⊥
-leads_elsewhere can = let two : ℕ = 2 in let e : two ≡ 1 = ap (λ (link : Option ℕ). option_map_or (λ (n : ℕ). n) link 0) can.linked in omega arith
+leads_elsewhere can = let two : ℕ = 2 in
+    let e : two ≡ 1 = ap (λ (link : Option ℕ). option_map_or (λ (n : ℕ). n) link 0) can.linked in omega arith
 
 -- the anchor of a split superblock must be recorded as empty before that shows
 pub split_and_stored : ShowsEmpty (record seat { split = 0 ∷ []; volatile = only 1065 0 }) 0

@@ -57,7 +57,8 @@ pub record IsStepAt (o : Opening) (v : View) (event : Event) (place : ℕ) (f : 
   pub setup : v.setup ≡ setup_for o
   pub may : May v event
   pub place_is : place ≡ table_index v.setup.capacity (place_of v event)
-  pub leaves : (words : List ℕ) (joints : List Joint) → HasAllSeats o words joints → (s : HasSoundState v) → s.words ≡ words → s.views ≡ all_views joints
+  pub leaves : (words : List ℕ) (joints : List Joint) → HasAllSeats o words joints → (s : HasSoundState v) → s.words ≡ words
+      → s.views ≡ all_views joints
       → f (get_or words place 0) ≡ left_there (memory_of v.setup.capacity words) v event (get_or words place 0)
 
 -- a word is read, and nothing changes: it is that word of some sound state in which the seat has its view

@@ -53,7 +53,8 @@ pub record Fits (notes : SeatNotes) (v : View) : Type 0 where
 
 -- once a ticket is drawn with the shift, this is what is kept, in each state that has the view
 abbrev pub FitsShift : SeatNotes → View → Option Shift → Type 0
-FitsShift notes v shift = (s : HasSoundState v) (found : ℕ) → Fits (record notes { ticket = Some found }) (shifted (memory_of v.setup.capacity s.words) (drew v found) shift)
+FitsShift notes v shift = (s : HasSoundState v) (found : ℕ)
+    → Fits (record notes { ticket = Some found }) (shifted (memory_of v.setup.capacity s.words) (drew v found) shift)
 
 -- some sound state has the seat's view, and what is kept of it is so
 pub record IsKeptOf (notes : SeatNotes) (v : View) : Type 0 where

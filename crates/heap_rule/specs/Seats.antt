@@ -16,7 +16,8 @@ pub record HasNoStores (seat : SeatView) : Type 0 where
 -- the seats that a heap was opened for, in their order, each with its view
 pub record AreOpenedSeats (shared : SharedView) (views : ℕ → View) (seats : List SeatView) : Type 0 where
   pub count : length seats ≡ shared.seats
-  pub each : (i : ℕ) (seat : SeatView) → i < length seats → get_or seats i seat ≡ seat → IsSeatOf shared seat × (seat.view ≡ views i) × HasNoStores seat
+  pub each : (i : ℕ) (seat : SeatView) → i < length seats → get_or seats i seat ≡ seat
+      → IsSeatOf shared seat × (seat.view ≡ views i) × HasNoStores seat
 
 -- all the seats of a heap, in any order
 pub record AreSeatsOf (shared : SharedView) (seats : List SeatView) : Type 0 where
@@ -35,7 +36,8 @@ pub record IsClosedSound (k : Setup) (now kept : List ℕ) (views : List View) :
 
 -- the first seats of a table, in their order, each with its view
 abbrev pub dealt_seats : TableId → (ℕ → View) → ℕ → ℕ → List SeatView
-dealt_seats table views words count = tabulate (λ i. record { table = table; view = views i; stores = []; marks = replicate words false }) 0 count
+dealt_seats table views words count =
+    tabulate (λ i. record { table = table; view = views i; stores = []; marks = replicate words false }) 0 count
 
 -- each seat is at this table
 pub record AreAtTable (table : TableId) (seats : List SeatView) : Type 0 where

@@ -47,7 +47,8 @@ CanStore v cell value = ⊤
 -- a claimed superblock goes to the list of the free ones, or to that of its class
 pub data CanList (v : View) (d : ℕ) : ℕ → Type 0 where
   as_free : IsFreelyClaimed v d → ShowsEmpty v d → CanList v d 0
-  of_its_class : (class : ℕ) → IsClass class → 0 < times_classed d v.classed → claim_class d v.classed ≡ class → CanList v d class
+  of_its_class : (class : ℕ) → IsClass class → 0 < times_classed d v.classed → claim_class d v.classed ≡ class
+      → CanList v d class
 
 pub record CanPush (v : View) (d : ℕ) : Type 0 where
   pub is_seen : IsThere v.seen_head

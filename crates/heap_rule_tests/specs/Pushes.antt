@@ -17,7 +17,8 @@ use Rattle.heap_rule_tests.specs.Pops.{HasLostHead, list_head}
 -- all blocks of the superblock, which is claimed without a class, are free: since it is raw, or was split and its own anchor says so
 pub data IsEmptyClaim (v : View) (d : ℕ) : Type 0 where
   as_raw : 0 < times d v.raw → IsEmptyClaim v d
-  as_split : 0 < times d v.split → (anchor : ℕ) → Shows v (anchor_cell d) anchor → anchor_state anchor ≡ empty_state → IsEmptyClaim v d
+  as_split : 0 < times d v.split → (anchor : ℕ) → Shows v (anchor_cell d) anchor → anchor_state anchor ≡ empty_state
+      → IsEmptyClaim v d
 
 -- its link leads to another of the list
 abbrev pub with_link : View → ℕ → ℕ → View
