@@ -3,7 +3,7 @@ use Rattle.std.proofs.Common.{◌≡◌, ◌≢◌, ℕ, ◌-◌, ◌<◌, ◌�
 use Rattle.std.proofs.lemmas.Bool.{cases_eq}
 use Rattle.heap_model.specs.Counting.{times, total}
 use Rattle.heap_model.specs.Rest.{list_numbers}
-use Rattle.heap_model.specs.Geometry.{largest_capacity_fits, lists}
+use Rattle.heap_model.specs.Geometry.{lists}
 use Rattle.heap_model.specs.Words.{head_first, head_pops}
 use Rattle.crash_core.specs.declared.owners.SeatNotes.{SeatNotes}
 use Rattle.crash_core.specs.declared.owners.Seen.{Seen}
@@ -54,7 +54,6 @@ pub record HeadFits (c : CoreState) (head : Seen) : Type 0 where
   pub first : head_first head.word ≤ c.geometry.capacity
   pub long : length c.words.items ≡ table_length c.geometry.capacity
   pub superblocks : length c.superblocks.items ≡ c.geometry.capacity
-  pub small : c.geometry.capacity ≤ 4096
 
 pub head_fits : (c : CoreState) (i : ℕ) (t : SeatNotes) (head : Seen) → IsCore c → i < length c.seats.items → get_or c.seats.items i t ≡ t → t.seen_head ≡ Some head → HeadFits c head
 head_fits c i t head core less at_t some =
@@ -62,14 +61,13 @@ head_fits c i t head core less at_t some =
     let here = entry_there core.views i below in
     let is = saw c core.setup core.views i here.0 t core.keeps below here.1 at_t head some in
     let knows = (core.keeps.sound.good.knows i here.0 below here.1).seen_head (ap one_if_some is) in
-    let l = core.keeps.sound.long in let cap = core.keeps.capacity in let small = knows.small in let s = core.keeps.superblocks in let m = core.keeps.sound.good.small in let top = largest_capacity_fits in
+    let l = core.keeps.sound.long in let cap = core.keeps.capacity in let small = knows.small in let s = core.keeps.superblocks in
     let same : head_first (seen_word here.0.seen_head) ≡ head_first head.word = ap (λ x. head_first (seen_word x)) is in
     record {
       list = subst (λ x. seen_of x < lists) is knows.is_list;
       first = omega arith;
       long = omega arith;
       superblocks = omega arith;
-      small = omega arith;
     }
 
 pub total_member : (f : ℕ → ℕ) (n : ℕ) (ns : List ℕ) → 0 < times n ns → f n ≤ total f ns

@@ -1,6 +1,6 @@
 -- A word of the core that is read is the value of its cell.
-use Rattle.std.proofs.Common.{◌≡◌, ℕ, ◌+◌, ◌≤◌, true, get_or, length, ap, sym, ◌∙◌, arith}
-use Rattle.heap_model.specs.Geometry.{image_words, largest_capacity_fits}
+use Rattle.std.proofs.Common.{◌≡◌, ℕ, ◌+◌, true, get_or, length, ap, sym, ◌∙◌, arith}
+use Rattle.heap_model.specs.Geometry.{image_words}
 use Rattle.crash_core.specs.declared.state.CoreState.{CoreState}
 use Rattle.core_model.specs.Cells.{Cell, is_cell, index_of}
 use Rattle.core_model.specs.Memory.{volatile_at, durable_at, table_length}
@@ -13,11 +13,10 @@ pub record Lengths (c : CoreState) : Type 0 where
   pub words : length c.words.items ≡ table_length c.geometry.capacity
   pub superblocks : length c.superblocks.items ≡ c.geometry.capacity
   pub blocks : length c.blocks.items ≡ image_words c.geometry.capacity
-  pub small : c.geometry.capacity ≤ 4096
 
 pub lengths : (c : CoreState) → IsCore c → Lengths c
-lengths c core = let k = core.keeps in let cap = k.capacity in let l = k.sound.long in let s = k.superblocks in let b = k.blocks in let m = k.sound.good.small in let top = largest_capacity_fits in
-    record { words = omega arith; superblocks = omega arith; blocks = omega arith; small = omega arith }
+lengths c core = let k = core.keeps in let cap = k.capacity in let l = k.sound.long in let s = k.superblocks in let b = k.blocks in
+    record { words = omega arith; superblocks = omega arith; blocks = omega arith }
 
 pub reads_volatile : (c : CoreState) (cell : Cell) (n found : ℕ) → IsCore c → is_cell c.geometry.capacity cell ≡ true → n ≡ index_of cell → found ≡ get_or c.words.items n found → found ≡ (memory_at c).volatile cell
 reads_volatile c cell n found core is here found_is = sym (read_is c.geometry.capacity c.words.items (volatile_at cell) is

@@ -1,7 +1,7 @@
 //! The anchors that exchanges leave.
 
 ghost use Rattle.std.specs.Prelude.{◌≡◌, ◌+◌, ◌<◌, ◌≤◌, ◌≢◌};
-ghost use Rattle.heap_model.specs.Words.{anchor_state, anchor_first, anchor_count, full_anchor};
+ghost use Rattle.heap_model.specs.Words.{anchor_state, anchor_count, full_anchor};
 ghost use Rattle.core_model.specs.Effects.{given_anchor};
 
 use anchor_word::{FULL, State, give, pack, unpack};
@@ -38,25 +38,11 @@ pub(crate) const PARTIAL: u64 = State::Partial as u64;
 const NO_STATE: u64 = 3;
 
 /// The state of an anchor, as its number.
-pub fn anchor_state(anchor: u64) -> u64
+pub(crate) fn anchor_state(anchor: u64) -> u64
     ensures { result ≡ anchor_state anchor }
 {
     match unpack(anchor) {
         Some(anchor) => anchor.state as u64,
         None => NO_STATE,
     }
-}
-
-/// The index of the first free block.
-pub fn anchor_first(anchor: u64) -> u64
-    ensures { result ≡ anchor_first anchor }
-{
-    anchor / 4 % (1 << 31)
-}
-
-/// How many blocks are free.
-pub fn anchor_count(anchor: u64) -> u64
-    ensures { result ≡ anchor_count anchor }
-{
-    anchor >> 33
 }

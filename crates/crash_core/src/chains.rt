@@ -3,7 +3,7 @@
 ghost use Rattle.std.specs.Prelude.{◌≡◌, ◌≢◌, ◌<◌, ◌≤◌, ◌+◌, ◌*◌, ℕ, length, get_or, true};
 ghost use Rattle.heap_model.specs.Counting.{times};
 ghost use Rattle.heap_model.specs.Geometry.{start_word};
-ghost use Rattle.heap_model.specs.Sizes.{IsClass, words_of_class};
+ghost use Rattle.heap_model.specs.Sizes.{words_of_class};
 ghost use Rattle.heap_model.specs.Words.{anchor_first};
 ghost use Rattle.core_model.specs.declared.event.Event.TheVariants.{TakeAll, Give};
 ghost use Rattle.crash_core.specs.declared.owners.SeatNotes.{SeatNotes};
@@ -11,13 +11,12 @@ ghost use Rattle.core_model.specs.Effects.{chain};
 ghost use Rattle.core_model.specs.Guards.{IsThere, MayTakeAll, MayGive};
 ghost use Rattle.crash_core.specs.Standing.{IsCore, HasNewOwner, Takes, Decides};
 
-use crate::anchors::{
-    PARTIAL, anchor_after_give, anchor_after_take_all, anchor_count, anchor_first, anchor_state,
-};
+use crate::anchors::{PARTIAL, anchor_after_give, anchor_after_take_all, anchor_state};
 use crate::owners::{BlockOwner, BlockPlace, Cache, Group, SeatNotes, Share, SuperblockOwner};
 use crate::reads::{anchor, info, next};
 use crate::shares::share;
 use crate::state::CoreState;
+use anchor_word::{anchor_count, anchor_first};
 use core_model::StepAnswer;
 use size_table::{SizeClass, blocks_of};
 use super_block::{Geometry, block_words};
@@ -43,14 +42,12 @@ pub(crate) fn give_chain(
 }
 
 /// The block that an anchor of superblock `d` leads to first.
-pub fn first_free(geometry: Geometry, d: u64, class: u64, anchor: u64) -> u64
-    requires d { d < geometry.capacity }
-    requires capacity { geometry.capacity ≤ 4096 }
-    requires class { IsClass class }
+pub fn first_free(geometry: Geometry, d: u64, class: SizeClass, anchor: u64) -> u64
+    requires { d < geometry.capacity }
     ensures { result
-        ≡ start_word geometry.capacity d + anchor_first anchor * words_of_class class }
+        ≡ start_word geometry.capacity d + anchor_first anchor * words_of_class class.number }
 {
-    geometry.start(d) + anchor_first(anchor) * block_words(SizeClass::new(class as u8))
+    geometry.start(d) + anchor_first(anchor) * block_words(class)
 }
 
 /// Takes all free blocks of a superblock into the cache of its class, if its anchor is as it was
@@ -72,7 +69,7 @@ pub(crate) fn take_all(core: &mut CoreState, seat: usize, d: u64) -> StepAnswer
         return StepAnswer::NotNow;
     }
     let class = info(core, d);
-    let first = first_free(core.geometry, d, class, word);
+    let first = first_free(core.geometry, d, SizeClass::new(class as u8), word);
     let count = anchor_count(word);
     let owner = BlockOwner {
         seat,
@@ -201,6 +198,6 @@ fn may_give(core: &CoreState, seat: usize, d: u64) -> bool
     if anchor_count(seen.word) == 0 {
         return true;
     }
-    let free = first_free(core.geometry, d, batch.class, seen.word);
-    next(core, batch.last) == free
+    let class = SizeClass::new(batch.class as u8);
+    next(core, batch.last) == first_free(core.geometry, d, class, seen.word)
 }

@@ -3,7 +3,6 @@
 ghost use Rattle.std.specs.Prelude.{◌≡◌, ◌<◌, ◌↔◌, length, true};
 ghost use Rattle.heap_model.specs.Chains.{Walks};
 ghost use Rattle.heap_model.specs.Geometry.{start_word};
-ghost use Rattle.heap_model.specs.Sizes.{IsClass};
 ghost use Rattle.core_model.specs.Memory.{next};
 ghost use Rattle.core_model.specs.Effects.{class_blocks, after_cut};
 ghost use Rattle.core_model.specs.Guards.{MayCut};
@@ -43,21 +42,20 @@ pub(crate) fn may_cut(core: &CoreState, seat: usize, d: u64) -> bool
     if core.seats[seat].caches[class as usize].count != 0 {
         return false;
     }
-    is_linked(core, d, class)
+    is_linked(core, d, SizeClass::new(class as u8))
 }
 
 /// Whether each block of the superblock, when it is cut for the class, leads to the next one.
-fn is_linked(core: &CoreState, d: u64, class: u64) -> bool
+fn is_linked(core: &CoreState, d: u64, class: SizeClass) -> bool
     requires core { IsCore core.now }
     requires d { d < core.now.geometry.capacity }
-    requires class { IsClass class }
     ensures { (result ≡ true) ↔ Walks (next (memory_at core.now))
         (start_word core.now.geometry.capacity d)
-        (class_blocks core.now.geometry.capacity class d) }
+        (class_blocks core.now.geometry.capacity class.number d) }
 {
-    let words = block_words(SizeClass::new(class as u8));
+    let words = block_words(class);
     let mut block = core.geometry.start(d);
-    for _step in 1..blocks_of(class as u8) {
+    for _step in 1..blocks_of(class.number) {
         if next(core, block) != block + words {
             return false;
         }

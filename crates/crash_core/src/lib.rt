@@ -27,9 +27,7 @@ mod stores;
 mod ticks;
 mod words;
 
-pub use anchors::{
-    anchor_after_give, anchor_after_take_all, anchor_count, anchor_first, anchor_state,
-};
+pub use anchors::{anchor_after_give, anchor_after_take_all};
 pub use chains::{NO_BATCH, first_free};
 pub use core_model::{Event, Shift, StepAnswer};
 pub use crash::crash_image;

@@ -2,9 +2,9 @@
 use Rattle.std.proofs.Common.{◌≡◌, ℕ, ◌+◌, ◌-◌, ◌<◌, ◌≤◌, inl, inr, Option, Some, None, List, [], ◌∷◌, ◌++◌, length, ap, sym, subst, ◌∙◌, arith}
 use Rattle.std.proofs.lemmas.Bool.{cases_eq, cases_lt}
 use Rattle.heap_model.specs.Geometry.{largest_capacity_fits}
-use Rattle.heap_model.specs.Sizes.{IsClass}
 use Rattle.heap_model.specs.Counting.{times}
 use Rattle.heap_model.proofs.SizeLemmas.{few_blocks}
+use Rattle.size_table.specs.declared.size_class.SizeClass.{SizeClass}
 use Rattle.core_model.specs.declared.event.Event.TheVariants.{Tick}
 use Rattle.core_model.specs.declared.event.Shift.{Shift}
 use Rattle.core_model.specs.declared.event.Shift.TheVariants.{Cut, Alloc, Free, Lift, Large, Split}
@@ -25,7 +25,7 @@ use Rattle.heap_rule.specs.declared.owned.Change.{Change}
 use Rattle.heap_rule.specs.declared.owned.Change.TheVariants as change
 use Rattle.heap_rule.specs.declared.owned.Owned.{Owned}
 use Rattle.heap_rule.specs.Changed.{IsChanged, FitsChange}
-use Rattle.heap_rule.specs.Owned.{OwnedParts, HasOwned, parts_of}
+use Rattle.heap_rule.specs.Owned.{OwnedParts, HasOwned, most_blocks, parts_of}
 use Rattle.heap_rule.specs.Plays.{HasSoundState, IsEvent}
 use Rattle.heap_rule.specs.Shown.{CanFree, CanLift, CanCut, CanHoldLarge}
 use Rattle.heap_rule.proofs.OwnedShifts.{alloc_owned, free_owned, lift_owned, cut_owned, large_owned, split_owned}
@@ -46,7 +46,7 @@ pub free_change : (v : View) (block : ℕ) → CanFree v block → FitsChange ch
 free_change v block can o own = (tt, λ s found o' same. as_is o o' _ same (free_owned v s o own found block can))
 
 -- a batch to which a block comes has no more blocks than a superblock
-batch_room : (v : View) → HasSoundState v → (class : ℕ) → CanLift v class → length v.batch.blocks < 4096
+batch_room : (v : View) → HasSoundState v → (class : ℕ) → CanLift v class → length v.batch.blocks < most_blocks
 batch_room v s class can = let short = chain_short v.setup.capacity class d (first ∷ v.batch.blocks) can.is_class cut once in let few = few_blocks class can.is_class in omega arith where
   m : Memory
   m = memory_of v.setup.capacity s.words
@@ -102,22 +102,17 @@ lift_change v has class block can block_is o own = (
   λ s found o' is. as_is _ o' _ is.others (lift_owned v s o own found class o'.batch can (is.batch ∙ ap (λ b. o.batch.items ++ b ∷ []) block_is) is.room),
 )
 
-pub cut_change : (v : View) → HasSoundState v → (d class : ℕ) (can : CanCut v d) → class ≡ can.class → FitsChange (change.Cut d class) v (Some (Cut d))
+pub cut_change : (v : View) → HasSoundState v → (d : ℕ) (class : SizeClass) (can : CanCut v d) → class.number ≡ can.class → FitsChange (change.Cut d class) v (Some (Cut d))
 cut_change v has d class can class_is o own = (
   record {
-    is_class = is;
     below = less;
-    small = (let small = has.sound.good.small in let fits = largest_capacity_fits in omega arith);
     classes = (let l = own.classes_long in let t = less in omega arith);
     stakes = (let l = own.stakes_long in let t = less in omega arith);
-    blocks = λ b some. let r = cut_range v.setup.capacity class d b is less (block_of v.setup.capacity class d b some) in let l = own.words_long in omega arith;
+    blocks = λ b some. let r = cut_range v.setup.capacity class.number d b class.is less (block_of v.setup.capacity class.number d b some) in let l = own.words_long in omega arith;
     fits = (let l = own.words_long in let small = has.sound.good.small in let fits = largest_capacity_fits in omega arith);
   },
-  λ s found o' changed. as_is _ o' _ changed.others (cut_owned v s o own found d class o'.blocks o'.classes o'.stakes can class_is changed.blocks changed.classes changed.stakes),
+  λ s found o' changed. as_is _ o' _ changed.others (cut_owned v s o own found d class.number o'.blocks o'.classes o'.stakes can class_is changed.blocks changed.classes changed.stakes),
 ) where
-  is : IsClass class
-  is = subst IsClass (sym class_is) can.is_class
-
   less : d < v.setup.capacity
   less = taken_below v has d (let c = can.cutting in omega arith)
 

@@ -2,7 +2,6 @@
 use Rattle.std.specs.Prelude.{◌≡◌, ℕ, ◌+◌, ◌<◌, ◌≤◌, true, List, [], ◌∷◌, ◌++◌, set, length, Option, ⊤}
 use Rattle.std.specs.Vec.{vec_capacity}
 use Rattle.heap_model.specs.Counting.{times}
-use Rattle.heap_model.specs.Sizes.{IsClass}
 use Rattle.core_model.specs.declared.event.Shift.{Shift}
 use Rattle.core_model.specs.Memory.{memory_of}
 use Rattle.core_model.specs.View.{View}
@@ -17,9 +16,7 @@ use Rattle.heap_rule.specs.Plays.{HasSoundState}
 
 -- a superblock of the image that may be cut for the class
 pub record CanCutIn (o : Owned) (capacity d class : ℕ) : Type 0 where
-  pub is_class : IsClass class
   pub below : d < capacity
-  pub small : capacity ≤ 4096
   pub classes : d < length o.classes.items
   pub stakes : d < length o.stakes.items
   pub blocks : (b : ℕ) → 0 < times b (class_blocks capacity class d) → b < length o.blocks.items
@@ -28,7 +25,7 @@ pub record CanCutIn (o : Owned) (capacity d class : ℕ) : Type 0 where
 abbrev pub CanChange : Change → ℕ → Owned → Type 0
 CanChange change.Nothing capacity o = ⊤
 CanChange (change.Lifted block) capacity o = length o.batch.items < vec_capacity o.batch
-CanChange (change.Cut d class) capacity o = CanCutIn o capacity d class
+CanChange (change.Cut d class) capacity o = CanCutIn o capacity d class.number
 CanChange (change.Large d n) capacity o = (1 ≤ n) × (d + n ≤ length o.stakes.items)
 CanChange (change.Split d n) capacity o = d + n ≤ length o.stakes.items
 
@@ -56,11 +53,12 @@ pub record IsSplitIn (o o' : Owned) (d n : ℕ) : Type 0 where
 abbrev pub IsChanged : Change → ℕ → Owned → Owned → Type 0
 IsChanged change.Nothing capacity o o' = o' ≡ o
 IsChanged (change.Lifted block) capacity o o' = IsLifted o o' block
-IsChanged (change.Cut d class) capacity o o' = IsCutIn o o' capacity d class
+IsChanged (change.Cut d class) capacity o o' = IsCutIn o o' capacity d class.number
 IsChanged (change.Large d n) capacity o o' = IsLargeIn o o' d n
 IsChanged (change.Split d n) capacity o o' = IsSplitIn o o' d n
 
 -- the change may be done, and then what is kept is that of the view after a draw with the shift
 abbrev pub FitsChange : Change → View → Option Shift → Type 0
-FitsChange c v shift = (o : Owned) → HasOwned o (parts_of v) → CanChange c v.setup.capacity o × ((s : HasSoundState v) (found : ℕ) (o' : Owned)
+FitsChange c v shift = (o : Owned) → HasOwned o (parts_of v)
+    → CanChange c v.setup.capacity o × ((s : HasSoundState v) (found : ℕ) (o' : Owned)
     → IsChanged c v.setup.capacity o o' → HasOwned o' (parts_of (shifted (memory_of v.setup.capacity s.words) (drew v found) shift)))

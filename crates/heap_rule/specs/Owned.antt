@@ -1,8 +1,8 @@
 -- What a seat keeps to tell which words are its own: how it fits the view.
-use Rattle.std.specs.Prelude.{◌≡◌, ℕ, zero, suc, ◌+◌, ◌<◌, ◌≤◌, ◌↔◌, Bool, true, false, List, get_or, length}
+use Rattle.std.specs.Prelude.{◌≡◌, ℕ, zero, suc, ◌+◌, ◌/◌, ◌<◌, ◌≤◌, ◌↔◌, Bool, true, false, List, get_or, length}
 use Rattle.std.specs.Vec.{vec_capacity}
 use Rattle.heap_model.specs.Counting.{times, total}
-use Rattle.heap_model.specs.Geometry.{roots, image_words}
+use Rattle.heap_model.specs.Geometry.{roots, superblock_words, image_words}
 use Rattle.core_model.specs.Cells.{superblock_at}
 use Rattle.core_model.specs.View.{View, Claim, Span, of_class, times_classed, times_large}
 use Rattle.core_model.specs.Effects.{claim_class, span_count}
@@ -92,9 +92,9 @@ pub record AreClasses (classes : List ℕ) (p : OwnedParts) : Type 0 where
 abbrev pub AreMarked : List Bool → (ℕ → ℕ) → Type 0
 AreMarked marks counts = (n : ℕ) → (get_or marks n false ≡ true) ↔ (0 < counts n)
 
--- the most blocks of a superblock
+-- the most blocks of a superblock: each has two words at least
 abbrev pub most_blocks : ℕ
-most_blocks = 4096
+most_blocks = superblock_words / 2
 
 pub record HasOwned (o : Owned) (p : OwnedParts) : Type 0 where
   pub words_long : length o.blocks.items ≡ image_words p.capacity

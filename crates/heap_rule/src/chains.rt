@@ -2,7 +2,7 @@
 
 ghost use Rattle.std.specs.Prelude.{◌≡◌, ◌≢◌, ◌<◌, ◌≤◌, ◌+◌, ◌-◌, ◌/◌, ℕ, length, true};
 ghost use Rattle.heap_model.specs.Geometry.{start_word, image_words};
-ghost use Rattle.heap_model.specs.Sizes.{IsClass, words_of_class, blocks_of};
+ghost use Rattle.heap_model.specs.Sizes.{words_of_class, blocks_of};
 ghost use Rattle.heap_model.specs.Words.{anchor_state, anchor_count};
 ghost use Rattle.core_model.specs.declared.event.Event.TheVariants.{TakeAll, Give};
 ghost use Rattle.core_model.specs.Effects.{seen_word, claim_class, given_anchor, first_of};
@@ -19,10 +19,10 @@ use crate::rule::Bare;
 use crate::seat::Seat;
 use crate::shared::Shared;
 use crate::steps::{exchange, read};
+use anchor_word::{anchor_count, unpack};
 use core_model::Event;
 use crash_core::{
-    Cache, Group, NO_BATCH, SeatNotes, anchor_after_give, anchor_after_take_all, anchor_count,
-    anchor_state, first_free,
+    Cache, Group, NO_BATCH, SeatNotes, anchor_after_give, anchor_after_take_all, first_free,
 };
 use size_table::{SizeClass, blocks_of};
 use super_block::{Geometry, block_words};
@@ -43,11 +43,10 @@ impl Seat {
     }
 
     /// Takes them into the cache of the class that the claim has.
-    fn take_into(&mut self, shared: &Shared, d: u64, class: u64) -> Result<(), u64>
+    fn take_into(&mut self, shared: &Shared, d: u64, class: SizeClass) -> Result<(), u64>
         requires seat { IsSeatOf shared.now self.old }
         requires can { Can self.old.view (TakeAll d) }
-        requires class { class ≡ claim_class d self.old.view.classed }
-        requires is_class { IsClass class }
+        requires class { class.number ≡ claim_class d self.old.view.classed }
         ensures event { (found : ℕ) × IsEvent (TakeAll d) self.old.view found self.new.view
             × Tells (seen_word self.old.view.seen_anchor) found result }
         ensures seat { IsSeatOf shared.now self.new }
@@ -71,7 +70,7 @@ impl Seat {
         let first = first_free(self.geometry, d, class, anchor.word);
         let count = anchor_count(anchor.word);
         let mut caches = self.notes.caches;
-        caches[class as usize] = Cache { first, count };
+        caches[class.number as usize] = Cache { first, count };
         self.notes = SeatNotes {
             ticket: None,
             seen_anchor: None,
@@ -86,7 +85,7 @@ impl Seat {
             first,
             count,
         );
-        self.owned.classes[d as usize] = class;
+        self.owned.classes[d as usize] = class.number as u64;
         self.owned.stakes[d as usize] = Stake::Nothing;
         Ok(())
     }
@@ -102,10 +101,11 @@ impl Seat {
         let Some(anchor) = self.notes.seen_anchor else {
             unreachable!();
         };
-        let class = self.notes.batch.class;
+        let batch = self.notes.batch;
+        let class = SizeClass::new(batch.class as u8);
         let place = self.geometry.anchor(d);
         let event = Event::Give { d };
-        let new = anchor_with_batch(self.geometry, d, self.notes.batch, anchor.word);
+        let new = anchor_with_batch(self.geometry, d, class, batch, anchor.word);
         let found = exchange(shared, &mut self.bare, place, anchor.word, new, event);
         if found != anchor.word {
             self.notes = SeatNotes {
@@ -126,7 +126,7 @@ impl Seat {
         if anchor.word != anchor_after_take_all() {
             return Ok(());
         }
-        self.owned.stakes[d as usize] = Stake::listed(class);
+        self.owned.stakes[d as usize] = Stake::listed(class.number as u64);
         Ok(())
     }
 }
@@ -136,19 +136,20 @@ fn mark_cache(
     shared: &Shared,
     bare: &mut Bare,
     blocks: &mut Vec<bool>,
-    class: u64,
+    class: SizeClass,
     first: u64,
     count: u64,
 )
     requires at { IsAt shared.now bare.old.table_id bare.old.me (view_in bare.old.me.0) }
-    requires count { count ≡ length (of_class (view_in bare.old.me.0).caches class) }
-    requires first { 1 ≤ count → first ≡ first_of (of_class (view_in bare.old.me.0).caches class) }
+    requires count { count ≡ length (of_class (view_in bare.old.me.0).caches class.number) }
+    requires first { 1 ≤ count
+        → first ≡ first_of (of_class (view_in bare.old.me.0).caches class.number) }
     requires long { length blocks.old.items
         ≡ image_words (view_in bare.old.me.0).setup.capacity }
     ensures same { bare.new.me ≡ bare.old.me }
     ensures table { bare.new.table_id ≡ bare.old.table_id }
     ensures marked { IsMarking blocks.old.items blocks.new.items
-        (of_class (view_in bare.old.me.0).caches class) true }
+        (of_class (view_in bare.old.me.0).caches class.number) true }
 {
     let _class = class;
     let mut block = first;
@@ -160,26 +161,22 @@ fn mark_cache(
 
 /// The anchor of superblock `d` after the batch is given to it. A word that was seen may be stale:
 /// where it is no anchor with room for the batch, its exchange is lost, and any word will do.
-fn anchor_with_batch(geometry: Geometry, d: u64, batch: Group, anchor: u64) -> u64
+fn anchor_with_batch(geometry: Geometry, d: u64, class: SizeClass, batch: Group, anchor: u64) -> u64
     requires d { d < geometry.capacity }
-    requires capacity { geometry.capacity ≤ 4096 }
-    requires class { IsClass batch.class }
-    requires first { IsCutBlock geometry.capacity batch.class d batch.first }
-    ensures { anchor_state anchor ≢ 3 → batch.count + anchor_count anchor ≤ blocks_of batch.class
+    requires first { IsCutBlock geometry.capacity class.number d batch.first }
+    ensures { anchor_state anchor ≢ 3 → batch.count + anchor_count anchor ≤ blocks_of class.number
         → result ≡ given_anchor anchor
-        ((batch.first - start_word geometry.capacity d) / words_of_class batch.class)
-        batch.count (blocks_of batch.class) }
+        ((batch.first - start_word geometry.capacity d) / words_of_class class.number)
+        batch.count (blocks_of class.number) }
 {
-    let class = SizeClass::new(batch.class as u8);
     let all = blocks_of(class.number);
-    let free = anchor_count(anchor);
-    if anchor_state(anchor) == 3 {
+    let Some(old) = unpack(anchor) else {
+        return 0;
+    };
+    if old.count > all {
         return 0;
     }
-    if free > all {
-        return 0;
-    }
-    if batch.count > all - free {
+    if batch.count > all - old.count {
         return 0;
     }
     let index = (batch.first - geometry.start(d)) / block_words(class);

@@ -1,4 +1,5 @@
-//! The shared heap over a table of atomic words: each step of a seat is one event of the core.
+//! A lock-free heap that threads share, each through a handle of its own, a seat, whose calls are
+//! atomic steps; each of them is one event of the core.
 #![tactic(auto)]
 
 mod chains;

@@ -9,10 +9,10 @@ ghost use Rattle.heap_rule.specs.Changed.{CanChange, IsChanged};
 ghost use Rattle.heap_rule.specs.declared.owned.Change.TheVariants as change;
 
 use size_table::{SizeClass, blocks_of};
-use super_block::{Geometry, block_words};
+use super_block::{Geometry, SUPERBLOCK_WORDS, block_words};
 
-/// The most blocks of a superblock.
-pub(crate) const MOST_BLOCKS: usize = 4096;
+/// The most blocks of a superblock: each has two words at least.
+pub(crate) const MOST_BLOCKS: usize = SUPERBLOCK_WORDS as usize / 2;
 
 /// A seat's stake in a superblock.
 #[derive(Clone, Copy)]
@@ -113,7 +113,7 @@ pub enum Change {
     /// A block of the seat's came behind its batch.
     Lifted { block: u64 },
     /// All blocks of a claimed superblock, which was cut for a class, are the seat's.
-    Cut { d: u64, class: u64 },
+    Cut { d: u64, class: SizeClass },
     /// A large block takes `n` claimed superblocks.
     Large { d: u64, n: u64 },
     /// The `n` superblocks of a large block are claimed.
@@ -136,14 +136,14 @@ impl Owned {
     }
 
     /// All blocks of a claimed superblock are the seat's.
-    fn cut(&mut self, geometry: Geometry, d: u64, class: u64)
+    fn cut(&mut self, geometry: Geometry, d: u64, class: SizeClass)
         requires { CanChange (change.Cut d class) geometry.capacity self.old }
         ensures { IsChanged (change.Cut d class) geometry.capacity self.old self.new }
     {
-        let words = block_words(SizeClass::new(class as u8));
-        let count = blocks_of(class as u8);
+        let words = block_words(class);
+        let count = blocks_of(class.number);
         mark_steps(&mut self.blocks, geometry.start(d), words, count);
-        self.classes[d as usize] = class;
+        self.classes[d as usize] = class.number as u64;
         self.stakes[d as usize] = Stake::Nothing;
     }
 

@@ -1,7 +1,6 @@
 //! Reads of what a seat's view does not say, which change nothing.
 
 ghost use Rattle.std.specs.Prelude.{◌≡◌, ◌<◌, ◌≤◌, length};
-ghost use Rattle.heap_model.specs.Sizes.{IsClass};
 ghost use Rattle.core_model.specs.View.{of_class, times_classed};
 ghost use Rattle.core_model.specs.Effects.{claim_class, span_count, first_of, rest_of};
 ghost use Rattle.core_model.specs.Guards.{MayAlloc};
@@ -11,16 +10,17 @@ ghost use Rattle.heap_rule.specs.Shown.{CanFree, CanCut};
 use crate::seat::Seat;
 use crate::shared::Shared;
 use crate::steps::read;
+use size_table::SizeClass;
 use super_block::SUPERBLOCK_WORDS;
 
 impl Seat {
     /// The class of a superblock that is claimed with a class.
-    pub(crate) fn claimed_class(&self, d: u64) -> u64
+    pub(crate) fn claimed_class(&self, d: u64) -> SizeClass
         requires claimed { 0 < times_classed d self.now.view.classed }
-        ensures class { result ≡ claim_class d self.now.view.classed }
-        ensures is_class { IsClass result }
+        ensures class { result.number ≡ claim_class d self.now.view.classed }
     {
-        self.owned.stakes[d as usize].class()
+        let class = self.owned.stakes[d as usize].class();
+        SizeClass::new(class as u8)
     }
 
     /// The block after the first one of a cache, where there is one.
@@ -36,13 +36,13 @@ impl Seat {
     }
 
     /// The class of a held block that may be freed.
-    pub(crate) fn held_class(&self, block: u64) -> u64
+    pub(crate) fn held_class(&self, block: u64) -> SizeClass
         requires can { CanFree self.now.view block }
-        ensures class { (can : CanFree self.now.view block) → result ≡ can.class }
-        ensures is_class { IsClass result }
+        ensures class { (can : CanFree self.now.view block) → result.number ≡ can.class }
     {
         let d = (block - self.geometry.start(0)) / SUPERBLOCK_WORDS;
-        self.owned.classes[d as usize]
+        let class = self.owned.classes[d as usize];
+        SizeClass::new(class as u8)
     }
 
     /// How many superblocks a held large block takes.
@@ -54,13 +54,13 @@ impl Seat {
     }
 
     /// The class of a superblock that was made ready.
-    pub(crate) fn cutting_class(&mut self, shared: &Shared, d: u64) -> u64
+    pub(crate) fn cutting_class(&mut self, shared: &Shared, d: u64) -> SizeClass
         requires seat { IsSeatOf shared.now self.old }
         requires can { CanCut self.old.view d }
         ensures same { self.new ≡ self.old }
-        ensures class { (can : CanCut self.old.view d) → result ≡ can.class }
-        ensures is_class { IsClass result }
+        ensures class { (can : CanCut self.old.view d) → result.number ≡ can.class }
     {
-        read(shared, &mut self.bare, self.geometry.info(d))
+        let class = read(shared, &mut self.bare, self.geometry.info(d));
+        SizeClass::new(class as u8)
     }
 }

@@ -86,8 +86,8 @@ impl Seat {
     {
         let class = self.held_class(block);
         let mut caches = self.notes.caches;
-        let count = caches[class as usize].count + 1;
-        caches[class as usize] = Cache {
+        let count = caches[class.number as usize].count + 1;
+        caches[class.number as usize] = Cache {
             first: block,
             count,
         };
@@ -123,9 +123,9 @@ impl Seat {
     {
         let class = self.cutting_class(shared, d);
         let first = self.geometry.start(d);
-        let count = blocks_of(class as u8);
+        let count = blocks_of(class.number);
         let mut caches = self.notes.caches;
-        caches[class as usize] = Cache { first, count };
+        caches[class.number as usize] = Cache { first, count };
         let after = SeatNotes {
             seen_anchor: Seen::cleared(self.notes.seen_anchor, d, 1),
             caches,

@@ -1,7 +1,6 @@
 //! What a seat tells of itself: no events, which draw and change nothing.
 
 ghost use Rattle.std.specs.Prelude.{◌≡◌, length, None};
-ghost use Rattle.heap_model.specs.Sizes.{IsClass};
 ghost use Rattle.core_model.specs.Effects.{first_of};
 ghost use Rattle.core_model.specs.View.{of_class};
 ghost use Rattle.heap_rule.specs.Plays.{HasSoundState};
@@ -9,6 +8,7 @@ ghost use Rattle.heap_rule.specs.Seated.{IsSeatOf};
 
 use crate::seat::Seat;
 use crate::shared::Shared;
+use size_table::SizeClass;
 
 impl Seat {
     /// There is a sound state in which the seat has its view.
@@ -28,14 +28,13 @@ impl Seat {
 
     /// The first word of the first block of a class's cache, and how many blocks there are; both 0
     /// where there is none.
-    pub fn cache(&self, shared: &Shared, class: u8) -> (u64, u64)
+    pub fn cache(&self, shared: &Shared, class: SizeClass) -> (u64, u64)
         requires seat { IsSeatOf shared.now self.now }
         requires going { self.now.view.stopped ≡ None }
-        requires class { IsClass class }
-        ensures first { result.0 ≡ first_of (of_class self.now.view.caches class) }
-        ensures count { result.1 ≡ length (of_class self.now.view.caches class) }
+        ensures first { result.0 ≡ first_of (of_class self.now.view.caches class.number) }
+        ensures count { result.1 ≡ length (of_class self.now.view.caches class.number) }
     {
-        let cache = self.notes.caches[class as usize];
+        let cache = self.notes.caches[class.number as usize];
         if cache.count == 0 {
             return (0, 0);
         }

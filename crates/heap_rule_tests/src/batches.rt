@@ -16,14 +16,16 @@ use core_model::Shift;
 use crash_core::{anchor_after_take_all, first_free};
 use heap_rule::{Seat, Shared};
 use line_memory::Stopped;
+use size_table::SizeClass;
 use super_block::Geometry;
 
 /// Puts the first block of the cache of a class behind the batch, and answers its first word.
-pub fn lift_cached(seat: &mut Seat, shared: &Shared, class: u8) -> Result<u64, Stopped>
+pub fn lift_cached(seat: &mut Seat, shared: &Shared, class: SizeClass) -> Result<u64, Stopped>
     requires seat { IsSeatOf shared.now seat.old }
     requires going { seat.old.view.stopped ≡ None }
-    requires can { CanLift seat.old.view class }
-    ensures lifted { IfOk result (λ block. HasLifted block class seat.old.view seat.new.view) }
+    requires can { CanLift seat.old.view class.number }
+    ensures lifted { IfOk result (λ block. HasLifted block class.number
+        seat.old.view seat.new.view) }
     ensures stopped { IfErr result (λ e. HasStoppedAt e.step seat.old.view seat.new.view) }
     ensures seat { IsSeatOf shared.now seat.new }
 {
@@ -31,7 +33,7 @@ pub fn lift_cached(seat: &mut Seat, shared: &Shared, class: u8) -> Result<u64, S
     seat.tick(
         shared,
         Some(Shift::Lift {
-            class: class as u64,
+            class: class.number as u64,
         }),
     )?;
     Ok(first)
@@ -74,14 +76,14 @@ pub fn give_looked(
     seat: &mut Seat,
     shared: &Shared,
     d: u64,
-    class: u8,
+    class: SizeClass,
     last: u64,
     anchor: u64,
 ) -> Result<bool, NotDone>
     requires seat { IsSeatOf shared.now seat.old }
-    requires batch { IsBatchOf d class last seat.old.view }
+    requires batch { IsBatchOf d class.number last seat.old.view }
     requires sees { SeesAnchor d anchor seat.old.view }
-    ensures given { IfOk result (λ full. HasGiven d class last full
+    ensures given { IfOk result (λ full. HasGiven d class.number last full
         seat.old.view seat.new.view) }
     ensures refused { IfErr result (λ refusal. GivesNone last refusal
         seat.old.view seat.new.view) }
@@ -93,7 +95,7 @@ pub fn give_looked(
         return Ok(true);
     }
     let geometry = Geometry::new(seat.capacity(shared));
-    let first = first_free(geometry, d, class as u64, anchor);
+    let first = first_free(geometry, d, class, anchor);
     link_last(seat, shared, last, first)?;
     give_seen(seat, shared, d)?;
     Ok(false)
@@ -106,12 +108,12 @@ pub fn give_batch(
     seat: &mut Seat,
     shared: &Shared,
     d: u64,
-    class: u8,
+    class: SizeClass,
     last: u64,
 ) -> Result<bool, NotDone>
     requires seat { IsSeatOf shared.now seat.old }
-    requires batch { IsBatchOf d class last seat.old.view }
-    ensures given { IfOk result (λ full. HasGiven d class last full
+    requires batch { IsBatchOf d class.number last seat.old.view }
+    ensures given { IfOk result (λ full. HasGiven d class.number last full
         seat.old.view seat.new.view) }
     ensures refused { IfErr result (λ refusal. GivesNone last refusal
         seat.old.view seat.new.view) }

@@ -1,7 +1,6 @@
 //! A seat's cache is filled, and gives blocks.
 
 ghost use Rattle.std.specs.Prelude.{◌≡◌, ◌≤◌, [], None, IfOk, IfErr, length};
-ghost use Rattle.heap_model.specs.Sizes.{IsClass};
 ghost use Rattle.core_model.specs.View.{of_class};
 ghost use Rattle.heap_rule.specs.Seated.{IsSeatOf};
 ghost use Rattle.heap_rule_tests.specs.Caches.{HasAllocated, HasFilled, FillsNone};
@@ -13,13 +12,13 @@ use crate::takes::take_one;
 use core_model::Shift;
 use heap_rule::{Seat, Shared};
 use line_memory::Stopped;
+use size_table::SizeClass;
 
 /// Fills an empty cache with the blocks of a superblock that was never taken, which it answers.
-pub fn fill_cache(seat: &mut Seat, shared: &Shared, class: u8) -> Result<u64, NotDone>
+pub fn fill_cache(seat: &mut Seat, shared: &Shared, class: SizeClass) -> Result<u64, NotDone>
     requires seat { IsSeatOf shared.now seat.old }
-    requires class { IsClass class }
-    requires empty { of_class seat.old.view.caches class ≡ [] }
-    ensures filled { IfOk result (λ d. HasFilled d class seat.old.view seat.new.view) }
+    requires empty { of_class seat.old.view.caches class.number ≡ [] }
+    ensures filled { IfOk result (λ d. HasFilled d class.number seat.old.view seat.new.view) }
     ensures refused { IfErr result (λ refusal. FillsNone refusal seat.old.view seat.new.view) }
     ensures seat { IsSeatOf shared.now seat.new }
 {
@@ -29,12 +28,11 @@ pub fn fill_cache(seat: &mut Seat, shared: &Shared, class: u8) -> Result<u64, No
 }
 
 /// Holds the first block of the cache of a class, and answers its first word.
-pub fn alloc_cached(seat: &mut Seat, shared: &Shared, class: u8) -> Result<u64, Stopped>
+pub fn alloc_cached(seat: &mut Seat, shared: &Shared, class: SizeClass) -> Result<u64, Stopped>
     requires seat { IsSeatOf shared.now seat.old }
     requires going { seat.old.view.stopped ≡ None }
-    requires class { IsClass class }
-    requires cached { 1 ≤ length (of_class seat.old.view.caches class) }
-    ensures allocated { IfOk result (λ block. HasAllocated block class
+    requires cached { 1 ≤ length (of_class seat.old.view.caches class.number) }
+    ensures allocated { IfOk result (λ block. HasAllocated block class.number
         seat.old.view seat.new.view) }
     ensures stopped { IfErr result (λ e. HasStoppedAt e.step seat.old.view seat.new.view) }
     ensures seat { IsSeatOf shared.now seat.new }
@@ -44,7 +42,7 @@ pub fn alloc_cached(seat: &mut Seat, shared: &Shared, class: u8) -> Result<u64, 
     seat.tick(
         shared,
         Some(Shift::Alloc {
-            class: class as u64,
+            class: class.number as u64,
         }),
     )?;
     Ok(first)

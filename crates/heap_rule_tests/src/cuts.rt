@@ -3,7 +3,6 @@
 ghost use Rattle.std.specs.Prelude.{◌≡◌, ◌<◌, ◌≤◌, [], Some, OnOk, IfErr};
 ghost use Rattle.heap_model.specs.Counting.{times};
 ghost use Rattle.heap_model.specs.Geometry.{image_words, start_word};
-ghost use Rattle.heap_model.specs.Sizes.{IsClass};
 ghost use Rattle.core_model.specs.Cells.{info_cell, superblock_at};
 ghost use Rattle.core_model.specs.View.{of_class, times_raw};
 ghost use Rattle.heap_rule.specs.Seated.{IsSeatOf};
@@ -16,8 +15,8 @@ use core_model::Shift;
 use crash_core::anchor_after_take_all;
 use heap_rule::{Seat, Shared};
 use line_memory::Stopped;
-use size_table::{blocks_of, size_of};
-use super_block::Geometry;
+use size_table::{SizeClass, blocks_of};
+use super_block::{Geometry, block_words};
 
 /// The first word of a block leads to another.
 fn link_block(seat: &mut Seat, shared: &Shared, word: u64, value: u64) -> Result<(), Stopped>
@@ -36,20 +35,19 @@ fn link_block(seat: &mut Seat, shared: &Shared, word: u64, value: u64) -> Result
 }
 
 /// The first word of each block of a superblock leads to the next block.
-fn link_blocks(seat: &mut Seat, shared: &Shared, d: u64, class: u8) -> Result<(), Stopped>
+fn link_blocks(seat: &mut Seat, shared: &Shared, d: u64, class: SizeClass) -> Result<(), Stopped>
     requires seat { IsSeatOf shared.now seat.old }
-    requires class { IsClass class }
     requires raw { 0 < times_raw d seat.old.view }
-    requires info { Shows seat.old.view (info_cell d) class }
-    ensures linked { OnOk result (HasLinks d class seat.old.view seat.new.view) }
+    requires info { Shows seat.old.view (info_cell d) class.number }
+    ensures linked { OnOk result (HasLinks d class.number seat.old.view seat.new.view) }
     ensures stopped { IfErr result (λ e. HasStoppedAt e.step
         (record seat.old.view { volatile = seat.new.view.volatile }) seat.new.view) }
     ensures seat { IsSeatOf shared.now seat.new }
 {
     seat.has_a_sound_state();
-    let words = size_of(class) / 8;
+    let words = block_words(class);
     let mut block = Geometry::new(seat.capacity(shared)).start(d);
-    for _i in 1..blocks_of(class) {
+    for _i in 1..blocks_of(class.number) {
         link_block(seat, shared, block, block + words)?;
         block += words;
     }
@@ -90,19 +88,23 @@ pub(crate) fn set_info(seat: &mut Seat, shared: &Shared, d: u64, info: u64) -> R
 
 /// Makes the blocks of a claimed superblock for a class, whose cache is empty: they are all in the
 /// cache then.
-pub fn make_blocks(seat: &mut Seat, shared: &Shared, d: u64, class: u8) -> Result<(), Stopped>
+pub fn make_blocks(
+    seat: &mut Seat,
+    shared: &Shared,
+    d: u64,
+    class: SizeClass,
+) -> Result<(), Stopped>
     requires seat { IsSeatOf shared.now seat.old }
-    requires class { IsClass class }
     requires raw { 0 < times d seat.old.view.raw }
     requires durable { d < seat.old.view.floor }
-    requires uncached { of_class seat.old.view.caches class ≡ [] }
-    ensures made { OnOk result (HasMade d class seat.old.view seat.new.view) }
+    requires uncached { of_class seat.old.view.caches class.number ≡ [] }
+    ensures made { OnOk result (HasMade d class.number seat.old.view seat.new.view) }
     ensures held { KeepsHeldBlocks seat.old.view seat.new.view }
     ensures stopped { IfErr result (λ e. seat.new.view.stopped ≡ Some e.step) }
     ensures seat { IsSeatOf shared.now seat.new }
 {
     begin(seat, shared, d)?;
-    set_info(seat, shared, d, class as u64)?;
+    set_info(seat, shared, d, class.number as u64)?;
     link_blocks(seat, shared, d, class)?;
     seat.tick(shared, Some(Shift::Cut { d }))
 }

@@ -1,6 +1,7 @@
 //! Claimed superblocks become a large block, and are claimed again.
 
 ghost use Rattle.std.specs.Prelude.{◌≡◌, ◌≤◌, ◌+◌, None, IfOk, OnOk, IfErr};
+ghost use Rattle.heap_model.specs.Geometry.{largest_capacity};
 ghost use Rattle.heap_rule.specs.Parts.{KeepsParts};
 ghost use Rattle.core_model.specs.Guards.{MaySplit};
 ghost use Rattle.heap_rule.specs.Seated.{IsSeatOf};
@@ -15,7 +16,7 @@ use super_block::{Geometry, Info};
 
 /// The info of superblock `e` of a large block that takes `n` superblocks from `d` on.
 fn info_of(d: u64, n: u64, e: u64) -> u64
-    requires { n ≤ 4096 }
+    requires { n ≤ largest_capacity }
     ensures { result ≡ info_in d n e }
 {
     if e == d {

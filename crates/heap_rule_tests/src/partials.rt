@@ -12,12 +12,10 @@ ghost use Rattle.heap_rule_tests.specs.Pushes.{IsClaimOf};
 
 use crate::draws::draw;
 use crate::refusal::NotDone;
-use crash_core::{anchor_count, anchor_state};
+use anchor_word::{anchor_count, is_partial};
 use heap_rule::{Seat, Shared};
 use line_memory::Stopped;
-
-/// The state of an anchor some of whose superblock's blocks are free.
-const PARTIAL: u64 = 1;
+use size_table::SizeClass;
 
 /// Reads the anchor of a claimed superblock, or of the batch's, which it answers.
 pub fn look_anchor(seat: &mut Seat, shared: &Shared, d: u64) -> Result<u64, Stopped>
@@ -56,22 +54,22 @@ pub fn take_looked(
     seat: &mut Seat,
     shared: &Shared,
     d: u64,
-    class: u8,
+    class: SizeClass,
     anchor: u64,
 ) -> Result<u64, NotDone>
     requires seat { IsSeatOf shared.now seat.old }
-    requires claim { IsClaimOf class d seat.old.view }
-    requires uncached { of_class seat.old.view.caches class ≡ [] }
+    requires claim { IsClaimOf class.number d seat.old.view }
+    requires uncached { of_class seat.old.view.caches class.number ≡ [] }
     requires sees { SeesAnchor d anchor seat.old.view }
     requires of_class { anchor_state anchor < 2 }
-    ensures taken { IfOk result (λ count. HasTakenBlocks d class count
+    ensures taken { IfOk result (λ count. HasTakenBlocks d class.number count
         seat.old.view seat.new.view) }
     ensures refused { IfErr result (λ refusal. TakesNoBlocks d refusal
         seat.old.view seat.new.view) }
     ensures seat { IsSeatOf shared.now seat.new }
 {
     let _class = class;
-    if anchor_state(anchor) != PARTIAL {
+    if !is_partial(anchor) {
         return Err(NotDone::Nothing);
     }
     take_seen(seat, shared, d)?;
@@ -81,11 +79,16 @@ pub fn take_looked(
 /// Takes all free blocks of a superblock that is claimed with a class, whose cache is empty: they
 /// are in the cache then, and it answers how many there are. One try: where another seat was
 /// faster, that is told. Nothing is taken of a superblock all of whose blocks are free.
-pub fn take_free_blocks(seat: &mut Seat, shared: &Shared, d: u64, class: u8) -> Result<u64, NotDone>
+pub fn take_free_blocks(
+    seat: &mut Seat,
+    shared: &Shared,
+    d: u64,
+    class: SizeClass,
+) -> Result<u64, NotDone>
     requires seat { IsSeatOf shared.now seat.old }
-    requires claim { IsClaimOf class d seat.old.view }
-    requires uncached { of_class seat.old.view.caches class ≡ [] }
-    ensures taken { IfOk result (λ count. HasTakenBlocks d class count
+    requires claim { IsClaimOf class.number d seat.old.view }
+    requires uncached { of_class seat.old.view.caches class.number ≡ [] }
+    ensures taken { IfOk result (λ count. HasTakenBlocks d class.number count
         seat.old.view seat.new.view) }
     ensures refused { IfErr result (λ refusal. TakesNoBlocks d refusal
         seat.old.view seat.new.view) }

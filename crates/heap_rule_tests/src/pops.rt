@@ -4,7 +4,6 @@ ghost use Rattle.std.specs.Prelude.{◌≡◌, ◌≢◌, ◌<◌, ℕ, IfOk, On
 ghost use Rattle.core_model.specs.Effects.{seen_word};
 ghost use Rattle.core_model.specs.Guards.{MayLink};
 ghost use Rattle.heap_model.specs.Geometry.{lists};
-ghost use Rattle.heap_model.specs.Sizes.{IsClass};
 ghost use Rattle.heap_rule.specs.Seated.{IsSeatOf};
 ghost use Rattle.heap_rule_tests.specs.declared.refusal.NotDone.TheVariants.{Lost};
 ghost use Rattle.heap_rule_tests.specs.Draws.{HasStoppedAt};
@@ -15,6 +14,7 @@ use crate::refusal::NotDone;
 use crash_core::head_first;
 use heap_rule::{Seat, Shared};
 use line_memory::Stopped;
+use size_table::SizeClass;
 
 /// The list of the free superblocks; the list of a class has the number of the class.
 pub const FREE_LIST: u64 = 0;
@@ -108,13 +108,12 @@ pub fn pop_free(seat: &mut Seat, shared: &Shared) -> Result<u64, NotDone>
 
 /// Pops the first superblock of the list of a class, some of whose blocks are free: it is claimed
 /// with the class then. One try, as above.
-pub fn pop_class(seat: &mut Seat, shared: &Shared, class: u8) -> Result<u64, NotDone>
-    requires seat { IsSeatOf shared.now seat.old }
-    requires class { IsClass class }
-    ensures popped { IfOk result (λ d. HasPoppedFrom class d seat.old.view seat.new.view) }
-    ensures refused { IfErr result (λ refusal. IsNotPoppedFrom class refusal
+pub fn pop_class(seat: &mut Seat, shared: &Shared, class: SizeClass) -> Result<u64, NotDone>
+    requires { IsSeatOf shared.now seat.old }
+    ensures popped { IfOk result (λ d. HasPoppedFrom class.number d seat.old.view seat.new.view) }
+    ensures refused { IfErr result (λ refusal. IsNotPoppedFrom class.number refusal
         seat.old.view seat.new.view) }
     ensures seat { IsSeatOf shared.now seat.new }
 {
-    pop_from(seat, shared, class as u64)
+    pop_from(seat, shared, class.number as u64)
 }

@@ -17,6 +17,7 @@ use crate::refusal::NotDone;
 use crash_core::head_first;
 use heap_rule::{Seat, Shared};
 use line_memory::Stopped;
+use size_table::SizeClass;
 use super_block::Geometry;
 
 /// The link of a claimed superblock leads to another superblock, by its number plus 1.
@@ -75,9 +76,9 @@ pub fn push_free(seat: &mut Seat, shared: &Shared, d: u64) -> Result<(), NotDone
 }
 
 /// Pushes a superblock that is claimed with a class on the list of the class. One try, as above.
-pub fn push_class(seat: &mut Seat, shared: &Shared, d: u64, class: u8) -> Result<(), NotDone>
+pub fn push_class(seat: &mut Seat, shared: &Shared, d: u64, class: SizeClass) -> Result<(), NotDone>
     requires seat { IsSeatOf shared.now seat.old }
-    requires claim { IsClaimOf class d seat.old.view }
+    requires claim { IsClaimOf class.number d seat.old.view }
     requires durable { d < seat.old.view.floor }
     ensures pushed { OnOk result (HasPushedOfClass d seat.old.view seat.new.view) }
     ensures refused { IfErr result (λ refusal. PushesNone d refusal
@@ -85,7 +86,7 @@ pub fn push_class(seat: &mut Seat, shared: &Shared, d: u64, class: u8) -> Result
     ensures seat { IsSeatOf shared.now seat.new }
 {
     seat.has_a_sound_state();
-    let head = look_list(seat, shared, class as u64)?;
+    let head = look_list(seat, shared, class.number as u64)?;
     set_link(seat, shared, d, head_first(head))?;
     push_seen(seat, shared, d)
 }

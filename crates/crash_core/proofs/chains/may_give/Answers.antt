@@ -1,7 +1,9 @@
-use Rattle.std.proofs.Common.{refl, sym, ◌∙◌, arith}
+use Rattle.std.proofs.Common.{◌+◌, ◌*◌, refl, ap, sym, ◌∙◌, arith}
+use Rattle.heap_model.specs.Geometry.{start_word}
+use Rattle.heap_model.specs.Sizes.{words_of_class}
+use Rattle.heap_model.specs.Words.{anchor_first}
 use Rattle.crash_core.proofs.KeptFacts.{unseen_anchor}
 use Rattle.crash_core.proofs.PushDecision.{refused}
-use Rattle.crash_core.proofs.ReadLemmas.{lengths}
 use Rattle.crash_core.proofs.GiveSteps.{give_none, give_apart, give_other, give_full_one, give_linked, batch_fits}
 use Rattle.crash_core.proofs.chains.may_give.Goals as goal
 
@@ -24,14 +26,14 @@ returns-then-anchor_count-eq0 c = λ k views v keeps below at. (
   λ may. refl,
 )
 
-pub first_free-free-requires-clause-d : goal.first_free-free-requires-clause-d
-first_free-free-requires-clause-d c = let b = (batch_fits c.args.core.now c.args.seat c.index-notes.result.now c.requires.core c.requires.seat (sym c.index-notes.ensures) c.if-batch-eq0.false).below in let e = c.if-batch-d.false in omega arith
+pub first_free-requires : goal.first_free-requires
+first_free-requires c = let b = (batch_fits c.args.core.now c.args.seat c.index-notes.result.now c.requires.core c.requires.seat (sym c.index-notes.ensures) c.if-batch-eq0.false).below in let e = c.if-batch-d.false in omega arith
 
-pub first_free-free-requires-clause-capacity : goal.first_free-free-requires-clause-capacity
-first_free-free-requires-clause-capacity c = (lengths c.args.core.now c.requires.core).small
+pub overflow_cast-batch : goal.overflow_cast-batch
+overflow_cast-batch c = let l = (batch_fits c.args.core.now c.args.seat c.index-notes.result.now c.requires.core c.requires.seat (sym c.index-notes.ensures) c.if-batch-eq0.false).is_class.last in omega arith
 
-pub first_free-free-requires-clause-class : goal.first_free-free-requires-clause-class
-first_free-free-requires-clause-class c = (batch_fits c.args.core.now c.args.seat c.index-notes.result.now c.requires.core c.requires.seat (sym c.index-notes.ensures) c.if-batch-eq0.false).is_class
+pub new-class-requires : goal.new-class-requires
+new-class-requires c = (batch_fits c.args.core.now c.args.seat c.index-notes.result.now c.requires.core c.requires.seat (sym c.index-notes.ensures) c.if-batch-eq0.false).is_class
 
 pub next-requires-clause-from : goal.next-requires-clause-from
 next-requires-clause-from c = (batch_fits c.args.core.now c.args.seat c.index-notes.result.now c.requires.core c.requires.seat (sym c.index-notes.ensures) c.if-batch-eq0.false).last.0
@@ -42,4 +44,5 @@ next-requires-clause-until c = (batch_fits c.args.core.now c.args.seat c.index-n
 pub returns : goal.returns
 returns c = λ k views v keeps below at. give_linked c.args.core.now k views c.args.seat v c.index-notes.result.now keeps below at (sym c.index-notes.ensures) c.args.d c.in-Some.seen c.in-Some.is
     c.if-batch-eq0.false (let e = c.if-batch-d.false in omega arith) (let e = c.if-seen-d.false in omega arith) (λ none. c.if-anchor_count-eq0.false (c.anchor_count.ensures ∙ none))
-    c.next.result c.first_free-free.result c.next.ensures c.first_free-free.ensures
+    c.next.result c.first_free.result c.next.ensures
+    (c.first_free.ensures ∙ ap (λ n. start_word c.args.core.now.geometry.capacity c.args.d + anchor_first c.in-Some.seen.word * words_of_class n) c.new-class.ensures)

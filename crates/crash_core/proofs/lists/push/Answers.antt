@@ -1,4 +1,5 @@
 use Rattle.std.proofs.Common.{◌+◌, refl, sym, true≢false, arith}
+use Rattle.heap_model.specs.Geometry.{largest_capacity_fits}
 use Rattle.core_model.specs.declared.event.Event.TheVariants.{Push}
 use Rattle.crash_core.proofs.StandingLemmas.{step_not}
 use Rattle.crash_core.proofs.ReadLemmas.{lengths}
@@ -28,7 +29,7 @@ pub index_mut-requires : goal.index_mut-requires
 index_mut-requires c = let f = head_fits c.args.core.now c.args.seat c.index-notes.result.now c.in-Some.head c.requires.core c.requires.seat (sym c.index-notes.ensures) c.in-Some.is in let l = f.list in let g = f.long in omega arith
 
 pub head_after_push-requires : goal.head_after_push-requires
-head_after_push-requires c = let l = lengths c.args.core.now c.requires.core in let s = l.small in let b = c.if-not-may_push.ensures.below refl in omega arith
+head_after_push-requires c = let small = c.args.core.now.geometry.small in let fits = largest_capacity_fits in let b = c.if-not-may_push.ensures.below refl in omega arith
 
 pub index_mut-requires-2 : goal.index_mut-requires-2
 index_mut-requires-2 c = let l = lengths c.args.core.now c.requires.core in let s = l.superblocks in let b = c.if-not-may_push.ensures.below refl in omega arith

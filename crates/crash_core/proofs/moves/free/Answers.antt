@@ -1,5 +1,5 @@
 use Rattle.std.proofs.Common.{◌≡◌, ◌<◌, sym, subst, ◌∙◌, arith}
-use Rattle.crash_core.proofs.ReadLemmas.{lengths}
+use Rattle.heap_model.specs.Geometry.{largest_capacity_fits}
 use Rattle.crash_core.proofs.WordLemmas.{entry_is, entry_there}
 use Rattle.crash_core.proofs.MoveSteps.{retold}
 use Rattle.crash_core.proofs.FreeSteps.{free, count_short}
@@ -8,7 +8,7 @@ use Rattle.crash_core.proofs.moves.free.Goals as goal
 pub overflow_add-caches : goal.overflow_add-caches
 overflow_add-caches c = let r = c.requires.core in let b = subst (λ n. c.args.seat < n) (sym r.keeps.seats) c.requires.seat in let here = entry_there r.views c.args.seat b in
     let f = count_short c.args.core.now r.setup r.views c.args.seat here.0 c.index.result.now r.keeps b here.1 (sym c.index.ensures) c.args.block c.requires.held c.held_class-class.result c.held_class-class.ensures.class in
-    let l = (lengths c.args.core.now c.requires.core).small in omega arith
+    let small = c.args.core.now.geometry.small in let fits = largest_capacity_fits in omega arith
 
 pub returns : goal.returns
 returns c = λ k views v t keeps below at at_t.

@@ -1,4 +1,5 @@
 use Rattle.std.proofs.Common.{◌≡◌, ◌<◌, ◌-◌, ◌/◌, get_or, refl, ap, sym, subst, ◌∙◌, arith}
+use Rattle.heap_model.specs.Geometry.{largest_capacity_fits}
 use Rattle.crash_core.proofs.ReadLemmas.{lengths}
 use Rattle.crash_core.proofs.WordLemmas.{entry_is, entry_there}
 use Rattle.crash_core.proofs.MoveSteps.{alloc_fits, retold}
@@ -33,7 +34,7 @@ pub bounds-caches-class : goal.bounds-caches-class
 bounds-caches-class c = (alloc_fits c.args.core.now c.args.seat c.args.class c.index.result.now c.requires.core c.requires.seat (sym c.index.ensures) (lift_allocs c.args.core.now c.args.seat c.args.class c.index.result.now c.requires.seat (sym c.index.ensures) c.requires.may)).last
 
 pub overflow_add-batch : goal.overflow_add-batch
-overflow_add-batch c = let r = c.requires.core in let b = subst (λ n. c.args.seat < n) (sym r.keeps.seats) c.requires.seat in let here = entry_there r.views c.args.seat b in let f = batch_short c.args.core.now r.setup r.views c.args.seat here.0 c.index.result.now r.keeps b here.1 (sym c.index.ensures) in let l = (lengths c.args.core.now c.requires.core).small in omega arith
+overflow_add-batch c = let r = c.requires.core in let b = subst (λ n. c.args.seat < n) (sym r.keeps.seats) c.requires.seat in let here = entry_there r.views c.args.seat b in let f = batch_short c.args.core.now r.setup r.views c.args.seat here.0 c.index.result.now r.keeps b here.1 (sym c.index.ensures) in let small = c.args.core.now.geometry.small in let fits = largest_capacity_fits in omega arith
 
 pub returns : goal.returns
 returns c = λ k views v t keeps below at at_t.

@@ -8,6 +8,6 @@ abbrev pub invariant-loop-step : goal.invariant-loop-step
 invariant-loop-step l = record {
   same : l.bare.me ≡ l.initial.bare.me;
   table : l.bare.table_id ≡ l.initial.bare.table_id;
-  at : l._step < l.count → get_or (of_class (view_in l.initial.bare.me.0).caches l.class) l._step l.block ≡ l.block;
-  marked : IsMarking l.initial.blocks.items l.blocks.items (take l._step (of_class (view_in l.initial.bare.me.0).caches l.class)) true;
+  at : l._step < l.count → get_or (of_class (view_in l.initial.bare.me.0).caches l.fn.class.number) l._step l.block ≡ l.block;
+  marked : IsMarking l.initial.blocks.items l.blocks.items (take l._step (of_class (view_in l.initial.bare.me.0).caches l.fn.class.number)) true;
 }

@@ -1,8 +1,8 @@
-use Rattle.std.proofs.Common.{◌≡◌, ◌<◌, ◌+◌, ◌-◌, ◌*◌, ◌/◌, ◌∙◌, ap, sym, subst, suc-mul, arith}
+use Rattle.std.proofs.Common.{◌≡◌, ◌<◌, ◌+◌, ◌-◌, ◌*◌, ◌∙◌, ap, sym, subst, suc-mul, arith}
 use Rattle.std.proofs.lemmas.Result.{err_from_is_err_and}
 use Rattle.heap_model.specs.Geometry.{start_word, largest_capacity_fits}
 use Rattle.heap_model.specs.Sizes.{words_of_class, blocks_of}
-use Rattle.heap_model.proofs.SizeLemmas.{size_of-words, two_words, four_blocks}
+use Rattle.heap_model.proofs.SizeLemmas.{two_words, four_blocks}
 use Rattle.core_model.specs.View.{Setup, times_raw}
 use Rattle.heap_rule.proofs.PartLemmas.{none_changed}
 use Rattle.heap_rule.proofs.RawLemmas.{raw_inside}
@@ -25,24 +25,24 @@ loop-i-init c = record {
 pub overflow_add-block : goal.overflow_add-block
 overflow_add-block c =
     let inside = raw_inside c.args.seat.now.view c.has_a_sound_state.ensures c.args.d c.requires.raw in
-    let place = block_place c.args.seat.now.view c.loop-i.seat.view c.args.class c.args.d c.loop-i._i c.loop-i.block c.loop-i.invariant.parts c.requires.class inside (omega arith) (omega arith) c.loop-i.invariant.place in
-    let end = place.3 in let w = size_of-words c.args.class c.requires.class in let s = c.size_of-words.ensures in
+    let place = block_place c.args.seat.now.view c.loop-i.seat.view c.args.class.number c.args.d c.loop-i._i c.loop-i.block c.loop-i.invariant.parts c.args.class.is inside (omega arith) (omega arith) c.loop-i.invariant.place in
+    let end = place.3 in let s = c.block_words-words.ensures.words in
     let a = c.new.ensures in let b = c.capacity.ensures in let small = c.new.result.small in let fits = largest_capacity_fits in omega arith
 
 pub link_block-requires-clause-from : goal.link_block-requires-clause-from
 link_block-requires-clause-from c =
     let inside = raw_inside c.args.seat.now.view c.has_a_sound_state.ensures c.args.d c.requires.raw in
-    (block_place c.args.seat.now.view c.loop-i.seat.view c.args.class c.args.d c.loop-i._i c.loop-i.block c.loop-i.invariant.parts c.requires.class inside (omega arith) (omega arith) c.loop-i.invariant.place).0
+    (block_place c.args.seat.now.view c.loop-i.seat.view c.args.class.number c.args.d c.loop-i._i c.loop-i.block c.loop-i.invariant.parts c.args.class.is inside (omega arith) (omega arith) c.loop-i.invariant.place).0
 
 pub link_block-requires-clause-until : goal.link_block-requires-clause-until
 link_block-requires-clause-until c =
     let inside = raw_inside c.args.seat.now.view c.has_a_sound_state.ensures c.args.d c.requires.raw in
-    (block_place c.args.seat.now.view c.loop-i.seat.view c.args.class c.args.d c.loop-i._i c.loop-i.block c.loop-i.invariant.parts c.requires.class inside (omega arith) (omega arith) c.loop-i.invariant.place).1
+    (block_place c.args.seat.now.view c.loop-i.seat.view c.args.class.number c.args.d c.loop-i._i c.loop-i.block c.loop-i.invariant.parts c.args.class.is inside (omega arith) (omega arith) c.loop-i.invariant.place).1
 
 pub link_block-requires-clause-raw : goal.link_block-requires-clause-raw
 link_block-requires-clause-raw c =
     let inside = raw_inside c.args.seat.now.view c.has_a_sound_state.ensures c.args.d c.requires.raw in
-    let place = block_place c.args.seat.now.view c.loop-i.seat.view c.args.class c.args.d c.loop-i._i c.loop-i.block c.loop-i.invariant.parts c.requires.class inside (omega arith) (omega arith) c.loop-i.invariant.place in
+    let place = block_place c.args.seat.now.view c.loop-i.seat.view c.args.class.number c.args.d c.loop-i._i c.loop-i.block c.loop-i.invariant.parts c.args.class.is inside (omega arith) (omega arith) c.loop-i.invariant.place in
     let still = raw_still c.args.seat.now.view c.loop-i.seat.view c.args.d c.loop-i.invariant.parts in
     subst (λ e. 0 < times_raw e c.loop-i.seat.view) (sym place.2) (let raw = c.requires.raw in omega arith)
 
@@ -54,31 +54,31 @@ returns-in_err-link_block-clause-stopped c =
 pub overflow_add-block-in-loop-i : goal.overflow_add-block-in-loop-i
 overflow_add-block-in-loop-i c =
     let inside = raw_inside c.args.seat.now.view c.has_a_sound_state.ensures c.args.d c.requires.raw in
-    let place = block_place c.args.seat.now.view c.loop-i.seat.view c.args.class c.args.d c.loop-i._i c.loop-i.block c.loop-i.invariant.parts c.requires.class inside (omega arith) (omega arith) c.loop-i.invariant.place in
-    let end = place.3 in let w = size_of-words c.args.class c.requires.class in let s = c.size_of-words.ensures in
+    let place = block_place c.args.seat.now.view c.loop-i.seat.view c.args.class.number c.args.d c.loop-i._i c.loop-i.block c.loop-i.invariant.parts c.args.class.is inside (omega arith) (omega arith) c.loop-i.invariant.place in
+    let end = place.3 in let s = c.block_words-words.ensures.words in
     let a = c.new.ensures in let b = c.capacity.ensures in let small = c.new.result.small in let fits = largest_capacity_fits in omega arith
 
 pub loop-i-preserved : goal.loop-i-preserved
 loop-i-preserved c =
     let v = c.args.seat.now.view in let t = c.loop-i.seat.view in let w = c.link_block.new.seat.view in
-    let start = start_word c.args.seat.now.view.setup.capacity c.args.d in let words = words_of_class c.args.class in let n = c.loop-i._i - 1 in
+    let start = start_word c.args.seat.now.view.setup.capacity c.args.d in let words = words_of_class c.args.class.number in let n = c.loop-i._i - 1 in
     let inside = raw_inside c.args.seat.now.view c.has_a_sound_state.ensures c.args.d c.requires.raw in
-    let value_is : c.loop-i.block + c.size_of-words.result / 8 ≡ start + (n + 1) * words = (let at = c.loop-i.invariant.place in let m = suc-mul n words in let z = size_of-words c.args.class c.requires.class in let s = c.size_of-words.ensures in omega arith) in
+    let value_is : c.loop-i.block + c.block_words-words.result ≡ start + (n + 1) * words = (let at = c.loop-i.invariant.place in let m = suc-mul n words in let s = c.block_words-words.ensures.words in omega arith) in
     let linked = c.in_ok-link_block.ensures.linked in
     let next : n + 1 ≡ c.loop-i._i + 1 - 1 = omega arith in record {
       seat = c.link_block.ensures.seat;
-      parts = parts_more v t w c.loop-i.block (c.loop-i.block + c.size_of-words.result / 8) c.loop-i.invariant.parts linked.parts;
+      parts = parts_more v t w c.loop-i.block (c.loop-i.block + c.block_words-words.result) c.loop-i.invariant.parts linked.parts;
       going = λ _. linked.going;
-      info = info_still t w c.args.d c.args.class c.loop-i.block (c.loop-i.block + c.size_of-words.result / 8) (subst (λ m. c.args.d < m) (sym (ap (λ (k : Setup). k.capacity) c.loop-i.invariant.parts.setup)) inside)
-          (block_place v t c.args.class c.args.d c.loop-i._i c.loop-i.block c.loop-i.invariant.parts c.requires.class inside (omega arith) (omega arith) c.loop-i.invariant.place).0 linked.parts.volatile c.loop-i.invariant.info;
+      info = info_still t w c.args.d c.args.class.number c.loop-i.block (c.loop-i.block + c.block_words-words.result) (subst (λ m. c.args.d < m) (sym (ap (λ (k : Setup). k.capacity) c.loop-i.invariant.parts.setup)) inside)
+          (block_place v t c.args.class.number c.args.d c.loop-i._i c.loop-i.block c.loop-i.invariant.parts c.args.class.is inside (omega arith) (omega arith) c.loop-i.invariant.place).0 linked.parts.volatile c.loop-i.invariant.info;
       place = value_is ∙ ap (λ m. start + m * words) next;
-      leads = subst (λ m. Leads w start words m) next (linked_more t w start words n c.loop-i.block (c.loop-i.block + c.size_of-words.result / 8) c.loop-i.invariant.place value_is linked (let two = two_words c.args.class c.requires.class in omega arith) c.loop-i.invariant.leads);
+      leads = subst (λ m. Leads w start words m) next (linked_more t w start words n c.loop-i.block (c.loop-i.block + c.block_words-words.result) c.loop-i.invariant.place value_is linked (let two = two_words c.args.class.number c.args.class.is in omega arith) c.loop-i.invariant.leads);
     }
 
 pub returns-clause-linked : goal.returns-clause-linked
-returns-clause-linked c = let four = four_blocks c.args.class c.requires.class in let e = c.blocks_of-i-end.ensures in record {
+returns-clause-linked c = let four = four_blocks c.args.class.number c.args.class.is in let e = c.blocks_of-i-end.ensures in record {
   parts = c.loop-i.invariant.parts;
   going = c.loop-i.invariant.going (omega arith);
   info = c.loop-i.invariant.info;
-  links = links_of c.loop-i.seat.view (start_word c.args.seat.now.view.setup.capacity c.args.d) (words_of_class c.args.class) (blocks_of c.args.class) (λ j less. c.loop-i.invariant.leads j (omega (arith, less)));
+  links = links_of c.loop-i.seat.view (start_word c.args.seat.now.view.setup.capacity c.args.d) (words_of_class c.args.class.number) (blocks_of c.args.class.number) (λ j less. c.loop-i.invariant.leads j (omega (arith, less)));
 }

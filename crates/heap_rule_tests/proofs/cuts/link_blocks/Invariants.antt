@@ -13,7 +13,7 @@ invariant-loop-i l = record {
   seat : IsSeatOf l.shared l.seat;
   parts : KeepsParts (record l.fn.seat.view { volatile = l.seat.view.volatile }) l.seat.view;
   going : 1 < l._i → l.seat.view.stopped ≡ None;
-  info : Shows l.seat.view (info_cell l.d) l.class;
-  place : l.block ≡ start_word l.fn.seat.view.setup.capacity l.d + (l._i - 1) * words_of_class l.class;
-  leads : Leads l.seat.view (start_word l.fn.seat.view.setup.capacity l.d) (words_of_class l.class) (l._i - 1);
+  info : Shows l.seat.view (info_cell l.d) l.fn.class.number;
+  place : l.block ≡ start_word l.fn.seat.view.setup.capacity l.d + (l._i - 1) * words_of_class l.fn.class.number;
+  leads : Leads l.seat.view (start_word l.fn.seat.view.setup.capacity l.d) (words_of_class l.fn.class.number) (l._i - 1);
 }

@@ -9,8 +9,8 @@ use Rattle.heap_rule.proofs.seat.Seat.after_cut.Goals as goal
 pub returns-clause-fits : goal.returns-clause-fits
 returns-clause-fits c =
     let same = c.self.view_is ∙ c.cutting_class-class.ensures.same in
-    cut_fits c.self.inside.notes c.args.self.now.view c.args.d c.requires.can c.cutting_class-class.result c.start-first.result c.blocks_of-count.result c.cleared.result
-    (subst (λ (s : SeatView). IsKeptOf c.self.inside.notes s.view) same c.self.invariant.seat.kept) (c.cutting_class-class.ensures.class c.requires.can) c.cutting_class-class.ensures.is_class
+    cut_fits c.self.inside.notes c.args.self.now.view c.args.d c.requires.can c.cutting_class-class.result.number c.start-first.result c.blocks_of-count.result c.cleared.result
+    (subst (λ (s : SeatView). IsKeptOf c.self.inside.notes s.view) same c.self.invariant.seat.kept) (c.cutting_class-class.ensures.class c.requires.can) c.cutting_class-class.result.is
     (c.start-first.ensures ∙ ap (λ n. start_word n c.args.d) (c.self.invariant.seat.capacity_is ∙ ap (λ (s : SeatView). s.view.setup.capacity) same)) c.blocks_of-count.ensures c.cleared.ensures
 
 pub returns-clause-change : goal.returns-clause-change

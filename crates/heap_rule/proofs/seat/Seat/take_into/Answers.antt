@@ -1,7 +1,7 @@
 use Rattle.heap_rule.specs.Shown.{Can}
 use Rattle.heap_rule.proofs.OwnedReads.{classed_below}
 use Rattle.std.proofs.Common.{ap, sym, subst, set, refl, true, ◌∙◌, ◌+◌, ◌*◌, arith}
-use Rattle.heap_model.specs.Geometry.{start_word, image_words, largest_capacity_fits}
+use Rattle.heap_model.specs.Geometry.{start_word, image_words}
 use Rattle.heap_model.specs.Sizes.{words_of_class}
 use Rattle.heap_model.specs.Words.{anchor_first}
 use Rattle.core_model.specs.declared.event.Event.TheVariants.{TakeAll}
@@ -17,9 +17,6 @@ use Rattle.heap_rule.proofs.SeatLemmas.{seat_after, whole_at}
 use Rattle.heap_rule.proofs.ChainLemmas.{all_taken, take_all_lost}
 use Rattle.heap_rule.proofs.seat.Seat.take_into.Goals as goal
 
-pub first_free-first-requires-clause-capacity : goal.first_free-first-requires-clause-capacity
-first_free-first-requires-clause-capacity c = let small = c.self.invariant.seat.kept.has.sound.good.small in let cap = c.self.invariant.seat.capacity_is in let fits = largest_capacity_fits in omega arith
-
 pub invariant_of-self : goal.invariant_of-self
 invariant_of-self c =
     let is = ap seen_word (c.self.invariant.seat.kept.notes_are.seen_anchor ∙ ap snapshot c.in-Some.is) in
@@ -33,15 +30,15 @@ invariant_of-self c =
 pub mark_cache-requires-clause-count : goal.mark_cache-requires-clause-count
 mark_cache-requires-clause-count c =
     let is = ap seen_word (c.self.invariant.seat.kept.notes_are.seen_anchor ∙ ap snapshot c.in-Some.is) in
-    taken_count (view_in c.self.inside.bare.me.0) (view_in c.exchange-found.new.bare.me.0) c.args.d c.exchange-found.result c.exchange-found.ensures.event (c.if-found-anchor.false ∙ sym is) c.args.class c.anchor_count-count.result c.in-Some.anchor.word
+    taken_count (view_in c.self.inside.bare.me.0) (view_in c.exchange-found.new.bare.me.0) c.args.d c.exchange-found.result c.exchange-found.ensures.event (c.if-found-anchor.false ∙ sym is) c.args.class.number c.anchor_count-count.result c.in-Some.anchor.word
     (c.requires.class ∙ ap (λ (s : SeatView). claim_class c.args.d s.view.classed) (sym c.self.view_is)) c.anchor_count-count.ensures is
 
 pub mark_cache-requires-clause-first : goal.mark_cache-requires-clause-first
 mark_cache-requires-clause-first c =
     let is = ap seen_word (c.self.invariant.seat.kept.notes_are.seen_anchor ∙ ap snapshot c.in-Some.is) in
-    taken_first (view_in c.self.inside.bare.me.0) (view_in c.exchange-found.new.bare.me.0) c.args.d c.exchange-found.result c.exchange-found.ensures.event (c.if-found-anchor.false ∙ sym is) c.args.class c.first_free-first.result c.anchor_count-count.result c.in-Some.anchor.word
+    taken_first (view_in c.self.inside.bare.me.0) (view_in c.exchange-found.new.bare.me.0) c.args.d c.exchange-found.result c.exchange-found.ensures.event (c.if-found-anchor.false ∙ sym is) c.args.class.number c.first_free-first.result c.anchor_count-count.result c.in-Some.anchor.word
     (c.requires.class ∙ ap (λ (s : SeatView). claim_class c.args.d s.view.classed) (sym c.self.view_is)) c.anchor_count-count.ensures is
-    (c.first_free-first.ensures ∙ ap (λ n. start_word n c.args.d + anchor_first c.in-Some.anchor.word * words_of_class c.args.class) c.self.invariant.seat.capacity_is)
+    (c.first_free-first.ensures ∙ ap (λ n. start_word n c.args.d + anchor_first c.in-Some.anchor.word * words_of_class c.args.class.number) c.self.invariant.seat.capacity_is)
 
 pub mark_cache-requires-clause-long : goal.mark_cache-requires-clause-long
 mark_cache-requires-clause-long c = c.self.invariant.own.words_long
@@ -53,9 +50,9 @@ invariant_of-self-2 c =
     let class_is = c.requires.class ∙ ap (λ (s : SeatView). claim_class c.args.d s.view.classed) (sym c.self.view_is) in
     whole_at c.exchange-found.new.bare.me c.mark_cache.new.bare.me _ _ _ _ _ c.mark_cache.ensures.same (record {
       seat = seat_after c.self.inside.bare.me c.exchange-found.new.bare.me c.self.inside.notes _ c.self.inside.geometry.capacity (TakeAll c.args.d) c.exchange-found.result c.args.shared.now c.exchange-found.new.bare.table_id c.self.invariant.seat c.exchange-found.ensures.at c.exchange-found.ensures.event
-          (all_taken c.self.inside.notes (view_in c.self.inside.bare.me.0) (view_in c.exchange-found.new.bare.me.0) c.args.d c.exchange-found.result c.in-Some.anchor.word c.args.class (record { first = c.first_free-first.result; count = c.anchor_count-count.result })
-          c.self.invariant.seat.kept c.exchange-found.ensures.event c.exchange-found.ensures.at.has is c.if-found-anchor.false class_is c.requires.is_class
-          (c.first_free-first.ensures ∙ ap (λ n. start_word n c.args.d + anchor_first c.in-Some.anchor.word * words_of_class c.args.class) c.self.invariant.seat.capacity_is) c.anchor_count-count.ensures);
+          (all_taken c.self.inside.notes (view_in c.self.inside.bare.me.0) (view_in c.exchange-found.new.bare.me.0) c.args.d c.exchange-found.result c.in-Some.anchor.word c.args.class.number (record { first = c.first_free-first.result; count = c.anchor_count-count.result })
+          c.self.invariant.seat.kept c.exchange-found.ensures.event c.exchange-found.ensures.at.has is c.if-found-anchor.false class_is c.args.class.is
+          (c.first_free-first.ensures ∙ ap (λ n. start_word n c.args.d + anchor_first c.in-Some.anchor.word * words_of_class c.args.class.number) c.self.invariant.seat.capacity_is) c.anchor_count-count.ensures);
       marks_long = c.self.invariant.marks_long;
       own = taken_owned (view_in c.self.inside.bare.me.0) (view_in c.exchange-found.new.bare.me.0) c.args.d c.exchange-found.result c.exchange-found.ensures.event (c.if-found-anchor.false ∙ sym is) c.self.inside.owned c.mark_cache.new.blocks _ _ c.self.invariant.own
           (subst (λ l. IsMarking c.self.inside.owned.blocks.items c.mark_cache.new.blocks.items l true) (ap (of_class (view_in c.exchange-found.new.bare.me.0).caches) class_is
@@ -63,8 +60,8 @@ invariant_of-self-2 c =
           (ap (set c.self.inside.owned.classes.items c.args.d) class_is) refl;
     })
 
-pub first_free-first-requires-clause-d : goal.first_free-first-requires-clause-d
-first_free-first-requires-clause-d c =
+pub first_free-first-requires : goal.first_free-first-requires
+first_free-first-requires c =
     let can = subst (λ (s : SeatView). Can s.view (TakeAll c.args.d)) (sym c.self.view_is) c.requires.can in
     let b = classed_below (view_in c.self.inside.bare.me.0) c.self.invariant.seat.kept.has c.self.inside.owned c.self.invariant.own c.args.d can.shown.claimed in let e = c.self.invariant.seat.capacity_is in omega arith
 

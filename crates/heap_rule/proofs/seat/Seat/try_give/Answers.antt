@@ -1,5 +1,6 @@
-use Rattle.std.proofs.Common.{◌<◌, ◌-◌, ◌/◌, false, refl, ap, sym, subst, ◌∙◌, arith}
-use Rattle.heap_model.specs.Geometry.{start_word, largest_capacity_fits}
+use Rattle.std.proofs.Common.{◌≡◌, ◌≢◌, ℕ, ◌+◌, ◌<◌, ◌≤◌, ◌-◌, ◌/◌, false, refl, ap, sym, subst, ◌∙◌, arith}
+use Rattle.heap_model.specs.Geometry.{start_word}
+use Rattle.heap_model.specs.Words.{anchor_state, anchor_count}
 use Rattle.heap_model.specs.Sizes.{IsClass, words_of_class, blocks_of}
 use Rattle.core_model.specs.declared.event.Event.TheVariants.{Give}
 use Rattle.core_model.specs.Effects.{seen_word, given_anchor}
@@ -27,21 +28,24 @@ anchor_with_batch-new-requires-clause-d c =
     let can = subst (λ (s : SeatView). Can s.view (Give c.args.d)) (sym c.self.view_is) c.requires.can in
     subst (λ n. c.args.d < n) (sym c.self.invariant.seat.capacity_is) (batch_below (view_in c.self.inside.bare.me.0) c.self.invariant.seat.kept.has c.args.d can.shown.batch can.shown.some)
 
-pub anchor_with_batch-new-requires-clause-capacity : goal.anchor_with_batch-new-requires-clause-capacity
-anchor_with_batch-new-requires-clause-capacity c = let small = c.self.invariant.seat.kept.has.sound.good.small in let cap = c.self.invariant.seat.capacity_is in let fits = largest_capacity_fits in omega arith
+pub overflow_cast-batch : goal.overflow_cast-batch
+overflow_cast-batch c =
+    let can = subst (λ (s : SeatView). Can s.view (Give c.args.d)) (sym c.self.view_is) c.requires.can in
+    let l = (subst IsClass c.self.invariant.seat.kept.batch.class (batch_class (view_in c.self.inside.bare.me.0) c.self.invariant.seat.kept.has c.args.d can.shown.batch can.shown.some)).last in omega arith
 
-pub anchor_with_batch-new-requires-clause-class : goal.anchor_with_batch-new-requires-clause-class
-anchor_with_batch-new-requires-clause-class c =
+pub new-class-requires : goal.new-class-requires
+new-class-requires c =
     let can = subst (λ (s : SeatView). Can s.view (Give c.args.d)) (sym c.self.view_is) c.requires.can in
     subst IsClass c.self.invariant.seat.kept.batch.class (batch_class (view_in c.self.inside.bare.me.0) c.self.invariant.seat.kept.has c.args.d can.shown.batch can.shown.some)
 
 pub anchor_with_batch-new-requires-clause-first : goal.anchor_with_batch-new-requires-clause-first
 anchor_with_batch-new-requires-clause-first c =
     let can = subst (λ (s : SeatView). Can s.view (Give c.args.d)) (sym c.self.view_is) c.requires.can in
-    subst (λ n. IsCutBlock n c.self.inside.notes.batch.class c.args.d c.self.inside.notes.batch.first) (sym c.self.invariant.seat.capacity_is)
+    subst (λ n. IsCutBlock c.self.inside.geometry.capacity n c.args.d c.self.inside.notes.batch.first) (sym c.new-class.ensures)
+    (subst (λ n. IsCutBlock n c.self.inside.notes.batch.class c.args.d c.self.inside.notes.batch.first) (sym c.self.invariant.seat.capacity_is)
     (subst (λ n. IsCutBlock (view_in c.self.inside.bare.me.0).setup.capacity n c.args.d c.self.inside.notes.batch.first) c.self.invariant.seat.kept.batch.class
     (subst (λ n. IsCutBlock (view_in c.self.inside.bare.me.0).setup.capacity (view_in c.self.inside.bare.me.0).batch.class c.args.d n) c.self.invariant.seat.kept.batch.first
-    (batch_first (view_in c.self.inside.bare.me.0) c.self.invariant.seat.kept.has c.args.d can.shown.batch can.shown.some)))
+    (batch_first (view_in c.self.inside.bare.me.0) c.self.invariant.seat.kept.has c.args.d can.shown.batch can.shown.some))))
 
 pub exchange-found-requires-clause-may : goal.exchange-found-requires-clause-may
 exchange-found-requires-clause-may c = may_of (view_in c.self.inside.bare.me.0) (Give c.args.d) (subst (λ (s : SeatView). Can s.view (Give c.args.d)) (sym c.self.view_is) c.requires.can)
@@ -50,8 +54,11 @@ pub exchange-found-requires-clause-exchange : goal.exchange-found-requires-claus
 exchange-found-requires-clause-exchange c =
     let can = subst (λ (s : SeatView). Can s.view (Give c.args.d)) (sym c.self.view_is) c.requires.can in
     let is = ap seen_word (c.self.invariant.seat.kept.notes_are.seen_anchor ∙ ap snapshot c.in-Some.is) in
+    let word = c.in-Some.anchor.word in let batch = c.self.inside.notes.batch in
+    let given = subst (λ (n : ℕ). anchor_state word ≢ 3 → batch.count + anchor_count word ≤ blocks_of n
+    → c.anchor_with_batch-new.result ≡ given_anchor word ((batch.first - start_word c.self.inside.geometry.capacity c.args.d) / words_of_class n) batch.count (blocks_of n)) c.new-class.ensures c.anchor_with_batch-new.ensures in
     give_exchange c.self.inside.notes (view_in c.self.inside.bare.me.0) c.args.d c.in-Some.anchor.word c.anchor_with_batch-new.result c.self.invariant.seat.kept can.shown can.ticket is
-    (λ state room. c.anchor_with_batch-new.ensures state room ∙ ap (λ n. given_anchor c.in-Some.anchor.word ((c.self.inside.notes.batch.first - start_word n c.args.d) / words_of_class c.self.inside.notes.batch.class) c.self.inside.notes.batch.count (blocks_of c.self.inside.notes.batch.class)) c.self.invariant.seat.capacity_is)
+    (λ state room. given state room ∙ ap (λ n. given_anchor c.in-Some.anchor.word ((c.self.inside.notes.batch.first - start_word n c.args.d) / words_of_class c.self.inside.notes.batch.class) c.self.inside.notes.batch.count (blocks_of c.self.inside.notes.batch.class)) c.self.invariant.seat.capacity_is)
 
 pub invariant_of-self : goal.invariant_of-self
 invariant_of-self c =
@@ -92,5 +99,5 @@ invariant_of-self-2 c =
       marks_long = c.self.invariant.marks_long;
       own = give_full (view_in c.self.inside.bare.me.0) (view_in c.exchange-found.new.bare.me.0) c.args.d c.exchange-found.result c.exchange-found.ensures.event (c.if-found-anchor.false ∙ sym is) c.self.inside.owned c.unmark_all.new.blocks c.clear.new.self _ c.listed.result c.self.invariant.own
           (subst (λ l. IsMarking c.self.inside.owned.blocks.items c.unmark_all.new.blocks.items l false) (c.deref.ensures.value ∙ c.self.invariant.own.batch) c.unmark_all.ensures) c.clear.ensures.items c.clear.ensures.capacity
-          (c.if-found-anchor.false ∙ c.if-anchor-anchor_after_take_all.false ∙ c.anchor_after_take_all.ensures) (c.listed.ensures ∙ ap listed (sym c.self.invariant.seat.kept.batch.class)) refl;
+          (c.if-found-anchor.false ∙ c.if-anchor-anchor_after_take_all.false ∙ c.anchor_after_take_all.ensures) (c.listed.ensures ∙ ap listed (c.new-class.ensures ∙ sym c.self.invariant.seat.kept.batch.class)) refl;
     }
