@@ -12,6 +12,7 @@ use Rattle.block_heap.specs.Links.{IsOpen}
 use Rattle.block_heap.specs.Divide.{AreInOneChain, IsDivided}
 use Rattle.heap_shape.specs.Effects.{IsInSuperblock}
 use Rattle.block_heap.proofs.MediumLemmas.{stores_then, stores_more}
+use Rattle.block_heap.specs.Draws.{most_cut_draws}
 
 -- a block's first word lies in its superblock, and that in the image
 pub first_inside : (capacity class d k word : ℕ) → IsClass class → d < capacity → k < blocks_of class → word ≡ start_word capacity d + k * words_of_class class
@@ -139,7 +140,7 @@ module _ (capacity class d : ℕ) (v u t w : View) (info anchor value : ℕ) (is
       let c = four_blocks class is in
       omega arith
 
-  pub divide_stops_within : (ticket : ℕ) → StopsWithin ticket 1 t w → StopsWithin ticket 4200 v w
+  pub divide_stops_within : (ticket : ℕ) → StopsWithin ticket 1 t w → StopsWithin ticket most_cut_draws v w
   divide_stops_within ticket stops_within =
       let few = drawn_few in
       let more = drawn_more in

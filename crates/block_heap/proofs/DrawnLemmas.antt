@@ -34,6 +34,7 @@ use Rattle.block_heap.specs.Steps.{HasAtMost}
 use Rattle.heap_seat.specs.Tickets.{Runs, Stops}
 use Rattle.block_heap.proofs.DrainLemmas.{HasDrained, drains_first, drains_more}
 use Rattle.block_heap.proofs.SpendLemmas.{has_most}
+use Rattle.block_heap.specs.Draws.{most_blocks, most_small_draws}
 
 -- the offsets are those of blocks that are held now, each once; so there are few, and each superblock that may still be used up is paid for
 pub record HasDrawn (class : ℕ) (s t : SeqState) (offsets : List ℕ) : Type 0 where
@@ -41,9 +42,9 @@ pub record HasDrawn (class : ℕ) (s t : SeqState) (offsets : List ℕ) : Type 0
   pub once : (x : ℕ) → times x offsets ≤ 1
   pub capacity : t.parts.capacity ≡ s.parts.capacity
   pub short : length offsets ≤ t.parts.capacity * blocks_of class
-  pub small : length offsets ≤ largest_capacity * 4096
-  pub few : t.parts.words.drawn ≤ s.parts.words.drawn + 123603 * largest_capacity + length offsets
-  pub left : t.stopped ≡ None → (n : ℕ) × HasAtMost class t.parts n × (t.parts.words.drawn + 41201 * n ≤ s.parts.words.drawn + 123603 * largest_capacity + length offsets)
+  pub small : length offsets ≤ largest_capacity * most_blocks
+  pub few : t.parts.words.drawn ≤ s.parts.words.drawn + 3 * most_small_draws * largest_capacity + length offsets
+  pub left : t.stopped ≡ None → (n : ℕ) × HasAtMost class t.parts n × (t.parts.words.drawn + most_small_draws * n ≤ s.parts.words.drawn + 3 * most_small_draws * largest_capacity + length offsets)
   pub runs : s.stopped ≡ None → t.stopped ≡ None
   pub budget : t.parts.words.budget ≡ s.parts.words.budget
 
@@ -168,19 +169,19 @@ module _ (class bytes most : ℕ) (s t u : SeqState) (offsets : List ℕ) (b : B
               (sym (mod-mul-add placed.d (blocks_of class) placed.index below)),
         )
 
-  all_small : length more ≤ largest_capacity * 4096
+  all_small : length more ≤ largest_capacity * most_blocks
   all_small =
       let short = all_short in
-      let by_blocks : u.parts.capacity * blocks_of class ≤ u.parts.capacity * 4096 = mul-le-mul_left u.parts.capacity (few_blocks class is) in
+      let by_blocks : u.parts.capacity * blocks_of class ≤ u.parts.capacity * most_blocks = mul-le-mul_left u.parts.capacity (few_blocks class is) in
       let small = gets.running.is.small in
       omega arith
 
   module _ (costs : Costs class t.parts u.parts) (runs : Runs (seat_of t) (seat_of u)) (counted : IsLargeCall most (seat_of t) (seat_of u)) where
-    all_left : (n : ℕ) × HasAtMost class u.parts n × (u.parts.words.drawn + 41201 * n ≤ s.parts.words.drawn + 123603 * largest_capacity + length more)
+    all_left : (n : ℕ) × HasAtMost class u.parts n × (u.parts.words.drawn + most_small_draws * n ≤ s.parts.words.drawn + 3 * most_small_draws * largest_capacity + length more)
     all_left =
         let before = has.left runs.ran in
         let long = longer in
-        elim costs as (λ _. (n : ℕ) × HasAtMost class u.parts n × (u.parts.words.drawn + 41201 * n ≤ s.parts.words.drawn + 123603 * largest_capacity + length more)) [
+        elim costs as (λ _. (n : ℕ) × HasAtMost class u.parts n × (u.parts.words.drawn + most_small_draws * n ≤ s.parts.words.drawn + 3 * most_small_draws * largest_capacity + length more)) [
           | inl cached ↦ let now = cached.0 before.0 before.1 in (now.0, now.2, omega (arith, before.2, now.1, cached.1))
           | inr filled ↦ let now = filled.0 before.0 before.1 in (now.0, now.2, omega (arith, before.2, now.1, filled.1))
         ]
@@ -218,7 +219,7 @@ draining_more class bytes most s t u offsets now answer b pushed draining is ans
     )
 
 -- whatever the next request answers, few tickets were drawn
-pub drawn_few : (class : ℕ) (s t u : SeqState) (offsets : List ℕ) → HasDrawn class s t offsets → u.parts.words.drawn ≤ t.parts.words.drawn + 41201
+pub drawn_few : (class : ℕ) (s t u : SeqState) (offsets : List ℕ) → HasDrawn class s t offsets → u.parts.words.drawn ≤ t.parts.words.drawn + most_small_draws
     → u.parts.words.drawn < s.parts.words.drawn + 2 ^ 32
 drawn_few class s t u offsets has draws = let small = has.small in let few = has.few in omega (arith, largest_capacity_fits)
 
@@ -241,7 +242,7 @@ step_of MemoryFault = 0
 
 -- and if it stops the heap, the budget is used up
 pub drawn_stops_within : (class most : ℕ) (stopped e : Stopped) (s t u : SeqState) (offsets : List ℕ) → HasDrawn class s t offsets
-    → u.parts.words.drawn ≤ t.parts.words.drawn + 41201 → IsLargeCall most (seat_of t) (seat_of u) → Stops stopped.step (seat_of t) (seat_of u)
+    → u.parts.words.drawn ≤ t.parts.words.drawn + most_small_draws → IsLargeCall most (seat_of t) (seat_of u) → Stops stopped.step (seat_of t) (seat_of u)
     → StoppedFault stopped ≡ StoppedFault e → s.stopped ≡ None
     → (s.parts.words.budget ≤ e.step) × (e.step < s.parts.words.drawn + 2 ^ 32)
 drawn_stops_within class most stopped e s t u offsets has draws counted stops one running =

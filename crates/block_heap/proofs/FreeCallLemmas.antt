@@ -14,6 +14,7 @@ use Rattle.block_heap.specs.SeqState.{SeqState, IsSeqHeap, all_roots, seat_of}
 use Rattle.heap_seat.specs.Words.{IsOwn, in_block, in_root}
 use Rattle.block_heap.proofs.RequestLemmas.{large_lasts, large_view, word_kept, pending_kept}
 use Rattle.block_heap.proofs.StableLemmas.{not_own, stable_kept, stable_fewer}
+use Rattle.block_heap.specs.Draws.{most_free_draws}
 
 -- held blocks are stable after a free
 pub free_stable : (p q : Parts) (b : Block) → IsStable p.capacity p.words (held_in p) → TakesFrom b (held_in p) (held_in q) → LeavesHeld (held_in q) p q
@@ -25,9 +26,9 @@ free_stable p q b stable takes leaves_held =
 -- what lasts over a free
 pub free_lasts : (r : Result Unit Stopped) (p q : Parts) (b : Block) (old o : Option ℕ) → IsLasting p.capacity p.words (held_in p) old
     → TakesFrom b (held_in p) (held_in q) → LeavesHeld (held_in q) p q
-    → OnOk r (o ≡ None) → IfErr r (λ e. o ≡ Some e.step) → IfErr r (λ e. StopsWithin e.step 40000 p.words q.words) → IsLasting q.capacity q.words (held_in q) o
+    → OnOk r (o ≡ None) → IfErr r (λ e. o ≡ Some e.step) → IfErr r (λ e. StopsWithin e.step most_free_draws p.words q.words) → IsLasting q.capacity q.words (held_in q) o
 free_lasts r p q b old o lasts takes leaves_held none stops stops_within =
-    large_lasts r p q (held_in q) 40000 old o lasts leaves_held (free_stable p q b lasts.stable takes leaves_held) none stops stops_within
+    large_lasts r p q (held_in q) most_free_draws old o lasts leaves_held (free_stable p q b lasts.stable takes leaves_held) none stops stops_within
 
 -- the parts after a free that was done
 pub free_runs : (r : Result Unit Stopped) (p q : Parts) → AreAccounted p → OnOk r (IsRunning q) → OnOk r (CachesAreShort q 0)

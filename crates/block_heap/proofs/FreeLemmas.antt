@@ -32,6 +32,7 @@ use Rattle.block_heap.specs.AllocatorWords.{IsAllocatorWord, is_inside}
 use Rattle.block_heap.proofs.RunningLemmas.{set_is}
 use Rattle.block_heap.proofs.LookLemmas.{looks_of}
 use Rattle.block_heap.proofs.SmallLemmas.{changed, KeepsFixed, keeps_fixed, running_after, caches_set, other_cache, leaves_held_of, leaves_held_then, even_words, even_product}
+use Rattle.block_heap.specs.Draws.{most_free_draws}
 
 -- a superblock of a class with a held block stands in the list of its class, or is full
 place_known : (capacity : ℕ) (image : Image) (s : Shape) (held : List Block) (d : ℕ) (place : Place) → IsClass (image (info_word d)) → d < image used_word
@@ -224,7 +225,7 @@ module _ (p : Parts) (class : ℕ) (is : IsClass class) (run : IsRunning p) (b :
           (freed_leaves_held freed_parts refl refl refl stores) leaves_held)
 
       pub flushed_runs_within : (r : Parts) → IsRunning r → freed_parts.words.drawn ≤ r.words.drawn
-          → r.words.drawn ≤ freed_parts.words.drawn + 9 * (cache_at freed_parts.caches class).count → RunsWithin 40000 p.words r.words
+          → r.words.drawn ≤ freed_parts.words.drawn + 9 * (cache_at freed_parts.caches class).count → RunsWithin most_free_draws p.words r.words
       flushed_runs_within r running more few =
           let drew = stored.runs_within.drew in
           let one = stored.runs_within.few in

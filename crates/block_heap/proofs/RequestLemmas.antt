@@ -30,6 +30,7 @@ use Rattle.heap_seat.specs.View.{View}
 use Rattle.block_heap.proofs.SeatLemmas.{stop_above, done_of, drew}
 use Rattle.block_heap.proofs.StableLemmas.{not_own, stable_kept}
 use Rattle.block_heap.proofs.RunningLemmas.{running_stable}
+use Rattle.block_heap.specs.Draws.{most_small_draws}
 
 -- what contracts see after a request or a free
 abbrev pub large_view : SeqState → Parts → Option ℕ → View
@@ -81,10 +82,10 @@ large_lasts r p q held most old o lasts leaves_held stable none stops stops_with
 pub request_lasts : (r : Result (Option Block) Stopped) (p q : Parts) (bytes : ℕ) (old o : Option ℕ) → IsLasting p.capacity p.words (held_in p) old
     → LeavesHeld (held_in p) p q
     → IfOk r (λ answer. Answers bytes answer p q) → OnErr r (held_in q ≡ held_in p) → OnOk r (o ≡ None) → IfErr r (λ e. o ≡ Some e.step)
-    → IfErr r (λ e. StopsWithin e.step 41201 p.words q.words)
+    → IfErr r (λ e. StopsWithin e.step most_small_draws p.words q.words)
     → IsLasting q.capacity q.words (held_in q) o
 request_lasts r p q bytes old o lasts leaves_held answers held none stops stops_within =
-    large_lasts r p q (held_in p) 41201 old o lasts leaves_held (request_stable r p q bytes lasts.stable leaves_held answers held) none stops stops_within
+    large_lasts r p q (held_in p) most_small_draws old o lasts leaves_held (request_stable r p q bytes lasts.stable leaves_held answers held) none stops stops_within
 
 -- a request or a free keeps the heap
 pub large_heap : {T : Type 0} (r : Result T Stopped) (s : SeqState) (q : Parts) (most : ℕ) (o : Option ℕ) (l : ∥ IsLasting q.capacity q.words (held_in q) o ∥₁)

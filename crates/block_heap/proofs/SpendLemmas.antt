@@ -13,6 +13,7 @@ use Rattle.block_heap.specs.Running.{IsRunning}
 use Rattle.block_heap.specs.Serving.{Costs}
 use Rattle.block_heap.specs.Lists.{head_at, LeadsAlong}
 use Rattle.block_heap.specs.Steps.{HasAtMost, Spends}
+use Rattle.block_heap.specs.Draws.{most_refill_draws}
 
 -- a list is as long as any that its head leads along
 long_as : (p : Parts) (list : ℕ) (cs ds : List ℕ) → LeadsAlong p list cs → LeadsAlong p list ds → length cs ≡ length ds
@@ -70,7 +71,7 @@ spends_by count class p q run cs fs is now capacity leads_class leads_free fewer
     )
 
 -- what a block cost that was handed out after that
-pub costs_of : (class : ℕ) (some : Bool) (p q r : Parts) → some ≡ true → Stocks class some p q → q.words.drawn ≤ p.words.drawn + 41200
+pub costs_of : (class : ℕ) (some : Bool) (p q r : Parts) → some ≡ true → Stocks class some p q → q.words.drawn ≤ p.words.drawn + most_refill_draws
     → r.capacity ≡ q.capacity → r.words.volatile ≡ q.words.volatile → r.words.drawn ≤ q.words.drawn + 1 → Costs class p r
 costs_of class some p q r is stocks few capacity same one = elim stocks as (λ _. Costs class p r) [
   | inl cached ↦ inl (spends_then 0 0 0 class p q r (omega arith) cached.0 (spends_none class q r capacity same), omega (arith, cached.1))

@@ -7,6 +7,7 @@ use Rattle.line_memory.specs.View.{View, volatile_at, durable_at}
 use Rattle.block_heap.specs.Medium.{RunsWithin, StoresOnly}
 use Rattle.heap_shape.specs.Effects.{IsInSuperblock}
 use Rattle.block_heap.specs.Links.{IsOpen}
+use Rattle.block_heap.specs.Draws.{most_cut_draws}
 
 -- a word that dividing superblock d changes
 abbrev pub IsDivideWord : ℕ → ℕ → ℕ → Type 0
@@ -26,7 +27,7 @@ pub record AreInOneChain (capacity class d count : ℕ) (v w : View) : Type 0 wh
 
 -- the superblock has the class, durably, and its blocks are in one chain that belongs to nobody
 pub record IsDivided (capacity class d : ℕ) (v w : View) : Type 0 where
-  pub runs_within : RunsWithin 4200 v w
+  pub runs_within : RunsWithin most_cut_draws v w
   pub info : volatile_at w (info_word d) ≡ class
   pub info_durable : durable_at w (info_word d) ≡ class
   pub anchor : volatile_at w (anchor_word d) ≡ full_anchor

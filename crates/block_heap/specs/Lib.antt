@@ -5,6 +5,7 @@ pub mod Batches
 pub mod Begun
 pub mod Closing
 pub mod Divide
+pub mod Draws
 pub mod Examples
 pub mod Flush
 pub mod Held

@@ -12,6 +12,7 @@ use Rattle.block_heap.specs.Parts.{Parts, image_of, held_in, cache_at}
 use Rattle.block_heap.specs.Running.{IsRunning, CachesAreShort}
 use Rattle.block_heap.specs.Lists.{head_at, IsEmptyList}
 use Rattle.block_heap.specs.Steps.{look_at, IsLook, Spends}
+use Rattle.block_heap.specs.Draws.{most_small_draws}
 
 -- a request of a class finds blocks: in the cache, in a list, or where none were taken yet
 pub data HasRoom (p : Parts) (class : ℕ) : Type 0 where
@@ -92,7 +93,7 @@ DrainsNone class p = IsDrainable p.capacity (image_of p) (held_in p) class → (
 
 -- what a block cost: one ticket if it was in the cache, and else a superblock that the cache was filled from
 abbrev pub Costs : ℕ → Parts → Parts → Type 0
-Costs class p q = (Spends 0 class p q × (q.words.drawn ≤ p.words.drawn + 1)) ⊎ (Spends 1 class p q × (q.words.drawn ≤ p.words.drawn + 41201))
+Costs class p q = (Spends 0 class p q × (q.words.drawn ≤ p.words.drawn + 1)) ⊎ (Spends 1 class p q × (q.words.drawn ≤ p.words.drawn + most_small_draws))
 
 -- what a drain needs of the answer: if it is none, there is no room after it too
 abbrev pub DrainsAs : ℕ → Option Block → Parts → Parts → Type 0

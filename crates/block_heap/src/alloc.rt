@@ -20,6 +20,7 @@ impl<C: Chance> Arena<C> {
     ghost use Rattle.block_heap.specs.Steps.{IsRefilling};
     ghost use Rattle.block_heap.specs.Refill.{Refills, Stocks};
     ghost use Rattle.block_heap.specs.Serving.{Answers, AnswersInClass, DrainsAs, IsLooksOf};
+    ghost use Rattle.block_heap.specs.Draws.{most_free_draws, most_refill_draws, most_small_draws};
 
     /// A block of at least so many bytes, if there is room.
     pub(crate) fn alloc(&mut self, bytes: u64) -> Result<Option<Block>, Stopped>
@@ -33,9 +34,9 @@ impl<C: Chance> Arena<C> {
         ensures order { (class : ℕ) → IsLeastClassFor bytes class
             → IfOk result (λ answer. ServesInOrder class answer
             (parts_of self.old) (parts_of self.new)) }
-        ensures runs_within { OnOk result (RunsWithin 41201
+        ensures runs_within { OnOk result (RunsWithin most_small_draws
             (parts_of self.old).words (parts_of self.new).words) }
-        ensures stopped { IfErr result (λ e. StopsWithin e.step 41201
+        ensures stopped { IfErr result (λ e. StopsWithin e.step most_small_draws
             (parts_of self.old).words (parts_of self.new).words) }
         ensures leaves_held { LeavesHeld (held_in (parts_of self.old))
             (parts_of self.old) (parts_of self.new) }
@@ -59,9 +60,9 @@ impl<C: Chance> Arena<C> {
             (parts_of self.old) (parts_of self.new)) }
         ensures order { IfOk result (λ answer. ServesInOrder class.number answer
             (parts_of self.old) (parts_of self.new)) }
-        ensures runs_within { OnOk result (RunsWithin 41201
+        ensures runs_within { OnOk result (RunsWithin most_small_draws
             (parts_of self.old).words (parts_of self.new).words) }
-        ensures stopped { IfErr result (λ e. StopsWithin e.step 41201
+        ensures stopped { IfErr result (λ e. StopsWithin e.step most_small_draws
             (parts_of self.old).words (parts_of self.new).words) }
         ensures leaves_held { LeavesHeld (held_in (parts_of self.old))
             (parts_of self.old) (parts_of self.new) }
@@ -87,8 +88,8 @@ impl<C: Chance> Arena<C> {
         ensures left { IfOk result (λ some. Stocks class.number some
             (parts_of self.old) (parts_of self.new)) }
         ensures steps { OnOk result ((parts_of self.new).words.drawn
-            ≤ (parts_of self.old).words.drawn + 41200) }
-        ensures stopped { IfErr result (λ e. StopsWithin e.step 41200
+            ≤ (parts_of self.old).words.drawn + most_refill_draws) }
+        ensures stopped { IfErr result (λ e. StopsWithin e.step most_refill_draws
             (parts_of self.old).words (parts_of self.new).words) }
         ensures leaves_held { LeavesHeld (held_in (parts_of self.old))
             (parts_of self.old) (parts_of self.new) }
@@ -108,9 +109,9 @@ impl<C: Chance> Arena<C> {
         requires holds { Contains (held_in (parts_of self.old)) b }
         ensures running { OnOk result (IsRunning (parts_of self.new)) }
         ensures short { OnOk result (CachesAreShort (parts_of self.new) 0) }
-        ensures runs_within { OnOk result (RunsWithin 40000
+        ensures runs_within { OnOk result (RunsWithin most_free_draws
             (parts_of self.old).words (parts_of self.new).words) }
-        ensures stopped { IfErr result (λ e. StopsWithin e.step 40000
+        ensures stopped { IfErr result (λ e. StopsWithin e.step most_free_draws
             (parts_of self.old).words (parts_of self.new).words) }
         ensures freed { TakesFrom b (held_in (parts_of self.old)) (held_in (parts_of self.new)) }
         ensures order { OnOk result (ComesBack b (parts_of self.old) (parts_of self.new)) }

@@ -3,6 +3,7 @@ ghost use Rattle.std.specs.Prelude.{◌≡◌, ◌<◌, ◌≤◌, ◌+◌, ◌*
 ghost use Rattle.heap_model.specs.Geometry.{start_word};
 ghost use Rattle.heap_model.specs.Sizes.{words_of_class};
 ghost use Rattle.block_heap.specs.Batches.{given_to};
+ghost use Rattle.block_heap.specs.Draws.{most_blocks};
 
 use crate::cache::Cache;
 use crate::medium::Medium;
@@ -154,7 +155,7 @@ fn block_word(geometry: Geometry, d: u64, class: SizeClass, index: u64) -> u64
 fn given_word(anchor: &Anchor, batch: Batch, max: u64) -> u64
     requires fits { batch.count + anchor.now.count ≤ max }
     requires first { batch.first < max }
-    requires max { max ≤ 4096 }
+    requires max { max ≤ most_blocks }
     ensures { result ≡ given_to anchor.now batch max }
 {
     let given = give(anchor, batch.first, batch.count, max);

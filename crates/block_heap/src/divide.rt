@@ -12,6 +12,7 @@ impl<C: Chance> Medium<C> {
     ghost use Rattle.block_heap.specs.Medium.{StoresOnly, StopsWithin};
     ghost use Rattle.block_heap.specs.Links.{IsOpen};
     ghost use Rattle.block_heap.specs.Divide.{IsDivideWord, AreInOneChain, IsDivided};
+    ghost use Rattle.block_heap.specs.Draws.{most_chain_draws, most_cut_draws};
     ghost use Rattle.heap_shape.specs.Effects.{IsInSuperblock};
 
     /// Divides superblock `d` into blocks of the class, all in one chain in ascending order.
@@ -25,7 +26,7 @@ impl<C: Chance> Medium<C> {
         requires superblock { d < geometry.capacity }
         ensures ok { OnOk result (IsDivided geometry.capacity class.number d
             (medium_view self.old) (medium_view self.new)) }
-        ensures stopped { IfErr result (λ e. StopsWithin e.step 4200
+        ensures stopped { IfErr result (λ e. StopsWithin e.step most_cut_draws
             (medium_view self.old) (medium_view self.new)) }
         ensures others { StoresOnly (IsDivideWord geometry.capacity d)
             (medium_view self.old) (medium_view self.new) }
@@ -44,7 +45,7 @@ impl<C: Chance> Medium<C> {
         ensures ok { OnOk result (AreInOneChain geometry.capacity class.number d
             (blocks_of class.number)
             (medium_view self.old) (medium_view self.new)) }
-        ensures stopped { IfErr result (λ e. StopsWithin e.step 4100
+        ensures stopped { IfErr result (λ e. StopsWithin e.step most_chain_draws
             (medium_view self.old) (medium_view self.new)) }
         ensures others { StoresOnly (IsInSuperblock geometry.capacity d)
             (medium_view self.old) (medium_view self.new) }

@@ -33,6 +33,7 @@ impl<C: Chance> Arena<C> {
     ghost use Rattle.block_heap.specs.Steps.{IsRefilling, FindsFirst, Spends, used_up};
     ghost use Rattle.block_heap.specs.Order.{RefillsFrom, OrdersFirst, OrdersPartial, OrdersFree, OrdersFresh};
     ghost use Rattle.block_heap.specs.Refill.{Cuts, SameBut, FindsFree, FindsFresh, FindsPartial, Refills};
+    ghost use Rattle.block_heap.specs.Draws.{most_cut_draws, most_refill_draws};
 
     /// Fills the empty cache of the class; `false` where there is no room.
     pub(crate) fn refill(&mut self, class: SizeClass) -> Result<bool, Stopped>
@@ -46,9 +47,9 @@ impl<C: Chance> Arena<C> {
             (parts_of self.old) (parts_of self.new)) }
         ensures left { IfOk result (λ some. Spends (one_if some) class.number
             (parts_of self.old) (parts_of self.new)) }
-        ensures runs_within { OnOk result (RunsWithin 41200
+        ensures runs_within { OnOk result (RunsWithin most_refill_draws
             (parts_of self.old).words (parts_of self.new).words) }
-        ensures stopped { IfErr result (λ e. StopsWithin e.step 41200
+        ensures stopped { IfErr result (λ e. StopsWithin e.step most_refill_draws
             (parts_of self.old).words (parts_of self.new).words) }
         ensures leaves_held { LeavesHeld (held_in (parts_of self.old))
             (parts_of self.old) (parts_of self.new) }
@@ -140,9 +141,9 @@ impl<C: Chance> Arena<C> {
             (parts_of self.old) (parts_of self.new)) }
         ensures left { IfOk result (λ some. Spends (one_if some) class.number
             (parts_of self.old) (parts_of self.new)) }
-        ensures runs_within { OnOk result (RunsWithin 4203
+        ensures runs_within { OnOk result (RunsWithin (most_cut_draws + 3)
             (parts_of self.old).words (parts_of self.new).words) }
-        ensures stopped { IfErr result (λ e. StopsWithin e.step 4203
+        ensures stopped { IfErr result (λ e. StopsWithin e.step (most_cut_draws + 3)
             (parts_of self.old).words (parts_of self.new).words) }
         ensures leaves_held { LeavesHeld (held_in (parts_of self.old))
             (parts_of self.old) (parts_of self.new) }
@@ -171,9 +172,9 @@ impl<C: Chance> Arena<C> {
             (parts_of self.old) (parts_of self.new)) }
         ensures left { IfOk result (λ some. Spends (one_if some) class.number
             (parts_of self.old) (parts_of self.new)) }
-        ensures runs_within { OnOk result (RunsWithin 4204
+        ensures runs_within { OnOk result (RunsWithin (most_cut_draws + 4)
             (parts_of self.old).words (parts_of self.new).words) }
-        ensures stopped { IfErr result (λ e. StopsWithin e.step 4204
+        ensures stopped { IfErr result (λ e. StopsWithin e.step (most_cut_draws + 4)
             (parts_of self.old).words (parts_of self.new).words) }
         ensures leaves_held { LeavesHeld (held_in (parts_of self.old))
             (parts_of self.old) (parts_of self.new) }
@@ -201,7 +202,7 @@ impl<C: Chance> Arena<C> {
         requires none { (mark : ℕ) → IsMarked (parts_of self.old).blocks.marks.items mark
             → mark / superblock_marks ≢ d }
         ensures ok { OnOk result (Cuts class.number d (parts_of self.old) (parts_of self.new)) }
-        ensures stopped { IfErr result (λ e. StopsWithin e.step 4200
+        ensures stopped { IfErr result (λ e. StopsWithin e.step most_cut_draws
             (parts_of self.old).words (parts_of self.new).words) }
         ensures others { StoresOnly (IsDivideWord (parts_of self.old).capacity d)
             (parts_of self.old).words (parts_of self.new).words }

@@ -130,6 +130,7 @@ impl<C: Chance> SeqHeap<C> {
     ghost use Rattle.block_heap.specs.Requests.{KeepsWords};
     ghost use Rattle.block_heap.specs.Serving.{Answers, DrainsAs};
     ghost use Rattle.block_heap.specs.SeqState.{seat_of};
+    ghost use Rattle.block_heap.specs.Draws.{most_small_draws};
     ghost use Rattle.heap_seat.specs.Tickets.{Runs, Stops};
 
     /// A block of at least so many bytes, if there is room. A refusal is not counted.
@@ -144,7 +145,7 @@ impl<C: Chance> SeqHeap<C> {
         ensures held { OnErr result (held_in self.new.parts ≡ held_in self.old.parts) }
         ensures words { KeepsWords (seat_of self.old) (seat_of self.new) }
         ensures counted { IsLargeCall (span_of bytes) (seat_of self.old) (seat_of self.new) }
-        ensures draws { self.new.parts.words.drawn ≤ self.old.parts.words.drawn + 41201 }
+        ensures draws { self.new.parts.words.drawn ≤ self.old.parts.words.drawn + most_small_draws }
         ensures refusable { OnOk result (self.new.refusals < self.new.large_calls) }
         ensures kept { KeepsFixed self.old self.new }
         ensures idle { (ticket : ℕ) → self.old.stopped ≡ Some ticket → self.new ≡ self.old }

@@ -10,6 +10,7 @@ use Rattle.block_heap.specs.Serving.{Answers, DrainsAs}
 use Rattle.block_heap.proofs.DrainKeepLemmas.{kept_first, kept_pushed, kept_unpushed, kept_last, kept_done, kept_stops}
 use Rattle.block_heap.proofs.DrainLemmas.{drains_last}
 use Rattle.block_heap.proofs.DrawnLemmas.{draining_first, draining_more, room_for_one, drawn_few, drawn_stops_within}
+use Rattle.block_heap.specs.Draws.{most_blocks}
 use Rattle.block_heap.proofs.seq_heap.SeqHeap.drain.Goals as goal
 
 pub overflow_mul-most : goal.overflow_mul-most
@@ -19,7 +20,7 @@ overflow_mul-most g c =
     let greatest = largest_capacity_fits in
     let count : c.blocks_of.result ≡ blocks_of c.args.class = c.blocks_of.ensures in
     let few = few_blocks c.args.class c.requires in
-    let by_count : c.capacity.result * c.blocks_of.result ≤ c.capacity.result * 4096 = mul-le-mul_left c.capacity.result (omega arith) in
+    let by_count : c.capacity.result * c.blocks_of.result ≤ c.capacity.result * most_blocks = mul-le-mul_left c.capacity.result (omega arith) in
     omega arith
 
 pub overflow_mul-b : goal.overflow_mul-b

@@ -6,6 +6,7 @@ use Rattle.block_heap.specs.SeqState.{SeqState}
 use Rattle.block_heap.specs.Serving.{DrainsAs}
 use Rattle.block_heap.proofs.RequestLemmas.{request_lasts, request_runs, request_words, large_heap}
 use Rattle.block_heap.proofs.FixedLemmas.{fixed_request}
+use Rattle.block_heap.specs.Draws.{most_small_draws}
 use Rattle.block_heap.proofs.seq_heap.SeqHeap.request.Goals as goal
 
 pub invariant_of-self-inside : goal.invariant_of-self-inside
@@ -17,7 +18,7 @@ invariant_of-self-inside g c = (
 
 pub invariant_of-self : goal.invariant_of-self
 invariant_of-self g c =
-    large_heap c.alloc-answer.result _ (parts_of c.alloc-answer.new.self) 41201 c.stop_of-self-inside.result _ c.self.invariant
+    large_heap c.alloc-answer.result _ (parts_of c.alloc-answer.new.self) most_small_draws c.stop_of-self-inside.result _ c.self.invariant
     (request_lasts c.alloc-answer.result (parts_of c.self.inside.arena) (parts_of c.alloc-answer.new.self) c.args.bytes c.self.inside.stopped c.stop_of-self-inside.result c.self.invariant.lasts
     c.alloc-answer.ensures.leaves_held c.alloc-answer.ensures.ok c.alloc-answer.ensures.held c.stop_of-self-inside.ensures.ok c.stop_of-self-inside.ensures.stopped c.alloc-answer.ensures.stopped)
     (request_runs c.alloc-answer.result c.args.bytes _ _ (c.self.invariant.running (ap (λ (s : SeqState). s.stopped) c.self.view_is ∙ c.in_ok-check_running.ensures.ok)).2
@@ -32,7 +33,7 @@ returns-clause-words g c = request_words _ c.args.self.now (parts_of c.alloc-ans
 
 pub returns-clause-kept : goal.returns-clause-kept
 returns-clause-kept g c = fixed_request _ c.args.self.now _ c.self.invariant c.self.view_is c.alloc-answer.ensures.leaves_held
-    (let few = few_drawn c.alloc-answer.result 41201 _ _ c.alloc-answer.ensures.runs_within c.alloc-answer.ensures.stopped in omega arith)
+    (let few = few_drawn c.alloc-answer.result most_small_draws _ _ c.alloc-answer.ensures.runs_within c.alloc-answer.ensures.stopped in omega arith)
 
 pub returns-clause-order : goal.returns-clause-order
 returns-clause-order g c = λ class least.

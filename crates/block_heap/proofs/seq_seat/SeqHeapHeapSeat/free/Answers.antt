@@ -6,6 +6,7 @@ use Rattle.block_heap.specs.SeqState.{SeqState}
 use Rattle.block_heap.proofs.RequestLemmas.{large_heap}
 use Rattle.block_heap.proofs.FreeCallLemmas.{free_lasts, free_runs, may_free, frees}
 use Rattle.block_heap.proofs.FixedLemmas.{fixed_free}
+use Rattle.block_heap.specs.Draws.{most_free_draws}
 use Rattle.block_heap.proofs.seq_seat.SeqHeapHeapSeat.free.Goals as goal
 
 pub invariant_of-self-inside : goal.invariant_of-self-inside
@@ -17,7 +18,7 @@ invariant_of-self-inside g c = (
 
 pub invariant_of-self : goal.invariant_of-self
 invariant_of-self g c =
-    large_heap c.free-answer.result _ (parts_of c.free-answer.new.self) 40000 c.stop_of-self-inside.result _ c.self.invariant
+    large_heap c.free-answer.result _ (parts_of c.free-answer.new.self) most_free_draws c.stop_of-self-inside.result _ c.self.invariant
     (free_lasts c.free-answer.result (parts_of c.self.inside.arena) (parts_of c.free-answer.new.self) c.args.b c.self.inside.stopped c.stop_of-self-inside.result c.self.invariant.lasts
     c.free-answer.ensures.freed c.free-answer.ensures.leaves_held c.stop_of-self-inside.ensures.ok c.stop_of-self-inside.ensures.stopped c.free-answer.ensures.stopped)
     (free_runs c.free-answer.result (parts_of c.self.inside.arena) (parts_of c.free-answer.new.self)
@@ -28,7 +29,7 @@ invariant_of-self g c =
 pub returns-clause-ok : goal.returns-clause-ok
 returns-clause-ok g c =
     frees _ (parts_of c.free-answer.new.self) c.stop_of-self-inside.result c.args.b c.self.invariant c.free-answer.ensures.freed c.free-answer.ensures.leaves_held
-    c.free-answer.result c.args.self.now 40000 c.self.view_is c.in_ok-check_running.ensures.ok c.stop_of-self-inside.ensures.ok c.free-answer.ensures.runs_within
+    c.free-answer.result c.args.self.now most_free_draws c.self.view_is c.in_ok-check_running.ensures.ok c.stop_of-self-inside.ensures.ok c.free-answer.ensures.runs_within
 
 pub returns-clause-others : goal.returns-clause-others
 returns-clause-others g c =
@@ -36,7 +37,7 @@ returns-clause-others g c =
 
 pub returns-clause-kept : goal.returns-clause-kept
 returns-clause-kept g c = fixed_free _ c.args.self.now _ c.args.b c.self.invariant c.self.view_is c.free-answer.ensures.freed c.free-answer.ensures.leaves_held
-    (let few = few_drawn c.free-answer.result 40000 _ _ c.free-answer.ensures.runs_within c.free-answer.ensures.stopped in omega arith)
+    (let few = few_drawn c.free-answer.result most_free_draws _ _ c.free-answer.ensures.runs_within c.free-answer.ensures.stopped in omega arith)
 
 pub returns-clause-given : goal.returns-clause-given
 returns-clause-given g c =
