@@ -16,6 +16,7 @@ use Rattle.block_heap.specs.AllocatorWords.{IsAllocatorWord}
 use Rattle.heap_seat.specs.Rows.{IsRow}
 use Rattle.heap_model.specs.Geometry.{used_word}
 use Rattle.block_heap.proofs.StableLemmas.{not_fixed, own_not_fixed, stable_fewer}
+use Rattle.heap_seat.specs.declared.look.Look.{Look}
 
 -- the fixed words are those of the image that was opened
 pub fixed_opened : (words : List ℕ) (held : List Block) (budget : ℕ) (s t : SeqState) → IsOpened words held budget s → KeepsFixed s t
@@ -85,7 +86,7 @@ pub looks_opened : (words : List ℕ) (held : List Block) (budget : ℕ) (s t : 
     → t.parts.used_look.seen ≡ used_of (slice_index words) + t.parts.used_look.taken
 looks_opened words held budget s t opened keeps =
     let looks = keeps.looks in
-    let seen = opened.opens.used in
+    let seen : s.parts.used_look.seen ≡ used_of (slice_index words) = ap (λ (look : Look). look.seen) opened.opens.used_look in
     let none = opened.opens.taken in
     let knows = opened.opens.running.knows in
     let used : image_of s.parts used_word ≡ used_of (slice_index words) = ap (λ (v : View). volatile_at v used_word) opened.opens.words_are in

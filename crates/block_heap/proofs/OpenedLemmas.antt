@@ -1,7 +1,8 @@
 -- A heap that was opened at rest runs.
-use Rattle.std.proofs.Common.{◌≡◌, ℕ, ◌+◌, ◌*◌, ◌<◌, ◌≤◌, ◌^◌, List, [], ◌∷◌, length, get_or, replicate, refl, ap, sym, subst, ◌∙◌, arith}
+use Rattle.std.proofs.Common.{◌≡◌, ℕ, ◌+◌, ◌*◌, ◌<◌, ◌≤◌, ◌^◌, inl, inr, List, [], ◌∷◌, ◌++◌, length, get_or, replicate, refl, ap, sym, subst, ◌∙◌, arith}
 use Rattle.std.specs.Prelude.{slice_index}
-use Rattle.std.proofs.lemmas.List.{get_or_default, length-replicate, get_or-replicate}
+use Rattle.std.proofs.lemmas.Bool.{cases_eq}
+use Rattle.std.proofs.lemmas.List.{get_or_default, length-replicate, get_or-replicate, length_push, get_or_push, get_or_append_left}
 use Rattle.heap_model.specs.declared.block.Block.{Block}
 use Rattle.heap_model.specs.Geometry.{lists, head_word, link_word, used_word, largest_capacity, largest_capacity_fits}
 use Rattle.heap_model.specs.Image.{Image}
@@ -22,8 +23,8 @@ use Rattle.block_heap.specs.declared.cache.Cache.{Cache}
 use Rattle.block_heap.specs.declared.held.HeldBlocks.{HeldBlocks}
 use Rattle.heap_seat.specs.declared.look.Look.{Look}
 use Rattle.block_heap.specs.Held.{held_of}
-use Rattle.block_heap.specs.Opening.{IsHeldOf, Opens}
-use Rattle.block_heap.specs.Parts.{Parts, cache_at}
+use Rattle.block_heap.specs.Opening.{IsHeldOf, opened_look, Opens}
+use Rattle.block_heap.specs.Parts.{Parts, cache_at, head_look, no_look}
 use Rattle.block_heap.specs.Running.{IsCacheOf, IsRunning}
 
 -- caches that are empty may begin anywhere
@@ -71,10 +72,29 @@ used_there words held or ready =
     let length_is : 8 * length words ≡ 8 * (1064 + 8200 * capacity_of (slice_index words)) = ready.formed.length_is in
     get_or_default words used_word or 0 (omega arith)
 
+-- each head that was seen so far is as the list of words has it
+pub record AreSeen (words : List ℕ) (looks : List Look) (count : ℕ) : Type 0 where
+  pub long : length looks ≡ count
+  pub each : (list : ℕ) → list < count → head_look looks list ≡ opened_look (slice_index words (head_word list))
+
+pub seen_none : (words : List ℕ) → AreSeen words [] 0
+seen_none words = record { long = refl; each = λ list less. absurd (omega arith) }
+
+pub seen_more : (words : List ℕ) (looks : List Look) (count : ℕ) (look : Look) → AreSeen words looks count
+    → look ≡ opened_look (slice_index words (head_word count)) → AreSeen words (looks ++ look ∷ []) (count + 1)
+seen_more words looks count look seen now = record {
+  long = let long = seen.long in let more = length_push looks look in omega arith;
+  each = λ list less. elim (cases_eq list count) as (λ _. head_look (looks ++ look ∷ []) list ≡ opened_look (slice_index words (head_word list))) [
+    | inl last ↦ get_or_push looks look no_look list (seen.long ∙ sym last) ∙ now ∙ ap (λ k. opened_look (slice_index words (head_word k))) (sym last)
+    | inr before ↦ get_or_append_left looks (look ∷ []) no_look list (let long = seen.long in omega arith) ∙ seen.each list (omega arith)
+  ];
+}
+
 -- The parts of a heap that was opened at rest.
 module _ (words : List ℕ) (held : List Block) (budget : ℕ) (h : HeldBlocks) (caches : List Cache) (look : Look) (looks : List Look)
     (ready : IsReady words held) (few : budget < 2 ^ 40) (is : IsHeldOf words held h) (none : caches ≡ replicate 21 no_cache)
-    (long : length looks ≡ lists) (seen : look.seen ≡ slice_index words used_word) (taken : look.taken ≡ 0) where
+    (long : length looks ≡ lists) (look_is : look ≡ opened_look (slice_index words used_word))
+    (looks_are : (list : ℕ) → list < lists → head_look looks list ≡ opened_look (slice_index words (head_word list))) where
   abbrev parts : Parts
   parts = record {
     words = opened words budget;
@@ -125,7 +145,10 @@ module _ (words : List ℕ) (held : List Block) (budget : ℕ) (h : HeldBlocks) 
         let never = never_popped (λ d. slice_index words (link_word d)) (capacity_of (slice_index words)) (slice_index words (head_word list))
         (ready.shaped.descriptors list) ready.formed.small (ready.shaped.follows list less) in
         omega arith;
-    knows = omega arith;
+    knows =
+        let seen : look.seen ≡ slice_index words used_word = ap (λ (l : Look). l.seen) look_is in
+        let taken : look.taken ≡ 0 = ap (λ (l : Look). l.taken) look_is in
+        omega arith;
     few = omega arith;
   }
 
@@ -138,7 +161,8 @@ module _ (words : List ℕ) (held : List Block) (budget : ℕ) (h : HeldBlocks) 
     capacity = refl;
     same = is.same;
     taken = refl;
-    used = seen;
+    used_look = look_is;
+    head_looks = looks_are;
   } where
     by_use : (d : ℕ) → HasUse (capacity_of (slice_index words)) (slice_index words) held d
         → HasUse (capacity_of (slice_index words)) (slice_index words) (held_of h) d

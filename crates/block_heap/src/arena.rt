@@ -1,6 +1,7 @@
 //! The parts of a heap for one thread: words, caches and held blocks, and what was read last of the
 //! words that threads share.
 ghost use Rattle.std.specs.Prelude.{◌≡◌};
+ghost use Rattle.block_heap.specs.Opening.{opened_look};
 
 use crate::cache::Cache;
 use crate::held::HeldBlocks;
@@ -64,8 +65,7 @@ impl<C: Chance> Arena<C> {
 
 /// A shared word as it was when the heap was opened.
 fn opening_look(seen: u64) -> Look
-    ensures seen { result.seen ≡ seen }
-    ensures taken { result.taken ≡ 0 }
+    ensures { result ≡ opened_look seen }
 {
     Look {
         seen,
