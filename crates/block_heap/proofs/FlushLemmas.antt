@@ -40,7 +40,7 @@ use Rattle.std.proofs.lemmas.List.{nil_from_length}
 use Rattle.block_heap.proofs.WalkLemmas.{walk_prefix, walk_first}
 
 -- the states by their numbers
-full_number : (state : State) → state_number state ≡ 2 → state ≡ Full
+pub full_number : (state : State) → state_number state ≡ 2 → state ≡ Full
 full_number Empty e = absurd (omega arith)
 full_number Partial e = absurd (omega arith)
 full_number Full e = refl
@@ -211,7 +211,7 @@ module _ (p : Parts) (class : ℕ) (is : IsClass class) (run : IsRunning p) (pre
           | inr some ↦ inr (cond-false (nat_eq anchor.count 0) p.words.volatile (set p.words.volatile prefix.batch.last next_word) (ne_eqb anchor.count 0 some))
         ]
 
-    linked_long : length linked ≡ word_count p.words
+    pub linked_long : length linked ≡ word_count p.words
     linked_long = elim linked_is as (λ _. length linked ≡ word_count p.words) [
       | inl none ↦ ap (λ (xs : List ℕ). length xs) none.1
       | inr some ↦ ap (λ (xs : List ℕ). length xs) some ∙ length-set p.words.volatile prefix.batch.last next_word
@@ -232,7 +232,7 @@ module _ (p : Parts) (class : ℕ) (is : IsClass class) (run : IsRunning p) (pre
     abbrev state_now : ℕ
     state_now = cond (nat_eq (length blocks + length (s.chain prefix.d)) (blocks_of class)) empty_state partial_state
 
-    new_other : (word : ℕ) → word ≢ anchor_word prefix.d → volatile_at w word ≡ get_or linked word 0
+    pub new_other : (word : ℕ) → word ≢ anchor_word prefix.d → volatile_at w word ≡ get_or linked word 0
     new_other word other = ap (λ (xs : List ℕ). get_or xs word 0) given.words ∙ get_or-set_other linked (anchor_word prefix.d) word
         (given_to anchor prefix.batch (blocks_of class)) 0 other
 
@@ -341,7 +341,7 @@ module _ (p : Parts) (class : ℕ) (is : IsClass class) (run : IsRunning p) (pre
                 (head_of (prefix.d + 1) (head_pops (volatile_at w (head_word list)))) (omega arith) pushed.words;
           }
 
-      pops_now : list < lists → (l : ℕ) → l < lists → head_pops (volatile_at x (head_word l)) ≡ head_pops (image_of p (head_word l))
+      pub pops_now : list < lists → (l : ℕ) → l < lists → head_pops (volatile_at x (head_word l)) ≡ head_pops (image_of p (head_word l))
       unfolding pushed_on
       pops_now below l l_below =
           let within = is_prefix.within in

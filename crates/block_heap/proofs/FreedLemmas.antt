@@ -17,7 +17,7 @@ use Rattle.block_heap.specs.Parts.{Parts, held_in, cache_at}
 use Rattle.block_heap.specs.Returns.{CachesAlong, CachesOnlyOf, CachesAllOf, CachesBlock, Flushes, below_limit, at_limit, FreesSmall}
 use Rattle.block_heap.specs.Running.{IsRunning, CachesAreShort}
 use Rattle.block_heap.proofs.FreeLemmas.{freed_parts, count_short, freed_shape}
-use Rattle.block_heap.proofs.ReturnLemmas.{cached_along}
+use Rattle.block_heap.proofs.BlockRunLemmas.{cached_along}
 use Rattle.block_heap.proofs.WalkLemmas.{one_walk}
 use Rattle.block_heap.proofs.SmallLemmas.{other_cache}
 

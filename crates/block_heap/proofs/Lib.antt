@@ -25,6 +25,7 @@ pub mod CutLemmas
 pub mod BlockMarkLemmas
 pub mod SmallLemmas
 pub mod FlushLemmas
+pub mod BlockRunLemmas
 pub mod PrefixLemmas
 pub mod FreeLemmas
 pub mod RequestLemmas

@@ -20,10 +20,11 @@ use Rattle.block_heap.proofs.MediumLemmas.{stores_then}
 use Rattle.block_heap.proofs.RunningLemmas.{running_words}
 use Rattle.block_heap.proofs.SmallLemmas.{first_cached, first_of_d, leaves_held_of, leaves_held_none, leaves_held_then}
 use Rattle.block_heap.proofs.LookLemmas.{looks_of}
-use Rattle.block_heap.specs.Returns.{IsLongest, GivesTo}
+use Rattle.block_heap.specs.Returns.{IsLongest, GivesPrefix, GivesTo}
 use Rattle.block_heap.proofs.WalkLemmas.{walk_prefix, walk_begin}
 use Rattle.block_heap.proofs.ReturnLemmas.{FlushesSoFar, flushes_none, flushes_more}
 use Rattle.heap_model.proofs.ListLemmas.{walk_behind}
+use Rattle.block_heap.specs.Draws.{most_flush_draws}
 
 -- the cache leads along so many blocks of superblock d, up to the last one, which leads to the next
 pub record IsWalked (class d last next count : ℕ) (cache : Cache) (p : Parts) : Type 0 where
@@ -290,7 +291,7 @@ module _ (class : ℕ) (p q r : Parts) (prefix : CachePrefix) (before : IsFlushe
   -- and given back
   module _ (t : Parts) (gave_run : IsRunning t) (gives : GivesBack class prefix r t) (gave : RunsWithin 6 r.words t.words) (gave_held : held_in t ≡ held_in r)
       (gave_serve : LeavesHeld (held_in r) r t) (gave_taken : t.taken ≡ r.taken) (is : IsClass class) (first : IsRunning p)
-      (volatile : r.words.volatile ≡ q.words.volatile) (longest : IsLongest prefix r) (to : GivesTo class prefix r t) where
+      (volatile : r.words.volatile ≡ q.words.volatile) (longest : IsLongest prefix r) (to : GivesTo class prefix r t) (in_front : GivesPrefix class prefix r t) where
     pub flushed_more : IsFlushed class p t
     flushed_more = record {
       running = gave_run;
@@ -306,7 +307,7 @@ module _ (class : ℕ) (p q r : Parts) (prefix : CachePrefix) (before : IsFlushe
       leaves_held = leaves_held_then p r t (held_in p) prefix_leaves_held (subst (λ h. LeavesHeld h r t) prefix_held gave_serve);
       taken = gave_taken ∙ taken ∙ before.taken;
       order = flushes_more class p q r t is (first.caches class is).most before.order leaves_held.capacity volatile (ap (λ (xs : List Cache). cache_at xs class) caches)
-          run prefix is_prefix longest some_given to gave_serve.capacity gives.cache;
+          run prefix is_prefix longest some_given to in_front gave_serve.capacity gives.cache;
     }
 
     pub flushed_less : (cache_at t.caches class).count < (cache_at q.caches class).count
@@ -322,7 +323,7 @@ module _ (class : ℕ) (p q r : Parts) (prefix : CachePrefix) (before : IsFlushe
   give_leaves_held x gave = leaves_held_then p r x (held_in p) prefix_leaves_held (subst (λ h. LeavesHeld h r x) prefix_held gave)
 
   -- how far it went where giving it stopped
-  pub give_stops_within : (w : View) (ticket : ℕ) → IsClass class → IsRunning p → StopsWithin ticket 6 r.words w → StopsWithin ticket 36864 p.words w
+  pub give_stops_within : (w : View) (ticket : ℕ) → IsClass class → IsRunning p → StopsWithin ticket 6 r.words w → StopsWithin ticket most_flush_draws p.words w
   give_stops_within w ticket is first stops_within = record {
     stopped = stops_within.stopped;
     above = stops_within.above;
@@ -341,7 +342,7 @@ module _ (class : ℕ) (p q r : Parts) (prefix : CachePrefix) (before : IsFlushe
 
 -- and where finding it did
 pub prefix_stops_within : (class : ℕ) (p q : Parts) (w : View) (ticket : ℕ) → IsFlushed class p q → IsClass class → IsRunning p
-    → StopsWithin ticket (cache_at q.caches class).count q.words w → StopsWithin ticket 36864 p.words w
+    → StopsWithin ticket (cache_at q.caches class).count q.words w → StopsWithin ticket most_flush_draws p.words w
 prefix_stops_within class p q w ticket before is first stops_within = record {
   stopped = stops_within.stopped;
   above = stops_within.above;

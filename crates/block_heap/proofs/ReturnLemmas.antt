@@ -27,8 +27,9 @@ use Rattle.block_heap.specs.Links.{IsPushed, IsPushWord}
 use Rattle.block_heap.specs.Lists.{head_at, LeadsAlong, IsInList, KeepsFree}
 use Rattle.block_heap.specs.Medium.{StoresOnly}
 use Rattle.block_heap.specs.Parts.{Parts, image_of, held_in, cache_at}
-use Rattle.block_heap.specs.Returns.{CachesAlong, CachesAllOf, Flushes, IsLongest, GivesTo}
+use Rattle.block_heap.specs.Returns.{CachesAlong, CachesAllOf, Flushes, GivesInRuns, GivesPrefix, IsLongest, GivesTo}
 use Rattle.block_heap.specs.Running.{IsRunning}
+use Rattle.block_heap.proofs.BlockRunLemmas.{cached_along, runs_none, runs_more}
 use Rattle.block_heap.proofs.FlushLemmas.{give_low, split, rest_long, prefix_fits, gave_listed, gave_shape, gave_fixed, listed_fixed, all_shape, some_shape}
 use Rattle.std.proofs.lemmas.List.{nil_from_length}
 use Rattle.block_heap.proofs.OrderLemmas.{in_list_along, in_list_has, list_kept, list_same}
@@ -51,14 +52,7 @@ listed_where capacity image held s shape list d below place =
     let count = shape.listed list d below in
     times_some d (s.listed list) (omega arith)
 
--- the cache of a running heap leads along that of its shape
-pub cached_along : (p : Parts) (class : ℕ) → IsClass class → (run : IsRunning p) → CachesAlong class p (run.shape.cached class)
-cached_along p class is run = record {
-  walks = subst (λ x. Walks (image_of p) x (run.shape.cached class)) (sym (run.caches class is).first) (run.is.walks class is);
-  count = (run.caches class is).count;
-}
-
--- and along nothing else
+-- the cache of a running heap leads along that of its shape alone
 pub along_one : (p : Parts) (class : ℕ) (words : List ℕ) → IsClass class → (run : IsRunning p) → CachesAlong class p words → words ≡ run.shape.cached class
 along_one p class words is run along =
     let here = cached_along p class is run in
@@ -277,19 +271,21 @@ pub record FlushesSoFar (class : ℕ) (p q : Parts) : Type 0 where
   pub listed : (d : ℕ) → IsInList p class d → IsInList q class d
   pub only : (d : ℕ) → IsInList q 0 d → IsInList p 0 d ⊎ CachesAllOf class d p
   pub same_capacity : q.capacity ≡ p.capacity
+  -- what is still in the cache, as runs, makes runs of all of it
+  pub in_runs : (x : Parts) → GivesInRuns class q x → GivesInRuns class p x
   pub heads : (c : ℕ) → IsClass c → c ≢ class → head_at q c ≡ head_at p c
   pub infos : (d : ℕ) → d < p.capacity → image_of q (info_word d) ≡ image_of p (info_word d)
   pub way : ((q.capacity ≡ p.capacity) × (q.words.volatile ≡ p.words.volatile) × (cache_at q.caches class ≡ cache_at p.caches class))
       ⊎ (((cache_at q.caches class).count < (cache_at p.caches class).count) × ((d : ℕ) → CachesAllOf class d p → IsInList q 0 d))
 
 pub flushes_none : (class : ℕ) (p : Parts) → FlushesSoFar class p p
-flushes_none class p = record { free = λ d there. there; listed = λ d there. there; only = λ d there. inl there; same_capacity = refl; heads = λ c is other. refl; infos = λ d below. refl; way = inl (refl, refl, refl) }
+flushes_none class p = record { free = λ d there. there; listed = λ d there. there; only = λ d there. inl there; same_capacity = refl; in_runs = λ x back. back; heads = λ c is other. refl; infos = λ d below. refl; way = inl (refl, refl, refl) }
 
 -- one prefix more
 module _ (class : ℕ) (p q r t : Parts) (is : IsClass class) (most : (cache_at p.caches class).count ≤ blocks_of class) (before : FlushesSoFar class p q)
     (capacity : r.capacity ≡ q.capacity) (volatile : r.words.volatile ≡ q.words.volatile) (cache : cache_at r.caches class ≡ cache_at q.caches class)
     (run : IsRunning r) (prefix : CachePrefix) (is_prefix : IsCachePrefix class prefix r) (longest : IsLongest prefix r) (some : 1 ≤ prefix.batch.count)
-    (to : GivesTo class prefix r t) (now_capacity : t.capacity ≡ r.capacity) (back : cache_at t.caches class ≡ prefix.rest) where
+    (to : GivesTo class prefix r t) (gave : GivesPrefix class prefix r t) (now_capacity : t.capacity ≡ r.capacity) (back : cache_at t.caches class ≡ prefix.rest) where
   loaded : (list d : ℕ) → IsInList q list d → IsInList r list d
   loaded list d there = list_same q r list d capacity volatile there
 
@@ -319,6 +315,7 @@ module _ (class : ℕ) (p q r t : Parts) (is : IsClass class) (most : (cache_at 
       ]))
     ];
     same_capacity = now_capacity ∙ capacity ∙ before.same_capacity;
+    in_runs = λ x after. before.in_runs x (runs_more class q r t x capacity volatile cache is prefix longest gave now_capacity back after);
     heads = λ c is_c other.
         to.heads c is_c other ∙ ap (λ (xs : List ℕ). get_or xs (head_word c) 0) volatile ∙ before.heads c is_c other;
     infos = λ d below.
@@ -400,6 +397,8 @@ module _ (class : ℕ) (p q : Parts) (is : IsClass class) (run : IsRunning p) (n
 pub flushes_all : (class : ℕ) (p q : Parts) → IsClass class → IsRunning p → IsRunning q → held_in q ≡ held_in p → FlushesSoFar class p q → KeepsAll class p q
     → (cache_at q.caches class).count ≡ 0 → Flushes class p q
 flushes_all class p q is run now held so_far keeps empty = record {
+  capacity = so_far.same_capacity;
+  in_runs = so_far.in_runs q (runs_none class q empty);
   empty = empty;
   caches = keeps.caches;
   heads = so_far.heads;

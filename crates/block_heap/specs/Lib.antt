@@ -3,6 +3,8 @@ pub mod AllocatorWords
 pub mod Anchors
 pub mod Batches
 pub mod Begun
+pub mod BlockRunExamples
+pub mod BlockRuns
 pub mod Closing
 pub mod Divide
 pub mod Draws

@@ -1,5 +1,5 @@
 -- Where freed blocks go.
-use Rattle.std.specs.Prelude.{◌≡◌, ◌≢◌, ℕ, ◌+◌, ◌<◌, ◌⊎◌, List, length, slice_set, Contains}
+use Rattle.std.specs.Prelude.{◌≡◌, ◌≢◌, ℕ, ◌+◌, ◌<◌, ◌⊎◌, List, ◌++◌, length, slice_set, Contains}
 use Rattle.heap_model.specs.declared.block.Block.{Block}
 use Rattle.heap_model.specs.Geometry.{info_word}
 use Rattle.heap_model.specs.Sizes.{IsClass, blocks_of, words_of_class}
@@ -8,6 +8,7 @@ use Rattle.heap_model.specs.Chains.{Walks}
 use Rattle.heap_shape.specs.Standing.{IsFirstOf}
 use Rattle.heap_shape.specs.Effects.{IsInSuperblock}
 use Rattle.block_heap.specs.declared.small.CachePrefix.{CachePrefix}
+use Rattle.block_heap.specs.BlockRuns.{BlockRun, IsRunOf, AreRunsOf, GivesRun, GivesRuns}
 use Rattle.block_heap.specs.Lists.{head_at, IsInList, KeepsFree}
 use Rattle.block_heap.specs.Parts.{Parts, image_of, cache_at}
 
@@ -32,8 +33,18 @@ pub record CachesBlock (class word : ℕ) (p q : Parts) : Type 0 where
   pub caches : (c : ℕ) → IsClass c → c ≢ class → cache_at q.caches c ≡ cache_at p.caches c
   pub volatile : q.words.volatile ≡ slice_set p.words.volatile word (cache_at p.caches class).first
 
+-- the cache was given back as runs, in its order: each is as long as it can be
+pub record GivesInRuns (class : ℕ) (p q : Parts) : Type 0 where
+  pub words : List ℕ
+  pub cached : CachesAlong class p words
+  pub runs : List BlockRun
+  pub cut : AreRunsOf p.capacity class words runs
+  pub gives : GivesRuns p.capacity class runs (image_of p) (image_of q)
+
 -- the cache was given back, so that a superblock of each of its blocks is in the list of the class or in the free list: it came to the free list exactly where the cache had exactly its blocks, and no list loses one
 pub record Flushes (class : ℕ) (p q : Parts) : Type 0 where
+  pub capacity : q.capacity ≡ p.capacity
+  pub in_runs : GivesInRuns class p q
   pub empty : (cache_at q.caches class).count ≡ 0
   pub caches : (c : ℕ) → IsClass c → c ≢ class → cache_at q.caches c ≡ cache_at p.caches c
   pub heads : (c : ℕ) → IsClass c → c ≢ class → head_at q c ≡ head_at p c
@@ -74,6 +85,15 @@ pub record ComesBack (b : Block) (p q : Parts) : Type 0 where
 -- no longer prefix of the cache lies in its superblock
 abbrev pub IsLongest : CachePrefix → Parts → Type 0
 IsLongest prefix p = (prefix.rest.count ≡ 0) ⊎ (IsInSuperblock p.capacity prefix.d prefix.rest.first → ⊥)
+
+-- the prefix is a run of the cache, which leads along the rest now
+pub record GivesPrefix (class : ℕ) (prefix : CachePrefix) (p q : Parts) : Type 0 where
+  pub blocks : List ℕ
+  pub rest : List ℕ
+  pub cached : CachesAlong class p (blocks ++ rest)
+  pub now : CachesAlong class q rest
+  pub is_run : IsRunOf p.capacity class (record { superblock = prefix.d; blocks = blocks })
+  pub gives : GivesRun p.capacity class (record { superblock = prefix.d; blocks = blocks }) (image_of p) (image_of q)
 
 -- the superblock that got the prefix is in the free list if it got all its blocks, and else in that of the class; no list loses one
 pub record GivesTo (class : ℕ) (prefix : CachePrefix) (p q : Parts) : Type 0 where

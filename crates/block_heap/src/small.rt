@@ -28,7 +28,8 @@ impl<C: Chance> Arena<C> {
     ghost use Rattle.block_heap.specs.Running.{IsRunning, CachesAreShort, LeavesHeld};
     ghost use Rattle.block_heap.specs.Steps.{PopsBlock};
     ghost use Rattle.block_heap.specs.Flush.{IsCachePrefix, KeepsAll, GivesBack};
-    ghost use Rattle.block_heap.specs.Returns.{FreesSmall, Flushes, IsLongest, GivesTo};
+    ghost use Rattle.block_heap.specs.Returns.{FreesSmall, Flushes, IsLongest, GivesPrefix, GivesTo};
+    ghost use Rattle.block_heap.specs.Draws.{most_flush_draws, most_free_draws};
 
     /// Pops the first block of the cache, which has one, and holds it.
     pub(crate) fn pop_block(&mut self, class: SizeClass) -> Result<Block, Stopped>
@@ -66,9 +67,9 @@ impl<C: Chance> Arena<C> {
         requires size { b.words ≡ words_of_class class.number }
         ensures running { OnOk result (IsRunning (parts_of self.new)) }
         ensures short { OnOk result (CachesAreShort (parts_of self.new) 0) }
-        ensures runs_within { OnOk result (RunsWithin 40000
+        ensures runs_within { OnOk result (RunsWithin most_free_draws
             (parts_of self.old).words (parts_of self.new).words) }
-        ensures stopped { IfErr result (λ e. StopsWithin e.step 40000
+        ensures stopped { IfErr result (λ e. StopsWithin e.step most_free_draws
             (parts_of self.old).words (parts_of self.new).words) }
         ensures freed { TakesFrom b (held_in (parts_of self.old)) (held_in (parts_of self.new)) }
         ensures order { OnOk result (FreesSmall class.number b.first_word
@@ -105,7 +106,7 @@ impl<C: Chance> Arena<C> {
             + 9 * (cache_at (parts_of self.old).caches class.number).count }
         ensures below { OnOk result ((parts_of self.new).words.drawn
             ≤ (parts_of self.new).words.budget) }
-        ensures stopped { IfErr result (λ e. StopsWithin e.step 36864
+        ensures stopped { IfErr result (λ e. StopsWithin e.step most_flush_draws
             (parts_of self.old).words (parts_of self.new).words) }
         ensures held { held_in (parts_of self.new) ≡ held_in (parts_of self.old) }
         ensures leaves_held { LeavesHeld (held_in (parts_of self.old))
@@ -175,6 +176,8 @@ impl<C: Chance> Arena<C> {
         ensures gives { OnOk result (GivesBack class.number prefix
             (parts_of self.old) (parts_of self.new)) }
         ensures order { OnOk result (GivesTo class.number prefix
+            (parts_of self.old) (parts_of self.new)) }
+        ensures in_front { OnOk result (GivesPrefix class.number prefix
             (parts_of self.old) (parts_of self.new)) }
         ensures runs_within { OnOk result (RunsWithin 6
             (parts_of self.old).words (parts_of self.new).words) }

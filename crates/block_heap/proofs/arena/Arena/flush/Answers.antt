@@ -26,7 +26,7 @@ loop-class-preserved g c =
     c.in_ok-prefix.ensures.ok c.in_ok-prefix.ensures.running c.in_ok-prefix.ensures.keeps c.longest_prefix.ensures.caches c.in_ok-prefix.ensures.runs_within c.longest_prefix.ensures.held
     c.longest_prefix.ensures.leaves_held c.longest_prefix.ensures.taken
     (parts_of c.give.new.self) c.in_ok-give.ensures.running c.in_ok-give.ensures.gives c.in_ok-give.ensures.runs_within c.give.ensures.held c.give.ensures.leaves_held
-    c.give.ensures.taken c.args.class.is c.requires c.in_ok-prefix.ensures.words c.in_ok-prefix.ensures.longest c.in_ok-give.ensures.order
+    c.give.ensures.taken c.args.class.is c.requires c.in_ok-prefix.ensures.words c.in_ok-prefix.ensures.longest c.in_ok-give.ensures.order c.in_ok-give.ensures.in_front
 
 pub returns-in_err-give-clause-stopped : goal.returns-in_err-give-clause-stopped
 returns-in_err-give-clause-stopped g c =

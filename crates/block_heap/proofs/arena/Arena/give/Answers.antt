@@ -7,7 +7,8 @@ use Rattle.block_heap.specs.Parts.{parts_of}
 use Rattle.block_heap.specs.Running.{IsRunning}
 use Rattle.block_heap.proofs.SmallLemmas.{changed}
 use Rattle.block_heap.proofs.FlushLemmas.{prefix_anchor, prefix_first, prefix_last, prefix_fits, gave_leaves_held, pushed_leaves_held, gave_running, gave_accounted, pushed_all, all_accounted, pushed_some, some_accounted}
-use Rattle.block_heap.specs.Returns.{GivesTo}
+use Rattle.block_heap.specs.Returns.{GivesPrefix, GivesTo}
+use Rattle.block_heap.proofs.BlockRunLemmas.{gave_prefix, all_prefix, some_prefix}
 use Rattle.block_heap.proofs.ReturnLemmas.{gave_to, all_to, some_to}
 use Rattle.block_heap.proofs.AccountLemmas.{gives_back}
 use Rattle.block_heap.proofs.arena.Arena.give.Goals as goal
@@ -130,5 +131,32 @@ returns-in_ok-push-clause-order g c =
 pub returns-else-eq-clause-order : goal.returns-else-eq-clause-order
 returns-else-eq-clause-order g c =
     gave_to (parts_of c.args.self.now) c.args.class.number c.args.class.is c.requires.running c.args.prefix c.requires.prefix
+    (medium_view c.give_blocks.new.self) c.in_ok-anchor.anchor
+    c.in_ok-anchor.ensures.ok c.give_blocks.ensures.others (λ e. search rules)
+
+pub returns-in_ok-push-clause-in_front : goal.returns-in_ok-push-clause-in_front
+returns-in_ok-push-clause-in_front g c =
+    let p = parts_of c.args.self.now in
+    let all = c.blocks_of.ensures in
+    let same = c.eq.ensures in
+    let full : c.in_ok-anchor.anchor.state ≡ Full = search rules in
+    elim c.if-all.branch as (λ _. GivesPrefix c.args.class.number c.args.prefix p (changed p (medium_view c.push.new.self) (set p.caches c.args.class.number c.args.prefix.rest) c.args.self.now.held)) [
+      | then-all w ↦
+          all_prefix p c.args.class.number c.args.class.is c.requires.running c.args.prefix c.requires.prefix
+          (medium_view c.give_blocks.new.self) c.in_ok-anchor.anchor
+          c.in_ok-anchor.ensures.ok c.give_blocks.ensures.others full c.if-all.list (medium_view c.push.new.self) c.in_ok-push.ensures.ok
+          c.push.ensures.others
+          (let e = w.if-all.true in omega arith) w.list-is
+      | else-all w ↦
+          some_prefix p c.args.class.number c.args.class.is c.requires.running c.args.prefix c.requires.prefix
+          (medium_view c.give_blocks.new.self) c.in_ok-anchor.anchor
+          c.in_ok-anchor.ensures.ok c.give_blocks.ensures.others full c.if-all.list (medium_view c.push.new.self) c.in_ok-push.ensures.ok
+          c.push.ensures.others
+          (let e = w.if-all.false in λ f. e (f ∙ sym all)) w.list-is
+    ]
+
+pub returns-else-eq-clause-in_front : goal.returns-else-eq-clause-in_front
+returns-else-eq-clause-in_front g c =
+    gave_prefix (parts_of c.args.self.now) c.args.class.number c.args.class.is c.requires.running c.args.prefix c.requires.prefix
     (medium_view c.give_blocks.new.self) c.in_ok-anchor.anchor
     c.in_ok-anchor.ensures.ok c.give_blocks.ensures.others (λ e. search rules)
