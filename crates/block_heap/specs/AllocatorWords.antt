@@ -37,7 +37,8 @@ pub record IsStable (capacity : ℕ) (v : View) (held : List Block) : Type 0 whe
   pub fits : low ≤ capacity
   pub used : low ≤ volatile_at v used_word
   pub used_durable : low ≤ durable_at v used_word
-  pub named : (b : Block) → Contains held b → IsBlock (record { capacity = capacity; used = low; info = λ d. volatile_at v (info_word d) }) b
+  pub named : (b : Block) → Contains held b
+      → IsBlock (record { capacity = capacity; used = low; info = λ d. volatile_at v (info_word d) }) b
   pub settled : (b : Block) (d : ℕ) → Contains held b → HasPartIn capacity b d → durable_at v (info_word d) ≡ volatile_at v (info_word d)
 
 -- what lasts over a stop too: the held blocks are stable, and a stop is by a ticket that the budget does not allow

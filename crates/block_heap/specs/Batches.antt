@@ -30,7 +30,8 @@ given_to anchor batch most =
 pub record IsGiven (capacity class d : ℕ) (batch : Batch) (anchor : Anchor) (v w : View) : Type 0 where
   pub runs_within : RunsWithin 3 v w
   pub parts : HasParts (volatile_at v (anchor_word d)) anchor
-  pub words : w.volatile ≡ slice_set (linked_words capacity class d batch anchor v.volatile) (anchor_word d) (given_to anchor batch (blocks_of class))
+  pub words : w.volatile ≡ slice_set (linked_words capacity class d batch anchor v.volatile) (anchor_word d)
+      (given_to anchor batch (blocks_of class))
 
 -- a word that giving changes
 abbrev pub IsGiveWord : ℕ → Batch → ℕ → Type 0

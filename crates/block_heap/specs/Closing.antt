@@ -27,4 +27,5 @@ pub record KeepsFixed (s t : SeqState) : Type 0 where
       → durable_at t.parts.words word ≡ volatile_at t.parts.words word
   -- the last look at `used`, less what was taken by then, is the same; and each small call drew one ticket at most, each large one so many
   pub looks : s.parts.used_look.seen + t.parts.used_look.taken ≡ t.parts.used_look.seen + s.parts.used_look.taken
-  pub draws : t.parts.words.drawn + (s.small_calls + most_large_draws * s.large_calls) ≤ s.parts.words.drawn + (t.small_calls + most_large_draws * t.large_calls)
+  pub draws : t.parts.words.drawn + (s.small_calls + most_large_draws * s.large_calls)
+      ≤ s.parts.words.drawn + (t.small_calls + most_large_draws * t.large_calls)

@@ -90,7 +90,8 @@ not_among_three (suc (suc zero)) below is = omega arith
 not_among_three (suc (suc (suc k))) below is = omega arith
 
 module _ (s : SeqState) (one : s.parts.capacity ≡ 1) (untaken : image_of s.parts used_word ≡ 0) where
-  given_is : (l : Layout) (kept : Block → Type 0) (b : Block) → l.capacity ≡ 1 → l.used ≡ 0 → IsDrained l kept 20 b → (k : ℕ) × (k < 4) × (8 * b.first_word ≡ 8576 + 14336 * k)
+  given_is : (l : Layout) (kept : Block → Type 0) (b : Block) → l.capacity ≡ 1 → l.used ≡ 0 → IsDrained l kept 20 b
+      → (k : ℕ) × (k < 4) × (8 * b.first_word ≡ 8576 + 14336 * k)
   unfolding blocks_of words_of_class class_sizes
   given_is l kept _ single none (beside b d index is taken info of unkept not_free) = absurd (omega arith)
   given_is l kept _ single none (freed b d index is free of) = absurd (let taken = free.taken in omega arith)
@@ -124,5 +125,6 @@ module _ (s : SeqState) (one : s.parts.capacity ≡ 1) (untaken : image_of s.par
   three_are_few drains =
       let fourth : Block = record { first_word = 6448; words = 1792 } in
       let has : Contains three_offsets 51584 = drains.complete fourth
-      (fresh fourth 0 3 (record { some = omega arith; last = omega arith }) (omega arith) (omega arith) (record { below = omega arith; at = omega arith; size = refl })) in
+      (fresh fourth 0 3 (record { some = omega arith; last = omega arith }) (omega arith) (omega arith)
+      (record { below = omega arith; at = omega arith; size = refl })) in
       not_among_three has.0 has.1 has.2

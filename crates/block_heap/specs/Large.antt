@@ -14,7 +14,8 @@ abbrev pub JoinsAs : ℕ → Option Block → Parts → Parts → Type 0
 JoinsAs count answer p q = MatchOption answer
     ((held_in q ≡ held_in p) × (p.capacity < image_of p used_word + count) × (image_of q used_word ≡ image_of p used_word)
     × IsLook p.words.drawn q q.used_look (image_of q used_word) × (q.taken ≡ p.taken))
-    (λ b. (b.words ≡ superblock_words * count) × AddsTo b (held_in p) (held_in q) × (Contains (held_in p) b → ⊥) × (image_of p used_word + count ≤ p.capacity))
+    (λ b. (b.words ≡ superblock_words * count) × AddsTo b (held_in p) (held_in q)
+    × (Contains (held_in p) b → ⊥) × (image_of p used_word + count ≤ p.capacity))
 
 -- superblock d was taken, is cut for no class, and no held block and no list has it: it is one of a large block that was freed
 pub record IsDropped (p : Parts) (d : ℕ) : Type 0 where

@@ -32,35 +32,42 @@ either (inr not) (inr neither) = inr (λ p. elim p as (λ _. ⊥) [ inl a ↦ no
 
 -- whether blocks are one or apart, and whether one is placed
 one_or_apart : (a b : Block) → AreOneOrApart a b ⊎ (AreOneOrApart a b → ⊥)
-one_or_apart a b = either same (either (at_most (a.first_word + a.words) b.first_word) (at_most (b.first_word + b.words) a.first_word)) where
-  same : (a ≡ b) ⊎ (a ≡ b → ⊥)
-  same = elim (both (cases_eq a.first_word b.first_word) (cases_eq a.words b.words)) [
-    | inl fields ↦ inl (same_fields a b fields.0 fields.1)
-    | inr not ↦ inr (λ e. not (ap (λ (x : Block). x.first_word) e, ap (λ (x : Block). x.words) e))
-  ]
+one_or_apart a b = either same
+    (either (at_most (a.first_word + a.words) b.first_word) (at_most (b.first_word + b.words) a.first_word)) where
+      same : (a ≡ b) ⊎ (a ≡ b → ⊥)
+      same = elim (both (cases_eq a.first_word b.first_word) (cases_eq a.words b.words)) [
+        | inl fields ↦ inl (same_fields a b fields.0 fields.1)
+        | inr not ↦ inr (λ e. not (ap (λ (x : Block). x.first_word) e, ap (λ (x : Block). x.words) e))
+      ]
 
 is_placed : (b : Block) → IsPlaced b ⊎ (IsPlaced b → ⊥)
-is_placed b = elim (both (at_most fixed_words b.first_word) (both (at_most 1 b.words) (at_most (suc (8 * (b.first_word + b.words))) (2 ^ 48)))) [
-  | inl all ↦ inl (record { behind = all.0; some = all.1.0; short = all.1.1 })
-  | inr not ↦ inr (λ placed. not (placed.behind, (placed.some, placed.short)))
-]
+is_placed b = elim (both (at_most fixed_words b.first_word)
+    (both (at_most 1 b.words) (at_most (suc (8 * (b.first_word + b.words))) (2 ^ 48)))) [
+      | inl all ↦ inl (record { behind = all.0; some = all.1.0; short = all.1.1 })
+      | inr not ↦ inr (λ placed. not (placed.behind, (placed.some, placed.short)))
+    ]
 
 abbrev Lasts : SeqState → Type 0
 Lasts s = IsLasting s.parts.capacity s.parts.words (held_in s.parts) s.stopped
 
 pub seat_law : (s : SeqState) → IsSeat (seat_of s)
 seat_law s = record {
-  placed = λ b holds. decided (is_placed b) (λ (lasts : Lasts s). stable_placed s.parts.capacity (held_in s.parts) s.parts.words b lasts.some lasts.small lasts.stable holds) s.lasts;
-  apart = λ a b in_a in_b. decided (one_or_apart a b) (λ (lasts : Lasts s). stable_apart s.parts.capacity (held_in s.parts) s.parts.words a b lasts.stable in_a in_b) s.lasts;
+  placed = λ b holds. decided (is_placed b)
+      (λ (lasts : Lasts s). stable_placed s.parts.capacity (held_in s.parts) s.parts.words b lasts.some lasts.small lasts.stable holds) s.lasts;
+  apart = λ a b in_a in_b. decided (one_or_apart a b)
+      (λ (lasts : Lasts s). stable_apart s.parts.capacity (held_in s.parts) s.parts.words a b lasts.stable in_a in_b) s.lasts;
   roots_are = root_below;
-  stopping = λ ticket at. decided (both (at_most s.parts.words.budget ticket) (cases_eq s.parts.words.drawn (ticket + 1))) (λ (lasts : Lasts s). lasts.stopping ticket at) s.lasts;
+  stopping = λ ticket at. decided (both (at_most s.parts.words.budget ticket) (cases_eq s.parts.words.drawn (ticket + 1)))
+      (λ (lasts : Lasts s). lasts.stopping ticket at) s.lasts;
 }
 
 pub mixed_law : (s : SeqState) (image : Image) → MayLeave s image → MixesOwn (seat_of s) image
 mixed_law s image left = record {
   each = λ word own.
-      elim (decided (either (cases_eq (image word) (durable_at s.parts.words word)) (cases_eq (image word) (volatile_at s.parts.words word)))
-      (λ (lasts : Lasts s). own_value s.parts.capacity (held_in s.parts) s.parts.words image word lasts.small lasts.stable left.others own) s.lasts) as (λ _. MayRead (seat_of s) word (image word)) [
+      elim (decided (either (cases_eq (image word) (durable_at s.parts.words word))
+      (cases_eq (image word) (volatile_at s.parts.words word)))
+      (λ (lasts : Lasts s). own_value s.parts.capacity (held_in s.parts) s.parts.words image word lasts.small lasts.stable left.others own)
+      s.lasts) as (λ _. MayRead (seat_of s) word (image word)) [
         | inl durable ↦ inr durable
         | inr volatile ↦ inl volatile
       ];
@@ -69,12 +76,21 @@ mixed_law s image left = record {
 pub named_law : (s : SeqState) (image : Image) → MayLeave s image → NamesAll image (seat_of s).held
 named_law s image left = λ b holds. record {
   begins_at = refl;
-  block = decided (is_block (layout_of image) b) (λ (lasts : Lasts s). (stable_names s.parts.capacity (held_in s.parts) s.parts.words image lasts.stable left.others b holds).block) s.lasts;
+  block = decided (is_block (layout_of image) b)
+      (λ (lasts : Lasts s). (stable_names s.parts.capacity (held_in s.parts) s.parts.words image lasts.stable left.others b holds).block)
+      s.lasts;
 }
 
 -- what is kept goes on
 pub keeps_none_law : (s : SeqState) → KeepsFixed s s
-keeps_none_law s = record { capacity = refl; long = refl; volatile = λ word is. refl; durable = λ word is same. same; looks = refl; draws = omega arith }
+keeps_none_law s = record {
+  capacity = refl;
+  long = refl;
+  volatile = λ word is. refl;
+  durable = λ word is same. same;
+  looks = refl;
+  draws = omega arith;
+}
 
 pub keeps_row_law : (s t u : SeqState) → KeepsFixed s t → KeepsFixed t u → KeepsFixed s u
 keeps_row_law s t u a b = record {
@@ -109,10 +125,13 @@ may_be_law s pick = ∣ (
 
 -- the capacity is durable
 pub durable_capacity : (s : SeqState) → durable_at s.parts.words capacity_word ≡ s.parts.capacity
-durable_capacity s = decided (cases_eq (durable_at s.parts.words capacity_word) s.parts.capacity) (λ (lasts : Lasts s). lasts.stable.capacity_durable) s.lasts
+durable_capacity s = decided (cases_eq (durable_at s.parts.words capacity_word) s.parts.capacity)
+    (λ (lasts : Lasts s). lasts.stable.capacity_durable) s.lasts
 
 -- a crash keeps an own word
-pub own_law : (s : SeqState) (word : ℕ) → IsOwn (held_in s.parts) all_roots word → (word ≡ state_word → ⊥) × (IsTransient s.parts.capacity word → ⊥)
+pub own_law : (s : SeqState) (word : ℕ) → IsOwn (held_in s.parts) all_roots word
+    → (word ≡ state_word → ⊥) × (IsTransient s.parts.capacity word → ⊥)
 own_law s word own = (λ e. truly (λ kept. kept.0 e), λ lost. truly (λ kept. kept.1 lost)) where
   truly : ((word ≡ state_word → ⊥) × (IsTransient s.parts.capacity word → ⊥) → ⊥) → ⊥
-  truly not = ∥∥₁_elim s.lasts (λ a b. absurd a) (λ (lasts : Lasts s). not (own_lasts s.parts.capacity (held_in s.parts) s.parts.words word lasts.small lasts.stable own))
+  truly not = ∥∥₁_elim s.lasts (λ a b. absurd a)
+      (λ (lasts : Lasts s). not (own_lasts s.parts.capacity (held_in s.parts) s.parts.words word lasts.small lasts.stable own))

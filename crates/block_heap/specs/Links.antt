@@ -24,7 +24,8 @@ pub record IsPopped (list : ℕ) (popped : Popped) (v w : View) : Type 0 where
   pub head : popped.head ≡ volatile_at v (head_word list)
   pub first : link_of popped.first ≡ head_first popped.head
   pub words : MatchOption popped.first (w.volatile ≡ v.volatile)
-      (λ d. w.volatile ≡ slice_set v.volatile (head_word list) (head_of (head_first (volatile_at v (link_word d))) (head_pops popped.head + 1)))
+      (λ d. w.volatile ≡ slice_set v.volatile (head_word list)
+      (head_of (head_first (volatile_at v (link_word d))) (head_pops popped.head + 1)))
 
 -- the descriptor was put in front of the list
 pub record IsPushed (list d : ℕ) (v w : View) : Type 0 where

@@ -10,7 +10,8 @@ use Rattle.block_heap.specs.Closing.{IsOpened}
 use Rattle.block_heap.specs.SeqState.{SeqState}
 
 -- The image of so many bytes has a good header; recovery made these words of it, with the reached blocks held; and the heap was opened with them.
-pub record IsReopened (bytes : ℕ) (old : Image) (kinds : ℕ → ℕ) (links : Links) (words : List ℕ) (held : List Block) (budget : ℕ) (s : SeqState) : Type 0 where
+pub record IsReopened (bytes : ℕ) (old : Image) (kinds : ℕ → ℕ) (links : Links)
+    (words : List ℕ) (held : List Block) (budget : ℕ) (s : SeqState) : Type 0 where
   pub good : header_fault bytes old ≡ None
   pub recovered : IsRecovered old (slice_index words) (IsReached old kinds links)
   pub held_are : AreAscending (λ (b : Block). b.first_word) (IsReached old kinds links) held

@@ -62,7 +62,8 @@ abbrev pub DrainsTo : ℕ → Block → Parts → Parts → Type 0
 DrainsTo class b p q = IsDrainable p.capacity (image_of p) (held_in p) class
     → IsDrainable p.capacity (image_of q) (held_in q) class × IsToDrain p.capacity (image_of p) (held_in p) class b
     × (IsToDrain p.capacity (image_of q) (held_in q) class b → ⊥)
-    × ((a : Block) → IsToDrain p.capacity (image_of p) (held_in p) class a → (a ≡ b) ⊎ IsToDrain p.capacity (image_of q) (held_in q) class a)
+    × ((a : Block) → IsToDrain p.capacity (image_of p) (held_in p) class a
+    → (a ≡ b) ⊎ IsToDrain p.capacity (image_of q) (held_in q) class a)
     × ((a : Block) → IsToDrain p.capacity (image_of q) (held_in q) class a → IsToDrain p.capacity (image_of p) (held_in p) class a)
 
 -- what a request of a class answers: of a block, all that a drain needs too
@@ -89,11 +90,13 @@ AnswersInClass class answer p q = MatchOption answer (MissesInClass class p q) (
 
 -- a drained heap has nothing more to give
 abbrev pub DrainsNone : ℕ → Parts → Type 0
-DrainsNone class p = IsDrainable p.capacity (image_of p) (held_in p) class → (b : Block) → IsToDrain p.capacity (image_of p) (held_in p) class b → ⊥
+DrainsNone class p = IsDrainable p.capacity (image_of p) (held_in p) class
+    → (b : Block) → IsToDrain p.capacity (image_of p) (held_in p) class b → ⊥
 
 -- what a block cost: one ticket if it was in the cache, and else a superblock that the cache was filled from
 abbrev pub Costs : ℕ → Parts → Parts → Type 0
-Costs class p q = (Spends 0 class p q × (q.words.drawn ≤ p.words.drawn + 1)) ⊎ (Spends 1 class p q × (q.words.drawn ≤ p.words.drawn + most_small_draws))
+Costs class p q = (Spends 0 class p q × (q.words.drawn ≤ p.words.drawn + 1))
+    ⊎ (Spends 1 class p q × (q.words.drawn ≤ p.words.drawn + most_small_draws))
 
 -- what a drain needs of the answer: if it is none, there is no room after it too
 abbrev pub DrainsAs : ℕ → Option Block → Parts → Parts → Type 0

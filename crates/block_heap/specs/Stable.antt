@@ -39,7 +39,8 @@ module _ (capacity : ℕ) (held : List Block) where
   own_where v _ stable (in_root i word p same) = let below = root_below i p in inl (omega arith, omega arith)
 
   -- where held blocks lie
-  pub stable_placed : (v : View) (b : Block) → 1 ≤ capacity → capacity ≤ largest_capacity → IsStable capacity v held → Contains held b → IsPlaced b
+  pub stable_placed : (v : View) (b : Block) → 1 ≤ capacity → capacity ≤ largest_capacity
+      → IsStable capacity v held → Contains held b → IsPlaced b
   stable_placed v b some small stable holds =
       let fits = stable.fits in
       let inside = lies v b stable holds in
@@ -59,22 +60,26 @@ module _ (capacity : ℕ) (held : List Block) where
   not_transient _ (inr info) (link_lost d word below e) = let at = info.1 in omega arith
 
   -- each image that may be left names them
-  pub stable_names : (v : View) (image : Image) → IsStable capacity v held → ((word : ℕ) → (word ≡ state_word → ⊥) → (IsTransient capacity word → ⊥) → IsValueOf v word (image word)) → NamesAll image held
+  pub stable_names : (v : View) (image : Image) → IsStable capacity v held
+      → ((word : ℕ) → (word ≡ state_word → ⊥) → (IsTransient capacity word → ⊥) → IsValueOf v word (image word))
+      → NamesAll image held
   stable_names v image stable left = λ b holds. record {
     begins_at = refl;
     block = block_more (low_layout v stable.low) (layout_of image) b capacity_is used_is (infos b holds) (stable.named b holds);
   } where
     capacity_is : image capacity_word ≡ capacity
-    capacity_is = elim (left capacity_word (λ e. omega (arith, e)) (not_transient capacity_word (inl (omega arith)))) as (λ _. image capacity_word ≡ capacity) [
-      | inl e ↦ e ∙ stable.capacity_durable
-      | inr e ↦ e ∙ stable.capacity_is
-    ]
+    capacity_is = elim (left capacity_word (λ e. omega (arith, e))
+        (not_transient capacity_word (inl (omega arith)))) as (λ _. image capacity_word ≡ capacity) [
+          | inl e ↦ e ∙ stable.capacity_durable
+          | inr e ↦ e ∙ stable.capacity_is
+        ]
 
     used_is : stable.low ≤ image used_word
-    used_is = elim (left used_word (λ e. omega (arith, e)) (not_transient used_word (inl (omega arith)))) as (λ _. stable.low ≤ image used_word) [
-      | inl e ↦ let p = stable.used_durable in omega arith
-      | inr e ↦ let p = stable.used in omega arith
-    ]
+    used_is = elim (left used_word (λ e. omega (arith, e))
+        (not_transient used_word (inl (omega arith)))) as (λ _. stable.low ≤ image used_word) [
+          | inl e ↦ let p = stable.used_durable in omega arith
+          | inr e ↦ let p = stable.used in omega arith
+        ]
 
     infos : (b : Block) → Contains held b → (d : ℕ) → HasPartIn capacity b d → image (info_word d) ≡ volatile_at v (info_word d)
     infos b holds d part =
@@ -82,7 +87,8 @@ module _ (capacity : ℕ) (held : List Block) where
         elim value as (λ _. image (info_word d) ≡ volatile_at v (info_word d)) [ inl e ↦ e ∙ stable.settled b d holds part | inr e ↦ e ]
 
   -- an own word is not the state, and no transient one
-  pub own_lasts : (v : View) (word : ℕ) → capacity ≤ largest_capacity → IsStable capacity v held → IsOwn held (words_from (λ n. n) 0 roots) word
+  pub own_lasts : (v : View) (word : ℕ) → capacity ≤ largest_capacity → IsStable capacity v held
+      → IsOwn held (words_from (λ n. n) 0 roots) word
       → (word ≡ state_word → ⊥) × (IsTransient capacity word → ⊥)
   own_lasts v word small stable own = (
     λ e. elim (own_where v word stable own) as (λ _. ⊥) [ inl at_root ↦ omega (arith, at_root.0, e) | inr inside ↦ omega (arith, e) ],
@@ -97,6 +103,7 @@ module _ (capacity : ℕ) (held : List Block) where
     kept (inr inside) (link_lost d other below e) = omega arith
 
   -- so it has one of its two values in such an image
-  pub own_value : (v : View) (image : Image) (word : ℕ) → capacity ≤ largest_capacity → IsStable capacity v held → ((at : ℕ) → (at ≡ state_word → ⊥) → (IsTransient capacity at → ⊥) → IsValueOf v at (image at))
+  pub own_value : (v : View) (image : Image) (word : ℕ) → capacity ≤ largest_capacity → IsStable capacity v held
+      → ((at : ℕ) → (at ≡ state_word → ⊥) → (IsTransient capacity at → ⊥) → IsValueOf v at (image at))
       → IsOwn held (words_from (λ n. n) 0 roots) word → IsValueOf v word (image word)
   own_value v image word small stable left own = let lasts = own_lasts v word small stable own in left word lasts.0 lasts.1

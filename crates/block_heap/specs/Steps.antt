@@ -14,7 +14,8 @@ use Rattle.block_heap.specs.Running.{IsRunning}
 
 -- no more superblocks than n are left that the class may be filled from: those in its list, the free ones, and those that were never taken
 abbrev pub HasAtMost : ℕ → Parts → ℕ → Type 0
-HasAtMost class p n = (cs fs : List ℕ) → LeadsAlong p class cs → LeadsAlong p 0 fs → length cs + length fs + p.capacity ≤ n + image_of p used_word
+HasAtMost class p n = (cs fs : List ℕ) → LeadsAlong p class cs → LeadsAlong p 0 fs
+    → length cs + length fs + p.capacity ≤ n + image_of p used_word
 
 -- so many of them were used up, or more
 abbrev pub Spends : ℕ → ℕ → Parts → Parts → Type 0
