@@ -24,6 +24,7 @@ use Rattle.block_heap.specs.Steps.{IsRefilling, PopsBlock}
 use Rattle.block_heap.specs.Large.{JoinsAs}
 use Rattle.block_heap.specs.Serving.{HasRoom, in_cache, in_class_list, in_free_list, in_fresh, HasRoomFor, for_class, for_large, LookedInClass, FindsNone, GetsInClass, AnswersInClass, Answers, DrainsTo, DrainsNone}
 use Rattle.std.proofs.lemmas.List.{nil_from_length}
+use Rattle.block_heap.specs.Draws.{most_join_draws}
 
 -- a request that a class serves is small
 pub least_small : (bytes class : ℕ) → IsLeastClassFor bytes class → bytes ≤ largest_small
@@ -161,14 +162,15 @@ answers_small bytes class (Some b) p q least gets = record {
   adds = gets.adds;
   new = gets.new;
   room = for_class class least gets.room;
+  few = λ large. absurd (let small = least_small bytes class least in omega arith);
   accounted = gets.accounted;
 }
 
 -- the answer to one that takes superblocks of its own
 pub answers_large : (bytes : ℕ) (answer : Option Block) (p q : Parts) → largest_small < bytes → CachesAreShort p 0 → JoinsAs (span_of bytes) answer p q → IsRunning q
     → (AreAccounted p → AreAccounted q) → q.caches ≡ p.caches → q.capacity ≡ p.capacity
-    → (answer ≡ None → q.words.drawn ≡ p.words.drawn + 1) → Answers bytes answer p q
-answers_large bytes None p q large short joins running accounted caches capacity one = record {
+    → (answer ≡ None → q.words.drawn ≡ p.words.drawn + 1) → q.words.drawn ≤ p.words.drawn + most_join_draws → Answers bytes answer p q
+answers_large bytes None p q large short joins running accounted caches capacity one few = record {
   running = running;
   short = short_same p q caches short;
   held = joins.0;
@@ -182,7 +184,7 @@ answers_large bytes None p q large short joins running accounted caches capacity
   no_room : HasRoomFor p bytes → ⊥
   no_room (for_class class least room) = let small = least_small bytes class least in omega arith
   no_room (for_large _ fits) = let past = joins.1 in omega arith
-answers_large bytes (Some b) p q large short joins running accounted caches capacity one = record {
+answers_large bytes (Some b) p q large short joins running accounted caches capacity one few = record {
   running = running;
   short = short_same p q caches short;
   size =
@@ -192,6 +194,7 @@ answers_large bytes (Some b) p q large short joins running accounted caches capa
   adds = joins.1;
   new = joins.2;
   room = for_large large joins.3;
+  few = λ _. few;
   accounted = accounted;
 }
 

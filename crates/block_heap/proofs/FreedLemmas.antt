@@ -44,6 +44,7 @@ module _ (p : Parts) (class : ℕ) (is : IsClass class) (run : IsRunning p) (b :
     cache = now ∙ ap (λ (x : Cache). record { first = b.first_word; count = x.count + 1 }) cache_is;
     caches = λ c is_c other. other_cache p.caches class new c other;
     volatile = stored.volatile ∙ ap (λ (x : Cache). set p.words.volatile b.first_word x.first) cache_is;
+    drawn = let more = stored.runs_within.drew in let few = stored.runs_within.few in omega arith;
   }
 
   -- the cache leads along it and what it had

@@ -181,6 +181,7 @@ takes_first class b p q capacity pops_block = record {
   count = pops_block.count;
   caches = pops_block.caches;
   volatile = pops_block.volatile;
+  drawn = pops_block.drawn;
   taken = pops_block.taken;
 }
 

@@ -349,6 +349,7 @@ module _ (p : Parts) (class : ℕ) (is : IsClass class) (run : IsRunning p) (cac
         caches = λ c is_c other. other_cache p.caches class popped_cache c other;
         drains = hand_out_drains p.capacity class cache.first (image_of p) (held_in p) (held_of h) run.shape front.behind is run.is front.cached adds_block;
         volatile = loaded.volatile;
+        drawn = let more = loaded.runs_within.drew in let few = loaded.runs_within.few in omega arith;
         taken = refl;
       })
 

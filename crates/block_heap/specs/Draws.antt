@@ -21,6 +21,10 @@ most_refill_draws = 41200
 abbrev pub most_small_draws : ℕ
 most_small_draws = 41201
 
+-- making superblocks that were never taken a large block: a look at `used`, and three each to make `used` and the info durable
+abbrev pub most_join_draws : ℕ
+most_join_draws = 7
+
 -- giving a cache back: nine for each of its blocks
 abbrev pub most_flush_draws : ℕ
 most_flush_draws = 36864

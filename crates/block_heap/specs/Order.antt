@@ -86,7 +86,7 @@ pub data Stocked (class : ℕ) (p q : Parts) : Type 0 where
   is_filled : (cache_at p.caches class).count ≡ 0 → held_in q ≡ held_in p → KeepsOtherClasses class p q → RefillsFrom class p q
       → Stocked class p q
 
--- the first block of the cache left it and is held: no word is stored to, and the other caches stay
+-- the first block of the cache left it and is held, by one ticket: no word is stored to, and the other caches stay
 pub record TakesFirst (class : ℕ) (p q : Parts) : Type 0 where
   pub capacity : q.capacity ≡ p.capacity
   pub held : AddsTo (record { first_word = (cache_at p.caches class).first; words = words_of_class class }) (held_in p) (held_in q)
@@ -94,6 +94,7 @@ pub record TakesFirst (class : ℕ) (p q : Parts) : Type 0 where
   pub count : (cache_at q.caches class).count + 1 ≡ (cache_at p.caches class).count
   pub caches : (c : ℕ) → IsClass c → c ≢ class → cache_at q.caches c ≡ cache_at p.caches c
   pub volatile : q.words.volatile ≡ p.words.volatile
+  pub drawn : q.words.drawn ≡ p.words.drawn + 1
   pub taken : q.taken ≡ p.taken
 
 -- a request of the class is served from the cache, which is filled first if it is empty

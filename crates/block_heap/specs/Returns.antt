@@ -26,12 +26,13 @@ CachesOnlyOf class d p = (words : List ℕ) → CachesAlong class p words
 abbrev pub CachesAllOf : ℕ → ℕ → Parts → Type 0
 CachesAllOf class d p = ((cache_at p.caches class).count ≡ blocks_of class) × CachesOnlyOf class d p
 
--- the block that begins at the word is in front of the cache: no other cache and no other word is changed
+-- the block that begins at the word is in front of the cache, by one ticket: no other cache and no other word is changed
 pub record CachesBlock (class word : ℕ) (p q : Parts) : Type 0 where
   pub capacity : q.capacity ≡ p.capacity
   pub cache : cache_at q.caches class ≡ record { first = word; count = (cache_at p.caches class).count + 1 }
   pub caches : (c : ℕ) → IsClass c → c ≢ class → cache_at q.caches c ≡ cache_at p.caches c
   pub volatile : q.words.volatile ≡ slice_set p.words.volatile word (cache_at p.caches class).first
+  pub drawn : q.words.drawn ≡ p.words.drawn + 1
 
 -- the cache was given back as runs, in its order: each is as long as it can be
 pub record GivesInRuns (class : ℕ) (p q : Parts) : Type 0 where

@@ -12,7 +12,7 @@ use Rattle.block_heap.specs.Parts.{Parts, image_of, held_in, cache_at}
 use Rattle.block_heap.specs.Running.{IsRunning, CachesAreShort}
 use Rattle.block_heap.specs.Lists.{head_at, IsEmptyList}
 use Rattle.block_heap.specs.Steps.{look_at, IsLook, Spends}
-use Rattle.block_heap.specs.Draws.{most_small_draws}
+use Rattle.block_heap.specs.Draws.{most_join_draws, most_small_draws}
 
 -- a request of a class finds blocks: in the cache, in a list, or where none were taken yet
 pub data HasRoom (p : Parts) (class : ℕ) : Type 0 where
@@ -47,6 +47,10 @@ pub record FindsNone (class : ℕ) (p q : Parts) : Type 0 where
   pub empty : (cache_at q.caches class).count ≡ 0
   pub taken : q.taken ≡ p.taken
 
+-- a large request that got a block drew few tickets
+abbrev pub DrawsFew : ℕ → Parts → Parts → Type 0
+DrawsFew bytes p q = largest_small < bytes → q.words.drawn ≤ p.words.drawn + most_join_draws
+
 -- the request got the block
 pub record GetsBlock (bytes : ℕ) (b : Block) (p q : Parts) : Type 0 where
   pub running : IsRunning q
@@ -55,6 +59,7 @@ pub record GetsBlock (bytes : ℕ) (b : Block) (p q : Parts) : Type 0 where
   pub adds : AddsTo b (held_in p) (held_in q)
   pub new : Contains (held_in p) b → ⊥
   pub room : HasRoomFor p bytes
+  pub few : DrawsFew bytes p q
   pub accounted : AreAccounted p → AreAccounted q
 
 -- a block of the class that draining it was to give

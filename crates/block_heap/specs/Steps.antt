@@ -79,4 +79,5 @@ pub record PopsBlock (class : ℕ) (b : Block) (p q : Parts) : Type 0 where
   pub caches : (c : ℕ) → IsClass c → c ≢ class → cache_at q.caches c ≡ cache_at p.caches c
   pub drains : DrainsOne p.capacity class (image_of p) (held_in p) (held_in q) b
   pub volatile : q.words.volatile ≡ p.words.volatile
+  pub drawn : q.words.drawn ≡ p.words.drawn + 1
   pub taken : q.taken ≡ p.taken

@@ -11,6 +11,7 @@ impl<C: Chance> Arena<C> {
     ghost use Rattle.heap_model.specs.Sizes.{IsClass, words_of_class};
     ghost use Rattle.heap_shape.specs.Moves.{TakesFrom};
     ghost use Rattle.block_heap.specs.Accounts.{AreAccounted, GivesUse};
+    ghost use Rattle.block_heap.specs.Draws.{most_join_draws};
     ghost use Rattle.block_heap.specs.Medium.{RunsWithin, StopsWithin};
     ghost use Rattle.block_heap.specs.Parts.{parts_of, held_in};
     ghost use Rattle.block_heap.specs.Running.{IsRunning, CachesAreShort, LeavesHeld};
@@ -26,9 +27,9 @@ impl<C: Chance> Arena<C> {
         ensures one_look { IfOk result (λ answer. answer ≡ None
             → (parts_of self.new).words.drawn ≡ (parts_of self.old).words.drawn + 1) }
         ensures running { OnOk result (IsRunning (parts_of self.new)) }
-        ensures runs_within { OnOk result (RunsWithin 7
+        ensures runs_within { OnOk result (RunsWithin most_join_draws
             (parts_of self.old).words (parts_of self.new).words) }
-        ensures stopped { IfErr result (λ e. StopsWithin e.step 7
+        ensures stopped { IfErr result (λ e. StopsWithin e.step most_join_draws
             (parts_of self.old).words (parts_of self.new).words) }
         ensures leaves_held { LeavesHeld (held_in (parts_of self.old))
             (parts_of self.old) (parts_of self.new) }

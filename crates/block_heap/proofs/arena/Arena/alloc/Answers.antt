@@ -4,6 +4,8 @@ use Rattle.heap_model.specs.declared.block.Block.{Block}
 use Rattle.heap_model.specs.Sizes.{largest_small, span_of}
 use Rattle.heap_model.proofs.SizeLemmas.{few_words, size_of-words}
 use Rattle.block_heap.specs.Accounts.{AreAccounted}
+use Rattle.block_heap.specs.Draws.{most_join_draws}
+use Rattle.block_heap.specs.Medium.{RunsWithin}
 use Rattle.block_heap.specs.Order.{ServesInOrder}
 use Rattle.block_heap.specs.Parts.{parts_of}
 use Rattle.block_heap.specs.Running.{IsRunning}
@@ -35,10 +37,12 @@ returns-in-None-clause-ok g c =
     subst (λ (count : ℕ). IfOk c.alloc_large.result (λ answer. JoinsAs count answer p q)) c.span_of.ensures c.alloc_large.ensures.ok in
     let one : Option Block → Type 0 = λ answer. answer ≡ None → q.words.drawn ≡ p.words.drawn + 1 in
     both_ok c.alloc_large.result (λ answer. JoinsAs (span_of c.args.bytes) answer p q × one answer) (λ answer. Answers c.args.bytes answer p q)
-    (IsRunning q × (AreAccounted p → AreAccounted q))
-    (λ answer join runs. answers_large c.args.bytes answer p q large c.requires.short join.0 runs.0 runs.1 c.alloc_large.ensures.caches
-    c.alloc_large.ensures.leaves_held.capacity join.1) (if_ok_both c.alloc_large.result (λ answer. JoinsAs (span_of c.args.bytes) answer p q) one joins c.alloc_large.ensures.one_look)
-    (on_ok_both c.alloc_large.result (IsRunning q) (AreAccounted p → AreAccounted q) c.alloc_large.ensures.running c.alloc_large.ensures.accounted)
+    (IsRunning q × ((AreAccounted p → AreAccounted q) × RunsWithin most_join_draws p.words q.words))
+    (λ answer join runs. answers_large c.args.bytes answer p q large c.requires.short join.0 runs.0 runs.1.0 c.alloc_large.ensures.caches
+    c.alloc_large.ensures.leaves_held.capacity join.1 runs.1.1.few) (if_ok_both c.alloc_large.result (λ answer. JoinsAs (span_of c.args.bytes) answer p q) one joins c.alloc_large.ensures.one_look)
+    (on_ok_both c.alloc_large.result (IsRunning q) ((AreAccounted p → AreAccounted q) × RunsWithin most_join_draws p.words q.words) c.alloc_large.ensures.running
+    (on_ok_both c.alloc_large.result (AreAccounted p → AreAccounted q) (RunsWithin most_join_draws p.words q.words) c.alloc_large.ensures.accounted
+    c.alloc_large.ensures.runs_within))
 
 pub returns-in-None-clause-drains : goal.returns-in-None-clause-drains
 returns-in-None-clause-drains g c =
