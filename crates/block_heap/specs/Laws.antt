@@ -53,7 +53,8 @@ Lasts s = IsLasting s.parts.capacity s.parts.words (held_in s.parts) s.stopped
 pub seat_law : (s : SeqState) → IsSeat (seat_of s)
 seat_law s = record {
   placed = λ b holds. decided (is_placed b)
-      (λ (lasts : Lasts s). stable_placed s.parts.capacity (held_in s.parts) s.parts.words b lasts.some lasts.small lasts.stable holds) s.lasts;
+      (λ (lasts : Lasts s). stable_placed s.parts.capacity (held_in s.parts) s.parts.words b lasts.some lasts.small lasts.stable holds)
+      s.lasts;
   apart = λ a b in_a in_b. decided (one_or_apart a b)
       (λ (lasts : Lasts s). stable_apart s.parts.capacity (held_in s.parts) s.parts.words a b lasts.stable in_a in_b) s.lasts;
   roots_are = root_below;
