@@ -31,6 +31,9 @@ use Rattle.block_heap.proofs.SeatLemmas.{stop_above, done_of, drew}
 use Rattle.block_heap.proofs.StableLemmas.{not_own, stable_kept}
 use Rattle.block_heap.proofs.RunningLemmas.{running_stable}
 use Rattle.block_heap.specs.Draws.{most_small_draws}
+use Rattle.block_heap.proofs.AllocLemmas.{least_of_size}
+use Rattle.heap_model.proofs.SizeLemmas.{few_words, size_of-words}
+use Rattle.size_table.specs.declared.size_class.SizeClass.{SizeClass}
 
 -- what contracts see after a request or a free
 abbrev pub large_view : SeqState → Parts → Option ℕ → View
@@ -176,6 +179,17 @@ last_size bytes small = small
 
 least_class : (bytes : ℕ) → bytes ≤ largest_small → (c : ℕ) × IsLeastClassFor bytes c
 least_class bytes small = least_from bytes 1 19 (omega arith) (omega arith) (last_size bytes small) (λ other is less holds. let some = is.some in omega arith)
+
+-- a class serves a request of as many bytes as its blocks have
+pub size_served : (class bytes : ℕ) (a b : SizeClass) → IsClass class → bytes ≡ size_of class → a.number ≡ class → Some a ≡ Some b
+    → IsLeastClassFor bytes b.number
+size_served class bytes a b is same number one =
+    let few = few_words class is in
+    let words = size_of-words class is in
+    let found = least_class bytes (omega arith) in
+    let at : class ≡ found.0 = least_of_size bytes found.0 class found.1 is same in
+    let equal : a ≡ b = cc in
+    subst (λ n. IsLeastClassFor bytes n) (sym at ∙ sym number ∙ ap (λ (x : SizeClass). x.number) equal) found.1
 
 module _ (bytes : ℕ) (looks : Looks) (s t : SeqState) (misses : Misses bytes s.parts t.parts) (are : IsLooksOf bytes looks t.parts) where
   -- what contracts see after the refusal is counted

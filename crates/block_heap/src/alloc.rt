@@ -1,10 +1,23 @@
 //! A request of any size.
+ghost use Rattle.std.specs.Prelude.{◌≡◌, ◌<◌, None, Some};
+ghost use Rattle.heap_model.specs.Sizes.{IsLeastClassFor, largest_small};
+ghost use Rattle.size_table.specs.declared.size_class.SizeClass.{SizeClass};
+
 use crate::arena::Arena;
 use heap_model::Block;
 use heap_seat::Looks;
 use line_memory::{Chance, Stopped};
-use size_table::{SizeClass, class_of, span_of};
+use size_table::{SizeClass, span_of};
 use super_block::WORD_BYTES;
+
+/// How many bytes a request asks for, and the class that serves it, if one does.
+#[derive(Clone, Copy)]
+pub(crate) struct Asked {
+    pub(crate) bytes: u64,
+    pub(crate) class: Option<SizeClass>,
+    pub(crate) ghost served: { (c : SizeClass) → class ≡ Some c → IsLeastClassFor bytes c.number },
+    pub(crate) ghost unserved: { class ≡ None → largest_small < bytes },
+}
 
 impl<C: Chance> Arena<C> {
     ghost use Rattle.std.specs.Prelude.{◌≡◌, ◌<◌, ◌≤◌, ◌+◌, ℕ, Contains, Some, length, IfOk, OnOk, IfErr, OnErr, true};
@@ -22,16 +35,16 @@ impl<C: Chance> Arena<C> {
     ghost use Rattle.block_heap.specs.Serving.{Answers, AnswersInClass, DrainsAs, IsLooksOf};
     ghost use Rattle.block_heap.specs.Draws.{most_free_draws, most_refill_draws, most_small_draws};
 
-    /// A block of at least so many bytes, if there is room.
-    pub(crate) fn alloc(&mut self, bytes: u64) -> Result<Option<Block>, Stopped>
+    /// A block for the request, if there is room.
+    pub(crate) fn alloc(&mut self, asked: Asked) -> Result<Option<Block>, Stopped>
         requires running { IsRunning (parts_of self.old) }
         requires short { CachesAreShort (parts_of self.old) 0 }
-        ensures ok { IfOk result (λ answer. Answers bytes answer
+        ensures ok { IfOk result (λ answer. Answers asked.bytes answer
             (parts_of self.old) (parts_of self.new)) }
-        ensures drains { (class : ℕ) → IsClass class → bytes ≡ size_of class
+        ensures drains { (class : ℕ) → IsClass class → asked.bytes ≡ size_of class
             → IfOk result (λ answer. DrainsAs class answer
             (parts_of self.old) (parts_of self.new)) }
-        ensures order { (class : ℕ) → IsLeastClassFor bytes class
+        ensures order { (class : ℕ) → IsLeastClassFor asked.bytes class
             → IfOk result (λ answer. ServesInOrder class answer
             (parts_of self.old) (parts_of self.new)) }
         ensures runs_within { OnOk result (RunsWithin most_small_draws
@@ -42,11 +55,12 @@ impl<C: Chance> Arena<C> {
             (parts_of self.old) (parts_of self.new) }
         ensures held { OnErr result
             (held_in (parts_of self.new) ≡ held_in (parts_of self.old)) }
-        ensures few { (parts_of self.new).taken ≤ (parts_of self.old).taken + span_of bytes }
+        ensures few { (parts_of self.new).taken ≤ (parts_of self.old).taken
+            + span_of asked.bytes }
     {
-        match SizeClass::for_bytes(bytes) {
+        match asked.class {
             Some(class) => self.alloc_small(class),
-            None => self.alloc_large(span_of(bytes)),
+            None => self.alloc_large(span_of(asked.bytes)),
         }
     }
 
@@ -132,9 +146,9 @@ impl<C: Chance> Arena<C> {
         requires { length (parts_of self.now).head_looks ≡ lists }
         ensures { IsLooksOf bytes result (parts_of self.now) }
     {
-        match class_of(bytes) {
+        match SizeClass::for_bytes(bytes) {
             Some(class) => Looks {
-                class_head: self.head_looks[class as usize].seen,
+                class_head: self.head_looks[class.number as usize].seen,
                 free_head: self.head_looks[0].seen,
                 used: self.used_look.seen,
             },

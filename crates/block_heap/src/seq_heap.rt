@@ -5,11 +5,12 @@ ghost use Rattle.block_heap.specs.Held.{held_of};
 ghost use Rattle.block_heap.specs.MediumView.{medium_view};
 ghost use Rattle.block_heap.specs.AllocatorWords.{IsLasting};
 
+use crate::alloc::Asked;
 use crate::arena::Arena;
 use heap_model::Block;
 use heap_seat::Looks;
 use line_memory::{Chance, Closed, Stopped};
-use size_table::{blocks_of, size_of};
+use size_table::{SizeClass, blocks_of, size_of};
 use std::alloc::{AllocError, Global};
 use std::marker::Model;
 use super_block::{Ready, WORD_BYTES};
@@ -172,8 +173,12 @@ impl<C: Chance> SeqHeap<C> {
             HoldsDrained class offsets.items self.old self.new) }
     {
         let most = self.arena.geometry.capacity() * blocks_of(class);
+        let asked = Asked {
+            bytes: size_of(class),
+            class: Some(SizeClass::new(class)),
+        };
         let mut offsets = Vec::with_capacity(alloc, most as usize)?;
-        while let Some(b) = self.request(size_of(class))? {
+        while let Some(b) = self.request(asked)? {
             match offsets.push(WORD_BYTES * b.first_word) {
                 Ok(()) => {}
                 Err(e) => return Err(AllocError::from(e).into()),

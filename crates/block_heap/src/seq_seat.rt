@@ -2,10 +2,12 @@
 ghost use Rattle.std.specs.Prelude.{◌≡◌, ◌<◌, ◌≤◌, ◌^◌, OnOk, IfErr, None, Some};
 ghost use Rattle.heap_seat.specs.View.{word_of as spot_word};
 
+use crate::alloc::Asked;
 use crate::seq_heap::SeqHeap;
 use heap_model::Block;
 use heap_seat::{AllocFault, HeapSeat, Spot};
 use line_memory::{Chance, Stopped};
+use size_table::SizeClass;
 use super_block::{ROOT_WORD, WORD_BYTES};
 
 impl<C: Chance> HeapSeat for SeqHeap<C> {
@@ -30,7 +32,11 @@ impl<C: Chance> HeapSeat for SeqHeap<C> {
     ghost keeps = { KeepsFixed };
 
     fn alloc(&mut self, bytes: u64) -> Result<Block, AllocFault> {
-        match self.request(bytes)? {
+        let asked = Asked {
+            bytes,
+            class: SizeClass::for_bytes(bytes),
+        };
+        match self.request(asked)? {
             Some(block) => Ok(block),
             None => {
                 self.refusals += 1;
@@ -133,25 +139,25 @@ impl<C: Chance> SeqHeap<C> {
     ghost use Rattle.block_heap.specs.Draws.{most_small_draws};
     ghost use Rattle.heap_seat.specs.Tickets.{Runs, Stops};
 
-    /// A block of at least so many bytes, if there is room. A refusal is not counted.
-    pub(crate) fn request(&mut self, bytes: u64) -> Result<Option<Block>, Stopped>
-        ensures ok { IfOk result (λ answer. Answers bytes answer self.old.parts self.new.parts) }
-        ensures drains { (class : ℕ) → IsClass class → bytes ≡ size_of class
+    /// A block for the request, if there is room. A refusal is not counted.
+    pub(crate) fn request(&mut self, asked: Asked) -> Result<Option<Block>, Stopped>
+        ensures ok { IfOk result (λ answer. Answers asked.bytes answer self.old.parts self.new.parts) }
+        ensures drains { (class : ℕ) → IsClass class → asked.bytes ≡ size_of class
             → IfOk result (λ answer. DrainsAs class answer self.old.parts self.new.parts) }
-        ensures order { (class : ℕ) → IsLeastClassFor bytes class → IfOk result (λ answer.
-            ServesInOrder class answer self.old.parts self.new.parts) }
+        ensures order { (class : ℕ) → IsLeastClassFor asked.bytes class
+            → IfOk result (λ answer. ServesInOrder class answer self.old.parts self.new.parts) }
         ensures runs { OnOk result (Runs (seat_of self.old) (seat_of self.new)) }
         ensures stopped { IfErr result (λ e. Stops e.step (seat_of self.old) (seat_of self.new)) }
         ensures held { OnErr result (held_in self.new.parts ≡ held_in self.old.parts) }
         ensures words { KeepsWords (seat_of self.old) (seat_of self.new) }
-        ensures counted { IsLargeCall (span_of bytes) (seat_of self.old) (seat_of self.new) }
+        ensures counted { IsLargeCall (span_of asked.bytes) (seat_of self.old) (seat_of self.new) }
         ensures draws { self.new.parts.words.drawn ≤ self.old.parts.words.drawn + most_small_draws }
         ensures refusable { OnOk result (self.new.refusals < self.new.large_calls) }
         ensures kept { KeepsFixed self.old self.new }
         ensures idle { (ticket : ℕ) → self.old.stopped ≡ Some ticket → self.new ≡ self.old }
     {
         self.check_running()?;
-        let answer = self.arena.alloc(bytes);
+        let answer = self.arena.alloc(asked);
         self.large_calls += 1;
         self.stopped = stop_of(&answer);
         answer

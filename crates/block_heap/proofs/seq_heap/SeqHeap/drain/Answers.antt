@@ -9,6 +9,7 @@ use Rattle.block_heap.specs.SeqState.{SeqState}
 use Rattle.block_heap.specs.Serving.{Answers, DrainsAs}
 use Rattle.block_heap.proofs.DrainKeepLemmas.{kept_first, kept_pushed, kept_unpushed, kept_last, kept_done, kept_stops}
 use Rattle.block_heap.proofs.DrainLemmas.{drains_last}
+use Rattle.block_heap.proofs.RequestLemmas.{size_served}
 use Rattle.block_heap.proofs.DrawnLemmas.{draining_first, draining_more, room_for_one, drawn_few, drawn_stops_within}
 use Rattle.block_heap.specs.Draws.{most_blocks}
 use Rattle.block_heap.proofs.seq_heap.SeqHeap.drain.Goals as goal
@@ -22,6 +23,9 @@ overflow_mul-most g c =
     let few = few_blocks c.args.class c.requires in
     let by_count : c.capacity.result * c.blocks_of.result ≤ c.capacity.result * most_blocks = mul-le-mul_left c.capacity.result (omega arith) in
     omega arith
+
+pub invariant_of-asked-clause-served : goal.invariant_of-asked-clause-served
+invariant_of-asked-clause-served g c = λ class one. size_served c.args.class c.size_of.result c.new.result class c.requires c.size_of.ensures c.new.ensures one
 
 pub overflow_mul-b : goal.overflow_mul-b
 overflow_mul-b g c =

@@ -11,7 +11,7 @@ use Rattle.block_heap.proofs.seq_heap.SeqHeap.request.Goals as goal
 
 pub invariant_of-self-inside : goal.invariant_of-self-inside
 invariant_of-self-inside g c = (
-  ∣ request_lasts c.alloc-answer.result (parts_of c.self.inside.arena) (parts_of c.alloc-answer.new.self) c.args.bytes c.self.inside.stopped c.stop_of-self-inside.result c.self.invariant.lasts
+  ∣ request_lasts c.alloc-answer.result (parts_of c.self.inside.arena) (parts_of c.alloc-answer.new.self) c.args.asked.bytes c.self.inside.stopped c.stop_of-self-inside.result c.self.invariant.lasts
       c.alloc-answer.ensures.leaves_held c.alloc-answer.ensures.ok c.alloc-answer.ensures.held c.stop_of-self-inside.ensures.ok c.stop_of-self-inside.ensures.stopped c.alloc-answer.ensures.stopped ∣₁,
   tt,
 )
@@ -19,9 +19,9 @@ invariant_of-self-inside g c = (
 pub invariant_of-self : goal.invariant_of-self
 invariant_of-self g c =
     large_heap c.alloc-answer.result _ (parts_of c.alloc-answer.new.self) most_small_draws c.stop_of-self-inside.result _ c.self.invariant
-    (request_lasts c.alloc-answer.result (parts_of c.self.inside.arena) (parts_of c.alloc-answer.new.self) c.args.bytes c.self.inside.stopped c.stop_of-self-inside.result c.self.invariant.lasts
+    (request_lasts c.alloc-answer.result (parts_of c.self.inside.arena) (parts_of c.alloc-answer.new.self) c.args.asked.bytes c.self.inside.stopped c.stop_of-self-inside.result c.self.invariant.lasts
     c.alloc-answer.ensures.leaves_held c.alloc-answer.ensures.ok c.alloc-answer.ensures.held c.stop_of-self-inside.ensures.ok c.stop_of-self-inside.ensures.stopped c.alloc-answer.ensures.stopped)
-    (request_runs c.alloc-answer.result c.args.bytes _ _ (c.self.invariant.running (ap (λ (s : SeqState). s.stopped) c.self.view_is ∙ c.in_ok-check_running.ensures.ok)).2
+    (request_runs c.alloc-answer.result c.args.asked.bytes _ _ (c.self.invariant.running (ap (λ (s : SeqState). s.stopped) c.self.view_is ∙ c.in_ok-check_running.ensures.ok)).2
     c.alloc-answer.ensures.ok) c.alloc-answer.ensures.runs_within c.alloc-answer.ensures.stopped c.stop_of-self-inside.ensures.stopped
 
 pub returns-clause-drains : goal.returns-clause-drains
