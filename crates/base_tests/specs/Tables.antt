@@ -24,7 +24,10 @@ table_links kind words = cond (nat_eq kind 1) (each_link words) (cond (nat_eq ki
 -- in each list of links the positions lie in the block, and the kinds are below 3
 node_inside : (words : List ℕ) (at to : ℕ) → Contains (node_links words) (at, to) → (at < length words) × (to < 3)
 node_inside [] at to here = let none = here.1 in absurd (omega arith)
-node_inside (x ∷ xs) at to (zero, below, is) = let position = ap (λ (l : ℕ × ℕ). l.0) is in let kind = ap (λ (l : ℕ × ℕ). l.1) is in (omega arith, omega arith)
+node_inside (x ∷ xs) at to (zero, below, is) =
+    let position = ap (λ (l : ℕ × ℕ). l.0) is in
+    let kind = ap (λ (l : ℕ × ℕ). l.1) is in
+    (omega arith, omega arith)
 node_inside (x ∷ xs) at to (suc k, below, is) = absurd (omega arith)
 
 each_inside : (words : List ℕ) (at to : ℕ) → Contains (each_link words) (at, to) → (at < length words) × (to < 3)
@@ -40,7 +43,8 @@ each_inside words at to here =
 pub none_inside : (words : List ℕ) (at to : ℕ) → Contains {X = ℕ × ℕ} [] (at, to) → (at < length words) × (to < 3)
 none_inside words at to here = let none = here.1 in absurd (omega arith)
 
-cases_inside : (table node : Bool) (words : List ℕ) (at to : ℕ) → Contains (cond table (each_link words) (cond node (node_links words) [])) (at, to) → (at < length words) × (to < 3)
+cases_inside : (table node : Bool) (words : List ℕ) (at to : ℕ)
+    → Contains (cond table (each_link words) (cond node (node_links words) [])) (at, to) → (at < length words) × (to < 3)
 cases_inside true node words at to here = each_inside words at to here
 cases_inside false true words at to here = node_inside words at to here
 cases_inside false false words at to here = none_inside words at to here
@@ -56,7 +60,8 @@ node_few : (words : List ℕ) → length (node_links words) < length words + 1
 node_few [] = omega arith
 node_few (x ∷ xs) = omega arith
 
-cases_few : (table node : Bool) (words : List ℕ) → length (cond table (each_link words) (cond node (node_links words) [])) < length words + 1
+cases_few : (table node : Bool) (words : List ℕ)
+    → length (cond table (each_link words) (cond node (node_links words) [])) < length words + 1
 cases_few true node words = let long = length-map-range_with_len to_node 0 (length words) in omega arith
 cases_few false true words = node_few words
 cases_few false false words = omega arith

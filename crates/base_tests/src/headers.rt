@@ -1,136 +1,164 @@
 //! The header of an image, the image of an empty heap, and images as words and as bytes.
-use crate::images::image_with;
+ghost use Rattle.std.specs.Prelude.{◌≤◌};
+ghost use Rattle.heap_model.specs.Geometry.{largest_capacity};
+
+use crate::asserts::must_hold;
+use image_text::image_of;
 use region_header::{
     BadHeader, Header, bytes_to_words, check_bytes, format, read_header, words_to_bytes,
 };
+use std::alloc::{AllocError, Global};
 use std::process::Abort;
 use std::test::Fail;
 
-// What the header of an image of one superblock tells.
-fn header(clean: bool, used: u64) -> Result<Header, BadHeader> {
-    Ok(Header {
-        capacity: 1,
-        clean,
-        used,
-    })
+/// How many of the words are not 0.
+fn count_filled(words: &[u64]) -> usize {
+    words.iter().filter(|word| **word != 0).count()
+}
+
+/// Asserts that an empty image of so many superblocks has so many words and bytes, the header of
+/// one, and no word that is not 0 beside the mark, the version, the capacity and the state.
+fn must_be_empty(
+    rt: &(impl Abort + AllocGlobal),
+    capacity: u64,
+    words: usize,
+    bytes: usize,
+) -> Result<(), Fail>
+    requires some { 1 ≤ capacity }
+    requires small { capacity ≤ largest_capacity }
+{
+    let image = format(rt.alloc(), capacity)?;
+    let header = Header {
+        capacity,
+        clean: true,
+        used: 0,
+    };
+    must_hold(rt, image.len() == words, "words");
+    must_hold(rt, read_header(&image) == Ok(header), "the header");
+    must_hold(rt, count_filled(&image) == 4, "words that are not 0");
+    let file = words_to_bytes(rt.alloc(), &image)?;
+    must_hold(rt, file.as_slice().len() == bytes, "bytes");
+    must_hold(rt, file.as_slice().starts_with(b"10COLLAR"), "the text");
+    Ok(())
 }
 
 #[test]
 fn an_empty_image_has_the_size_of_its_capacity(rt: HostRuntime) -> Result<(), Fail> {
-    for (capacity, words, bytes) in [
-        (1, 9_264, 74_112),
-        (2, 17_464, 139_712),
-        (4, 33_864, 270_912),
-        (256, 2_100_264, 16_802_112),
-    ] {
-        assert!(rt; 1 <= capacity && capacity <= 256);
-        let image = format(rt.alloc(), capacity)?;
-        assert_eq!(rt; image.len(), words, "words at {capacity}");
-        assert_eq!(rt;
-            read_header(&image),
-            Ok(Header {
-                capacity,
-                clean: true,
-                used: 0
-            }),
-            "at {capacity}"
-        );
-        assert_eq!(rt;
-            image.iter().filter(|word| **word != 0).count(),
-            4,
-            "words that are not 0 at {capacity}"
-        );
-        let file = words_to_bytes(rt.alloc(), &image)?;
-        assert_eq!(rt; file.as_slice().len(), bytes, "bytes at {capacity}");
-        assert!(rt;
-            file.as_slice().starts_with(b"10COLLAR"),
-            "the text at {capacity}"
-        );
-    }
-    Ok(())
+    must_be_empty(&rt, 1, 9_264, 74_112)?;
+    must_be_empty(&rt, 2, 17_464, 139_712)?;
+    must_be_empty(&rt, 4, 33_864, 270_912)?;
+    must_be_empty(&rt, 256, 2_100_264, 16_802_112)
 }
 
-/// Asserts that this is told of an image of one superblock with these changes, and of its bytes.
+/// What is told of a header, as `1 clean 0`: the capacity, the state and how many superblocks are
+/// taken; or the name of the fault.
+fn told(alloc: Global, found: Result<Header, BadHeader>) -> Result<String, AllocError> {
+    match found {
+        Ok(header) => {
+            let state = if header.clean { "clean" } else { "dirty" };
+            format!(in alloc; "{} {state} {}", header.capacity, header.used)
+        }
+        Err(cause) => format!(in alloc; "{cause:?}"),
+    }
+}
+
+/// Asserts that this is told.
 fn must_tell(
     rt: &(impl Abort + AllocGlobal),
-    changes: &[(usize, u64)],
-    want: Result<Header, BadHeader>,
+    found: Result<Header, BadHeader>,
+    wanted: &str,
+    case: &str,
 ) -> Result<(), Fail> {
-    let words = image_with(rt.alloc(), 1, changes)?;
+    let told = told(rt.alloc(), found)?;
+    must_hold(rt, told.as_str() == wanted, case);
+    Ok(())
+}
+
+/// Changes of an empty image of one superblock, and what is told of its words, and of its bytes.
+/// Word 0 is the mark, 1 the version and 2 the capacity.
+const TOLD: &str = "
+# The mark, another, and the mark's bytes the other way round.
+0 5927102475227312177 => 1 clean 0
+0 5927102475227312178 => Magic
+0 3544406914602123602 => Magic
+1 0 => Version
+1 1 => 1 clean 0
+1 2 => Version
+2 0 => Capacity
+2 1 => 1 clean 0
+2 2 => Length
+2 256 => Length
+2 257 => Capacity
+state 0 => State
+state 1 => 1 clean 0
+state 2 => 1 dirty 0
+state 3 => State
+used 1 => 1 clean 1
+used 2 => Used
+# Word 9 has no meaning.
+9 2 => 1 clean 0
+# The first cause is told.
+state 0, used 2 => State
+state 1, used 2 => Used
+state 2, used 1 => 1 dirty 1
+";
+
+/// Asserts what a row tells.
+fn must_tell_of_both(
+    rt: &(impl Abort + AllocGlobal),
+    changes: &str,
+    wanted: &str,
+) -> Result<(), Fail> {
+    let words = image_of(rt.alloc(), 1, changes)?;
     let bytes = words_to_bytes(rt.alloc(), &words)?;
-    assert_eq!(rt; read_header(&words), want, "words with {changes:?}");
-    assert_eq!(rt;
-        check_bytes(bytes.as_slice()),
-        want,
-        "bytes with {changes:?}"
-    );
-    Ok(())
+    must_tell(rt, read_header(&words), wanted, changes)?;
+    must_tell(rt, check_bytes(bytes.as_slice()), wanted, changes)
 }
 
 #[test]
-fn each_cause_is_told_where_it_holds_and_not_beside_it(rt: HostRuntime) -> Result<(), Fail> {
-    for (at, value, want) in [
-        (0, 0x5241_4c4c_4f43_3031, header(true, 0)),
-        (0, 0x5241_4c4c_4f43_3032, Err(BadHeader::Magic)),
-        (0, 0x3130_434f_4c4c_4152, Err(BadHeader::Magic)),
-        (1, 0, Err(BadHeader::Version)),
-        (1, 1, header(true, 0)),
-        (1, 2, Err(BadHeader::Version)),
-        (2, 0, Err(BadHeader::Capacity)),
-        (2, 1, header(true, 0)),
-        (2, 2, Err(BadHeader::Length)),
-        (2, 256, Err(BadHeader::Length)),
-        (2, 257, Err(BadHeader::Capacity)),
-        (3, 0, Err(BadHeader::State)),
-        (3, 1, header(true, 0)),
-        (3, 2, header(false, 0)),
-        (3, 3, Err(BadHeader::State)),
-        (8, 1, header(true, 1)),
-        (8, 2, Err(BadHeader::Used)),
-        (9, 2, header(true, 0)),
-    ] {
-        must_tell(&rt, &[(at, value)], want)?;
+fn the_first_cause_is_told_where_it_holds_and_not_beside_it(rt: HostRuntime) -> Result<(), Fail> {
+    for line in TOLD.split('\n') {
+        if let Some((changes, wanted)) = line.split_once(" => ") {
+            must_tell_of_both(&rt, changes, wanted)?;
+        }
     }
     Ok(())
 }
 
-#[test]
-fn the_first_cause_is_told(rt: HostRuntime) -> Result<(), Fail> {
-    for (state, used, want) in [
-        (0, 2, Err(BadHeader::State)),
-        (1, 2, Err(BadHeader::Used)),
-        (2, 1, header(false, 1)),
-    ] {
-        must_tell(&rt, &[(3, state), (8, used)], want)?;
-    }
-    Ok(())
+/// Asserts that this is told of an empty image of one superblock, cut or filled to so many bytes.
+fn must_tell_of_bytes(
+    rt: &(impl Abort + AllocGlobal),
+    length: usize,
+    wanted: &str,
+) -> Result<(), Fail> {
+    let mut bytes = words_to_bytes(rt.alloc(), &format(rt.alloc(), 1)?)?.into_vec();
+    bytes.resize(length, 0)?;
+    must_tell(rt, check_bytes(&bytes), wanted, wanted)
+}
+
+/// Asserts the same of so many words.
+fn must_tell_of_words(
+    rt: &(impl Abort + AllocGlobal),
+    length: usize,
+    wanted: &str,
+) -> Result<(), Fail> {
+    let mut words = format(rt.alloc(), 1)?;
+    words.resize(length, 0)?;
+    must_tell(rt, read_header(&words), wanted, wanted)
 }
 
 #[test]
 fn a_file_of_another_length_is_refused(rt: HostRuntime) -> Result<(), Fail> {
-    for (length, want) in [
-        (0, Err(BadHeader::Short)),
-        (8_511, Err(BadHeader::Short)),
-        (8_512, Err(BadHeader::Length)),
-        (74_111, Err(BadHeader::Length)),
-        (74_112, header(true, 0)),
-        (74_120, Err(BadHeader::Length)),
-    ] {
-        let mut bytes = words_to_bytes(rt.alloc(), &format(rt.alloc(), 1)?)?.into_vec();
-        bytes.resize(length, 0)?;
-        assert_eq!(rt; check_bytes(&bytes), want, "{length} bytes");
-    }
-    for (length, want) in [
-        (1_063, Err(BadHeader::Short)),
-        (1_064, Err(BadHeader::Length)),
-        (9_263, Err(BadHeader::Length)),
-        (9_265, Err(BadHeader::Length)),
-    ] {
-        let mut words = format(rt.alloc(), 1)?;
-        words.resize(length, 0)?;
-        assert_eq!(rt; read_header(&words), want, "{length} words");
-    }
-    Ok(())
+    must_tell_of_bytes(&rt, 0, "Short")?;
+    must_tell_of_bytes(&rt, 8_511, "Short")?;
+    must_tell_of_bytes(&rt, 8_512, "Length")?;
+    must_tell_of_bytes(&rt, 74_111, "Length")?;
+    must_tell_of_bytes(&rt, 74_112, "1 clean 0")?;
+    must_tell_of_bytes(&rt, 74_120, "Length")?;
+    must_tell_of_words(&rt, 1_063, "Short")?;
+    must_tell_of_words(&rt, 1_064, "Length")?;
+    must_tell_of_words(&rt, 9_263, "Length")?;
+    must_tell_of_words(&rt, 9_265, "Length")
 }
 
 #[test]
@@ -140,10 +168,8 @@ fn the_lowest_byte_of_a_word_comes_first(rt: HostRuntime) -> Result<(), Fail> {
         8, 7, 6, 5, 4, 3, 2, 1, 1, 0, 0, 0, 0, 0, 0, 0, 0, 0, 0, 0, 0, 0, 0, 128,
     ];
     let bytes = words_to_bytes(rt.alloc(), &words)?;
-    assert_eq!(rt; bytes.as_slice(), want.as_slice());
-    assert_eq!(rt;
-        bytes_to_words(rt.alloc(), &want)?.as_slice(),
-        words.as_slice()
-    );
+    must_hold(&rt, bytes.as_slice() == want.as_slice(), "bytes");
+    let read = bytes_to_words(rt.alloc(), &want)?;
+    must_hold(&rt, read.as_slice() == words.as_slice(), "words");
     Ok(())
 }

@@ -6,6 +6,8 @@
 #[cfg(test)]
 mod anchors;
 #[cfg(test)]
+mod asserts;
+#[cfg(test)]
 mod headers;
 #[cfg(test)]
 mod images;

@@ -2,6 +2,8 @@
 ghost use Rattle.std.specs.Prelude.{◌≡◌};
 ghost use Rattle.line_memory.specs.View.{word_count};
 
+use crate::asserts::must_hold;
+use image_text::number;
 use line_memory::{Chance, ConstantChance, LineMemory, PlainMemory, Stopped, persist};
 use std::alloc::{AllocError, Global};
 use std::process::Abort;
@@ -11,7 +13,7 @@ use std::test::Fail;
 const WORDS: usize = 20;
 
 /// Counts up, so that each of the recent stores has its turn.
-#[derive(Drop)]
+#[derive(Clone, Copy, Drop)]
 struct Counted {
     next: u64,
 }
@@ -29,6 +31,29 @@ enum Step {
     Store(u64, u64),
     WriteBack(u64),
     Fence,
+}
+
+/// The step told as `load 3`, `store 3 31`, `write-back 0` or `fence`.
+fn read_step(text: &str) -> Result<Step, Fail> {
+    let (kind, numbers) = text.split_once(' ').unwrap_or((text, "0"));
+    let (at, value) = numbers.split_once(' ').unwrap_or((numbers, "0"));
+    let (at, value) = (number(at)?, number(value)?);
+    match kind {
+        "load" => Ok(Step::Load(at)),
+        "store" => Ok(Step::Store(at, value)),
+        "write-back" => Ok(Step::WriteBack(at)),
+        "fence" => Ok(Step::Fence),
+        _ => Err("no step".into()),
+    }
+}
+
+/// The steps of a script.
+fn steps(alloc: Global, script: &str) -> Result<Vec<Step>, Fail> {
+    let mut steps = Vec::new(alloc);
+    for text in script.split(", ") {
+        steps.push(read_step(text)?)?;
+    }
+    Ok(steps)
 }
 
 /// Takes the step, and gives what a load saw, or else 0.
@@ -83,31 +108,17 @@ fn run<C: Chance>(
     })
 }
 
-/// The same by the rules alone: whole arrays, and no list of lines.
+/// The same by the rules alone.
 fn run_naively<C: Chance>(
     alloc: Global,
     mut chance: C,
     budget: u64,
     script: &[Step],
 ) -> Result<Outcome, AllocError> {
-    let mut naive = Naive::new();
+    let mut naive = Naive::new(alloc);
     let mut answers = Vec::new(alloc);
-    let mut stores = Vec::new(alloc);
-    let mut stopped = None;
-    for (ticket, step) in script.iter().enumerate() {
-        let ticket = ticket as u64;
-        if stopped.is_none() {
-            naive.write_back_early(chance.draw(), &stores);
-            if ticket >= budget {
-                stopped = Some(Stopped { step: ticket });
-            } else if let Step::Store(word, _) = *step {
-                stores.push(word)?;
-            }
-        }
-        let answer = match stopped {
-            None => Ok(naive.take(*step)),
-            Some(at) => Err(at),
-        };
+    for step in script {
+        let answer = naive.answer(&mut chance, budget, *step)?;
         answers.push(answer)?;
     }
     Ok(Outcome {
@@ -117,209 +128,235 @@ fn run_naively<C: Chance>(
     })
 }
 
+/// A memory by the rules alone: whole arrays, and no list of lines.
 #[derive(Drop)]
 struct Naive {
     volatile: [u64; WORDS],
     durable: [u64; WORDS],
     pending: [bool; WORDS],
+    stores: Vec<u64>,
+    drawn: u64,
+    stopped: Option<Stopped>,
 }
 
 impl Naive {
-    fn new() -> Naive {
+    fn new(alloc: Global) -> Naive {
         Naive {
             volatile: [0; WORDS],
             durable: [0; WORDS],
             pending: [false; WORDS],
+            stores: Vec::new(alloc),
+            drawn: 0,
+            stopped: None,
         }
     }
 
-    fn write_back_early(&mut self, number: u64, stores: &[u64]) {
+    /// Draws a ticket, unless one was refused, and takes the step.
+    fn answer<C: Chance>(
+        &mut self,
+        chance: &mut C,
+        budget: u64,
+        step: Step,
+    ) -> Result<Result<u64, Stopped>, AllocError> {
+        if self.stopped.is_none() {
+            self.write_back_early(chance.draw());
+            self.draw(budget);
+        }
+        match self.stopped {
+            None => Ok(Ok(self.take(step)?)),
+            Some(stopped) => Ok(Err(stopped)),
+        }
+    }
+
+    fn write_back_early(&mut self, number: u64) {
         let nth = (number / 2 % 16) as usize;
-        if number % 2 == 1 && nth < stores.len() {
-            let word = stores[stores.len() - 1 - nth] as usize;
+        if number % 2 == 1 && nth < self.stores.len() {
+            let word = self.stores[self.stores.len() - 1 - nth] as usize;
             if word < WORDS {
                 self.durable[word] = self.volatile[word];
             }
         }
     }
 
-    fn take(&mut self, step: Step) -> u64 {
+    fn draw(&mut self, budget: u64) {
+        if self.drawn >= budget {
+            self.stopped = Some(Stopped { step: self.drawn });
+        }
+        self.drawn = self.drawn.wrapping_add(1);
+    }
+
+    fn take(&mut self, step: Step) -> Result<u64, AllocError> {
         match step {
-            Step::Load(word) if word < 20 => self.volatile[word as usize],
+            Step::Load(word) if word < 20 => return Ok(self.volatile[word as usize]),
             Step::Store(word, value) if word < 20 => {
+                self.stores.push(word)?;
                 self.volatile[word as usize] = value;
                 self.pending[word as usize] = false;
-                0
             }
-            Step::WriteBack(line) => {
-                for word in 0..WORDS {
-                    if word as u64 / 8 == line {
-                        self.pending[word] = true;
-                    }
-                }
-                0
+            Step::WriteBack(line) => self.mark(line),
+            Step::Fence => self.complete(),
+            _ => {}
+        }
+        Ok(0)
+    }
+
+    fn mark(&mut self, line: u64) {
+        for word in 0..WORDS {
+            if word as u64 / 8 == line {
+                self.pending[word] = true;
             }
-            Step::Fence => {
-                for word in 0..WORDS {
-                    if self.pending[word] {
-                        self.durable[word] = self.volatile[word];
-                        self.pending[word] = false;
-                    }
-                }
-                0
+        }
+    }
+
+    fn complete(&mut self) {
+        for word in 0..WORDS {
+            if self.pending[word] {
+                self.durable[word] = self.volatile[word];
+                self.pending[word] = false;
             }
-            _ => 0,
         }
     }
 }
 
 /// Twenty steps: stores in each line, some again after the write-back, and two fences.
-const SCRIPT: [Step; 20] = [
-    Step::Store(3, 31),
-    Step::Store(4, 41),
-    Step::Store(3, 32),
-    Step::WriteBack(0),
-    Step::Store(3, 33),
-    Step::Store(9, 91),
-    Step::Fence,
-    Step::Load(3),
-    Step::WriteBack(0),
-    Step::WriteBack(1),
-    Step::Store(9, 92),
-    Step::Store(19, 191),
-    Step::WriteBack(2),
-    Step::Store(18, 181),
-    Step::WriteBack(1),
-    Step::Store(4, 42),
-    Step::Fence,
-    Step::Load(9),
-    Step::Store(4, 43),
-    Step::Fence,
-];
+const SCRIPT: &str = "store 3 31, store 4 41, store 3 32, write-back 0, store 3 33, store 9 91, \
+    fence, load 3, write-back 0, write-back 1, store 9 92, store 19 191, write-back 2, \
+    store 18 181, write-back 1, store 4 42, fence, load 9, store 4 43, fence";
 
-fn agree(rt: &impl Abort, real: &Outcome, naive: &Outcome) {
-    assert_eq!(rt; real.answers.as_slice(), naive.answers.as_slice());
-    assert_eq!(rt; real.volatile.as_slice(), naive.volatile.as_slice());
-    assert_eq!(rt; real.durable.as_slice(), naive.durable.as_slice());
+/// Asserts that a run with so many steps answers and leaves what the rules say.
+fn must_agree<C: Chance + Copy>(
+    rt: &(impl Abort + AllocGlobal),
+    chance: C,
+    budget: u64,
+    script: &[Step],
+) -> Result<(), AllocError> {
+    let real = run(rt.alloc(), chance, budget, script)?;
+    let naive = run_naively(rt.alloc(), chance, budget, script)?;
+    let (answers, wanted) = (real.answers.as_slice(), naive.answers.as_slice());
+    must_hold(rt, answers == wanted, "the answers");
+    let (volatile, wanted) = (real.volatile.as_slice(), naive.volatile.as_slice());
+    must_hold(rt, volatile == wanted, "the volatile words");
+    let (durable, wanted) = (real.durable.as_slice(), naive.durable.as_slice());
+    must_hold(rt, durable == wanted, "the durable words");
+    Ok(())
 }
 
 #[test]
 fn each_stop_of_twenty_steps_leaves_what_the_rules_say(rt: HostRuntime) -> Result<(), Fail> {
-    let alloc = rt.alloc();
+    let script = steps(rt.alloc(), SCRIPT)?;
     for budget in 0..22 {
-        let real = run(alloc, ConstantChance(0), budget, &SCRIPT)?;
-        agree(
-            &rt,
-            &real,
-            &run_naively(alloc, ConstantChance(0), budget, &SCRIPT)?,
-        );
-        let real = run(alloc, ConstantChance(1), budget, &SCRIPT)?;
-        agree(
-            &rt,
-            &real,
-            &run_naively(alloc, ConstantChance(1), budget, &SCRIPT)?,
-        );
+        must_agree(&rt, ConstantChance(0), budget, &script)?;
+        must_agree(&rt, ConstantChance(1), budget, &script)?;
         for next in 0..32 {
-            let real = run(alloc, Counted { next }, budget, &SCRIPT)?;
-            agree(
-                &rt,
-                &real,
-                &run_naively(alloc, Counted { next }, budget, &SCRIPT)?,
-            );
+            must_agree(&rt, Counted { next }, budget, &script)?;
         }
     }
     Ok(())
 }
 
-/// What is left of words 3, 4 and 9 after the steps, with nothing written back early.
-fn left(alloc: Global, budget: u64, script: &[Step]) -> Result<[Option<u64>; 3], AllocError> {
-    let durable = run(alloc, ConstantChance(0), budget, script)?.durable;
-    Ok([3, 4, 9].map(|word| durable.get(word).copied()))
+/// How many steps a script may take, and what is durable of words 3, 4 and 9 then, with nothing
+/// written back early.
+const LEFT: &str = "
+# A store after the write-back waits for the next.
+4 | store 3 1, store 3 2, write-back 0, store 3 5, fence, write-back 0, fence | 0 0 0
+5 | store 3 1, store 3 2, write-back 0, store 3 5, fence, write-back 0, fence | 0 0 0
+7 | store 3 1, store 3 2, write-back 0, store 3 5, fence, write-back 0, fence | 5 0 0
+# A line is written back whole, and no other.
+4 | store 3 1, store 4 2, store 9 7, write-back 0, fence | 0 0 0
+5 | store 3 1, store 4 2, store 9 7, write-back 0, fence | 1 2 0
+";
+
+/// The word that is told, or the greatest behind the end.
+fn word(words: &[u64], at: usize) -> u64 {
+    words.get(at).copied().unwrap_or(u64::MAX)
 }
 
-#[test]
-fn a_store_after_the_write_back_waits_for_the_next(rt: HostRuntime) -> Result<(), Fail> {
-    let alloc = rt.alloc();
-    let twice = [
-        Step::Store(3, 1),
-        Step::Store(3, 2),
-        Step::WriteBack(0),
-        Step::Store(3, 5),
-        Step::Fence,
-        Step::WriteBack(0),
-        Step::Fence,
-    ];
-    assert_eq!(rt; left(alloc, 4, &twice)?, [Some(0), Some(0), Some(0)]);
-    assert_eq!(rt; left(alloc, 5, &twice)?, [Some(0), Some(0), Some(0)]);
-    assert_eq!(rt; left(alloc, 7, &twice)?, [Some(5), Some(0), Some(0)]);
+/// What a run that may take so many steps leaves durable, with nothing written back early.
+fn durable_after(alloc: Global, budget: &str, script: &str) -> Result<Vec<u64>, Fail> {
+    let script = steps(alloc, script)?;
+    let outcome = run(alloc, ConstantChance(0), number(budget)?, &script)?;
+    Ok(outcome.durable)
+}
+
+/// Asserts what a row tells.
+fn must_leave(rt: &(impl Abort + AllocGlobal), row: &str) -> Result<(), Fail> {
+    let (budget, rest) = row.split_once(" | ").ok_or("no budget")?;
+    let (script, wanted) = rest.split_once(" | ").ok_or("no script")?;
+    let left = durable_after(rt.alloc(), budget, script)?;
+    let (three, four, nine) = (word(&left, 3), word(&left, 4), word(&left, 9));
+    let told = format!(in rt.alloc(); "{three} {four} {nine}")?;
+    must_hold(rt, told.as_str() == wanted, row);
     Ok(())
 }
 
 #[test]
-fn a_line_is_written_back_whole_and_no_other(rt: HostRuntime) -> Result<(), Fail> {
-    let alloc = rt.alloc();
-    let script = [
-        Step::Store(3, 1),
-        Step::Store(4, 2),
-        Step::Store(9, 7),
-        Step::WriteBack(0),
-        Step::Fence,
-    ];
-    assert_eq!(rt; left(alloc, 4, &script)?, [Some(0), Some(0), Some(0)]);
-    assert_eq!(rt; left(alloc, 5, &script)?, [Some(1), Some(2), Some(0)]);
+fn what_was_written_back_before_a_fence_is_durable(rt: HostRuntime) -> Result<(), Fail> {
+    for line in LEFT.trim().split('\n') {
+        if !line.starts_with('#') {
+            must_leave(&rt, line)?;
+        }
+    }
     Ok(())
+}
+
+/// Whether twenty answers are given, and the steps are refused from the budget on.
+fn stop_at(answers: &[Result<u64, Stopped>], budget: u64) -> bool {
+    for (step, answer) in answers.iter().enumerate() {
+        let is_right = if (step as u64) < budget {
+            answer.is_ok()
+        } else {
+            *answer == Err(Stopped { step: budget })
+        };
+        if !is_right {
+            return false;
+        }
+    }
+    answers.len() == 20
 }
 
 #[test]
 fn a_memory_stops_at_its_budget_and_stays_so(rt: HostRuntime) -> Result<(), Fail> {
-    let alloc = rt.alloc();
+    let script = steps(rt.alloc(), SCRIPT)?;
     for budget in 0..4 {
-        let outcome = run(alloc, ConstantChance(0), budget, &SCRIPT)?;
-        let stopped = outcome
-            .answers
-            .iter()
-            .filter(|answer| answer.is_err())
-            .count();
-        assert_eq!(rt; stopped as u64, 20 - budget);
-        assert_eq!(rt;
-            outcome.answers.as_slice().last().copied(),
-            Some(Err(Stopped { step: budget }))
-        );
+        let outcome = run(rt.alloc(), ConstantChance(0), budget, &script)?;
+        must_hold(&rt, stop_at(&outcome.answers, budget), "it stops");
     }
     Ok(())
 }
 
-/// How many words are durable after 17 stores to words of their own, and what is left of word 0.
-fn written_back_early(alloc: Global, number: u64) -> Result<(usize, Option<u64>), AllocError> {
+/// What is durable after 17 stores of 9 to words of their own.
+fn written_back_early(alloc: Global, number: u64) -> Result<Vec<u64>, AllocError> {
     let mut script = Vec::new(alloc);
     for word in 0..17 {
         script.push(Step::Store(word, 9))?;
     }
-    let durable = run(alloc, ConstantChance(number), 17, &script)?.durable;
-    Ok((
-        durable.iter().filter(|value| **value == 9).count(),
-        durable.get(0).copied(),
-    ))
+    Ok(run(alloc, ConstantChance(number), 17, &script)?.durable)
+}
+
+/// Asserts that so many of these words are durable, the first among them where one is.
+fn must_write_back(
+    rt: &(impl Abort + AllocGlobal),
+    number: u64,
+    count: usize,
+) -> Result<(), AllocError> {
+    let durable = written_back_early(rt.alloc(), number)?;
+    let found = durable.iter().filter(|value| **value == 9).count();
+    must_hold(rt, found == count, "how many");
+    must_hold(rt, (word(&durable, 0) == 9) == (count != 0), "the first");
+    Ok(())
 }
 
 #[test]
 fn an_odd_number_names_one_of_the_last_sixteen_stores(rt: HostRuntime) -> Result<(), Fail> {
-    let alloc = rt.alloc();
     // The last of the 17 draws is the only one after which there are sixteen stores.
-    for (number, count) in [
-        (0, 0),
-        (1, 16),
-        (2, 0),
-        (3, 15),
-        (29, 2),
-        (31, 1),
-        (33, 16),
-        (63, 1),
-    ] {
-        let early = written_back_early(alloc, number)?;
-        assert_eq!(rt; early.0, count, "at {number}");
-        assert_eq!(rt; early.1 == Some(9), count != 0, "at {number}");
-    }
+    must_write_back(&rt, 0, 0)?;
+    must_write_back(&rt, 1, 16)?;
+    must_write_back(&rt, 2, 0)?;
+    must_write_back(&rt, 3, 15)?;
+    must_write_back(&rt, 29, 2)?;
+    must_write_back(&rt, 31, 1)?;
+    must_write_back(&rt, 33, 16)?;
+    must_write_back(&rt, 63, 1)?;
     Ok(())
 }
 
@@ -327,10 +364,12 @@ fn an_odd_number_names_one_of_the_last_sixteen_stores(rt: HostRuntime) -> Result
 fn a_word_that_is_persisted_is_durable(rt: HostRuntime) -> Result<(), Fail> {
     let alloc = rt.alloc();
     let mut memory = PlainMemory::new(alloc, vec![in alloc; 0; WORDS]?, 3, ConstantChance(0))?;
-    assert_eq!(rt; persist(&mut memory, 17, 5), Ok(()));
-    assert_eq!(rt; persist(&mut memory, 18, 6), Err(Stopped { step: 3 }));
+    let first = persist(&mut memory, 17, 5);
+    must_hold(&rt, first == Ok(()), "the first");
+    let second = persist(&mut memory, 18, 6);
+    must_hold(&rt, second == Err(Stopped { step: 3 }), "the second");
     let closed = memory.finish();
-    assert_eq!(rt; closed.kept.get(17).copied(), Some(5));
-    assert_eq!(rt; closed.now.get(18).copied(), Some(0));
+    must_hold(&rt, word(&closed.kept, 17) == 5, "it is durable");
+    must_hold(&rt, word(&closed.now, 18) == 0, "it was not stored");
     Ok(())
 }

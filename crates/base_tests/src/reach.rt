@@ -4,10 +4,13 @@ ghost use Rattle.std.specs.List.{All};
 ghost use Rattle.heap_model.specs.Geometry.{roots};
 ghost use Rattle.base_tests.specs.Tables.{each_link, node_links};
 
-use crate::images::taken_image;
+use crate::asserts::must_hold;
+use crate::images::{block_of, good_image};
 use filter_trace::{Filter, Marks, TraceFault, trace};
 use heap_model::Block;
+use image_text::number;
 use std::alloc::{AllocError, Global};
+use std::process::Abort;
 use std::test::Fail;
 
 /// A block of kind 0 has no links, a table (1) links each of its words to a node (2), and a node
@@ -69,219 +72,145 @@ fn kinds(alloc: Global, first: u32, second: u32) -> Result<Vec<u32>, AllocError>
     Ok(kinds)
 }
 
-/// What the two roots reach in the image of one superblock with these words.
-fn traced(alloc: Global, words: &[(usize, u64)], first: u32, second: u32) -> Result<Marks, Fail>
-    requires first { first < 3 }
-    requires second { second < 3 }
+/// The kind that the text tells.
+fn kind(text: &str) -> Result<u32, Fail>
+    ensures { IfOk result (λ kind. kind < 3) }
 {
-    Ok(try_trace(alloc, words, first, second)??)
+    match text {
+        "0" => Ok(0),
+        "1" => Ok(1),
+        "2" => Ok(2),
+        _ => Err("no kind".into()),
+    }
 }
 
-/// Why such a trace failed.
-fn fault_of(
-    alloc: Global,
-    words: &[(usize, u64)],
-    first: u32,
-    second: u32,
-) -> Result<Option<TraceFault>, Fail>
-    requires first { first < 3 }
-    requires second { second < 3 }
-{
-    Ok(try_trace(alloc, words, first, second)?.err())
-}
-
-fn try_trace(
-    alloc: Global,
-    words: &[(usize, u64)],
-    first: u32,
-    second: u32,
-) -> Result<Result<Marks, TraceFault>, Fail>
-    requires first { first < 3 }
-    requires second { second < 3 }
-{
-    let image = taken_image(alloc, 1, words)?;
-    let kinds = kinds(alloc, first, second)?;
+/// What roots 0 and 1, of these kinds, reach in the image of one superblock with these words.
+fn traced(alloc: Global, roots: &str, words: &str) -> Result<Result<Marks, TraceFault>, Fail> {
+    let (first, second) = roots.split_once(' ').ok_or("no two kinds")?;
+    let kinds = kinds(alloc, kind(first)?, kind(second)?)?;
+    let image = good_image(alloc, 1, words)?;
     Ok(trace(alloc, &image, &kinds, &Tables))
 }
 
-// Three blocks of class 2, and pointers to them.
-const CLASS_2: (usize, u64) = (1_064, 2);
-
-const A: Block = Block {
-    first_word: 1_072,
-    words: 4,
-};
-
-const B: Block = Block {
-    first_word: 1_076,
-    words: 4,
-};
-
-const C: Block = Block {
-    first_word: 1_080,
-    words: 4,
-};
-
-const TO_A: u64 = 0x5250_0000_0000_2180;
-
-const TO_B: u64 = 0x5250_0000_0000_21a0;
-
-const TO_C: u64 = 0x5250_0000_0000_21c0;
-
-/// The kinds of 0 to 2 that the block has been reached as.
-fn kinds_of(marks: &Marks, block: Block) -> [bool; 3] {
-    [
-        marks.has(block, 0),
-        marks.has(block, 1),
-        marks.has(block, 2),
-    ]
+/// The kinds that the block has been reached as. Where it has as none, `~` if one that begins at the
+/// same word has, and `-` else.
+fn kinds_of(alloc: Global, marks: &Marks, block: Block) -> Result<String, AllocError> {
+    let mut kinds = String::new(alloc);
+    for kind in [0, 1, 2, 3, u32::MAX] {
+        if marks.has(block, kind) {
+            write!(kinds, "{kind}")?;
+        }
+    }
+    if kinds.is_empty() {
+        let begins = marks.holds_at(block.first_word);
+        kinds.push_str(if begins { "~" } else { "-" })?;
+    }
+    Ok(kinds)
 }
 
-/// Whether the block has been reached, as one of any kind.
-fn is_reached(marks: &Marks, block: Block) -> bool {
-    marks.holds_at(block.first_word)
-}
-
-#[test]
-fn a_block_of_two_kinds_is_followed_as_each(rt: HostRuntime) -> Result<(), Fail> {
-    let words = [
-        CLASS_2,
-        (40, TO_A),
-        (41, TO_A),
-        (1_072, TO_B),
-        (1_074, TO_C),
-    ];
-    let marks = traced(rt.alloc(), &words, 2, 1)?;
-    assert_eq!(rt; kinds_of(&marks, A), [false, true, true]);
-    assert_eq!(rt; kinds_of(&marks, B), [false, false, true]);
-    assert_eq!(rt; kinds_of(&marks, C), [false, false, true]);
-    assert!(rt; is_reached(&marks, A) && is_reached(&marks, B) && is_reached(&marks, C));
+/// Asserts that the block has been reached as just these kinds, as in `1072/4 12`.
+fn must_be_reached(rt: &(impl Abort + AllocGlobal), marks: &Marks, told: &str) -> Result<(), Fail> {
+    let (block, kinds) = told.split_once(' ').ok_or("no kinds")?;
+    let block = block_of(block)?;
+    let found = kinds_of(rt.alloc(), marks, block)?;
+    must_hold(rt, found.as_str() == kinds, told);
+    must_hold(rt, marks.holds_at(block.first_word) == (kinds != "-"), told);
     Ok(())
 }
 
-#[test]
-fn a_block_with_links_may_be_reached_as_one_without(rt: HostRuntime) -> Result<(), Fail> {
-    let table = Block {
-        first_word: 1_072,
-        words: 128,
-    };
-    let words = [(1_064, 12), (40, TO_A), (41, TO_A)];
-    for (first, second) in [(0, 1), (1, 0)] {
-        let marks = traced(rt.alloc(), &words, first, second)?;
-        assert_eq!(rt; kinds_of(&marks, table), [true, true, false]);
+/// Traces what a row tells, in columns between bars: the kinds of roots 0 and 1, the words of the
+/// image, and blocks with the kinds that they are reached as.
+fn must_reach(rt: &(impl Abort + AllocGlobal), row: &str) -> Result<(), Fail> {
+    let (roots, rest) = row.split_once(" | ").ok_or("no roots")?;
+    let (words, blocks) = rest.split_once(" | ").ok_or("no words")?;
+    let marks = traced(rt.alloc(), roots, words)??;
+    for block in blocks.split(", ") {
+        must_be_reached(rt, &marks, block)?;
     }
     Ok(())
 }
 
+/// Whether the line of a table is a row.
+fn is_row(line: &str) -> bool {
+    line.split_once(" | ").is_some() && !line.starts_with('#')
+}
+
+/// Blocks of class 2 begin at words 1,072, 1,076 and 1,080, and the first of class 12 at 1,072.
+const REACHED: &str = "
+# A block of two kinds is followed as each.
+2 1 | used 1, info:0 2, root:0 @1072, root:1 @1072, 1072 @1076, 1074 @1080 | \
+    1072/4 12, 1076/4 2, 1080/4 2
+# A block with links may be reached as one without.
+0 1 | used 1, info:0 12, root:0 @1072, root:1 @1072 | 1072/128 01
+1 0 | used 1, info:0 12, root:0 @1072, root:1 @1072 | 1072/128 01
+0 0 | used 1, info:0 12, root:0 @1072, 1075 5 | 1072/128 0
+# No other block has been reached.
+2 0 | used 1, info:0 2, root:0 @1072, root:1 @1080 | 1072/4 2, 1080/4 0, \
+    1076/4 -, 1072/2 ~, 1072/8 ~, 1073/4 -, 40/4 -, 9264/4 -, 18446744073709551615/4 -, \
+    2305843009213693951/18446744073709551615 -
+# Cycles and shared blocks are followed once.
+2 0 | used 1, info:0 2, root:0 @1072, 1072 @1072 | 1072/4 2, 1076/4 -
+2 0 | used 1, info:0 2, root:0 @1072, 1072 @1076, 1076 @1072 | 1072/4 2, 1076/4 2, 1080/4 -
+2 2 | used 1, info:0 2, root:0 @1072, root:1 @1076, 1072 @1080, 1076 @1080 | 1080/4 2
+";
+
 #[test]
-fn no_other_block_has_been_reached(rt: HostRuntime) -> Result<(), Fail> {
-    let marks = traced(rt.alloc(), &[CLASS_2, (40, TO_A), (41, TO_C)], 2, 0)?;
-    assert_eq!(rt; kinds_of(&marks, A), [false, false, true]);
-    assert_eq!(rt; kinds_of(&marks, C), [true, false, false]);
-    assert!(rt; !marks.has(A, 3) && !marks.has(A, u32::MAX));
-    for (first_word, words) in [
-        (1_076, 4),
-        (1_072, 2),
-        (1_072, 8),
-        (1_073, 4),
-        (40, 4),
-        (1_072 + 8_192, 4),
-        (u64::MAX, 4),
-        (u64::MAX / 8, u64::MAX),
-    ] {
-        let block = Block { first_word, words };
-        assert_eq!(rt;
-            kinds_of(&marks, block),
-            [false, false, false],
-            "at {first_word}"
-        );
-        assert_eq!(rt;
-            marks.holds_at(first_word),
-            first_word == 1_072,
-            "at {first_word}"
-        );
+fn blocks_are_reached_through_the_links_of_their_kinds(rt: HostRuntime) -> Result<(), Fail> {
+    for line in REACHED.split('\n') {
+        if is_row(line) {
+            must_reach(&rt, line)?;
+        }
     }
     Ok(())
 }
 
-#[test]
-fn a_link_of_a_table_that_is_no_pointer_is_outside(rt: HostRuntime) -> Result<(), Fail> {
-    let table = Block {
-        first_word: 1_072,
-        words: 128,
-    };
+/// The same, but for the last column: the word that points to no block, and its value.
+const OUTSIDE: &str = "
+# A link of a table that is no pointer.
+1 0 | used 1, info:0 12, root:0 @1072, 1075 5 | 1075 5
+# A word deep in a chain: no pointer, one into a block, and one with another upper half.
+2 0 | used 1, info:0 2, root:0 @1072, 1072 @1076, 1076 @1080, 1080 7 | 1080 7
+2 0 | used 1, info:0 2, root:0 @1072, 1072 @1076, 1076 @1080, 1080 @1073 | 1080 @1073
+2 0 | used 1, info:0 2, root:0 @1072, 1072 @1076, 1076 @1080, 1080 5931522184223662464 | \
+    1080 5931522184223662464
+";
+
+/// Traces what such a row tells.
+fn must_be_outside(rt: &(impl Abort + AllocGlobal), row: &str) -> Result<(), Fail> {
+    let (roots, rest) = row.split_once(" | ").ok_or("no roots")?;
+    let (words, outside) = rest.split_once(" | ").ok_or("no words")?;
+    let (at, value) = outside.split_once(' ').ok_or("no value")?;
     let fault = TraceFault::Outside {
-        at: 1_075,
-        value: 5,
+        at: number(at)?,
+        value: number(value)?,
     };
-    let words = [(1_064, 12), (40, TO_A), (1_075, 5)];
-    assert_eq!(rt; fault_of(rt.alloc(), &words, 1, 0)?, Some(fault));
-    let marks = traced(rt.alloc(), &words, 0, 0)?;
-    assert_eq!(rt; kinds_of(&marks, table), [true, false, false]);
+    let found = traced(rt.alloc(), roots, words)?.err();
+    must_hold(rt, found == Some(fault), row);
     Ok(())
 }
 
 #[test]
-fn cycles_and_shared_blocks_are_followed_once(rt: HostRuntime) -> Result<(), Fail> {
-    let itself = traced(rt.alloc(), &[CLASS_2, (40, TO_A), (1_072, TO_A)], 2, 0)?;
-    assert_eq!(rt;
-        (is_reached(&itself, A), is_reached(&itself, B)),
-        (true, false)
-    );
-    let cycle = [CLASS_2, (40, TO_A), (1_072, TO_B), (1_076, TO_A)];
-    let cycle = traced(rt.alloc(), &cycle, 2, 0)?;
-    assert_eq!(rt;
-        (
-            is_reached(&cycle, A),
-            is_reached(&cycle, B),
-            is_reached(&cycle, C)
-        ),
-        (true, true, false)
-    );
-    let shared = [
-        CLASS_2,
-        (40, TO_A),
-        (41, TO_B),
-        (1_072, TO_C),
-        (1_076, TO_C),
-    ];
-    let shared = traced(rt.alloc(), &shared, 2, 2)?;
-    assert_eq!(rt; kinds_of(&shared, C), [false, false, true]);
-    Ok(())
-}
-
-#[test]
-fn an_outside_word_deep_in_a_chain_is_told(rt: HostRuntime) -> Result<(), Fail> {
-    for value in [7, 0x5250_0000_0000_2188, 0x5251_0000_0000_2180] {
-        let words = [
-            CLASS_2,
-            (40, TO_A),
-            (1_072, TO_B),
-            (1_076, TO_C),
-            (1_080, value),
-        ];
-        let fault = TraceFault::Outside { at: 1_080, value };
-        assert_eq!(rt; fault_of(rt.alloc(), &words, 2, 0)?, Some(fault));
+fn a_word_that_points_to_no_block_is_told(rt: HostRuntime) -> Result<(), Fail> {
+    for line in OUTSIDE.split('\n') {
+        if is_row(line) {
+            must_be_outside(&rt, line)?;
+        }
     }
     Ok(())
 }
 
 #[test]
 fn a_chain_through_a_whole_superblock_is_followed(rt: HostRuntime) -> Result<(), Fail> {
-    let mut words = Vec::new(rt.alloc());
-    words.push((1_064, 1))?;
-    words.push((40, TO_A))?;
-    for i in 0..4_095 {
-        let next = 0x5250_0000_0000_0000 + 8 * (1_074 + 2 * i as u64);
-        words.push((1_072 + 2 * i, next))?;
+    let alloc = rt.alloc();
+    let mut words = String::from_str(alloc, "used 1, info:0 1, root:0 @1072")?;
+    for block in 0..4_095u64 {
+        let at = block * 2 + 1_072;
+        write!(words, ", {at} @{}", at + 2)?;
     }
-    let marks = traced(rt.alloc(), &words, 2, 0)?;
-    for i in 0..4_096 {
-        let block = Block {
-            first_word: 1_072 + 2 * i,
-            words: 2,
-        };
-        assert_eq!(rt; kinds_of(&marks, block), [false, false, true], "block {i}");
+    let marks = traced(alloc, "2 0", &words)??;
+    for block in 0..4_096u64 {
+        let told = format!(in alloc; "{}/2 2", block * 2 + 1_072)?;
+        must_be_reached(&rt, &marks, &told)?;
     }
     Ok(())
 }

@@ -1,70 +1,93 @@
 //! Where things stand in an image, which block an offset names, and a heap at rest.
-use crate::images::taken_image;
+ghost use Rattle.std.specs.Prelude.{◌<◌, ◌≤◌};
+ghost use Rattle.heap_model.specs.Geometry.{largest_capacity};
+
+use crate::asserts::must_hold;
+use crate::images::{block_of, good_image};
+use image_text::number;
 use region_header::format;
 use size_table::{SizeClass, blocks_of};
+use std::process::Abort;
 use std::test::Fail;
-use super_block::{
-    Block, Directory, Geometry, Ready, WORD_BYTES, an_empty_heap_is_ready, block_at, name,
-};
+use super_block::{Directory, Geometry, Ready, WORD_BYTES, an_empty_heap_is_ready, block_at, name};
+
+/// Asserts that an image of so many superblocks has so many words, and where its superblocks begin.
+fn must_measure(rt: &impl Abort, capacity: u64, words: u64, start_byte: u64)
+    requires some { 1 ≤ capacity }
+    requires small { capacity ≤ largest_capacity }
+{
+    let geometry = Geometry::new(capacity);
+    must_hold(rt, geometry.length() == words, "words");
+    must_hold(
+        rt,
+        WORD_BYTES * geometry.start(0) == start_byte,
+        "the start",
+    );
+}
 
 #[test]
 fn an_image_has_the_length_of_its_capacity(rt: HostRuntime) {
-    for (capacity, words, start_byte) in [
-        (1, 9_264, 8_576),
-        (2, 17_464, 8_640),
-        (4, 33_864, 8_768),
-        (256, 2_100_264, 24_896),
-    ] {
-        assert!(rt; 1 <= capacity && capacity <= 256);
-        let geometry = Geometry::new(capacity);
-        assert_eq!(rt; geometry.length(), words, "at {capacity}");
-        assert_eq!(rt; WORD_BYTES * geometry.start(0), start_byte, "at {capacity}");
-    }
+    must_measure(&rt, 1, 9_264, 8_576);
+    must_measure(&rt, 2, 17_464, 8_640);
+    must_measure(&rt, 4, 33_864, 8_768);
+    must_measure(&rt, 256, 2_100_264, 24_896);
+}
+
+/// Asserts where the descriptor of superblock d of four stands, and where the superblock begins.
+fn must_stand(rt: &impl Abort, d: u64, info: u64, start: u64)
+    requires { d < 4 }
+{
+    let geometry = Geometry::new(4);
+    must_hold(rt, geometry.info(d) == info, "the info");
+    must_hold(rt, geometry.anchor(d) == info.wrapping_add(1), "the anchor");
+    must_hold(rt, geometry.link(d) == info.wrapping_add(2), "the link");
+    must_hold(rt, geometry.start(d) == start, "the start");
 }
 
 #[test]
 fn a_descriptor_is_one_line_and_a_superblock_8192_words(rt: HostRuntime) {
-    let geometry = Geometry::new(4);
-    assert_eq!(rt; geometry.capacity(), 4);
-    for (d, info, start) in [(0, 1_064, 1_096), (1, 1_072, 9_288), (3, 1_088, 25_672)] {
-        assert!(rt; d < 4);
-        assert_eq!(rt; geometry.info(d), info, "at {d}");
-        assert_eq!(rt; geometry.anchor(d), info + 1, "at {d}");
-        assert_eq!(rt; geometry.link(d), info + 2, "at {d}");
-        assert_eq!(rt; geometry.start(d), start, "at {d}");
-    }
+    must_hold(&rt, Geometry::new(4).capacity() == 4, "the capacity");
+    must_stand(&rt, 0, 1_064, 1_096);
+    must_stand(&rt, 1, 1_072, 9_288);
+    must_stand(&rt, 3, 1_088, 25_672);
+}
+
+/// Infos of two superblocks, an offset, and the block that begins there.
+const NAMED: &str = "
+info:0 12, info:1 2 | 8640 | 1080/128
+info:0 12, info:1 2 | 8648 | none
+info:0 12, info:1 2 | 8632 | none
+info:0 12, info:1 2 | 74208 | 9276/4
+info:0 12, info:1 21 | 74208 | none
+info:0 767, info:1 0 | 8640 | 1080/16384
+info:0 767, info:1 0 | 9664 | none
+info:0 767, info:1 4 | 8640 | none
+info:0 0, info:1 767 | 74176 | none
+info:0 255, info:1 0 | 8640 | none
+";
+
+/// Asserts what a row tells.
+fn must_name(rt: &(impl Abort + AllocGlobal), row: &str) -> Result<(), Fail> {
+    let (infos, rest) = row.split_once(" | ").ok_or("no infos")?;
+    let (offset, block) = rest.split_once(" | ").ok_or("no offset")?;
+    let offset = number(offset)?;
+    let wanted = if block == "none" {
+        None
+    } else {
+        Some(block_of(block)?)
+    };
+    let changes = format!(in rt.alloc(); "used 2, {infos}")?;
+    let words = good_image(rt.alloc(), 2, &changes)?;
+    must_hold(rt, name(&words, offset) == wanted, row);
+    let directory = Directory::of(rt.alloc(), &words)?;
+    must_hold(rt, directory.name(offset) == wanted, row);
+    Ok(())
 }
 
 #[test]
 fn an_offset_names_the_block_that_begins_there(rt: HostRuntime) -> Result<(), Fail> {
-    let table = Block {
-        first_word: 1_080,
-        words: 128,
-    };
-    let node = Block {
-        first_word: 9_276,
-        words: 4,
-    };
-    let large = Block {
-        first_word: 1_080,
-        words: 16_384,
-    };
-    for (infos, offset, block) in [
-        ([12, 2], 8_640, Some(table)),
-        ([12, 2], 8_648, None),
-        ([12, 2], 8_632, None),
-        ([12, 2], 74_208, Some(node)),
-        ([12, 21], 74_208, None),
-        ([767, 0], 8_640, Some(large)),
-        ([767, 0], 9_664, None),
-        ([767, 4], 8_640, None),
-        ([0, 767], 74_176, None),
-        ([255, 0], 8_640, None),
-    ] {
-        let words = taken_image(rt.alloc(), 2, &[(1_064, infos[0]), (1_072, infos[1])])?;
-        assert_eq!(rt; name(&words, offset), block, "{infos:?} at {offset}");
-        let directory = Directory::of(rt.alloc(), &words)?;
-        assert_eq!(rt; directory.name(offset), block, "{infos:?} at {offset}");
+    for row in NAMED.trim().split('\n') {
+        must_name(&rt, row)?;
     }
     Ok(())
 }
@@ -74,18 +97,19 @@ fn a_block_of_a_class_lies_in_its_superblock(rt: HostRuntime) {
     let geometry = Geometry::new(2);
     assert!(rt; 1 < blocks_of(2));
     let block = block_at(&geometry, 1, 1, SizeClass::new(2));
-    assert_eq!(rt; (block.first_word, block.words), (9_276, 4));
+    must_hold(&rt, block.first_word == 9_276, "the first word");
+    must_hold(&rt, block.words == 4, "the words");
 }
 
 #[test]
 fn an_empty_heap_is_made_and_taken_apart(rt: HostRuntime) -> Result<(), Fail> {
     an_empty_heap_is_ready();
     let heap = Ready::new(format(rt.alloc(), 1)?, Vec::new(rt.alloc()));
-    assert_eq!(rt; heap.geometry().capacity(), 1);
-    assert_eq!(rt; heap.words().len(), 9_264);
-    assert!(rt; heap.held().is_empty());
+    must_hold(&rt, heap.geometry().capacity() == 1, "the capacity");
+    must_hold(&rt, heap.words().len() == 9_264, "the words");
+    must_hold(&rt, heap.held().is_empty(), "nothing is held");
     let (words, held) = heap.into_parts();
-    assert_eq!(rt; words.len(), 9_264);
-    assert!(rt; held.is_empty());
+    must_hold(&rt, words.len() == 9_264, "the words apart");
+    must_hold(&rt, held.is_empty(), "nothing is held apart");
     Ok(())
 }
