@@ -2,25 +2,167 @@
 //! `rest_check`.
 ghost use Rattle.std.specs.Prelude.{◌<◌};
 
+use crate::asserts::must_hold;
 use crate::pairs::{Pairs, kinds};
 use crate::rest_check::{is_at_rest, start};
-use crate::words::{has_words, write};
-use heap_model::BadHeader;
-use heap_recover::{RecoverFault, Recovered, Was, recover};
+use crate::words::write;
+use heap_recover::{RecoverFault, Recovered, recover};
+use image_text::{image_of, number};
 use size_table::{SizeClass, blocks_of};
 use std::alloc::{AllocError, Global};
 use std::process::Abort;
 use std::test::Fail;
-use super_block::{Block, CLEAN, LAST_CLASS, MAGIC, VERSION, block_words};
+use super_block::{CLEAN, LAST_CLASS, MAGIC, VERSION, block_words};
 
-/// Recovers a clean image of so many superblocks, all of them taken, with these words.
+/// Recovers an empty image of one or two superblocks with these changes.
+#[tactic(auto, unfolding(heap_model::specs::Geometry::largest_capacity))]
 fn recovered(
     alloc: Global,
+    superblocks: &str,
+    changes: &str,
+) -> Result<Result<Recovered, RecoverFault>, Fail> {
+    let image = match superblocks {
+        "1" => image_of(alloc, 1, changes)?,
+        "2" => image_of(alloc, 2, changes)?,
+        _ => return Err("no image".into()),
+    };
+    let kinds = kinds(alloc)?;
+    Ok(recover(alloc, &image, &kinds, &Pairs))
+}
+
+/// What is told of the heap, as `Clean, held 1072/4 1076/4, free 1`: whether the image was closed,
+/// the first word of each held block and how many it has, and the free superblocks.
+fn told(alloc: Global, found: &Recovered) -> Result<String, AllocError> {
+    let mut told = format!(in alloc; "{:?}, held", found.was)?;
+    for block in found.heap.held() {
+        write!(told, " {}/{}", block.first_word, block.words)?;
+    }
+    told.push_str(", free")?;
+    for d in &found.free {
+        write!(told, " {d}")?;
+    }
+    Ok(told)
+}
+
+/// Whether the heap has these words.
+fn has_told(found: &Recovered, told: &str) -> Result<bool, Fail> {
+    for word in told.split(", ") {
+        let (at, value) = word.split_once(' ').ok_or("no value")?;
+        if found.heap.words().get(number(at)? as usize) != Some(&number(value)?) {
+            return Ok(false);
+        }
+    }
+    Ok(true)
+}
+
+/// Asserts that the heap is at rest, that this is told of it, and that it has these words.
+fn must_be_left(rt: &(impl Abort + AllocGlobal), found: &Recovered, row: &str) -> Result<(), Fail> {
+    let (wanted, words) = row.split_once(" | ").ok_or("no words")?;
+    must_hold(rt, is_at_rest(found), row);
+    let told = told(rt.alloc(), found)?;
+    must_hold(rt, told.as_str() == wanted, row);
+    must_hold(rt, has_told(found, words)?, row);
+    Ok(())
+}
+
+/// Recovers the image of a row.
+fn recover_row(rt: &(impl Abort + AllocGlobal), row: &str) -> Result<(), Fail> {
+    let (superblocks, rest) = row.split_once(" | ").ok_or("no superblocks")?;
+    let (changes, left) = rest.split_once(" | ").ok_or("no changes")?;
+    let found = recovered(rt.alloc(), superblocks, changes)??;
+    must_be_left(rt, &found, left)
+}
+
+/// How many superblocks an image has, in which words it differs from an empty one, what is told of
+/// the heap that it is recovered to, and words of that. Blocks of class 20 begin at words 1,072,
+/// 2,864, 4,656 and 6,448 of one superblock, and at 1,080 and 9,272 of two.
+const LEFT: &str = "
+# Blocks reached with two kinds are held once.
+1 | used 1, info:0 2, root:0 @1072, root:1 @1072, 1072 @1076, 1074 @1080 | \
+    Clean, held 1072/4 1076/4 1080/4, free | anchor:0 17566416240653
+# A block kept of a partial superblock leaves the others chained.
+2 | used 1, info:0 4, root:8 @1080 | Clean, held 1080/8, free | \
+    state 2, used 1, 20 1, info:0 4, anchor:0 8787503087621, link:0 0, 1088 1096
+# A superblock is chained around its kept blocks: the first of four, the second, the last, none.
+1 | used 1, info:0 20, 2864 7, 4656 7, 6448 7, anchor:0 9, root:8 @1072 | \
+    Clean, held 1072/1792, free | anchor:0 25769803781, 36 1, 2864 4656, 4656 6448, 6448 7
+1 | used 1, info:0 20, 2864 7, 4656 7, 6448 7, anchor:0 9, root:9 @2864 | \
+    Clean, held 2864/1792, free | anchor:0 25769803777, 36 1, 1072 4656, 4656 6448, 6448 7
+1 | used 1, info:0 20, 2864 7, 4656 7, 6448 7, anchor:0 9, root:11 @6448 | \
+    Clean, held 6448/1792, free | anchor:0 25769803777, 36 1, 1072 2864, 2864 4656, 4656 7
+1 | used 1, info:0 20, 2864 7, 4656 7, 6448 7, anchor:0 9 | \
+    Clean, held, free 0 | info:0 0, anchor:0 0, 16 1, 36 0, 2864 7
+# A superblock that is all kept is in no list.
+1 | used 1, info:0 20, root:8 @1072, root:9 @2864, root:10 @4656, root:11 @6448, 36 1, \
+    link:0 2, 1072 5 | Clean, held 1072/1792 2864/1792 4656/1792 6448/1792, free | \
+    16 0, 36 0, info:0 20, anchor:0 2, link:0 0, 1072 5
+# Superblocks of a class are listed from the lowest.
+2 | used 2, info:0 20, info:1 20, root:8 @1080, root:9 @9272 | \
+    Clean, held 1080/1792 9272/1792, free | 36 1, link:0 2, link:1 0
+# A large block is kept beside one that is freed.
+2 | used 2, info:0 511, info:1 511, root:8 @9272 | Clean, held 9272/8192, free 0 | \
+    16 1, info:0 0, anchor:0 0, link:0 0, info:1 511, anchor:1 2
+# A large block of two superblocks is kept whole.
+2 | used 2, info:0 767, root:8 @1080 | Clean, held 1080/16384, free | \
+    16 0, info:0 767, anchor:0 2, info:1 0, anchor:1 2
+# An image that was left open is told.
+1 | used 1, state 2 | Dirty, held, free 0 | state 2
+1 | used 1, state 1 | Clean, held, free 0 | state 2
+";
+
+#[test]
+fn reached_blocks_are_held_and_all_else_is_free(rt: HostRuntime) -> Result<(), Fail> {
+    for row in LEFT.trim().split('\n') {
+        if !row.starts_with('#') {
+            recover_row(&rt, row)?;
+        }
+    }
+    Ok(())
+}
+
+/// The same of images that are refused, and why.
+const REFUSED: &str = "
+# The first cause of a bad header, whatever is behind it, also a root that leads outside.
+1 | used 1, 0 1, state 0 | Header(Magic)
+1 | used 1, 2 2, state 0 | Header(Length)
+1 | used 2, state 0 | Header(State)
+1 | used 2, root:0 7 | Header(Used)
+# A large block of two superblocks has no class in its second.
+2 | used 2, info:0 767, info:1 4, root:8 @1080 | Outside { at: 48, value: 5931240709246951872 }
+";
+
+/// Refuses the image of a row.
+fn refuse_row(rt: &(impl Abort + AllocGlobal), row: &str) -> Result<(), Fail> {
+    let (superblocks, rest) = row.split_once(" | ").ok_or("no superblocks")?;
+    let (changes, wanted) = rest.split_once(" | ").ok_or("no changes")?;
+    let fault = recovered(rt.alloc(), superblocks, changes)?
+        .err()
+        .ok_or("no fault")?;
+    let told = format!(in rt.alloc(); "{fault:?}")?;
+    must_hold(rt, told.as_str() == wanted, row);
+    Ok(())
+}
+
+#[test]
+fn the_first_cause_of_a_refusal_is_told(rt: HostRuntime) -> Result<(), Fail> {
+    for row in REFUSED.trim().split('\n') {
+        if !row.starts_with('#') {
+            refuse_row(&rt, row)?;
+        }
+    }
+    Ok(())
+}
+
+/// Recovers a clean image of so many superblocks, all of them taken, with these words, to a heap at
+/// rest.
+fn at_rest(
+    rt: &(impl Abort + AllocGlobal),
     capacity: usize,
     words: &[(usize, u64)],
-) -> Result<Recovered, RecoverFault>
+) -> Result<Recovered, Fail>
     requires { capacity < 257 }
 {
+    let alloc = rt.alloc();
     let mut image = vec![in alloc; 0; 1_064 + 8_200 * capacity]?;
     let header = [
         (0, MAGIC),
@@ -32,235 +174,9 @@ fn recovered(
     write(&mut image, &header);
     write(&mut image, words);
     let kinds = kinds(alloc)?;
-    recover(alloc, &image, &kinds, &Pairs)
-}
-
-/// Recovers such an image, and looks the heap through.
-fn at_rest(
-    rt: &(impl Abort + AllocGlobal),
-    capacity: usize,
-    words: &[(usize, u64)],
-) -> Result<Recovered, Fail>
-    requires { capacity < 257 }
-{
-    let found = recovered(rt.alloc(), capacity, words)?;
-    let first = words.get(..4).unwrap_or(words);
-    assert!(rt;
-        is_at_rest(&found),
-        "{} words, first {first:?}",
-        words.len()
-    );
+    let found = recover(alloc, &image, &kinds, &Pairs)?;
+    must_hold(rt, is_at_rest(&found), "at rest");
     Ok(found)
-}
-
-// Root 8, and pointers to the first superblock's blocks 0 to 3 of class 20, whose first words are
-// 1072, 2864, 4656 and 6448.
-const CLASS_20: (usize, u64) = (1_064, 20);
-
-const FIRST: (usize, u64) = (48, 0x5250_0000_0000_2180);
-
-const SECOND: (usize, u64) = (49, 0x5250_0000_0000_5980);
-
-const THIRD: (usize, u64) = (50, 0x5250_0000_0000_9180);
-
-const FOURTH: (usize, u64) = (51, 0x5250_0000_0000_c980);
-
-#[test]
-fn blocks_reached_with_two_kinds_are_held_once(rt: HostRuntime) -> Result<(), Fail> {
-    let words = [
-        (1_064, 2),
-        (40, 0x5250_0000_0000_2180),
-        (41, 0x5250_0000_0000_2180),
-        (1_072, 0x5250_0000_0000_21a0),
-        (1_074, 0x5250_0000_0000_21c0),
-    ];
-    let found = at_rest(&rt, 1, &words)?;
-    let held = [1_072, 1_076, 1_080].map(|first_word| Block {
-        first_word,
-        words: 4,
-    });
-    assert_eq!(rt; found.heap.held(), held.as_slice());
-    assert!(rt; has_words(&found, &[(1_065, 17_566_416_240_653)]));
-    assert!(rt; found.free.is_empty());
-    assert_eq!(rt; found.was, Was::Clean);
-    Ok(())
-}
-
-#[test]
-fn a_block_kept_of_a_partial_superblock_leaves_the_others_chained(
-    rt: HostRuntime,
-) -> Result<(), Fail> {
-    let words = [(8, 1), (1_064, 4), (48, 0x5250_0000_0000_21c0)];
-    let found = at_rest(&rt, 2, &words)?;
-    let left = [
-        (3, 2),
-        (8, 1),
-        (20, 1),
-        (1_064, 4),
-        (1_065, 8_787_503_087_621),
-        (1_066, 0),
-        (1_088, 1_096),
-    ];
-    assert!(rt; has_words(&found, &left));
-    Ok(())
-}
-
-/// A root that keeps one of the four blocks or none, and what recovery leaves of anchor, lists and
-/// chain.
-const CHAINS: [((usize, u64), [(usize, u64); 5]); 4] = [
-    (
-        FIRST,
-        [
-            (1_065, 25_769_803_781),
-            (36, 1),
-            (2_864, 4_656),
-            (4_656, 6_448),
-            (6_448, 7),
-        ],
-    ),
-    (
-        SECOND,
-        [
-            (1_065, 25_769_803_777),
-            (36, 1),
-            (1_072, 4_656),
-            (4_656, 6_448),
-            (6_448, 7),
-        ],
-    ),
-    (
-        FOURTH,
-        [
-            (1_065, 25_769_803_777),
-            (36, 1),
-            (1_072, 2_864),
-            (2_864, 4_656),
-            (4_656, 7),
-        ],
-    ),
-    (
-        (52, 0),
-        [(1_064, 0), (1_065, 0), (16, 1), (36, 0), (2_864, 7)],
-    ),
-];
-
-#[test]
-fn a_superblock_is_chained_around_its_kept_blocks(rt: HostRuntime) -> Result<(), Fail> {
-    let marked = |root| [
-        CLASS_20,
-        (2_864, 7),
-        (4_656, 7),
-        (6_448, 7),
-        (1_065, 9),
-        root,
-    ];
-    for (root, left) in CHAINS {
-        let found = at_rest(&rt, 1, &marked(root))?;
-        assert!(rt; has_words(&found, &left), "{root:?}");
-    }
-    Ok(())
-}
-
-#[test]
-fn a_superblock_that_is_all_kept_is_in_no_list(rt: HostRuntime) -> Result<(), Fail> {
-    let words = [
-        CLASS_20,
-        FIRST,
-        SECOND,
-        THIRD,
-        FOURTH,
-        (36, 1),
-        (1_066, 2),
-        (1_072, 5),
-    ];
-    let found = at_rest(&rt, 1, &words)?;
-    let left = [
-        (16, 0),
-        (36, 0),
-        (1_064, 20),
-        (1_065, 2),
-        (1_066, 0),
-        (1_072, 5),
-    ];
-    assert!(rt; has_words(&found, &left));
-    assert_eq!(rt; found.heap.held().len(), 4);
-    Ok(())
-}
-
-#[test]
-fn superblocks_of_a_class_are_listed_from_the_lowest(rt: HostRuntime) -> Result<(), Fail> {
-    // Of two superblocks of class 20, the first blocks are kept, which begin at 1080 and 9272.
-    let words = [
-        CLASS_20,
-        (1_072, 20),
-        (48, 0x5250_0000_0000_21c0),
-        (49, 0x5250_0000_0001_21c0),
-    ];
-    let found = at_rest(&rt, 2, &words)?;
-    assert!(rt; has_words(&found, &[(36, 1), (1_066, 2), (1_074, 0)]));
-    Ok(())
-}
-
-#[test]
-fn a_large_block_is_kept_beside_one_that_is_freed(rt: HostRuntime) -> Result<(), Fail> {
-    let words = [(1_064, 511), (1_072, 511), (48, 0x5250_0000_0001_21c0)];
-    let found = at_rest(&rt, 2, &words)?;
-    let left = [
-        (16, 1),
-        (1_064, 0),
-        (1_065, 0),
-        (1_066, 0),
-        (1_072, 511),
-        (1_073, 2),
-    ];
-    assert!(rt; has_words(&found, &left));
-    assert_eq!(rt; found.free.as_slice(), [0].as_slice());
-    Ok(())
-}
-
-#[test]
-fn a_large_block_of_two_superblocks_is_kept_whole(rt: HostRuntime) -> Result<(), Fail> {
-    let root = (48, 0x5250_0000_0000_21c0);
-    let outside = recovered(rt.alloc(), 2, &[(1_064, 767), (1_072, 4), root]).err();
-    let fault = RecoverFault::Outside {
-        at: 48,
-        value: 0x5250_0000_0000_21c0,
-    };
-    assert_eq!(rt; outside, Some(fault));
-    let found = at_rest(&rt, 2, &[(1_064, 767), root])?;
-    let block = Block {
-        first_word: 1_080,
-        words: 16_384,
-    };
-    assert_eq!(rt; found.heap.held(), [block].as_slice());
-    assert!(rt;
-        has_words(
-            &found,
-            &[(16, 0), (1_064, 767), (1_065, 2), (1_072, 0), (1_073, 2)]
-        )
-    );
-    Ok(())
-}
-
-#[test]
-fn the_first_cause_of_a_bad_header_is_told(rt: HostRuntime) {
-    // A root that leads outside does not matter then.
-    for (words, cause) in [
-        ([(0, 1), (3, 0)], BadHeader::Magic),
-        ([(2, 2), (3, 0)], BadHeader::Length),
-        ([(3, 0), (8, 2)], BadHeader::State),
-        ([(8, 2), (40, 7)], BadHeader::Used),
-    ] {
-        let fault = recovered(rt.alloc(), 1, &words).err();
-        assert_eq!(rt; fault, Some(RecoverFault::Header(cause)), "{words:?}");
-    }
-}
-
-#[test]
-fn an_image_left_open_is_told(rt: HostRuntime) -> Result<(), Fail> {
-    assert_eq!(rt; at_rest(&rt, 1, &[(3, 2)])?.was, Was::Dirty);
-    assert_eq!(rt; at_rest(&rt, 1, &[(3, 1)])?.was, Was::Clean);
-    Ok(())
 }
 
 /// Words that take each superblock for the class, and hold blocks of the first `superblocks`: of
@@ -298,6 +214,20 @@ fn chained(
     Ok((words, held))
 }
 
+/// Recovers two superblocks in which these blocks are held.
+fn must_hold_chained(
+    rt: &(impl Abort + AllocGlobal),
+    superblocks: u64,
+    class: SizeClass,
+    first: u64,
+    step: u64,
+) -> Result<(), Fail> {
+    let (words, held) = chained(rt.alloc(), 2, superblocks, class, first, step)?;
+    let found = at_rest(rt, 2, &words)?;
+    must_hold(rt, found.heap.held().len() == held, "each is held");
+    Ok(())
+}
+
 #[test]
 fn superblocks_of_every_class_are_left_at_rest(rt: HostRuntime) -> Result<(), Fail> {
     for number in 1..=LAST_CLASS as u8 {
@@ -313,13 +243,7 @@ fn superblocks_of_every_class_are_left_at_rest(rt: HostRuntime) -> Result<(), Fa
             (2, 1, 3),
             (0, 0, 1),
         ] {
-            let (words, held) = chained(rt.alloc(), 2, superblocks, class, first, step)?;
-            let found = at_rest(&rt, 2, &words)?;
-            assert_eq!(rt;
-                found.heap.held().len(),
-                held,
-                "{number}: {superblocks}, {first}, {step}"
-            );
+            must_hold_chained(&rt, superblocks, class, first, step)?;
         }
     }
     Ok(())
@@ -336,7 +260,7 @@ fn images_of_every_size_are_left_at_rest(rt: HostRuntime) -> Result<(), Fail> {
         let class = SizeClass::new(class);
         let (words, _) = chained(rt.alloc(), capacity, superblocks, class, 0, step)?;
         let found = at_rest(&rt, capacity as usize, &words)?;
-        assert_eq!(rt; found.heap.held().len(), held, "of {capacity}");
+        must_hold(&rt, found.heap.held().len() == held, "each is held");
     }
     Ok(())
 }
@@ -359,6 +283,6 @@ fn words_that_nothing_names_do_not_count(rt: HostRuntime) -> Result<(), Fail> {
     ];
     words.extend_from_slice(&named)?;
     let found = at_rest(&rt, 3, &words)?;
-    assert_eq!(rt; found.heap.held().len(), 2);
+    must_hold(&rt, found.heap.held().len() == 2, "two are held");
     Ok(())
 }

@@ -11,6 +11,8 @@ pub use two_blocks::{HELD, WORDS, image};
 pub use words::write;
 
 #[cfg(test)]
+mod asserts;
+#[cfg(test)]
 mod images;
 #[cfg(test)]
 mod pairs;
