@@ -17,10 +17,11 @@ use heap_rule_tests::{
     NotDone, fill_cache, give_batch, give_looked, lift_cached, look_anchor, pop_class, push_class,
     take_free_blocks, take_looked,
 };
+use size_table::SizeClass;
 use super_block::{Block, Geometry, SUPERBLOCK_WORDS};
 
 /// The class of all blocks here.
-pub const CLASS: u8 = 20;
+pub const CLASS: SizeClass = SizeClass { number: 20 };
 
 /// A seat lifts the first block of its cache into its empty batch. It answers the superblock and
 /// the block.

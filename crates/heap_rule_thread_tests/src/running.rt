@@ -69,7 +69,7 @@ fn tell(blocks: &mut Vec<Block>, report: &Report, published: bool) -> Result<(),
         {
             blocks.push(Block {
                 first_word: held.block,
-                words: size_of(u64::from(held.class)),
+                words: size_of(u64::from(held.class.number)),
             })?;
         }
     }

@@ -49,7 +49,7 @@ still_held (Classed d class) v w kept holds = record {
   durable = still_below v w d kept holds.durable;
   none = none_still v w kept.batch holds.none;
 }
-still_held (Batch d class last) v w kept holds = record { is_class = holds.is_class; batch = batch_still v w d class last kept.batch holds.batch }
+still_held (Batch d class last) v w kept holds = record { is_class = holds.is_class; batch = batch_still v w d class.number last kept.batch holds.batch }
 
 -- the number of a class, and what is left of the others
 one_class : (class other n : ℕ) → other ≡ class → cond (nat_eq class other) n 0 ≡ n

@@ -15,7 +15,7 @@ use Rattle.heap_rule.specs.Seated.{SharedView, SeatView}
 use Rattle.heap_rule.specs.Seats.{AreOpenedSeats}
 use Rattle.heap_rule_threads.specs.declared.jobs.Report.{Report}
 use Rattle.heap_rule_threads.specs.declared.slots.Slot.{Slot}
-use Rattle.heap_rule_threads.specs.Hands.{AreSlots, HasClass, IsRoot, times_held, times_in}
+use Rattle.heap_rule_threads.specs.Hands.{AreSlots, IsRoot, times_held, times_in}
 use Rattle.heap_rule_threads.specs.Jobs.{AreFreshSlots, AreTold, HaveRoots, IsFreshSlot, IsUnbatched}
 
 -- the seats of an opened heap have the roots that are theirs
@@ -53,7 +53,7 @@ pub fresh_slots : (owners : List ℕ) (seat : SeatView) (number : ℕ) (slots : 
     → AreFreshSlots owners number slots → AreSlots slots seat.view
 fresh_slots owners seat number slots have fresh = record {
   roots_are = All-weaker (IsFreshSlot owners number) (λ (s : Slot). IsRoot s seat.view)
-      (λ s f. record { root = f.root; own = have s.root f.root f.owner; class = subst (λ o. HasClass o) (sym f.none) tt }) slots fresh;
+      (λ s f. record { root = f.root; own = have s.root f.root f.owner }) slots fresh;
   held = λ class block. let none = none_in owners number slots class block fresh in omega arith;
 }
 

@@ -54,17 +54,13 @@ pub record HasBatchInHand (d class last : ℕ) (v : View) : Type 0 where
 abbrev pub Holds : Hand → View → Type 0
 Holds Empty v = HasNoBatch v
 Holds (Raw d) v = HasRaw d v
-Holds (Classed d class) v = HasClassed d class v
-Holds (Batch d class last) v = HasBatchInHand d class last v
+Holds (Classed d class) v = HasClassed d class.number v
+Holds (Batch d class last) v = HasBatchInHand d class.number last v
 
 -- how often a block of a class is held
 abbrev pub times_held : ℕ → ℕ → Option HeldBlock → ℕ
 times_held class block None = 0
-times_held class block (Some held) = cond (nat_eq held.class class) (one_if (nat_eq held.block block)) 0
-
--- what is held has a class
-abbrev pub HasClass : Option HeldBlock → Type 0
-HasClass held = IfSome held (λ h. IsClass h.class)
+times_held class block (Some held) = cond (nat_eq held.class.number class) (one_if (nat_eq held.block block)) 0
 
 -- the one was held and the other is held now, and all other blocks of the seat are as before
 abbrev pub Turns : Option HeldBlock → Option HeldBlock → View → View → Type 0
@@ -75,18 +71,16 @@ Turns old new v w = (class block : ℕ) → times block (of_class w.small class)
 pub record IsSlot (slot : Slot) (v : View) : Type 0 where
   pub root : slot.root < roots
   pub own : 0 < times slot.root v.roots
-  pub class : HasClass slot.held
-  pub held : IfSome slot.held (λ h. 0 < times h.block (of_class v.small h.class))
+  pub held : IfSome slot.held (λ h. 0 < times h.block (of_class v.small h.class.number))
 
 -- how often slots have a block of a class
 abbrev pub times_in : ℕ → ℕ → List Slot → ℕ
 times_in class block slots = total (λ (slot : Slot). times_held class block slot.held) slots
 
--- the root is the seat's own, and what is held has a class
+-- the root is the seat's own
 pub record IsRoot (slot : Slot) (v : View) : Type 0 where
   pub root : slot.root < roots
   pub own : 0 < times slot.root v.roots
-  pub class : HasClass slot.held
 
 -- and the seat holds each block at least as often as the slots have it
 pub record AreSlots (slots : List Slot) (v : View) : Type 0 where

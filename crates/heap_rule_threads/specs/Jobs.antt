@@ -62,5 +62,6 @@ pub record AreApart (reports : List Report) : Type 0 where
 
 -- each mixture of the words that loads saw and of those that a crash would have left names each block that is told
 abbrev pub AreNamed : ClosedWords → List Report → Type 0
-AreNamed left reports = (image : Image) → Mixes (slice_index left.now) (slice_index left.kept) image → (class block : ℕ) → 0 < times_told class block reports
+AreNamed left reports = (image : Image) → Mixes (slice_index left.now) (slice_index left.kept) image
+    → (class block : ℕ) → 0 < times_told class block reports
     → Names image (8 * block) (record { first_word = block; words = words_of_class class })

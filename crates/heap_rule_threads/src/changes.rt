@@ -1,7 +1,6 @@
 //! Random changes of what a seat has in hand.
 
 ghost use Rattle.std.specs.Prelude.{◌≡◌, None, OnOk, IfOk};
-ghost use Rattle.heap_model.specs.Sizes.{IsClass};
 ghost use Rattle.heap_rule.specs.Seated.{IsSeatOf};
 ghost use Rattle.heap_rule_threads.specs.Hands.{HasNoBatch, Holds, KeepsSmallBlocks};
 
@@ -11,13 +10,18 @@ use crate::hands::{Hand, Tried};
 use crate::sharing::{give, lift, pop_of_class, push_of_class, take_free};
 use heap_rule::{Seat, Shared};
 use line_memory::Stopped;
+use size_table::SizeClass;
 
 /// Gets something in hand: a superblock that was never taken, the first one of a list, or a cached
 /// block of the class.
-fn get_one(seat: &mut Seat, shared: &Shared, class: u8, choice: u64) -> Result<Tried, Stopped>
+fn get_one(
+    seat: &mut Seat,
+    shared: &Shared,
+    class: SizeClass,
+    choice: u64,
+) -> Result<Tried, Stopped>
     requires seat { IsSeatOf shared.now seat.old }
     requires going { seat.old.view.stopped ≡ None }
-    requires class { IsClass class }
     requires none { HasNoBatch seat.old.view }
     ensures going { OnOk result (seat.new.view.stopped ≡ None) }
     ensures hand { IfOk result (λ tried. Holds tried.hand seat.new.view) }

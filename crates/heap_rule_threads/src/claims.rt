@@ -1,7 +1,6 @@
 //! A superblock is claimed, its blocks are made, or it goes back to the list of the free ones.
 
 ghost use Rattle.std.specs.Prelude.{◌≡◌, None, OnOk, IfOk};
-ghost use Rattle.heap_model.specs.Sizes.{IsClass};
 ghost use Rattle.heap_rule.specs.Seated.{IsSeatOf};
 ghost use Rattle.heap_rule_threads.specs.Hands.{HasNoBatch, HasRaw, Holds, KeepsSmallBlocks};
 
@@ -9,6 +8,7 @@ use crate::hands::{Hand, Tried};
 use heap_rule::{Seat, Shared};
 use heap_rule_tests::{NotDone, make_blocks, pop_free, push_free, take_one};
 use line_memory::Stopped;
+use size_table::SizeClass;
 
 /// Claims a superblock that was never taken, if there is one and no other seat is faster.
 pub fn take_fresh(seat: &mut Seat, shared: &Shared) -> Result<Tried, Stopped>
@@ -63,11 +63,10 @@ pub fn push_back(seat: &mut Seat, shared: &Shared, d: u64) -> Result<Tried, Stop
 }
 
 /// Makes the blocks of a claimed superblock for a class, if its cache is empty.
-pub fn make(seat: &mut Seat, shared: &Shared, d: u64, class: u8) -> Result<Tried, Stopped>
+pub fn make(seat: &mut Seat, shared: &Shared, d: u64, class: SizeClass) -> Result<Tried, Stopped>
     requires seat { IsSeatOf shared.now seat.old }
     requires going { seat.old.view.stopped ≡ None }
     requires raw { HasRaw d seat.old.view }
-    requires class { IsClass class }
     ensures going { OnOk result (seat.new.view.stopped ≡ None) }
     ensures hand { IfOk result (λ tried. Holds tried.hand seat.new.view) }
     ensures held { KeepsSmallBlocks seat.old.view seat.new.view }

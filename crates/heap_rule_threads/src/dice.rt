@@ -1,11 +1,11 @@
 //! Random choices.
 
 ghost use Rattle.std.specs.Prelude.{◌<◌};
-ghost use Rattle.heap_model.specs.Sizes.{IsClass};
 
 use line_memory::Chance;
 use rand_core::Rng;
 use rand_pcg::Lcg64Xsh32;
+use size_table::SizeClass;
 
 /// The least class that is drawn. Superblocks of smaller ones have more blocks, each of which takes
 /// a ticket when it is made.
@@ -37,10 +37,8 @@ impl RandomNumbers {
     }
 
     /// One of the greater classes.
-    pub fn class(&mut self) -> u8
-        ensures { IsClass result }
-    {
-        LEAST_CLASS + self.below(CLASSES) as u8
+    pub fn class(&mut self) -> SizeClass {
+        SizeClass::new(LEAST_CLASS + self.below(CLASSES) as u8)
     }
 }
 

@@ -2,6 +2,8 @@
 
 ghost use Rattle.std.specs.Prelude.{◌≡◌};
 
+use size_table::SizeClass;
+
 /// What a seat works on: at most one superblock, or one block on its way back.
 #[derive(Clone, Copy, Debug, PartialEq, Eq)]
 pub enum Hand {
@@ -10,9 +12,9 @@ pub enum Hand {
     /// A superblock that is claimed without a class.
     Raw { d: u64 },
     /// One that is claimed with this class.
-    Classed { d: u64, class: u8 },
+    Classed { d: u64, class: SizeClass },
     /// A batch of free blocks of this superblock, of this class, of which this is the last one.
-    Batch { d: u64, class: u8, last: u64 },
+    Batch { d: u64, class: SizeClass, last: u64 },
 }
 
 /// What a seat has in hand after it has tried to change that.

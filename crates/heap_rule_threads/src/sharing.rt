@@ -2,7 +2,6 @@
 //! lists of their classes.
 
 ghost use Rattle.std.specs.Prelude.{◌≡◌, None, OnOk, IfOk};
-ghost use Rattle.heap_model.specs.Sizes.{IsClass};
 ghost use Rattle.heap_rule.specs.Seated.{IsSeatOf};
 ghost use Rattle.heap_rule_threads.specs.Hands.{HasBatchInHand, HasClassed, HasNoBatch, Holds, KeepsSmallBlocks};
 
@@ -10,12 +9,12 @@ use crate::hands::{Hand, Tried};
 use heap_rule::{Seat, Shared};
 use heap_rule_tests::{NotDone, give_batch, lift_cached, pop_class, push_class, take_free_blocks};
 use line_memory::Stopped;
+use size_table::SizeClass;
 use super_block::{Geometry, SUPERBLOCK_WORDS};
 
 /// Claims the first superblock of the list of a class, if there is one and no other seat is faster.
-pub fn pop_of_class(seat: &mut Seat, shared: &Shared, class: u8) -> Result<Tried, Stopped>
+pub fn pop_of_class(seat: &mut Seat, shared: &Shared, class: SizeClass) -> Result<Tried, Stopped>
     requires seat { IsSeatOf shared.now seat.old }
-    requires class { IsClass class }
     requires none { HasNoBatch seat.old.view }
     ensures going { OnOk result (seat.new.view.stopped ≡ None) }
     ensures hand { IfOk result (λ tried. Holds tried.hand seat.new.view) }
@@ -31,9 +30,14 @@ pub fn pop_of_class(seat: &mut Seat, shared: &Shared, class: u8) -> Result<Tried
 }
 
 /// Puts a claimed superblock on the list of its class, if no other seat is faster.
-pub fn push_of_class(seat: &mut Seat, shared: &Shared, d: u64, class: u8) -> Result<Tried, Stopped>
+pub fn push_of_class(
+    seat: &mut Seat,
+    shared: &Shared,
+    d: u64,
+    class: SizeClass,
+) -> Result<Tried, Stopped>
     requires seat { IsSeatOf shared.now seat.old }
-    requires classed { HasClassed d class seat.old.view }
+    requires classed { HasClassed d class.number seat.old.view }
     ensures going { OnOk result (seat.new.view.stopped ≡ None) }
     ensures hand { IfOk result (λ tried. Holds tried.hand seat.new.view) }
     ensures held { KeepsSmallBlocks seat.old.view seat.new.view }
@@ -49,10 +53,15 @@ pub fn push_of_class(seat: &mut Seat, shared: &Shared, d: u64, class: u8) -> Res
 
 /// Takes all free blocks of a claimed superblock into the cache of its class, if that is empty, not
 /// all of its blocks are free, and no other seat is faster.
-pub fn take_free(seat: &mut Seat, shared: &Shared, d: u64, class: u8) -> Result<Tried, Stopped>
+pub fn take_free(
+    seat: &mut Seat,
+    shared: &Shared,
+    d: u64,
+    class: SizeClass,
+) -> Result<Tried, Stopped>
     requires seat { IsSeatOf shared.now seat.old }
     requires going { seat.old.view.stopped ≡ None }
-    requires classed { HasClassed d class seat.old.view }
+    requires classed { HasClassed d class.number seat.old.view }
     ensures going { OnOk result (seat.new.view.stopped ≡ None) }
     ensures hand { IfOk result (λ tried. Holds tried.hand seat.new.view) }
     ensures held { KeepsSmallBlocks seat.old.view seat.new.view }
@@ -71,10 +80,9 @@ pub fn take_free(seat: &mut Seat, shared: &Shared, d: u64, class: u8) -> Result<
 }
 
 /// Puts the first block of the cache of a class into the batch, if there is one.
-pub fn lift(seat: &mut Seat, shared: &Shared, class: u8) -> Result<Tried, Stopped>
+pub fn lift(seat: &mut Seat, shared: &Shared, class: SizeClass) -> Result<Tried, Stopped>
     requires seat { IsSeatOf shared.now seat.old }
     requires going { seat.old.view.stopped ≡ None }
-    requires class { IsClass class }
     requires none { HasNoBatch seat.old.view }
     ensures going { OnOk result (seat.new.view.stopped ≡ None) }
     ensures hand { IfOk result (λ tried. Holds tried.hand seat.new.view) }
@@ -98,11 +106,11 @@ pub fn give(
     seat: &mut Seat,
     shared: &Shared,
     d: u64,
-    class: u8,
+    class: SizeClass,
     last: u64,
 ) -> Result<Tried, Stopped>
     requires seat { IsSeatOf shared.now seat.old }
-    requires batch { HasBatchInHand d class last seat.old.view }
+    requires batch { HasBatchInHand d class.number last seat.old.view }
     ensures going { OnOk result (seat.new.view.stopped ≡ None) }
     ensures hand { IfOk result (λ tried. Holds tried.hand seat.new.view) }
     ensures held { KeepsSmallBlocks seat.old.view seat.new.view }

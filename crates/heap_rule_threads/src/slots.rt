@@ -1,10 +1,12 @@
 //! The blocks that a thread holds, each with the root that leads to it.
 
+use size_table::SizeClass;
+
 /// A block of a class that is held, by its first word.
 #[derive(Clone, Copy, Debug, PartialEq, Eq)]
 pub struct HeldBlock {
     pub block: u64,
-    pub class: u8,
+    pub class: SizeClass,
     /// Its root leads to it, and a crash leaves that.
     pub published: bool,
 }

@@ -3,10 +3,9 @@
 ghost use Rattle.std.specs.Prelude.{◌≡◌, ◌<◌, None, Some, OnOk, length};
 ghost use Rattle.heap_model.specs.Counting.{times};
 ghost use Rattle.heap_model.specs.Geometry.{roots};
-ghost use Rattle.heap_model.specs.Sizes.{IsClass};
 ghost use Rattle.core_model.specs.View.{of_class};
 ghost use Rattle.heap_rule.specs.Seated.{IsSeatOf};
-ghost use Rattle.heap_rule_threads.specs.Hands.{AreSlots, HasClass, HoldsSame, IsSlot, KeepsClaims, Turns};
+ghost use Rattle.heap_rule_threads.specs.Hands.{AreSlots, HoldsSame, IsSlot, KeepsClaims, Turns};
 
 use crate::publishing::publish;
 use crate::slots::{HeldBlock, Slot};
@@ -14,22 +13,22 @@ use heap_rule::{Seat, Shared};
 use heap_rule_tests::{alloc_cached, free_block};
 use line_memory::Stopped;
 use offset_ptr::encode;
+use size_table::SizeClass;
 use super_block::WORD_BYTES;
 
 /// Holds the first block of the cache of a class, if there is one, and has a root lead to it.
+#[tactic(auto, unfolding(heap_model::specs::Geometry::largest_capacity))]
 fn hold(
     seat: &mut Seat,
     shared: &Shared,
     root: u64,
-    class: u8,
+    class: SizeClass,
 ) -> (Option<HeldBlock>, Result<(), Stopped>)
     requires seat { IsSeatOf shared.now seat.old }
     requires going { seat.old.view.stopped ≡ None }
-    requires class { IsClass class }
     requires root { root < roots }
     requires own { 0 < times root seat.old.view.roots }
     ensures going { OnOk result.1 (seat.new.view.stopped ≡ None) }
-    ensures class { HasClass result.0 }
     ensures turns { Turns None result.0 seat.old.view seat.new.view }
     ensures claims { KeepsClaims seat.old.view seat.new.view }
     ensures seat { IsSeatOf shared.now seat.new }
@@ -62,12 +61,10 @@ fn free(
     held: HeldBlock,
 ) -> (Option<HeldBlock>, Result<(), Stopped>)
     requires seat { IsSeatOf shared.now seat.old }
-    requires class { IsClass held.class }
-    requires held { 0 < times held.block (of_class seat.old.view.small held.class) }
+    requires held { 0 < times held.block (of_class seat.old.view.small held.class.number) }
     requires root { root < roots }
     requires own { 0 < times root seat.old.view.roots }
     ensures going { OnOk result.1 (seat.new.view.stopped ≡ None) }
-    ensures class { HasClass result.0 }
     ensures turns { Turns (Some held) result.0 seat.old.view seat.new.view }
     ensures claims { KeepsClaims seat.old.view seat.new.view }
     ensures seat { IsSeatOf shared.now seat.new }
@@ -91,14 +88,12 @@ fn turn(
     seat: &mut Seat,
     shared: &Shared,
     slot: Slot,
-    class: u8,
+    class: SizeClass,
 ) -> (Option<HeldBlock>, Result<(), Stopped>)
     requires seat { IsSeatOf shared.now seat.old }
     requires going { seat.old.view.stopped ≡ None }
-    requires class { IsClass class }
     requires slot { IsSlot slot seat.old.view }
     ensures going { OnOk result.1 (seat.new.view.stopped ≡ None) }
-    ensures class { HasClass result.0 }
     ensures turns { Turns slot.held result.0 seat.old.view seat.new.view }
     ensures claims { KeepsClaims seat.old.view seat.new.view }
     ensures seat { IsSeatOf shared.now seat.new }
@@ -115,11 +110,10 @@ pub fn turn_slot(
     shared: &Shared,
     slots: &mut Vec<Slot>,
     at: usize,
-    class: u8,
+    class: SizeClass,
 ) -> Result<(), Stopped>
     requires seat { IsSeatOf shared.now seat.old }
     requires going { seat.old.view.stopped ≡ None }
-    requires class { IsClass class }
     requires slots { AreSlots slots.old.items seat.old.view }
     requires at { at < length slots.old.items }
     ensures going { OnOk result (seat.new.view.stopped ≡ None) }

@@ -11,4 +11,4 @@ returns-clause-held c = slots_hold c.args.slots.now.items c.args.seat.now.view c
 
 pub returns-clause-slots : goal.returns-clause-slots
 returns-clause-slots c = slots_turned c.args.slots.now.items c.args.seat.now.view c.turn-held.new.seat.view c.args.at c.index-slot.result.now
-    (record { root = c.index-slot.result.now.root; held = c.turn-held.result.0 }) c.requires.slots c.requires.at c.index-slot.ensures c.turn-held.ensures.turns c.turn-held.ensures.claims refl c.turn-held.ensures.class
+    (record { root = c.index-slot.result.now.root; held = c.turn-held.result.0 }) c.requires.slots c.requires.at c.index-slot.ensures c.turn-held.ensures.turns c.turn-held.ensures.claims refl
