@@ -1,5 +1,5 @@
 -- The runs of a cache: what giving one back to its superblock makes of the words, and how they make up the whole cache.
-use Rattle.std.proofs.Common.{◌≡◌, ◌≢◌, ℕ, ◌+◌, ◌*◌, ◌<◌, ◌≤◌, inl, inr, Bool, true, false, cond, nat_eq, eq-eqb, ne_eqb, List, [], ◌∷◌, ◌++◌, length, get_or, set, Contains, refl, ap, sym, subst, ◌∙◌, arith, get_or-set_same, get_or-set_other, length-set, length-append, append-nil}
+use Rattle.std.proofs.Common.{◌≡◌, ◌≢◌, ℕ, ◌+◌, ◌*◌, ◌<◌, ◌≤◌, inl, inr, Bool, true, false, cond, nat_eq, eq-eqb, ne_eqb, List, [], ◌∷◌, ◌++◌, length, get_or, set, Contains, refl, ap, sym, subst, ◌∙◌, arith, get_or-set_same, length-append, append-nil}
 use Rattle.std.specs.Prelude.{All}
 use Rattle.std.proofs.lemmas.Bool.{cond-true, cond-false}
 use Rattle.std.proofs.lemmas.List.Elements.{All-nil, All-cons, All-head}
@@ -10,7 +10,7 @@ use Rattle.heap_model.specs.Chains.{Follows, Walks}
 use Rattle.heap_model.proofs.ChainLemmas.{anchor_parts}
 use Rattle.heap_model.proofs.MemberLemmas.{in_head}
 use Rattle.heap_model.proofs.SizeLemmas.{few_blocks}
-use Rattle.heap_shape.specs.Shape.{Shape, in_list, with_at}
+use Rattle.heap_shape.specs.Shape.{Shape, with_at}
 use Rattle.heap_shape.specs.Standing.{first_of, HasFreeBlocks}
 use Rattle.heap_shape.specs.Whole.{IsShape}
 use Rattle.heap_shape.specs.Effects.{IsInSuperblock}
@@ -22,7 +22,7 @@ use Rattle.anchor_word.specs.declared.anchor.State.TheVariants.{Full}
 use Rattle.block_heap.specs.declared.cache.Cache.{Cache}
 use Rattle.block_heap.specs.declared.small.CachePrefix.{CachePrefix}
 use Rattle.block_heap.specs.Batches.{IsGiven, IsGiveWord, linked_words, given_to}
-use Rattle.block_heap.specs.BlockRuns.{BlockRun, IsRunOf, blocks_of_runs, AreLongest, HasFree, state_with, list_with, IsListedFirst, IsFullAt, IsRunWord, at_anchor, at_last, at_link, at_head, GivesRun, GivesRuns}
+use Rattle.block_heap.specs.BlockRuns.{BlockRun, IsRunOf, blocks_of_runs, AreLongest, HasFree, state_with, list_with, IsListedFirst, IsFullAt, at_anchor, at_last, at_link, at_head, GivesRun, GivesRuns}
 use Rattle.block_heap.specs.Flush.{IsCachePrefix}
 use Rattle.block_heap.specs.Links.{IsPushed, IsPushWord}
 use Rattle.block_heap.specs.Medium.{StoresOnly}

@@ -1,15 +1,15 @@
 -- Worked examples by computation: the runs of a small cache, and one of them given back.
-use Rattle.std.specs.Prelude.{◌≡◌, ℕ, ◌+◌, ◌*◌, ◌<◌, nat_eq, if◌then◌else◌, cond, List, [], ◌∷◌, ◌++◌, Contains, slice_index, refl}
-use Rattle.std.proofs.Common.{◌⊎◌, inl, inr, arith, ap, sym, ◌∙◌, ne_eqb}
-use Rattle.std.proofs.lemmas.Bool.{cases_eq, cond-false}
+use Rattle.std.specs.Prelude.{◌≡◌, ℕ, ◌+◌, ◌*◌, ◌<◌, nat_eq, if◌then◌else◌, cond, List, [], ◌∷◌, Contains, slice_index, refl}
+use Rattle.std.proofs.Common.{inl, inr, arith, ap, sym, ◌∙◌, ne_eqb}
+use Rattle.std.proofs.lemmas.Bool.{cond-false}
 use Rattle.std.proofs.lemmas.List.Elements.{All-nil, All-cons}
-use Rattle.heap_model.specs.Geometry.{anchor_word, start_word}
+use Rattle.heap_model.specs.Geometry.{start_word}
 use Rattle.heap_model.specs.Image.{Image}
 use Rattle.heap_model.specs.Sizes.{blocks_of, words_of_class, class_sizes}
 use Rattle.heap_model.specs.Words.{anchor_of, partial_state}
 use Rattle.heap_model.proofs.MemberLemmas.{in_none, head_or_rest}
 use Rattle.heap_shape.specs.Standing.{IsFirstOf}
-use Rattle.block_heap.specs.BlockRuns.{BlockRun, IsRunOf, AreRunsOf, list_with, IsFullAt, IsRunWord, at_anchor, at_last, GivesRun}
+use Rattle.block_heap.specs.BlockRuns.{BlockRun, IsRunOf, AreRunsOf, list_with, IsFullAt, at_anchor, at_last, GivesRun}
 
 -- a cache of class 20 in a heap of two superblocks: two blocks of superblock 0, one of superblock 1, and one more of superblock 0
 abbrev four_cached : List ℕ

@@ -1,5 +1,5 @@
-use Rattle.std.proofs.Common.{◌-◌, ◌/◌, ◌<◌, ap, ap₂, sym, subst, ◌∙◌, arith}
-use Rattle.heap_model.specs.Sizes.{words_of_class, blocks_of}
+use Rattle.std.proofs.Common.{◌-◌, ◌/◌, ◌<◌, ap₂, sym, subst, ◌∙◌, arith}
+use Rattle.heap_model.specs.Sizes.{words_of_class}
 use Rattle.heap_model.proofs.SizeLemmas.{few_blocks}
 use Rattle.core_model.specs.Effects.{given_anchor}
 use Rattle.heap_rule.proofs.BatchLemmas.{block_index}
