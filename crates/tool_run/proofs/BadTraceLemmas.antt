@@ -4,10 +4,10 @@ use Rattle.tool_ports.specs.Contents.{Contents}
 use Rattle.trace_run.specs.Said.{Line}
 use Rattle.trace_text.specs.Trace.{lines_of, AreLines}
 use Rattle.trace_text.proofs.ReadingLemmas.{read_or_outside}
-use Rattle.tool_run.specs.Command.{Command, show_image, run_image, Asks}
+use Rattle.tool_command.specs.Command.{Command, show_image, run_image, Asks}
 use Rattle.tool_run.specs.declared.fault.Fault.{Fault}
 use Rattle.tool_run.specs.declared.fault.Fault.TheVariants.{Memory, ReadFault, BadLine, TooLong}
-use Rattle.tool_run.specs.Examples.{one_command}
+use Rattle.tool_command.proofs.OneCommandLemmas.{one_command}
 use Rattle.tool_run.specs.Inside.{Refuses, IsTraceFault, IsCarriedOut, IsStopped, status_of}
 use Rattle.tool_run.specs.Making.{Options, Makes, ReplaysASchedule, HasTrace, longest_trace}
 use Rattle.tool_run.specs.Outcome.{AsksForRun, HoldsMaps, HoldsBadLine, HoldsTooMuch}

@@ -5,7 +5,7 @@ use Rattle.tool_ports.specs.Contents.{Contents}
 use Rattle.tool_ports.specs.Calls.{with_get, with_put}
 use Rattle.tool_ports.specs.declared.store_calls.StoreCalls.{StoreCalls}
 use Rattle.tool_run.specs.Calls.{get_limit, with_making, with_putting, with_command, with_status}
-use Rattle.tool_run.specs.Command.{Command, format_image, show_image, drain_image, gen_trace, run_image, rebuild_image, replay_image, image_name}
+use Rattle.tool_command.specs.Command.{Command, format_image, show_image, drain_image, gen_trace, run_image, rebuild_image, replay_image, image_name}
 use Rattle.tool_run.specs.declared.fault.Fault.{Fault}
 use Rattle.tool_run.specs.declared.fault.Fault.TheVariants.{Usage, Memory, ReadFault, WriteFault, Absent, Malformed, Outside, BadShard, BadLine, BadStep, TooLong}
 use Rattle.tool_run.specs.Inside.{DeliveryFails, IsStopped, Refuses, RefusesEither, status_of}

@@ -20,7 +20,7 @@ use Rattle.tool_ports.specs.declared.image_store.GetFault.TheVariants.{Absent as
 use Rattle.tool_run.specs.declared.fault.Fault.{Fault}
 use Rattle.tool_run.specs.declared.fault.Fault.TheVariants.{Malformed}
 use Rattle.tool_run.specs.Calls.{get_limit}
-use Rattle.tool_run.specs.Command.{Command, image_name}
+use Rattle.tool_command.specs.Command.{Command, image_name}
 use Rattle.tool_run.specs.Inside.{Refuses, fault_of_recovery, fault_of_get}
 use Rattle.tool_run.specs.Making.{GetsImage, fault_of, Shows, IsMalformed, HasOutside, PointsOutside}
 use Rattle.tool_run.specs.Recovering.{IsGoodImage, IsRecoveredHeapOf, IsRecoveredFrom, IsRecoveredHeap, IsRecoveryFault, IsTextOf}

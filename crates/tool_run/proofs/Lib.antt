@@ -5,7 +5,6 @@ pub mod RecoveryLemmas
 pub mod OffsetLemmas
 pub mod DrainLemmas
 pub mod OpenedLemmas
-pub mod CommandLemmas
 pub mod CallLemmas
 pub mod PutBackLemmas
 pub mod StatusLemmas
@@ -20,9 +19,4 @@ pub mod AbsentLemmas
 pub mod RebuildLemmas
 pub mod ReplayLemmas
 pub mod BadScheduleLemmas
-pub mod WalkingLemmas
-pub mod FormLemmas
-pub mod RunFormLemmas
 pub mod OutsideLeftLemmas
-pub mod FaultlessLemmas
-pub mod TakenLemmas

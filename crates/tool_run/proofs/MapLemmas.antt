@@ -14,7 +14,7 @@ use Rattle.image_run.proofs.RecoveredLemmas.{recovers_to, maps_of_image}
 use Rattle.trace_run.proofs.RecoveredLemmas.{recovered_dictionary}
 use Rattle.tool_ports.specs.Contents.{Contents}
 use Rattle.tool_run.specs.declared.fault.Fault.{Fault}
-use Rattle.tool_run.specs.Command.{Command, image_name}
+use Rattle.tool_command.specs.Command.{Command, image_name}
 use Rattle.tool_run.specs.Inside.{Refuses, fault_of_maps}
 use Rattle.tool_run.specs.Making.{Reads, HasBadShard}
 use Rattle.tool_run.specs.Recovering.{IsRecoveredHeapOf, IsMapped}

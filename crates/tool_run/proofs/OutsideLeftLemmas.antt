@@ -11,10 +11,10 @@ use Rattle.tool_ports.specs.Contents.{Contents}
 use Rattle.trace_text.specs.declared.schedule.Schedule.{Schedule}
 use Rattle.trace_text.specs.Schedule.{IsSchedule}
 use Rattle.trace_text.proofs.ScheduleLemmas.{one_schedule}
-use Rattle.tool_run.specs.Command.{Command, replay_image, image_name, Asks}
+use Rattle.tool_command.specs.Command.{Command, replay_image, image_name, Asks}
 use Rattle.tool_run.specs.declared.fault.Fault.{Fault}
 use Rattle.tool_run.specs.declared.fault.Fault.TheVariants.{Memory, ReadFault, Outside, BadStep, TooLong}
-use Rattle.tool_run.specs.Examples.{one_command}
+use Rattle.tool_command.proofs.OneCommandLemmas.{one_command}
 use Rattle.tool_run.specs.Inside.{Refuses, IsReplayFault, IsCarriedOut, IsStopped, status_of}
 use Rattle.tool_run.specs.Making.{Makes, RunsATrace, HasHeap, HasSchedule, ReplaysNamed, LeavesOutside}
 use Rattle.tool_run.specs.Outcome.{AsksForReplay, HoldsGood, HoldsSchedule, HoldsOutsideLeft}

@@ -5,10 +5,10 @@ use Rattle.std.proofs.lemmas.Bool.{ne_eqb}
 use Rattle.tool_ports.specs.Calls.{with_get, with_put}
 use Rattle.tool_ports.specs.declared.store_calls.StoreCalls.{StoreCalls}
 use Rattle.tool_run.specs.Calls.{get_limit, with_making, with_command, with_status}
-use Rattle.tool_run.specs.Command.{Command, format_image, show_image, drain_image, gen_trace, run_image, rebuild_image, replay_image, Asks}
+use Rattle.tool_command.specs.Command.{Command, format_image, show_image, drain_image, gen_trace, run_image, rebuild_image, replay_image, Asks}
 use Rattle.tool_run.specs.declared.fault.Fault.{Fault}
 use Rattle.tool_run.specs.declared.fault.Fault.TheVariants.{Memory}
-use Rattle.tool_run.specs.Examples.{one_command}
+use Rattle.tool_command.proofs.OneCommandLemmas.{one_command}
 use Rattle.tool_run.specs.Inside.{status_of}
 use Rattle.tool_run.specs.Making.{GetsImage, PutsBack}
 use Rattle.tool_run.specs.Outcome.{AsksToLook, AsksToPutBack}

@@ -11,7 +11,7 @@ use Rattle.trace_text.specs.declared.schedule.Schedule.{Schedule}
 use Rattle.trace_text.proofs.ScheduleLemmas.{steps_of_seats}
 use Rattle.tool_run.specs.declared.fault.Fault.{Fault}
 use Rattle.tool_run.specs.declared.fault.Fault.TheVariants.{Usage, Memory, ReadFault, WriteFault, Absent, Malformed, Outside, BadShard, BadLine, BadStep, TooLong}
-use Rattle.tool_run.specs.Command.{replay_image}
+use Rattle.tool_command.specs.Command.{replay_image}
 use Rattle.tool_run.specs.Inside.{IsReplayFault, IsBeforeReading, RefusesEither, fault_of_replay}
 use Rattle.tool_run.specs.Making.{HasHeap, HasSchedule}
 use Rattle.tool_run.specs.Recovering.{IsRecoveredFrom}

@@ -3,7 +3,7 @@ use Rattle.std.proofs.Common.{◌≡◌, ◌⊎◌, ℕ, zero, suc, ◌<◌, ◌
 use Rattle.tool_ports.specs.Causes.{Rose}
 use Rattle.tool_ports.specs.Contents.{Contents}
 use Rattle.tool_ports.specs.Taken.{TakesPart}
-use Rattle.tool_run.specs.Command.{Command, format_image, show_image, drain_image, gen_trace, run_image, rebuild_image, replay_image, image_name, Asks}
+use Rattle.tool_command.specs.Command.{Command, format_image, show_image, drain_image, gen_trace, run_image, rebuild_image, replay_image, image_name, Asks}
 use Rattle.tool_run.specs.declared.fault.Fault.{Fault}
 use Rattle.tool_run.specs.declared.fault.Fault.TheVariants.{Usage, Memory, ReadFault, WriteFault, Absent, Malformed, Outside, BadShard, BadLine, BadStep, TooLong}
 use Rattle.tool_run.specs.Inside.{IsStopped, IsBeforeReading, status_of, line_of}

@@ -8,8 +8,6 @@ use Rattle.tool_ports.specs.declared.image_store.PutImageFault.TheVariants.{Fail
 use Rattle.heap_recover.specs.declared.fault.RecoverFault.{RecoverFault}
 use Rattle.heap_recover.specs.declared.fault.RecoverFault.TheVariants.{Header, Outside as OutsideFound, Memory as RecoverMemory}
 use Rattle.tool_ports.specs.Taken.{taken_with}
-use Rattle.tool_run.specs.declared.command.Invocation.{Invocation}
-use Rattle.tool_run.specs.declared.command.Invocation.TheVariants.{Format, Show, Drain, Gen, Run, Rebuild, Replay}
 use Rattle.tool_run.specs.declared.fault.Fault.{Fault}
 use Rattle.tool_run.specs.declared.fault.Fault.TheVariants.{Usage, Memory, ReadFault, WriteFault, Absent, Malformed, Outside, BadShard, BadLine, BadStep, TooLong}
 use Rattle.tool_ports.specs.declared.reading.ReadAllFault.{ReadAllFault}
@@ -18,26 +16,15 @@ use Rattle.trace_run.specs.Said.{Line}
 use Rattle.trace_text.specs.declared.request.TraceError.{TraceError}
 use Rattle.trace_text.specs.declared.request.TraceError.TheVariants.{BadLine as BadTraceLine, Memory as TraceMemory}
 use Rattle.trace_text.specs.Trace.{lines_of, AreLines}
-use Rattle.image_run.specs.Running.{options_of}
 use Rattle.image_replay.specs.declared.fault.ReplayFault.{ReplayFault}
 use Rattle.image_replay.specs.declared.fault.ReplayFault.TheVariants.{Outside as OutsideLeft, Memory as ReplayMemory}
 use Rattle.dictionary.specs.declared.fault.MapFault.{MapFault}
 use Rattle.dictionary.specs.declared.fault.MapFault.TheVariants.{BadShard as NoMap, Memory as MapMemory}
-use Rattle.tool_run.specs.Command.{Command, format_image, show_image, drain_image, gen_trace, run_image, rebuild_image, replay_image, image_name}
+use Rattle.tool_command.specs.Command.{Command, image_name}
 use Rattle.tool_run.specs.Lines.{usage_line, memory_line, read_line, write_line, no_image_line, bad_header_line, outside_line, bad_shard_line, bad_line_line, bad_step_line, too_long_line}
 use Rattle.tool_run.specs.Making.{Makes, GetsImage, Reads, RunsATrace, ReplaysASchedule, IsMalformed, HasOutside, HasBadShard, HasMapped, HasTrace, HasBadLine, HasTooMuch, HasGood, HasBadStep, HasOutsideLeft}
 use Rattle.tool_run.specs.Outcome.{Puts, IsCutOff}
 use Rattle.tool_run.specs.Status.{usage, out_of_memory, read_fault, write_fault, no_image, bad_header, outside, bad_shard, bad_trace}
-
--- the command that an invocation is
-abbrev pub command_of : Invocation → Command
-command_of (Format image layout) = format_image image.now layout.capacity
-command_of (Show image with_map) = show_image image.now with_map
-command_of (Drain image class) = drain_image image.now class.number
-command_of (Gen plan) = gen_trace plan.requests plan.seed
-command_of (Run image options) = run_image image.now (options_of options)
-command_of (Rebuild image budget seed) = rebuild_image image.now budget seed
-command_of (Replay image seed) = replay_image image.now seed
 
 -- the status of a fault
 abbrev pub status_of : Fault → ℕ
@@ -110,7 +97,8 @@ IsTraceFault left read_failed (BadStep line) = ⊥
 IsTraceFault left read_failed TooLong = HasTooMuch left
 
 -- why a run was refused by its trace, once its image was good
-pub record RefusesTrace (command : Command) (contents : Contents) (left : Option (List ℕ)) (read_failed : Type 0) (fault : Fault) : Type 0 where
+pub record RefusesTrace (command : Command) (contents : Contents) (left : Option (List ℕ)) (read_failed : Type 0) (fault : Fault)
+    : Type 0 where
   pub runs : RunsATrace command
   pub mapped : HasMapped contents (image_name command)
   pub why : IsTraceFault left read_failed fault
@@ -130,7 +118,8 @@ IsReplayFault contents left name read_failed (BadStep line) = HasBadStep left li
 IsReplayFault contents left name read_failed TooLong = HasTooMuch left
 
 -- why a replay was refused, once its image was good
-pub record RefusesReplay (command : Command) (contents : Contents) (left : Option (List ℕ)) (read_failed : Type 0) (fault : Fault) : Type 0 where
+pub record RefusesReplay (command : Command) (contents : Contents) (left : Option (List ℕ)) (read_failed : Type 0) (fault : Fault)
+    : Type 0 where
   pub replays : ReplaysASchedule command
   pub image : HasGood contents (image_name command)
   pub why : IsReplayFault contents left (image_name command) read_failed fault
@@ -145,7 +134,8 @@ abbrev pub RefusesEither : Command → Contents → Option (List ℕ) → Type 0
 RefusesEither command contents left get_failed read_failed fault =
     Refuses command contents get_failed fault ⊎ RefusesLater command contents left read_failed fault
 
--- the words or the image were refused, so that nothing was read from the source; but a word that points outside may be one that a replay left
+-- the words or the image were refused, so that nothing was read from the source; but a word that points outside may be one that
+-- a replay left
 abbrev pub IsBeforeReading : Command → Fault → Type 0
 IsBeforeReading command Usage = Unit {0}
 IsBeforeReading command Memory = ⊥

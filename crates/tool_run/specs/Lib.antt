@@ -1,7 +1,3 @@
-pub mod Command
-pub mod Forms
-pub mod FormExamples
-pub mod CommandLine
 pub mod Calls
 pub mod Status
 pub mod Lines

@@ -22,7 +22,7 @@ use Rattle.trace_text.specs.Generated.{made_trace}
 use Rattle.trace_text.specs.Report.{line_feed}
 use Rattle.trace_text.specs.Schedule.{IsSchedule, IsFirstBad}
 use Rattle.trace_text.specs.Trace.{lines_of, AreLines, IsFirstOutside}
-use Rattle.tool_run.specs.Command.{Command, format_image, show_image, drain_image, gen_trace, run_image, rebuild_image, replay_image}
+use Rattle.tool_command.specs.Command.{Command, format_image, show_image, drain_image, gen_trace, run_image, rebuild_image, replay_image}
 
 -- what `format` prints: the capacity, and the length of the image in bytes
 abbrev pub formatted_line : ℕ → List ℕ
@@ -131,7 +131,8 @@ abbrev pub HasTooMuch : Option (List ℕ) → Type 0
 HasTooMuch left = IfSome left (λ all. longest_trace < length all)
 
 -- a run over a named image of the trace that the source has left
-pub record RunsTrace (contents : Contents) (left : Option (List ℕ)) (name : List ℕ) (options : Options) (put : Option (List ℕ)) (text : List ℕ) : Type 0 where
+pub record RunsTrace (contents : Contents) (left : Option (List ℕ)) (name : List ℕ) (options : Options)
+    (put : Option (List ℕ)) (text : List ℕ) : Type 0 where
   pub mapped : HasMapped contents name
   pub trace : List ℕ
   pub has_trace : HasTrace left trace

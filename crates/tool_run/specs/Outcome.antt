@@ -9,7 +9,7 @@ use Rattle.trace_run.specs.Said.{Line}
 use Rattle.trace_text.specs.declared.schedule.Schedule.{Schedule}
 use Rattle.trace_text.specs.Schedule.{IsSchedule, IsFirstBad}
 use Rattle.trace_text.specs.Trace.{lines_of, AreLines, IsFirstOutside}
-use Rattle.tool_run.specs.Command.{Command, format_image, show_image, drain_image, gen_trace, run_image, rebuild_image, replay_image, image_name, Asks, AsksToRun, AsksToReplay}
+use Rattle.tool_command.specs.Command.{Command, format_image, show_image, drain_image, gen_trace, run_image, rebuild_image, replay_image, image_name, Asks, AsksToRun, AsksToReplay}
 use Rattle.tool_run.specs.Lines.{Tells, write_line, no_image_line, bad_header_line, outside_line, bad_shard_line, bad_line_line, bad_step_line, too_long_line}
 use Rattle.tool_run.specs.Making.{Makes, GetsImage, Reads, PutsBack, ReadsSource, Options, IsMalformed, HasOutside, HasBadShard, HasMapped, HasBadLine, HasTooMuch, HasGood, HasBadStep, HasOutsideLeft, PointsOutside, fault_of, longest_trace}
 use Rattle.dict_model.specs.Links.{shards}
@@ -184,7 +184,8 @@ pub record HoldsMaps (contents : Contents) (name : List ℕ) : Type 0 where
   pub inside : (at : ℕ) → PointsOutside (image_of_bytes bytes) at → ⊥
   pub maps : (shard : ℕ) → shard < shards → (map : Map) × MapOf (image_of_bytes bytes) shard map
 
--- the words ask for a run or a replay over an image that is good, and the trace or the schedule is refused: a line of it asks for nothing, of which the first is told, or it is too long
+-- the words ask for a run or a replay over an image that is good, and the trace or the schedule is refused: a line of it asks for
+-- nothing, of which the first is told, or it is too long
 pub data IsBadTrace (words : List (List ℕ)) (contents : Contents) (left : Option (List ℕ)) (Told : List ℕ → Type 0) : Type 0 where
   at_line : (name : List ℕ) (line : ℕ) → AsksForRun words name → HasMapped contents name → HasBadLine left line
       → Told (bad_line_line line) → IsBadTrace words contents left Told

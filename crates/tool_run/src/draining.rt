@@ -3,7 +3,7 @@ ghost use Rattle.std.specs.Prelude.{◌≡◌, ◌≤◌, ℕ, IfOk, IfErr};
 ghost use Rattle.tool_ports.specs.Calls.{with_get};
 ghost use Rattle.tool_ports.specs.Causes.{Rose};
 ghost use Rattle.tool_run.specs.Calls.{get_limit};
-ghost use Rattle.tool_run.specs.Command.{drain_image};
+ghost use Rattle.tool_command.specs.Command.{drain_image};
 ghost use Rattle.tool_run.specs.Inside.{Refuses};
 ghost use Rattle.tool_run.specs.Making.{TellsDrained, drained_text};
 ghost use Rattle.tool_run.specs.Recovering.{IsDrainableAtRest, IsGivenText};

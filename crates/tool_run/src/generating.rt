@@ -3,8 +3,8 @@ ghost use Rattle.std.specs.Prelude.{◌≡◌, IfOk};
 ghost use Rattle.trace_text.specs.Generated.{made_trace};
 
 use crate::making::Product;
-use crate::trace_plan::TracePlan;
 use std::alloc::{AllocError, Global};
+use tool_command::TracePlan;
 use trace_text::gen_text;
 
 /// The trace of a plan, as a text.

@@ -3,13 +3,13 @@ ghost use Rattle.std.specs.Prelude.{◌≡◌, ◌≤◌, ℕ, IfOk, IfErr, OnOk
 ghost use Rattle.tool_ports.specs.Calls.{with_get};
 ghost use Rattle.tool_ports.specs.Causes.{Rose};
 ghost use Rattle.tool_run.specs.Calls.{get_limit, with_making};
-ghost use Rattle.tool_run.specs.Inside.{command_of, Refuses, RefusesEither, IsBeforeReading};
-ghost use Rattle.tool_run.specs.Command.{show_image, image_name};
+ghost use Rattle.tool_command.specs.Invocations.{command_of};
+ghost use Rattle.tool_run.specs.Inside.{Refuses, RefusesEither, IsBeforeReading};
+ghost use Rattle.tool_command.specs.Command.{show_image, image_name};
 ghost use Rattle.tool_ports.specs.Left.{IsAtEnd};
 ghost use Rattle.tool_run.specs.Making.{Makes, GetsImage, ReadsSource, IsFormatted, Shows};
 ghost use Rattle.tool_run.specs.Outcome.{HoldsOutside};
 
-use crate::command::Invocation;
 use crate::draining::drain_image;
 use crate::fault::Fault;
 use crate::generating::generate;
@@ -22,6 +22,7 @@ use image_run::recovered_text;
 use region_header::{Bytes, format, words_to_bytes};
 use std::alloc::{AllocError, Global};
 use super_block::{Geometry, WORD_BYTES};
+use tool_command::Invocation;
 use tool_ports::{Chances, Gate, ImageStore, Source};
 
 /// What a command has made: the image that is to be put, if any, and the text to be printed.

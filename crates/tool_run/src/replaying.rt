@@ -5,7 +5,7 @@ ghost use Rattle.tool_ports.specs.Causes.{Rose};
 ghost use Rattle.tool_ports.specs.Contents.{Contents};
 ghost use Rattle.tool_ports.specs.Left.{IsAtEnd};
 ghost use Rattle.tool_run.specs.Calls.{get_limit};
-ghost use Rattle.tool_run.specs.Command.{replay_image};
+ghost use Rattle.tool_command.specs.Command.{replay_image};
 ghost use Rattle.tool_run.specs.Inside.{RefusesEither, IsReplayFault, IsBeforeReading};
 ghost use Rattle.tool_run.specs.Making.{HasSchedule, ReplaysNamed};
 ghost use Rattle.tool_run.specs.Outcome.{HoldsOutside};

@@ -5,20 +5,20 @@ ghost use Rattle.tool_ports.specs.Causes.{Rose};
 ghost use Rattle.tool_ports.specs.Contents.{told_of};
 ghost use Rattle.tool_ports.specs.Left.{IsAtEnd};
 ghost use Rattle.tool_run.specs.Calls.{get_limit, with_command, with_status};
-ghost use Rattle.tool_run.specs.Command.{Command, Asks, AsksToFormat, AsksToGen, IsUsage, texts, image_name};
-ghost use Rattle.tool_run.specs.Inside.{command_of, status_of, IsCarriedOut, IsStopped, IsBeforeReading};
+ghost use Rattle.tool_command.specs.Command.{Command, Asks, AsksToFormat, AsksToGen, IsUsage, texts, image_name};
+ghost use Rattle.tool_command.specs.Invocations.{command_of};
+ghost use Rattle.tool_run.specs.Inside.{status_of, IsCarriedOut, IsStopped, IsBeforeReading};
 ghost use Rattle.tool_run.specs.Making.{GetsImage, ReadsSource};
 ghost use Rattle.tool_run.specs.Lines.{Tells, memory_line};
 ghost use Rattle.tool_run.specs.Outcome.{IsDone, IsReadFault, IsWriteFault, AsksToGet, AsksToLook, AsksToPutBack, AsksToRead, AsksForRun, AsksForReplay, AsksForSource, IsAbsent, IsBadHeader, IsOutsideAt, IsBadShardAt, IsBadTrace, HoldsMalformed, HoldsOutside, HoldsOutsideLeft, HoldsBadShard, HoldsGood, HoldsMaps, HoldsBadLine, HoldsBadStep, HoldsTooMuch, CanBeDone};
 ghost use Rattle.tool_run.specs.Status.{done, usage, out_of_memory, read_fault, write_fault, no_image, bad_header, outside, bad_shard, bad_trace, statuses, LeavesStore, IsBeforeTrace, own_line};
 
-use crate::command::{Invocation, parse};
-use crate::command_line::Refusal;
 use crate::delivery::deliver;
 use crate::fault::Fault;
 use crate::making::make;
 use crate::status::Status;
 use std::alloc::Global;
+use tool_command::{Invocation, Refusal, parse};
 use tool_ports::{Chances, Gate, ImageStore, Sink, Source};
 
 /// Does what the words ask for. They are those after the program's name: `format IMAGE S` puts an

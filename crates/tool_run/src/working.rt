@@ -5,7 +5,7 @@ ghost use Rattle.tool_ports.specs.Calls.{with_get};
 ghost use Rattle.tool_ports.specs.Causes.{Rose};
 ghost use Rattle.tool_ports.specs.Left.{IsAtEnd};
 ghost use Rattle.tool_run.specs.Calls.{get_limit};
-ghost use Rattle.tool_run.specs.Command.{Command, run_image, image_name};
+ghost use Rattle.tool_command.specs.Command.{Command, run_image, image_name};
 ghost use Rattle.tool_run.specs.Inside.{Refuses, RefusesEither, IsTraceFault, IsTraceLeft, IsBeforeReading};
 ghost use Rattle.tool_run.specs.Making.{RunsTrace, Reads, longest_trace};
 ghost use Rattle.tool_run.specs.Outcome.{HoldsOutside};

@@ -1,5 +1,5 @@
 use Rattle.std.proofs.Common.{refl}
-use Rattle.tool_run.specs.Command.{drain_image}
+use Rattle.tool_command.specs.Command.{drain_image}
 use Rattle.tool_run.proofs.CallLemmas.{refuses}
 use Rattle.tool_run.proofs.DeliveryLemmas.{at_cause}
 use Rattle.tool_run.proofs.DrainLemmas.{drainable_at_rest, drains}

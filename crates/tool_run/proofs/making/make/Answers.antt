@@ -1,7 +1,7 @@
 use Rattle.std.proofs.Common.{ℕ, List, ap, subst}
-use Rattle.tool_run.specs.declared.command.Invocation.{Invocation}
-use Rattle.tool_run.specs.Command.{image_name}
-use Rattle.tool_run.specs.Inside.{command_of}
+use Rattle.tool_command.specs.declared.command.Invocation.{Invocation}
+use Rattle.tool_command.specs.Command.{image_name}
+use Rattle.tool_command.specs.Invocations.{command_of}
 use Rattle.tool_run.specs.Outcome.{HoldsOutside}
 use Rattle.tool_run.proofs.making.make.Goals as goal
 

@@ -1,7 +1,7 @@
 use Rattle.std.proofs.Common.{ℕ, List, false, refl, subst}
 use Rattle.std.specs.BTreeMap.{BTreeMap}
 use Rattle.tool_run.specs.Recovering.{IsTextOf}
-use Rattle.tool_run.specs.Command.{show_image}
+use Rattle.tool_command.specs.Command.{show_image}
 use Rattle.tool_run.proofs.CallLemmas.{refuses}
 use Rattle.tool_run.proofs.DeliveryLemmas.{at_cause}
 use Rattle.tool_run.proofs.ImageLemmas.{shows}

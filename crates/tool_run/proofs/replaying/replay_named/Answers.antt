@@ -1,6 +1,6 @@
 use Rattle.std.proofs.Common.{refl, subst}
 use Rattle.tool_run.specs.Inside.{IsBeforeReading}
-use Rattle.tool_run.specs.Command.{replay_image}
+use Rattle.tool_command.specs.Command.{replay_image}
 use Rattle.tool_run.proofs.CallLemmas.{refused_by_image}
 use Rattle.tool_run.proofs.DeliveryLemmas.{at_cause}
 use Rattle.tool_run.proofs.OutsideLemmas.{good_inside}

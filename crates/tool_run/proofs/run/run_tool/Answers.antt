@@ -11,7 +11,7 @@ use Rattle.tool_run.proofs.BadShardLemmas.{stops_bad, not_done_bad}
 use Rattle.tool_run.proofs.OutsideLemmas.{stops_outside, not_done, where_asked}
 use Rattle.tool_run.proofs.MalformedLemmas.{stops_malformed, not_done_malformed}
 use Rattle.tool_run.specs.declared.fault.Fault.TheVariants.{Memory}
-use Rattle.tool_run.specs.Command.{format_image, run_image, replay_image}
+use Rattle.tool_command.specs.Command.{format_image, run_image, replay_image}
 use Rattle.tool_run.proofs.run.run_tool.Goals as goal
 
 pub returns-in-Err-clause-known : goal.returns-in-Err-clause-known

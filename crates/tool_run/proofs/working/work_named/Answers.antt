@@ -2,7 +2,7 @@ use Rattle.std.proofs.Common.{List, refl, sym, subst, slice_index}
 use Rattle.heap_model.specs.Image.{image_of_bytes}
 use Rattle.image_run.proofs.CarryLemmas.{runs_carried}
 use Rattle.image_run.specs.Running.{RunsRequests, options_of}
-use Rattle.tool_run.specs.Command.{run_image}
+use Rattle.tool_command.specs.Command.{run_image}
 use Rattle.trace_run.specs.Said.{Line, requests_of, ValuesAreShort}
 use Rattle.tool_run.proofs.CallLemmas.{refused_by_image}
 use Rattle.tool_run.proofs.DeliveryLemmas.{at_cause}
