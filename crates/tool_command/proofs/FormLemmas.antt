@@ -7,7 +7,8 @@ use Rattle.clap.specs.Walk.{Rule, Row, Text, first_of, one_of}
 use Rattle.clap.specs.Simple.{App, Shape, built, filled, with_index}
 use Rattle.clap.specs.Words.{fault_of, matches_of}
 use Rattle.clap.specs.Faults.{defaults_fault, check_fault}
-use Rattle.heap_model.specs.Geometry.{largest_capacity}
+use Rattle.heap_model.specs.Geometry.{largest_capacity_fits}
+use Rattle.super_block.proofs.ConstantLemmas.{largest_capacity_is}
 use Rattle.super_block.specs.declared.layout.TheConstants.{LARGEST_CAPACITY, LAST_CLASS}
 use Rattle.tool_command.specs.declared.trace_plan.TheConstants.{MOST_REQUESTS, GREATEST_SEED}
 use Rattle.tool_command.specs.CommandLine.{format_app, show_app, drain_app, gen_app, replay_app, image_id, capacity_id, class_id, map_id, requests_id, trace_seed_id, seed_id, word_rule, number_rule, option_rule, needed_option_rule, flag_rule, HasNumber, HasNumberOr, HasFlag, IsTaken}
@@ -128,12 +129,12 @@ abbrev format_given : Text → ℕ → List Given
 format_given image capacity = image_given image ∷ in_place (number_at 2 capacity_id 1 LARGEST_CAPACITY) (decimal capacity) ∷ []
 
 pub format_asks : (words : List Text) (image : Text) (capacity : ℕ) → IsFormatForm words image capacity → AsksToFormat words image capacity
-unfolding defaults_fault largest_capacity
+unfolding defaults_fault
 format_asks words image capacity form =
     let s = (built format_app).top in
     let given = format_given image capacity in
-    let most : capacity ≤ LARGEST_CAPACITY = form.most in
-    let fits : capacity < 2 ^ 64 = omega (arith, most) in
+    let most : capacity ≤ LARGEST_CAPACITY = omega (arith, largest_capacity_is, form.most) in
+    let fits : capacity < 2 ^ 64 = omega (arith, form.most, largest_capacity_fits) in
     let plain : IsPlainApp format_app = record { leaf = refl; binary = refl } in
     let whole : IsWhole format_app given (image ∷ decimal capacity ∷ []) = record { words_are = refl; new = refl; defaults = refl; checks = refl } in
     let number = number_taken_at s 2 capacity_id 1 LARGEST_CAPACITY capacity [] (record { here = refl; found = refl; single = refl; once = refl; closed = refl }) fits form.least most tt in

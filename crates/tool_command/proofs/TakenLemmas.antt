@@ -18,7 +18,7 @@ use Rattle.clap.specs.Words.{fault_of, matches_of}
 use Rattle.clap.specs.Faults.{settle_fault, walk_fault, defaults_fault, check_fault, entered_fault}
 use Rattle.clap.specs.declared.builder.value_parser.ValueParser.{ValueParser}
 use Rattle.clap.specs.declared.builder.value_parser.ValueParser.TheVariants as parser
-use Rattle.heap_model.specs.Geometry.{largest_capacity}
+use Rattle.super_block.proofs.ConstantLemmas.{largest_capacity_is}
 use Rattle.image_run.specs.Running.{Options}
 use Rattle.image_run.specs.declared.options.TheConstants.{MOST_WORKERS, MOST_BUDGET}
 use Rattle.super_block.specs.declared.layout.TheConstants.{LARGEST_CAPACITY, LAST_CLASS}
@@ -265,11 +265,10 @@ module _ (app : App) (words : List Text) (faultless : fault_of app words ≡ [])
 
 module _ (words : List Text) where
   pub format_asked : IsTaken format_app words → (image : Text) × (capacity : ℕ) × AsksToFormat words image capacity
-  unfolding largest_capacity
   format_asked taken =
       let image = image_given format_app words taken.faultless refl refl refl in
       let capacity = number_given format_app words taken.faultless 1 2 capacity_id 1 LARGEST_CAPACITY refl refl refl in
-      (image.0, capacity.number, record { taken = taken; named = image.1; counted = capacity.has; least = capacity.low; most = capacity.high })
+      (image.0, capacity.number, record { taken = taken; named = image.1; counted = capacity.has; least = capacity.low; most = omega (arith, largest_capacity_is, capacity.high) })
 
   pub show_asked : IsTaken show_app words → (image : Text) × (with_map : Bool) × AsksToShow words image with_map
   show_asked taken =
