@@ -5,3 +5,4 @@ pub mod FormLemmas
 pub mod RunFormLemmas
 pub mod FaultlessLemmas
 pub mod TakenLemmas
+pub mod RuleLemmas

@@ -1,9 +1,9 @@
 //! What the crate clap is told of each command, and what is read of its matches.
 ghost use Rattle.std.specs.Prelude.{◌≡◌, ◌≢◌, ◌≤◌, ℕ, true, [], Some, IfOk, IfSome, IfNone, IsErrOf, option_map};
-ghost use Rattle.clap.specs.Words.{app_of, kind_of, is_simple, is_simple_and_free, fault_of, first_of, rows_of, found_of};
+ghost use Rattle.clap.specs.Words.{app_of, kind_of, is_simple, is_simple_and_free, fault_of, first_of, rows_of, found_of, with_rule};
 ghost use Rattle.clap.specs.declared.error.kind.ErrorKind.TheVariants.{OutOfMemory};
 ghost use Rattle.tool_command.specs.Command.{texts};
-ghost use Rattle.tool_command.specs.CommandLine.{format_app, show_app, drain_app, gen_app, plain_run_app, with_limits, run_app, rebuild_app, replay_app, IsMatchedBy, HasNumber, HasNumberOr, HasFlag};
+ghost use Rattle.tool_command.specs.CommandLine.{format_app, show_app, drain_app, gen_app, with_limits, run_app, rebuild_app, replay_app, word_rule, number_rule, option_rule, needed_option_rule, flag_rule, IsMatchedBy, HasNumber, HasNumberOr, HasFlag};
 ghost use Rattle.tool_command.specs.declared.command_line.Refusal.TheVariants.{Usage, Memory};
 
 use crate::trace_plan::{GREATEST_SEED, MOST_REQUESTS};
@@ -47,105 +47,138 @@ impl From<Error> for Refusal {
 pub fn format_command<'a>(alloc: Global) -> Result<Command<'a>, AllocError>
     ensures { IfOk result (λ command. app_of command ≡ format_app) }
 {
-    let image = Arg::new(alloc, "IMAGE").required(true);
-    let capacity = Arg::new(alloc, "S")
-        .required(true)
-        .value_parser(ValueParser::unsigned(1, LARGEST_CAPACITY));
-    Command::new(alloc, "format").arg(image)?.arg(capacity)
+    let command = with_word(alloc, Command::new(alloc, "format"), "IMAGE")?;
+    with_number(alloc, command, "S", 1, LARGEST_CAPACITY)
 }
 
 /// `show IMAGE [--map]`.
 pub fn show_command<'a>(alloc: Global) -> Result<Command<'a>, AllocError>
     ensures { IfOk result (λ command. app_of command ≡ show_app) }
 {
-    let image = Arg::new(alloc, "IMAGE").required(true);
-    let map = Arg::new(alloc, "map")
-        .long("map")
-        .action(ArgAction::SetTrue);
-    Command::new(alloc, "show").arg(image)?.arg(map)
+    let command = with_word(alloc, Command::new(alloc, "show"), "IMAGE")?;
+    with_flag(alloc, command, "map")
 }
 
 /// `drain IMAGE CLASS`.
 pub fn drain_command<'a>(alloc: Global) -> Result<Command<'a>, AllocError>
     ensures { IfOk result (λ command. app_of command ≡ drain_app) }
 {
-    let image = Arg::new(alloc, "IMAGE").required(true);
-    let class = Arg::new(alloc, "CLASS")
-        .required(true)
-        .value_parser(ValueParser::unsigned(1, LAST_CLASS));
-    Command::new(alloc, "drain").arg(image)?.arg(class)
+    let command = with_word(alloc, Command::new(alloc, "drain"), "IMAGE")?;
+    with_number(alloc, command, "CLASS", 1, LAST_CLASS)
 }
 
 /// `gen N SEED`.
 pub fn gen_command<'a>(alloc: Global) -> Result<Command<'a>, AllocError>
     ensures { IfOk result (λ command. app_of command ≡ gen_app) }
 {
-    let requests = Arg::new(alloc, "N")
-        .required(true)
-        .value_parser(ValueParser::unsigned(0, MOST_REQUESTS));
-    let seed = Arg::new(alloc, "SEED")
-        .required(true)
-        .value_parser(ValueParser::unsigned(0, GREATEST_SEED));
-    Command::new(alloc, "gen").arg(requests)?.arg(seed)
+    let command = with_number(alloc, Command::new(alloc, "gen"), "N", 0, MOST_REQUESTS)?;
+    with_number(alloc, command, "SEED", 0, GREATEST_SEED)
 }
 
 /// `run IMAGE --workers N [--stop K] [--seed X] [--sum] [--map]`.
 pub fn run_command<'a>(alloc: Global) -> Result<Command<'a>, AllocError>
     ensures { IfOk result (λ command. app_of command ≡ run_app) }
 {
-    let sum = Arg::new(alloc, "sum")
-        .long("sum")
-        .action(ArgAction::SetTrue);
-    let map = Arg::new(alloc, "map")
-        .long("map")
-        .action(ArgAction::SetTrue);
-    with_limits(alloc, plain_run_command(alloc)?)?
-        .arg(sum)?
-        .arg(map)
-}
-
-// The command with the options `[--stop K] [--seed X]`.
-fn with_limits<'a>(alloc: Global, command: Command<'a>) -> Result<Command<'a>, AllocError>
-    ensures { IfOk result (λ limited. app_of limited ≡ with_limits (app_of command.entry)) }
-{
-    let stop = Arg::new(alloc, "stop")
-        .long("stop")
-        .value_parser(ValueParser::unsigned(0, MOST_BUDGET));
-    let seed = Arg::new(alloc, "seed")
-        .long("seed")
-        .value_parser(ValueParser::unsigned(0, u64::MAX));
-    command.arg(stop)?.arg(seed)
-}
-
-// `run IMAGE --workers N`.
-fn plain_run_command<'a>(alloc: Global) -> Result<Command<'a>, AllocError>
-    ensures { IfOk result (λ command. app_of command ≡ plain_run_app) }
-{
-    let image = Arg::new(alloc, "IMAGE").required(true);
-    let workers = Arg::new(alloc, "workers")
-        .long("workers")
-        .required(true)
-        .value_parser(ValueParser::unsigned(1, MOST_WORKERS));
-    Command::new(alloc, "run").arg(image)?.arg(workers)
+    let command = with_word(alloc, Command::new(alloc, "run"), "IMAGE")?;
+    let command = with_needed_option(alloc, command, "workers", 1, MOST_WORKERS)?;
+    let command = with_limits(alloc, command)?;
+    let command = with_flag(alloc, command, "sum")?;
+    with_flag(alloc, command, "map")
 }
 
 /// `rebuild IMAGE [--stop K] [--seed X]`.
 pub fn rebuild_command<'a>(alloc: Global) -> Result<Command<'a>, AllocError>
     ensures { IfOk result (λ command. app_of command ≡ rebuild_app) }
 {
-    let image = Arg::new(alloc, "IMAGE").required(true);
-    with_limits(alloc, Command::new(alloc, "rebuild").arg(image)?)
+    let command = with_word(alloc, Command::new(alloc, "rebuild"), "IMAGE")?;
+    with_limits(alloc, command)
 }
 
 /// `replay IMAGE [--seed X]`.
 pub fn replay_command<'a>(alloc: Global) -> Result<Command<'a>, AllocError>
     ensures { IfOk result (λ command. app_of command ≡ replay_app) }
 {
-    let image = Arg::new(alloc, "IMAGE").required(true);
-    let seed = Arg::new(alloc, "seed")
-        .long("seed")
-        .value_parser(ValueParser::unsigned(0, u64::MAX));
-    Command::new(alloc, "replay").arg(image)?.arg(seed)
+    let command = with_word(alloc, Command::new(alloc, "replay"), "IMAGE")?;
+    with_option(alloc, command, "seed", 0, u64::MAX)
+}
+
+// The command with the options `[--stop K] [--seed X]`.
+fn with_limits<'a>(alloc: Global, command: Command<'a>) -> Result<Command<'a>, AllocError>
+    ensures { IfOk result (λ limited. app_of limited ≡ with_limits (app_of command.entry)) }
+{
+    let command = with_option(alloc, command, "stop", 0, MOST_BUDGET)?;
+    with_option(alloc, command, "seed", 0, u64::MAX)
+}
+
+// The command with a word that has to be there.
+fn with_word<'a>(
+    alloc: Global,
+    command: Command<'a>,
+    id: &'a str,
+) -> Result<Command<'a>, AllocError>
+    ensures { IfOk result (λ longer. app_of longer
+        ≡ with_rule (app_of command.entry) (word_rule id.entry.now)) }
+{
+    command.arg(Arg::new(alloc, id).required(true))
+}
+
+// The command with a number of these bounds that has to be there.
+fn with_number<'a>(
+    alloc: Global,
+    command: Command<'a>,
+    id: &'a str,
+    least: u64,
+    most: u64,
+) -> Result<Command<'a>, AllocError>
+    ensures { IfOk result (λ longer. app_of longer
+        ≡ with_rule (app_of command.entry) (number_rule id.entry.now least most)) }
+{
+    let number = ValueParser::unsigned(least, most);
+    command.arg(Arg::new(alloc, id).required(true).value_parser(number))
+}
+
+// The command with an option that takes a number of these bounds.
+fn with_option<'a>(
+    alloc: Global,
+    command: Command<'a>,
+    id: &'a str,
+    least: u64,
+    most: u64,
+) -> Result<Command<'a>, AllocError>
+    ensures { IfOk result (λ longer. app_of longer
+        ≡ with_rule (app_of command.entry) (option_rule id.entry.now least most)) }
+{
+    let number = ValueParser::unsigned(least, most);
+    command.arg(Arg::new(alloc, id).long(id).value_parser(number))
+}
+
+// The command with such an option that has to be there.
+fn with_needed_option<'a>(
+    alloc: Global,
+    command: Command<'a>,
+    id: &'a str,
+    least: u64,
+    most: u64,
+) -> Result<Command<'a>, AllocError>
+    ensures { IfOk result (λ longer. app_of longer
+        ≡ with_rule (app_of command.entry) (needed_option_rule id.entry.now least most)) }
+{
+    let number = ValueParser::unsigned(least, most);
+    let option = Arg::new(alloc, id).long(id).required(true);
+    command.arg(option.value_parser(number))
+}
+
+// The command with an option without a value.
+fn with_flag<'a>(
+    alloc: Global,
+    command: Command<'a>,
+    id: &'a str,
+) -> Result<Command<'a>, AllocError>
+    ensures { IfOk result (λ longer. app_of longer
+        ≡ with_rule (app_of command.entry) (flag_rule id.entry.now)) }
+{
+    let flag = Arg::new(alloc, id).long(id).action(ArgAction::SetTrue);
+    command.arg(flag)
 }
 
 /// What clap makes of the words, of which the first is the command's name.

@@ -1,0 +1,10 @@
+use Rattle.std.proofs.Common.{◌∙◌, ap}
+use Rattle.clap.specs.Words.{App, with_rule}
+use Rattle.tool_command.specs.CommandLine.{image_id, map_id, word_rule, flag_rule}
+use Rattle.tool_command.proofs.RuleLemmas.{told_as}
+use Rattle.tool_command.proofs.command_line.show_command.Goals as goal
+
+pub returns : goal.returns
+returns c =
+    told_as _ _ _ c.with_flag.ensures
+    (ap (λ (a : App). with_rule a (flag_rule map_id)) (c.in_ok-command.ensures ∙ ap (λ (a : App). with_rule a (word_rule image_id)) c.new.ensures.app))
