@@ -1,8 +1,23 @@
 //! A long trace, run without a bound on its steps and with one that it does not come to.
-use crate::calls::{formatted, make, store_with};
+use crate::calls::{formatted, make, must_hold, store_with};
 use line_memory::ConstantChance;
+use std::alloc::{AllocError, Global};
 use std::process::Abort;
 use std::test::Fail;
+use tool_ports::MapStore;
+
+/// What a run of the trace over the image in the store prints.
+fn printed_by(
+    rt: &(impl Abort + AllocGlobal),
+    images: &mut MapStore,
+    line: &str,
+    trace: &[u8],
+) -> Result<Vec<u8>, AllocError> {
+    let trace = Vec::from_slice(rt.alloc(), trace)?;
+    let (status, printed) = make(rt.alloc(), line, trace, images, &mut ConstantChance(0))?;
+    must_hold(rt, status == 0, line);
+    Ok(printed)
+}
 
 /// What two runs of the trace over an empty heap of 256 superblocks print, the second over what the
 /// first left.
@@ -11,25 +26,25 @@ fn run_twice(
     line: &str,
     trace: &[u8],
 ) -> Result<(Vec<u8>, Vec<u8>), Fail> {
-    let alloc = rt.alloc();
-    let mut images = store_with(alloc, &formatted(alloc, "256")?)?;
+    let mut images = store_with(rt.alloc(), &formatted(rt.alloc(), "256")?)?;
+    let first = printed_by(rt, &mut images, line, trace)?;
+    let second = printed_by(rt, &mut images, "run h --workers 1", trace)?;
+    Ok((first, second))
+}
+
+/// The trace that the tool makes of these words.
+fn made_trace(alloc: Global, line: &str) -> Result<Vec<u8>, Fail> {
+    let mut none = store_with(alloc, b"")?;
     let chance = &mut ConstantChance(0);
-    let bytes = Vec::from_slice(alloc, trace)?;
-    let first = make(alloc, line, bytes, &mut images, chance)?;
-    let bytes = Vec::from_slice(alloc, trace)?;
-    let second = make(alloc, "run h --workers 1", bytes, &mut images, chance)?;
-    assert!(rt; first.0 == 0 && second.0 == 0, "{line}");
-    Ok((first.1, second.1))
+    Ok(make(alloc, line, Vec::new(alloc), &mut none, chance)?.1)
 }
 
 #[test]
 fn a_long_trace_gives_the_same_within_its_bound(rt: HostRuntime) -> Result<(), Fail> {
-    let alloc = rt.alloc();
-    let mut none = store_with(alloc, b"")?;
-    let chance = &mut ConstantChance(0);
-    let trace = make(alloc, "gen 20000 7", Vec::new(alloc), &mut none, chance)?.1;
+    let trace = made_trace(rt.alloc(), "gen 20000 7")?;
     let free = run_twice(&rt, "run h --workers 1", &trace)?;
     let bounded = run_twice(&rt, "run h --workers 1 --stop 268435456", &trace)?;
-    assert!(rt; free == bounded && 100_000 < free.0.len());
+    must_hold(&rt, free == bounded, "the same");
+    must_hold(&rt, 100_000 < free.0.len(), "it is long");
     Ok(())
 }

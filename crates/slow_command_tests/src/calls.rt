@@ -16,6 +16,14 @@ pub fn store_with(alloc: Global, image: &[u8]) -> Result<MapStore, Fail> {
     Ok(images)
 }
 
+fn words_of(alloc: Global, line: &str) -> Result<Vec<String>, AllocError> {
+    let mut words = Vec::new(alloc);
+    for word in line.split(' ') {
+        words.push(String::from_str(alloc, word)?)?;
+    }
+    Ok(words)
+}
+
 /// Makes the call: its status, and the bytes that it printed.
 pub fn make<C: Chances>(
     alloc: Global,
@@ -24,10 +32,7 @@ pub fn make<C: Chances>(
     images: &mut MapStore,
     chances: &mut C,
 ) -> Result<(u8, Vec<u8>), AllocError> {
-    let mut words = Vec::new(alloc);
-    for word in line.split(' ') {
-        words.push(String::from_str(alloc, word)?)?;
-    }
+    let words = words_of(alloc, line)?;
     let mut out = VecSink::new(alloc, Vec::new(alloc), ROOM, ROOM)?;
     let mut trace = BytesSource::new(Vec::new(alloc), 1 << 20, trace);
     let status = run_tool(
@@ -47,14 +52,15 @@ pub fn make<C: Chances>(
 pub fn formatted(alloc: Global, superblocks: &str) -> Result<Vec<u8>, Fail> {
     let mut images = store_with(alloc, b"")?;
     let line = format!(in alloc; "format h {superblocks}")?;
-    make(
-        alloc,
-        &line,
-        Vec::new(alloc),
-        &mut images,
-        &mut ConstantChance(0),
-    )?;
+    let chance = &mut ConstantChance(0);
+    make(alloc, &line, Vec::new(alloc), &mut images, chance)?;
     Ok(Vec::from_slice(alloc, images.image("h").unwrap_or(&[]))?)
+}
+
+/// Asserts what the text tells of. An assertion makes a long function slow to prove; a call of this
+/// one does not.
+pub fn must_hold(rt: &impl Abort, holds: bool, told: &str) {
+    assert!(rt; holds, "{told}");
 }
 
 /// Makes the call, which is to end with this status and to print this text.
@@ -68,7 +74,7 @@ pub fn runs<C: Chances>(
     text: &str,
 ) -> Result<(), Fail> {
     let (code, printed) = make(rt.alloc(), line, trace, images, chances)?;
-    assert_eq!(rt; code, status, "{line}");
-    assert_eq!(rt; printed.as_slice(), text.as_bytes(), "{line}");
+    must_hold(rt, code == status, line);
+    must_hold(rt, printed.as_slice() == text.as_bytes(), line);
     Ok(())
 }

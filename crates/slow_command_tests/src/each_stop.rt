@@ -1,32 +1,57 @@
 //! The command `rebuild` stopped at each of its steps: what it prints, and that it is gone on with.
-use crate::calls::{formatted, make, runs, store_with};
+use crate::calls::{make, must_hold, runs, store_with};
+use image_text::image_of;
 use line_memory::ConstantChance;
+use region_header::words_to_bytes;
 use std::alloc::Global;
 use std::process::Abort;
 use std::test::Fail;
-use tool_ports::{Chances, SeededChances};
+use tool_ports::{Chances, MapStore, SeededChances};
 
 const DONE: &str = "rebuild done\nheap 2 dirty\nheld 64 1\n";
 
 const STOPPED: &str = "rebuild stopped\nheap 2 dirty\nheld 64 1\n";
 
-/// Gives the word of an image at the word index another value.
-fn set_word(image: &mut [u8], at: usize, value: u64) {
-    if let Some(rest) = image.get_mut(at.saturating_mul(8)..) {
-        for (old, byte) in rest.iter_mut().zip(value.to_le_bytes()) {
-            *old = byte;
-        }
-    }
-}
-
 /// An image of two superblocks of which the first has blocks of 64 bytes; root 8 leads to its first
 /// block.
+#[tactic(auto, unfolding(heap_model::specs::Geometry::largest_capacity))]
 fn one_block(alloc: Global) -> Result<Vec<u8>, Fail> {
-    let mut image = formatted(alloc, "2")?;
-    for (at, value) in [(8, 1), (1_064, 4), (48, 0x5250_0000_0000_21c0)] {
-        set_word(&mut image, at, value);
-    }
-    Ok(image)
+    let words = image_of(alloc, 2, "used 1, info:0 4, root:8 @1080")?;
+    Ok(words_to_bytes(alloc, &words)?.into_vec())
+}
+
+/// Stops a recovery of the image in the store at this step: the answer is whether it is done.
+fn is_done_at<C: Chances>(
+    rt: &(impl Abort + AllocGlobal),
+    images: &mut MapStore,
+    budget: u64,
+    chances: &mut C,
+) -> Result<bool, Fail> {
+    let line = format!(in rt.alloc(); "rebuild h --stop {budget}")?;
+    let (status, printed) = make(rt.alloc(), &line, Vec::new(rt.alloc()), images, chances)?;
+    must_hold(rt, status == 0, &line);
+    let is_done = printed.as_slice() == DONE.as_bytes();
+    must_hold(
+        rt,
+        is_done || printed.as_slice() == STOPPED.as_bytes(),
+        &line,
+    );
+    Ok(is_done)
+}
+
+/// Stops a recovery of the image at this step, and goes on from what the stop left: the answer is
+/// whether there was no stop.
+fn goes_on_from<C: Chances>(
+    rt: &(impl Abort + AllocGlobal),
+    image: &[u8],
+    budget: u64,
+    chances: &mut C,
+) -> Result<bool, Fail> {
+    let mut images = store_with(rt.alloc(), image)?;
+    let is_done = is_done_at(rt, &mut images, budget, chances)?;
+    let none = Vec::new(rt.alloc());
+    runs(rt, &mut images, chances, "rebuild h", none, 0, DONE)?;
+    Ok(is_done)
 }
 
 /// Stops a recovery at each step until it is done, and goes on from what each stop left.
@@ -34,30 +59,14 @@ fn is_told_at_each_stop<C: Chances>(
     rt: &(impl Abort + AllocGlobal),
     chances: &mut C,
 ) -> Result<(), Fail> {
-    let alloc = rt.alloc();
-    let image = one_block(alloc)?;
+    let image = one_block(rt.alloc())?;
     for budget in 0..10_000u64 {
-        let mut images = store_with(alloc, &image)?;
-        let line = format!(in alloc; "rebuild h --stop {budget}")?;
-        let (status, printed) = make(alloc, &line, Vec::new(alloc), &mut images, chances)?;
-        assert_eq!(rt; status, 0, "{budget}");
-        runs(
-            rt,
-            &mut images,
-            chances,
-            "rebuild h",
-            Vec::new(alloc),
-            0,
-            DONE,
-        )?;
-        if printed.as_slice() == DONE.as_bytes() {
-            assert!(rt; 2_000 < budget, "{budget}");
+        if goes_on_from(rt, &image, budget, chances)? {
+            must_hold(rt, 2_000 < budget, "it takes steps");
             return Ok(());
         }
-        assert!(rt; printed.as_slice() == STOPPED.as_bytes(), "{budget}");
     }
-    assert!(rt; false, "it is never done");
-    Ok(())
+    Err("it is never done".into())
 }
 
 #[test]

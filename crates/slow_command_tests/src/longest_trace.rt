@@ -1,9 +1,10 @@
 //! Traces of 16,777,216 bytes, the most that a run takes.
-use crate::calls::{formatted, runs, store_with};
+use crate::calls::{formatted, must_hold, runs, store_with};
 use line_memory::ConstantChance;
 use std::alloc::{AllocError, Global};
 use std::process::Abort;
 use std::test::Fail;
+use tool_ports::MapStore;
 
 /// A request of sixteen bytes.
 const SIXTEEN_BYTES: &[u8] = b"get 12345678901\n";
@@ -32,22 +33,15 @@ fn longest_trace(
 /// Works off a trace of the greatest length, which asks for no key that is there.
 fn must_answer(rt: &(impl Abort + AllocGlobal), trace: Vec<u8>, requests: u64) -> Result<(), Fail> {
     let alloc = rt.alloc();
-    assert!(rt; trace.len() == 16_777_216);
+    must_hold(rt, trace.len() == 16_777_216, "its length");
     let mut images = store_with(alloc, &formatted(alloc, "1")?)?;
     let text = format!(in alloc;
         "requests {requests} ok 0 none {requests} value 0 full 0 unanswered 0\nrun closed\n\
          heap 1 clean\nkeys 0 bytes 0\n"
     )?;
     let line = "run h --workers 1 --sum";
-    runs(
-        rt,
-        &mut images,
-        &mut ConstantChance(0),
-        line,
-        trace,
-        0,
-        &text,
-    )
+    let chance = &mut ConstantChance(0);
+    runs(rt, &mut images, chance, line, trace, 0, &text)
 }
 
 #[test]
@@ -62,28 +56,29 @@ fn the_longest_trace_of_the_most_lines_is_worked_off(rt: HostRuntime) -> Result<
     must_answer(&rt, trace, 2_796_202)
 }
 
+/// Refuses a trace of so many bytes, which is one line outside the grammar.
+fn must_refuse(
+    rt: &(impl Abort + AllocGlobal),
+    images: &mut MapStore,
+    length: usize,
+    text: &str,
+) -> Result<(), Fail> {
+    let trace = vec![in rt.alloc(); b'x'; length]?;
+    let chance = &mut ConstantChance(0);
+    runs(rt, images, chance, "run h --workers 1", trace, 10, text)
+}
+
 #[test]
 fn a_line_of_the_longest_length_is_outside_the_grammar(rt: HostRuntime) -> Result<(), Fail> {
-    let alloc = rt.alloc();
-    let image = formatted(alloc, "1")?;
-    let mut images = store_with(alloc, &image)?;
-    for (length, text) in [
-        (16_777_216, "bad trace line 1\n"),
-        (16_777_217, "bad trace too long\n"),
-        (20_000_000, "bad trace too long\n"),
-    ] {
-        let trace = vec![in alloc; b'x'; length]?;
-        let line = "run h --workers 1";
-        runs(
-            &rt,
-            &mut images,
-            &mut ConstantChance(0),
-            line,
-            trace,
-            10,
-            text,
-        )?;
-    }
-    assert!(rt; images.image("h") == Some(image.as_slice()));
+    let image = formatted(rt.alloc(), "1")?;
+    let mut images = store_with(rt.alloc(), &image)?;
+    must_refuse(&rt, &mut images, 16_777_216, "bad trace line 1\n")?;
+    must_refuse(&rt, &mut images, 16_777_217, "bad trace too long\n")?;
+    must_refuse(&rt, &mut images, 20_000_000, "bad trace too long\n")?;
+    must_hold(
+        &rt,
+        images.image("h") == Some(image.as_slice()),
+        "as before",
+    );
     Ok(())
 }

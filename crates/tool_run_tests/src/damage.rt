@@ -4,7 +4,6 @@ use crate::harness::shows;
 use crate::images::image_bytes;
 use crate::session::shows_each;
 use std::alloc::{AllocError, Global};
-use std::process::Abort;
 use std::test::Fail;
 
 const AS_BEFORE: &str = "heap 2 clean\nkey 0 -\nheld 32 1\nheld 1024 1\n";

@@ -1,9 +1,9 @@
 //! Runs of which a call of the outside fails, that name a damaged image, or whose trace is outside
 //! the grammar.
 use crate::harness::{
-    Call, NO_CALL, image_after, image_in, make, must_end, must_hold, plain, runs, store_with,
+    Call, NO_CALL, image_after, image_in, make, must_end, must_hold, plain, runs, store, store_with,
 };
-use crate::session::shows_each;
+use crate::session::{play, shows_each};
 use line_memory::ConstantChance;
 use std::alloc::Global;
 use std::process::Abort;
@@ -19,9 +19,9 @@ const TOLD: &str = "ok
 ok
 none
 run closed
-heap 4 clean
+heap 2 clean
 held 1024 1
-used 2 free 1 fresh 2
+used 2 free 1 fresh 0
 sb 0 class 12 held 0
 sb 1 free
 ";
@@ -79,7 +79,7 @@ fn failing_run(
     Ok((status, printed, image_in(alloc, &images)?))
 }
 
-/// Makes the run over the old image with that failure: it ends so, and leaves the old or the new one.
+/// Makes the run over the old image with that failure: it ends so, and leaves the old or the new.
 fn fails(
     rt: &(impl Abort + AllocGlobal),
     (old, left): (&[u8], &[u8]),
@@ -95,7 +95,7 @@ fn fails(
 
 #[test]
 fn each_call_of_the_outside_fails_once(rt: HostRuntime) -> Result<(), Fail> {
-    let old = image_after(rt.alloc(), "4", "")?;
+    let old = image_after(rt.alloc(), "2", "")?;
     let (status, told, new) = failing_run(rt.alloc(), &old, NONE)?;
     must_end(&rt, "no failure", (status, &told), 0, TOLD);
     must_hold(&rt, old != new, "the run changes the image");
@@ -190,37 +190,24 @@ fn the_first_line_outside_the_grammar_is_told(rt: HostRuntime) -> Result<(), Fai
     Ok(())
 }
 
-const LAST_KEY: &str = "none\nfull\nnone\nrun closed\nheap 1 clean\nheld 1024 1\n";
+const LAST_KEY: &str = "
+$ format h 1
+> formatted 1 bytes 74112
+$ run h --workers 1
+< get 18446744073709551615
+< put 0 -
+< del 1
+> none
+> full
+> none
+> run closed
+> heap 1 clean
+> held 1024 1
+";
 
 #[test]
 fn the_last_key_and_the_last_line_are_read(rt: HostRuntime) -> Result<(), Fail> {
-    let alloc = rt.alloc();
-    let image = image_after(alloc, "1", "")?;
-    let mut images = store_with(alloc, &image, NO_CALL, FailedPut::LeavesOld)?;
-    let trace = b"get 18446744073709551615\nput 0 -\ndel 1";
-    runs(&rt, &mut images, "run h --workers 1", trace, 0, LAST_KEY)
-}
-
-#[test]
-fn a_trace_that_is_too_long_is_told(rt: HostRuntime) -> Result<(), Fail> {
-    let alloc = rt.alloc();
-    let image = image_after(alloc, "1", "")?;
-    let mut images = store_with(alloc, &image, NO_CALL, FailedPut::LeavesOld)?;
-    let trace = vec![in alloc; b'x'; 16_777_217]?;
-    runs(
-        &rt,
-        &mut images,
-        "run h --workers 1",
-        &trace,
-        10,
-        "bad trace too long\n",
-    )?;
-    must_hold(
-        &rt,
-        images.image("h") == Some(image.as_slice()),
-        "the image is as it was",
-    );
-    Ok(())
+    play(&rt, &mut store(rt.alloc()), LAST_KEY)
 }
 
 /// The trace of each is outside the grammar.

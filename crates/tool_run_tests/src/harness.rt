@@ -38,6 +38,27 @@ pub fn plain<'a>(line: &'a str, trace: &'a [u8]) -> Call<'a> {
     }
 }
 
+/// The words of a line, of which '' is an empty one.
+fn words_of(alloc: Global, line: &str) -> Result<Vec<String>, AllocError> {
+    let mut words = Vec::new(alloc);
+    for word in line.split(' ') {
+        let word = if word == "''" { "" } else { word };
+        words.push(String::from_str(alloc, word)?)?;
+    }
+    Ok(words)
+}
+
+fn sink_of(alloc: Global, call: &Call<'_>) -> Result<VecSink, AllocError> {
+    let failing = Vec::from_slice(alloc, call.failing_writes)?;
+    VecSink::new(alloc, failing, call.reads_and_writes.1.max(1), ROOM)
+}
+
+fn source_of(alloc: Global, call: &Call<'_>) -> Result<BytesSource, AllocError> {
+    let failing = Vec::from_slice(alloc, call.failing_reads)?;
+    let trace = Vec::from_slice(alloc, call.trace)?;
+    Ok(BytesSource::new(failing, call.reads_and_writes.0.max(1), trace))
+}
+
 /// Makes the call: its status, and the bytes that it printed.
 pub fn make<G: Gate + Sync, C: Chances>(
     alloc: Global,
@@ -46,17 +67,9 @@ pub fn make<G: Gate + Sync, C: Chances>(
     gate: &G,
     chances: &mut C,
 ) -> Result<(u8, Vec<u8>), AllocError> {
-    let mut words = Vec::new(alloc);
-    for word in call.line.split(' ') {
-        let word = if word == "''" { "" } else { word };
-        words.push(String::from_str(alloc, word)?)?;
-    }
-    let (most_read, most_written) = call.reads_and_writes;
-    let writes = Vec::from_slice(alloc, call.failing_writes)?;
-    let mut out = VecSink::new(alloc, writes, most_written.max(1), ROOM)?;
-    let reads = Vec::from_slice(alloc, call.failing_reads)?;
-    let given = Vec::from_slice(alloc, call.trace)?;
-    let mut trace = BytesSource::new(reads, most_read.max(1), given);
+    let words = words_of(alloc, call.line)?;
+    let mut out = sink_of(alloc, &call)?;
+    let mut trace = source_of(alloc, &call)?;
     let status = run_tool(
         &(),
         alloc,
@@ -172,13 +185,4 @@ pub fn word(image: &[u8], place: &str) -> Result<u64, Fail> {
         return Ok(0);
     };
     Ok(bytes.iter().rev().fold(0u64, |word, byte| word.wrapping_mul(256) | u64::from(*byte)))
-}
-
-/// A request that puts so many zero bytes, as a line of a trace.
-pub fn put_zeros(trace: &mut String, key: &str, length: u64) -> Result<(), AllocError> {
-    write!(trace, "put {key} ")?;
-    for _ in 0..length {
-        trace.push_str("00")?;
-    }
-    trace.push_str("\n")
 }

@@ -1,5 +1,5 @@
 //! Images told as texts, for sessions.
-use image_text::{change, image_of};
+use image_text::{change, image_of, number};
 use region_header::words_to_bytes;
 use std::alloc::Global;
 use std::test::Fail;
@@ -8,18 +8,29 @@ use std::test::Fail;
 /// in superblock 1, with key 0 and no byte.
 const TABLE: &str = "used 2, info:0 12, info:1 2, root:0 @1080, 1080 @9272";
 
-/// The bytes of an empty image of one, two, four or eight superblocks, or of one of two with that
-/// table, in which some words were changed: as `2`, or as `table: 9273 8, 9274 0`.
-pub fn image_bytes(alloc: Global, text: &str) -> Result<Vec<u8>, Fail> {
+/// The words of an empty image of one, two or four superblocks, or of one of two with that table,
+/// in which some words were changed: as `2`, or as `table: 9273 8, 9274 0`.
+fn image_words(alloc: Global, text: &str) -> Result<Vec<u64>, Fail> {
     let (base, changes) = text.split_once(": ").unwrap_or((text, ""));
     let mut words = match base {
         "1" => image_of(alloc, 1, "")?,
         "2" => image_of(alloc, 2, "")?,
         "4" => image_of(alloc, 4, "")?,
-        "8" => image_of(alloc, 8, "")?,
         "table" => image_of(alloc, 2, TABLE)?,
         _ => return Err("no image of this name".into()),
     };
     change(&mut words, changes)?;
-    Ok(words_to_bytes(alloc, &words)?.into_vec())
+    Ok(words)
+}
+
+/// The bytes of such an image, cut or filled up to a length where one is told: as
+/// `1: state 2; 8511`.
+pub fn image_bytes(alloc: Global, text: &str) -> Result<Vec<u8>, Fail> {
+    let (text, length) = text.split_once("; ").unwrap_or((text, ""));
+    let words = image_words(alloc, text)?;
+    let mut bytes = words_to_bytes(alloc, &words)?.into_vec();
+    if !length.is_empty() {
+        bytes.resize(number(length)? as usize, 0)?;
+    }
+    Ok(bytes)
 }

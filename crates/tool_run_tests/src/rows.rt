@@ -1,12 +1,9 @@
 //! Traces worked off to their end: the replies, the report, and the image that is left.
-use crate::harness::{image_in, make_plain, must_hold, put_zeros, runs, store, word};
-use crate::images::image_bytes;
+use crate::harness::{image_in, make_plain, must_hold, runs, store, word};
 use crate::session::play;
 use image_text::number;
 use std::alloc::{AllocError, Global};
-use std::process::Abort;
 use std::test::Fail;
-use tool_ports::ImageStore;
 
 const ANSWERED: &str = "
 $ format h 4
@@ -217,110 +214,106 @@ fn keys_at_the_end_stand_in_the_last_bucket(rt: HostRuntime) -> Result<(), Fail>
     Ok(())
 }
 
-/// Puts, each of so many zero bytes under a key.
-fn puts(alloc: Global, keys: &str, length: u64) -> Result<String, AllocError> {
-    let mut trace = String::new(alloc);
-    for key in keys.split(' ') {
-        put_zeros(&mut trace, key, length)?;
-    }
-    Ok(trace)
-}
-
-/// Runs the trace over an empty heap of so many superblocks.
-fn told(
-    rt: &(impl Abort + AllocGlobal),
-    superblocks: &str,
-    line: &str,
-    trace: &str,
-    text: &str,
-) -> Result<(), Fail> {
-    let alloc = rt.alloc();
-    let mut images = store(alloc);
-    images.put(alloc, "h", &image_bytes(alloc, superblocks)?)?;
-    runs(rt, &mut images, line, trace.as_bytes(), 0, text)
-}
-
-const ONE_LONG: &str = "requests 1 ok 1 none 0 value 0 full 0 unanswered 0
-run closed
-heap 4 clean
-keys 1 bytes 65513
-held 1024 1
-held large 2 1
-used 3 free 0 fresh 1
-sb 0 class 12 held 0
-sb 1 large 2
-sb 2 inside 1
-";
-
-const LONG_AND_LONGEST: &str = "requests 3 ok 2 none 0 value 0 full 1 unanswered 0
-run closed
-heap 4 clean
-keys 0 bytes 0
-held 1024 1
-used 3 free 2 fresh 1
-sb 0 class 12 held 0
-sb 1 free
-sb 2 free
+const LONG: &str = "
+$ format h 4
+> formatted 4 bytes 270912
+$ run h --workers 1 --sum --map
+<0 1 65513
+<
+> requests 1 ok 1 none 0 value 0 full 0 unanswered 0
+> run closed
+> heap 4 clean
+> keys 1 bytes 65513
+> held 1024 1
+> held large 2 1
+> used 3 free 0 fresh 1
+> sb 0 class 12 held 0
+> sb 1 large 2
+> sb 2 inside 1
+$ format h 4
+> formatted 4 bytes 270912
+$ run h --workers 1 --sum --map
+<0 1 65513
+< del 1
+<0 1 131072
+<
+> requests 3 ok 2 none 0 value 0 full 1 unanswered 0
+> run closed
+> heap 4 clean
+> keys 0 bytes 0
+> held 1024 1
+> used 3 free 2 fresh 1
+> sb 0 class 12 held 0
+> sb 1 free
+> sb 2 free
 ";
 
 #[test]
 fn long_values_take_blocks_of_their_own(rt: HostRuntime) -> Result<(), Fail> {
-    let alloc = rt.alloc();
-    let one = puts(alloc, "1", 65_513)?;
-    told(&rt, "4", "run h --workers 1 --sum --map", &one, ONE_LONG)?;
-    let longest = puts(alloc, "1", 131_072)?;
-    let both = format!(in alloc; "{one}del 1\n{longest}")?;
-    told(
-        &rt,
-        "4",
-        "run h --workers 1 --sum --map",
-        &both,
-        LONG_AND_LONGEST,
-    )
+    play(&rt, &mut store(rt.alloc()), LONG)
 }
 
-const OTHER_CLASS: &str = "ok
-ok
-ok
-ok
-ok
-ok
-ok
-ok
-ok
-run closed
-heap 2 clean
-key 0 ab
-held 32 1
-held 1024 1
-used 2 free 0 fresh 0
-sb 0 class 12 held 0
-sb 1 class 2 held 0
+const OTHER_CLASS: &str = "
+$ format h 2
+> formatted 2 bytes 139712
+$ run h --workers 1 --map
+<0 0 14312
+<0 8 14312
+<0 16 14312
+<0 24 14312
+< del 0
+< del 8
+< del 16
+< del 24
+< put 0 ab
+<
+> ok
+> ok
+> ok
+> ok
+> ok
+> ok
+> ok
+> ok
+> ok
+> run closed
+> heap 2 clean
+> key 0 ab
+> held 32 1
+> held 1024 1
+> used 2 free 0 fresh 0
+> sb 0 class 12 held 0
+> sb 1 class 2 held 0
 ";
 
 #[test]
 fn freed_superblocks_serve_other_classes(rt: HostRuntime) -> Result<(), Fail> {
-    let alloc = rt.alloc();
-    let four = puts(alloc, "0 8 16 24", 14_312)?;
-    let other = format!(in alloc; "{four}del 0\ndel 8\ndel 16\ndel 24\nput 0 ab\n")?;
-    told(&rt, "2", "run h --workers 1 --map", &other, OTHER_CLASS)
+    play(&rt, &mut store(rt.alloc()), OTHER_CLASS)
 }
 
-const FIFTH_REFUSED: &str = "requests 7 ok 6 none 0 value 0 full 1 unanswered 0
-run closed
-heap 2 clean
-keys 4 bytes 57248
-held 1024 1
-held 14336 4
+const FIFTH_REFUSED: &str = "
+$ format h 2
+> formatted 2 bytes 139712
+$ run h --workers 1 --sum
+<0 0 14312
+<0 8 14312
+<0 16 14312
+<0 24 14312
+<0 32 14312
+< del 0
+<0 32 14312
+<
+> requests 7 ok 6 none 0 value 0 full 1 unanswered 0
+> run closed
+> heap 2 clean
+> keys 4 bytes 57248
+> held 1024 1
+> held 14336 4
 ";
 
 #[test]
 fn a_block_that_was_freed_serves_a_value_that_had_no_room(rt: HostRuntime) -> Result<(), Fail> {
-    let alloc = rt.alloc();
-    let four = puts(alloc, "0 8 16 24", 14_312)?;
-    let again = puts(alloc, "32", 14_312)?;
-    let refused = format!(in alloc; "{four}{again}del 0\n{again}")?;
-    told(&rt, "2", "run h --workers 1 --sum", &refused, FIFTH_REFUSED)
+    play(&rt, &mut store(rt.alloc()), FIFTH_REFUSED)
 }
 
 const GENERATED: &str = "

@@ -41,7 +41,7 @@ fn must_leave(
     let mut images = store_with(alloc, image, NO_CALL, FailedPut::LeavesOld)?;
     let line = format!(in alloc; "run h --workers 1 --stop {options}")?;
     let text = format!(in alloc;
-        "unanswered\nrun stopped\nheap 4 dirty\nkey 1 {value}\nkey 9 -\n\
+        "unanswered\nrun stopped\nheap 2 dirty\nkey 1 {value}\nkey 9 -\n\
         held 32 2\nheld 1024 2\n"
     )?;
     runs(rt, &mut images, &line, b"put 1 6576", 0, &text)
@@ -49,7 +49,7 @@ fn must_leave(
 
 #[test]
 fn a_seed_decides_whether_a_stopped_put_is_durable(rt: HostRuntime) -> Result<(), Fail> {
-    let image = image_after(rt.alloc(), "4", BEFORE)?;
+    let image = image_after(rt.alloc(), "2", BEFORE)?;
     for row in STOPPED.trim().split('\n') {
         let (options, value) = row.split_once(" => ").ok_or("no row")?;
         must_leave(&rt, &image, options, value)?;
@@ -109,7 +109,7 @@ fn seed_of_call(rt: &(impl Abort + AllocGlobal), image: &[u8], call: &str) -> Re
 
 #[test]
 fn each_command_gives_its_chances_the_seed(rt: HostRuntime) -> Result<(), Fail> {
-    let image = image_after(rt.alloc(), "4", BEFORE)?;
+    let image = image_after(rt.alloc(), "2", BEFORE)?;
     for row in SEEDS.trim().split('\n') {
         let (call, seed) = row.split_once(" => ").ok_or("no row")?;
         let seed = seed.parse::<u64>().ok().ok_or("no seed")?;

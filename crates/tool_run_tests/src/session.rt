@@ -5,6 +5,7 @@
 //! ```text
 //! $ run h --workers 1    its words, of which '' is an empty one
 //! < put 1 aa             a line of its input; the last one has no line feed
+//! <0 1 65513             such a line that puts so many zero bytes, under key 1
 //! ! 0 2                  which of its writes fail; each takes at most eight bytes
 //! > bad trace line 3     a line that it prints
 //! >| bad tr              the same without a line feed
@@ -14,7 +15,7 @@
 //!
 //! Before its first call a session may name the image h, as `images` reads it, in a line that
 //! begins with `@`. Other lines say nothing.
-use crate::harness::{Call, NO_CALL, make, must_end, must_hold, store_with};
+use crate::harness::{Call, NO_CALL, make, must_end, must_hold, shows, store_with};
 use crate::images::image_bytes;
 use std::alloc::{AllocError, Global};
 use std::process::Abort;
@@ -30,16 +31,35 @@ fn behind<'a>(line: &'a str, mark: &str) -> Option<&'a str> {
     rest.strip_prefix(' ')
 }
 
+/// Adds a request that puts zero bytes: its key, and how many they are.
+fn push_zeros(input: &mut String, put: &str) -> Result<(), Fail> {
+    let (key, length) = put.split_once(' ').ok_or("no length")?;
+    write!(input, "put {key} ")?;
+    for _ in 0..number(length)? {
+        input.push_str("00")?;
+    }
+    Ok(())
+}
+
+/// Adds a line of input, behind a line feed where it isn't the first.
+fn push_input(input: &mut String, line: &str) -> Result<(), Fail> {
+    let text = behind(line, "<");
+    let zeros = behind(line, "<0");
+    if !input.is_empty() && (text.is_some() || zeros.is_some()) {
+        input.push_str("\n")?;
+    }
+    if let Some(put) = zeros {
+        push_zeros(input, put)?;
+    }
+    input.push_str(text.unwrap_or(""))?;
+    Ok(())
+}
+
 /// The input of the call.
-fn input_of(alloc: Global, turn: &str) -> Result<String, AllocError> {
+fn input_of(alloc: Global, turn: &str) -> Result<String, Fail> {
     let mut input = String::new(alloc);
     for line in turn.split('\n') {
-        if let Some(text) = behind(line, "<") {
-            if !input.is_empty() {
-                input.push_str("\n")?;
-            }
-            input.push_str(text)?;
-        }
+        push_input(&mut input, line)?;
     }
     Ok(input)
 }
@@ -87,11 +107,14 @@ fn number_behind(turn: &str, mark: &str) -> Result<Option<u64>, Fail> {
     Ok(None)
 }
 
-/// The status that the call is to have.
-fn status_of(turn: &str) -> Result<u8, Fail> {
-    let number = number_behind(turn, "=")?.unwrap_or(0);
+fn status(number: u64) -> Result<u8, Fail> {
     let status = u8::try_from(number).ok().ok_or("no status")?;
     Ok(status)
+}
+
+/// The status that the call is to have.
+fn status_of(turn: &str) -> Result<u8, Fail> {
+    status(number_behind(turn, "=")?.unwrap_or(0))
 }
 
 /// Makes a call of a session: its status, and what it prints.
@@ -163,6 +186,26 @@ pub fn shows_each(rt: &(impl Abort + AllocGlobal), sessions: &str) -> Result<(),
     sessions.next();
     for session in sessions {
         show(rt, session)?;
+    }
+    Ok(())
+}
+
+/// Makes a call on the image of a row, which it leaves as it is. Behind the image, between bars,
+/// are the status and the line that is printed.
+fn show_row(rt: &(impl Abort + AllocGlobal), call: &str, row: &str) -> Result<(), Fail> {
+    let (image, rest) = row.split_once(" | ").ok_or("no image")?;
+    let (code, line) = rest.split_once(" | ").ok_or("no status")?;
+    let image = image_bytes(rt.alloc(), image)?;
+    let text = format!(in rt.alloc(); "{line}\n")?;
+    shows(rt, &image, call, status(number(code)?)?, &text)
+}
+
+/// Makes the call on the image of each row. A line that begins with `#` is a comment.
+pub fn shows_rows(rt: &(impl Abort + AllocGlobal), call: &str, rows: &str) -> Result<(), Fail> {
+    for row in rows.trim().split('\n') {
+        if !row.starts_with('#') {
+            show_row(rt, call, row)?;
+        }
     }
     Ok(())
 }

@@ -1,9 +1,8 @@
 //! What is told of images: the report, what a class gives, and why there is none.
 use crate::harness::{runs, shows, store};
 use crate::images::image_bytes;
-use crate::session::{play, shows_each};
+use crate::session::{play, shows_each, shows_rows};
 use std::alloc::{AllocError, Global};
-use std::process::Abort;
 use std::test::Fail;
 
 const MADE: &str = "
@@ -20,11 +19,6 @@ $ format h 004
 $ show h
 > heap 4 clean
 ~ 270912
-$ format h 256
-> formatted 256 bytes 16802112
-$ show h
-> heap 256 clean
-~ 16802112
 ";
 
 #[test]
@@ -32,49 +26,21 @@ fn an_image_is_made_and_shown(rt: HostRuntime) -> Result<(), Fail> {
     play(&rt, &mut store(rt.alloc()), MADE)
 }
 
-/// An image of one superblock with these words, cut or filled up to a length, the status, and what
-/// is told of it.
+/// An image of one superblock with these words, of a length, the status, and what is told of it.
 const LENGTHS: &str = "
-state 1, used 0 | 0 | 7 | bad header short
-state 1, used 0 | 8511 | 7 | bad header short
-state 1, used 0 | 8512 | 7 | bad header length
-state 1, used 0 | 74111 | 7 | bad header length
-state 1, used 0 | 74120 | 7 | bad header length
-state 1, used 0 | 16802200 | 7 | bad header length
-state 0, used 2 | 74112 | 7 | bad header state
-state 1, used 2 | 74112 | 7 | bad header used
-state 2, used 1 | 74112 | 0 | heap 1 dirty
+1: state 1, used 0; 0 | 7 | bad header short
+1: state 1, used 0; 8511 | 7 | bad header short
+1: state 1, used 0; 8512 | 7 | bad header length
+1: state 1, used 0; 74111 | 7 | bad header length
+1: state 1, used 0; 74120 | 7 | bad header length
+1: state 0, used 2; 74112 | 7 | bad header state
+1: state 1, used 2; 74112 | 7 | bad header used
+1: state 2, used 1; 74112 | 0 | heap 1 dirty
 ";
-
-/// The image of these words, cut or filled up to this length.
-fn cut_image(alloc: Global, changes: &str, length: &str) -> Result<Vec<u8>, Fail> {
-    let mut image = image_bytes(alloc, &format!(in alloc; "1: {changes}")?)?;
-    image.resize(length.parse::<usize>().ok().ok_or("no length")?, 0)?;
-    Ok(image)
-}
-
-fn show_cut(rt: &(impl Abort + AllocGlobal), row: &str) -> Result<(), Fail> {
-    let mut columns = row.split(" | ");
-    let changes = columns.next().unwrap_or("");
-    let image = cut_image(rt.alloc(), changes, columns.next().unwrap_or(""))?;
-    let status = columns
-        .next()
-        .unwrap_or("")
-        .parse::<u8>()
-        .ok()
-        .ok_or("no status")?;
-    let text = format!(in rt.alloc(); "{}\n", columns.next().unwrap_or(""))?;
-    shows(rt, &image, "show h", status, &text)
-}
 
 #[test]
 fn a_malformed_image_is_told_by_its_first_cause(rt: HostRuntime) -> Result<(), Fail> {
-    for row in LENGTHS.split('\n') {
-        if !row.is_empty() {
-            show_cut(&rt, row)?;
-        }
-    }
-    Ok(())
+    shows_rows(&rt, "show h", LENGTHS)
 }
 
 /// A table in block 0 of superblock 0, to which root 0 points, and two ways to a node behind it.
@@ -144,49 +110,36 @@ fn a_pointer_outside_is_told_with_its_word(rt: HostRuntime) -> Result<(), Fail> 
     shows_each(&rt, OUTSIDE)
 }
 
-/// Words of the image `table` that make shards bad, of which the lowest is told and its first bad
-/// link. Superblock 1 has nodes of four words, of which the first two begin at 9,272 and 9,276.
+/// Words that make shards bad, of which the lowest is told and its first bad link. Superblock 1 has
+/// nodes of four words, of which the first two begin at 9,272 and 9,276.
 const BAD_SHARDS: &str = "
 # A root leads to a node, or to a table that another root leads to.
-root:0 @9272, 1080 0 | bad shard 0 at 40
-root:1 @1080, 9273 0 | bad shard 0 at 40
-root:8 @1080, 9273 0 | bad shard 0 at 40
-root:7 @9276, 9273 0 | bad shard 7 at 47
+table: root:0 @9272, 1080 0 | 9 | bad shard 0 at 40
+table: root:1 @1080, 9273 0 | 9 | bad shard 0 at 40
+table: root:8 @1080, 9273 0 | 9 | bad shard 0 at 40
+table: root:7 @9276, 9273 0 | 9 | bad shard 7 at 47
 # A bucket leads to the table, or to a node that another root reaches.
-1080 @1080, 9273 0 | bad shard 0 at 1080
-root:8 @9272, 9273 0 | bad shard 0 at 1080
-root:1 @1208, 1208 @9272 | bad shard 0 at 1080
+table: 1080 @1080, 9273 0 | 9 | bad shard 0 at 1080
+table: root:8 @9272, 9273 0 | 9 | bad shard 0 at 1080
+table: root:1 @1208, 1208 @9272 | 9 | bad shard 0 at 1080
 # The key is of another bucket or shard, or the value has no room.
-9273 8, 9274 0 | bad shard 0 at 1080
-9273 1, 9274 0 | bad shard 0 at 1080
-9274 9, 9275 0 | bad shard 0 at 1080
-9274 131073, 9275 0 | bad shard 0 at 1080
-9274 18446744073709551615, 9275 0 | bad shard 0 at 1080
+table: 9273 8, 9274 0 | 9 | bad shard 0 at 1080
+table: 9273 1, 9274 0 | 9 | bad shard 0 at 1080
+table: 9274 9, 9275 0 | 9 | bad shard 0 at 1080
+table: 9274 131073, 9275 0 | 9 | bad shard 0 at 1080
+table: 9274 18446744073709551615, 9275 0 | 9 | bad shard 0 at 1080
 # A node leads to itself, to a node with its key, or to one of another bucket.
-9272 @9272, 9273 0 | bad shard 0 at 9272
-9272 @9276, 9277 0 | bad shard 0 at 9272
-9272 @9276, 9277 8 | bad shard 0 at 9272
+table: 9272 @9272, 9273 0 | 9 | bad shard 0 at 9272
+table: 9272 @9276, 9277 0 | 9 | bad shard 0 at 9272
+table: 9272 @9276, 9277 8 | 9 | bad shard 0 at 9272
 # A later bucket leads to a node of the first, or to one that is not its own.
-1081 @9272, 9273 0 | bad shard 0 at 1081
-1207 @9276, 9277 1024 | bad shard 0 at 1207
+table: 1081 @9272, 9273 0 | 9 | bad shard 0 at 1081
+table: 1207 @9276, 9277 1024 | 9 | bad shard 0 at 1207
 ";
 
 #[test]
 fn the_lowest_bad_shard_is_told_with_its_first_bad_link(rt: HostRuntime) -> Result<(), Fail> {
-    let alloc = rt.alloc();
-    for row in BAD_SHARDS.split('\n') {
-        if let Some((changes, text)) = row.split_once(" | ") {
-            let image = image_bytes(alloc, &format!(in alloc; "table: {changes}")?)?;
-            shows(
-                &rt,
-                &image,
-                "show h --map",
-                9,
-                &format!(in alloc; "{text}\n")?,
-            )?;
-        }
-    }
-    Ok(())
+    shows_rows(&rt, "show h --map", BAD_SHARDS)
 }
 
 const KEYS: &str = "
@@ -331,21 +284,4 @@ $ drain h 12
 #[test]
 fn free_superblocks_are_cut_for_any_class(rt: HostRuntime) -> Result<(), Fail> {
     shows_each(&rt, GIVEN)
-}
-
-// Each block of a class of the largest heap.
-#[test]
-fn the_largest_heap_is_drained(rt: HostRuntime) -> Result<(), Fail> {
-    let alloc = rt.alloc();
-    let mut images = store(alloc);
-    runs(
-        &rt,
-        &mut images,
-        "format h 256",
-        b"",
-        0,
-        "formatted 256 bytes 16802112\n",
-    )?;
-    let text = drained_text(alloc, 10, 512, 24_896, 32_768)?;
-    runs(&rt, &mut images, "drain h 10", b"", 0, &text)
 }

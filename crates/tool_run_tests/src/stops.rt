@@ -22,25 +22,32 @@ fn stopped_run<C: Chances>(
     Ok((printed, images))
 }
 
-/// What a run of one put over an older value prints, stopped in it or behind it.
-fn told_of_put(
-    alloc: Global,
-    reply: &str,
-    run: &str,
-    heap: &str,
-    value: &str,
-) -> Result<String, AllocError> {
-    format!(in alloc; "{reply}\nrun {run}\nheap 4 {heap}\nkey 0 {value}\nheld 32 1\nheld 1024 1\n")
-}
+/// What is told of a put that replaces a value, stopped before the step at which it does so.
+const OLD: &str = "unanswered
+run stopped
+heap 2 dirty
+key 0 aa
+held 32 1
+held 1024 1
+";
 
-/// What is told of a put that replaces a value: it stopped before its step, or behind it, or it is
-/// closed.
-#[derive(Drop)]
-struct Told {
-    old: String,
-    new: String,
-    closed: String,
-}
+/// The same, stopped behind that step.
+const NEW: &str = "unanswered
+run stopped
+heap 2 dirty
+key 0 bb
+held 32 1
+held 1024 1
+";
+
+/// The same, not stopped.
+const CLOSED: &str = "ok
+run closed
+heap 2 clean
+key 0 bb
+held 32 1
+held 1024 1
+";
 
 #[derive(Clone, Copy, PartialEq, Eq)]
 enum Seen {
@@ -49,25 +56,16 @@ enum Seen {
     Closed,
 }
 
-impl Told {
-    fn new(alloc: Global) -> Result<Told, AllocError> {
-        Ok(Told {
-            old: told_of_put(alloc, "unanswered", "stopped", "dirty", "aa")?,
-            new: told_of_put(alloc, "unanswered", "stopped", "dirty", "bb")?,
-            closed: told_of_put(alloc, "ok", "closed", "clean", "bb")?,
-        })
-    }
-
-    fn seen(&self, printed: &[u8]) -> Option<Seen> {
-        if printed == self.old.as_bytes() {
-            Some(Seen::Old)
-        } else if printed == self.new.as_bytes() {
-            Some(Seen::New)
-        } else if printed == self.closed.as_bytes() {
-            Some(Seen::Closed)
-        } else {
-            None
-        }
+/// Which of the three is printed.
+fn seen_in(printed: &[u8]) -> Result<Seen, Fail> {
+    if printed == OLD.as_bytes() {
+        Ok(Seen::Old)
+    } else if printed == NEW.as_bytes() {
+        Ok(Seen::New)
+    } else if printed == CLOSED.as_bytes() {
+        Ok(Seen::Closed)
+    } else {
+        Err("another text is printed".into())
     }
 }
 
@@ -75,21 +73,14 @@ impl Told {
 fn stop_put<C: Chances>(
     rt: &(impl Abort + AllocGlobal),
     image: &[u8],
-    told: &Told,
     budget: u64,
     chances: &mut C,
 ) -> Result<Seen, Fail> {
     let (printed, mut images) = stopped_run(rt.alloc(), image, "put 0 bb", budget, chances)?;
-    let seen = told.seen(&printed).ok_or("another text is printed")?;
+    let seen = seen_in(&printed)?;
     if seen != Seen::Closed {
-        runs(
-            rt,
-            &mut images,
-            "run h --workers 1",
-            b"put 0 bb",
-            0,
-            &told.closed,
-        )?;
+        let trace = b"put 0 bb".as_slice();
+        runs(rt, &mut images, "run h --workers 1", trace, 0, CLOSED)?;
     }
     Ok(seen)
 }
@@ -100,11 +91,10 @@ fn replaces_at_one_step<C: Chances>(
     rt: &(impl Abort + AllocGlobal),
     chances: &mut C,
 ) -> Result<(), Fail> {
-    let image = image_after(rt.alloc(), "4", "put 0 aa")?;
-    let told = Told::new(rt.alloc())?;
+    let image = image_after(rt.alloc(), "2", "put 0 aa")?;
     let mut before = Seen::Old;
     for budget in 0..10_000 {
-        let seen = stop_put(rt, &image, &told, budget, chances)?;
+        let seen = stop_put(rt, &image, budget, chances)?;
         if seen == Seen::Closed {
             must_hold(
                 rt,
@@ -143,7 +133,7 @@ fn answered(text: &[u8]) -> usize {
     count
 }
 
-const REPORT: &[u8] = b"heap 8 clean\nkey 0 cc\nheld 32 1\nheld 1024 1\n";
+const REPORT: &[u8] = b"heap 2 clean\nkey 0 cc\nheld 32 1\nheld 1024 1\n";
 
 const REQUESTS: &str = "put 8 bb
 put 0 cc
@@ -177,7 +167,7 @@ fn go_on(rt: &(impl Abort + AllocGlobal), image: &[u8], budget: u64) -> Result<b
 
 #[test]
 fn requests_left_unanswered_are_run_on_what_a_stop_left(rt: HostRuntime) -> Result<(), Fail> {
-    let image = image_after(rt.alloc(), "8", "put 0 aa")?;
+    let image = image_after(rt.alloc(), "2", "put 0 aa")?;
     for budget in 0..10_000 {
         if go_on(&rt, &image, budget)? {
             return Ok(());
@@ -242,7 +232,7 @@ fn told_gate(rt: &(impl Abort + AllocGlobal), image: &[u8], line: &str) -> Resul
 
 #[test]
 fn the_gate_is_told_of_each_request_in_order(rt: HostRuntime) -> Result<(), Fail> {
-    let image = image_after(rt.alloc(), "4", "")?;
+    let image = image_after(rt.alloc(), "2", "")?;
     let all = told_gate(&rt, &image, "run h --workers 1")?;
     let first = told_gate(&rt, &image, "run h --workers 1 --stop 0")?;
     assert!(rt; all == 10 && first == 2);

@@ -1,0 +1,64 @@
+//! The largest image, of 256 superblocks, made, shown and drained; and one that is longer.
+use crate::calls::{must_hold, runs, store_with};
+use image_text::image_of;
+use line_memory::ConstantChance;
+use region_header::words_to_bytes;
+use std::alloc::{AllocError, Global};
+use std::process::Abort;
+use std::test::Fail;
+use tool_ports::MapStore;
+
+/// Makes a call without input, which is to end with this status and to print this text.
+fn must_tell(
+    rt: &(impl Abort + AllocGlobal),
+    images: &mut MapStore,
+    line: &str,
+    status: u8,
+    text: &str,
+) -> Result<(), Fail> {
+    let none = Vec::new(rt.alloc());
+    runs(rt, images, &mut ConstantChance(0), line, none, status, text)
+}
+
+/// What is told of class 10 where all superblocks are fresh: each of its blocks of 512 bytes.
+fn all_blocks(alloc: Global) -> Result<String, AllocError> {
+    let mut text = String::from_str(alloc, "class 10 size 512 blocks 32768\n")?;
+    for block in 0..32_768u64 {
+        writeln!(text, "{}", 24_896 + 512 * block)?;
+    }
+    Ok(text)
+}
+
+#[test]
+fn the_largest_heap_is_made_shown_and_drained(rt: HostRuntime) -> Result<(), Fail> {
+    let mut images = store_with(rt.alloc(), b"")?;
+    let made = "formatted 256 bytes 16802112\n";
+    must_tell(&rt, &mut images, "format h 256", 0, made)?;
+    must_tell(&rt, &mut images, "show h", 0, "heap 256 clean\n")?;
+    let length = images.image("h").unwrap_or(&[]).len();
+    must_hold(&rt, length == 16_802_112, "its length");
+    let blocks = all_blocks(rt.alloc())?;
+    must_tell(&rt, &mut images, "drain h 10", 0, &blocks)
+}
+
+/// An image of one superblock, filled up to more bytes than the largest one has.
+#[tactic(auto, unfolding(heap_model::specs::Geometry::largest_capacity))]
+fn longer_image(alloc: Global) -> Result<Vec<u8>, Fail> {
+    let words = image_of(alloc, 1, "state 1, used 0")?;
+    let mut bytes = words_to_bytes(alloc, &words)?.into_vec();
+    bytes.resize(16_802_200, 0)?;
+    Ok(bytes)
+}
+
+#[test]
+fn a_longer_image_than_the_largest_is_refused(rt: HostRuntime) -> Result<(), Fail> {
+    let image = longer_image(rt.alloc())?;
+    let mut images = store_with(rt.alloc(), &image)?;
+    must_tell(&rt, &mut images, "show h", 7, "bad header length\n")?;
+    must_hold(
+        &rt,
+        images.image("h") == Some(image.as_slice()),
+        "as before",
+    );
+    Ok(())
+}
