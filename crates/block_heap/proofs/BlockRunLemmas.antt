@@ -7,7 +7,7 @@ use Rattle.heap_model.specs.Geometry.{lists, head_word, anchor_word, link_word, 
 use Rattle.heap_model.specs.Sizes.{IsClass, words_of_class, blocks_of}
 use Rattle.heap_model.specs.Words.{head_first, anchor_state, anchor_first, anchor_count, empty_state, partial_state}
 use Rattle.heap_model.specs.Chains.{Follows, Walks}
-use Rattle.heap_model.proofs.ChainLemmas.{anchor_parts}
+use Rattle.heap_model.proofs.WordLemmas.{anchor_parts}
 use Rattle.heap_model.proofs.MemberLemmas.{in_head}
 use Rattle.heap_model.proofs.SizeLemmas.{few_blocks}
 use Rattle.heap_shape.specs.Shape.{Shape, with_at}
