@@ -5,8 +5,8 @@ ghost use Rattle.anchor_word.specs.Anchor.{word_of};
 
 use crate::anchor::{EMPTY, FULL};
 
-/// The words of `FULL` and `EMPTY`: the second is that of a superblock that was never taken, or that
-/// recovery found free.
+/// The words of `FULL` and `EMPTY`: the second is that of a superblock that was never taken, or
+/// that recovery found free.
 pub fn constants_agree()
     ensures full { word_of FULL ≡ full_anchor }
     ensures empty { word_of EMPTY ≡ 0 }

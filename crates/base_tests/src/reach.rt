@@ -92,8 +92,8 @@ fn traced(alloc: Global, roots: &str, words: &str) -> Result<Result<Marks, Trace
     Ok(trace(alloc, &image, &kinds, &Tables))
 }
 
-/// The kinds that the block has been reached as. Where it has as none, `~` if one that begins at the
-/// same word has, and `-` else.
+/// The kinds that the block has been reached as. Where it has as none, `~` if one that begins at
+/// the same word has, and `-` else.
 fn kinds_of(alloc: Global, marks: &Marks, block: Block) -> Result<String, AllocError> {
     let mut kinds = String::new(alloc);
     for kind in [0, 1, 2, 3, u32::MAX] {

@@ -65,8 +65,8 @@ pub fn freed_blocks_serve_first()
 {}
 
 /// What is left of a heap for one thread is one of its images: each mixture of its two values of
-/// each word, each image that a crash leaves, and each that a close leaves. A crash leaves own words
-/// as they are durable, a close as loads see them; and each mixture names each held block.
+/// each word, each image that a crash leaves, and each that a close leaves. A crash leaves own
+/// words as they are durable, a close as loads see them; and each mixture names each held block.
 pub fn what_is_left_is_an_image()
     ensures mixed { (s : SeqState) (image : Image)
         → Mixes (slice_index s.parts.words.volatile) (slice_index s.parts.words.durable) image

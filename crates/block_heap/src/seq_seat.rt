@@ -141,7 +141,8 @@ impl<C: Chance> SeqHeap<C> {
 
     /// A block for the request, if there is room. A refusal is not counted.
     pub(crate) fn request(&mut self, asked: Asked) -> Result<Option<Block>, Stopped>
-        ensures ok { IfOk result (λ answer. Answers asked.bytes answer self.old.parts self.new.parts) }
+        ensures ok { IfOk result (λ answer.
+            Answers asked.bytes answer self.old.parts self.new.parts) }
         ensures drains { (class : ℕ) → IsClass class → asked.bytes ≡ size_of class
             → IfOk result (λ answer. DrainsAs class answer self.old.parts self.new.parts) }
         ensures order { (class : ℕ) → IsLeastClassFor asked.bytes class

@@ -130,8 +130,8 @@ pub fn a_crash_leaves_a_good_header()
 {}
 
 /// Whatever a crash leaves of the same durable words, it is laid out the same, it reaches the same
-/// blocks, as the same kinds, and the same words of it point outside, with the same values: no trace
-/// looks at a word that a crash leaves at random.
+/// blocks, as the same kinds, and the same words of it point outside, with the same values: no
+/// trace looks at a word that a crash leaves at random.
 pub fn whatever_a_crash_leaves_reaches_the_same()
     ensures layout { (durable image other : Image) → IsCrashImage durable image
         → IsCrashImage durable other → layout_of other ≡ layout_of image }

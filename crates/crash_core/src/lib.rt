@@ -1,4 +1,5 @@
-//! The core of the shared heap: every interleaving of the atomic steps of its seats keeps it sound.
+//! The core of the shared heap, to run: opened over a recovered heap for several seats, it takes
+//! their atomic steps in any order, and makes the image that a crash leaves.
 #![tactic(auto)]
 
 mod anchors;

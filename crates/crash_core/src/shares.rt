@@ -48,8 +48,8 @@ impl Share {
         }
     }
 
-    /// Whether it is a claim of a superblock whose blocks are not being made: such a one may go to a
-    /// list.
+    /// Whether it is a claim of a superblock whose blocks are not being made: such a one may go to
+    /// a list.
     pub(crate) fn is_freely_claimed(self) -> bool
         ensures { one_if result ≡ raw_in self + split_in self + classed_in self }
     {

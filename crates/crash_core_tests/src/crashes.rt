@@ -15,9 +15,9 @@ use std::process::Abort;
 use std::test::Fail;
 use super_block::Block;
 
-/// Two seats over two superblocks, of which superblock 0 is free: seat 0 takes superblock 1, holds it
-/// as a large block and splits it; seat 1 makes four blocks of superblock 0, holds them, and gives
-/// one back, which seat 0 gets. All kinds of events and changes are there.
+/// Two seats over two superblocks, of which superblock 0 is free: seat 0 takes superblock 1, holds
+/// it as a large block and splits it; seat 1 makes four blocks of superblock 0, holds them, and
+/// gives one back, which seat 0 gets. All kinds of events and changes are there.
 const ALL_KINDS: &str = "0 tick, 0 look-used, 0 take 1, 0 keep, 0 store info:1 511, \
     0 settle info:1, 0 large 1 1, 0 split 9272, 1 head 0, 1 link, 1 pop, 1 store info:0 20, \
     1 settle info:0, 1 store anchor:0 2, 1 store 1080 2872, 1 store 2872 4664, 1 store 4664 6456, \

@@ -1,4 +1,5 @@
-//! What follows from the definitions, as functions with nothing to run: a caller cites their clauses.
+//! What follows from the definitions, as functions with nothing to run: a caller cites their
+//! clauses.
 
 ghost use Rattle.std.specs.Prelude.{◌≡◌, ℕ};
 ghost use Rattle.heap_model.specs.Image.{Image};

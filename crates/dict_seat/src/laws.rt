@@ -16,8 +16,8 @@ ghost use Rattle.dict_seat.specs.Shards.{HasShards};
 
 use heap_seat::HeapSeat;
 
-/// What every mixture of a seat's words gives, each image that may be left gives: each of them names
-/// the held blocks at their places.
+/// What every mixture of a seat's words gives, each image that may be left gives: each of them
+/// names the held blocks at their places.
 pub fn images_have_the_map<H: HeapSeat>(_seat: &H)
     ensures names { (image : Image) → H.images _seat.now image
         → NamesAll image (H.view _seat.now).held }

@@ -41,8 +41,8 @@ impl Shard {
         Shard { number }
     }
 
-    /// The length of the key's value, or `None` where the key is missing. The output begins with the
-    /// value, as far as that fits; what lies behind it in the output stays.
+    /// The length of the key's value, or `None` where the key is missing. The output begins with
+    /// the value, as far as that fits; what lies behind it in the output stays.
     ///
     /// After `Stopped` some of the value may stand in the output.
     pub fn get<H: HeapSeat>(
@@ -104,8 +104,8 @@ impl Shard {
     /// Sets a key. Its node is the first of its bucket, or takes the place of the old one, which is
     /// freed.
     ///
-    /// After `Stopped` a crash leaves the map as before or with the key set. `Full` leaves the map as
-    /// before; a table may have been made.
+    /// After `Stopped` a crash leaves the map as before or with the key set. `Full` leaves the map
+    /// as before; a table may have been made.
     pub fn put<H: HeapSeat>(
         &mut self,
         seat: &mut H,

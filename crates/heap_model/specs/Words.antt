@@ -1,9 +1,17 @@
 -- What the packed words of an image stand for: the info word, the anchor and the list head.
-use Rattle.std.specs.Prelude.{ℕ, ◌+◌, ◌*◌, ◌/◌, ◌%◌}
+use Rattle.std.specs.Prelude.{ℕ, ◌+◌, ◌*◌, ◌/◌, ◌%◌, Bool, ◌&&◌, ◌==◌, nat_le}
 
 -- the info word of the first superblock of a large block that takes `count` superblocks
 abbrev pub large_info : ℕ → ℕ
 large_info count = 255 + 256 * count
+
+-- how many superblocks that block takes
+abbrev pub large_count : ℕ → ℕ
+large_count info = info / 256
+
+-- whether an info word is one of those
+abbrev pub is_large_info : ℕ → Bool
+is_large_info info = nat_le (large_info 1) info && (info % 256 == large_info 0)
 
 -- the states of an anchor: all blocks of the superblock are free; some are; none is
 abbrev pub empty_state : ℕ

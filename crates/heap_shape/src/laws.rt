@@ -1,4 +1,5 @@
-//! What follows from the definitions, as a function with nothing to run: a caller cites its clauses.
+//! What follows from the definitions, as a function with nothing to run: a caller cites its
+//! clauses.
 
 ghost use Rattle.std.specs.Prelude.{◌≤◌, ◌↔◌, ℕ, List, Contains};
 ghost use Rattle.heap_model.specs.declared.block.Block.{Block};

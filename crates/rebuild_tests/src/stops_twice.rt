@@ -1,6 +1,6 @@
-//! A recovery of an image of one superblock of the last class, in which two blocks are held, stopped
-//! at each of its steps; the recovery of what each stop left, stopped at each of its steps; and the
-//! recovery of what that left.
+//! A recovery of an image of one superblock of the last class, in which two blocks are held,
+//! stopped at each of its steps; the recovery of what each stop left, stopped at each of its steps;
+//! and the recovery of what that left.
 use crate::in_place::in_place;
 use heap_recover_tests::{HELD, WORDS, holds, image, torn};
 use line_memory::ConstantChance;

@@ -1,4 +1,5 @@
-//! The table of persistent roots: the words of an image from which recovery finds what the program holds.
+//! The table of persistent roots: the words of an image from which recovery finds what the program
+//! holds.
 #![tactic(auto)]
 
 mod roots;

@@ -14,7 +14,8 @@ const CLASS_SIZES: [u64; LAST_CLASS as usize + 1] = [
     12288, 14336,
 ];
 
-/// The class that serves a request of so many bytes, or `None` where it takes superblocks of its own.
+/// The class that serves a request of so many bytes, or `None` where it takes superblocks of its
+/// own.
 pub fn class_of(bytes: u64) -> Option<u8>
     ensures none { IsNone result ↔ (largest_small < bytes) }
     ensures some { IfSome result (IsLeastClassFor bytes) }

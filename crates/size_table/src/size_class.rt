@@ -24,8 +24,8 @@ impl SizeClass {
         SizeClass { number }
     }
 
-    /// The class that serves a request of so many bytes, or `None` where it takes superblocks of its
-    /// own.
+    /// The class that serves a request of so many bytes, or `None` where it takes superblocks of
+    /// its own.
     pub fn for_bytes(bytes: u64) -> Option<SizeClass>
         ensures none { IsNone result ↔ (largest_small < bytes) }
         ensures some { IfSome result (λ class. IsLeastClassFor bytes class.number) }

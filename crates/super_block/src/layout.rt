@@ -1,4 +1,5 @@
-//! The layout of an image: the one file where its numbers stand. All are counts or indices of words.
+//! The layout of an image: the one file where its numbers stand. All are counts or indices of
+//! words.
 //!
 //! ```text
 //! word           content                                              after a crash
@@ -97,7 +98,8 @@ pub const LONGEST_IMAGE: u64 = WORD_BYTES
 /// The last class: an info of 1 to `LAST_CLASS` is a class.
 pub const LAST_CLASS: u64 = size_table::LAST_CLASS as u64;
 
-/// The info of a large block's first superblock is `LARGE_INFO` and `LARGE_STEP` for each superblock.
+/// The info of a large block's first superblock is `LARGE_INFO` and `LARGE_STEP` for each
+/// superblock.
 pub const LARGE_INFO: u64 = 255;
 
 /// What each superblock of a large block adds to the info of the first one.

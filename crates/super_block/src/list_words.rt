@@ -83,8 +83,8 @@ impl ListHead {
         ListLink { next: self.first }
     }
 
-    /// The head once its first descriptor, which has this word for a link, is popped. Of the word the
-    /// low 24 bits count, as of a head: no list is so long that a link has more.
+    /// The head once its first descriptor, which has this word for a link, is popped. Of the word
+    /// the low 24 bits count, as of a head: no list is so long that a link has more.
     pub fn popped(self, link: u64) -> ListHead
         requires { self.pops + 1 < 2 ^ 40 }
         ensures first { link_of result.first ≡ head_first link }

@@ -75,7 +75,8 @@ fn good_image<I: ImageStore>(alloc: Global, name: &str, images: &mut I) -> Resul
     Ok(image)
 }
 
-// How many bytes of an image are asked for: one more than the longest has, so that a longer one shows.
+// How many bytes of an image are asked for: one more than the longest has, so that a longer one
+// shows.
 fn most_bytes() -> usize
     ensures { result ≡ get_limit }
 {

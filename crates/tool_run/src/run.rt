@@ -25,14 +25,14 @@ use tool_ports::{Chances, Gate, ImageStore, Sink, Source};
 /// empty image of S superblocks, `show IMAGE` recovers an image and prints a report on it,
 /// `show IMAGE --map` prints a map too, `run IMAGE --workers 1` runs the trace that the source has
 /// left over an image, puts the image that is left and prints the replies and a report, with
-/// `--stop K` and `--seed X` as far as step K, with early write-backs by that seed, and with `--sum`
-/// and `--map` other texts; `rebuild IMAGE [--stop K] [--seed X]` recovers an image in place, puts
-/// the image that is left and prints a report; `replay IMAGE [--seed X]` takes the steps of the
-/// schedule that the source has left over a recovered image, and prints what they answer and a
-/// report on what a crash then leaves; `drain IMAGE CLASS` recovers an image and prints the offsets
-/// of the blocks that the class then gives, and `gen N SEED` prints a trace. Where there is
-/// no result, a line tells why; one that the sink refuses is lost. What a heap writes back early
-/// comes from `chances`, with the seed 0 where none is given.
+/// `--stop K` and `--seed X` as far as step K, with early write-backs by that seed, and with
+/// `--sum` and `--map` other texts; `rebuild IMAGE [--stop K] [--seed X]` recovers an image in
+/// place, puts the image that is left and prints a report; `replay IMAGE [--seed X]` takes the
+/// steps of the schedule that the source has left over a recovered image, and prints what they
+/// answer and a report on what a crash then leaves; `drain IMAGE CLASS` recovers an image and
+/// prints the offsets of the blocks that the class then gives, and `gen N SEED` prints a trace.
+/// Where there is no result, a line tells why; one that the sink refuses is lost. What a heap
+/// writes back early comes from `chances`, with the seed 0 where none is given.
 pub fn run_tool<R, I: ImageStore, T: Source, O: Sink, G: Gate + Sync, C: Chances>(
     rt: &R,
     alloc: Global,

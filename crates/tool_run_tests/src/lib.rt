@@ -1,7 +1,7 @@
 //! Tests of the tool's runs: traces worked off over stores, inputs and outputs in memory, stopped
 //! at each step, and with each call of the outside failing; schedules replayed; and images with
-//! words that no run leaves. The crate is nothing but these, so that a change of the tool's texts or
-//! of its other commands leaves them alone.
+//! words that no run leaves. The crate is nothing but these, so that a change of the tool's texts
+//! or of its other commands leaves them alone.
 #![tactic(auto, unfolding(heap_model::specs::Geometry::largest_capacity))]
 
 #[cfg(test)]

@@ -183,6 +183,12 @@ $ show h
 > key 0 -
 > held 1024 1
 > held large 1 1
+@ 2: used 1, info:0 12, root:0 @1080, root:8 @1080
+$ show h --map
+> heap 2 clean
+> held 1024 1
+> used 1 free 0 fresh 1
+> sb 0 class 12 held 0
 @ 2: used 2, info:0 767, root:8 @1080
 $ show h --map
 > heap 2 clean

@@ -133,8 +133,8 @@ pub fn what_a_run_leaves_is_a_dictionary()
 {}
 
 /// Each image that a heap may leave is a dictionary, of whatever kind the heap is: its shards are
-/// the maps after the answered requests, or, where a request was stopped, it may be the map after that
-/// too; nothing in it is outside, and what belongs to no shard is as it was.
+/// the maps after the answered requests, or, where a request was stopped, it may be the map after
+/// that too; nothing in it is outside, and what belongs to no shard is as it was.
 pub fn any_heap_leaves_a_dictionary<H: HeapSeat>()
     ensures maps { (s : H) (image left : Image) (rs : List (Request × Reply))
         → HasAnswered image rs (H.view s) → H.images s left

@@ -10,7 +10,8 @@ use Rattle.heap_model.specs.Image.{Image}
 use Rattle.heap_model.specs.Sizes.{IsClass}
 use Rattle.super_block.specs.declared.info.Info.TheVariants.{Nothing}
 use Rattle.super_block.specs.Info.{Says}
-use Rattle.trace_text.specs.HeapMap.{is_class, is_large, use_if, use_of, class_use, large_use, inside_use, first_of}
+use Rattle.heap_model.specs.Words.{is_large_info}
+use Rattle.trace_text.specs.HeapMap.{is_class, use_if, use_of, class_use, large_use, inside_use, first_of}
 
 first_holds : (s t : Bool) → (s && t) ≡ true → s ≡ true
 first_holds true t h = refl
@@ -31,8 +32,8 @@ no_class w none = not_true (is_class w) (λ h.
       last = leb-true w 20 (second_holds (nat_le 1 w) (nat_le w 20) h);
     }))
 
-not_large : (w : ℕ) → ((count : ℕ) → 1 ≤ count → w ≡ 255 + 256 * count → ⊥) → is_large w ≡ false
-not_large w none = not_true (is_large w) (λ h.
+not_large : (w : ℕ) → ((count : ℕ) → 1 ≤ count → w ≡ 255 + 256 * count → ⊥) → is_large_info w ≡ false
+not_large w none = not_true (is_large_info w) (λ h.
     let low = leb-true 511 w (first_holds (nat_le 511 w) (nat_eq (w % 256) 255) h) in
     let rest = eqb-true (w % 256) 255 (second_holds (nat_le 511 w) (nat_eq (w % 256) 255) h) in
     none (w / 256) (omega arith) (omega arith))
@@ -60,7 +61,7 @@ use_if-large image held d superblocks some info =
     let other : is_class (image (info_word d)) ≡ false = no_class (image (info_word d)) (λ is. let last = is.last in omega arith) in
     let rest : image (info_word d) % 256 ≡ 255 = omega arith in
     let count : image (info_word d) / 256 ≡ superblocks = omega arith in
-    let test : is_large (image (info_word d)) ≡ true =
+    let test : is_large_info (image (info_word d)) ≡ true =
     both (nat_le 511 (image (info_word d))) (nat_eq (image (info_word d) % 256) 255) (le-leb 511 _ (omega arith)) (eq-eqb _ 255 rest) in
     rw (other, test) (ap large_use count)
 

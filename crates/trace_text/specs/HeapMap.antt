@@ -1,5 +1,5 @@
 -- The map of a heap, as bytes: what each superblock that has been taken is used for.
-use Rattle.std.specs.Prelude.{ℕ, ◌+◌, ◌-◌, ◌/◌, ◌%◌, ◌&&◌, ◌==◌, ◌≤◌, AllPairs, if◌then◌else◌, nat_lt, nat_le, Bool, List, ◌++◌, codes, decimal, length, map, filter, find}
+use Rattle.std.specs.Prelude.{ℕ, ◌+◌, ◌-◌, ◌/◌, ◌&&◌, ◌==◌, ◌≤◌, AllPairs, if◌then◌else◌, nat_lt, nat_le, Bool, List, ◌++◌, codes, decimal, length, map, filter, find}
 use Rattle.std.specs.List.{flat_map, range_with_len, list_any}
 use Rattle.std.specs.Option.{option_map_or}
 use Rattle.heap_model.specs.declared.block.Block.{Block}
@@ -7,7 +7,7 @@ use Rattle.heap_model.specs.Geometry.{info_word, start_word, superblock_words}
 use Rattle.heap_model.specs.Header.{capacity_of, used_of}
 use Rattle.heap_model.specs.Image.{Image}
 use Rattle.heap_model.specs.Sizes.{last_class, words_of_class}
-use Rattle.heap_model.specs.Words.{large_info}
+use Rattle.heap_model.specs.Words.{large_count, is_large_info}
 use Rattle.trace_text.specs.Report.{line_feed}
 use Rattle.trace_text.specs.Ranges.{ranges_of}
 
@@ -39,12 +39,9 @@ superblock_of capacity b = (b.first_word - start_word capacity 0) / superblock_w
 abbrev pub first_of : ℕ → ℕ → List Block → ℕ
 first_of capacity d held = option_map_or (superblock_of capacity) (find (reaches_into capacity d) held) 0
 
--- whether the info word is a class, or that of a large block's first superblock
+-- whether the info word is a class
 abbrev pub is_class : ℕ → Bool
 is_class info = nat_le 1 info && nat_le info last_class
-
-abbrev pub is_large : ℕ → Bool
-is_large info = nat_le (large_info 1) info && (info % 256 == large_info 0)
 
 -- what a superblock that is cut for the class is used for, in words
 abbrev pub class_use : ℕ → ℕ → List Block → ℕ → List ℕ
@@ -63,7 +60,7 @@ abbrev pub use_if : Bool → Image → List Block → ℕ → List ℕ
 use_if is_free image held d =
     if is_free then codes "free"
     else if is_class (image (info_word d)) then class_use (capacity_of image) (image (info_word d)) held d
-    else if is_large (image (info_word d)) then large_use (image (info_word d) / 256)
+    else if is_large_info (image (info_word d)) then large_use (large_count (image (info_word d)))
     else inside_use (first_of (capacity_of image) d held)
 
 -- the same where these are the free ones

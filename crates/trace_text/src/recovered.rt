@@ -12,9 +12,9 @@ use region_header::Bytes;
 use std::alloc::{AllocError, Global};
 use std::collections::BTreeMap;
 
-/// The report on a recovered heap: its capacity and whether it was closed, the keys of the maps with
-/// their values in ascending order, or how many keys and bytes there are where `sum` asks for that,
-/// and how many blocks are held of each class and of each number of superblocks. Without maps
+/// The report on a recovered heap: its capacity and whether it was closed, the keys of the maps
+/// with their values in ascending order, or how many keys and bytes there are where `sum` asks for
+/// that, and how many blocks are held of each class and of each number of superblocks. Without maps
 /// nothing is told of keys.
 pub fn report_text(
     alloc: Global,
