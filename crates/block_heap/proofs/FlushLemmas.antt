@@ -17,7 +17,7 @@ use Rattle.heap_shape.proofs.AccountLemmas.{accounted_kept}
 use Rattle.heap_shape.proofs.BasicLemmas.{with_at_other, first_inside, first_injective, inside_one, cached_of_class, in_class_list, in_full}
 use Rattle.heap_shape.proofs.CountLemmas.{few_given}
 use Rattle.heap_shape.proofs.GiveLemmas.{give, give_full, give_all}
-use Rattle.heap_shape.proofs.HandLemmas.{cached_apart}
+use Rattle.heap_shape.proofs.CacheLemmas.{cached_apart}
 use Rattle.line_memory.specs.View.{View, volatile_at, word_count}
 use Rattle.anchor_word.specs.declared.anchor.Anchor.{Anchor}
 use Rattle.anchor_word.specs.declared.anchor.State.{State}

@@ -12,7 +12,7 @@ use Rattle.heap_shape.specs.Whole.{IsShape}
 use Rattle.heap_shape.specs.Moves.{TakesFrom}
 use Rattle.heap_shape.proofs.AccountLemmas.{use_without}
 use Rattle.heap_shape.proofs.BasicLemmas.{member_place}
-use Rattle.heap_shape.proofs.LargeLemmas.{large_places, drop_large}
+use Rattle.heap_shape.proofs.FreeLargeLemmas.{large_places, drop_large}
 use Rattle.heap_shape.proofs.OwnLemmas.{one_following, large_block}
 use Rattle.line_memory.specs.Marks.{marked_words}
 use Rattle.block_heap.specs.declared.held.HeldBlocks.{HeldBlocks}

@@ -17,7 +17,7 @@ use Rattle.heap_shape.specs.Whole.{layout_at, IsShape}
 use Rattle.heap_shape.specs.Effects.{IsInSuperblock}
 use Rattle.heap_shape.specs.Moves.{TakesFrom, with_cache}
 use Rattle.heap_shape.proofs.AccountLemmas.{accounted_kept, accounted_without}
-use Rattle.heap_shape.proofs.HandLemmas.{take_back}
+use Rattle.heap_shape.proofs.CacheLemmas.{free_small}
 use Rattle.heap_shape.proofs.OwnLemmas.{class_block}
 use Rattle.line_memory.specs.View.{View, volatile_at}
 use Rattle.block_heap.specs.declared.cache.Cache.{Cache}
@@ -159,7 +159,7 @@ module _ (p : Parts) (class : ℕ) (is : IsClass class) (run : IsRunning p) (b :
       freed_shape =
           let below = held_below in
           let long = run.words_open.long in
-          take_back p.capacity class where_is.0 (image_of p) (λ word. volatile_at w word) (held_in p)
+          free_small p.capacity class where_is.0 (image_of p) (λ word. volatile_at w word) (held_in p)
           (held_of h) run.shape b is run.is holds where_is.1 where_is.2 where_is.3 taken_back
           (set_is p.words.volatile w.volatile b.first_word (run.shape.start class) (omega arith)
           (stored.volatile ∙ ap (λ x. set p.words.volatile b.first_word x) first_is))

@@ -10,7 +10,7 @@ pub mod MediumLemmas
 pub mod OpeningLemmas
 pub mod OpenedLemmas
 pub mod PushLemmas
-pub mod SplitLargeLemmas
+pub mod FreeLargePartLemmas
 pub mod FreeLargeLemmas
 pub mod WalkLemmas
 pub mod StableLemmas

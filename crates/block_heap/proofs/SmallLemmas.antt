@@ -1,4 +1,4 @@
--- How the parts of a heap stay right where caches and held blocks change, and what handing out the first block of a cache makes of them.
+-- How the parts of a heap stay right where caches and held blocks change, and what popping the first block of a cache makes of them.
 use Rattle.std.proofs.Common.{◌≡◌, ◌≢◌, ℕ, ◌+◌, ◌-◌, ◌*◌, ◌/◌, ◌%◌, ◌<◌, ◌≤◌, ◌^◌, ◌⊎◌, inl, inr, None, nat_eq, eqb-true, List, [], ◌∷◌, length, get_or, set, Contains, refl, ap, sym, subst, ◌∙◌, arith, get_or-set_same, get_or-set_other, length-set}
 use Rattle.std.proofs.lemmas.Bool.{cases_eq}
 use Rattle.std.proofs.lemmas.List.{get_or_read}
@@ -16,8 +16,8 @@ use Rattle.heap_shape.specs.Whole.{IsShape}
 use Rattle.heap_shape.specs.Effects.{IsInSuperblock}
 use Rattle.heap_shape.specs.Moves.{AddsTo, with_cache}
 use Rattle.heap_shape.proofs.BasicLemmas.{with_at_same, with_at_other, first_inside, cached_of_class}
-use Rattle.heap_shape.proofs.HandLemmas.{hand_out}
-use Rattle.heap_shape.proofs.DrainLemmas.{hand_out_drains}
+use Rattle.heap_shape.proofs.CacheLemmas.{pop_block}
+use Rattle.heap_shape.proofs.DrainLemmas.{pop_block_drains}
 use Rattle.line_memory.specs.View.{View, volatile_at, durable_at, word_count}
 use Rattle.block_heap.specs.declared.cache.Cache.{Cache}
 use Rattle.block_heap.specs.declared.held.HeldBlocks.{HeldBlocks}
@@ -273,7 +273,7 @@ cached_block p class is run first h cached start words =
     ap (λ k. get_or h.words.items k 0) d_is ∙ ap (λ (xs : List ℕ). get_or xs cached.d 0) words ∙ known ∙ ap words_of_class e in
     same_fields (at_mark h first) (record { first_word = first; words = words_of_class class }) refl size
 
--- the first block of the cache was handed out
+-- the first block of the cache was popped
 module _ (p : Parts) (class : ℕ) (is : IsClass class) (run : IsRunning p) (cache : Cache) (cache_is : cache ≡ cache_at p.caches class)
     (some : 1 ≤ (cache_at p.caches class).count)
     (w : View) (next : ℕ) (h : HeldBlocks) (loaded : IsLoaded cache.first next p.words w) (stores : StoresOnly (λ _. ⊥) p.words w)
@@ -312,7 +312,7 @@ module _ (p : Parts) (class : ℕ) (is : IsClass class) (run : IsRunning p) (cac
 
   shape_after : IsShape p.capacity (λ word. volatile_at w word) (held_of h) (with_cache run.shape class next front.behind) × (Contains (held_in p) block → ⊥)
   shape_after =
-      let both = hand_out p.capacity class cache.first (image_of p) (held_in p) (held_of h) run.shape front.behind is run.is front.cached adds_block in (
+      let both = pop_block p.capacity class cache.first (image_of p) (held_in p) (held_of h) run.shape front.behind is run.is front.cached adds_block in (
         subst (λ (xs : List ℕ). IsShape p.capacity (λ word. get_or xs word 0) (held_of h) (with_cache run.shape class next front.behind))
             (sym loaded.volatile)
             (subst (λ x. IsShape p.capacity (image_of p) (held_of h) (with_cache run.shape class x front.behind)) (sym loaded.seen) both.0),
@@ -347,7 +347,7 @@ module _ (p : Parts) (class : ℕ) (is : IsClass class) (run : IsRunning p) (cac
         next = ap (λ (x : Cache). x.first) now ∙ loaded.seen;
         count = omega arith;
         caches = λ c is_c other. other_cache p.caches class popped_cache c other;
-        drains = hand_out_drains p.capacity class cache.first (image_of p) (held_in p) (held_of h) run.shape front.behind is run.is front.cached adds_block;
+        drains = pop_block_drains p.capacity class cache.first (image_of p) (held_in p) (held_of h) run.shape front.behind is run.is front.cached adds_block;
         volatile = loaded.volatile;
         drawn = let more = loaded.runs_within.drew in let few = loaded.runs_within.few in omega arith;
         taken = refl;

@@ -1,4 +1,4 @@
--- What is to be drained stays the same while caches are filled, loses each block that is handed out, and is nothing in the end.
+-- What is to be drained stays the same while caches are filled, loses each block that is popped off a cache, and is nothing in the end.
 use Rattle.std.proofs.Common.{◌≡◌, ◌≢◌, ℕ, zero, suc, ◌+◌, ◌<◌, ◌≤◌, ◌⊎◌, inl, inr, List, [], ◌∷◌, nat_eq, Contains, refl, ap, sym, subst, ◌∙◌, arith}
 use Rattle.std.proofs.lemmas.Bool.{cases_eq, cases_lt, eq-eqb}
 use Rattle.heap_model.specs.declared.block.Block.{Block}
@@ -24,7 +24,7 @@ use Rattle.heap_shape.specs.Draining.{IsInFreeList, HasUse, for_class, for_held,
 use Rattle.heap_shape.proofs.BasicLemmas.{class_part, one_list, first_place, member_place, in_free_list, cached_of_class}
 use Rattle.heap_model.proofs.ListLemmas.{follows_same}
 use Rattle.heap_shape.proofs.CutLemmas.{follows_popped}
-use Rattle.heap_shape.proofs.HandLemmas.{hand_out}
+use Rattle.heap_shape.proofs.CacheLemmas.{pop_block}
 use Rattle.heap_shape.proofs.OwnLemmas.{one_following, none_past}
 use Rattle.heap_shape.proofs.RefillLemmas.{cut_before}
 
@@ -250,15 +250,15 @@ part_in_one capacity class d index e b is of part =
     let ends = part.ends in
     omega arith
 
--- a cached block was handed out
-pub hand_out_drains : (capacity class w : ℕ) (image : Image) (held now : List Block) (s : Shape) (ws : List ℕ) → IsClass class → IsShape capacity image held s → s.cached class ≡ w ∷ ws
+-- a block was popped off its cache
+pub pop_block_drains : (capacity class w : ℕ) (image : Image) (held now : List Block) (s : Shape) (ws : List ℕ) → IsClass class → IsShape capacity image held s → s.cached class ≡ w ∷ ws
     → AddsTo (record { first_word = w; words = words_of_class class }) held now → DrainsOne capacity class image held now (record { first_word = w; words = words_of_class class })
-hand_out_drains capacity class w image held now s ws is shape cached adds = record { was = was; rest = rest; only = only; gone = gone; drainable = drainable; accounted = accounted } where
+pop_block_drains capacity class w image held now s ws is shape cached adds = record { was = was; rest = rest; only = only; gone = gone; drainable = drainable; accounted = accounted } where
   b : Block
   b = record { first_word = w; words = words_of_class class }
 
-  handed : IsShape capacity image now (with_cache s class (image w) ws) × (Contains held b → ⊥)
-  handed = hand_out capacity class w image held now s ws is shape cached adds
+  popped : IsShape capacity image now (with_cache s class (image w) ws) × (Contains held b → ⊥)
+  popped = pop_block capacity class w image held now s ws is shape cached adds
 
   in_cache : Contains (s.cached class) w
   in_cache = subst (λ xs. Contains xs w) (sym cached) (in_head w ws)
@@ -275,7 +275,7 @@ hand_out_drains capacity class w image held now s ws is shape cached adds = reco
 
   was : IsToDrain capacity image held class b
   was = elim (cases_parts capacity held d) as (λ _. IsToDrain capacity image held class b) [
-    | inl some ↦ let of_class = cached_of_class capacity image held s shape class w is in_cache in beside b d index is of_class.taken of_class.info is_of handed.1 (λ free. free.empty some.0 some.1 some.2)
+    | inl some ↦ let of_class = cached_of_class capacity image held s shape class w is in_cache in beside b d index is of_class.taken of_class.info is_of popped.1 (λ free. free.empty some.0 some.1 some.2)
     | inr none ↦ freed b d index is (record { taken = (cached_of_class capacity image held s shape class w is in_cache).taken; empty = none }) is_of
   ]
 
@@ -324,7 +324,7 @@ hand_out_drains capacity class w image held now s ws is shape cached adds = reco
   not_held a holds (beside _ e i is_class taken info of unkept not_free) = unkept holds
   not_held a holds (freed _ e i is_class free of) = free.empty a holds (class_part capacity class e i a is of)
   not_held a holds (fresh _ e i is_class past within of) =
-      let taken = part_taken (layout_at capacity image) a e (handed.0.named a holds) (class_part capacity class e i a is of) in omega arith
+      let taken = part_taken (layout_at capacity image) a e (popped.0.named a holds) (class_part capacity class e i a is of) in omega arith
 
   gone : IsToDrain capacity image now class b → ⊥
   gone = not_held b adds.has

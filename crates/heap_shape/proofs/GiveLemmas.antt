@@ -24,7 +24,7 @@ use Rattle.heap_shape.proofs.BasicLemmas.{with_at_same, with_at_other, walks_sam
 use Rattle.heap_model.proofs.ListLemmas.{follows_same, times_append, times_of, walk_behind}
 use Rattle.heap_shape.proofs.FrameLemmas.{SameThere, frame, owner_same}
 use Rattle.heap_shape.proofs.CountLemmas.{few_given, all_given}
-use Rattle.heap_shape.proofs.HandLemmas.{at_or_other, at_or_other_two, free_once}
+use Rattle.heap_shape.proofs.CacheLemmas.{at_or_other, at_or_other_two, free_once}
 use Rattle.heap_model.proofs.WordLemmas.{anchor_parts}
 
 -- a walk along the given blocks and then others begins at a given block

@@ -6,9 +6,9 @@ pub mod RecycleLemmas
 pub mod CutLemmas
 pub mod JoinLemmas
 pub mod RefillLemmas
-pub mod HandLemmas
+pub mod CacheLemmas
 pub mod GiveLemmas
-pub mod LargeLemmas
+pub mod FreeLargeLemmas
 pub mod OwnLemmas
 pub mod DrainLemmas
 pub mod AccountLemmas

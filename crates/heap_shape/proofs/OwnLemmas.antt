@@ -21,7 +21,7 @@ use Rattle.heap_shape.specs.Effects.{IsSet, IsInSuperblock}
 use Rattle.heap_shape.proofs.BasicLemmas.{walks_same, first_inside, member_place}
 use Rattle.heap_model.proofs.ListLemmas.{follows_same, times_of}
 use Rattle.heap_shape.proofs.FrameLemmas.{SameThere, frame}
-use Rattle.heap_shape.proofs.HandLemmas.{cached_apart}
+use Rattle.heap_shape.proofs.CacheLemmas.{cached_apart}
 
 -- no word of a held block is the first one of a block in the chain of a superblock
 chained_apart : (capacity class d w : ℕ) (image : Image) (held : List Block) (s : Shape) (b : Block) → IsShape capacity image held s → IsOfClass capacity image s held class d

@@ -1,7 +1,7 @@
 use Rattle.block_heap.specs.Parts.{parts_of}
 use Rattle.block_heap.specs.MediumView.{medium_view}
 use Rattle.std.proofs.lemmas.Result.{on_ok_weaker}
-use Rattle.block_heap.proofs.SplitLargeLemmas.{anchor_leaves_held, split_leaves_held, split_running, split_others, split_gives, split_frees}
+use Rattle.block_heap.proofs.FreeLargePartLemmas.{anchor_leaves_held, split_leaves_held, split_running, split_others, split_gives, split_frees}
 use Rattle.block_heap.proofs.arena.Arena.split.Goals as goal
 
 pub returns-in_err-store-clause-leaves_held : goal.returns-in_err-store-clause-leaves_held

@@ -1,4 +1,4 @@
--- A block leaves the cache and is held, or is freed into the cache.
+-- A block is popped off the cache of its class and is held, or is freed into the cache.
 use Rattle.std.proofs.Common.{◌≡◌, ◌≢◌, ℕ, zero, suc, ◌+◌, ◌<◌, ◌≤◌, ◌⊎◌, inl, inr, List, ◌∷◌, length, Contains, refl, ap, sym, subst, ◌∙◌, arith}
 use Rattle.std.proofs.lemmas.Bool.{cases_eq}
 use Rattle.heap_model.specs.declared.block.Block.{Block}
@@ -145,11 +145,11 @@ cached_apart capacity image held s class w b shape is cached holds is_in =
       | inr apart ↦ elim apart as (λ _. ⊥) [ inl before ↦ omega arith | inr behind ↦ omega arith ]
     ]
 
--- a block leaves the cache
+-- a block is popped off the cache
 module _ (capacity class w : ℕ) (image : Image) (held now : List Block) (s : Shape) (ws : List ℕ) (is : IsClass class) (shape : IsShape capacity image held s) (cached : s.cached class ≡ w ∷ ws)
     (adds : AddsTo (record { first_word = w; words = words_of_class class }) held now) where
-  abbrev handed : Block
-  handed = record { first_word = w; words = words_of_class class }
+  abbrev popped : Block
+  popped = record { first_word = w; words = words_of_class class }
 
   abbrev left : Shape
   left = with_cache s class (image w) ws
@@ -163,10 +163,10 @@ module _ (capacity class w : ℕ) (image : Image) (held now : List Block) (s : S
   of_class : IsOfClass capacity image s held class standing.superblock
   of_class = cached_of_class capacity image held s shape class w is in_cache
 
-  not_held : Contains held handed → ⊥
-  not_held holds = let two = two_words class is in cached_apart capacity image held s class w handed shape is in_cache holds (record { from = omega arith; until = omega arith })
+  not_held : Contains held popped → ⊥
+  not_held holds = let two = two_words class is in cached_apart capacity image held s class w popped shape is in_cache holds (record { from = omega arith; until = omega arith })
 
-  is_of : IsBlockOfClass capacity class standing.superblock standing.is_first.index handed
+  is_of : IsBlockOfClass capacity class standing.superblock standing.is_first.index popped
   is_of = record { below = standing.is_first.below; at = standing.is_first.at; size = refl }
 
   -- other words are held as before
@@ -207,7 +207,7 @@ module _ (capacity class w : ℕ) (image : Image) (held now : List Block) (s : S
       let once = free_once s held class standing.superblock w owner in
       let all : times w (s.cached class) ≡ 1 + times w ws = ap (times w) cached ∙ times_here w ws in
       let after : times w (with_at s.cached class ws class) ≡ times w ws = ap (times w) (with_at_same s.cached class ws) in
-      a_held (omega arith) (record { block = handed; holds = adds.has; at = refl })
+      a_held (omega arith) (record { block = popped; holds = adds.has; at = refl })
 
   owner_of : (word : ℕ) → HasOneOwner s held class standing.superblock word → HasOneOwner left now class standing.superblock word
   owner_of word owner = elim (cases_eq word w) [
@@ -229,12 +229,12 @@ module _ (capacity class w : ℕ) (image : Image) (held now : List Block) (s : S
     past : (d : ℕ) (p : Place) → p ≡ is_new → IsAs capacity image s held d p → image used_word ≤ d
     past d p fresh as_place = (subst (λ x. IsAs capacity image s held d x) fresh as_place).past
 
-  handed_shape : IsShape capacity image now left
-  handed_shape = record {
+  popped_shape : IsShape capacity image now left
+  popped_shape = record {
     small = shape.small;
     used = shape.used;
     named = λ b p. elim (adds.only b p) [
-      | inl same ↦ subst (λ x. IsBlock (layout_at capacity image) x) (sym same) (class_block (layout_at capacity image) class standing.superblock standing.is_first.index handed of_class.taken of_class.info is is_of)
+      | inl same ↦ subst (λ x. IsBlock (layout_at capacity image) x) (sym same) (class_block (layout_at capacity image) class standing.superblock standing.is_first.index popped of_class.taken of_class.info is is_of)
       | inr before ↦ shape.named b before
     ];
     follows = shape.follows;
@@ -249,12 +249,12 @@ module _ (capacity class w : ℕ) (image : Image) (held now : List Block) (s : S
         (subst (λ xs. Walks image (s.start class) xs) cached (shape.walks class is)).1 (λ _. shape.walks c is_c);
   }
 
--- the first block of the cache is held from now on: it was not
-pub hand_out : (capacity class w : ℕ) (image : Image) (held now : List Block) (s : Shape) (ws : List ℕ) → IsClass class → IsShape capacity image held s → s.cached class ≡ w ∷ ws
+-- the first block of the cache is popped, and held from now on: it was not
+pub pop_block : (capacity class w : ℕ) (image : Image) (held now : List Block) (s : Shape) (ws : List ℕ) → IsClass class → IsShape capacity image held s → s.cached class ≡ w ∷ ws
     → AddsTo (record { first_word = w; words = words_of_class class }) held now
     → IsShape capacity image now (with_cache s class (image w) ws) × (Contains held (record { first_word = w; words = words_of_class class }) → ⊥)
-hand_out capacity class w image held now s ws is shape cached adds =
-    (handed_shape capacity class w image held now s ws is shape cached adds, not_held capacity class w image held now s ws is shape cached adds)
+pop_block capacity class w image held now s ws is shape cached adds =
+    (popped_shape capacity class w image held now s ws is shape cached adds, not_held capacity class w image held now s ws is shape cached adds)
 
 -- a held block of a class is freed into the cache
 module _ (capacity class d : ℕ) (image new : Image) (held now : List Block) (s : Shape) (b : Block) (is : IsClass class) (shape : IsShape capacity image held s) (holds : Contains held b) (within : d < capacity)
@@ -423,7 +423,7 @@ module _ (capacity class d : ℕ) (image new : Image) (held now : List Block) (s
     walk_still c is_c = walks_same image new (s.start c) (s.cached c) (λ w p. other_word w (not_cached c w is_c p)) (shape.walks c is_c)
 
 -- a held block of a class goes in front of the cache
-pub take_back : (capacity class d : ℕ) (image new : Image) (held now : List Block) (s : Shape) (b : Block) → IsClass class → IsShape capacity image held s → Contains held b → d < capacity → image (info_word d) ≡ class
+pub free_small : (capacity class d : ℕ) (image new : Image) (held now : List Block) (s : Shape) (b : Block) → IsClass class → IsShape capacity image held s → Contains held b → d < capacity → image (info_word d) ≡ class
     → IsInSuperblock capacity d b.first_word → TakesFrom b held now → IsSet image new b.first_word (s.start class)
     → IsShape capacity new now (with_cache s class b.first_word (b.first_word ∷ s.cached class))
-take_back = freed_shape
+free_small = freed_shape

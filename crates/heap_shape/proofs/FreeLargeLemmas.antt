@@ -1,4 +1,4 @@
--- A large block is held no more, and its superblocks go to the free list.
+-- A large block is freed: it is held no more, and its superblocks go to the free list.
 use Rattle.std.proofs.Common.{◌≡◌, ◌≢◌, ℕ, zero, suc, ◌+◌, ◌*◌, ◌<◌, ◌≤◌, inl, inr, nat_eq, List, ◌∷◌, Contains, refl, ap, sym, subst, ◌∙◌, arith}
 use Rattle.std.proofs.lemmas.Bool.{cases_eq, eqb-true, eq-eqb}
 use Rattle.heap_model.specs.declared.block.Block.{Block}

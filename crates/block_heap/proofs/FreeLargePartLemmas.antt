@@ -16,7 +16,7 @@ use Rattle.heap_shape.specs.Moves.{after_split}
 use Rattle.heap_shape.specs.Draining.{for_later}
 use Rattle.heap_shape.proofs.AccountLemmas.{free_follows, use_kept}
 use Rattle.heap_shape.proofs.BasicLemmas.{with_at_same, with_at_other}
-use Rattle.heap_shape.proofs.LargeLemmas.{split_one}
+use Rattle.heap_shape.proofs.FreeLargeLemmas.{split_one}
 use Rattle.heap_shape.proofs.OwnLemmas.{one_following}
 use Rattle.line_memory.specs.View.{View, word_count, volatile_at, durable_at}
 use Rattle.block_heap.specs.Accounts.{IsUsed, GivesUse}
