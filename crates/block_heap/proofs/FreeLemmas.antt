@@ -9,8 +9,9 @@ use Rattle.heap_model.specs.Blocks.{IsBlock, IsIn}
 use Rattle.heap_model.specs.Recovered.{HasPartIn}
 use Rattle.heap_model.specs.Words.{head_pops}
 use Rattle.heap_model.proofs.BlockLemmas.{block_inside, never_overlap}
-use Rattle.heap_model.proofs.PartLemmas.{cases_of_part, part_taken, same_fields}
+use Rattle.heap_model.proofs.PartLemmas.{cases_of_part, same_fields}
 use Rattle.heap_model.proofs.SizeLemmas.{two_words, few_words, four_blocks, few_blocks}
+use Rattle.heap_at_rest.proofs.PartLemmas.{part_taken}
 use Rattle.heap_shape.specs.Shape.{Place, in_list, is_full, in_large, is_new, Shape}
 use Rattle.heap_shape.specs.Standing.{HasNoHeld, IsAs}
 use Rattle.heap_shape.specs.Whole.{layout_at, IsShape}

@@ -7,6 +7,7 @@ use Rattle.heap_model.specs.Sizes.{IsClass, words_of_class, blocks_of}
 use Rattle.heap_model.specs.Chains.{Walks}
 use Rattle.heap_model.proofs.MemberLemmas.{in_none, head_or_rest}
 use Rattle.heap_model.proofs.SizeLemmas.{two_words, few_blocks}
+use Rattle.heap_at_rest.proofs.ListLemmas.{walk_behind}
 use Rattle.heap_shape.specs.Standing.{first_of, IsFirstOf}
 use Rattle.line_memory.specs.View.{View}
 use Rattle.block_heap.specs.declared.cache.Cache.{Cache}
@@ -23,7 +24,6 @@ use Rattle.block_heap.proofs.LookLemmas.{looks_of}
 use Rattle.block_heap.specs.Returns.{IsLongest, GivesPrefix, GivesTo}
 use Rattle.block_heap.proofs.WalkLemmas.{walk_prefix, walk_begin}
 use Rattle.block_heap.proofs.ReturnLemmas.{FlushesSoFar, flushes_none, flushes_more}
-use Rattle.heap_model.proofs.ListLemmas.{walk_behind}
 use Rattle.block_heap.specs.Draws.{most_flush_draws}
 
 -- the cache leads along so many blocks of superblock d, up to the last one, which leads to the next

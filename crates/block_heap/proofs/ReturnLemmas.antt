@@ -10,12 +10,12 @@ use Rattle.heap_model.specs.Chains.{Walks}
 use Rattle.heap_model.proofs.CountingLemmas.{one_if_true, times_some}
 use Rattle.heap_model.proofs.MemberLemmas.{in_head, in_rest, head_or_rest}
 use Rattle.heap_model.proofs.SizeLemmas.{four_blocks}
+use Rattle.heap_at_rest.proofs.ListLemmas.{times_of, walk_behind}
 use Rattle.heap_shape.specs.Shape.{Shape, Place, in_list, is_full, in_large, is_new, stands_in, with_at}
 use Rattle.heap_shape.specs.Standing.{first_of, IsFirstOf, HoldsAt, HasOneOwner, a_free, a_held, IsAs}
 use Rattle.heap_shape.specs.Whole.{IsShape}
 use Rattle.heap_shape.specs.Effects.{IsInSuperblock}
 use Rattle.heap_shape.proofs.BasicLemmas.{with_at_same, with_at_other, first_inside, inside_one, in_class_list, cached_of_class}
-use Rattle.heap_model.proofs.ListLemmas.{times_of, walk_behind}
 use Rattle.line_memory.specs.View.{View, volatile_at}
 use Rattle.anchor_word.specs.declared.anchor.Anchor.{Anchor}
 use Rattle.anchor_word.specs.declared.anchor.State.TheVariants.{Full}

@@ -2,7 +2,7 @@
 use Rattle.std.proofs.Common.{◌≡◌, ℕ, ◌+◌, ◌*◌, ◌<◌, ◌≤◌, ◌^◌, inl, inr, None, List, length, get_or, set, ap, sym, subst, ◌∙◌, arith, get_or-set_same, get_or-set_other}
 use Rattle.heap_model.specs.Geometry.{lists, head_word, info_word, used_word, capacity_word}
 use Rattle.heap_model.specs.Words.{head_first, head_pops}
-use Rattle.heap_model.proofs.PartLemmas.{part_taken}
+use Rattle.heap_at_rest.proofs.PartLemmas.{part_taken}
 use Rattle.heap_shape.specs.Whole.{IsShape, layout_at}
 use Rattle.heap_shape.specs.Effects.{IsSet}
 use Rattle.heap_model.proofs.ListLemmas.{follows_small}

@@ -5,7 +5,7 @@ use Rattle.heap_model.specs.Geometry.{roots, largest_capacity, root_word, info_w
 use Rattle.heap_model.specs.Image.{words_from}
 use Rattle.heap_model.specs.Blocks.{IsIn}
 use Rattle.heap_model.specs.Recovered.{HasPartIn}
-use Rattle.heap_model.proofs.PartLemmas.{part_taken}
+use Rattle.heap_at_rest.proofs.PartLemmas.{part_taken}
 use Rattle.line_memory.specs.View.{View, volatile_at, durable_at}
 use Rattle.line_memory.specs.Crash.{MayLeaveStore}
 use Rattle.block_heap.specs.Medium.{StoresOnly}

@@ -13,7 +13,8 @@ use Rattle.heap_model.specs.Recovery.{IsSpare, IsPartial}
 use Rattle.heap_model.proofs.SizeLemmas.{two_words, few_blocks}
 use Rattle.heap_model.proofs.BlockLemmas.{block_step}
 use Rattle.heap_model.proofs.MemberLemmas.{in_head, in_rest, order_head, order_rest}
-use Rattle.heap_model.proofs.PartLemmas.{cases_of_part, same_start}
+use Rattle.heap_model.proofs.PartLemmas.{cases_of_part}
+use Rattle.heap_at_rest.proofs.PartLemmas.{same_start}
 
 -- the number is `start` and so many steps, of those from `low` to below `n`
 record IsStep (start words low n x : ℕ) : Type 0 where

@@ -13,7 +13,8 @@ use Rattle.heap_model.specs.Rest.{list_numbers, large_part}
 use Rattle.heap_model.proofs.SizeLemmas.{two_words, four_blocks}
 use Rattle.heap_model.proofs.BlockLemmas.{never_overlap}
 use Rattle.heap_model.proofs.CountingLemmas.{total_none, total_some, total_once, times_none, times_some, times_once, one_if_true, one_if_false, one_if_some, is_number, number_below, numbers_ascend}
-use Rattle.heap_model.proofs.PartLemmas.{TakesAll, cases_of_part, long_takes}
+use Rattle.heap_model.proofs.PartLemmas.{TakesAll, cases_of_part}
+use Rattle.heap_at_rest.proofs.PartLemmas.{long_takes}
 
 -- a superblock in a list is free, or partial in that class
 pub listed_cases : (l : Layout) (kept : Block → Type 0) (list d : ℕ) → list < lists → IsListed l kept list d → IsFreeSuperblock l kept d ⊎ (IsClass list × IsPartial l kept list d)

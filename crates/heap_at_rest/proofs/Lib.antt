@@ -1,3 +1,5 @@
+pub mod PartLemmas
+pub mod ListLemmas
 pub mod LayoutLemmas
 pub mod StandingLemmas
 pub mod ChainLemmas

@@ -10,9 +10,10 @@ use Rattle.heap_model.specs.Counting.{times, total, below}
 use Rattle.heap_model.specs.Recovery.{IsPartial, IsListed}
 use Rattle.heap_model.specs.Rest.{list_numbers, large_part}
 use Rattle.heap_model.proofs.BlockLemmas.{same_first}
-use Rattle.heap_model.proofs.MemberLemmas.{in_map, map_in, order_map}
+use Rattle.heap_model.proofs.MemberLemmas.{map_in}
 use Rattle.heap_model.proofs.CountingLemmas.{times_none, times_once, one_if_true, one_if_false}
-use Rattle.heap_model.proofs.PartLemmas.{part_taken}
+use Rattle.heap_at_rest.proofs.PartLemmas.{part_taken}
+use Rattle.heap_at_rest.proofs.ListLemmas.{in_map, order_map}
 use Rattle.heap_at_rest.proofs.StandingLemmas.{Standing, is_untaken, is_free, is_partial, is_fully_kept, is_in_large}
 use Rattle.heap_at_rest.proofs.LeftLemmas.{IsLeft, listed_cases, partial_listed, free_not_partial, one_class, full_not_partial, large_not_partial, full_holds, lists_none, lists_once, large_none, large_once}
 

@@ -14,7 +14,8 @@ use Rattle.heap_model.specs.Counting.{times, total, below}
 use Rattle.heap_model.specs.Recovery.{first_number, IsPartial, IsRecovered}
 use Rattle.heap_model.specs.Rest.{list_numbers, large_part, IsAnchored, IsShaped, IsReady}
 use Rattle.heap_model.proofs.CountingLemmas.{times_none, times_once}
-use Rattle.heap_model.proofs.PartLemmas.{TakesAll, part_taken, same_start}
+use Rattle.heap_model.proofs.PartLemmas.{TakesAll}
+use Rattle.heap_at_rest.proofs.PartLemmas.{part_taken, same_start}
 use Rattle.heap_at_rest.proofs.LayoutLemmas.{class_block, same_there}
 use Rattle.heap_at_rest.proofs.StandingLemmas.{Standing, is_untaken, is_free, is_partial, is_fully_kept, is_in_large, cases_kept}
 use Rattle.heap_at_rest.proofs.ChainLemmas.{some_spare}

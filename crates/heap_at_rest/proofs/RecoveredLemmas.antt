@@ -11,7 +11,7 @@ use Rattle.heap_model.specs.Recovered.{HasPartIn}
 use Rattle.heap_model.specs.Chains.{IsChain}
 use Rattle.heap_model.specs.Recovery.{IsPartial, in_header}
 use Rattle.heap_model.specs.Rest.{IsAnchored}
-use Rattle.heap_model.proofs.PartLemmas.{part_taken}
+use Rattle.heap_at_rest.proofs.PartLemmas.{part_taken}
 use Rattle.heap_at_rest.proofs.StandingLemmas.{Standing, is_untaken, is_free, is_partial, is_fully_kept, is_in_large, cases_superblock}
 use Rattle.heap_model.proofs.WordLemmas.{anchor_parts}
 use Rattle.heap_at_rest.proofs.ChainLemmas.{some_spare, not_all_spare, first_short}

@@ -7,7 +7,8 @@ use Rattle.heap_model.specs.Sizes.{IsClass, words_of_class, blocks_of}
 use Rattle.heap_model.specs.Blocks.{Layout}
 use Rattle.heap_model.specs.Recovered.{IsFreeSuperblock, IsBlockOfClass, AreAscending}
 use Rattle.heap_model.specs.Recovery.{HoldsKept, IsSpare, IsPartial, IsFullyKept, IsInLarge}
-use Rattle.heap_model.proofs.PartLemmas.{cases_held, cases_parts, cases_class, same_index}
+use Rattle.heap_model.proofs.PartLemmas.{cases_parts, cases_class}
+use Rattle.heap_at_rest.proofs.PartLemmas.{cases_held, same_index}
 
 -- how a superblock stands
 pub data Standing (l : Layout) (kept : Block → Type 0) (d : ℕ) : Type 0 where

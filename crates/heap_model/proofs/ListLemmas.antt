@@ -1,8 +1,8 @@
--- How often numbers stand in lists that are joined or lose a member, the numbers side by side, and lists and walks along links.
-use Rattle.std.proofs.Common.{◌≡◌, ℕ, zero, suc, ◌+◌, ◌<◌, ◌≤◌, inl, inr, Bool, true, false, cond, nat_eq, List, [], ◌∷◌, ◌++◌, length, Contains, refl, ap, sym, subst, arith}
-use Rattle.std.proofs.lemmas.Bool.{cases_eq, eq-eqb}
+-- How often numbers stand in lists that are joined or lose a member, the numbers side by side, and what leads to a list of superblocks.
+use Rattle.std.proofs.Common.{◌≡◌, ℕ, zero, suc, ◌+◌, ◌<◌, ◌≤◌, inl, inr, Bool, true, false, cond, nat_eq, List, [], ◌∷◌, ◌++◌, length, Contains, refl, ap, subst, arith}
+use Rattle.std.proofs.lemmas.Bool.{cases_eq}
 use Rattle.heap_model.specs.Image.{words_from}
-use Rattle.heap_model.specs.Chains.{Follows, Walks}
+use Rattle.heap_model.specs.Chains.{Follows}
 use Rattle.heap_model.specs.Counting.{times, one_if, without}
 use Rattle.heap_model.proofs.MemberLemmas.{in_none, in_head, in_rest, head_or_rest}
 use Rattle.heap_model.proofs.CountingLemmas.{one_if_true}
@@ -11,14 +11,6 @@ use Rattle.heap_model.proofs.CountingLemmas.{one_if_true}
 pub one_at_most : (test : Bool) → one_if test ≤ 1
 one_at_most true = omega arith
 one_at_most false = omega arith
-
--- a member stands in the list
-pub times_of : (n : ℕ) (xs : List ℕ) → Contains xs n → 0 < times n xs
-times_of n [] p = absurd (in_none n p)
-times_of n (x ∷ xs) p = elim (head_or_rest x n xs p) as (λ _. 0 < times n (x ∷ xs)) [
-  | inl same ↦ let here = one_if_true (nat_eq x n) (eq-eqb x n same) in omega arith
-  | inr later ↦ let rest = times_of n xs later in omega arith
-]
 
 -- how often a number stands in two lists together
 pub times_append : (n : ℕ) (xs ys : List ℕ) → times n (xs ++ ys) ≡ times n xs + times n ys
@@ -64,21 +56,7 @@ numbers_below from (suc count) i p = elim (head_or_rest from i (words_from (λ n
   | inr later ↦ omega (arith, numbers_below (from + 1) count i later)
 ]
 
--- a list reads the links of its members alone
-pub follows_same : (link new : ℕ → ℕ) (capacity from : ℕ) (ds : List ℕ) → ((d : ℕ) → Contains ds d → new d ≡ link d) → Follows link capacity from ds → Follows new capacity from ds
-follows_same link new capacity from [] same follows = follows
-follows_same link new capacity from (d ∷ ds) same follows = (
-  follows.0,
-  follows.1,
-  subst (λ x. Follows new capacity x ds) (sym (same d (in_head d ds))) (follows_same link new capacity (link d) ds (λ e p. same e (in_rest d e ds p)) follows.2),
-)
-
 -- what leads to a list is no more than the count of superblocks
 pub follows_small : (link : ℕ → ℕ) (capacity from : ℕ) (ds : List ℕ) → Follows link capacity from ds → from ≤ capacity
 follows_small link capacity from [] follows = let last : from ≡ 0 = follows in omega arith
 follows_small link capacity from (d ∷ ds) follows = let first : from ≡ d + 1 = follows.0 in let within = follows.1 in omega arith
-
--- behind some blocks a walk goes on from where the last of them leads
-pub walk_behind : (next : ℕ → ℕ) (from : ℕ) (before : List ℕ) (last : ℕ) (rest : List ℕ) → Walks next from ((before ++ last ∷ []) ++ rest) → Walks next (next last) rest
-walk_behind next from [] last rest walks = walks.1
-walk_behind next from (x ∷ before) last rest walks = walk_behind next (next x) before last rest walks.1

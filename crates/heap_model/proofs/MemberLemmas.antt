@@ -1,8 +1,6 @@
 -- Facts on the members of a list, and of one in order.
 use Rattle.std.proofs.Common.{◌≡◌, ℕ, zero, suc, ◌<◌, ◌⊎◌, inl, inr, List, [], ◌∷◌, map, length, get_or, Contains, refl, subst, arith}
 use Rattle.std.specs.Prelude.{AllPairs}
-use Rattle.std.proofs.lemmas.List.{get_or_default}
-use Rattle.std.proofs.lemmas.List.Kept.{AllPairs-cons}
 
 -- the empty list has no member
 pub in_none : {X : Type 0} (x : X) → Contains {X = X} [] x → ⊥
@@ -29,26 +27,10 @@ order_head R x y xs pairs p = subst (λ z. R x z) p.2 (pairs 0 (suc p.0) y (omeg
 pub order_rest : {X : Type 0} (R : X → X → Type 0) (x : X) (xs : List X) → AllPairs R (x ∷ xs) → AllPairs R xs
 order_rest R x xs pairs = λ i j d less within. pairs (suc i) (suc j) d (omega arith) (omega arith)
 
--- a member of the list of images is the image of a member
-pub in_map : {X : Type 0} (f : X → ℕ) (xs : List X) (y : ℕ) → Contains (map f xs) y → (x : X) × Contains xs x × (f x ≡ y)
-in_map f [] y p = absurd (in_none y p)
-in_map f (x ∷ xs) y p = elim (head_or_rest (f x) y (map f xs) p) [
-  | inl same ↦ (x, in_head x xs, same)
-  | inr later ↦ let rest = in_map f xs y later in (rest.0, in_rest x rest.0 xs rest.1, rest.2)
-]
-
+-- the image of a member is a member of the list of images
 pub map_in : {X : Type 0} (f : X → ℕ) (xs : List X) (x : X) → Contains xs x → Contains (map f xs) (f x)
 map_in f [] x p = absurd (in_none x p)
 map_in f (y ∷ xs) x p = elim (head_or_rest y x xs p) [
   | inl same ↦ subst (λ z. Contains (f y ∷ map f xs) (f z)) same (in_head (f y) (map f xs))
   | inr later ↦ in_rest (f y) (f x) (map f xs) (map_in f xs x later)
 ]
-
--- the numbers of a list in order of them ascend
-pub order_map : {X : Type 0} (f : X → ℕ) (xs : List X) → AllPairs (λ x y. f x < f y) xs → AllPairs (λ a b. a < b) (map f xs)
-order_map f [] pairs = λ i j d less within. absurd (omega arith)
-order_map f (x ∷ xs) pairs = AllPairs-cons (λ a b. a < b) (f x) (map f xs)
-    (λ k d within. let p : Contains (map f xs) (get_or (map f xs) k d) = (k, within, get_or_default (map f xs) k (get_or (map f xs) k d) d within) in
-    let found = in_map f xs (get_or (map f xs) k d) p in
-    subst (λ n. f x < n) found.2 (order_head (λ y z. f y < f z) x found.0 xs pairs found.1))
-    (order_map f xs (order_rest (λ y z. f y < f z) x xs pairs))

@@ -1,33 +1,19 @@
 -- Which blocks of a list have a part in a superblock, and what a block with a part in one is there.
 use Rattle.std.proofs.Common.{◌≡◌, ℕ, zero, ◌+◌, ◌*◌, ◌<◌, ◌≤◌, ◌⊎◌, inl, inr, List, [], ◌∷◌, Contains, ap, sym, subst, ◌∙◌, arith}
 use Rattle.std.proofs.Math.Nat.{zero-mul}
-use Rattle.std.proofs.lemmas.Bool.{cases_eq, cases_lt}
+use Rattle.std.proofs.lemmas.Bool.{cases_lt}
 use Rattle.heap_model.specs.declared.block.Block.{Block}
 use Rattle.heap_model.specs.Geometry.{start_word, superblock_words}
 use Rattle.heap_model.specs.Sizes.{IsClass, words_of_class, blocks_of}
 use Rattle.heap_model.specs.Blocks.{Layout, Begins, of_class, as_large, IsBlock}
 use Rattle.heap_model.specs.Recovered.{HasPartIn, IsBlockOfClass}
-use Rattle.heap_model.proofs.SizeLemmas.{blocks_fit, few_words}
-use Rattle.heap_model.proofs.BlockLemmas.{block_step, block_inside}
+use Rattle.heap_model.proofs.SizeLemmas.{blocks_fit}
+use Rattle.heap_model.proofs.BlockLemmas.{block_step}
 use Rattle.heap_model.proofs.MemberLemmas.{in_none, in_head, in_rest, head_or_rest}
 
 -- blocks of equal fields are one
 pub same_fields : (a b : Block) → a.first_word ≡ b.first_word → a.words ≡ b.words → a ≡ b
 same_fields a b first words = λ i. record { first_word = first i; words = words i }
-
--- a list has a block or not
-pub cases_held : (held : List Block) (b : Block) → Contains held b ⊎ (Contains held b → ⊥)
-cases_held [] b = inr (in_none b)
-cases_held (h ∷ held) b = elim (cases_held held b) [
-  | inl later ↦ inl (in_rest h b held later)
-  | inr none ↦ elim (cases_eq h.first_word b.first_word) [
-    | inl first ↦ elim (cases_eq h.words b.words) [
-      | inl words ↦ inl (subst (λ x. Contains (h ∷ held) x) (same_fields h b first words) (in_head h held))
-      | inr other ↦ inr (λ p. elim (head_or_rest h b held p) as (λ _. ⊥) [ inl same ↦ other (ap (λ (x : Block). x.words) same) | inr later ↦ none later ])
-    ]
-    | inr other ↦ inr (λ p. elim (head_or_rest h b held p) as (λ _. ⊥) [ inl same ↦ other (ap (λ (x : Block). x.first_word) same) | inr later ↦ none later ])
-  ]
-]
 
 -- a block has a part in a superblock or not
 pub cases_part : (capacity : ℕ) (b : Block) (d : ℕ) → HasPartIn capacity b d ⊎ (HasPartIn capacity b d → ⊥)
@@ -63,15 +49,6 @@ cases_class n = elim (cases_lt 0 n) [
   ]
   | inr none ↦ inr (λ is. let some = is.some in omega arith)
 ]
-
--- blocks of a class with one index, or with one first word, are one
-pub same_index : (capacity class d i j : ℕ) (a b : Block) → i ≡ j → IsBlockOfClass capacity class d i a → IsBlockOfClass capacity class d j b → a ≡ b
-same_index capacity class d i j a b same is_a is_b =
-    let moved : i * words_of_class class ≡ j * words_of_class class = ap (λ k. k * words_of_class class) same in
-    same_fields a b (is_a.at ∙ ap (λ x. start_word capacity d + x) moved ∙ sym is_b.at) (is_a.size ∙ sym is_b.size)
-
-pub same_start : (capacity class d i j : ℕ) (a b : Block) → a.first_word ≡ b.first_word → IsBlockOfClass capacity class d i a → IsBlockOfClass capacity class d j b → a ≡ b
-same_start capacity class d i j a b same is_a is_b = same_fields a b same (is_a.size ∙ sym is_b.size)
 
 -- what a block with a part in a superblock is there: one of its blocks of a class, or a large block that takes all of it
 pub record IsOneOfClass (l : Layout) (b : Block) (d : ℕ) : Type 0 where
@@ -128,14 +105,3 @@ cases_of_part l b d is part = by_begins is.superblock is.index is.words is.count
       let same : e ≡ d = omega arith in
       inl (record { class = c; index = index; is_class = is_class; info_is = subst (λ x. l.info x ≡ c) same info; is_of = subst (λ x. IsBlockOfClass l.capacity c x index b) same of })
   by_begins e index w n (as_large k some info end zeros) below at size = inr (large_takes l b d e k index some info zeros at below size part)
-
--- a block has no part in a superblock that has not been taken
-pub part_taken : (l : Layout) (b : Block) (d : ℕ) → IsBlock l b → HasPartIn l.capacity b d → d < l.used
-part_taken l b d is part = let inside = block_inside l b is in let ends = part.ends in omega arith
-
--- a block of a superblock or more takes each superblock in which it has a part
-pub long_takes : (l : Layout) (b : Block) (d : ℕ) → IsBlock l b → HasPartIn l.capacity b d → superblock_words ≤ b.words → TakesAll l b d
-long_takes l b d is part long = elim (cases_of_part l b d is part) as (λ _. TakesAll l b d) [
-  | inr all ↦ all
-  | inl one ↦ absurd (let few = few_words one.class one.is_class in let size = one.is_of.size in omega arith)
-]

@@ -5,12 +5,12 @@ use Rattle.std.proofs.lemmas.Bool.{cases_lt, eqb-true, eqb-false}
 use Rattle.std.specs.Option.{option_eq}
 use Rattle.std.proofs.lemmas.List.{get_or_default, get_or-set_same, get_or-set_other}
 use Rattle.std.proofs.lemmas.List.Elements.{Contains-get_or}
-use Rattle.heap_model.proofs.ListLemmas.{follows_same}
 use Rattle.heap_model.specs.Geometry.{head_word, link_word, image_words}
 use Rattle.heap_model.specs.Image.{Image}
 use Rattle.heap_model.specs.Recovered.{AreAscending}
 use Rattle.heap_model.specs.Recovery.{first_number}
 use Rattle.heap_model.specs.Chains.{Follows}
+use Rattle.heap_at_rest.proofs.ListLemmas.{follows_same}
 use Rattle.heap_recover.specs.declared.roles.Role.{Role}
 use Rattle.heap_recover.specs.declared.roles.Role.TheVariants.{Large}
 use Rattle.heap_recover.specs.Roles.{list_of, number_at, IsMember}

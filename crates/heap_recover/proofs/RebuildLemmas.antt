@@ -13,13 +13,13 @@ use Rattle.heap_model.specs.Recovered.{IsFreeSuperblock, AreAscending}
 use Rattle.heap_model.specs.Recovery.{IsPartial, IsFullyKept, IsInLarge, IsSpare, IsListed, first_number, but_last, IsKeptWord, HasInfoAndAnchor, IsRechained, IsRecovered}
 use Rattle.heap_model.specs.Chains.{Follows}
 use Rattle.heap_model.proofs.BlockLemmas.{block_inside, block_words}
+use Rattle.heap_at_rest.proofs.ListLemmas.{follows_same}
 use Rattle.heap_recover.specs.declared.roles.Role.{Role}
 use Rattle.heap_recover.specs.declared.roles.Role.TheVariants.{Large}
 use Rattle.heap_recover.specs.Marked.{KeepsBlocks, IsKeptBelow}
 use Rattle.heap_recover.specs.Roles.{IsRole, is_free, is_partial, is_full, is_large, IsMember}
 use Rattle.heap_recover.specs.Rebuilt.{IsOf, is_info, is_anchor, is_link, is_inside, IsDescribed, IsRebuiltInRole, AreDone, AreCleared, AreListed, IsRebuild}
 use Rattle.heap_recover.proofs.AscendingLemmas.{ascending_same}
-use Rattle.heap_model.proofs.ListLemmas.{follows_same}
 use Rattle.heap_recover.proofs.SurveyLemmas.{none_of}
 use Rattle.heap_recover.proofs.PassLemmas.{done_same, one_owner, no_lower, kept_no_state, kept_no_head, kept_apart}
 use Rattle.heap_recover.proofs.RoleLemmas.{free_role, partial_role, full_role, large_role, role_listed, listed_role, listed_taken}

@@ -9,7 +9,7 @@ use Rattle.heap_model.specs.Words.{head_first, large_info}
 use Rattle.heap_model.specs.Recovered.{HasPartIn}
 use Rattle.heap_model.specs.Chains.{Follows}
 use Rattle.heap_model.proofs.MemberLemmas.{in_none, in_head, head_or_rest}
-use Rattle.heap_model.proofs.PartLemmas.{cases_held}
+use Rattle.heap_at_rest.proofs.PartLemmas.{cases_held}
 use Rattle.heap_shape.specs.Shape.{Place, in_list, is_full, in_large, is_new, Shape}
 use Rattle.heap_shape.specs.Standing.{IsAs}
 use Rattle.heap_shape.specs.Whole.{IsShape}

@@ -13,11 +13,12 @@ use Rattle.heap_model.proofs.SizeLemmas.{two_words, blocks_fit}
 use Rattle.heap_model.proofs.BlockLemmas.{block_step}
 use Rattle.heap_model.proofs.MemberLemmas.{in_none, in_head, in_rest, head_or_rest}
 use Rattle.heap_model.proofs.CountingLemmas.{one_if_true, one_if_false, one_if_some}
+use Rattle.heap_at_rest.proofs.ListLemmas.{times_of}
 use Rattle.heap_shape.specs.Shape.{Place, in_list, is_full, in_large, is_new, Shape, stands_in, with_at}
 use Rattle.heap_shape.specs.Standing.{first_of, IsFirstOf, IsOfClass, HasFreeBlocks, IsFullSuperblock, IsFree, IsAs}
 use Rattle.heap_shape.specs.Whole.{IsShape}
 use Rattle.heap_shape.specs.Effects.{IsInSuperblock}
-use Rattle.heap_model.proofs.ListLemmas.{one_at_most, times_of}
+use Rattle.heap_model.proofs.ListLemmas.{one_at_most}
 
 -- a function with another value at one number
 pub with_at_same : {A : Type 0} (f : ℕ → A) (at : ℕ) (value : A) → with_at f at value at ≡ value

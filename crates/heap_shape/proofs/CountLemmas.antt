@@ -12,11 +12,12 @@ use Rattle.heap_model.specs.Recovered.{IsBlockOfClass}
 use Rattle.heap_model.proofs.MemberLemmas.{in_head, head_or_rest}
 use Rattle.heap_model.proofs.CountingLemmas.{times_some}
 use Rattle.heap_model.proofs.PartLemmas.{cases_of_part}
+use Rattle.heap_at_rest.proofs.ListLemmas.{times_of}
 use Rattle.heap_shape.specs.Shape.{Shape}
 use Rattle.heap_shape.specs.Standing.{first_of, IsFirstOf, HoldsAt, IsOfClass, HasNoHeld, times_free, a_free, a_held}
 use Rattle.heap_shape.specs.Whole.{layout_at, IsShape}
 use Rattle.heap_shape.proofs.BasicLemmas.{times_here, times_past, stands_once, follows_below, first_injective}
-use Rattle.heap_model.proofs.ListLemmas.{times_append, times_of, length_without, without_less, without_at}
+use Rattle.heap_model.proofs.ListLemmas.{times_append, length_without, without_less, without_at}
 
 -- a list of values of f below n, none of them twice
 pub few_members : (f : ℕ → ℕ) (n : ℕ) (xs : List ℕ) → ((x : ℕ) → Contains xs x → (i : ℕ) × (i < n) × (x ≡ f i)) → ((i : ℕ) → i < n → times (f i) xs ≤ 1) → length xs ≤ n

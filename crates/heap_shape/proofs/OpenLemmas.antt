@@ -11,9 +11,10 @@ use Rattle.heap_model.specs.Blocks.{layout_of, IsBlock}
 use Rattle.heap_model.specs.Chains.{Follows, Walks}
 use Rattle.heap_model.specs.Counting.{times, total, below, one_if}
 use Rattle.heap_model.specs.Rest.{IsReady, IsShaped, list_numbers, large_part}
-use Rattle.heap_model.proofs.MemberLemmas.{in_none, head_or_rest, in_map, map_in}
+use Rattle.heap_model.proofs.MemberLemmas.{in_none, head_or_rest, map_in}
 use Rattle.heap_model.proofs.CountingLemmas.{total_some, one_if_true, one_if_false, times_some, is_number, number_below}
-use Rattle.heap_model.proofs.PartLemmas.{long_takes}
+use Rattle.heap_at_rest.proofs.PartLemmas.{long_takes}
+use Rattle.heap_at_rest.proofs.ListLemmas.{in_map, times_of}
 use Rattle.heap_at_rest.proofs.LeftLemmas.{counts_large}
 use Rattle.heap_shape.specs.Shape.{Place, in_list, is_full, in_large, is_new, Shape, stands_in}
 use Rattle.heap_shape.specs.Standing.{first_of, IsFirstOf, HasOneOwner, a_free, a_held, HasFreeBlocks, IsFullSuperblock, IsAs}
@@ -21,7 +22,6 @@ use Rattle.heap_shape.specs.Whole.{IsShape}
 use Rattle.heap_shape.specs.Draining.{HasUse, for_class, for_held, for_later, IsAccounted}
 use Rattle.heap_shape.proofs.CountLemmas.{few_members}
 use Rattle.heap_shape.proofs.AccountLemmas.{free_follows}
-use Rattle.heap_model.proofs.ListLemmas.{times_of}
 
 -- a member counts in a sum
 total_member : {X : Type 0} (of : X → ℕ) (xs : List X) (x : X) → Contains xs x → of x ≤ total of xs

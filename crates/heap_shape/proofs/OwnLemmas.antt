@@ -12,14 +12,14 @@ use Rattle.heap_model.specs.Chains.{Follows, Walks}
 use Rattle.heap_model.specs.Counting.{times}
 use Rattle.heap_model.proofs.SizeLemmas.{at_class, two_words, few_words}
 use Rattle.heap_model.proofs.BlockLemmas.{never_overlap, block_inside, block_begins}
-use Rattle.heap_model.proofs.PartLemmas.{part_taken}
+use Rattle.heap_at_rest.proofs.PartLemmas.{part_taken}
+use Rattle.heap_at_rest.proofs.ListLemmas.{follows_same, times_of}
 use Rattle.heap_at_rest.proofs.LayoutLemmas.{class_block as a_class_block, same_there}
 use Rattle.heap_shape.specs.Shape.{Place, in_list, is_full, in_large, is_new, Shape}
 use Rattle.heap_shape.specs.Standing.{first_of, a_free, a_held, IsOfClass, HasNoHeld, IsAs}
 use Rattle.heap_shape.specs.Whole.{layout_at, IsCachedIn, IsShape}
 use Rattle.heap_shape.specs.Effects.{IsSet, IsInSuperblock}
 use Rattle.heap_shape.proofs.BasicLemmas.{walks_same, first_inside, member_place}
-use Rattle.heap_model.proofs.ListLemmas.{follows_same, times_of}
 use Rattle.heap_shape.proofs.FrameLemmas.{SameThere, frame}
 use Rattle.heap_shape.proofs.CacheLemmas.{cached_apart}
 

@@ -12,7 +12,8 @@ use Rattle.heap_model.specs.Recovered.{HasPartIn, IsFreeSuperblock, IsDrained, b
 use Rattle.heap_model.specs.Chains.{Follows}
 use Rattle.heap_model.specs.Recovery.{HoldsKept, IsRecovered, first_number, in_header}
 use Rattle.heap_model.proofs.ReachLemmas.{reached_block}
-use Rattle.heap_model.proofs.PartLemmas.{cases_held, cases_parts, cases_class, part_taken}
+use Rattle.heap_model.proofs.PartLemmas.{cases_parts, cases_class}
+use Rattle.heap_at_rest.proofs.PartLemmas.{cases_held, part_taken}
 use Rattle.heap_shape.specs.Standing.{HasNoHeld}
 use Rattle.heap_shape.specs.Draining.{IsDrainable, IsToDrain}
 use Rattle.heap_shape.proofs.OpenLemmas.{head_at_rest}

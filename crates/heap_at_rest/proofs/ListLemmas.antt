@@ -1,0 +1,53 @@
+-- Members and images of lists, and lists and walks along links.
+use Rattle.std.proofs.Common.{◌≡◌, ℕ, ◌<◌, inl, inr, nat_eq, List, [], ◌∷◌, ◌++◌, map, get_or, Contains, sym, subst, arith}
+use Rattle.std.specs.Prelude.{AllPairs}
+use Rattle.std.proofs.lemmas.Bool.{eq-eqb}
+use Rattle.std.proofs.lemmas.List.{get_or_default}
+use Rattle.std.proofs.lemmas.List.Kept.{AllPairs-cons}
+use Rattle.heap_model.specs.Chains.{Follows, Walks}
+use Rattle.heap_model.specs.Counting.{times}
+use Rattle.heap_model.proofs.MemberLemmas.{in_none, in_head, in_rest, head_or_rest, order_head, order_rest}
+use Rattle.heap_model.proofs.CountingLemmas.{one_if_true}
+
+-- a member stands in the list
+pub times_of : (n : ℕ) (xs : List ℕ) → Contains xs n → 0 < times n xs
+times_of n [] p = absurd (in_none n p)
+times_of n (x ∷ xs) p = elim (head_or_rest x n xs p) as (λ _. 0 < times n (x ∷ xs)) [
+  | inl same ↦ let here = one_if_true (nat_eq x n) (eq-eqb x n same) in omega arith
+  | inr later ↦ let rest = times_of n xs later in omega arith
+]
+
+-- a member of the list of images is the image of a member
+pub in_map : {X : Type 0} (f : X → ℕ) (xs : List X) (y : ℕ) → Contains (map f xs) y → (x : X) × Contains xs x × (f x ≡ y)
+in_map f [] y p = absurd (in_none y p)
+in_map f (x ∷ xs) y p = elim (head_or_rest (f x) y (map f xs) p) [
+  | inl same ↦ (x, in_head x xs, same)
+  | inr later ↦ let rest = in_map f xs y later in (rest.0, in_rest x rest.0 xs rest.1, rest.2)
+]
+
+-- the numbers of a list in order of them ascend
+pub order_map : {X : Type 0} (f : X → ℕ) (xs : List X) → AllPairs (λ x y. f x < f y) xs → AllPairs (λ a b. a < b) (map f xs)
+order_map f [] pairs = λ i j d less within. absurd (omega arith)
+order_map f (x ∷ xs) pairs = AllPairs-cons (λ a b. a < b) (f x) (map f xs)
+    (λ k d within. let at : ℕ = get_or (map f xs) k d in
+    let p : Contains (map f xs) at = (k, within, get_or_default (map f xs) k at d within) in
+    let found = in_map f xs at p in
+    subst (λ n. f x < n) found.2 (order_head (λ y z. f y < f z) x found.0 xs pairs found.1))
+    (order_map f xs (order_rest (λ y z. f y < f z) x xs pairs))
+
+-- a list reads the links of its members alone
+pub follows_same : (link new : ℕ → ℕ) (capacity from : ℕ) (ds : List ℕ)
+    → ((d : ℕ) → Contains ds d → new d ≡ link d) → Follows link capacity from ds → Follows new capacity from ds
+follows_same link new capacity from [] same follows = follows
+follows_same link new capacity from (d ∷ ds) same follows = (
+  follows.0,
+  follows.1,
+  subst (λ x. Follows new capacity x ds) (sym (same d (in_head d ds)))
+      (follows_same link new capacity (link d) ds (λ e p. same e (in_rest d e ds p)) follows.2),
+)
+
+-- behind some numbers a walk goes on from where the last of them leads
+pub walk_behind : (next : ℕ → ℕ) (from : ℕ) (before : List ℕ) (last : ℕ) (rest : List ℕ)
+    → Walks next from ((before ++ last ∷ []) ++ rest) → Walks next (next last) rest
+walk_behind next from [] last rest walks = walks.1
+walk_behind next from (x ∷ before) last rest walks = walk_behind next (next x) before last rest walks.1
