@@ -251,9 +251,11 @@ module _ (capacity class w : ℕ) (image : Image) (held now : List Block) (s : S
   }
 
 -- the first block of the cache is popped, and held from now on: it was not
-pub pop_block : (capacity class w : ℕ) (image : Image) (held now : List Block) (s : Shape) (ws : List ℕ) → IsClass class → IsShape capacity image held s → s.cached class ≡ w ∷ ws
+pub pop_block : (capacity class w : ℕ) (image : Image) (held now : List Block) (s : Shape) (ws : List ℕ)
+    → IsClass class → IsShape capacity image held s → s.cached class ≡ w ∷ ws
     → AddsTo (record { first_word = w; words = words_of_class class }) held now
-    → IsShape capacity image now (with_cache s class (image w) ws) × (Contains held (record { first_word = w; words = words_of_class class }) → ⊥)
+    → IsShape capacity image now (with_cache s class (image w) ws)
+    × (Contains held (record { first_word = w; words = words_of_class class }) → ⊥)
 pop_block capacity class w image held now s ws is shape cached adds =
     (popped_shape capacity class w image held now s ws is shape cached adds, not_held capacity class w image held now s ws is shape cached adds)
 
@@ -424,7 +426,8 @@ module _ (capacity class d : ℕ) (image new : Image) (held now : List Block) (s
     walk_still c is_c = walks_same image new (s.start c) (s.cached c) (λ w p. other_word w (not_cached c w is_c p)) (shape.walks c is_c)
 
 -- a held block of a class goes in front of the cache
-pub free_small : (capacity class d : ℕ) (image new : Image) (held now : List Block) (s : Shape) (b : Block) → IsClass class → IsShape capacity image held s → Contains held b → d < capacity → image (info_word d) ≡ class
+pub free_small : (capacity class d : ℕ) (image new : Image) (held now : List Block) (s : Shape) (b : Block)
+    → IsClass class → IsShape capacity image held s → Contains held b → d < capacity → image (info_word d) ≡ class
     → IsInSuperblock capacity d b.first_word → TakesFrom b held now → IsSet image new b.first_word (s.start class)
     → IsShape capacity new now (with_cache s class b.first_word (b.first_word ∷ s.cached class))
 free_small = freed_shape

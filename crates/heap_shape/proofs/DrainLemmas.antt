@@ -252,8 +252,10 @@ part_in_one capacity class d index e b is of part =
     omega arith
 
 -- a block was popped off its cache
-pub pop_block_drains : (capacity class w : ℕ) (image : Image) (held now : List Block) (s : Shape) (ws : List ℕ) → IsClass class → IsShape capacity image held s → s.cached class ≡ w ∷ ws
-    → AddsTo (record { first_word = w; words = words_of_class class }) held now → DrainsOne capacity class image held now (record { first_word = w; words = words_of_class class })
+pub pop_block_drains : (capacity class w : ℕ) (image : Image) (held now : List Block) (s : Shape) (ws : List ℕ)
+    → IsClass class → IsShape capacity image held s → s.cached class ≡ w ∷ ws
+    → AddsTo (record { first_word = w; words = words_of_class class }) held now
+    → DrainsOne capacity class image held now (record { first_word = w; words = words_of_class class })
 pop_block_drains capacity class w image held now s ws is shape cached adds = record { was = was; rest = rest; only = only; gone = gone; drainable = drainable; accounted = accounted } where
   b : Block
   b = record { first_word = w; words = words_of_class class }
