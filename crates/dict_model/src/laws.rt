@@ -3,7 +3,18 @@
 
 ghost use Rattle.std.specs.Prelude.{◌≡◌, ℕ};
 ghost use Rattle.heap_model.specs.Image.{Image};
+ghost use Rattle.dict_model.specs.Links.{shards};
+ghost use Rattle.dict_model.specs.Nodes.{buckets, largest_value};
 ghost use Rattle.dict_model.specs.Shards.{Map, MapOf, BadShard};
+
+use crate::{BUCKETS, LARGEST_VALUE, SHARDS};
+
+/// The constants of this crate are the numbers that the definitions speak of.
+pub fn constants_agree()
+    ensures shards { SHARDS ≡ shards }
+    ensures buckets { BUCKETS ≡ buckets }
+    ensures largest_value { LARGEST_VALUE ≡ largest_value }
+{}
 
 /// A shard of an image is one map, or it has one first bad place, and not both.
 pub fn a_shard_is_one_map_or_bad_at_one_place()
