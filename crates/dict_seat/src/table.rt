@@ -16,7 +16,8 @@ ghost use Rattle.dict_seat.specs.Nodes.{StoresWithin};
 ghost use Rattle.dict_seat.specs.Tables.{IsClearing, MakesTable};
 
 use crate::node::write_word;
-use crate::walk::{BUCKETS, shard_of};
+use crate::walk::shard_of;
+use dict_model::BUCKETS;
 use heap_model::Block;
 use heap_seat::{AllocFault, HeapSeat, Spot, persist};
 use line_memory::Stopped;

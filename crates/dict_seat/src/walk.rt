@@ -13,6 +13,7 @@ ghost use Rattle.dict_model.specs.Nodes.{shard_of, bucket_of};
 ghost use Rattle.dict_seat.specs.Trails.{IsSettling, HasCome};
 ghost use Rattle.dict_seat.specs.Maps.{GivesMap};
 
+use dict_model::{BUCKETS, SHARDS};
 use heap_model::Block;
 use heap_seat::{HeapSeat, Spot};
 use line_memory::Stopped;
@@ -126,9 +127,3 @@ pub(crate) fn bucket_of(key: u64) -> u64
 {
     key / SHARDS % BUCKETS
 }
-
-/// How many shards there are.
-const SHARDS: u64 = 8;
-
-/// How many buckets a table has.
-pub(crate) const BUCKETS: u64 = 128;
