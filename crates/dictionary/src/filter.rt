@@ -3,6 +3,7 @@
 ghost use Rattle.std.specs.Prelude.{◌≡◌, ◌<◌, ℕ, All, length, slice_get, slice_index};
 ghost use Rattle.dict_model.specs.Links.{all_to_nodes, first_to_node, dict_links, root_kind};
 
+use dict_model::SHARDS;
 use filter_trace::Filter;
 use super_block::ROOTS;
 
@@ -15,16 +16,13 @@ pub const TABLE: u32 = 1;
 /// The kind of a node: its first word leads to the next node of its bucket.
 pub const NODE: u32 = 2;
 
-/// How many roots lead to the dictionary's tables, one for each shard.
-pub const SHARDS: usize = 8;
-
 /// The kind of each root: the first eight lead to tables, and the others to blocks without links.
 pub fn root_kinds() -> [u32; ROOTS as usize]
     ensures kinds { (i : ℕ) → slice_index result i ≡ root_kind i }
     ensures few { All (λ kind. kind < 3) result }
 {
     let mut kinds = [OTHER; ROOTS as usize];
-    for i in 0..SHARDS {
+    for i in 0..SHARDS as usize {
         kinds[i] = TABLE;
     }
     kinds

@@ -9,6 +9,6 @@ mod walk;
 
 pub use dict_seat::{PutFault, Shard};
 pub use fault::MapFault;
-pub use filter::{DictFilter, NODE, OTHER, SHARDS, TABLE, root_kinds};
+pub use filter::{DictFilter, NODE, OTHER, TABLE, root_kinds};
 pub use laws::recovery_keeps_each_shard;
 pub use read::{maps_of, read_map, read_maps};

@@ -10,8 +10,9 @@ ghost use Rattle.dict_model.specs.Shards.{HasTable, LeadsAlone, MapOf};
 ghost use Rattle.dictionary.specs.Reading.{IsRead, IsMapUpTo, TellsBad, TellsLowest, AreMaps};
 
 use crate::fault::MapFault;
-use crate::filter::{DictFilter, SHARDS, root_kinds};
-use crate::walk::{BUCKETS, Lead, Walk};
+use crate::filter::{DictFilter, root_kinds};
+use crate::walk::{Lead, Walk};
+use dict_model::{BUCKETS, SHARDS};
 use filter_trace::Scan;
 use heap_model::Block;
 use heap_recover::Recovered;
@@ -72,8 +73,8 @@ pub fn maps_of(alloc: Global, heap: &Ready) -> Result<Vec<BTreeMap<u64, Bytes>>,
         directory: &directory,
     };
     let origins = trace_origins(alloc, &scan, &root_kinds(), &DictFilter)?;
-    let mut maps = Vec::with_capacity(alloc, SHARDS)?;
-    for shard in 0..SHARDS {
+    let mut maps = Vec::with_capacity(alloc, SHARDS as usize)?;
+    for shard in 0..SHARDS as usize {
         match maps.push(read_shard(alloc, scan, &origins, shard)?) {
             Ok(()) => {}
             Err(_) => return Err(MapFault::Memory),

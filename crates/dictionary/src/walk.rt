@@ -9,17 +9,13 @@ ghost use Rattle.dict_model.specs.Shards.{LeadsAlone, but};
 ghost use Rattle.dictionary.specs.Reading.{IsRead, IsLead, AddsNode};
 
 use crate::fault::MapFault;
-use crate::filter::SHARDS;
-use dict_model::LARGEST_VALUE;
+use dict_model::{BUCKETS, LARGEST_VALUE, SHARDS};
 use filter_trace::{Scan, Target};
 use heap_model::Block;
 use region_header::{Bytes, words_to_bytes};
 use root_reach::Origins;
 use std::alloc::{AllocError, Global};
 use std::collections::BTreeMap;
-
-/// How many buckets a table has: one for each of its words.
-pub const BUCKETS: u64 = 128;
 
 /// The words of a node before its value: next, key and length.
 const NODE_WORDS: u64 = 3;
@@ -102,8 +98,8 @@ impl Walk<'_> {
         if length > LARGEST_VALUE {
             return false;
         }
-        key % SHARDS as u64 == self.shard as u64
-            && key / SHARDS as u64 % BUCKETS == bucket
+        key % SHARDS == self.shard as u64
+            && key / SHARDS % BUCKETS == bucket
             && NODE_WORDS + (length + 7) / 8 <= block.words
     }
 

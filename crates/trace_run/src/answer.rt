@@ -10,13 +10,11 @@ ghost use Rattle.trace_run.specs.Said.{request_of, reply_of, IsShort};
 ghost use Rattle.trace_run.specs.Working.{Fits, Replied, MakesCalls};
 
 use block_heap::{AllocFault, HeapSeat};
+use dict_model::SHARDS;
 use dict_seat::Shard;
 use line_memory::Stopped;
 use region_header::Bytes;
 use trace_text::{Reply, Request};
-
-/// How many shards there are: the shard of a key is its remainder.
-const SHARDS: u64 = 8;
 
 /// Sets a key, and tells that it is done or that there is no room.
 fn put_reply<H: HeapSeat>(seat: &mut H, key: u64, value: &[u8]) -> Result<Reply, Stopped>

@@ -10,7 +10,8 @@ ghost use Rattle.trace_run.specs.Rooms.{length_at, length_in, Raises, AreLongest
 ghost use Rattle.trace_run.specs.Said.{request_of, requests_of, ValuesAreShort};
 ghost use Rattle.trace_run.specs.Working.{HasRoom, HaveRoom};
 
-use dictionary::{MapFault, SHARDS, maps_of};
+use dict_model::SHARDS;
+use dictionary::{MapFault, maps_of};
 use region_header::Bytes;
 use std::alloc::{AllocError, Global};
 use std::collections::{BTreeMap, VecDeque};
@@ -75,7 +76,7 @@ fn make_room(
     let Request::Get(key) = request else {
         return Ok(Bytes::from_vec(Vec::new(alloc)));
     };
-    let opened = opened_length(&maps[(*key % SHARDS as u64) as usize], *key);
+    let opened = opened_length(&maps[(*key % SHARDS) as usize], *key);
     let room = opened.max(longest_put(longest, *key));
     Ok(Bytes::from_vec(vec![in alloc; 0; room]?))
 }
