@@ -9,10 +9,10 @@ ghost use Rattle.heap_recover.specs.InPlace.{differences, HoldsDurably, IsRecove
 
 use filter_trace::Filter;
 use line_memory::{LineMemory, Stopped};
-use super_block::Ready;
+use super_block::{LINE_WORDS, Ready};
 
-/// The words of a line.
-const LINE: usize = 8;
+/// The words of a line, as a count of words in memory.
+const LINE: usize = LINE_WORDS as usize;
 
 /// Stores the words of the line in which the images differ, and tells whether there are some.
 fn store_line<M: LineMemory>(
