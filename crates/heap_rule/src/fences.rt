@@ -8,9 +8,7 @@ ghost use Rattle.heap_rule.specs.Shown.{Can};
 
 use crate::seat::Seat;
 use crate::shared::Shared;
-
-/// How many words a line has.
-const LINE: u64 = 8;
+use super_block::LINE_WORDS;
 
 impl Seat {
     /// Writes back the words of an own word's line: the next fence makes them durable.
@@ -21,7 +19,7 @@ impl Seat {
         ensures seat { IsSeatOf shared.now self.new }
     {
         let _seats = shared;
-        self.pending.mark_line(word / LINE);
+        self.pending.mark_line(word / LINE_WORDS);
     }
 
     /// Makes the words durable that were written back and are own; nothing is pending then.
