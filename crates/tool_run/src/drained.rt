@@ -3,15 +3,14 @@ ghost use Rattle.std.specs.Prelude.{IfOk};
 ghost use Rattle.tool_run.specs.Recovering.{IsDrainableAtRest, AreGiven};
 
 use block_heap::{Chance, DrainFault, SeqHeap};
+use image_run::MOST_BUDGET;
 use size_table::SizeClass;
 use std::alloc::{AllocError, Global};
 use super_block::Ready;
 
-/// The greatest budget that a heap can be opened with. Draining a class takes less.
-const BUDGET: u64 = (1 << 40) - 1;
-
 /// The offsets of the blocks that the class of a heap gives until nothing is left, in the order in
-/// which it gives them. They are the same whatever the chance settles early.
+/// which it gives them. They are the same whatever the chance settles early. Draining a class takes
+/// less than the greatest budget.
 pub fn drain_heap<C: Chance>(
     alloc: Global,
     heap: Ready,
@@ -21,7 +20,7 @@ pub fn drain_heap<C: Chance>(
     requires { IsDrainableAtRest heap.words heap.held class.number }
     ensures { IfOk result (λ offsets. AreGiven heap.words heap.held class.number offsets.items) }
 {
-    let mut heap = SeqHeap::new(alloc, heap, BUDGET, chance)?;
+    let mut heap = SeqHeap::new(alloc, heap, MOST_BUDGET, chance)?;
     match heap.drain(alloc, class.number) {
         Ok(offsets) => Ok(offsets),
         Err(DrainFault::Memory) => Err(AllocError),
