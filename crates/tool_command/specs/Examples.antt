@@ -2,7 +2,7 @@
 use Rattle.std.specs.Prelude.{◌≡◌, [], ◌∷◌, codes, true, false, refl}
 use Rattle.std.proofs.Common.{inl, inr, lit<, lit≤}
 use Rattle.clap.specs.Words.{fault_of}
-use Rattle.clap.specs.declared.error.kind.ErrorKind.TheVariants.{ValueValidation, MissingRequiredArgument}
+use Rattle.clap.specs.declared.error.kind.ErrorKind.TheVariants.{ValueValidation, ArgumentConflict, DisplayHelp, MissingRequiredArgument}
 use Rattle.clap.proofs.OnLiterals.{clap_on_literals}
 use Rattle.heap_model.specs.Geometry.{largest_capacity}
 use Rattle.image_run.specs.declared.options.TheConstants.{MOST_BUDGET}
