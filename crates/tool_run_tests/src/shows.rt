@@ -185,10 +185,8 @@ $ show h
 > held large 1 1
 @ 2: used 1, info:0 12, root:0 @1080, root:8 @1080
 $ show h --map
-> heap 2 clean
-> held 1024 1
-> used 1 free 0 fresh 1
-> sb 0 class 12 held 0
+= 9
+> bad shard 0 at 40
 @ 2: used 2, info:0 767, root:8 @1080
 $ show h --map
 > heap 2 clean
