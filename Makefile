@@ -1,5 +1,5 @@
 # make         builds the proved heap_tool and says where it lies
-# make test    runs the tests and the stored runs but those of rebuild_tests, slow_command_tests and absent_image, and proves nothing
+# make test    runs the tests and the stored runs but those of slow_tests and absent_image, and proves nothing
 # make check   every check: the gate
 # make bench   times the program beside the system's tools and other stores, runs of traces, and the heaps, and draws it
 # make faults  refuses each request for memory of a small run in turn, and says how the runs ended

@@ -1,5 +1,6 @@
-//! Tests of the dictionary: its links, and its shards read as maps; and on a heap for one thread
-//! what it answers, and what a stop leaves of it. The crate is nothing but these, so that a change
+//! Tests of the dictionary: its links, and its shards read as maps; on a heap for one thread what it
+//! answers, and what a stop leaves of it; and the texts that are read and printed: traces,
+//! schedules, replies, answers, reports and maps. The crate is nothing but these, so that a change
 //! of the program leaves them alone.
 #![tactic(auto, unfolding(heap_model::specs::Geometry::largest_capacity))]
 
@@ -10,6 +11,8 @@ pub use runs::run_text;
 pub use standing::Standing;
 
 #[cfg(test)]
+mod answers;
+#[cfg(test)]
 mod asks;
 #[cfg(test)]
 mod bad_shards;
@@ -18,8 +21,18 @@ mod checks;
 #[cfg(test)]
 mod filter;
 #[cfg(test)]
+mod heaps;
+#[cfg(test)]
+mod made;
+#[cfg(test)]
+mod readings;
+#[cfg(test)]
 mod run_tests;
+#[cfg(test)]
+mod schedules;
 #[cfg(test)]
 mod shards;
 #[cfg(test)]
 mod tests;
+#[cfg(test)]
+mod traces;

@@ -167,25 +167,3 @@ fn read_piece<F: Read>(
     image.extend_from_slice(&part[..count])?;
     Ok(count > 0)
 }
-
-#[cfg(test)]
-mod tests {
-    use super::*;
-    use std::os::unix::fs::symlink;
-    use std::test::Fail;
-
-    // The clauses say that the count rose, and no call shows it.
-    #[test]
-    fn each_failed_call_is_counted_once(rt: HostRuntime) -> Result<(), Fail> {
-        let mut store = FileStore::new(&rt);
-        fs::create_dir(&rt, "folder")?;
-        let _ = store.get(rt.alloc(), "folder", 9);
-        let _ = store.put(rt.alloc(), "missing/image", b"a");
-        let _ = store.put(rt.alloc(), "folder", b"a");
-        assert_eq!(rt; store.faults.count, 3);
-        symlink(&rt, "loop", "loop")?;
-        let _ = store.put(rt.alloc(), "loop", b"a");
-        assert_eq!(rt; store.faults.count, 4);
-        Ok(())
-    }
-}

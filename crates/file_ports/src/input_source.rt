@@ -59,19 +59,3 @@ fn read_retrying<R: Read>(reader: &mut R, buf: &mut [u8]) -> Result<usize, Faile
     }
     Err(Failed)
 }
-
-#[cfg(test)]
-mod tests {
-    use super::*;
-    use std::fs;
-    use std::test::Fail;
-
-    // The clause says that the count rose, and no call shows it.
-    #[test]
-    fn a_failed_read_is_counted_once(rt: HostRuntime) -> Result<(), Fail> {
-        let mut source = InputSource::new(fs::open(&rt, ".")?);
-        assert_eq!(rt; source.read(&mut [0; 4]), Err(Failed));
-        assert_eq!(rt; source.faults.count, 1);
-        Ok(())
-    }
-}

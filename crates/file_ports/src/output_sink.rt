@@ -59,20 +59,3 @@ fn write_retrying<W: Write>(writer: &mut W, bytes: &[u8]) -> Result<usize, Faile
     }
     Err(Failed)
 }
-
-#[cfg(test)]
-mod tests {
-    use super::*;
-    use std::test::Fail;
-
-    // The clause says that the count rose, and no call shows it.
-    #[test]
-    fn a_failed_write_is_counted_once(rt: HostRuntime) -> Result<(), Fail> {
-        let mut room = [b'-'; 1];
-        let mut sink = OutputSink::new(&mut room[..]);
-        assert_eq!(rt; sink.write(b"ab"), Ok(1));
-        assert_eq!(rt; sink.write(b"b"), Err(Failed));
-        assert_eq!(rt; sink.faults.count, 1);
-        Ok(())
-    }
-}

@@ -1,5 +1,5 @@
 //! Recovery made in place, stopped at each step, and recovery of what that leaves, stopped again
-//! at a few. (The crate rebuild_tests takes every step of the second too.)
+//! at a few. (The crate slow_tests takes every step of the second too.)
 use crate::asserts::must_hold;
 use crate::in_place::{InPlace, holds, recover_in_place, torn};
 use crate::pairs::{Pairs, kinds};

@@ -1,6 +1,7 @@
-//! Tests of the rows of calls of `heap_rule_tests`: scenes in which two seats of one thread take
-//! turns, with each answer and the words that are left. The crate is nothing but these, so that the
-//! rows are proved once.
+//! Tests of the users of seats: scenes of the rows of `heap_rule_tests`, in which two seats of one
+//! thread take turns, with each answer and the words that are left; and the threads of
+//! `heap_rule_threads`, with what they leave beside what recovery finds. The crate is nothing but
+//! these, so that rows and threads are proved once.
 #![tactic(auto, unfolding(heap_model::specs::Geometry::largest_capacity))]
 
 #[cfg(test)]
@@ -16,11 +17,15 @@ mod listing;
 #[cfg(test)]
 mod opening;
 #[cfg(test)]
+mod plain;
+#[cfg(test)]
 mod returning;
 #[cfg(test)]
 mod rooting;
 #[cfg(test)]
 mod rows;
+#[cfg(test)]
+mod running;
 #[cfg(test)]
 mod scene;
 #[cfg(test)]

@@ -33,7 +33,7 @@ fn stop_at<C: Chances>(
 }
 
 /// Stops a recovery at each early step and at a few later ones until it is done, and recovers what
-/// each stop left. (The crate slow_command_tests takes every step.)
+/// each stop left. (The crate slow_tests takes every step.)
 fn goes_on_from_stops<C: Chances>(
     rt: &(impl Abort + AllocGlobal),
     chances: &mut C,

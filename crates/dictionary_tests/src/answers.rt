@@ -1,5 +1,5 @@
 //! Replies and answers as they are printed.
-use crate::readings::must_hold;
+use crate::checks::must_hold;
 use core_model::StepAnswer;
 use region_header::Bytes;
 use std::alloc::{AllocError, Global};

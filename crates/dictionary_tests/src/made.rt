@@ -1,7 +1,8 @@
 //! Traces that are made of a number of requests and a seed.
 ghost use Rattle.std.specs.Prelude.{◌≤◌};
 
-use crate::readings::{must_hold, trace_told};
+use crate::checks::must_hold;
+use crate::readings::trace_told;
 use std::process::Abort;
 use std::test::Fail;
 use trace_text::gen_text;

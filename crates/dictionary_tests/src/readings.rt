@@ -2,6 +2,7 @@
 //!
 //! A row is a line: what is read, ` =>`, and behind a space what is told of it. In both `;` stands
 //! for a line feed, and `?` for the byte 255. Empty lines say nothing.
+use crate::checks::must_hold;
 use core_model::Event;
 use std::alloc::{AllocError, Global};
 use std::process::Abort;
@@ -13,12 +14,6 @@ use trace_text::{Request, TraceError, parse_schedule, parse_trace};
 pub enum Grammar {
     Trace,
     Schedule,
-}
-
-/// Asserts what the text tells of. An assertion makes a long function slow to prove; a call of this
-/// one does not.
-pub fn must_hold(rt: &impl Abort, holds: bool, told: &str) {
-    assert!(rt; holds, "{told}");
 }
 
 fn byte_of(sign: u8) -> u8 {

@@ -1,5 +1,5 @@
 //! Recovered heaps, and what is told of each.
-use crate::readings::must_hold;
+use crate::checks::must_hold;
 use dictionary::{DictFilter, root_kinds};
 use heap_recover::{Recovered, recover};
 use image_text::{image_of, number};

@@ -1,5 +1,6 @@
 //! Traces that are read, and those outside the grammar.
-use crate::readings::{Grammar, must_hold, reads_each};
+use crate::checks::must_hold;
+use crate::readings::{Grammar, reads_each};
 use std::alloc::{AllocError, Global};
 use std::mem::size_of;
 use std::process::Abort;
