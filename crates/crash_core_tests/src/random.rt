@@ -129,7 +129,7 @@ fn roll(
     for step in 0..300 {
         roll_once(rt, pair, &mut dice, is_guided)?;
         let is_sound = are_in_one_place(alloc, &pair.plain)?
-            && (step % 20 != 19 || keeps_held(alloc, &pair.core, &pair.plain)?);
+            && (step % 60 != 59 || keeps_held(alloc, &pair.core, &pair.plain)?);
         assert!(rt; is_sound, "seed {seed} step {step}");
     }
     Ok(())

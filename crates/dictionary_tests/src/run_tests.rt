@@ -102,10 +102,10 @@ fn stops_and_goes_on(
 }
 
 #[test]
-fn wherever_a_run_stops_its_image_can_be_run_again(rt: HostRuntime) -> Result<(), Fail> {
+fn what_a_stopped_run_leaves_can_be_run_again(rt: HostRuntime) -> Result<(), Fail> {
     let image = format(rt.alloc(), 2)?;
-    for step in 0..2_000u64 {
-        if stops_and_goes_on(&rt, &image, 16 * step)? {
+    for step in 0..1_000u64 {
+        if stops_and_goes_on(&rt, &image, 37 * step)? {
             return Ok(());
         }
     }

@@ -3,6 +3,7 @@
 ghost use Rattle.std.specs.Prelude.{◌≤◌, ◌<◌};
 
 use crate::plain::{class_pops, size_of, wrong_with};
+use crate::rows::must_hold;
 use dictionary::{DictFilter, root_kinds};
 use heap_recover::recover;
 use heap_rule_threads::{Ended, Plan, Report, Task, work_together};
@@ -93,11 +94,6 @@ fn first_words(alloc: Global, blocks: &[Block]) -> Result<Vec<u64>, AllocError> 
         words.push(block.first_word)?;
     }
     Ok(words)
-}
-
-/// Asserts what the text tells of.
-fn must_hold(rt: &impl Abort, holds: bool, told: &str) {
-    assert!(rt; holds, "{told}");
 }
 
 /// The slow look finds nothing wrong with the words of a heap of which these blocks are held.

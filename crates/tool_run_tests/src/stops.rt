@@ -1,4 +1,4 @@
-//! Runs stopped at each step: what is told of the image that is left, and that it is gone on with.
+//! Runs stopped at their steps: what is told of the image that is left, and that it is gone on with.
 use crate::harness::{NO_CALL, image_after, make, make_plain, must_hold, plain, runs, store_with};
 use line_memory::ConstantChance;
 use std::alloc::{AllocError, Global};
@@ -168,8 +168,8 @@ fn go_on(rt: &(impl Abort + AllocGlobal), image: &[u8], budget: u64) -> Result<b
 #[test]
 fn requests_left_unanswered_are_run_on_what_a_stop_left(rt: HostRuntime) -> Result<(), Fail> {
     let image = image_after(rt.alloc(), "2", "put 0 aa")?;
-    for budget in 0..10_000 {
-        if go_on(&rt, &image, budget)? {
+    for step in 0..3_000u64 {
+        if go_on(&rt, &image, 3 * step)? {
             return Ok(());
         }
     }
