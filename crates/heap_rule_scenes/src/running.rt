@@ -154,10 +154,8 @@ fn must_find<R: Threads + Sync + AllocGlobal + Abort>(
 fn recovery_finds_what_threads_hold(rt: HostRuntime) -> Result<(), Fail> {
     must_find(&rt, 1, 1)?;
     must_find(&rt, 2, 2)?;
-    must_find(&rt, 2, 3)?;
     must_find(&rt, 4, 4)?;
-    must_find(&rt, 8, 5)?;
-    must_find(&rt, 8, 6)
+    must_find(&rt, 8, 5)
 }
 
 /// Whether each of some blocks is among others.
@@ -197,7 +195,6 @@ fn must_keep<R: Threads + Sync + AllocGlobal + Abort>(
 fn a_crash_leaves_what_was_published(rt: HostRuntime) -> Result<(), Fail> {
     must_keep(&rt, 2, 100, 1)?;
     must_keep(&rt, 2, 1_000, 2)?;
-    must_keep(&rt, 4, 1_500, 3)?;
     must_keep(&rt, 4, 3_000, 4)?;
     must_keep(&rt, 8, 3_000, 5)?;
     must_keep(&rt, 8, 6_000, 6)
@@ -245,6 +242,5 @@ fn a_list_that_threads_pop_and_push_stays_one(rt: HostRuntime) -> Result<(), Fai
     must_do(&rt, Task::PopAndPush, 2)?;
     must_do(&rt, Task::PopAndPush, 8)?;
     must_do(&rt, Task::LoadAndStore, 1)?;
-    must_do(&rt, Task::LoadAndStore, 4)?;
     must_do(&rt, Task::LoadAndStore, 8)
 }
