@@ -1,4 +1,6 @@
 //! Where the numbers come from that decide what a crash leaves.
+ghost use Rattle.std.specs.Prelude.{◌≡◌, ◌-◌, ◌^◌};
+
 use line_memory::{Chance, ConstantChance};
 
 /// A source of chance for each worker, and of words for what a crash leaves at random. Nothing is
@@ -21,13 +23,21 @@ pub trait Chances {
 impl Chances for ConstantChance {
     type One = ConstantChance;
 
-    fn seed(&mut self, _: u64) {}
+    fn seed(&mut self, _: u64)
+        ensures { self.new ≡ self.old }
+    {}
 
-    fn chance(&mut self, _: usize) -> ConstantChance {
+    fn chance(&mut self, _: usize) -> ConstantChance
+        ensures same { result ≡ self.old }
+        ensures unchanged { self.new ≡ self.old }
+    {
         *self
     }
 
-    fn word(&mut self) -> u64 {
+    fn word(&mut self) -> u64
+        ensures all { result ≡ 2 ^ 64 - 1 }
+        ensures unchanged { self.new ≡ self.old }
+    {
         u64::MAX
     }
 }
