@@ -1,5 +1,5 @@
 //! The source of the numbers that decide which words are written back early.
-ghost use Rattle.std.specs.Prelude.{ℕ, ⊤};
+ghost use Rattle.std.specs.Prelude.{◌≡◌, ℕ, ⊤};
 
 /// A source of numbers. Nothing is promised of them, so each theorem holds whatever it gives.
 pub trait Chance: Drop {
@@ -17,7 +17,10 @@ pub trait Chance: Drop {
 pub struct ConstantChance(pub u64);
 
 impl Chance for ConstantChance {
-    fn draw(&mut self) -> u64 {
+    fn draw(&mut self) -> u64
+        ensures same { result ≡ self.old.0 }
+        ensures unchanged { self.new ≡ self.old }
+    {
         self.0
     }
 }
