@@ -3,7 +3,7 @@ use Rattle.std.proofs.Common.{◌≡◌, ◌≢◌, ℕ, ◌+◌, ◌*◌, ◌<�
 use Rattle.std.proofs.lemmas.Bool.{agree_below, cases_eq, cond-true, le-leb, leb-true}
 use Rattle.heap_model.specs.declared.block.Block.{Block}
 use Rattle.heap_model.specs.Geometry.{link_word, superblock_words, largest_capacity}
-use Rattle.heap_model.specs.Sizes.{IsClass, IsLeastClassFor, class_sizes, size_of, words_of_class, blocks_of, largest_small, span_of}
+use Rattle.heap_model.specs.Sizes.{IsClass, IsLeastClassFor, class_sizes, size_of, words_of_class, blocks_of, largest_small, span_of, last_class}
 use Rattle.heap_model.specs.Words.{head_first}
 use Rattle.heap_model.specs.Blocks.{Begins, of_class, as_large}
 use Rattle.heap_model.specs.Chains.{Follows}
@@ -49,7 +49,7 @@ no_later c class is_c is less =
   where
     row : cond (nat_le (size_of c) (size_of class)) (nat_le c class) true ≡ true
     row = at_class (λ k. cond (nat_le (size_of c) (size_of k)) (nat_le c k) true)
-        (at_class (λ j. agree_below (λ k. cond (nat_le (size_of j) (size_of (k + 1))) (nat_le j (k + 1)) true) (λ _. true) 20) refl c is_c) class is
+        (at_class (λ j. agree_below (λ k. cond (nat_le (size_of j) (size_of (k + 1))) (nat_le j (k + 1)) true) (λ _. true) last_class) refl c is_c) class is
 
 -- the least class for the size of a class is that class
 pub least_of_size : (bytes class other : ℕ) → IsLeastClassFor bytes class → IsClass other → bytes ≡ size_of other → other ≡ class

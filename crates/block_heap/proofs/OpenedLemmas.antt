@@ -92,7 +92,7 @@ seen_more words looks count look seen now = record {
 
 -- The parts of a heap that was opened at rest.
 module _ (words : List ℕ) (held : List Block) (budget : ℕ) (h : HeldBlocks) (caches : List Cache) (look : Look) (looks : List Look)
-    (ready : IsReady words held) (few : budget < 2 ^ 40) (is : IsHeldOf words held h) (none : caches ≡ replicate 21 no_cache)
+    (ready : IsReady words held) (few : budget < 2 ^ 40) (is : IsHeldOf words held h) (none : caches ≡ replicate lists no_cache)
     (long : length looks ≡ lists) (look_is : look ≡ opened_look (slice_index words used_word))
     (looks_are : (list : ℕ) → list < lists → head_look looks list ≡ opened_look (slice_index words (head_word list))) where
   abbrev parts : Parts
@@ -120,7 +120,7 @@ module _ (words : List ℕ) (held : List Block) (budget : ℕ) (h : HeldBlocks) 
   cache_is : (class : ℕ) → IsClass class → cache_at caches class ≡ no_cache
   cache_is class is_class =
       let last = is_class.last in
-      subst (λ cs. cache_at cs class ≡ no_cache) (sym none) (get_or-replicate 21 class no_cache no_cache (omega arith))
+      subst (λ cs. cache_at cs class ≡ no_cache) (sym none) (get_or-replicate lists class no_cache no_cache (omega arith))
 
   cache_right : (class : ℕ) → IsClass class → IsCacheOf s class (cache_at caches class)
   cache_right class is_class = subst (IsCacheOf s class) (sym (cache_is class is_class)) (record {
@@ -134,7 +134,7 @@ module _ (words : List ℕ) (held : List Block) (budget : ℕ) (h : HeldBlocks) 
     words_open = record { running = refl; long = let length_is = ready.formed.length_is in omega arith };
     below = omega arith;
     bounded = few;
-    caches_long = ap length none ∙ length-replicate 21 no_cache;
+    caches_long = ap length none ∙ length-replicate lists no_cache;
     looks_long = long;
     shape = s;
     is = is_shape;

@@ -1,10 +1,10 @@
 -- What a request and a free leave of a heap for one thread.
-use Rattle.std.proofs.Common.{◌≡◌, ℕ, zero, suc, ◌+◌, ◌<◌, ◌≤◌, ◌⊎◌, inl, inr, Option, None, Some, Result, Ok, Err, OnOk, OnErr, IfOk, IfErr, List, Contains, refl, ap, sym, subst, ◌∙◌, arith}
+use Rattle.std.proofs.Common.{◌≡◌, ℕ, zero, suc, ◌+◌, ◌-◌, ◌<◌, ◌≤◌, ◌⊎◌, inl, inr, Option, None, Some, Result, Ok, Err, OnOk, OnErr, IfOk, IfErr, List, Contains, refl, ap, sym, subst, ◌∙◌, arith}
 use Rattle.std.specs.Prelude.{slice_index_or, ⊤}
 use Rattle.std.proofs.lemmas.Bool.{cases_lt}
 use Rattle.heap_model.specs.declared.block.Block.{Block}
 use Rattle.heap_model.specs.Geometry.{used_word}
-use Rattle.heap_model.specs.Sizes.{IsClass, IsLeastClassFor, class_sizes, size_of, largest_small, span_of}
+use Rattle.heap_model.specs.Sizes.{IsClass, IsLeastClassFor, class_sizes, size_of, largest_small, span_of, last_class}
 use Rattle.heap_model.specs.Words.{head_first}
 use Rattle.line_memory.specs.View.{volatile_at, durable_at}
 use Rattle.line_memory.specs.declared.memory.Stopped.{Stopped}
@@ -147,10 +147,10 @@ request_runs (Ok answer) bytes p q before answers = let runs = answer_runs answe
 request_runs (Err e) bytes p q before answers = tt
 
 -- the least class, from `from` on, whose blocks hold so many bytes
-least_from : (bytes from more : ℕ) → 1 ≤ from → from + more ≡ 20 → bytes ≤ size_of 20 → ((other : ℕ) → IsClass other → other < from → bytes ≤ size_of other → ⊥)
+least_from : (bytes from more : ℕ) → 1 ≤ from → from + more ≡ last_class → bytes ≤ size_of last_class → ((other : ℕ) → IsClass other → other < from → bytes ≤ size_of other → ⊥)
     → (c : ℕ) × IsLeastClassFor bytes c
 least_from bytes from zero some end fits none =
-    let last : 20 ≡ from = omega arith in (
+    let last : last_class ≡ from = omega arith in (
       from,
       record {
         is_class = record { some = some; last = omega arith };
@@ -173,12 +173,12 @@ least_from bytes from (suc more) some end fits none = elim (cases_lt (size_of fr
   )
 ]
 
-last_size : (bytes : ℕ) → bytes ≤ largest_small → bytes ≤ size_of 20
+last_size : (bytes : ℕ) → bytes ≤ largest_small → bytes ≤ size_of last_class
 unfolding size_of class_sizes
 last_size bytes small = small
 
 least_class : (bytes : ℕ) → bytes ≤ largest_small → (c : ℕ) × IsLeastClassFor bytes c
-least_class bytes small = least_from bytes 1 19 (omega arith) (omega arith) (last_size bytes small) (λ other is less holds. let some = is.some in omega arith)
+least_class bytes small = least_from bytes 1 (last_class - 1) (omega arith) (omega arith) (last_size bytes small) (λ other is less holds. let some = is.some in omega arith)
 
 -- a class serves a request of as many bytes as its blocks have
 pub size_served : (class bytes : ℕ) (a b : SizeClass) → IsClass class → bytes ≡ size_of class → a.number ≡ class → Some a ≡ Some b

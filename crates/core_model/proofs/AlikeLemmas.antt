@@ -1,7 +1,7 @@
 -- Whatever a crash leaves of the same durable words reaches the same: no trace looks at what it leaves at random.
 use Rattle.std.proofs.Common.{◌≡◌, ◌≢◌, ℕ, ◌+◌, ◌<◌, ◌≤◌, ◌⊎◌, inl, inr, List, Contains, refl, ap, sym, subst, ◌∙◌, arith}
 use Rattle.heap_model.specs.declared.block.Block.{Block}
-use Rattle.heap_model.specs.Geometry.{capacity_word, used_word, state_word, info_word, root_word, start_word, roots}
+use Rattle.heap_model.specs.Geometry.{capacity_word, used_word, state_word, info_word, root_word, start_word, roots, lists, head_word}
 use Rattle.heap_model.specs.Image.{Image}
 use Rattle.heap_model.specs.Header.{capacity_of, used_of}
 use Rattle.heap_model.specs.Blocks.{Layout, IsBlock, layout_of}
@@ -14,7 +14,7 @@ use Rattle.heap_model.proofs.HeaderLemmas.{header_lasts}
 
 -- where a crash leaves words at random: in the line of the heads, or behind the info of a descriptor
 at_random : (capacity word : ℕ) → IsTransient capacity word
-    → ((16 ≤ word) × (word < 37)) ⊎ ((d : ℕ) × (d < capacity) × (info_word d < word) × (word < info_word d + 3))
+    → ((16 ≤ word) × (word < head_word lists)) ⊎ ((d : ℕ) × (d < capacity) × (info_word d < word) × (word < info_word d + 3))
 at_random capacity _ (is_head list word few at) = inl (omega arith, omega arith)
 at_random capacity _ (is_anchor d word less at) = inr (d, less, omega arith, omega arith)
 at_random capacity _ (is_link d word less at) = inr (d, less, omega arith, omega arith)

@@ -1,5 +1,6 @@
 -- Worked examples of steps that a seat may not take.
 use Rattle.std.proofs.Common.{◌≡◌, ◌%◌, [], ◌∷◌, None, Some, inl, inr, arith}
+use Rattle.heap_model.specs.Geometry.{lists}
 use Rattle.core_model.specs.declared.event.Event.TheVariants.{LookUsed, KeepUsed, LookHead}
 use Rattle.core_model.specs.Cells.{info_cell}
 use Rattle.core_model.specs.Guards.{IsOwn, IsFreelyClaimed, MayTake, MayPop, MayLink, MayLookAt, MayPush, MayTakeAll, MayGive, MayCut, MayAlloc, MayFree, MayLift, MayHoldLarge, MaySplit, IsReadyFor, MayStep}
@@ -29,8 +30,8 @@ cutting_is_not_free free = let none = free.not_cutting in omega arith
 pub keeps_unseen : IsReadyFor memory idle KeepUsed → ⊥
 keeps_unseen seen = omega (arith, seen)
 
--- there are lists 0 to 20
-pub looks_past_the_lists : IsReadyFor memory idle (LookHead 21) → ⊥
+-- a list past the last
+pub looks_past_the_lists : IsReadyFor memory idle (LookHead lists) → ⊥
 looks_past_the_lists less = omega (arith, less)
 
 -- the anchor of a superblock that is not claimed

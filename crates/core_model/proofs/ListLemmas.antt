@@ -3,7 +3,7 @@ use Rattle.std.proofs.Common.{◌≡◌, ◌≢◌, ℕ, zero, suc, ◌+◌, ◌
 use Rattle.std.proofs.lemmas.Bool.{cases_eq, agree_below_at}
 use Rattle.std.proofs.lemmas.List.{get_or_default}
 use Rattle.heap_model.specs.Geometry.{lists}
-use Rattle.heap_model.specs.Sizes.{IsClass}
+use Rattle.heap_model.specs.Sizes.{IsClass, last_class}
 use Rattle.heap_model.specs.Words.{head_of, head_first, head_pops}
 use Rattle.heap_model.specs.Chains.{Follows}
 use Rattle.heap_model.specs.Counting.{times, total}
@@ -156,7 +156,7 @@ adds_at_head k m views i v w below at adds list word is pops none draws stopped 
     (let p = pops_set (head m) list word is in let n = ap one_if_some none in omega arith) (omega arith)
 
 -- the numbers of classes are classes
-pub class_of : (i n : ℕ) → i < 20 → get_or class_numbers i n ≡ n → IsClass n
+pub class_of : (i n : ℕ) → i < last_class → get_or class_numbers i n ≡ n → IsClass n
 class_of i n below at = subst IsClass (sym (at_index i below) ∙ at) (record { some = omega arith; last = omega arith }) where
-  at_index : (j : ℕ) → j < 20 → get_or class_numbers j n ≡ j + 1
-  at_index j less = get_or_default class_numbers j n 0 less ∙ eqb-true (get_or class_numbers j 0) (j + 1) (agree_below_at (λ y. nat_eq (get_or class_numbers y 0) (y + 1)) (λ _. true) 20 j refl less)
+  at_index : (j : ℕ) → j < last_class → get_or class_numbers j n ≡ j + 1
+  at_index j less = get_or_default class_numbers j n 0 less ∙ eqb-true (get_or class_numbers j 0) (j + 1) (agree_below_at (λ y. nat_eq (get_or class_numbers y 0) (y + 1)) (λ _. true) last_class j refl less)

@@ -393,9 +393,9 @@ module _ (words : List ℕ) (held : List Block) (budget seats : ℕ) (block_owne
           info_is (superblock_at c b) (subst (λ d. d < c) (sym at) (in_used s.d s.taken)) ∙ infos
       | inr past ↦ absurd (let n = beyond (V j).small class b (let e = length_tabulate (λ n. small_blocks c (λ d. image (info_word d)) n (picked j held block_owners)) 0 lists in omega arith) in omega arith)
     ];
-    cached = λ class b some. absurd (let n = empty_at 21 class b in omega arith);
+    cached = λ class b some. absurd (let n = empty_at lists class b in omega arith);
     batched = λ b some. absurd (omega (arith, some));
-    cache_linked = λ class. no_walk (next m) (get_or (replicate 21 []) class []) (λ b. empty_at 21 class b);
+    cache_linked = λ class. no_walk (next m) (get_or (replicate lists []) class []) (λ b. empty_at lists class b);
     batch_linked = tt;
   }
 

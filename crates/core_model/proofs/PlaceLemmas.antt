@@ -3,7 +3,7 @@ use Rattle.std.proofs.Common.{◌≡◌, ◌≢◌, ℕ, zero, suc, ◌+◌, ◌
 use Rattle.std.proofs.lemmas.Bool.{cases_eq, cases_lt}
 use Rattle.std.proofs.lemmas.List.{get_or-set_other}
 use Rattle.std.proofs.lemmas.Grind.{get_or-set_at}
-use Rattle.heap_model.specs.Geometry.{image_words, start_word}
+use Rattle.heap_model.specs.Geometry.{image_words, start_word, lists, head_word}
 use Rattle.core_model.specs.Cells.{Cell, used_cell, head_cell, info_cell, anchor_cell, link_cell, root_cell, data_cell, no_cell, is_cell, index_of, cell_at, header_cell, descriptor_cell}
 use Rattle.core_model.specs.View.{known}
 use Rattle.core_model.specs.Effects.{seen, learn}
@@ -52,10 +52,10 @@ in_descriptor c d at less small =
 pub cell_at_index : (c : ℕ) (cell : Cell) → is_cell c cell ≡ true → cell_at c (index_of cell) ≡ cell
 cell_at_index c used_cell is = refl
 cell_at_index c (head_cell list) is =
-    let less : list < 21 = ltb-true list 21 is in
+    let less : list < lists = ltb-true list lists is in
     pick (nat_lt (16 + list) 40) _ _ (lt-ltb (16 + list) 40 (omega arith))
     ∙ skip (nat_eq (16 + list) 8) _ _ (not-eq (16 + list) 8 (λ e. omega (arith, e)))
-    ∙ pick (nat_le 16 (16 + list) && nat_lt (16 + list) 37) _ _ (and_is (nat_le 16 (16 + list)) (nat_lt (16 + list) 37) (le-leb 16 (16 + list) (omega arith)) (lt-ltb (16 + list) 37 (omega arith)))
+    ∙ pick (nat_le 16 (16 + list) && nat_lt (16 + list) (head_word lists)) _ _ (and_is (nat_le 16 (16 + list)) (nat_lt (16 + list) (head_word lists)) (le-leb 16 (16 + list) (omega arith)) (lt-ltb (16 + list) (head_word lists) (omega arith)))
     ∙ ap head_cell (let e : 16 + list - 16 ≡ list = omega arith in e)
 cell_at_index c (info_cell d) is = let less : d < c = ltb-true d c is in ap (cell_at c) (let e : 1064 + 8 * d ≡ 1064 + 8 * d + 0 = omega arith in e) ∙ in_descriptor c d 0 less (omega arith)
 cell_at_index c (anchor_cell d) is = let less : d < c = ltb-true d c is in ap (cell_at c) (let e : 1065 + 8 * d ≡ 1064 + 8 * d + 1 = omega arith in e) ∙ in_descriptor c d 1 less (omega arith)
@@ -77,7 +77,7 @@ cell_at_index c no_cell is = absurd (cc)
 -- a cell lies in the image
 pub index_within : (c : ℕ) (cell : Cell) → is_cell c cell ≡ true → index_of cell < image_words c
 index_within c used_cell is = omega arith
-index_within c (head_cell list) is = let less : list < 21 = ltb-true list 21 is in omega arith
+index_within c (head_cell list) is = let less : list < lists = ltb-true list lists is in omega arith
 index_within c (info_cell d) is = let less : d < c = ltb-true d c is in omega arith
 index_within c (anchor_cell d) is = let less : d < c = ltb-true d c is in omega arith
 index_within c (link_cell d) is = let less : d < c = ltb-true d c is in omega arith
@@ -111,12 +111,12 @@ index_at c word is = elim (cases_lt word 40) [
 
   in_the_header : word < 40 → is_cell c (header_cell word) ≡ true → index_of (header_cell word) ≡ word
   in_the_header less e = elim (cases_eq word 8) [
-    | inl eight ↦ subst (λ t. index_of (cond t used_cell (cond (nat_le 16 word && nat_lt word 37) (head_cell (word - 16)) no_cell)) ≡ word) (sym (eq-eqb word 8 eight)) (sym eight)
-    | inr other ↦ subst (λ t. is_cell c (cond t used_cell (cond (nat_le 16 word && nat_lt word 37) (head_cell (word - 16)) no_cell)) ≡ true → index_of (cond t used_cell (cond (nat_le 16 word && nat_lt word 37) (head_cell (word - 16)) no_cell)) ≡ word)
-        (sym (not-eq word 8 other)) (by_test (nat_le 16 word && nat_lt word 37) refl) e
+    | inl eight ↦ subst (λ t. index_of (cond t used_cell (cond (nat_le 16 word && nat_lt word (head_word lists)) (head_cell (word - 16)) no_cell)) ≡ word) (sym (eq-eqb word 8 eight)) (sym eight)
+    | inr other ↦ subst (λ t. is_cell c (cond t used_cell (cond (nat_le 16 word && nat_lt word (head_word lists)) (head_cell (word - 16)) no_cell)) ≡ true → index_of (cond t used_cell (cond (nat_le 16 word && nat_lt word (head_word lists)) (head_cell (word - 16)) no_cell)) ≡ word)
+        (sym (not-eq word 8 other)) (by_test (nat_le 16 word && nat_lt word (head_word lists)) refl) e
   ] where
-    by_test : (test : Bool) → nat_le 16 word && nat_lt word 37 ≡ test → is_cell c (cond test (head_cell (word - 16)) no_cell) ≡ true → index_of (cond test (head_cell (word - 16)) no_cell) ≡ word
-    by_test true both f = let low : 16 ≤ word = leb-true 16 word (and_both (nat_le 16 word) (nat_lt word 37) both).0 in omega arith
+    by_test : (test : Bool) → nat_le 16 word && nat_lt word (head_word lists) ≡ test → is_cell c (cond test (head_cell (word - 16)) no_cell) ≡ true → index_of (cond test (head_cell (word - 16)) no_cell) ≡ word
+    by_test true both f = let low : 16 ≤ word = leb-true 16 word (and_both (nat_le 16 word) (nat_lt word (head_word lists)) both).0 in omega arith
     by_test false both f = absurd (true≢false (sym f))
 
   in_the_line : 1064 ≤ word → is_cell c (descriptor_cell ((word - 1064) / 8) ((word - 1064) % 8)) ≡ true → index_of (descriptor_cell ((word - 1064) / 8) ((word - 1064) % 8)) ≡ word
@@ -144,7 +144,7 @@ known_after c values word x cell value long is knows = elim (cases_eq (index_of 
 -- what stands at a word index is a cell of the image, or none
 pub cell_there : (c word : ℕ) → (is_cell c (cell_at c word) ≡ true) ⊎ (cell_at c word ≡ no_cell)
 cell_there c word = elim (cases_lt word 40) [
-  | inl header ↦ via (header_cell word) (pick (nat_lt word 40) _ _ (lt-ltb word 40 header)) (in_the_header (nat_eq word 8) (nat_le 16 word && nat_lt word 37) refl)
+  | inl header ↦ via (header_cell word) (pick (nat_lt word 40) _ _ (lt-ltb word 40 header)) (in_the_header (nat_eq word 8) (nat_le 16 word && nat_lt word (head_word lists)) refl)
   | inr past ↦ elim (cases_lt word 1064) [
     | inl root ↦ via (root_cell (word - 40)) (skip (nat_lt word 40) _ _ (not-lt word 40 (omega arith)) ∙ pick (nat_lt word 1064) _ _ (lt-ltb word 1064 root)) (inl (lt-ltb (word - 40) 1024 (omega arith)))
     | inr past_roots ↦ elim (cases_lt word (start_word c 0)) [
@@ -165,9 +165,9 @@ cell_there c word = elim (cases_lt word 40) [
   via : (cell : Cell) → cell_at c word ≡ cell → (is_cell c cell ≡ true) ⊎ (cell ≡ no_cell) → (is_cell c (cell_at c word) ≡ true) ⊎ (cell_at c word ≡ no_cell)
   via cell same of = subst (λ x. (is_cell c x ≡ true) ⊎ (x ≡ no_cell)) (sym same) of
 
-  in_the_header : (a b : Bool) → (nat_le 16 word && nat_lt word 37) ≡ b → (is_cell c (cond a used_cell (cond b (head_cell (word - 16)) no_cell)) ≡ true) ⊎ (cond a used_cell (cond b (head_cell (word - 16)) no_cell) ≡ no_cell)
+  in_the_header : (a b : Bool) → (nat_le 16 word && nat_lt word (head_word lists)) ≡ b → (is_cell c (cond a used_cell (cond b (head_cell (word - 16)) no_cell)) ≡ true) ⊎ (cond a used_cell (cond b (head_cell (word - 16)) no_cell) ≡ no_cell)
   in_the_header true b e = inl refl
-  in_the_header false true e = let both = and_both (nat_le 16 word) (nat_lt word 37) e in inl (lt-ltb (word - 16) 21 (let l : word < 37 = ltb-true word 37 both.1 in let h : 16 ≤ word = leb-true 16 word both.0 in omega arith))
+  in_the_header false true e = let both = and_both (nat_le 16 word) (nat_lt word (head_word lists)) e in inl (lt-ltb (word - 16) lists (let l : word < head_word lists = ltb-true word (head_word lists) both.1 in let h : 16 ≤ word = leb-true 16 word both.0 in omega arith))
   in_the_header false false e = inr refl
 
   in_the_line : (d : ℕ) (a b e : Bool) → d < c → (is_cell c (cond a (info_cell d) (cond b (anchor_cell d) (cond e (link_cell d) no_cell))) ≡ true) ⊎ (cond a (info_cell d) (cond b (anchor_cell d) (cond e (link_cell d) no_cell)) ≡ no_cell)

@@ -2,6 +2,7 @@
 use Rattle.std.proofs.Common.{◌≡◌, ℕ, zero, suc, ◌+◌, ◌<◌, ◌≤◌, inl, inr, Bool, true, false, cond, not, nat_eq, List, [], ◌∷◌, ◌++◌, Contains, replicate, get_or, set, length, refl, ap, sym, subst, ◌∙◌, ne_eqb, length-append, true≢false, arith}
 use Rattle.std.proofs.lemmas.Bool.{cases_lt}
 use Rattle.std.proofs.lemmas.List.{get_or_append_left, get_or_default}
+use Rattle.heap_model.specs.Geometry.{lists}
 use Rattle.heap_model.specs.Words.{large_info}
 use Rattle.heap_model.specs.Counting.{times, total, one_if}
 use Rattle.heap_model.proofs.MemberLemmas.{in_head, in_rest, head_or_rest}
@@ -129,7 +130,7 @@ module _ (k : Setup) (m : Memory) (views : List View) (i : ℕ) (v : View) (belo
     large = λ d. (dealt (λ (x : View). times_large d x.large) (spans_both c.spans d v.large)) j;
     blocks = λ n. (dealt (times_block n) (let s = lists_both c.blocks n v.small in let z = no_blocks n in omega arith)) j;
   } where
-    no_blocks : (n : ℕ) → total (times n) (replicate 21 []) ≡ 0
+    no_blocks : (n : ℕ) → total (times n) (replicate lists []) ≡ 0
     no_blocks n = refl
 
   claims_of : (test : ℕ → Bool) → HasClaims (info m) (anchor m) v.raw v.split v.cutting v.classed (chosen_spans test v.large)
@@ -160,12 +161,12 @@ module _ (k : Setup) (m : Memory) (views : List View) (i : ℕ) (v : View) (belo
   blocks_rest : HasBlocks v.setup.capacity (info m) (next m) (chosen_lists (λ x. not (c.blocks x)) v.small) v.caches v.batch
   blocks_rest = let s = seat.blocks in record { held = held_of (λ x. not (c.blocks x)); cached = s.cached; batched = s.batched; cache_linked = s.cache_linked; batch_linked = s.batch_linked }
 
-  blocks_new : HasBlocks v.setup.capacity (info m) (next m) (chosen_lists c.blocks v.small) (replicate 21 []) no_batch
+  blocks_new : HasBlocks v.setup.capacity (info m) (next m) (chosen_lists c.blocks v.small) (replicate lists []) no_batch
   blocks_new = record {
     held = held_of c.blocks;
-    cached = λ class n some. absurd (let z = empty_at 21 class n in omega arith);
+    cached = λ class n some. absurd (let z = empty_at lists class n in omega arith);
     batched = λ n some. absurd (omega (arith, some));
-    cache_linked = λ class. no_walk (next m) (get_or (replicate 21 []) class []) (λ n. empty_at 21 class n);
+    cache_linked = λ class. no_walk (next m) (get_or (replicate lists []) class []) (λ n. empty_at lists class n);
     batch_linked = tt;
   }
 

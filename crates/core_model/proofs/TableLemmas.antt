@@ -2,7 +2,7 @@
 use Rattle.std.proofs.Common.{◌≡◌, ◌≢◌, ℕ, ◌+◌, ◌*◌, ◌<◌, ◌≤◌, inl, inr, ◌⊎◌, Bool, true, false, cond, nat_lt, nat_le, List, get_or, set, length, refl, ap, sym, ◌∙◌, ltb-true, leb-true, true≢false, arith}
 use Rattle.std.proofs.lemmas.List.{get_or-set_same, get_or-set_other}
 use Rattle.std.proofs.lemmas.Grind.{get_or-set_at}
-use Rattle.heap_model.specs.Geometry.{image_words, start_word, IsFixed, in_header, in_descriptor}
+use Rattle.heap_model.specs.Geometry.{image_words, start_word, IsFixed, in_header, in_descriptor, lists}
 use Rattle.core_model.specs.Cells.{Cell, used_cell, head_cell, info_cell, anchor_cell, link_cell, root_cell, data_cell, no_cell, same_cell, is_cell, index_of, cell_at}
 use Rattle.core_model.specs.Memory.{StepPlace, volatile_at, durable_at, tickets, write, with_cell, table_index, table_length, memory_of}
 use Rattle.core_model.proofs.MemoryLemmas.{same-true, same-refl}
@@ -87,7 +87,7 @@ no_cell_at c word (inl first) (root_cell n) e z = omega (arith, z, first)
 no_cell_at c word (inl first) (data_cell n) e z = let low : start_word c 0 ≤ n = leb-true (start_word c 0) n (and_both (nat_le (start_word c 0) n) (nat_lt n (image_words c)) e).0 in omega (arith, z, first, low)
 no_cell_at c word (inl first) no_cell e z = true≢false (sym e)
 no_cell_at c word (inr (in_header w past before_roots not_used around)) used_cell e z = not_used (sym z)
-no_cell_at c word (inr (in_header w past before_roots not_used around)) (head_cell list) e z = let less : list < 21 = ltb-true list 21 e in elim around as (λ _. ⊥) [ inl low ↦ omega (arith, z, less, low) | inr high ↦ omega (arith, z, less, high) ]
+no_cell_at c word (inr (in_header w past before_roots not_used around)) (head_cell list) e z = let less : list < lists = ltb-true list lists e in elim around as (λ _. ⊥) [ inl low ↦ omega (arith, z, less, low) | inr high ↦ omega (arith, z, less, high) ]
 no_cell_at c word (inr (in_header w past before_roots not_used around)) (info_cell d) e z = omega (arith, z, before_roots)
 no_cell_at c word (inr (in_header w past before_roots not_used around)) (anchor_cell d) e z = omega (arith, z, before_roots)
 no_cell_at c word (inr (in_header w past before_roots not_used around)) (link_cell d) e z = omega (arith, z, before_roots)
@@ -95,7 +95,7 @@ no_cell_at c word (inr (in_header w past before_roots not_used around)) (root_ce
 no_cell_at c word (inr (in_header w past before_roots not_used around)) (data_cell n) e z = let low : start_word c 0 ≤ n = leb-true (start_word c 0) n (and_both (nat_le (start_word c 0) n) (nat_lt n (image_words c)) e).0 in omega (arith, z, before_roots, low)
 no_cell_at c word (inr (in_header w past before_roots not_used around)) no_cell e z = true≢false (sym e)
 no_cell_at c word (inr (in_descriptor d at w less low high same)) used_cell e z = omega (arith, z, same)
-no_cell_at c word (inr (in_descriptor d at w less low high same)) (head_cell list) e z = let l : list < 21 = ltb-true list 21 e in omega (arith, z, same, l)
+no_cell_at c word (inr (in_descriptor d at w less low high same)) (head_cell list) e z = let l : list < lists = ltb-true list lists e in omega (arith, z, same, l)
 no_cell_at c word (inr (in_descriptor d at w less low high same)) (info_cell f) e z = omega (arith, z, same, low, high)
 no_cell_at c word (inr (in_descriptor d at w less low high same)) (anchor_cell f) e z = omega (arith, z, same, low, high)
 no_cell_at c word (inr (in_descriptor d at w less low high same)) (link_cell f) e z = omega (arith, z, same, low, high)

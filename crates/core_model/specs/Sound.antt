@@ -1,7 +1,8 @@
 -- What is so of memory and seats between any two steps, as records over no more than each reads. "In exactly one place" is a sum over lists, seats and the superblocks that are full in no list.
 use Rattle.std.specs.Prelude.{◌≡◌, ◌≢◌, ℕ, ◌+◌, ◌*◌, ◌<◌, ◌≤◌, ◌⊎◌, ◌↔◌, true, not, ◌&&◌, nat_eq, nat_lt, List, [], ◌∷◌, length, get_or, Contains, Option, None, Some, slice_index}
 use Rattle.heap_model.specs.Geometry.{lists, start_word, image_words, largest_capacity, capacity_word, used_word, IsFixed}
-use Rattle.heap_model.specs.Sizes.{IsClass, words_of_class, blocks_of}
+use Rattle.std.specs.List.{range_with_len}
+use Rattle.heap_model.specs.Sizes.{last_class, IsClass, words_of_class, blocks_of}
 use Rattle.heap_model.specs.Words.{head_first, head_pops, anchor_state, anchor_first, anchor_count, empty_state, partial_state, full_state, full_anchor, large_info}
 use Rattle.heap_model.specs.Counting.{times, total, below, one_if}
 use Rattle.heap_model.specs.Rest.{list_numbers}
@@ -35,7 +36,7 @@ pub record CoreShape : Type 0 where
 
 -- the lists but that of the free superblocks
 abbrev pub class_numbers : List ℕ
-class_numbers = 1 ∷ 2 ∷ 3 ∷ 4 ∷ 5 ∷ 6 ∷ 7 ∷ 8 ∷ 9 ∷ 10 ∷ 11 ∷ 12 ∷ 13 ∷ 14 ∷ 15 ∷ 16 ∷ 17 ∷ 18 ∷ 19 ∷ 20 ∷ []
+class_numbers = range_with_len 1 last_class
 
 abbrev pub times_in_lists : CoreShape → ℕ → ℕ
 times_in_lists g d = total (λ class. times d (g.lists class)) class_numbers

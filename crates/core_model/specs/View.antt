@@ -40,7 +40,7 @@ pub record LastLook : Type 0 where
   pub wins : ℕ
   pub taken : ℕ
 
--- a block is told by its first word; lists by class have one entry for each number from 0 to 20
+-- a block is told by its first word; lists by class have one entry for each list
 pub record View : Type 0 where
   pub setup : Setup
   -- held small blocks by class, held large blocks, and owned roots

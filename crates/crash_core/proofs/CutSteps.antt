@@ -6,7 +6,7 @@ use Rattle.std.specs.declared.alloc.Global.{Global}
 use Rattle.std.specs.Vec.{with_item}
 use Rattle.heap_model.specs.Chains.{Walks}
 use Rattle.heap_model.specs.Geometry.{lists, start_word}
-use Rattle.heap_model.specs.Sizes.{IsClass, words_of_class, blocks_of}
+use Rattle.heap_model.specs.Sizes.{IsClass, words_of_class, blocks_of, last_class}
 use Rattle.heap_model.specs.Counting.{times, total, without}
 use Rattle.heap_model.proofs.SizeLemmas.{four_blocks}
 use Rattle.crash_core.specs.declared.owners.BlockPlace.TheVariants as place
@@ -129,13 +129,13 @@ module _ (c : CoreState) (k : Setup) (views : List View) (i : ℕ) (v : View) (t
     pub cut_none : class ≡ 0 → MayCut (memory_in c k) v d → ⊥
     cut_none none may = let l = may.class.some in let e = now in omega arith
 
-    pub cut_past : 20 < class → MayCut (memory_in c k) v d → ⊥
+    pub cut_past : last_class < class → MayCut (memory_in c k) v d → ⊥
     cut_past past may = let l = may.class.last in let e = now in omega arith
 
     pub cut_other : (held : ℕ) → held ≡ durable_info (memory_at c) d → held ≢ class → MayCut (memory_in c k) v d → ⊥
     cut_other held held_is other may = other (held_is ∙ ap (λ m. durable_info m d) same ∙ may.durable_class ∙ now)
 
-    module _ (some : 1 ≤ class) (last : class ≤ 20) where
+    module _ (some : 1 ≤ class) (last : class ≤ last_class) where
       is : IsClass class
       is = record { some = some; last = last }
 

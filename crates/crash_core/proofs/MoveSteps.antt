@@ -2,7 +2,7 @@
 use Rattle.std.proofs.Common.{◌≡◌, ◌≢◌, ℕ, ◌+◌, ◌-◌, ◌<◌, ◌≤◌, ◌↔◌, true, nat_eq, nat_lt, List, [], ◌∷◌, get_or, set, length, refl, ap, sym, subst, ◌∙◌, length-set, lt-ltb, ltb-true, arith}
 use Rattle.std.specs.Vec.{with_item}
 use Rattle.heap_model.specs.Geometry.{lists, start_word, image_words}
-use Rattle.heap_model.specs.Sizes.{words_of_class}
+use Rattle.heap_model.specs.Sizes.{words_of_class, last_class}
 use Rattle.heap_model.specs.Counting.{times, total, one_if}
 use Rattle.heap_model.specs.Chains.{Walks}
 use Rattle.heap_model.proofs.SizeLemmas.{two_words}
@@ -78,7 +78,7 @@ module _ (c : CoreState) (k : Setup) (views : List View) (i : ℕ) (v : View) (t
     pub count_is : class < lists → length (of_class v.caches class) ≡ e.count
     count_is less = kept.caches.count class e (at_e less) less
 
-    pub may_alloc : class ≢ 0 → class ≤ 20 → (nat_lt 0 e.count ≡ true) ↔ MayAlloc v class
+    pub may_alloc : class ≢ 0 → class ≤ last_class → (nat_lt 0 e.count ≡ true) ↔ MayAlloc v class
     may_alloc some last = (
       λ h. record { is_class = record { some = omega arith; last = last }; cached = (let n = count_is (omega arith) in let more = ltb-true 0 e.count h in omega arith) },
       λ may. lt-ltb 0 e.count (let n = count_is (omega arith) in let m = may.cached in omega arith),
@@ -175,7 +175,7 @@ module _ (c : CoreState) (k : Setup) (views : List View) (i : ℕ) (v : View) (t
 
 -- what fits when a block may be held
 pub record AllocFits (c : CoreState) (class : ℕ) (e : Cache) : Type 0 where
-  pub last : class < 21
+  pub last : class < lists
   pub count : 1 ≤ e.count
   pub from : start_word c.geometry.capacity 0 ≤ e.first
   pub until : e.first < image_words c.geometry.capacity

@@ -55,7 +55,7 @@ module _ (c : CoreState) (k : Setup) (views : List View) (i : ℕ) (v : View) (t
   class_at some class class_is = let claim = (good.claims i v below at).is_classed d (let f = (kept.superblocks d).is_classed in omega arith) in
       let is : class ≡ claim_class d v.classed = class_is ∙ ap (λ m. info m d) same ∙ claim.1 in (subst IsClass (sym is) claim.0, is)
 
-  pub take_class : 0 < classed_in (share_for i (get_or c.superblocks.items d no_superblock)) → (class : ℕ) → class ≡ info (memory_at c) d → class < 21
+  pub take_class : 0 < classed_in (share_for i (get_or c.superblocks.items d no_superblock)) → (class : ℕ) → class ≡ info (memory_at c) d → class < lists
   take_class some class class_is = let l = (class_at some class class_is).0.last in omega arith
 
   module _ (word : Seen) (some : t.seen_anchor ≡ Some word) where
@@ -235,7 +235,7 @@ take_fits c i d t word found class core less at_t some decides found_is as_it_wa
     }
 
 -- the class fits where the claim has one
-pub class_below : (c : CoreState) (i d : ℕ) (t : SeatNotes) (class : ℕ) → IsCore c → i < length c.seats.items → get_or c.seats.items i t ≡ t → 0 < classed_in (share_for i (get_or c.superblocks.items d no_superblock)) → class ≡ info (memory_at c) d → class < 21
+pub class_below : (c : CoreState) (i d : ℕ) (t : SeatNotes) (class : ℕ) → IsCore c → i < length c.seats.items → get_or c.seats.items i t ≡ t → 0 < classed_in (share_for i (get_or c.superblocks.items d no_superblock)) → class ≡ info (memory_at c) d → class < lists
 class_below c i d t class core less at_t some class_is =
     let below : i < length core.views = subst (λ n. i < n) (sym core.keeps.seats) less in
     let here = entry_there core.views i below in take_class c core.setup core.views i here.0 t core.keeps below here.1 at_t d some class class_is

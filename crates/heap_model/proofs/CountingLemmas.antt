@@ -91,7 +91,7 @@ times_once n (x ∷ xs) pairs p = elim (head_or_rest x n xs p) [
 -- the list numbers are the numbers below the count of lists, in order
 list_number : (i d : ℕ) → i < lists → get_or list_numbers i d ≡ i
 list_number i d below =
-    get_or_default list_numbers i d 0 below ∙ eqb-true (get_or list_numbers i 0) i (agree_below_at (λ k. nat_eq (get_or list_numbers k 0) k) (λ _. true) 21 i refl below)
+    get_or_default list_numbers i d 0 below ∙ eqb-true (get_or list_numbers i 0) i (agree_below_at (λ k. nat_eq (get_or list_numbers k 0) k) (λ _. true) lists i refl below)
 
 pub is_number : (list : ℕ) → list < lists → Contains list_numbers list
 is_number list below = (list, below, list_number list list below)

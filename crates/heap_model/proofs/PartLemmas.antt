@@ -4,7 +4,7 @@ use Rattle.std.proofs.Math.Nat.{zero-mul}
 use Rattle.std.proofs.lemmas.Bool.{cases_lt}
 use Rattle.heap_model.specs.declared.block.Block.{Block}
 use Rattle.heap_model.specs.Geometry.{start_word, superblock_words}
-use Rattle.heap_model.specs.Sizes.{IsClass, words_of_class, blocks_of}
+use Rattle.heap_model.specs.Sizes.{IsClass, last_class, words_of_class, blocks_of}
 use Rattle.heap_model.specs.Blocks.{Layout, Begins, of_class, as_large, IsBlock}
 use Rattle.heap_model.specs.Recovered.{HasPartIn, IsBlockOfClass}
 use Rattle.heap_model.proofs.SizeLemmas.{blocks_fit}
@@ -43,7 +43,7 @@ cases_parts capacity (h ∷ held) d = elim (cases_part capacity h d) [
 -- a number is a class or not
 pub cases_class : (n : ℕ) → IsClass n ⊎ (IsClass n → ⊥)
 cases_class n = elim (cases_lt 0 n) [
-  | inl some ↦ elim (cases_lt 20 n) [
+  | inl some ↦ elim (cases_lt last_class n) [
     | inl more ↦ inr (λ is. let last = is.last in omega arith)
     | inr last ↦ inl (record { some = omega arith; last = last })
   ]

@@ -1,14 +1,14 @@
 -- Facts on the size classes, each by one test of all rows.
 use Rattle.std.proofs.Common.{◌≡◌, ℕ, ◌+◌, ◌-◌, ◌*◌, ◌<◌, ◌≤◌, Bool, true, nat_le, nat_eq, refl, subst, arith}
 use Rattle.std.proofs.lemmas.Bool.{agree_below, agree_below_at, leb-true, eqb-true}
-use Rattle.heap_model.specs.Sizes.{IsClass, class_sizes, size_of, words_of_class, blocks_of}
+use Rattle.heap_model.specs.Sizes.{IsClass, last_class, class_sizes, size_of, words_of_class, blocks_of}
 
 -- a test that holds in the row of each class holds of each class
-pub at_class : (test : ℕ → Bool) → agree_below (λ k. test (k + 1)) (λ _. true) 20 ≡ true → (class : ℕ) → IsClass class → test class ≡ true
+pub at_class : (test : ℕ → Bool) → agree_below (λ k. test (k + 1)) (λ _. true) last_class ≡ true → (class : ℕ) → IsClass class → test class ≡ true
 at_class test rows class is =
-    let below : class - 1 < 20 = omega arith in
+    let below : class - 1 < last_class = omega arith in
     let same : class - 1 + 1 ≡ class = omega arith in
-    subst (λ c. test c ≡ true) same (agree_below_at (λ k. test (k + 1)) (λ _. true) 20 (class - 1) rows below)
+    subst (λ c. test c ≡ true) same (agree_below_at (λ k. test (k + 1)) (λ _. true) last_class (class - 1) rows below)
 
 -- the blocks of a class fit into a superblock
 pub blocks_fit : (class : ℕ) → IsClass class → blocks_of class * words_of_class class ≤ 8192

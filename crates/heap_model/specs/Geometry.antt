@@ -1,6 +1,7 @@
 -- Where things stand in an image, as word indices. A word has 8 bytes, a line 8 words; `capacity` is the number of superblocks, `d` one of them.
 use Rattle.std.specs.Prelude.{◌≡◌, ◌≢◌, ℕ, ◌+◌, ◌-◌, ◌*◌, ◌<◌, ◌≤◌, ◌⊎◌}
 use Rattle.std.proofs.Common.{arith}
+pub use Rattle.heap_model.specs.Sizes.{lists, superblock_words}
 
 -- the first word of each image: its first eight bytes are the text "10COLLAR"
 abbrev pub magic : ℕ
@@ -42,15 +43,11 @@ state_word = 3
 abbrev pub used_word : ℕ
 used_word = 8
 
--- how many lists of superblocks there are: of the free ones, and of each class
-abbrev pub lists : ℕ
-lists = 21
-
 -- the words of a line, the unit of write-back
 abbrev pub line_words : ℕ
 line_words = 8
 
--- the head of the list of free superblocks (0), and of the superblocks of a class with free blocks (1 to 20)
+-- the head of the list of free superblocks (0), and of the superblocks of a class with free blocks (its number)
 abbrev pub head_word : ℕ → ℕ
 head_word list = 16 + list
 
@@ -75,10 +72,7 @@ anchor_word d = 1065 + 8 * d
 abbrev pub link_word : ℕ → ℕ
 link_word d = 1066 + 8 * d
 
--- the words of a superblock, and the first one of superblock d
-abbrev pub superblock_words : ℕ
-superblock_words = 8192
-
+-- the first word of superblock d
 abbrev pub start_word : ℕ → ℕ → ℕ
 start_word capacity d = 1064 + 8 * capacity + 8192 * d
 

@@ -1,5 +1,6 @@
 -- A heap at rest: nothing is claimed, cached or batched, and lists, chains and anchors are right for exactly the held blocks.
 use Rattle.std.specs.Prelude.{◌≡◌, ◌≢◌, ℕ, ◌+◌, ◌*◌, ◌<◌, ◌≤◌, ◌↔◌, ◌&&◌, nat_lt, nat_le, List, [], ◌∷◌, map, length, Contains, AllPairs, slice_index}
+use Rattle.std.specs.List.{range_with_len}
 use Rattle.heap_model.specs.declared.block.Block.{Block}
 use Rattle.heap_model.specs.Geometry.{lists, head_word, info_word, anchor_word, link_word, start_word, superblock_words}
 use Rattle.heap_model.specs.Image.{Image}
@@ -13,7 +14,7 @@ use Rattle.heap_model.specs.Counting.{times, total, below, one_if}
 
 -- the numbers of the lists: 0 for the free superblocks, then the classes
 abbrev pub list_numbers : List ℕ
-list_numbers = 0 ∷ 1 ∷ 2 ∷ 3 ∷ 4 ∷ 5 ∷ 6 ∷ 7 ∷ 8 ∷ 9 ∷ 10 ∷ 11 ∷ 12 ∷ 13 ∷ 14 ∷ 15 ∷ 16 ∷ 17 ∷ 18 ∷ 19 ∷ 20 ∷ []
+list_numbers = range_with_len 0 lists
 
 -- 1 where superblock d is one of those that the large block takes: a block of a superblock or more that has a word in d
 abbrev pub large_part : ℕ → ℕ → Block → ℕ

@@ -1,6 +1,5 @@
 -- The size classes of small blocks, and what a request takes (after LRMalloc's and Ralloc's size classes).
 use Rattle.std.specs.Prelude.{ℕ, ◌+◌, ◌-◌, ◌*◌, ◌/◌, ◌≤◌, List, [], ◌∷◌, slice_index, max}
-use Rattle.heap_model.specs.Geometry.{superblock_words}
 
 -- the block size in bytes of each class, after a 0 for class 0, which is none
 unfoldable pub class_sizes : List ℕ
@@ -10,6 +9,10 @@ class_sizes = 0 ∷ 16 ∷ 32 ∷ 48 ∷ 64 ∷ 96 ∷ 128 ∷ 192 ∷ 256 ∷ 3
 -- the greatest class
 abbrev pub last_class : ℕ
 last_class = 20
+
+-- how many lists of superblocks there are: of the free ones, and of each class
+abbrev pub lists : ℕ
+lists = last_class + 1
 
 -- the classes are the numbers from 1 to it
 pub record IsClass (class : ℕ) : Type 0 where
@@ -22,6 +25,10 @@ size_of class = slice_index class_sizes class
 
 unfoldable pub words_of_class : ℕ → ℕ
 words_of_class class = slice_index class_sizes class / 8
+
+-- the words of a superblock
+abbrev pub superblock_words : ℕ
+superblock_words = 8192
 
 -- the bytes of a superblock
 abbrev pub superblock_bytes : ℕ

@@ -5,7 +5,7 @@ use Rattle.std.proofs.lemmas.Bool.{cases_lt, eqb-true, eqb-false}
 use Rattle.std.specs.Option.{option_eq}
 use Rattle.std.proofs.lemmas.List.{get_or_default, get_or-set_same, get_or-set_other}
 use Rattle.std.proofs.lemmas.List.Elements.{Contains-get_or}
-use Rattle.heap_model.specs.Geometry.{head_word, link_word, image_words}
+use Rattle.heap_model.specs.Geometry.{head_word, link_word, image_words, lists}
 use Rattle.heap_model.specs.Image.{Image}
 use Rattle.heap_model.specs.Recovered.{AreAscending}
 use Rattle.heap_model.specs.Recovery.{first_number}
@@ -109,7 +109,7 @@ pub one_list : (roles : List Role) (i j d : ℕ) → IsMember roles i d → IsMe
 one_list roles i j d in_i in_j = let same : Some i ≡ Some j = sym in_i.in_list ∙ in_j.in_list in cc
 
 -- links and head are written
-pub linked : (old mid : List ℕ) (capacity list : ℕ) (ds : List ℕ) → list < 21 → length old ≡ image_words capacity → All (λ d. d < capacity) ds
+pub linked : (old mid : List ℕ) (capacity list : ℕ) (ds : List ℕ) → list < lists → length old ≡ image_words capacity → All (λ d. d < capacity) ds
     → AreWritten (λ j. link_word (slice_index ds j)) (λ j. number_at ds (suc j)) old mid (length ds)
     → IsLinked (slice_index old) (slice_index (set mid (16 + list) (number_at ds 0))) capacity list ds
 linked old mid capacity list ds few long inside written = record {
@@ -129,7 +129,7 @@ listed_none old capacity roles = record { each = λ j below. absurd (omega arith
 
 -- one list more
 pub listed_more : (old mid new : Image) (capacity : ℕ) (roles : List Role) (list : ℕ) (ds : List ℕ) → AreAscending (λ d. d) (IsMember roles list) ds
-    → AreListed old mid capacity roles list → IsLinked mid new capacity list ds → list < 21 → AreListed old new capacity roles (list + 1)
+    → AreListed old mid capacity roles list → IsLinked mid new capacity list ds → list < lists → AreListed old new capacity roles (list + 1)
 listed_more old mid new capacity roles list ds members first next few = record { each = each; others = others } where
   kept : (j d : ℕ) → j < list → IsMember roles j d → new (link_word d) ≡ mid (link_word d)
   kept j d less in_j = next.others (link_word d) (λ same. omega arith) (λ e has same.

@@ -4,7 +4,7 @@ use Rattle.std.proofs.Math.ListN.{get_or-append}
 use Rattle.std.proofs.Math.Seq.{get_or-append_seam}
 use Rattle.std.proofs.lemmas.Bool.{cases_lt}
 use Rattle.heap_model.specs.declared.block.Block.{Block}
-use Rattle.heap_model.specs.Geometry.{info_word, anchor_word, link_word, head_word, start_word, state_word, capacity_word, in_header, in_descriptor}
+use Rattle.heap_model.specs.Geometry.{info_word, anchor_word, link_word, head_word, start_word, state_word, capacity_word, in_header, in_descriptor, lists}
 use Rattle.heap_model.specs.Header.{capacity_of}
 use Rattle.heap_model.specs.Image.{Image}
 use Rattle.heap_model.specs.Sizes.{words_of_class}
@@ -76,7 +76,7 @@ kept_no_state capacity _ (is_reserved word (in_header _ low high used_not lists_
 kept_no_state capacity _ (is_reserved word (in_descriptor d at _ below low high is)) same = omega arith
 
 -- nor a head
-pub kept_no_head : (capacity word : ℕ) → IsKeptWord capacity word → (j : ℕ) → j < 21 → word ≡ head_word j → ⊥
+pub kept_no_head : (capacity word : ℕ) → IsKeptWord capacity word → (j : ℕ) → j < lists → word ≡ head_word j → ⊥
 kept_no_head capacity _ (header_kept word is) j few same = elim is as (λ _. ⊥) [
   | inl magic ↦ omega arith
   | inr rest ↦ elim rest as (λ _. ⊥) [ inl version ↦ omega arith | inr last ↦ elim last as (λ _. ⊥) [ inl capacity_is ↦ omega arith | inr used ↦ omega arith ] ]

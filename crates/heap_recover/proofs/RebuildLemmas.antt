@@ -3,7 +3,7 @@ use Rattle.std.proofs.Common.{◌≡◌, ◌≢◌, ℕ, ◌+◌, ◌-◌, ◌/�
 use Rattle.std.specs.List.{Contains}
 use Rattle.std.proofs.lemmas.Bool.{cases_lt}
 use Rattle.heap_model.specs.declared.block.Block.{Block}
-use Rattle.heap_model.specs.Geometry.{info_word, anchor_word, link_word, head_word, start_word, state_word, dirty}
+use Rattle.heap_model.specs.Geometry.{info_word, anchor_word, link_word, head_word, start_word, state_word, dirty, lists}
 use Rattle.heap_model.specs.Header.{capacity_of, used_of}
 use Rattle.heap_model.specs.Image.{Image}
 use Rattle.heap_model.specs.Sizes.{IsClass}
@@ -33,11 +33,11 @@ module _ (old done cleared listed new : Image) (kept : Block → Type 0) (held :
     (blocks : KeepsBlocks (layout_of old) kept) (fits : used_of old ≤ capacity_of old)
     (are_done : AreDone old done kept (used_of old) held roles)
     (are_cleared : AreCleared done cleared (capacity_of old) (used_of old) (capacity_of old))
-    (are_listed : AreListed cleared listed (capacity_of old) roles 21)
+    (are_listed : AreListed cleared listed (capacity_of old) roles lists)
     (state_is : new state_word ≡ dirty)
     (others : (word : ℕ) → word ≢ state_word → new word ≡ listed word) where
   -- a word that is no state, head or link of a listed superblock is as the second pass left it
-  after_lists : (word : ℕ) → word ≢ state_word → ((j : ℕ) → j < 21 → word ≢ head_word j) → ((d j : ℕ) → j < 21 → IsMember roles j d → word ≢ link_word d) → new word ≡ cleared word
+  after_lists : (word : ℕ) → word ≢ state_word → ((j : ℕ) → j < lists → word ≢ head_word j) → ((d j : ℕ) → j < lists → IsMember roles j d → word ≢ link_word d) → new word ≡ cleared word
   after_lists word no_state no_head no_link = others word no_state ∙ are_listed.others word no_head no_link
 
   info_left : (d : ℕ) → new (info_word d) ≡ cleared (info_word d)
@@ -70,14 +70,14 @@ module _ (old done cleared listed new : Image) (kept : Block → Type 0) (held :
   member_listed : (list d : ℕ) → IsMember roles list d → IsListed (layout_of old) kept list d
   member_listed list d is = let here = taken_done d (member_below list d is) in role_listed (layout_of old) kept d list (slice_index_or roles d Large) here.spares here.has_role is.in_list
 
-  listed_member : (list d : ℕ) → list < 21 → IsListed (layout_of old) kept list d → IsMember roles list d
+  listed_member : (list d : ℕ) → list < lists → IsListed (layout_of old) kept list d → IsMember roles list d
   listed_member list d few is =
       let taken = listed_taken (layout_of old) kept d list is in
       let here = taken_done d taken in
       record { below = (let long = are_done.long in omega arith); in_list = listed_role (layout_of old) kept d list (slice_index_or roles d Large) here.spares few here.has_role is }
 
   -- the descriptors of each list, and the chain of each superblock
-  abbrev members_at : (list : ℕ) → (list < 21) ⊎ (21 ≤ list) → List ℕ
+  abbrev members_at : (list : ℕ) → (list < lists) ⊎ (lists ≤ list) → List ℕ
   members_at list (inl few) = (are_listed.each list few).members
   members_at list (inr past) = []
 
@@ -85,29 +85,29 @@ module _ (old done cleared listed new : Image) (kept : Block → Type 0) (held :
   chain_at d (inl below) = (taken_done d below).spares
   chain_at d (inr past) = []
 
-  members_in_order : (list : ℕ) → list < 21 → (which : (list < 21) ⊎ (21 ≤ list)) → AreAscending (λ d. d) (IsListed (layout_of old) kept list) (members_at list which)
+  members_in_order : (list : ℕ) → list < lists → (which : (list < lists) ⊎ (lists ≤ list)) → AreAscending (λ d. d) (IsListed (layout_of old) kept list) (members_at list which)
   members_in_order list few (inl few') = ascending_same (λ d. d) (IsMember roles list) (IsListed (layout_of old) kept list) (are_listed.each list few').members
       (member_listed list) (λ d is. listed_member list d few is) (are_listed.each list few').are_members
   members_in_order list few (inr past) = absurd (omega arith)
 
-  head_left : (list : ℕ) → list < 21 → (which : (list < 21) ⊎ (21 ≤ list)) → new (head_word list) ≡ first_number (members_at list which)
+  head_left : (list : ℕ) → list < lists → (which : (list < lists) ⊎ (lists ≤ list)) → new (head_word list) ≡ first_number (members_at list which)
   head_left list few (inl few') = others (head_word list) (λ same. omega arith) ∙ (are_listed.each list few').head
   head_left list few (inr past) = absurd (omega arith)
 
-  links_left : (list : ℕ) → list < 21 → (which : (list < 21) ⊎ (21 ≤ list)) → Follows (λ d. new (link_word d)) (capacity_of old) (first_number (members_at list which)) (members_at list which)
+  links_left : (list : ℕ) → list < lists → (which : (list < lists) ⊎ (lists ≤ list)) → Follows (λ d. new (link_word d)) (capacity_of old) (first_number (members_at list which)) (members_at list which)
   links_left list few (inl few') = let is_list = are_listed.each list few' in
       follows_same (λ d. listed (link_word d)) (λ d. new (link_word d)) (capacity_of old) (first_number is_list.members) is_list.members (λ d has. others (link_word d) (λ same. omega arith)) is_list.follows
   links_left list few (inr past) = absurd (omega arith)
 
-  in_members : (list d : ℕ) (few : list < 21) (which : (list < 21) ⊎ (21 ≤ list)) → IsMember roles list d → Contains (members_at list which) d
+  in_members : (list d : ℕ) (few : list < lists) (which : (list < lists) ⊎ (lists ≤ list)) → IsMember roles list d → Contains (members_at list which) d
   in_members list d few (inl few') is = (are_listed.each list few').are_members.complete d is
   in_members list d few (inr past) is = absurd (omega arith)
 
   -- the link of a superblock in no list
-  link_left : (d : ℕ) → d < capacity_of old → ((list : ℕ) → list < 21 → Contains (members_at list (cases_lt list 21)) d → ⊥) → new (link_word d) ≡ 0
+  link_left : (d : ℕ) → d < capacity_of old → ((list : ℕ) → list < lists → Contains (members_at list (cases_lt list lists)) d → ⊥) → new (link_word d) ≡ 0
   link_left d below away =
       after_lists (link_word d) (λ same. omega arith) (λ j few same. omega arith)
-      (λ e j few is same. let is_d : e ≡ d = omega arith in away j few (in_members j d few (cases_lt j 21) (subst (IsMember roles j) is_d is)))
+      (λ e j few is same. let is_d : e ≡ d = omega arith in away j few (in_members j d few (cases_lt j lists) (subst (IsMember roles j) is_d is)))
       ∙ elim (cases_lt d (used_of old)) as (λ _. cleared (link_word d) ≡ 0) [
         | inl taken ↦ taken_left d (link_word d) taken (is_link (link_word d) refl) ∙ are_done.links d taken
         | inr past ↦ are_cleared.links d past below
@@ -174,14 +174,14 @@ module _ (old done cleared listed new : Image) (kept : Block → Type 0) (held :
   -- the whole image
   pub recovered : IsRecovered old new kept
   recovered = record {
-    descriptors = λ list. members_at list (cases_lt list 21);
+    descriptors = λ list. members_at list (cases_lt list lists);
     chains = λ d. chain_at d (cases_lt d (used_of old));
-    listed = λ list few. members_in_order list few (cases_lt list 21);
+    listed = λ list few. members_in_order list few (cases_lt list lists);
     chained = λ class d is partial. chain_in_order class d is partial (cases_lt d (used_of old));
     state = state_is;
     same = kept_left;
-    heads = λ list few. head_left list few (cases_lt list 21);
-    links = λ list few. links_left list few (cases_lt list 21);
+    heads = λ list few. head_left list few (cases_lt list lists);
+    links = λ list few. links_left list few (cases_lt list lists);
     unlisted = link_left;
     free = free_left;
     partial = λ class d is partial. rechained class d is partial (cases_lt d (used_of old));

@@ -2,7 +2,7 @@
 use Rattle.std.proofs.Math.Bridge.{le_prop}
 use Rattle.std.proofs.Common.{◌≡◌, ℕ, zero, suc, ◌+◌, ◌*◌, ◌<◌, Some, List, refl, ap, sym, subst, ◌∙◌, arith}
 use Rattle.heap_model.specs.declared.block.Block.{Block}
-use Rattle.heap_model.specs.Geometry.{start_word}
+use Rattle.heap_model.specs.Geometry.{start_word, lists}
 use Rattle.heap_model.specs.Sizes.{IsClass, words_of_class}
 use Rattle.heap_model.specs.Blocks.{Layout}
 use Rattle.heap_model.specs.Recovered.{IsFreeSuperblock, IsBlockOfClass, AreAscending}
@@ -83,7 +83,7 @@ module _ (l : Layout) (kept : Block → Type 0) (d : ℕ) where
   role_listed list _ _ (is_large large) same = absurd (cc)
 
   -- and that is the list that it is in
-  pub listed_role : (list : ℕ) (role : Role) (spares : List ℕ) → list < 21 → IsRole l kept d role spares → IsListed l kept list d → list_of role ≡ Some list
+  pub listed_role : (list : ℕ) (role : Role) (spares : List ℕ) → list < lists → IsRole l kept d role spares → IsListed l kept list d → list_of role ≡ Some list
   listed_role zero role spares few has listed = ap list_of (free_role role spares has listed)
   listed_role (suc c) role spares few has listed = ap list_of (partial_role (record { number = suc c; is = record { some = omega arith; last = omega arith } }) role spares has listed).0
 

@@ -6,7 +6,7 @@ use Rattle.std.proofs.lemmas.List.Elements.{Contains-append_left, Contains-appen
 use Rattle.heap_model.proofs.MemberLemmas.{in_head}
 use Rattle.heap_model.specs.declared.block.Block.{Block}
 use Rattle.heap_model.specs.Counting.{times}
-use Rattle.heap_model.specs.Geometry.{roots}
+use Rattle.heap_model.specs.Geometry.{roots, lists}
 use Rattle.core_model.specs.Opening.{opened_view}
 use Rattle.core_model.specs.View.{Setup, View, of_class}
 use Rattle.core_model.proofs.OpenedHeldLemmas.{owns_root}
@@ -47,7 +47,7 @@ pub opened_fresh : (shared : SharedView) (setup : Setup) (held : List Block) (bl
     → AreOpenedSeats shared (opened_view setup held block_owners root_owners) seats → HaveNoSpareBlocks seats
 opened_fresh shared setup held block_owners root_owners seats opened = record {
   each = λ seat p. record {
-    caches = λ class. ap (λ (v : View). of_class v.caches class) (opened.each p.0 seat p.1 p.2).1 ∙ none_among 21 class;
+    caches = λ class. ap (λ (v : View). of_class v.caches class) (opened.each p.0 seat p.1 p.2).1 ∙ none_among lists class;
     batch = ap (λ (v : View). v.batch.blocks) (opened.each p.0 seat p.1 p.2).1;
   };
 }

@@ -5,7 +5,7 @@ use Rattle.std.proofs.lemmas.Bool.{cases_lt}
 use Rattle.std.proofs.lemmas.List.{get_or-set_same}
 use Rattle.heap_model.specs.Counting.{times, total, without}
 use Rattle.heap_model.specs.Geometry.{start_word, image_words}
-use Rattle.heap_model.specs.Sizes.{IsClass, words_of_class}
+use Rattle.heap_model.specs.Sizes.{IsClass, words_of_class, last_class}
 use Rattle.heap_model.proofs.SizeLemmas.{two_words}
 use Rattle.core_model.specs.declared.event.Event.TheVariants.{Store, Tick}
 use Rattle.core_model.specs.declared.event.Shift.TheVariants.{Free}
@@ -174,7 +174,7 @@ module _ (v t : View) (class block : ℕ) (is : IsClass class) (held : 0 < times
     set_up : IsSetUp v.setup v
     set_up = has.sound.good.set_up has.seat v has.below has.at
 
-    top : class ≤ 20
+    top : class ≤ last_class
     top = is.last
 
 pub frees_none : (v t w : View) (class block step : ℕ) → HasWay block class v t → HasStoppedAt step t w → FreesNone block class step v w

@@ -5,14 +5,14 @@ ghost use Rattle.std.specs.Prelude.{◌<◌};
 use line_memory::Chance;
 use rand_core::Rng;
 use rand_pcg::Lcg64Xsh32;
-use size_table::SizeClass;
+use size_table::{LAST_CLASS, SizeClass};
 
 /// The least class that is drawn. Superblocks of smaller ones have more blocks, each of which takes
 /// a ticket when it is made.
 const LEAST_CLASS: u8 = 12;
 
 /// How many classes there are from that one on.
-const CLASSES: u64 = 9;
+const CLASSES: u64 = (LAST_CLASS - LEAST_CLASS) as u64 + 1;
 
 /// A source of numbers.
 #[derive(Drop)]

@@ -5,7 +5,7 @@ use Rattle.std.proofs.lemmas.Bool.{agree_below, eqb-true, eq-eqb, cond-true}
 use Rattle.heap_model.specs.declared.block.Block.{Block}
 use Rattle.heap_model.specs.Geometry.{lists, roots, head_word, root_word, info_word, anchor_word, link_word, used_word, start_word, superblock_words}
 use Rattle.heap_model.specs.Image.{Image}
-use Rattle.heap_model.specs.Sizes.{IsClass, class_sizes, blocks_of, words_of_class}
+use Rattle.heap_model.specs.Sizes.{IsClass, class_sizes, blocks_of, words_of_class, last_class}
 use Rattle.heap_model.specs.Words.{anchor_state, anchor_first, anchor_count, empty_state, partial_state, head_first}
 use Rattle.heap_model.specs.Blocks.{Begins, of_class, as_large, IsBlock, IsIn}
 use Rattle.heap_model.specs.Chains.{Follows, Walks}
@@ -199,7 +199,7 @@ one_size c class is_c is same = eqb-true c class (sym (cond-true (nat_eq (words_
   where
     row : cond (nat_eq (words_of_class c) (words_of_class class)) (nat_eq c class) true ≡ true
     row = at_class (λ k. cond (nat_eq (words_of_class c) (words_of_class k)) (nat_eq c k) true)
-        (at_class (λ j. agree_below (λ k. cond (nat_eq (words_of_class j) (words_of_class (k + 1))) (nat_eq j (k + 1)) true) (λ _. true) 20) refl c is_c) class is
+        (at_class (λ j. agree_below (λ k. cond (nat_eq (words_of_class j) (words_of_class (k + 1))) (nat_eq j (k + 1)) true) (λ _. true) last_class) refl c is_c) class is
 
 -- a held block of a superblock of a class: its size, and that its superblock is cut for it
 pub class_block : (capacity class : ℕ) (image : Image) (held : List Block) (s : Shape) (b : Block) → IsShape capacity image held s → IsClass class → Contains held b → b.words ≡ words_of_class class

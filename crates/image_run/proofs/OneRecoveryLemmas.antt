@@ -146,7 +146,7 @@ module _ (old new other : Image) (kept : Block → Type 0) (held : List Block) (
   one_reserved : (word : ℕ) → IsReserved (capacity_of old) word → other word ≡ new word
   one_reserved word reserved = one_kept word (is_reserved word reserved)
 
-  one_head : (word : ℕ) → 16 ≤ word → word < 37 → other word ≡ new word
+  one_head : (word : ℕ) → 16 ≤ word → word < head_word lists → other word ≡ new word
   one_head word low high =
       let at : word ≡ head_word (word - 16) = omega arith in
       let few : word - 16 < lists = omega arith in
@@ -176,7 +176,7 @@ module _ (old new other : Image) (kept : Block → Type 0) (held : List Block) (
   one_fixed : (word : ℕ) → word < 1064 → other word ≡ new word
   one_fixed word low = elim (cases_lt word 16) as (λ _. other word ≡ new word) [
     | inl less ↦ one_header word less
-    | inr from ↦ elim (cases_lt word 37) as (λ _. other word ≡ new word) [
+    | inr from ↦ elim (cases_lt word (head_word lists)) as (λ _. other word ≡ new word) [
       | inl less ↦ one_head word from less
       | inr past ↦ elim (cases_lt word 40) as (λ _. other word ≡ new word) [
         | inl less ↦ one_reserved word (in_header word (omega arith) less (λ e. omega arith) (inr (omega arith)))

@@ -68,7 +68,7 @@ pub const USED_WORD: u64 = 8;
 pub const HEAD_WORD: u64 = 16;
 
 /// How many lists of superblocks there are: the free ones, and one list for each class.
-pub const LISTS: u64 = 21;
+pub const LISTS: u64 = LAST_CLASS + 1;
 
 /// The first root.
 pub const ROOT_WORD: u64 = 40;

@@ -7,7 +7,7 @@ use Rattle.heap_model.specs.declared.block.Block.{Block}
 use Rattle.heap_model.specs.Geometry.{info_word}
 use Rattle.heap_model.specs.Header.{capacity_of}
 use Rattle.heap_model.specs.Image.{Image}
-use Rattle.heap_model.specs.Sizes.{IsClass}
+use Rattle.heap_model.specs.Sizes.{IsClass, last_class}
 use Rattle.super_block.specs.declared.info.Info.TheVariants.{Nothing}
 use Rattle.super_block.specs.Info.{Says}
 use Rattle.heap_model.specs.Words.{is_large_info}
@@ -28,8 +28,8 @@ not_true false never = refl
 pub no_class : (w : ℕ) → (IsClass w → ⊥) → is_class w ≡ false
 no_class w none = not_true (is_class w) (λ h.
     none (record {
-      some = leb-true 1 w (first_holds (nat_le 1 w) (nat_le w 20) h);
-      last = leb-true w 20 (second_holds (nat_le 1 w) (nat_le w 20) h);
+      some = leb-true 1 w (first_holds (nat_le 1 w) (nat_le w last_class) h);
+      last = leb-true w last_class (second_holds (nat_le 1 w) (nat_le w last_class) h);
     }))
 
 not_large : (w : ℕ) → ((count : ℕ) → 1 ≤ count → w ≡ 255 + 256 * count → ⊥) → is_large_info w ≡ false
@@ -52,7 +52,7 @@ pub use_if-class : (image : Image) (held : List Block) (d : ℕ) → IsClass (im
     → use_if false image held d ≡ class_use (capacity_of image) (image (info_word d)) held d
 use_if-class image held d is =
     let test : is_class (image (info_word d)) ≡ true =
-    both (nat_le 1 (image (info_word d))) (nat_le (image (info_word d)) 20) (le-leb _ _ is.some) (le-leb _ _ is.last) in
+    both (nat_le 1 (image (info_word d))) (nat_le (image (info_word d)) last_class) (le-leb _ _ is.some) (le-leb _ _ is.last) in
     rw test refl
 
 pub use_if-large : (image : Image) (held : List Block) (d superblocks : ℕ) → 1 ≤ superblocks → image (info_word d) ≡ 255 + 256 * superblocks

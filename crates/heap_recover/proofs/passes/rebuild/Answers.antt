@@ -1,5 +1,6 @@
 use Rattle.std.proofs.Common.{set, slice_index, sym, subst, ◌∙◌, arith}
 use Rattle.std.proofs.lemmas.List.{get_or-set_same, get_or-set_other}
+use Rattle.heap_model.specs.Geometry.{lists}
 use Rattle.heap_model.specs.Header.{used_of}
 use Rattle.heap_recover.specs.Marked.{IsMarked}
 use Rattle.heap_recover.specs.Rebuilt.{AreCleared, AreListed}
@@ -22,8 +23,8 @@ returns c =
     let cleared = slice_index c.clear_rest.new.new in
     let words = c.link_lists.new.words in
     let are_cleared = subst (λ n. AreCleared done cleared n (used_of old) n) c.new-geometry.ensures c.clear_rest.ensures in
-    let are_listed = subst (λ n. AreListed cleared (slice_index words) n found.roles.items 21) c.new-geometry.ensures
-    (subst (λ rs. AreListed cleared (slice_index words) c.new-geometry.result.capacity rs 21) c.deref.ensures.value c.in_ok-link_lists.ensures.ok) in
+    let are_listed = subst (λ n. AreListed cleared (slice_index words) n found.roles.items lists) c.new-geometry.ensures
+    (subst (λ rs. AreListed cleared (slice_index words) c.new-geometry.result.capacity rs lists) c.deref.ensures.value c.in_ok-link_lists.ensures.ok) in
     record {
       ok = rebuild old done cleared (slice_index words) (slice_index (set words 3 2)) (IsMarked c.args.marks.now) found.held.items found.roles.items
           c.requires.keeps c.requires.formed.used c.in_ok-found.ensures.ok are_cleared are_listed

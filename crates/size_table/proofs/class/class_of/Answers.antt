@@ -1,5 +1,5 @@
 use Rattle.std.proofs.Common.{refl, lit≤, arith}
-use Rattle.heap_model.specs.Sizes.{class_sizes, size_of, IsClass}
+use Rattle.heap_model.specs.Sizes.{class_sizes, size_of, last_class, IsClass}
 use Rattle.heap_model.proofs.SizeLemmas.{few_words, size_of-words}
 use Rattle.size_table.proofs.class.class_of.Goals as goal
 
@@ -15,6 +15,6 @@ returns-then-bytes-size_of-clause-none c =
 pub returns-clause-none : goal.returns-clause-none
 unfolding size_of class_sizes
 returns-clause-none c =
-    let last : IsClass 20 = record { some = lit≤ tt; last = lit≤ tt } in
-    let above = c.loop-class.invariant 20 last (omega arith) in
+    let last : IsClass last_class = record { some = lit≤ tt; last = lit≤ tt } in
+    let above = c.loop-class.invariant last_class last (omega arith) in
     ((λ same. omega (arith, above)), λ large. refl)

@@ -1,4 +1,5 @@
 use Rattle.std.proofs.Common.{◌≡◌, ◌-◌, ◌+◌, ◌++◌, ap, ◌∙◌, arith}
+use Rattle.heap_model.specs.Sizes.{last_class}
 use Rattle.std.specs.List.{flat_map, range_with_len}
 use Rattle.std.specs.String.{string_bytes}
 use Rattle.trace_text.specs.Report.{classes, class_line}
@@ -14,5 +15,5 @@ loop-class-preserved c =
 pub returns : goal.returns
 unfolding classes
 returns c =
-    let all : c.loop-class.class - 1 ≡ 20 = omega arith in
+    let all : c.loop-class.class - 1 ≡ last_class = omega arith in
     record { ok = c.loop-class.invariant ∙ ap (λ n. string_bytes c.args.text.now ++ flat_map (class_line c.args.held.now) (range_with_len 1 n)) all }

@@ -11,7 +11,7 @@ pub returns : goal.returns
 returns g c =
     let words = c.args.ready.words in
     let same = c.into_parts-words.ensures.words in
-    let caches : c.in_ok-vec.field-0.items ≡ replicate 21 no_cache = c.in_ok-vec.ensures.items_if_clones_equal (λ y same. same) in
+    let caches : c.in_ok-vec.field-0.items ≡ replicate lists no_cache = c.in_ok-vec.ensures.items_if_clones_equal (λ y same. same) in
     let count : length c.loop-list.head_looks.items ≡ c.loop-list.list = c.loop-list.invariant.long in
     let past = c.loop-list-test.false in
     let most = c.loop-list.auto.list-end in
