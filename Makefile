@@ -4,7 +4,7 @@
 # make bench   times the program beside the system's tools and other stores, runs of traces, and the heaps, and draws it
 # make faults  refuses each request for memory of a small run in turn, and says how the runs ended
 # make schedules  runs the schedules of docs/ALGORITHM.md, and compares their answers
-# make compare  holds the program against a second reading of the format, over damaged images and random traces, for a minute
+# make compare  holds the program against a second reading of the format, over damaged images, random traces and schedules, for a minute
 # make clean   removes what these made
 .PHONY: all test check bench faults schedules compare clean
 
