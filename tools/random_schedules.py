@@ -3,10 +3,8 @@ among them that most often may not be done."""
 
 from reference import FIXED, ROOTS, SIZES
 from reference_core import FULL, MASK, Core, first_of, state_of
+from reference_texts import VERBS
 
-VERBS = {"tick": 0, "cut": 1, "alloc": 1, "free": 1, "lift": 1, "large": 2, "split": 1, "load": 1,
-         "store": 2, "settle": 1, "look-used": 0, "take": 1, "keep": 0, "head": 1, "link": 0,
-         "pop": 0, "push": 1, "anchor": 1, "take-all": 1, "give": 1}
 CLASSES = [20, 20, 19, 18, 17, 16, 12]
 
 
@@ -50,7 +48,7 @@ class Schedule:
 
     def any_step(self, seat):
         verb = self.chance.choice(list(VERBS))
-        return verb, [self.any_number(seat) for _ in range(VERBS[verb])]
+        return verb.decode(), [self.any_number(seat) for _ in range(VERBS[verb])]
 
     def row(self, seat):
         """A row of steps towards an end that the seat may have now."""
