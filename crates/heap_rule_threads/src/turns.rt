@@ -17,7 +17,6 @@ use size_table::SizeClass;
 use super_block::WORD_BYTES;
 
 /// Holds the first block of the cache of a class, if there is one, and has a root lead to it.
-#[tactic(auto, unfolding(heap_model::specs::Geometry::largest_capacity))]
 fn hold(
     seat: &mut Seat,
     shared: &Shared,
