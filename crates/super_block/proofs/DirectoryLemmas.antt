@@ -1,14 +1,16 @@
 -- A directory that grows by one superblock, and what it keeps.
-use Rattle.std.proofs.Common.{◌≡◌, ℕ, ◌+◌, ◌<◌, ◌≤◌, inl, inr, List, [], ◌∷◌, ◌++◌, length, slice_index_or, Option, Some, None, IfSome, All, refl, ap, sym, subst, ◌∙◌, arith, length-append}
+use Rattle.std.proofs.Common.{◌≡◌, ℕ, ◌+◌, ◌*◌, ◌<◌, ◌≤◌, inl, inr, List, [], ◌∷◌, ◌++◌, length, slice_index_or, Option, Some, None, IfSome, refl, ap, sym, subst, ◌∙◌, arith, length-append}
 use Rattle.std.proofs.Math.ListN.{get_or-append}
 use Rattle.std.proofs.Math.Seq.{get_or-append_seam}
 use Rattle.std.proofs.lemmas.Bool.{cases_lt}
-use Rattle.std.proofs.lemmas.List.{get_or_default}
-use Rattle.heap_model.specs.Blocks.{Layout}
+use Rattle.heap_model.specs.declared.block.Block.{Block}
+use Rattle.heap_model.specs.Blocks.{Layout, Begins, of_class, as_large, NamesIn}
 use Rattle.heap_model.proofs.BlockLemmas.{some_words}
+use Rattle.heap_model.proofs.SizeLemmas.{blocks_fit}
 use Rattle.super_block.specs.declared.division.Division.{Division}
-use Rattle.super_block.specs.Division.{Divisions, Describes, DividesAs, DividesFirst, IsPlaceOf}
+use Rattle.super_block.specs.Division.{Divisions, Describes, DividesAs, DividesTaken, DividesFirst, HasRoom, IsPlaceOf}
 use Rattle.super_block.specs.declared.naming.Place.{Place}
+use Rattle.super_block.proofs.NamingLemmas.{placed_block}
 
 -- no superblock yet
 pub divides_none : (l : Layout) → DividesFirst l [] 0
@@ -26,25 +28,30 @@ divides_more l of found count first next = record { long = length-append of (fou
         subst (λ o. DividesAs l d o) (sym seam) (subst (λ i. DividesAs l i found) same next)
   ]
 
--- the blocks that are begun have words
-pub have_words : (l : Layout) (d : ℕ) (found : Option Division) → DividesAs l d found → IfSome found (λ division. 1 ≤ division.words)
-have_words l d None none = tt
-have_words l d (Some division) begins = let some = some_words l d division.words division.count begins in omega arith
+-- the blocks that are begun have no more words than all superblocks
+few_words : (l : Layout) (d w n : ℕ) → l.used ≤ l.capacity → d < l.used → Begins l d w n → n * w ≤ 8192 * l.capacity
+few_words l d w n used taken (of_class c e is) = omega (arith, blocks_fit c is)
+few_words l d w n used taken (as_large k some e end zeros) = omega arith
 
--- so a directory has only blocks with words
-pub all_have_words : (l : Layout) (of : List (Option Division)) (count : ℕ) → DividesFirst l of count → All (λ found. IfSome found (λ division. 1 ≤ division.words)) of
-all_have_words l of count first d other below =
-    let same : slice_index_or of d None ≡ slice_index_or of d other = get_or_default of d None other below in
+begun_room : (l : Layout) (d : ℕ) (found : Option Division) → l.used ≤ l.capacity → d < l.used → DividesAs l d found → IfSome found (HasRoom l.capacity d)
+begun_room l d None used taken none = tt
+begun_room l d (Some division) used taken begins = record {
+  below = omega arith;
+  some = omega (arith, some_words l d division.words division.count begins);
+  few = few_words l d division.words division.count used taken begins;
+}
+
+-- so in a directory all that is begun has room
+pub all_have_room : (l : Layout) (of : List (Option Division)) (count : ℕ) → l.used ≤ l.capacity → count ≤ l.used → DividesFirst l of count
+    → (d : ℕ) → d < length of → IfSome (slice_index_or of d None) (HasRoom l.capacity d)
+all_have_room l of count used taken first d below =
     let long = first.long in
-    subst (λ found. IfSome found (λ division. 1 ≤ division.words)) same (have_words l d (slice_index_or of d None) (first.each d (omega arith)))
+    begun_room l d (slice_index_or of d None) used (omega arith) (first.each d (omega arith))
 
--- what a directory says of a superblock that has been taken, read from its list
-pub divided_as : (l : Layout) (directory : Divisions) (d : ℕ) (found other : Option Division) → Describes directory l → d < length directory.of
-    → found ≡ slice_index_or directory.of d other → DividesAs l d found
-divided_as l directory d found other is below read =
-    let long = is.taken.long in
-    let same : found ≡ slice_index_or directory.of d None = read ∙ get_or_default directory.of d other None below in
-    subst (λ o. DividesAs l d o) (sym same) (is.taken.each d (omega arith))
+-- an offset in a superblock that has not been taken, or begins no block, names nothing
+pub names_none : (l : Layout) (offset : ℕ) (place : Place) → IsPlaceOf l.capacity offset place → DividesTaken l place.superblock None → (b : Block) → NamesIn l offset b → ⊥
+names_none l offset place lies none b names =
+    let placed = placed_block l offset place b lies names in none placed.is_of.taken placed.words placed.count placed.is_of.begins
 
 -- the offset lies there in the layout that a directory describes too
 pub lies_in : (l : Layout) (directory : Divisions) (offset : ℕ) (place : Place) → Describes directory l → IsPlaceOf directory.capacity offset place → IsPlaceOf l.capacity offset place

@@ -1,5 +1,5 @@
 -- How superblocks are divided into blocks, as the code keeps it.
-use Rattle.std.specs.Prelude.{◌≡◌, ℕ, ◌+◌, ◌*◌, ◌<◌, ◌≤◌, List, Option, None, MatchOption, IfSome, All, length, slice_index_or}
+use Rattle.std.specs.Prelude.{◌≡◌, ℕ, ◌+◌, ◌*◌, ◌<◌, ◌≤◌, List, Option, None, MatchOption, IfSome, length, slice_index_or}
 use Rattle.heap_model.specs.Blocks.{Layout, Begins}
 use Rattle.heap_model.specs.Geometry.{start_word, superblock_words, largest_capacity}
 use Rattle.super_block.specs.declared.division.Division.{Division}
@@ -12,6 +12,11 @@ IsDivision l d division = Begins l d division.words division.count
 -- what superblock d begins, or that it begins none
 abbrev pub DividesAs : Layout → ℕ → Option Division → Type 0
 DividesAs l d found = MatchOption found ((words count : ℕ) → Begins l d words count → ⊥) (IsDivision l d)
+
+-- what superblock d begins if it has been taken, or that it has not been taken or begins no block
+abbrev pub DividesTaken : Layout → ℕ → Option Division → Type 0
+DividesTaken l d found = MatchOption found (d < l.used → (words count : ℕ) → Begins l d words count → ⊥)
+    (λ division. (d < l.used) × IsDivision l d division)
 
 -- a directory: the capacity, and for each superblock that has been taken what it begins
 pub record Divisions : Type 0 where
@@ -40,7 +45,13 @@ pub record IsFound (l : Layout) (offset capacity : ℕ) (place : Place) (divisio
   pub taken : place.superblock < l.used
   pub divided : IsDivision l place.superblock division
 
--- each block that is begun has words, and the capacity is in range
+-- superblock d is one of the capacity, and what it begins has words, no more than all superblocks have
+pub record HasRoom (capacity d : ℕ) (division : Division) : Type 0 where
+  pub below : d < capacity
+  pub some : 1 ≤ division.words
+  pub few : division.count * division.words ≤ superblock_words * capacity
+
+-- what is begun has room, and the capacity is in range
 pub record AreDivisions (capacity : ℕ) (of : List (Option Division)) : Type 0 where
   pub small : capacity ≤ largest_capacity
-  pub some : All (λ found. IfSome found (λ division. 1 ≤ division.words)) of
+  pub room : (d : ℕ) → d < length of → IfSome (slice_index_or of d None) (HasRoom capacity d)

@@ -4,11 +4,12 @@ ghost use Rattle.std.specs.Prelude.{◌*◌, length, slice_index, IfOk, IfSome, 
 ghost use Rattle.heap_model.specs.declared.block.Block.{Block};
 ghost use Rattle.heap_model.specs.Header.{IsWellFormed};
 ghost use Rattle.heap_model.specs.Blocks.{Layout, layout_of, NamesIn};
-ghost use Rattle.super_block.specs.Division.{Describes};
+ghost use Rattle.super_block.specs.Division.{Describes, DividesTaken, HasRoom};
+ghost use Rattle.super_block.specs.Numbered.{IsNumbered};
 
 use crate::division::{Division, division_at};
 use crate::layout::{CAPACITY_WORD, USED_WORD};
-use crate::naming::{block_in, place_of};
+use crate::naming::{block_in, place_of, start_of};
 use heap_model::Block;
 use std::alloc::{AllocError, Global};
 use std::marker::Model;
@@ -59,12 +60,40 @@ impl Directory {
         let Some(place) = place_of(self.capacity, offset) else {
             return None;
         };
-        if place.superblock >= self.divisions.len() as u64 {
-            return None;
-        }
-        let Some(division) = self.divisions[place.superblock as usize] else {
+        let Some(division) = self.division(place.superblock) else {
             return None;
         };
         block_in(self.capacity, place, division)
+    }
+
+    /// The block with the index among those that the superblock begins, counted from 0, or `None`
+    /// where it begins fewer. A large block has the index 0 in the first of its superblocks.
+    pub fn block(&self, superblock: u64, index: u64) -> Option<Block>
+        ensures some { (l : Layout) → Describes self.now l
+            → IfSome result (IsNumbered l superblock index) }
+        ensures none { (l : Layout) → Describes self.now l
+            → IfNone result ((b : Block) → IsNumbered l superblock index b → ⊥) }
+    {
+        let Some(division) = self.division(superblock) else {
+            return None;
+        };
+        if index >= division.count {
+            return None;
+        }
+        Some(Block {
+            first_word: start_of(self.capacity, superblock) + index * division.words,
+            words: division.words,
+        })
+    }
+
+    /// What the superblock begins, or `None` where it has not been taken or begins no block.
+    fn division(&self, superblock: u64) -> Option<Division>
+        ensures divided { (l : Layout) → Describes self.now l → DividesTaken l superblock result }
+        ensures room { IfSome result (HasRoom self.now.capacity superblock) }
+    {
+        if superblock >= self.divisions.len() as u64 {
+            return None;
+        }
+        self.divisions[superblock as usize]
     }
 }

@@ -79,11 +79,19 @@ pub(crate) fn block_in(capacity: u64, place: Place, division: Division) -> Optio
     if place.within / division.words >= division.count {
         return None;
     }
-    let start = FIXED_WORDS + DESCRIPTOR_WORDS * capacity + SUPERBLOCK_WORDS * place.superblock;
     Some(Block {
-        first_word: start + place.within,
+        first_word: start_of(capacity, place.superblock) + place.within,
         words: division.words,
     })
+}
+
+/// The first word of the superblock.
+pub(crate) fn start_of(capacity: u64, superblock: u64) -> u64
+    requires capacity { capacity ≤ largest_capacity }
+    requires superblock { superblock < 2 ^ 48 }
+    ensures { result ≡ start_word capacity superblock }
+{
+    FIXED_WORDS + DESCRIPTOR_WORDS * capacity + SUPERBLOCK_WORDS * superblock
 }
 
 /// Block `index` of superblock `d` when that is divided into blocks of the class.
