@@ -84,17 +84,17 @@ fn kind(text: &str) -> Result<u32, Fail>
     }
 }
 
-/// What roots 0 and 1, of these kinds, reach in the image of one superblock with these words.
+/// What roots 0 and 1, of these kinds, reach in the image of four superblocks with these words.
 fn traced(alloc: Global, roots: &str, words: &str) -> Result<Result<Marks, TraceFault>, Fail> {
     let (first, second) = roots.split_once(' ').ok_or("no two kinds")?;
     let kinds = kinds(alloc, kind(first)?, kind(second)?)?;
-    let image = good_image(alloc, 1, words)?;
+    let image = good_image(alloc, 4, words)?;
     Ok(trace(alloc, &image, &kinds, &Tables))
 }
 
-/// The kinds that the block has been reached as. Where it has as none, `~` if one that begins at
-/// the same word has, and `-` else.
-fn kinds_of(alloc: Global, marks: &Marks, block: Block) -> Result<String, AllocError> {
+/// The kinds that the block has been reached as. Where it has as none, `~` if the block whose
+/// number is told has, and `-` else.
+fn kinds_of(alloc: Global, marks: &Marks, block: Block, holds: bool) -> Result<String, AllocError> {
     let mut kinds = String::new(alloc);
     for kind in [0, 1, 2, 3, u32::MAX] {
         if marks.has(block, kind) {
@@ -102,19 +102,21 @@ fn kinds_of(alloc: Global, marks: &Marks, block: Block) -> Result<String, AllocE
         }
     }
     if kinds.is_empty() {
-        let begins = marks.holds_at(block.first_word);
-        kinds.push_str(if begins { "~" } else { "-" })?;
+        kinds.push_str(if holds { "~" } else { "-" })?;
     }
     Ok(kinds)
 }
 
-/// Asserts that the block has been reached as just these kinds, as in `1072/4 12`.
+/// Asserts that the block has been reached as just these kinds, and so the block with the number:
+/// superblock, index, block and kinds are told as in `0.1 1100/4 12`.
 fn must_be_reached(rt: &(impl Abort + AllocGlobal), marks: &Marks, told: &str) -> Result<(), Fail> {
-    let (block, kinds) = told.split_once(' ').ok_or("no kinds")?;
-    let block = block_of(block)?;
-    let found = kinds_of(rt.alloc(), marks, block)?;
+    let (superblock, rest) = told.split_once('.').ok_or("no superblock")?;
+    let (index, rest) = rest.split_once(' ').ok_or("no index")?;
+    let (block, kinds) = rest.split_once(' ').ok_or("no kinds")?;
+    let holds = marks.holds(number(superblock)?, number(index)?);
+    let found = kinds_of(rt.alloc(), marks, block_of(block)?, holds)?;
     must_hold(rt, found.as_str() == kinds, told);
-    must_hold(rt, marks.holds_at(block.first_word) == (kinds != "-"), told);
+    must_hold(rt, holds == (kinds != "-"), told);
     Ok(())
 }
 
@@ -135,23 +137,31 @@ fn is_row(line: &str) -> bool {
     line.split_once(" | ").is_some() && !line.starts_with('#')
 }
 
-/// Blocks of class 2 begin at words 1,072, 1,076 and 1,080, and the first of class 12 at 1,072.
+/// Blocks of class 2 begin at words 1,096, 1,100 and 1,104, and the first of class 12 at 1,096.
 const REACHED: &str = "
 # A block of two kinds is followed as each.
-2 1 | used 1, info:0 2, root:0 @1072, root:1 @1072, 1072 @1076, 1074 @1080 | \
-    1072/4 12, 1076/4 2, 1080/4 2
+2 1 | used 1, info:0 2, root:0 @1096, root:1 @1096, 1096 @1100, 1098 @1104 | \
+    0.0 1096/4 12, 0.1 1100/4 2, 0.2 1104/4 2
 # A block with links may be reached as one without.
-0 1 | used 1, info:0 12, root:0 @1072, root:1 @1072 | 1072/128 01
-1 0 | used 1, info:0 12, root:0 @1072, root:1 @1072 | 1072/128 01
-0 0 | used 1, info:0 12, root:0 @1072, 1075 5 | 1072/128 0
+0 1 | used 1, info:0 12, root:0 @1096, root:1 @1096 | 0.0 1096/128 01
+1 0 | used 1, info:0 12, root:0 @1096, root:1 @1096 | 0.0 1096/128 01
+0 0 | used 1, info:0 12, root:0 @1096, 1099 5 | 0.0 1096/128 0
 # No other block has been reached.
-2 0 | used 1, info:0 2, root:0 @1072, root:1 @1080 | 1072/4 2, 1080/4 0, \
-    1076/4 -, 1072/2 ~, 1072/8 ~, 1073/4 -, 40/4 -, 9264/4 -, 18446744073709551615/4 -, \
-    2305843009213693951/18446744073709551615 -
+2 0 | used 1, info:0 2, root:0 @1096, root:1 @1104 | 0.0 1096/4 2, 0.2 1104/4 0, \
+    0.1 1100/4 -, 0.0 1096/2 ~, 0.0 1096/8 ~, 0.1 1097/4 -, 0.3 40/4 -, \
+    0.4 18446744073709551615/4 -, 0.5 2305843009213693951/18446744073709551615 -
+# No block is past the last one of its superblock, nor a second one beside a large block.
+0 0 | used 3, info:0 2, info:1 767, root:0 @9284, root:1 @9288 | 0.2047 9284/4 0, \
+    1.0 9288/16384 0, 0.2048 9288/4 -, 0.18446744073709551615 9288/4 -, 1.1 25672/16384 -, \
+    2.0 17480/8192 -
+# None is in a superblock that has not been taken.
+2 0 | used 1, info:0 2, info:1 2, root:0 @1096 | 0.0 1096/4 2, 1.0 9288/4 -, 4.0 33864/4 -, \
+    18446744073709551615.0 1096/8 -
 # Cycles and shared blocks are followed once.
-2 0 | used 1, info:0 2, root:0 @1072, 1072 @1072 | 1072/4 2, 1076/4 -
-2 0 | used 1, info:0 2, root:0 @1072, 1072 @1076, 1076 @1072 | 1072/4 2, 1076/4 2, 1080/4 -
-2 2 | used 1, info:0 2, root:0 @1072, root:1 @1076, 1072 @1080, 1076 @1080 | 1080/4 2
+2 0 | used 1, info:0 2, root:0 @1096, 1096 @1096 | 0.0 1096/4 2, 0.1 1100/4 -
+2 0 | used 1, info:0 2, root:0 @1096, 1096 @1100, 1100 @1096 | 0.0 1096/4 2, 0.1 1100/4 2, \
+    0.2 1104/4 -
+2 2 | used 1, info:0 2, root:0 @1096, root:1 @1100, 1096 @1104, 1100 @1104 | 0.2 1104/4 2
 ";
 
 #[test]
@@ -167,12 +177,12 @@ fn blocks_are_reached_through_the_links_of_their_kinds(rt: HostRuntime) -> Resul
 /// The same, but for the last column: the word that points to no block, and its value.
 const OUTSIDE: &str = "
 # A link of a table that is no pointer.
-1 0 | used 1, info:0 12, root:0 @1072, 1075 5 | 1075 5
+1 0 | used 1, info:0 12, root:0 @1096, 1099 5 | 1099 5
 # A word deep in a chain: no pointer, one into a block, and one with another upper half.
-2 0 | used 1, info:0 2, root:0 @1072, 1072 @1076, 1076 @1080, 1080 7 | 1080 7
-2 0 | used 1, info:0 2, root:0 @1072, 1072 @1076, 1076 @1080, 1080 @1073 | 1080 @1073
-2 0 | used 1, info:0 2, root:0 @1072, 1072 @1076, 1076 @1080, 1080 5931522184223662464 | \
-    1080 5931522184223662464
+2 0 | used 1, info:0 2, root:0 @1096, 1096 @1100, 1100 @1104, 1104 7 | 1104 7
+2 0 | used 1, info:0 2, root:0 @1096, 1096 @1100, 1100 @1104, 1104 @1097 | 1104 @1097
+2 0 | used 1, info:0 2, root:0 @1096, 1096 @1100, 1100 @1104, 1104 5931522184223662656 | \
+    1104 5931522184223662656
 ";
 
 /// Traces what such a row tells.
@@ -202,14 +212,14 @@ fn a_word_that_points_to_no_block_is_told(rt: HostRuntime) -> Result<(), Fail> {
 #[test]
 fn a_chain_through_a_whole_superblock_is_followed(rt: HostRuntime) -> Result<(), Fail> {
     let alloc = rt.alloc();
-    let mut words = String::from_str(alloc, "used 1, info:0 1, root:0 @1072")?;
+    let mut words = String::from_str(alloc, "used 1, info:0 1, root:0 @1096")?;
     for block in 0..4_095u64 {
-        let at = block * 2 + 1_072;
+        let at = block * 2 + 1_096;
         write!(words, ", {at} @{}", at + 2)?;
     }
     let marks = traced(alloc, "2 0", &words)??;
     for block in 0..4_096u64 {
-        let told = format!(in alloc; "{}/2 2", block * 2 + 1_072)?;
+        let told = format!(in alloc; "0.{block} {}/2 2", block * 2 + 1_096)?;
         must_be_reached(&rt, &marks, &told)?;
     }
     Ok(())

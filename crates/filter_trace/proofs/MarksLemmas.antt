@@ -1,14 +1,11 @@
--- Facts on marks: a pair that is marked is of a block of the image.
-use Rattle.std.proofs.Common.{◌≡◌, ℕ, ◌+◌, ◌*◌, ◌<◌, ◌^◌, ◌&&◌, Bool, true, false, nat_eq, List, slice_index_or, ap, sym, subst, arith}
+-- Facts on the blocks of an image: each begins early, and is the one that its first byte names.
+use Rattle.std.proofs.Common.{◌≡◌, ℕ, ◌*◌, ◌<◌, ◌^◌, ◌&&◌, true, nat_eq, ap, subst, arith}
 use Rattle.std.proofs.lemmas.Bool.{and_parts, and_from, eqb-true, eq-eqb}
-use Rattle.std.proofs.lemmas.Nat.{same_from_place}
 use Rattle.heap_model.specs.declared.block.Block.{Block}
 use Rattle.heap_model.specs.Image.{Image}
 use Rattle.heap_model.specs.Header.{IsWellFormed}
 use Rattle.heap_model.specs.Blocks.{Layout, layout_of, IsBlock, NamesIn}
 use Rattle.heap_model.proofs.BlockLemmas.{same_first}
-use Rattle.filter_trace.specs.Pairs.{AreMarked}
-use Rattle.filter_trace.specs.Reached.{IsReachedAt}
 use Rattle.filter_trace.proofs.StepLemmas.{block_within, image_short}
 
 -- a block of an image begins early
@@ -17,21 +14,6 @@ block_low image n b formed is =
     let within = block_within image n b formed is in
     let short = image_short image n formed in
     omega arith
-
--- where some kind is marked at a word, a block that begins there is in a pair
-pub marked_at : (l : Layout) (kinds : ℕ) (pairs : List (Block × ℕ)) (marks : List Bool) (word k : ℕ)
-    → AreMarked l kinds pairs marks → k < kinds → slice_index_or marks (word * kinds + k) false ≡ true → IsReachedAt pairs word
-marked_at l kinds pairs marks word k work below set_k =
-    let found = work.only (word * kinds + k) set_k in
-    let of = work.blocks found.block found.kind found.pair in
-    let place = same_from_place word k found.block.first_word found.kind kinds below of.1 found.at_is in
-    record { block = found.block; kind = found.kind; begins = sym place.0; pair = found.pair }
-
--- and the mark of one that does is set
-pub at_marked : (l : Layout) (kinds : ℕ) (pairs : List (Block × ℕ)) (marks : List Bool) (word : ℕ)
-    → AreMarked l kinds pairs marks → (at : IsReachedAt pairs word) → (at.kind < kinds) × (slice_index_or marks (word * kinds + at.kind) false ≡ true)
-at_marked l kinds pairs marks word work at =
-    ((work.blocks at.block at.kind at.pair).1, subst (λ w. slice_index_or marks (w * kinds + at.kind) false ≡ true) at.begins (work.marked at.block at.kind at.pair))
 
 -- a block that is the named one is one
 pub same_named : (l : Layout) (offset : ℕ) (named block : Block) → NamesIn l offset named

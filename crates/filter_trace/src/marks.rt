@@ -18,14 +18,13 @@ pub struct Marks {
 }
 
 impl Model for Marks {
-    ghost use Rattle.std.specs.Prelude.{List, ℕ};
-    ghost use Rattle.heap_model.specs.declared.block.Block.{Block};
+    ghost use Rattle.filter_trace.specs.Reached.{Traced};
 
-    ghost Value = { List (Block × ℕ) };
+    ghost Value = { Traced };
 
     ghost use Rattle.filter_trace.specs.MarksInside.{HasImage};
 
-    ghost view = { λ m. m.found.pairs.items };
+    ghost view = { λ m. record { directory = m.directory; pairs = m.found.pairs.items } };
 
     ghost invariant = { HasImage };
 }
@@ -34,7 +33,7 @@ impl Marks {
     /// Whether the block has been reached as one of the kind. Also a block that the image does not
     /// have may be asked for.
     pub fn has(&self, block: Block, kind: u32) -> bool
-        ensures { IsTrue result ↔ Contains self.now (block, kind) }
+        ensures { IsTrue result ↔ Contains self.now.pairs (block, kind) }
     {
         if !is_block(&self.directory, block) {
             return false;
@@ -42,17 +41,17 @@ impl Marks {
         kind < self.found.kinds && self.found.has(block, kind)
     }
 
-    /// Whether a block has been reached that begins at the word, in time that grows with the number
-    /// of kinds.
-    pub fn holds_at(&self, first_word: u64) -> bool
-        ensures { IsTrue result ↔ IsReachedAt self.now first_word }
+    /// Whether the block with the index in the superblock has been reached. The blocks of a class
+    /// are counted from 0, and a large block is number 0 of its first superblock; where the
+    /// superblock begins no such block the answer is no. Time grows with the number of kinds.
+    pub fn holds(&self, superblock: u64, index: u64) -> bool
+        ensures { (l : Layout) → Describes self.now.directory l
+            → (IsTrue result ↔ IsReachedAt l self.now.pairs superblock index) }
     {
-        let found = &self.found;
-        // (no block begins later)
-        if first_word > u32::MAX as u64 {
-            return false;
+        match self.directory.block(superblock, index) {
+            Some(block) => self.found.holds_at(block.first_word),
+            None => false,
         }
-        found.holds_at(first_word)
     }
 }
 

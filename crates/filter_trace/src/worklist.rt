@@ -3,7 +3,9 @@ ghost use Rattle.std.specs.Prelude.{◌≡◌, ℕ, ◌*◌, ◌<◌, length, sl
 ghost use Rattle.std.specs.List.{All};
 ghost use Rattle.heap_model.specs.Geometry.{roots};
 ghost use Rattle.heap_model.specs.Header.{IsWellFormed};
+ghost use Rattle.heap_model.specs.Blocks.{layout_of};
 ghost use Rattle.heap_model.specs.Reach.{IsOutside};
+ghost use Rattle.super_block.specs.Division.{Describes};
 ghost use Rattle.filter_trace.specs.Reached.{AreReached, TellsOutside};
 
 use crate::fault::TraceFault;
@@ -25,8 +27,10 @@ pub fn trace<F: Filter>(
     requires formed { IsWellFormed (8 * length words.now) (slice_index words.now) }
     requires roots { length kinds.now ≡ roots }
     requires kinds { All (λ kind. kind < F.KINDS) kinds.now }
-    ensures ok { IfOk result (AreReached (slice_index words.now) (slice_index kinds.now)
-        (F.links_of filter.now)) }
+    ensures ok { IfOk result (λ marks. AreReached (slice_index words.now) (slice_index kinds.now)
+        (F.links_of filter.now) marks.pairs) }
+    ensures described { IfOk result (λ marks.
+        Describes marks.directory (layout_of (slice_index words.now))) }
     ensures none { OnOk result ((at : ℕ) → IsOutside (slice_index words.now)
         (slice_index kinds.now) (F.links_of filter.now) at → ⊥) }
     ensures err { IfErr result (TellsOutside (slice_index words.now) (slice_index kinds.now)

@@ -1,16 +1,19 @@
 -- How the blocks of a superblock of a class are parted, one after the other.
-use Rattle.std.proofs.Common.{◌≡◌, ◌↔◌, ℕ, ◌+◌, ◌<◌, ◌⊎◌, inl, inr, Bool, true, false, IsTrue, List, [], ◌∷◌, ◌++◌, refl, ap, sym, subst, ◌∙◌, arith}
+use Rattle.std.proofs.Common.{◌≡◌, ◌↔◌, ℕ, ◌+◌, ◌<◌, ◌⊎◌, inl, inr, Bool, true, false, IsTrue, List, [], ◌∷◌, ◌++◌, ap, sym, subst, ◌∙◌, arith}
 use Rattle.std.specs.List.{Contains}
 use Rattle.std.proofs.lemmas.Bool.{cases_lt, false≢true}
 use Rattle.std.proofs.lemmas.List.Elements.{Contains-append_left, Contains-push}
 use Rattle.heap_model.specs.declared.block.Block.{Block}
-use Rattle.heap_model.specs.Sizes.{IsClass, words_of_class}
+use Rattle.heap_model.specs.Geometry.{start_word}
+use Rattle.heap_model.specs.Sizes.{IsClass, words_of_class, blocks_of}
 use Rattle.heap_model.specs.Recovered.{IsBlockOfClass}
-use Rattle.heap_model.specs.Blocks.{Layout, IsBlock}
-use Rattle.heap_model.proofs.BlockLemmas.{block_step, same_first}
+use Rattle.heap_model.specs.Blocks.{Layout, of_class, IsBlockOf, IsBlock}
+use Rattle.heap_model.proofs.BlockLemmas.{block_step, some_words, begins_inside}
 use Rattle.heap_model.proofs.SizeLemmas.{two_words}
+use Rattle.super_block.specs.Numbered.{IsNumbered}
+use Rattle.super_block.proofs.NumberLemmas.{same_number}
 use Rattle.filter_trace.specs.Reached.{IsReachedAt}
-use Rattle.heap_recover.specs.Marked.{IsMarked, KeepsBlocks, IsKeptAmong, IsSpareAmong, AreParted}
+use Rattle.heap_recover.specs.Marked.{IsMarked, IsKeptAmong, IsSpareAmong, AreParted}
 use Rattle.heap_recover.proofs.AscendingLemmas.{ascending_none, ascending_same, ascending_push}
 
 -- a superblock has one block of an index
@@ -103,16 +106,39 @@ module _ (kept : Block → Type 0) (capacity class d : ℕ) (is : IsClass class)
           inr (subst (λ (y : Block). Contains (spares ++ b.first_word ∷ []) y.first_word) (sym same) (Contains-push spares b.first_word))
     ]
 
--- a block of the layout with its first word marked is marked, since no other begins there
-pub marked_at : (l : Layout) (pairs : List (Block × ℕ)) (b : Block) → KeepsBlocks l (IsMarked pairs) → IsBlock l b → IsReachedAt pairs b.first_word → IsMarked pairs b
-marked_at l pairs b keeps is at =
-    let one : at.block ≡ b = same_first l at.block b (keeps.each at.block (record { kind = at.kind; pair = at.pair })) is at.begins in
-    record { kind = at.kind; pair = subst (λ x. Contains pairs (x, at.kind)) one at.pair }
+-- a block of the class that the superblock has is a block of the layout with that number
+pub class_number : (l : Layout) (class d index : ℕ) (b : Block) → d < l.used → l.info d ≡ class → IsClass class → IsBlockOfClass l.capacity class d index b → IsNumbered l d index b
+class_number l class d index b taken info is of = record {
+  words = words_of_class class;
+  count = blocks_of class;
+  is_of = record { taken = taken; begins = of_class class info is; below = of.below; at = of.at; size = of.size };
+}
 
--- the answer of the marks decides whether a block of the layout is marked
-pub marked_if : (l : Layout) (pairs : List (Block × ℕ)) (b : Block) (answer : Bool) → KeepsBlocks l (IsMarked pairs) → IsBlock l b
-    → (IsTrue answer ↔ IsReachedAt pairs b.first_word) → answer ≡ true → IsMarked pairs b
-marked_if l pairs b answer keeps is_b says is = marked_at l pairs b keeps is_b (says.0 is)
+-- a block that begins with its superblock has the number 0
+pub first_number : (l : Layout) (b : Block) (d : ℕ) → IsBlock l b → b.first_word ≡ start_word l.capacity d → IsNumbered l d 0 b
+first_number l b d is first =
+    let of = is.is_of in
+    let inside = begins_inside l is.superblock is.index is.words is.count of.begins of.below in
+    let some = some_words l is.superblock is.words is.count of.begins in
+    let superblock : is.superblock ≡ d = omega (arith, of.at) in
+    let index : is.index ≡ 0 = elim (cases_lt 0 is.index) as (λ _. is.index ≡ 0) [
+      | inl more ↦ absurd (omega (arith, of.at, block_step 0 is.index is.words more))
+      | inr none ↦ omega arith
+    ] in
+    record {
+      words = is.words;
+      count = is.count;
+      is_of = subst (λ e. IsBlockOf l b e 0 is.words is.count) superblock (subst (λ i. IsBlockOf l b is.superblock i is.words is.count) index of);
+    }
 
-pub unmarked_if : (pairs : List (Block × ℕ)) (b : Block) (answer : Bool) → (IsTrue answer ↔ IsReachedAt pairs b.first_word) → answer ≡ false → IsMarked pairs b → ⊥
-unmarked_if pairs b answer says is marked = false≢true (sym is ∙ says.1 (record { block = b; kind = marked.kind; begins = refl; pair = marked.pair }))
+-- the answer of the marks decides whether the block with the number is marked
+pub marked_if : (l : Layout) (pairs : List (Block × ℕ)) (d index : ℕ) (b : Block) (answer : Bool) → IsNumbered l d index b
+    → (IsTrue answer ↔ IsReachedAt l pairs d index) → answer ≡ true → IsMarked pairs b
+marked_if l pairs d index b answer numbered says is =
+    let at = says.0 is in
+    record { kind = at.kind; pair = subst (λ x. Contains pairs (x, at.kind)) (same_number l d index at.block b at.numbered numbered) at.pair }
+
+pub unmarked_if : (l : Layout) (pairs : List (Block × ℕ)) (d index : ℕ) (b : Block) (answer : Bool) → IsNumbered l d index b
+    → (IsTrue answer ↔ IsReachedAt l pairs d index) → answer ≡ false → IsMarked pairs b → ⊥
+unmarked_if l pairs d index b answer numbered says is marked =
+    false≢true (sym is ∙ says.1 (record { block = b; kind = marked.kind; numbered = numbered; pair = marked.pair }))

@@ -2,6 +2,7 @@
 ghost use Rattle.std.specs.Prelude.{◌≡◌, ◌<◌, IfOk};
 ghost use Rattle.heap_model.specs.Sizes.{blocks_of};
 ghost use Rattle.heap_model.specs.Blocks.{Layout};
+ghost use Rattle.super_block.specs.Division.{Describes};
 ghost use Rattle.heap_recover.specs.Marked.{IsMarked, KeepsBlocks, AreParted};
 
 use filter_trace::Marks;
@@ -31,8 +32,9 @@ pub fn part_blocks(
     requires inside { d < geometry.now.capacity }
     requires taken { d < layout.used }
     requires info { layout.info d ≡ class.number }
-    requires keeps { KeepsBlocks layout (IsMarked marks.now) }
-    ensures ok { IfOk result (λ parts. AreParted (IsMarked marks.now)
+    requires keeps { KeepsBlocks layout (IsMarked marks.now.pairs) }
+    requires described { Describes marks.now.directory layout }
+    ensures ok { IfOk result (λ parts. AreParted (IsMarked marks.now.pairs)
         geometry.now.capacity class.number d (blocks_of class.number)
         parts.held.items parts.spares.items) }
 {
@@ -40,7 +42,7 @@ pub fn part_blocks(
     let mut spares = Vec::new(alloc);
     for index in 0..blocks_of(class.number) {
         let block = block_at(geometry, d, index, class);
-        if marks.holds_at(block.first_word) {
+        if marks.holds(d, index) {
             held.push(block)?;
         } else {
             spares.push(block.first_word)?;

@@ -4,6 +4,7 @@ ghost use Rattle.heap_model.specs.Geometry.{image_words};
 ghost use Rattle.heap_model.specs.Image.{Image};
 ghost use Rattle.heap_model.specs.Header.{IsWellFormed, capacity_of, used_of};
 ghost use Rattle.heap_model.specs.Blocks.{layout_of};
+ghost use Rattle.super_block.specs.Division.{Describes};
 ghost use Rattle.heap_recover.specs.Marked.{IsMarked, KeepsBlocks};
 ghost use Rattle.heap_recover.specs.Rebuilt.{AreDone, AreCleared, IsRebuild};
 
@@ -27,9 +28,10 @@ pub struct Found {
 /// Makes the words of an image those of a heap at rest that keeps the marked blocks.
 pub fn rebuild(alloc: Global, words: &mut [u64], marks: &Marks) -> Result<Found, AllocError>
     requires formed { IsWellFormed (8 * length words.old) (slice_index words.old) }
-    requires keeps { KeepsBlocks (layout_of (slice_index words.old)) (IsMarked marks.now) }
+    requires keeps { KeepsBlocks (layout_of (slice_index words.old)) (IsMarked marks.now.pairs) }
+    requires described { Describes marks.now.directory (layout_of (slice_index words.old)) }
     ensures ok { IfOk result (λ found. IsRebuild (slice_index words.old) (slice_index words.new)
-        (IsMarked marks.now) found.held.items found.roles.items) }
+        (IsMarked marks.now.pairs) found.held.items found.roles.items) }
 {
     let geometry = Geometry::new(words[CAPACITY_WORD as usize]);
     let used = words[USED_WORD as usize];
@@ -54,9 +56,10 @@ fn rebuild_taken(
     requires formed { IsWellFormed (8 * length words.old) image }
     requires capacity { geometry.now.capacity ≡ capacity_of image }
     requires used { used ≡ used_of image }
-    requires keeps { KeepsBlocks (layout_of image) (IsMarked marks.now) }
+    requires keeps { KeepsBlocks (layout_of image) (IsMarked marks.now.pairs) }
+    requires described { Describes marks.now.directory (layout_of image) }
     ensures ok { IfOk result (λ found. AreDone image (slice_index words.new)
-        (IsMarked marks.now) used found.held.items found.roles.items) }
+        (IsMarked marks.now.pairs) used found.held.items found.roles.items) }
 {
     let mut held = Vec::new(alloc);
     let mut roles = Vec::new(alloc);

@@ -8,6 +8,7 @@ ghost use Rattle.heap_model.specs.Blocks.{layout_of};
 ghost use Rattle.heap_model.specs.Reach.{IsOutside, IsReached};
 ghost use Rattle.heap_model.specs.Recovered.{IsFreeSuperblock, AreAscending};
 ghost use Rattle.heap_model.specs.Recovery.{IsRecovered};
+ghost use Rattle.super_block.specs.Division.{Describes};
 ghost use Rattle.heap_recover.specs.Marked.{IsMarked, KeepsBlocks};
 ghost use Rattle.heap_recover.specs.Fault.{TellsFault};
 ghost use Rattle.heap_recover.specs.Answer.{IsMadeOf};
@@ -104,8 +105,9 @@ fn keep_marked(
 ) -> Result<Recovered, AllocError>
     requires formed { IsWellFormed (8 * length words.items) (slice_index words.items) }
     requires closed { IsTrue closed ↔ (state_of (slice_index words.items) ≡ clean) }
-    requires keeps { KeepsBlocks (layout_of (slice_index words.items)) (IsMarked marks.now) }
-    ensures ok { IfOk result (IsMadeOf words.items (IsMarked marks.now)) }
+    requires keeps { KeepsBlocks (layout_of (slice_index words.items)) (IsMarked marks.now.pairs) }
+    requires described { Describes marks.now.directory (layout_of (slice_index words.items)) }
+    ensures ok { IfOk result (IsMadeOf words.items (IsMarked marks.now.pairs)) }
 {
     let found = rebuild(alloc, &mut words, marks)?;
     let free = members(alloc, &found.roles, 0)?;

@@ -1,6 +1,7 @@
 //! What recovery finds in a superblock.
 ghost use Rattle.std.specs.Prelude.{◌≡◌, ◌<◌, ◌≤◌, IfOk, []};
 ghost use Rattle.heap_model.specs.Blocks.{Layout};
+ghost use Rattle.super_block.specs.Division.{Describes};
 ghost use Rattle.heap_recover.specs.Marked.{IsMarked, KeepsBlocks, GoOnTo};
 ghost use Rattle.heap_recover.specs.Roles.{IsSurvey, RoleOfParts};
 
@@ -42,9 +43,10 @@ pub fn survey_superblock(
     requires used { used ≡ layout.used }
     requires taken { d < used }
     requires inside { used ≤ geometry.now.capacity }
-    requires keeps { KeepsBlocks layout (IsMarked marks.now) }
-    requires goes_on { GoOnTo layout (IsMarked marks.now) d end }
-    ensures ok { IfOk result (IsSurvey layout (IsMarked marks.now) d) }
+    requires keeps { KeepsBlocks layout (IsMarked marks.now.pairs) }
+    requires goes_on { GoOnTo layout (IsMarked marks.now.pairs) d end }
+    requires described { Describes marks.now.directory layout }
+    ensures ok { IfOk result (IsSurvey layout (IsMarked marks.now.pairs) d) }
 {
     match Info::unpack(info) {
         Info::Nothing if d < end => Ok(Survey::without_blocks(alloc, Role::Large, end)),
@@ -54,19 +56,17 @@ pub fn survey_superblock(
             Ok(survey_parts(alloc, class, parts, end))
         }
         Info::Large(count) => {
-            if count <= used - d {
+            if count <= used - d && marks.holds(d, 0) {
                 let block = Block {
                     first_word: geometry.start(d),
                     words: SUPERBLOCK_WORDS * count,
                 };
-                if marks.holds_at(block.first_word) {
-                    return Ok(Survey {
-                        role: Role::Large,
-                        held: vec![in alloc; block]?,
-                        spares: Vec::new(alloc),
-                        end: d + count,
-                    });
-                }
+                return Ok(Survey {
+                    role: Role::Large,
+                    held: vec![in alloc; block]?,
+                    spares: Vec::new(alloc),
+                    end: d + count,
+                });
             }
             Ok(Survey::without_blocks(alloc, Role::Free, end))
         }

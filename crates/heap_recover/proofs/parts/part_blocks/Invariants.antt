@@ -2,4 +2,4 @@ use Rattle.heap_recover.specs.Marked.{IsMarked, AreParted}
 use Rattle.heap_recover.proofs.parts.part_blocks.Given as goal
 
 abbrev pub invariant-loop-index : goal.invariant-loop-index
-invariant-loop-index g l = AreParted (IsMarked l.marks) l.geometry.capacity l.class.number l.d l.index l.held.items l.spares.items
+invariant-loop-index g l = AreParted (IsMarked l.marks.pairs) l.geometry.capacity l.class.number l.d l.index l.held.items l.spares.items

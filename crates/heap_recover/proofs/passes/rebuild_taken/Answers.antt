@@ -9,22 +9,22 @@ use Rattle.heap_recover.proofs.passes.rebuild_taken.Goals as goal
 pub loop-d-init : goal.loop-d-init
 loop-d-init g c =
     let old = g.image in
-    let kept = IsMarked c.args.marks.now in (
+    let kept = IsMarked c.args.marks.now.pairs in (
       subst (λ xs. AreDone old (slice_index c.args.words.now) kept 0 xs c.new-roles.result.items) (sym c.new-held.ensures.items)
           (subst (λ rs. AreDone old (slice_index c.args.words.now) kept 0 [] rs) (sym c.new-roles.ensures.items)
-          (subst (λ new. AreDone old new kept 0 [] []) (sym c.requires.0) (done_none old kept c.requires.1.1.1.1))),
-      goes_on_none (layout_of old) kept c.requires.1.1.1.1,
+          (subst (λ new. AreDone old new kept 0 [] []) (sym c.requires.0) (done_none old kept c.requires.1.1.1.1.0))),
+      goes_on_none (layout_of old) kept c.requires.1.1.1.1.0,
     )
 
 pub rebuild_superblock-requires-clause-capacity : goal.rebuild_superblock-requires-clause-capacity
 rebuild_superblock-requires-clause-capacity g c =
-    done_capacity g.image (slice_index c.loop-d.words) (IsMarked c.args.marks.now) c.loop-d.d c.loop-d.held.items c.loop-d.roles.items
+    done_capacity g.image (slice_index c.loop-d.words) (IsMarked c.args.marks.now.pairs) c.loop-d.d c.loop-d.held.items c.loop-d.roles.items
     (let used = c.requires.1.0.used in omega arith) c.loop-d.invariant.0 ∙ sym c.requires.1.1.0
 
 pub rebuild_superblock-requires-clause-info : goal.rebuild_superblock-requires-clause-info
 rebuild_superblock-requires-clause-info g c =
     let old = g.image in
-    let kept = IsMarked c.args.marks.now in
+    let kept = IsMarked c.args.marks.now.pairs in
     let survey = c.in_ok-survey.survey in
     subst (λ info. HasInfo info survey.role)
     (sym (done_info old (slice_index c.loop-d.words) kept c.loop-d.d c.loop-d.held.items c.loop-d.roles.items (let used = c.requires.1.0.used in omega arith) c.loop-d.invariant.0))
@@ -33,7 +33,7 @@ rebuild_superblock-requires-clause-info g c =
 pub rebuild_superblock-requires-clause-spares : goal.rebuild_superblock-requires-clause-spares
 rebuild_superblock-requires-clause-spares g c =
     let old = g.image in
-    let kept = IsMarked c.args.marks.now in
+    let kept = IsMarked c.args.marks.now.pairs in
     let survey = c.in_ok-survey.survey in
     subst (λ n. HasSpares n c.loop-d.d c.deref.result.now survey.role) (sym c.requires.1.1.0)
     (subst (λ xs. HasSpares (capacity_of old) c.loop-d.d xs survey.role) (sym c.deref.ensures.value)
@@ -44,7 +44,7 @@ loop-d-preserved g c =
     let old = g.image in
     let mid = slice_index c.loop-d.words in
     let new = slice_index c.rebuild_superblock.new.words in
-    let kept = IsMarked c.args.marks.now in
+    let kept = IsMarked c.args.marks.now.pairs in
     let survey = c.in_ok-survey.survey in
     let found = c.in_ok-survey.ensures.ok in
     let rebuilt = subst (λ n. IsRebuiltAs mid new n c.loop-d.d survey.role survey.spares.items) c.requires.1.1.0
@@ -59,7 +59,7 @@ loop-d-preserved g c =
 
 pub survey_superblock-requires : goal.survey_superblock-requires
 survey_superblock-requires g c =
-    let kept = IsMarked c.args.marks.now in
+    let kept = IsMarked c.args.marks.now.pairs in
     let info = done_info g.image (slice_index c.loop-d.words) kept c.loop-d.d c.loop-d.held.items c.loop-d.roles.items
     (let used = c.requires.1.0.used in omega arith) c.loop-d.invariant.0 in
-    (c.requires.1.1.0, (ap (slice_index c.loop-d.words) c.info.ensures ∙ info, (c.requires.1.1.1.0, (omega arith, (omega (arith, c.requires.1.0.used), (c.requires.1.1.1.1, c.loop-d.invariant.1))))))
+    (c.requires.1.1.0, (ap (slice_index c.loop-d.words) c.info.ensures ∙ info, (c.requires.1.1.1.0, (omega arith, (omega (arith, c.requires.1.0.used), (c.requires.1.1.1.1.0, (c.loop-d.invariant.1, c.requires.1.1.1.1.1)))))))

@@ -6,8 +6,8 @@ use Rattle.heap_recover.proofs.passes.rebuild_taken.Given as goal
 
 abbrev pub invariant-loop-d : goal.invariant-loop-d
 invariant-loop-d g l =
-    AreDone g.image (slice_index l.words) (IsMarked l.marks) l.d l.held.items l.roles.items
-    × GoOnTo (layout_of g.image) (IsMarked l.marks) l.d l.end
+    AreDone g.image (slice_index l.words) (IsMarked l.marks.pairs) l.d l.held.items l.roles.items
+    × GoOnTo (layout_of g.image) (IsMarked l.marks.pairs) l.d l.end
 
 abbrev pub ghost-survey_superblock : goal.ghost-survey_superblock
 ghost-survey_superblock g a = layout_of g.image
