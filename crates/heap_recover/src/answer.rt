@@ -1,4 +1,6 @@
 //! What recovery gives back.
+ghost use Rattle.std.specs.Prelude.{◌<◌, AllPairs};
+
 use super_block::Ready;
 
 /// Whether the image was closed.
@@ -19,4 +21,5 @@ pub struct Recovered {
     pub was: Was,
     /// The superblocks that have been taken and hold no part of a reached block, in order.
     pub free: Vec<u32>,
+    pub ghost in_order: { AllPairs (λ d e. d < e) free.items },
 }
