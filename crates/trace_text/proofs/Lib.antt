@@ -2,6 +2,7 @@ pub mod TextLemmas
 pub mod RunLemmas
 pub mod OrderLemmas
 pub mod MapLemmas
+pub mod WalkLemmas
 pub mod LawLemmas
 pub mod ReadingLemmas
 pub mod PrintedLemmas

@@ -4,7 +4,6 @@ pub mod Shown
 pub mod Recovered
 pub mod Ranges
 pub mod HeapMap
-pub mod Listed
 pub mod Laws
 pub mod Numbers
 pub mod Lines

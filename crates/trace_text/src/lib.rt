@@ -26,7 +26,6 @@ pub use laws::{
     a_schedule_has_its_seats, a_schedule_has_one_reading, a_trace_has_one_reading,
     each_held_block_is_told, each_use_is_told, printed_requests_are_read, runs_are_the_longest,
 };
-pub use map::map_lines;
 pub use recovered::{map_text, report_text};
 pub use reply::{Reply, reply_text};
 pub use report::heap_line;

@@ -1,11 +1,10 @@
 //! The map of a heap: what each superblock is used for.
-ghost use Rattle.std.specs.Prelude.{◌≡◌, ◌≤◌, ◌<◌, ◌*◌, ℕ, ◌++◌, length, filter, slice_index, IfOk, OnOk};
+ghost use Rattle.std.specs.Prelude.{◌≡◌, ◌≤◌, ◌<◌, ◌*◌, ℕ, ◌++◌, AllPairs, length, filter, slice_index, IfOk, OnOk};
 ghost use Rattle.std.specs.String.{string_bytes};
 ghost use Rattle.std.specs.List.{AllWithin};
 ghost use Rattle.heap_model.specs.declared.block.Block.{Block};
 ghost use Rattle.heap_model.specs.Header.{IsWellFormed, capacity_of, used_of};
 ghost use Rattle.trace_text.specs.HeapMap.{AreInOrder, begins_in, held_indexes, first_of, class_use, inside_use, line_of, use_if, used_line, map_of};
-ghost use Rattle.trace_text.specs.Listed.{AreMarksOf};
 
 use crate::ranges::write_ranges;
 use region_header::Bytes;
@@ -17,7 +16,8 @@ use super_block::{
 
 /// The map of a heap whose free superblocks are these: how many superblocks have been taken, are
 /// free and are fresh, and a line for each that has been taken.
-pub fn map_lines(alloc: Global, heap: &Ready, free: &[u32]) -> Result<Bytes, AllocError>
+pub(crate) fn map_lines(alloc: Global, heap: &Ready, free: &[u32]) -> Result<Bytes, AllocError>
+    requires { AllPairs (λ d e. d < e) free.now }
     ensures ok { IfOk result (λ text.
         text ≡ map_of (slice_index heap.now.words) heap.now.held free.now) }
 {
@@ -33,29 +33,22 @@ pub(crate) fn map_of_image(
 ) -> Result<Bytes, AllocError>
     requires formed { IsWellFormed (8 * length words.now) (slice_index words.now) }
     requires in_order { AreInOrder held.now }
+    requires ascending { AllPairs (λ d e. d < e) free.now }
     ensures ok { IfOk result (λ text. text ≡ map_of (slice_index words.now) held.now free.now) }
 {
     let used = words[USED_WORD as usize];
-    let are_free = marks_of(alloc, free, used as usize)?;
     let mut text = String::new(alloc);
     write_used_line(&mut text, words, free)?;
+    // The list is walked alongside: those below `d` stand in front of `next`.
+    let mut next = 0;
     for d in 0..used {
-        write_superblock_line(&mut text, words, held, are_free[d as usize], d)?;
-    }
-    Ok(Bytes::from_vec(text.into_bytes()))
-}
-
-/// Of each of the first superblocks whether it is listed, so that a line needs no search.
-fn marks_of(alloc: Global, listed: &[u32], superblocks: usize) -> Result<Vec<bool>, AllocError>
-    ensures ok { IfOk result (λ marks. AreMarksOf listed.now superblocks marks.items) }
-{
-    let mut marks = vec![in alloc; false; superblocks]?;
-    for d in listed {
-        if (*d as usize) < superblocks {
-            marks[*d as usize] = true;
+        let is_free = next < free.len() && u64::from(free[next]) == d;
+        write_superblock_line(&mut text, words, held, is_free, d)?;
+        if is_free {
+            next += 1;
         }
     }
-    Ok(marks)
+    Ok(Bytes::from_vec(text.into_bytes()))
 }
 
 fn write_used_line(text: &mut String, words: &[u64], free: &[u32]) -> Result<(), AllocError>
