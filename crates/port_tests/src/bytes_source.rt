@@ -67,17 +67,27 @@ fn must_be_long(
     Ok(())
 }
 
+// Reads at most five bytes of five, of which so many come by one call.
+fn must_fit(rt: &(impl Abort + AllocGlobal), by_call: usize) -> Result<(), Fail> {
+    let mut source = source_of(rt.alloc(), &[], by_call, "abcde")?;
+    must_read(rt, &mut source, 5, "abcde");
+    must_hold(rt, source.rest().is_empty(), "at most 5");
+    Ok(())
+}
+
+// Reads five bytes, of which so many come by one call.
+fn must_end_behind(rt: &(impl Abort + AllocGlobal), by_call: usize) -> Result<(), Fail> {
+    must_be_long(rt, 0, by_call, "bcde")?;
+    must_be_long(rt, 3, by_call, "e")?;
+    must_be_long(rt, 4, by_call, "")?;
+    must_fit(rt, by_call)
+}
+
 #[test]
 fn what_is_too_long_is_read_one_byte_further(rt: HostRuntime) -> Result<(), Fail> {
-    for by_call in [1, 2, 9] {
-        must_be_long(&rt, 0, by_call, "bcde")?;
-        must_be_long(&rt, 3, by_call, "e")?;
-        must_be_long(&rt, 4, by_call, "")?;
-        let mut source = source_of(rt.alloc(), &[], by_call, "abcde")?;
-        must_read(&rt, &mut source, 5, "abcde");
-        must_hold(&rt, source.rest().is_empty(), "at most 5");
-    }
-    Ok(())
+    must_end_behind(&rt, 1)?;
+    must_end_behind(&rt, 2)?;
+    must_end_behind(&rt, 9)
 }
 
 #[test]

@@ -9,6 +9,7 @@ use crate::real_files::{link, make_folder, must_be_link, must_lack};
 use crate::stores::{must_fail, must_get, must_miss, must_put, must_refuse};
 use crate::watched_files::{WatchPlan, Watched};
 use file_ports::FileStore;
+use std::alloc::Global;
 use std::fs;
 use std::io::ErrorKind;
 use std::process::Abort;
@@ -124,6 +125,16 @@ fn what_is_not_there_is_absent_and_all_else_has_failed(rt: HostRuntime) -> Resul
     Ok(())
 }
 
+// Gets the first `most` bytes of a file over any files: over watched ones that is dear to prove.
+fn get_over<F: Files>(
+    files: &F,
+    alloc: Global,
+    name: &str,
+    most: usize,
+) -> Result<Vec<u8>, GetFault> {
+    FileStore::new(files).get(alloc, name, most)
+}
+
 // Reads the first eight bytes of a file whose second read fails so.
 fn read_over<R: Files + AllocGlobal>(rt: &R, error: ErrorKind) -> Result<Vec<u8>, GetFault> {
     let mut plan = WatchPlan::new();
@@ -132,7 +143,7 @@ fn read_over<R: Files + AllocGlobal>(rt: &R, error: ErrorKind) -> Result<Vec<u8>
         files: rt,
         plan: &plan,
     };
-    FileStore::new(&files).get(rt.alloc(), "faulty", 8)
+    get_over(&files, rt.alloc(), "faulty", 8)
 }
 
 #[test]

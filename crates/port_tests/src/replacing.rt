@@ -6,10 +6,21 @@ use crate::real_files::{
 use crate::stores::must_put;
 use crate::watched_files::{WatchPlan, Watched};
 use file_ports::FileStore;
+use std::alloc::Global;
 use std::process::Abort;
 use std::rt::Files;
 use std::test::Fail;
 use tool_ports::{ImageStore, PutImageFault};
+
+// Puts a file over any files: over watched ones that is dear to prove.
+fn put_over<F: Files>(
+    files: &F,
+    alloc: Global,
+    name: &str,
+    bytes: &[u8],
+) -> Result<(), PutImageFault> {
+    FileStore::new(files).put(alloc, name, bytes)
+}
 
 // Puts a file over files that are watched.
 fn put_watched<R: Files + AllocGlobal>(
@@ -18,33 +29,35 @@ fn put_watched<R: Files + AllocGlobal>(
     name: &str,
     bytes: &[u8],
 ) -> Result<(), PutImageFault> {
-    let files = Watched { files: rt, plan };
-    FileStore::new(&files).put(rt.alloc(), name, bytes)
+    put_over(&Watched { files: rt, plan }, rt.alloc(), name, bytes)
 }
 
-// Writes three bytes where there is so much room, and so much is left then.
+const FAILED: Option<PutImageFault> = Some(PutImageFault::Failed);
+
+// Writes three bytes where there is so much room: with this fault or none, and so much is left
+// then.
 fn must_write<R: Files + Abort + AllocGlobal>(
     rt: &R,
     (name, room): (&str, usize),
     sync_fails: bool,
-    written: bool,
+    fault: Option<PutImageFault>,
     left: usize,
 ) {
     let mut plan = WatchPlan::new();
     plan.room.set(room);
     plan.sync_fails = sync_fails;
     let answer = put_watched(rt, &plan, name, b"abc");
-    must_hold(rt, answer.is_ok() == written, name);
+    must_hold(rt, answer.err() == fault, name);
     must_hold(rt, plan.room.get() == left, name);
 }
 
 #[test]
 fn a_write_or_sync_that_fails_is_told(rt: HostRuntime) -> Result<(), Fail> {
-    must_write(&rt, ("ample", 9), false, true, 6);
-    must_write(&rt, ("exact", 3), false, true, 0);
-    must_write(&rt, ("short", 2), false, false, 0);
-    must_write(&rt, ("none", 0), false, false, 0);
-    must_write(&rt, ("unsynced", 9), true, false, 6);
+    must_write(&rt, ("ample", 9), false, None, 6);
+    must_write(&rt, ("exact", 3), false, None, 0);
+    must_write(&rt, ("short", 2), false, FAILED, 0);
+    must_write(&rt, ("none", 0), false, FAILED, 0);
+    must_write(&rt, ("unsynced", 9), true, FAILED, 6);
     Ok(())
 }
 
@@ -56,10 +69,7 @@ fn put<R: Files + Abort + AllocGlobal>(rt: &R, name: &str, bytes: &[u8]) {
 #[test]
 fn a_file_that_was_not_written_takes_no_place(rt: HostRuntime) -> Result<(), Fail> {
     put(&rt, "kept", b"old");
-    let plan = WatchPlan::new();
-    plan.room.set(2);
-    let answer = put_watched(&rt, &plan, "kept", b"half");
-    must_hold(&rt, answer == Err(PutImageFault::Failed), "it has failed");
+    must_write(&rt, ("kept", 2), false, FAILED, 0);
     must_have(&rt, "kept", b"old");
     must_lack(&rt, "kept.new0");
     Ok(())

@@ -19,7 +19,7 @@ pub fn must_put<I: ImageStore>(
     ensures calls { I.calls store.new ≡ with_put (I.calls store.old) }
 {
     let answer = store.put(rt.alloc(), name, bytes);
-    must_hold(rt, answer == Ok(()), name);
+    must_hold(rt, answer.is_ok(), name);
 }
 
 /// Fails to put an image.

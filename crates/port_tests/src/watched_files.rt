@@ -142,11 +142,8 @@ pub struct Watched<'a, R: Files> {
 
 // Where a path leads.
 fn place_of(path: &str) -> &str {
-    match path.strip_prefix('/') {
-        Some("") => ".",
-        Some(below) => below,
-        None => path,
-    }
+    let below = path.strip_prefix('/').unwrap_or(path);
+    if below.is_empty() { "." } else { below }
 }
 
 // Has a mode that is to be watched, and not this one.
