@@ -5,7 +5,7 @@ ghost use Rattle.file_ports.specs.FileStore.{calls_of, fault_count};
 ghost use Rattle.tool_ports.specs.declared.store_calls.StoreCalls.{StoreCalls};
 
 use crate::asserts::{must_be, must_hold};
-use crate::real_files::{link, make_folder, must_be_link, must_lack};
+use crate::real_files::{link, make_folder, must_be_link, must_lack, put_file};
 use crate::stores::{must_fail, must_get, must_miss, must_put, must_refuse};
 use crate::watched_files::{WatchPlan, Watched};
 use file_ports::FileStore;
@@ -89,12 +89,17 @@ fn a_file_whose_mode_cannot_be_told_is_not_replaced(rt: HostRuntime) -> Result<(
     Ok(())
 }
 
+// Puts a file beside one that has the name of its new bytes.
+fn must_touch_no_other<R: Files + Abort + AllocGlobal>(rt: &R) {
+    let mut store = FileStore::new(rt);
+    must_put(rt, &mut store, "mine.new0", b"other");
+    must_put(rt, &mut store, "mine", b"first");
+    must_get(rt, &mut store, "mine.new0", 10_000, b"other");
+}
+
 #[test]
 fn a_put_touches_no_other_file(rt: HostRuntime) -> Result<(), Fail> {
-    let mut store = FileStore::new(&rt);
-    must_put(&rt, &mut store, "mine.new0", b"other");
-    must_put(&rt, &mut store, "mine", b"first");
-    must_get(&rt, &mut store, "mine.new0", 10_000, b"other");
+    must_touch_no_other(&rt);
     Ok(())
 }
 
@@ -148,7 +153,7 @@ fn read_over<R: Files + AllocGlobal>(rt: &R, error: ErrorKind) -> Result<Vec<u8>
 
 #[test]
 fn a_read_that_fails_in_the_middle_has_failed(rt: HostRuntime) -> Result<(), Fail> {
-    must_put(&rt, &mut FileStore::new(&rt), "faulty", b"xxxxxxxxx");
+    put_file(&rt, "faulty", b"xxxxxxxxx");
     let failed = Some(GetFault::Failed);
     let not_found = read_over(&rt, ErrorKind::NotFound).err();
     must_hold(&rt, not_found == failed, "not found");

@@ -1,12 +1,19 @@
 //! What is done to real files, and asked of them. All tests run in one folder, so each has names
 //! of its own.
 use crate::asserts::{must_be, must_hold};
+use crate::stores::must_put;
 use crate::watched_files::mode_at;
+use file_ports::FileStore;
 use std::fs;
 use std::fs::Permissions;
 use std::os::unix::fs::{PermissionsExt, symlink};
 use std::process::Abort;
 use std::rt::Files;
+
+/// Puts a file.
+pub fn put_file<R: Files + Abort + AllocGlobal>(rt: &R, name: &str, bytes: &[u8]) {
+    must_put(rt, &mut FileStore::new(rt), name, bytes);
+}
 
 /// Gives a file this mode.
 pub fn set_mode<R: Files + Abort>(rt: &R, name: &str, mode: u32) {

@@ -1,9 +1,8 @@
 //! A file that takes the place of another: writing it may fail, and what is left beside it.
 use crate::asserts::must_hold;
 use crate::real_files::{
-    link, make_folder, must_be_link, must_have, must_have_mode, must_lack, set_mode,
+    link, make_folder, must_be_link, must_have, must_have_mode, must_lack, put_file, set_mode,
 };
-use crate::stores::must_put;
 use crate::watched_files::{WatchPlan, Watched};
 use file_ports::FileStore;
 use std::alloc::Global;
@@ -61,14 +60,9 @@ fn a_write_or_sync_that_fails_is_told(rt: HostRuntime) -> Result<(), Fail> {
     Ok(())
 }
 
-// Puts a file.
-fn put<R: Files + Abort + AllocGlobal>(rt: &R, name: &str, bytes: &[u8]) {
-    must_put(rt, &mut FileStore::new(rt), name, bytes);
-}
-
 #[test]
 fn a_file_that_was_not_written_takes_no_place(rt: HostRuntime) -> Result<(), Fail> {
-    put(&rt, "kept", b"old");
+    put_file(&rt, "kept", b"old");
     must_write(&rt, ("kept", 2), false, FAILED, 0);
     must_have(&rt, "kept", b"old");
     must_lack(&rt, "kept.new0");
@@ -77,10 +71,10 @@ fn a_file_that_was_not_written_takes_no_place(rt: HostRuntime) -> Result<(), Fai
 
 #[test]
 fn a_file_keeps_its_mode_and_its_links(rt: HostRuntime) -> Result<(), Fail> {
-    put(&rt, "owned", b"old");
+    put_file(&rt, "owned", b"old");
     set_mode(&rt, "owned", 0o640);
     link(&rt, "owned", "link");
-    put(&rt, "link", b"new");
+    put_file(&rt, "link", b"new");
     must_have(&rt, "owned", b"new");
     must_be_link(&rt, "link");
     must_have_mode(&rt, "owned", 0o640);
@@ -89,7 +83,7 @@ fn a_file_keeps_its_mode_and_its_links(rt: HostRuntime) -> Result<(), Fail> {
 
 // Replaces a file of this mode, which is watched.
 fn must_keep_mode<R: Files + Abort + AllocGlobal>(rt: &R, name: &str, mode: u32) {
-    put(rt, name, b"old");
+    put_file(rt, name, b"old");
     set_mode(rt, name, mode);
     let mut plan = WatchPlan::new();
     plan.mode = Some(mode);
@@ -121,7 +115,7 @@ fn must_sync<R: Files + Abort + AllocGlobal>(rt: &R, name: &str, folder: &str) {
 #[test]
 fn a_file_and_then_its_folder_are_synced(rt: HostRuntime) -> Result<(), Fail> {
     must_sync(&rt, "synced", ".");
-    put(&rt, "synced", b"old");
+    put_file(&rt, "synced", b"old");
     must_sync(&rt, "synced", ".");
     must_have(&rt, "synced", b"abc");
     Ok(())
