@@ -1,5 +1,5 @@
 //! A long trace, run without a bound on its steps and with one that it does not come to.
-use crate::calls::{formatted, make, must_hold, store_with};
+use crate::calls::{image_made, make, must_hold, store_with};
 use line_memory::ConstantChance;
 use std::alloc::{AllocError, Global};
 use std::process::Abort;
@@ -26,7 +26,7 @@ fn run_twice(
     line: &str,
     trace: &[u8],
 ) -> Result<(Vec<u8>, Vec<u8>), Fail> {
-    let mut images = store_with(rt.alloc(), &formatted(rt.alloc(), "256")?)?;
+    let mut images = store_with(rt.alloc(), &image_made(rt.alloc(), "format h 256")?)?;
     let first = printed_by(rt, &mut images, line, trace)?;
     let second = printed_by(rt, &mut images, "run h --workers 1", trace)?;
     Ok((first, second))

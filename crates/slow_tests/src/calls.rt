@@ -48,12 +48,11 @@ pub fn make<C: Chances>(
     Ok((status.code(), Vec::from_slice(alloc, out.bytes())?))
 }
 
-/// An empty image of so many superblocks.
-pub fn formatted(alloc: Global, superblocks: &str) -> Result<Vec<u8>, Fail> {
+/// The image that a call makes, as `format h 1`.
+pub fn image_made(alloc: Global, line: &str) -> Result<Vec<u8>, Fail> {
     let mut images = store_with(alloc, b"")?;
-    let line = format!(in alloc; "format h {superblocks}")?;
     let chance = &mut ConstantChance(0);
-    make(alloc, &line, Vec::new(alloc), &mut images, chance)?;
+    make(alloc, line, Vec::new(alloc), &mut images, chance)?;
     Ok(Vec::from_slice(alloc, images.image("h").unwrap_or(&[]))?)
 }
 

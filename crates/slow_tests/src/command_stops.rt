@@ -3,7 +3,7 @@ use crate::calls::{make, must_hold, runs, store_with};
 use image_text::image_of;
 use line_memory::ConstantChance;
 use region_header::words_to_bytes;
-use std::alloc::Global;
+use std::alloc::{AllocError, Global};
 use std::process::Abort;
 use std::test::Fail;
 use tool_ports::{Chances, MapStore, SeededChances};
@@ -20,6 +20,17 @@ fn one_block(alloc: Global) -> Result<Vec<u8>, Fail> {
     Ok(words_to_bytes(alloc, &words)?.into_vec())
 }
 
+/// The status of a recovery that is to stop at this step, and what it prints.
+fn stopped_at<C: Chances>(
+    alloc: Global,
+    images: &mut MapStore,
+    budget: u64,
+    chances: &mut C,
+) -> Result<(u8, Vec<u8>), AllocError> {
+    let line = format!(in alloc; "rebuild h --stop {budget}")?;
+    make(alloc, &line, Vec::new(alloc), images, chances)
+}
+
 /// Stops a recovery of the image in the store at this step: the answer is whether it is done.
 fn is_done_at<C: Chances>(
     rt: &(impl Abort + AllocGlobal),
@@ -27,15 +38,11 @@ fn is_done_at<C: Chances>(
     budget: u64,
     chances: &mut C,
 ) -> Result<bool, Fail> {
-    let line = format!(in rt.alloc(); "rebuild h --stop {budget}")?;
-    let (status, printed) = make(rt.alloc(), &line, Vec::new(rt.alloc()), images, chances)?;
-    must_hold(rt, status == 0, &line);
+    let (status, printed) = stopped_at(rt.alloc(), images, budget, chances)?;
+    must_hold(rt, status == 0, "its status");
     let is_done = printed.as_slice() == DONE.as_bytes();
-    must_hold(
-        rt,
-        is_done || printed.as_slice() == STOPPED.as_bytes(),
-        &line,
-    );
+    let is_stopped = printed.as_slice() == STOPPED.as_bytes();
+    must_hold(rt, is_done || is_stopped, "what it prints");
     Ok(is_done)
 }
 

@@ -29,14 +29,19 @@ fn all_blocks(alloc: Global) -> Result<String, AllocError> {
     Ok(text)
 }
 
+fn is_made_and_shown(rt: &(impl Abort + AllocGlobal), images: &mut MapStore) -> Result<(), Fail> {
+    let made = "formatted 256 bytes 16802112\n";
+    must_tell(rt, images, "format h 256", 0, made)?;
+    must_tell(rt, images, "show h", 0, "heap 256 clean\n")?;
+    let length = images.image("h").unwrap_or(&[]).len();
+    must_hold(rt, length == 16_802_112, "its length");
+    Ok(())
+}
+
 #[test]
 fn the_largest_heap_is_made_shown_and_drained(rt: HostRuntime) -> Result<(), Fail> {
     let mut images = store_with(rt.alloc(), b"")?;
-    let made = "formatted 256 bytes 16802112\n";
-    must_tell(&rt, &mut images, "format h 256", 0, made)?;
-    must_tell(&rt, &mut images, "show h", 0, "heap 256 clean\n")?;
-    let length = images.image("h").unwrap_or(&[]).len();
-    must_hold(&rt, length == 16_802_112, "its length");
+    is_made_and_shown(&rt, &mut images)?;
     let blocks = all_blocks(rt.alloc())?;
     must_tell(&rt, &mut images, "drain h 10", 0, &blocks)
 }
@@ -45,7 +50,10 @@ fn the_largest_heap_is_made_shown_and_drained(rt: HostRuntime) -> Result<(), Fai
 #[tactic(auto, unfolding(heap_model::specs::Geometry::largest_capacity))]
 fn longer_image(alloc: Global) -> Result<Vec<u8>, Fail> {
     let words = image_of(alloc, 1, "state 1, used 0")?;
-    let mut bytes = words_to_bytes(alloc, &words)?.into_vec();
+    filled_up(words_to_bytes(alloc, &words)?.into_vec())
+}
+
+fn filled_up(mut bytes: Vec<u8>) -> Result<Vec<u8>, Fail> {
     bytes.resize(16_802_200, 0)?;
     Ok(bytes)
 }

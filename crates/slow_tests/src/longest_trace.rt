@@ -1,5 +1,5 @@
 //! Traces of 16,777,216 bytes, the most that a run takes.
-use crate::calls::{formatted, must_hold, runs, store_with};
+use crate::calls::{image_made, must_hold, runs, store_with};
 use line_memory::ConstantChance;
 use std::alloc::{AllocError, Global};
 use std::process::Abort;
@@ -31,29 +31,38 @@ fn longest_trace(
 }
 
 /// Works off a trace of the greatest length, which asks for no key that is there.
-fn must_answer(rt: &(impl Abort + AllocGlobal), trace: Vec<u8>, requests: u64) -> Result<(), Fail> {
-    let alloc = rt.alloc();
+fn must_answer(rt: &(impl Abort + AllocGlobal), trace: Vec<u8>, text: &str) -> Result<(), Fail> {
     must_hold(rt, trace.len() == 16_777_216, "its length");
-    let mut images = store_with(alloc, &formatted(alloc, "1")?)?;
-    let text = format!(in alloc;
-        "requests {requests} ok 0 none {requests} value 0 full 0 unanswered 0\nrun closed\n\
-         heap 1 clean\nkeys 0 bytes 0\n"
-    )?;
+    let mut images = store_with(rt.alloc(), &image_made(rt.alloc(), "format h 1")?)?;
     let line = "run h --workers 1 --sum";
     let chance = &mut ConstantChance(0);
-    runs(rt, &mut images, chance, line, trace, 0, &text)
+    runs(rt, &mut images, chance, line, trace, 0, text)
 }
+
+const SIXTEEN_BYTES_TOLD: &str = "\
+requests 1048576 ok 0 none 1048576 value 0 full 0 unanswered 0
+run closed
+heap 1 clean
+keys 0 bytes 0
+";
+
+const SHORTEST_TOLD: &str = "\
+requests 2796202 ok 0 none 2796202 value 0 full 0 unanswered 0
+run closed
+heap 1 clean
+keys 0 bytes 0
+";
 
 #[test]
 fn the_longest_trace_is_worked_off(rt: HostRuntime) -> Result<(), Fail> {
     let trace = longest_trace(rt.alloc(), SIXTEEN_BYTES, 1_048_576, b"")?;
-    must_answer(&rt, trace, 1_048_576)
+    must_answer(&rt, trace, SIXTEEN_BYTES_TOLD)
 }
 
 #[test]
 fn the_longest_trace_of_the_most_lines_is_worked_off(rt: HostRuntime) -> Result<(), Fail> {
     let trace = longest_trace(rt.alloc(), SHORTEST, 2_796_201, LAST)?;
-    must_answer(&rt, trace, 2_796_202)
+    must_answer(&rt, trace, SHORTEST_TOLD)
 }
 
 /// Refuses a trace of so many bytes, which is one line outside the grammar.
@@ -70,7 +79,7 @@ fn must_refuse(
 
 #[test]
 fn a_line_of_the_longest_length_is_outside_the_grammar(rt: HostRuntime) -> Result<(), Fail> {
-    let image = formatted(rt.alloc(), "1")?;
+    let image = image_made(rt.alloc(), "format h 1")?;
     let mut images = store_with(rt.alloc(), &image)?;
     must_refuse(&rt, &mut images, 16_777_216, "bad trace line 1\n")?;
     must_refuse(&rt, &mut images, 16_777_217, "bad trace too long\n")?;

@@ -1,5 +1,6 @@
 //! A recovery of an image of two superblocks, in which one block of 64 bytes is held, stopped at
 //! each of its steps: what each stop left is recovered to the same.
+use crate::calls::must_hold;
 use crate::in_place::in_place;
 use heap_recover_tests::{holds, torn, write};
 use line_memory::ConstantChance;
@@ -35,30 +36,55 @@ fn image(alloc: Global) -> Result<Vec<u64>, Fail> {
     Ok(image)
 }
 
+/// Recovers what a crash left to its end.
+fn is_recovered(
+    rt: &(impl Abort + AllocGlobal),
+    crashed: &[u64],
+    chance: ConstantChance,
+) -> Result<(), Fail> {
+    let again = in_place(rt.alloc(), crashed, u64::MAX, chance)?;
+    must_hold(
+        rt,
+        holds(&again.found, &HELD, &WORDS),
+        "the block at the end",
+    );
+    let is_whole = again.kept.as_slice() == again.found.heap.words();
+    must_hold(rt, !again.stopped && is_whole, "it is done");
+    Ok(())
+}
+
+/// Stops the recovery at this step, and makes the recovery of what the stop left. The answer is
+/// whether there was no stop.
+fn goes_on_from(
+    rt: &(impl Abort + AllocGlobal),
+    image: &[u64],
+    budget: u64,
+    chance: ConstantChance,
+) -> Result<bool, Fail> {
+    let first = in_place(rt.alloc(), image, budget, chance)?;
+    must_hold(
+        rt,
+        holds(&first.found, &HELD, &WORDS),
+        "the block at a stop",
+    );
+    let is_done = !first.stopped;
+    is_recovered(rt, &torn(first.kept, 2), chance)?;
+    Ok(is_done)
+}
+
 /// Stops the recovery at each step until it is done, and makes the recovery of what each stop left.
 fn goes_on_from_each_stop(
     rt: &(impl Abort + AllocGlobal),
     chance: ConstantChance,
 ) -> Result<(), Fail> {
-    let alloc = rt.alloc();
-    let image = image(alloc)?;
-    for budget in 0..10_000 {
-        let first = in_place(alloc, &image, budget, chance)?;
-        assert!(rt; holds(&first.found, &HELD, &WORDS), "{budget}");
-        let is_done = !first.stopped;
-        let again = in_place(alloc, &torn(first.kept, 2), u64::MAX, chance)?;
-        assert!(rt; holds(&again.found, &HELD, &WORDS), "{budget}");
-        assert!(rt;
-            !again.stopped && again.kept.as_slice() == again.found.heap.words(),
-            "{budget}"
-        );
-        if is_done {
-            assert!(rt; 2_000 < budget, "{budget}");
+    let image = image(rt.alloc())?;
+    for budget in 0..10_000u64 {
+        if goes_on_from(rt, &image, budget, chance)? {
+            must_hold(rt, 2_000 < budget, "it takes steps");
             return Ok(());
         }
     }
-    assert!(rt; false, "it is never done");
-    Ok(())
+    Err("it is never done".into())
 }
 
 #[test]
