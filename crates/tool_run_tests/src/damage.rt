@@ -17,7 +17,8 @@ const NOT_READ: &str = "16 17 18 19 20 21 22 23 24 25 26 27 28 29 30 31 32 33 34
 fn greatest(alloc: Global, words: &str) -> Result<String, AllocError> {
     let mut changes = String::from_str(alloc, "table: ")?;
     for word in words.split(' ') {
-        write!(changes, "{word} {}, ", u64::MAX)?;
+        changes.push_str(word)?;
+        changes.push_str(" 18446744073709551615, ")?;
     }
     Ok(changes)
 }

@@ -1,14 +1,15 @@
 //! Runs of which a call of the outside fails, that name a damaged image, or whose trace is outside
 //! the grammar.
 use crate::harness::{
-    Call, NO_CALL, image_after, image_in, make, must_end, must_hold, plain, runs, store, store_with,
+    Call, NO_CALL, has_image, image_after, image_in, make, must_end, must_hold, plain, runs, store,
+    store_with,
 };
 use crate::session::{play, shows_each};
 use line_memory::ConstantChance;
-use std::alloc::Global;
+use std::alloc::{AllocError, Global};
 use std::process::Abort;
 use std::test::Fail;
-use tool_ports::{FailedPut, OpenGate};
+use tool_ports::{FailedPut, MapStore, OpenGate};
 
 const LINE: &str = "run h --workers 1 --map";
 
@@ -27,7 +28,7 @@ sb 1 free
 ";
 
 /// Which call of the outside fails, and how: that of the store, the input or the output.
-#[derive(Clone, Copy, Debug)]
+#[derive(Clone, Copy)]
 struct Failure {
     store: u64,
     read: u64,
@@ -63,20 +64,19 @@ const FAILURES: [(Failure, u8, &str, bool); 7] = [
     (Failure { write: 1, ..NONE }, 0, TOLD, true),
 ];
 
-/// A run over the image with that failure: its status, what it prints, and the image that is left.
+/// A run over the store, of which a read and a write fail: its status, and what it prints.
 fn failing_run(
     alloc: Global,
-    image: &[u8],
-    failure: Failure,
-) -> Result<(u8, Vec<u8>, Vec<u8>), Fail> {
-    let mut images = store_with(alloc, image, failure.store, failure.put)?;
+    images: &mut MapStore,
+    failing_reads: &[u64],
+    failing_writes: &[u64],
+) -> Result<(u8, Vec<u8>), AllocError> {
     let call = Call {
-        failing_reads: &[failure.read],
-        failing_writes: &[failure.write],
+        failing_reads,
+        failing_writes,
         ..plain(LINE, TRACE)
     };
-    let (status, printed) = make(alloc, call, &mut images, &OpenGate, &mut ConstantChance(0))?;
-    Ok((status, printed, image_in(alloc, &images)?))
+    make(alloc, call, images, &OpenGate, &mut ConstantChance(0))
 }
 
 /// Makes the run over the old image with that failure: it ends so, and leaves the old or the new.
@@ -87,23 +87,37 @@ fn fails(
     status: u8,
     text: &str,
 ) -> Result<(), Fail> {
-    let (code, printed, image) = failing_run(rt.alloc(), old, failure)?;
+    let mut images = store_with(rt.alloc(), old, failure.store, failure.put)?;
+    let (reads, writes) = ([failure.read], [failure.write]);
+    let (code, printed) = failing_run(rt.alloc(), &mut images, &reads, &writes)?;
     must_end(rt, text, (code, &printed), status, text);
-    must_hold(rt, image.as_slice() == left, text);
+    must_hold(rt, has_image(&images, left), text);
+    Ok(())
+}
+
+/// The image that the run leaves of an old one, where nothing fails.
+fn image_run(rt: &(impl Abort + AllocGlobal), old: &[u8]) -> Result<Vec<u8>, Fail> {
+    let mut images = store_with(rt.alloc(), old, NO_CALL, FailedPut::LeavesOld)?;
+    let (status, printed) = failing_run(rt.alloc(), &mut images, &[], &[])?;
+    must_end(rt, "no failure", (status, &printed), 0, TOLD);
+    Ok(image_in(rt.alloc(), &images)?)
+}
+
+/// Makes the run over the old image with each failure.
+fn fail_each(rt: &(impl Abort + AllocGlobal), old: &[u8], new: &[u8]) -> Result<(), Fail> {
+    for (failure, status, text, is_new) in FAILURES {
+        let left = if is_new { new } else { old };
+        fails(rt, (old, left), failure, status, text)?;
+    }
     Ok(())
 }
 
 #[test]
 fn each_call_of_the_outside_fails_once(rt: HostRuntime) -> Result<(), Fail> {
     let old = image_after(rt.alloc(), "2", "")?;
-    let (status, told, new) = failing_run(rt.alloc(), &old, NONE)?;
-    must_end(&rt, "no failure", (status, &told), 0, TOLD);
+    let new = image_run(&rt, &old)?;
     must_hold(&rt, old != new, "the run changes the image");
-    for (failure, status, text, is_new) in FAILURES {
-        let left = if is_new { &new } else { &old };
-        fails(&rt, (&old, left), failure, status, text)?;
-    }
-    Ok(())
+    fail_each(&rt, &old, &new)
 }
 
 /// A call of a store that fails, the first being that which puts the bytes `old` as h: what a
@@ -140,54 +154,101 @@ fn a_failing_store_is_told_and_has_the_old_bytes_or_the_new(rt: HostRuntime) -> 
     Ok(())
 }
 
-/// The first line outside the grammar, and a trace, in which semicolons stand for line feeds.
-const BAD_TRACES: &str = "1 | ;
-2 | get 1;;get 2;
-2 | get 1;get  2;
-1 | get 1 ;
-1 |  get 1;
-1 | get 1\r;
-1 | get\t1;
-1 | Get 1;
-1 | get;
-1 | get 1 2;
-1 | get 01;
-1 | get +1;
-1 | get -1;
-1 | get 18446744073709551616;
-1 | del x;
-1 | put 1;
-1 | put 1 ;
-1 | put 1 a;
-1 | put 1 ag;
-1 | put 1 --;
-1 | put 1 aa bb;
-1 | move 1 2;";
+/// Each trace has a line outside the grammar. (The crate dictionary_tests has more of them.)
+const BAD_TRACES: &str = "
+@ 1
+$ run h --workers 1
+< get 1
+<
+< get 2
+= 10
+> bad trace line 2
+$ run h --workers 1
+< get 1
+< get  2
+= 10
+> bad trace line 2
+$ run h --workers 1
+< get 1\x20
+= 10
+> bad trace line 1
+$ run h --workers 1
+<  get 1
+= 10
+> bad trace line 1
+$ run h --workers 1
+< get 1\r
+= 10
+> bad trace line 1
+$ run h --workers 1
+< get\t1
+= 10
+> bad trace line 1
+$ run h --workers 1
+< Get 1
+= 10
+> bad trace line 1
+$ run h --workers 1
+< get
+= 10
+> bad trace line 1
+$ run h --workers 1
+< get 1 2
+= 10
+> bad trace line 1
+$ run h --workers 1
+< get 01
+= 10
+> bad trace line 1
+$ run h --workers 1
+< get +1
+= 10
+> bad trace line 1
+$ run h --workers 1
+< get -1
+= 10
+> bad trace line 1
+$ run h --workers 1
+< get 18446744073709551616
+= 10
+> bad trace line 1
+$ run h --workers 1
+< del x
+= 10
+> bad trace line 1
+$ run h --workers 1
+< put 1
+= 10
+> bad trace line 1
+$ run h --workers 1
+< put 1\x20
+= 10
+> bad trace line 1
+$ run h --workers 1
+< put 1 a
+= 10
+> bad trace line 1
+$ run h --workers 1
+< put 1 ag
+= 10
+> bad trace line 1
+$ run h --workers 1
+< put 1 --
+= 10
+> bad trace line 1
+$ run h --workers 1
+< put 1 aa bb
+= 10
+> bad trace line 1
+$ run h --workers 1
+< move 1 2
+= 10
+> bad trace line 1
+";
 
 #[test]
 fn the_first_line_outside_the_grammar_is_told(rt: HostRuntime) -> Result<(), Fail> {
-    let alloc = rt.alloc();
-    let image = image_after(alloc, "1", "")?;
-    let mut images = store_with(alloc, &image, NO_CALL, FailedPut::LeavesOld)?;
-    for row in BAD_TRACES.split('\n') {
-        let (bad, trace) = row.split_once(" | ").ok_or("no trace")?;
-        let trace = trace.replace(alloc, ";", "\n")?;
-        let text = format!(in alloc; "bad trace line {bad}\n")?;
-        runs(
-            &rt,
-            &mut images,
-            "run h --workers 1",
-            trace.as_bytes(),
-            10,
-            &text,
-        )?;
-    }
-    must_hold(
-        &rt,
-        images.image("h") == Some(image.as_slice()),
-        "the image is as it was",
-    );
-    Ok(())
+    shows_each(&rt, BAD_TRACES)
 }
 
 const LAST_KEY: &str = "

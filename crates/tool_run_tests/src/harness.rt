@@ -7,7 +7,7 @@ use std::test::Fail;
 use tool_ports::{
     BytesSource, Chances, FailedPut, Gate, ImageStore, MapStore, OpenGate, SeededChances, VecSink,
 };
-use tool_run::run_tool;
+use tool_run::{Status, run_tool};
 
 // Room for the longest text of a test.
 const ROOM: usize = 1 << 22;
@@ -38,12 +38,15 @@ pub fn plain<'a>(line: &'a str, trace: &'a [u8]) -> Call<'a> {
     }
 }
 
+fn word_of(alloc: Global, word: &str) -> Result<String, AllocError> {
+    String::from_str(alloc, if word == "''" { "" } else { word })
+}
+
 /// The words of a line, of which '' is an empty one.
 fn words_of(alloc: Global, line: &str) -> Result<Vec<String>, AllocError> {
     let mut words = Vec::new(alloc);
     for word in line.split(' ') {
-        let word = if word == "''" { "" } else { word };
-        words.push(String::from_str(alloc, word)?)?;
+        words.push(word_of(alloc, word)?)?;
     }
     Ok(words)
 }
@@ -59,6 +62,26 @@ fn source_of(alloc: Global, call: &Call<'_>) -> Result<BytesSource, AllocError> 
     Ok(BytesSource::new(failing, call.reads_and_writes.0.max(1), trace))
 }
 
+/// What a call is made with, beside the store.
+#[derive(Drop)]
+struct Outside {
+    words: Vec<String>,
+    trace: BytesSource,
+    out: VecSink,
+}
+
+fn outside_of(alloc: Global, call: &Call<'_>) -> Result<Outside, AllocError> {
+    Ok(Outside {
+        words: words_of(alloc, call.line)?,
+        trace: source_of(alloc, call)?,
+        out: sink_of(alloc, call)?,
+    })
+}
+
+fn told_by(alloc: Global, status: Status, out: &VecSink) -> Result<(u8, Vec<u8>), AllocError> {
+    Ok((status.code(), Vec::from_slice(alloc, out.bytes())?))
+}
+
 /// Makes the call: its status, and the bytes that it printed.
 pub fn make<G: Gate + Sync, C: Chances>(
     alloc: Global,
@@ -67,9 +90,11 @@ pub fn make<G: Gate + Sync, C: Chances>(
     gate: &G,
     chances: &mut C,
 ) -> Result<(u8, Vec<u8>), AllocError> {
-    let words = words_of(alloc, call.line)?;
-    let mut out = sink_of(alloc, &call)?;
-    let mut trace = source_of(alloc, &call)?;
+    let Outside {
+        words,
+        mut trace,
+        mut out,
+    } = outside_of(alloc, &call)?;
     let status = run_tool(
         &(),
         alloc,
@@ -80,7 +105,7 @@ pub fn make<G: Gate + Sync, C: Chances>(
         gate,
         chances,
     );
-    Ok((status.code(), Vec::from_slice(alloc, out.bytes())?))
+    told_by(alloc, status, &out)
 }
 
 /// Makes a call with an open gate and seeded chances.
@@ -105,6 +130,11 @@ pub fn must_hold(rt: &impl Abort, holds: bool, told: &str) {
     assert!(rt; holds, "{told}");
 }
 
+/// Whether the image h is this one.
+pub fn has_image(images: &MapStore, image: &[u8]) -> bool {
+    images.image("h") == Some(image)
+}
+
 /// Asserts that a call ended with this status and printed this text.
 pub fn must_end(
     rt: &impl Abort,
@@ -113,8 +143,8 @@ pub fn must_end(
     wanted: u8,
     text: &str,
 ) {
-    assert_eq!(rt; printed, text.as_bytes(), "{told}");
-    assert_eq!(rt; status, wanted, "{told}");
+    must_hold(rt, printed == text.as_bytes(), told);
+    must_hold(rt, status == wanted, told);
 }
 
 /// Makes a call, which is to end with this status and to print this text.
@@ -141,7 +171,7 @@ pub fn shows(
 ) -> Result<(), Fail> {
     let mut images = store_with(rt.alloc(), image, NO_CALL, FailedPut::LeavesOld)?;
     runs(rt, &mut images, line, b"", status, text)?;
-    must_hold(rt, images.image("h") == Some(image), text);
+    must_hold(rt, has_image(&images, image), text);
     Ok(())
 }
 

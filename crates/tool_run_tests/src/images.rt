@@ -8,19 +8,30 @@ use std::test::Fail;
 /// in superblock 1, with key 0 and no byte.
 const TABLE: &str = "used 2, info:0 12, info:1 2, root:0 @1080, 1080 @9272";
 
-/// The words of an empty image of one, two or four superblocks, or of one of two with that table,
-/// in which some words were changed: as `2`, or as `table: 9273 8, 9274 0`.
+/// The words of an empty image of so many superblocks, one to four, or of one of two with that
+/// table.
+fn base_words(alloc: Global, base: &str) -> Result<Vec<u64>, Fail> {
+    if base == "table" {
+        return image_of(alloc, 2, TABLE);
+    }
+    let superblocks = number(base)?;
+    if superblocks == 0 || 4 < superblocks {
+        return Err("no image of this name".into());
+    }
+    image_of(alloc, superblocks, "")
+}
+
+/// The words of such an image, in which some words were changed: as `2`, or as `table: 9273 8, 9274 0`.
 fn image_words(alloc: Global, text: &str) -> Result<Vec<u64>, Fail> {
     let (base, changes) = text.split_once(": ").unwrap_or((text, ""));
-    let mut words = match base {
-        "1" => image_of(alloc, 1, "")?,
-        "2" => image_of(alloc, 2, "")?,
-        "4" => image_of(alloc, 4, "")?,
-        "table" => image_of(alloc, 2, TABLE)?,
-        _ => return Err("no image of this name".into()),
-    };
+    let mut words = base_words(alloc, base)?;
     change(&mut words, changes)?;
     Ok(words)
+}
+
+fn resized(mut bytes: Vec<u8>, length: Result<u64, Fail>) -> Result<Vec<u8>, Fail> {
+    bytes.resize(length? as usize, 0)?;
+    Ok(bytes)
 }
 
 /// The bytes of such an image, cut or filled up to a length where one is told: as
@@ -28,9 +39,9 @@ fn image_words(alloc: Global, text: &str) -> Result<Vec<u64>, Fail> {
 pub fn image_bytes(alloc: Global, text: &str) -> Result<Vec<u8>, Fail> {
     let (text, length) = text.split_once("; ").unwrap_or((text, ""));
     let words = image_words(alloc, text)?;
-    let mut bytes = words_to_bytes(alloc, &words)?.into_vec();
-    if !length.is_empty() {
-        bytes.resize(number(length)? as usize, 0)?;
+    let bytes = words_to_bytes(alloc, &words)?.into_vec();
+    if length.is_empty() {
+        return Ok(bytes);
     }
-    Ok(bytes)
+    resized(bytes, number(length))
 }

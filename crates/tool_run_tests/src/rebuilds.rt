@@ -1,11 +1,12 @@
 //! Recovery made in place, stopped at each step, and begun again on what a stop left.
-use crate::harness::{NO_CALL, image_in, make, must_end, must_hold, plain, runs, store_with};
+use crate::harness::{NO_CALL, has_image, make, must_end, must_hold, plain, runs, store_with};
 use crate::images::image_bytes;
 use crate::session::shows_each;
 use line_memory::ConstantChance;
+use std::alloc::{AllocError, Global};
 use std::process::Abort;
 use std::test::Fail;
-use tool_ports::{Chances, FailedPut, OpenGate, SeededChances};
+use tool_ports::{Chances, FailedPut, MapStore, OpenGate, SeededChances};
 
 /// An image whose superblock 0 of two has blocks of 64 bytes, to the first of which root 8 points.
 const ONE_BLOCK: &str = "2: used 1, info:0 4, root:8 @1080";
@@ -13,6 +14,17 @@ const ONE_BLOCK: &str = "2: used 1, info:0 4, root:8 @1080";
 const DONE: &str = "rebuild done\nheap 2 dirty\nheld 64 1\n";
 
 const STOPPED: &str = "rebuild stopped\nheap 2 dirty\nheld 64 1\n";
+
+/// The status of a recovery that is to stop at this step, and what it prints.
+fn stopped_at<C: Chances>(
+    alloc: Global,
+    images: &mut MapStore,
+    budget: u64,
+    chances: &mut C,
+) -> Result<(u8, Vec<u8>), AllocError> {
+    let line = format!(in alloc; "rebuild h --stop {budget}")?;
+    make(alloc, plain(&line, b""), images, &OpenGate, chances)
+}
 
 /// Stops a recovery at this step, recovers what is left, and answers whether there was no stop.
 fn stop_at<C: Chances>(
@@ -22,12 +34,10 @@ fn stop_at<C: Chances>(
     chances: &mut C,
 ) -> Result<bool, Fail> {
     let mut images = store_with(rt.alloc(), image, NO_CALL, FailedPut::LeavesOld)?;
-    let line = format!(in rt.alloc(); "rebuild h --stop {budget}")?;
-    let call = plain(&line, b"");
-    let (status, printed) = make(rt.alloc(), call, &mut images, &OpenGate, chances)?;
+    let (status, printed) = stopped_at(rt.alloc(), &mut images, budget, chances)?;
     let is_done = printed.as_slice() == DONE.as_bytes();
     let wanted = if is_done { DONE } else { STOPPED };
-    must_end(rt, &line, (status, &printed), 0, wanted);
+    must_end(rt, "a stop", (status, &printed), 0, wanted);
     runs(rt, &mut images, "rebuild h", b"", 0, DONE)?;
     Ok(is_done)
 }
@@ -96,14 +106,25 @@ const FAILURES: [(u64, FailedPut, u8, &str, bool); 3] = [
     (2, FailedPut::LeavesNew, 5, "write fault\n", false),
 ];
 
+/// Recovers the image, which ends so: the answer is whether it is left as it was.
+fn leaves_image(
+    rt: &(impl Abort + AllocGlobal),
+    mut images: MapStore,
+    image: &[u8],
+    status: u8,
+    text: &str,
+) -> Result<bool, Fail> {
+    runs(rt, &mut images, "rebuild h", b"", status, text)?;
+    Ok(has_image(&images, image))
+}
+
 #[test]
 fn a_failed_call_of_the_store_is_told(rt: HostRuntime) -> Result<(), Fail> {
-    let alloc = rt.alloc();
-    let image = image_bytes(alloc, ONE_BLOCK)?;
+    let image = image_bytes(rt.alloc(), ONE_BLOCK)?;
     for (call, failed, status, text, is_old) in FAILURES {
-        let mut images = store_with(alloc, &image, call, failed)?;
-        runs(&rt, &mut images, "rebuild h", b"", status, text)?;
-        must_hold(&rt, (image_in(alloc, &images)? == image) == is_old, text);
+        let images = store_with(rt.alloc(), &image, call, failed)?;
+        let is_left = leaves_image(&rt, images, &image, status, text)?;
+        must_hold(&rt, is_left == is_old, text);
     }
     Ok(())
 }

@@ -1,5 +1,7 @@
 //! Schedules replayed over images: what each step answers, and what is told of the crash behind.
-use crate::harness::{Call, NO_CALL, make, must_end, must_hold, plain, runs, store_with};
+use crate::harness::{
+    Call, NO_CALL, has_image, make, must_end, must_hold, plain, runs, store_with,
+};
 use crate::images::image_bytes;
 use crate::session::shows_each;
 use image_text::{info_word, link_word};
@@ -159,12 +161,22 @@ fn replays(
 ) -> Result<(), Fail> {
     let image = image_bytes(rt.alloc(), image)?;
     let schedule = written(rt.alloc(), schedule)?;
-    let schedule = schedule.as_bytes();
-    let mut images = store_with(rt.alloc(), &image, NO_CALL, FailedPut::LeavesOld)?;
+    replays_bytes(rt, &image, schedule.as_bytes(), status, text)
+}
+
+/// The same of an image and a schedule in bytes.
+fn replays_bytes(
+    rt: &(impl Abort + AllocGlobal),
+    image: &[u8],
+    schedule: &[u8],
+    status: u8,
+    text: &str,
+) -> Result<(), Fail> {
+    let mut images = store_with(rt.alloc(), image, NO_CALL, FailedPut::LeavesOld)?;
     runs(rt, &mut images, "replay h", schedule, status, text)?;
     runs(rt, &mut images, "replay h --seed 7", schedule, status, text)?;
     replays_with_most(rt, &mut images, schedule, status, text)?;
-    must_hold(rt, images.image("h") == Some(image.as_slice()), text);
+    must_hold(rt, has_image(&images, image), text);
     Ok(())
 }
 

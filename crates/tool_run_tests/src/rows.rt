@@ -196,21 +196,18 @@ $ run h --workers 1
 > held 1024 1
 ";
 
+/// Whether the word at the place is this pointer.
+fn leads_to(image: &[u8], place: &str, pointer: &str) -> Result<bool, Fail> {
+    Ok(word(image, place)? == number(pointer)?)
+}
+
 #[test]
 fn keys_at_the_end_stand_in_the_last_bucket(rt: HostRuntime) -> Result<(), Fail> {
     let mut images = store(rt.alloc());
     play(&rt, &mut images, LAST_BUCKET)?;
     let image = image_in(rt.alloc(), &images)?;
-    must_hold(
-        &rt,
-        word(&image, "root:7")? == number("@1080")?,
-        "the last root",
-    );
-    must_hold(
-        &rt,
-        word(&image, "1207")? == number("@9272")?,
-        "the last bucket",
-    );
+    must_hold(&rt, leads_to(&image, "root:7", "@1080")?, "the root");
+    must_hold(&rt, leads_to(&image, "1207", "@9272")?, "the bucket");
     Ok(())
 }
 

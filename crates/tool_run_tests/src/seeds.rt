@@ -47,12 +47,16 @@ fn must_leave(
     runs(rt, &mut images, &line, b"put 1 6576", 0, &text)
 }
 
+fn leaves_as_told(rt: &(impl Abort + AllocGlobal), image: &[u8], row: &str) -> Result<(), Fail> {
+    let (options, value) = row.split_once(" => ").ok_or("no row")?;
+    must_leave(rt, image, options, value)
+}
+
 #[test]
 fn a_seed_decides_whether_a_stopped_put_is_durable(rt: HostRuntime) -> Result<(), Fail> {
     let image = image_after(rt.alloc(), "2", BEFORE)?;
     for row in STOPPED.trim().split('\n') {
-        let (options, value) = row.split_once(" => ").ok_or("no row")?;
-        must_leave(&rt, &image, options, value)?;
+        leaves_as_told(&rt, &image, row)?;
     }
     Ok(())
 }
@@ -107,13 +111,18 @@ fn seed_of_call(rt: &(impl Abort + AllocGlobal), image: &[u8], call: &str) -> Re
     Ok(chances.latest)
 }
 
+fn gives_the_seed(rt: &(impl Abort + AllocGlobal), image: &[u8], row: &str) -> Result<(), Fail> {
+    let (call, seed) = row.split_once(" => ").ok_or("no row")?;
+    let seed = seed.parse::<u64>().ok().ok_or("no seed")?;
+    must_hold(rt, seed_of_call(rt, image, call)? == seed, call);
+    Ok(())
+}
+
 #[test]
 fn each_command_gives_its_chances_the_seed(rt: HostRuntime) -> Result<(), Fail> {
     let image = image_after(rt.alloc(), "2", BEFORE)?;
     for row in SEEDS.trim().split('\n') {
-        let (call, seed) = row.split_once(" => ").ok_or("no row")?;
-        let seed = seed.parse::<u64>().ok().ok_or("no seed")?;
-        must_hold(&rt, seed_of_call(&rt, &image, call)? == seed, call);
+        gives_the_seed(&rt, &image, row)?;
     }
     Ok(())
 }

@@ -15,7 +15,7 @@
 //!
 //! Before its first call a session may name the image h, as `images` reads it, in a line that
 //! begins with `@`. Other lines say nothing.
-use crate::harness::{Call, NO_CALL, make, must_end, must_hold, shows, store_with};
+use crate::harness::{Call, NO_CALL, has_image, make, must_end, must_hold, shows, store_with};
 use crate::images::image_bytes;
 use std::alloc::{AllocError, Global};
 use std::process::Abort;
@@ -31,27 +31,42 @@ fn behind<'a>(line: &'a str, mark: &str) -> Option<&'a str> {
     rest.strip_prefix(' ')
 }
 
-/// Adds a request that puts zero bytes: its key, and how many they are.
-fn push_zeros(input: &mut String, put: &str) -> Result<(), Fail> {
-    let (key, length) = put.split_once(' ').ok_or("no length")?;
-    write!(input, "put {key} ")?;
-    for _ in 0..number(length)? {
+/// Adds a request that puts so many zero bytes.
+fn push_put(input: &mut String, key: &str, length: u64) -> Result<(), AllocError> {
+    input.push_str("put ")?;
+    input.push_str(key)?;
+    input.push_str(" ")?;
+    for _ in 0..length {
         input.push_str("00")?;
     }
     Ok(())
 }
 
+/// Adds a request that puts zero bytes: its key, and how many they are.
+fn push_zeros(input: &mut String, put: &str) -> Result<(), Fail> {
+    let (key, length) = put.split_once(' ').ok_or("no length")?;
+    push_put(input, key, number(length)?)?;
+    Ok(())
+}
+
+/// Ends the line before, if there is one.
+fn end_line(input: &mut String) -> Result<(), AllocError> {
+    if input.is_empty() {
+        Ok(())
+    } else {
+        input.push_str("\n")
+    }
+}
+
 /// Adds a line of input, behind a line feed where it isn't the first.
 fn push_input(input: &mut String, line: &str) -> Result<(), Fail> {
-    let text = behind(line, "<");
-    let zeros = behind(line, "<0");
-    if !input.is_empty() && (text.is_some() || zeros.is_some()) {
-        input.push_str("\n")?;
-    }
-    if let Some(put) = zeros {
+    if let Some(text) = behind(line, "<") {
+        end_line(input)?;
+        input.push_str(text)?;
+    } else if let Some(put) = behind(line, "<0") {
+        end_line(input)?;
         push_zeros(input, put)?;
     }
-    input.push_str(text.unwrap_or(""))?;
     Ok(())
 }
 
@@ -64,16 +79,23 @@ fn input_of(alloc: Global, turn: &str) -> Result<String, Fail> {
     Ok(input)
 }
 
+/// Adds a line that the call prints.
+fn push_printed(printed: &mut String, line: &str) -> Result<(), AllocError> {
+    if let Some(text) = behind(line, ">|") {
+        return printed.push_str(text);
+    }
+    let Some(text) = behind(line, ">") else {
+        return Ok(());
+    };
+    printed.push_str(text)?;
+    printed.push_str("\n")
+}
+
 /// What the call prints.
 fn printed_by(alloc: Global, turn: &str) -> Result<String, AllocError> {
     let mut printed = String::new(alloc);
     for line in turn.split('\n') {
-        if let Some(text) = behind(line, ">") {
-            printed.push_str(text)?;
-            printed.push_str("\n")?;
-        } else if let Some(text) = behind(line, ">|") {
-            printed.push_str(text)?;
-        }
+        push_printed(&mut printed, line)?;
     }
     Ok(printed)
 }
@@ -84,27 +106,31 @@ fn number(word: &str) -> Result<u64, Fail> {
     Ok(number)
 }
 
-/// Which writes of the call fail.
-fn failing_writes(alloc: Global, turn: &str) -> Result<Vec<u64>, Fail> {
-    let mut numbers = Vec::new(alloc);
+/// What stands behind the mark, in the first line that begins with it.
+fn first_behind<'a>(turn: &'a str, mark: &str) -> Option<&'a str> {
     for line in turn.split('\n') {
-        if let Some(text) = behind(line, "!") {
-            for word in text.split(' ') {
-                numbers.push(number(word)?)?;
-            }
+        let text = behind(line, mark);
+        if text.is_some() {
+            return text;
         }
+    }
+    None
+}
+
+fn numbers(alloc: Global, words: &str) -> Result<Vec<u64>, Fail> {
+    let mut numbers = Vec::new(alloc);
+    for word in words.split(' ') {
+        numbers.push(number(word)?)?;
     }
     Ok(numbers)
 }
 
-/// The number behind the mark, if there is one.
-fn number_behind(turn: &str, mark: &str) -> Result<Option<u64>, Fail> {
-    for line in turn.split('\n') {
-        if let Some(text) = behind(line, mark) {
-            return Ok(Some(number(text)?));
-        }
+/// Which writes of the call fail.
+fn failing_writes(alloc: Global, turn: &str) -> Result<Vec<u64>, Fail> {
+    match first_behind(turn, "!") {
+        Some(words) => numbers(alloc, words),
+        None => Ok(Vec::new(alloc)),
     }
-    Ok(None)
 }
 
 fn status(number: u64) -> Result<u8, Fail> {
@@ -114,29 +140,55 @@ fn status(number: u64) -> Result<u8, Fail> {
 
 /// The status that the call is to have.
 fn status_of(turn: &str) -> Result<u8, Fail> {
-    status(number_behind(turn, "=")?.unwrap_or(0))
+    match first_behind(turn, "=") {
+        Some(code) => status(number(code)?),
+        None => Ok(0),
+    }
+}
+
+/// Makes a call of a session, with this input and these failing writes.
+fn make_call(
+    alloc: Global,
+    images: &mut MapStore,
+    line: &str,
+    trace: &[u8],
+    failing_writes: &[u64],
+) -> Result<(u8, Vec<u8>), AllocError> {
+    let call = Call {
+        line,
+        trace,
+        failing_reads: &[],
+        failing_writes,
+        reads_and_writes: (7, 8),
+    };
+    make(alloc, call, images, &OpenGate, &mut SeededChances::new())
 }
 
 /// Makes a call of a session: its status, and what it prints.
 fn make_turn(alloc: Global, images: &mut MapStore, turn: &str) -> Result<(u8, Vec<u8>), Fail> {
+    let line = turn.split('\n').next().unwrap_or("");
     let input = input_of(alloc, turn)?;
     let failing = failing_writes(alloc, turn)?;
-    let call = Call {
-        line: turn.split('\n').next().unwrap_or(""),
-        trace: input.as_bytes(),
-        failing_reads: &[],
-        failing_writes: &failing,
-        reads_and_writes: (7, 8),
-    };
-    Ok(make(alloc, call, images, &OpenGate, &mut SeededChances::new())?)
+    Ok(make_call(alloc, images, line, input.as_bytes(), &failing)?)
 }
 
 /// Whether the image h is as long as the turn tells, if it does.
 fn has_length(images: &MapStore, turn: &str) -> Result<bool, Fail> {
-    let Some(length) = number_behind(turn, "~")? else {
+    let Some(length) = first_behind(turn, "~") else {
         return Ok(true);
     };
-    Ok(images.image("h").unwrap_or(&[]).len() as u64 == length)
+    Ok(images.image("h").unwrap_or(&[]).len() as u64 == number(length)?)
+}
+
+/// A call ended with this status, having printed these bytes, as the turn tells.
+fn ends_as_told(
+    rt: &(impl Abort + AllocGlobal),
+    turn: &str,
+    (status, printed): (u8, &[u8]),
+) -> Result<(), Fail> {
+    let text = printed_by(rt.alloc(), turn)?;
+    must_end(rt, turn, (status, printed), status_of(turn)?, &text);
+    Ok(())
 }
 
 /// Makes a call of a session, which ends as it tells.
@@ -146,13 +198,7 @@ fn take_turn(
     turn: &str,
 ) -> Result<(), Fail> {
     let (status, printed) = make_turn(rt.alloc(), images, turn)?;
-    must_end(
-        rt,
-        turn,
-        (status, &printed),
-        status_of(turn)?,
-        &printed_by(rt.alloc(), turn)?,
-    );
+    ends_as_told(rt, turn, (status, &printed))?;
     must_hold(rt, has_length(images, turn)?, turn);
     Ok(())
 }
@@ -176,7 +222,7 @@ fn show(rt: &(impl Abort + AllocGlobal), session: &str) -> Result<(), Fail> {
     let image = image_bytes(rt.alloc(), session.split('\n').next().unwrap_or(""))?;
     let mut images = store_with(rt.alloc(), &image, NO_CALL, FailedPut::LeavesOld)?;
     play(rt, &mut images, session)?;
-    must_hold(rt, images.image("h") == Some(image.as_slice()), session);
+    must_hold(rt, has_image(&images, &image), session);
     Ok(())
 }
 
@@ -190,14 +236,26 @@ pub fn shows_each(rt: &(impl Abort + AllocGlobal), sessions: &str) -> Result<(),
     Ok(())
 }
 
+/// Makes a call on the image, which ends with this status, having printed this line.
+fn shows_line(
+    rt: &(impl Abort + AllocGlobal),
+    image: &[u8],
+    call: &str,
+    status: u8,
+    line: &str,
+) -> Result<(), Fail> {
+    let text = format!(in rt.alloc(); "{line}\n")?;
+    shows(rt, image, call, status, &text)
+}
+
 /// Makes a call on the image of a row, which it leaves as it is. Behind the image, between bars,
 /// are the status and the line that is printed.
 fn show_row(rt: &(impl Abort + AllocGlobal), call: &str, row: &str) -> Result<(), Fail> {
     let (image, rest) = row.split_once(" | ").ok_or("no image")?;
     let (code, line) = rest.split_once(" | ").ok_or("no status")?;
+    let status = status(number(code)?)?;
     let image = image_bytes(rt.alloc(), image)?;
-    let text = format!(in rt.alloc(); "{line}\n")?;
-    shows(rt, &image, call, status(number(code)?)?, &text)
+    shows_line(rt, &image, call, status, line)
 }
 
 /// Makes the call on the image of each row. A line that begins with `#` is a comment.

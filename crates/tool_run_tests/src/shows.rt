@@ -3,6 +3,7 @@ use crate::harness::{runs, shows, store};
 use crate::images::image_bytes;
 use crate::session::{play, shows_each, shows_rows};
 use std::alloc::{AllocError, Global};
+use std::process::Abort;
 use std::test::Fail;
 
 const MADE: &str = "
@@ -233,19 +234,23 @@ const DRAINED: [(&str, [u64; 4]); 4] = [
     ("2: used 2, info:0 767, root:8 @1080", [2, 32, 0, 0]),
 ];
 
+/// Asks for the blocks of a class, of an image told in words.
+fn drains(
+    rt: &(impl Abort + AllocGlobal),
+    image: &str,
+    class: u64,
+    text: &str,
+) -> Result<(), Fail> {
+    let image = image_bytes(rt.alloc(), image)?;
+    let line = format!(in rt.alloc(); "drain h 0{class}")?;
+    shows(rt, &image, &line, 0, text)
+}
+
 #[test]
 fn what_a_class_gives_is_listed(rt: HostRuntime) -> Result<(), Fail> {
-    let alloc = rt.alloc();
     for (image, [class, size, first, count]) in DRAINED {
-        let image = image_bytes(alloc, image)?;
-        let line = format!(in alloc; "drain h 0{class}")?;
-        shows(
-            &rt,
-            &image,
-            &line,
-            0,
-            &drained_text(alloc, class, size, first, count)?,
-        )?;
+        let text = drained_text(rt.alloc(), class, size, first, count)?;
+        drains(&rt, image, class, &text)?;
     }
     Ok(())
 }

@@ -85,6 +85,15 @@ fn stop_put<C: Chances>(
     Ok(seen)
 }
 
+/// Asserts that a new value stays, and that the put closes once the value is new.
+fn must_follow(rt: &impl Abort, before: Seen, seen: Seen) {
+    match seen {
+        Seen::Old => must_hold(rt, before == Seen::Old, "a new value stays"),
+        Seen::New => {}
+        Seen::Closed => must_hold(rt, before == Seen::New, "it closes once the value is new"),
+    }
+}
+
 /// Stops the put at each step until it is closed: the old value is there up to some step, and from
 /// there on the new one.
 fn replaces_at_one_step<C: Chances>(
@@ -95,19 +104,11 @@ fn replaces_at_one_step<C: Chances>(
     let mut before = Seen::Old;
     for budget in 0..10_000 {
         let seen = stop_put(rt, &image, budget, chances)?;
+        must_follow(rt, before, seen);
         if seen == Seen::Closed {
-            must_hold(
-                rt,
-                before == Seen::New && 10 < budget,
-                "it closes once the value is new",
-            );
+            must_hold(rt, 10 < budget, "it takes steps");
             return Ok(());
         }
-        must_hold(
-            rt,
-            before == Seen::Old || seen == Seen::New,
-            "a new value stays",
-        );
         before = seen;
     }
     Err("it never closes".into())
@@ -137,29 +138,40 @@ const REPORT: &[u8] = b"heap 2 clean\nkey 0 cc\nheld 32 1\nheld 1024 1\n";
 
 const REQUESTS: &str = "put 8 bb
 put 0 cc
-del 8";
+del 8
+";
 
 /// The requests behind so many first ones.
-fn requests_behind(alloc: Global, count: usize) -> Result<String, AllocError> {
-    let mut trace = String::new(alloc);
-    for request in REQUESTS.split('\n').skip(count) {
-        trace.push_str(request)?;
-        trace.push_str("\n")?;
+fn requests_behind(count: usize) -> &'static str {
+    let mut rest = REQUESTS;
+    for _ in 0..count {
+        rest = match rest.split_once('\n') {
+            Some((_, behind)) => behind,
+            None => "",
+        };
     }
-    Ok(trace)
+    rest
+}
+
+/// Runs the requests behind so many first ones on what a stop left.
+fn runs_rest(
+    rt: &(impl Abort + AllocGlobal),
+    images: &mut MapStore,
+    count: usize,
+) -> Result<(), Fail> {
+    let rest = requests_behind(count);
+    let (status, told) = make_plain(rt.alloc(), images, "run h --workers 1", rest.as_bytes())?;
+    must_hold(rt, status == 0 && told.ends_with(REPORT), "the rest is run");
+    Ok(())
 }
 
 /// Stops a run of the requests at this step, and runs those left unanswered on what is left. The
 /// answer is whether none was.
 fn go_on(rt: &(impl Abort + AllocGlobal), image: &[u8], budget: u64) -> Result<bool, Fail> {
-    let alloc = rt.alloc();
-    let trace = requests_behind(alloc, 0)?;
     let mut chance = ConstantChance(budget);
-    let (printed, mut images) = stopped_run(alloc, image, &trace, budget, &mut chance)?;
+    let (printed, mut images) = stopped_run(rt.alloc(), image, REQUESTS, budget, &mut chance)?;
     let count = answered(&printed);
-    let rest = requests_behind(alloc, count)?;
-    let (status, told) = make_plain(alloc, &mut images, "run h --workers 1", rest.as_bytes())?;
-    must_hold(rt, status == 0 && told.ends_with(REPORT), "the rest is run");
+    runs_rest(rt, &mut images, count)?;
     let is_closed = printed.ends_with(REPORT);
     must_hold(rt, !is_closed || count == 3, "all are answered in the end");
     Ok(is_closed)
