@@ -75,13 +75,17 @@ const NO_REQUEST: &str = "requests 0 ok 0 none 0 value 0 full 0 unanswered 0
 run closed
 ";
 
+fn prints_six(rt: &(impl Abort + AllocGlobal), six: &[Reply]) -> Result<(), Fail> {
+    prints(rt, six, (false, false), CLOSED)?;
+    prints(rt, six, (true, false), STOPPED)?;
+    prints(rt, six, (false, true), CLOSED_SUM)?;
+    prints(rt, six, (true, true), STOPPED_SUM)
+}
+
 #[test]
 fn replies_are_printed_or_counted(rt: HostRuntime) -> Result<(), Fail> {
     let six = replies(rt.alloc(), SIX)?;
-    prints(&rt, &six, (false, false), CLOSED)?;
-    prints(&rt, &six, (true, false), STOPPED)?;
-    prints(&rt, &six, (false, true), CLOSED_SUM)?;
-    prints(&rt, &six, (true, true), STOPPED_SUM)?;
+    prints_six(&rt, &six)?;
     prints(&rt, &[], (false, false), "run closed\n")?;
     prints(&rt, &[], (false, true), NO_REQUEST)
 }

@@ -1,8 +1,8 @@
 //! Requests made of a dictionary until it stops, and what is read back from the images it leaves.
+use crate::recoveries::recovered;
 use crate::standing::Standing;
 use block_heap::{AllocFault, Closed};
-use dictionary::{DictFilter, read_maps, root_kinds};
-use heap_recover::recover;
+use dictionary::read_maps;
 use line_memory::ConstantChance;
 use region_header::Bytes;
 use std::alloc::{AllocError, Global};
@@ -139,11 +139,23 @@ pub fn run(
 
 /// Recovers the image and reads its shards.
 pub fn found_in(alloc: Global, image: &[u64]) -> Result<RecoveredShards, Fail> {
-    let heap = recover(alloc, image, &root_kinds(), &DictFilter)?;
+    let heap = recovered(alloc, image)?;
     Ok(RecoveredShards {
         held: heap.heap.held().len(),
         maps: read_maps(alloc, &heap)?,
     })
+}
+
+/// Whether the image has the keys and values that the first so many requests leave of an empty map.
+pub fn is_after(alloc: Global, image: &[u64], asks: &[Ask], count: usize) -> Result<bool, Fail> {
+    let found = found_in(alloc, image)?;
+    Ok(found.is_after(alloc, asks, count)?)
+}
+
+/// How many blocks the image holds.
+pub fn held_in(alloc: Global, image: &[u64]) -> Result<usize, Fail> {
+    let found = found_in(alloc, image)?;
+    Ok(found.held)
 }
 
 /// Whether the value is this one, if there is one.
@@ -165,6 +177,12 @@ fn has_all(model: &Model, shard: &BTreeMap<u64, Bytes>) -> bool {
 }
 
 impl RecoveredShards {
+    /// Whether the keys and values are those that the first so many requests leave of an empty map.
+    pub fn is_after(&self, alloc: Global, asks: &[Ask], count: usize) -> Result<bool, AllocError> {
+        let model = model_of(alloc, asks, count)?;
+        Ok(self.shows(&model))
+    }
+
     /// Whether the keys and values are those of the model.
     pub fn shows(&self, model: &Model) -> bool {
         let mut count: usize = 0;

@@ -2,8 +2,8 @@
 //! Words and values have the names of `image_text`.
 
 use crate::checks::must_hold;
-use dictionary::{DictFilter, MapFault, read_map, read_maps, root_kinds};
-use heap_recover::{Recovered, recover};
+use crate::recoveries::recovered;
+use dictionary::{MapFault, read_map, read_maps};
 use image_text::{change, image_of, number};
 use std::alloc::Global;
 use std::process::Abort;
@@ -43,11 +43,6 @@ of two shards: @9296 0 9298 8, root:1 @1224
 of a root without kind: @9296 0 9298 8, root:8 @9296
 ";
 
-/// What recovery makes of the image.
-fn recovered(alloc: Global, image: &[u64]) -> Result<Recovered, Fail> {
-    Ok(recover(alloc, image, &root_kinds(), &DictFilter)?)
-}
-
 /// Sets a word of an image.
 fn set(image: &mut [u64], at: usize, value: u64) {
     if let Some(word) = image.get_mut(at) {
@@ -55,10 +50,16 @@ fn set(image: &mut [u64], at: usize, value: u64) {
     }
 }
 
+/// A word of a row, and what stands behind it.
+fn word_and_rest(row: &str) -> Result<(&str, &str), Fail> {
+    let parts = row.split_once(' ').ok_or("no row")?;
+    Ok(parts)
+}
+
 /// Two words of a row, and what stands behind them.
 fn parts(row: &str) -> Result<(&str, &str, &str), Fail> {
-    let (first, others) = row.split_once(' ').ok_or("no row")?;
-    let (second, others) = others.split_once(' ').ok_or("no row")?;
+    let (first, others) = word_and_rest(row)?;
+    let (second, others) = word_and_rest(others)?;
     Ok((first, second, others))
 }
 
@@ -119,17 +120,32 @@ const BAD_ROOTS: &str = "
 1 41 root:7 @9296, root:1 @9292
 ";
 
+fn bad_shard(shard: &str, at: &str) -> Result<MapFault, Fail> {
+    Ok(MapFault::BadShard {
+        shard: number(shard)? as usize,
+        at: number(at)?,
+    })
+}
+
+/// The image with these roots.
+fn image_with_roots(alloc: Global, roots: &str) -> Result<Vec<u64>, Fail> {
+    let mut image = image_of(alloc, 4, BLOCKS)?;
+    change(&mut image, roots)?;
+    Ok(image)
+}
+
+/// What is told of all shards of the image.
+fn fault_of(alloc: Global, image: &[u64]) -> Result<Option<MapFault>, Fail> {
+    let heap = recovered(alloc, image)?;
+    Ok(read_maps(alloc, &heap).err())
+}
+
 /// Reads all shards of an image with the roots of the row.
 fn lowest_is_told(rt: &(impl Abort + AllocGlobal), row: &str) -> Result<(), Fail> {
     let (shard, at, roots) = parts(row)?;
-    let mut image = image_of(rt.alloc(), 4, BLOCKS)?;
-    change(&mut image, roots)?;
-    let heap = recovered(rt.alloc(), &image)?;
-    let told = MapFault::BadShard {
-        shard: number(shard)? as usize,
-        at: number(at)?,
-    };
-    must_hold(rt, read_maps(rt.alloc(), &heap).err() == Some(told), row);
+    let told = bad_shard(shard, at)?;
+    let image = image_with_roots(rt.alloc(), roots)?;
+    must_hold(rt, fault_of(rt.alloc(), &image)? == Some(told), row);
     Ok(())
 }
 

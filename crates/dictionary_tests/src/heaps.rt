@@ -1,39 +1,56 @@
 //! Recovered heaps, and what is told of each.
+ghost use Rattle.std.specs.Prelude.{◌≤◌, IfOk};
+ghost use Rattle.heap_model.specs.Geometry.{largest_capacity};
+
 use crate::checks::must_hold;
-use dictionary::{DictFilter, root_kinds};
-use heap_recover::{Recovered, recover};
+use crate::recoveries::recovered;
+use heap_recover::Recovered;
 use image_text::{image_of, number};
-use std::alloc::Global;
+use std::alloc::{AllocError, Global};
 use std::process::Abort;
 use std::test::Fail;
 use super_block::LARGEST_CAPACITY;
 use trace_text::{heap_line, map_text, report_text};
 
-/// What recovery makes of an image, of which the text tells the capacity and what differs from an
-/// empty one.
-fn recovered(alloc: Global, image: &str) -> Result<Recovered, Fail> {
-    let (capacity, changes) = image.split_once(' ').unwrap_or((image, ""));
-    let capacity = number(capacity)?;
+fn capacity_of(text: &str) -> Result<u64, Fail>
+    ensures some { IfOk result (λ capacity. 1 ≤ capacity) }
+    ensures small { IfOk result (λ capacity. capacity ≤ largest_capacity) }
+{
+    let capacity = number(text)?;
     if capacity == 0 || LARGEST_CAPACITY < capacity {
         return Err("no such capacity".into());
     }
-    let image = image_of(alloc, capacity, changes)?;
-    Ok(recover(alloc, &image, &root_kinds(), &DictFilter)?)
+    Ok(capacity)
+}
+
+/// What recovery makes of an image, of which the text tells the capacity and what differs from an
+/// empty one.
+fn told_heap(alloc: Global, text: &str) -> Result<Recovered, Fail> {
+    let (capacity, changes) = text.split_once(' ').unwrap_or((text, ""));
+    let image = image_of(alloc, capacity_of(capacity)?, changes)?;
+    recovered(alloc, &image)
+}
+
+fn joined(mut report: Vec<u8>, map: &[u8]) -> Result<Vec<u8>, AllocError> {
+    report.extend_from_slice(b"map:\n")?;
+    report.extend_from_slice(map)?;
+    Ok(report)
 }
 
 /// The report, a line, and the map.
-fn told(alloc: Global, heap: &Recovered) -> Result<Vec<u8>, Fail> {
-    let mut text = report_text(alloc, heap, None, false)?.into_vec();
-    text.extend_from_slice(b"map:\n")?;
-    text.extend_from_slice(map_text(alloc, heap)?.as_slice())?;
-    Ok(text)
+fn told(alloc: Global, heap: &Recovered) -> Result<Vec<u8>, AllocError> {
+    let map = map_text(alloc, heap)?;
+    joined(
+        report_text(alloc, heap, None, false)?.into_vec(),
+        map.as_slice(),
+    )
 }
 
 /// Reports and maps the heap of an image, of which the row's first line tells; the further ones are
 /// the report and the map.
 fn tells(rt: &(impl Abort + AllocGlobal), row: &str) -> Result<(), Fail> {
     let (image, wanted) = row.split_once('\n').ok_or("no row")?;
-    let found = told(rt.alloc(), &recovered(rt.alloc(), image)?)?;
+    let found = told(rt.alloc(), &told_heap(rt.alloc(), image)?)?;
     must_hold(rt, found.as_slice() == wanted.as_bytes(), row);
     Ok(())
 }
@@ -102,7 +119,7 @@ fn heaps_are_reported_and_mapped(rt: HostRuntime) -> Result<(), Fail> {
 
 #[test]
 fn a_heap_with_all_superblocks_taken_is_mapped(rt: HostRuntime) -> Result<(), Fail> {
-    let map = map_text(rt.alloc(), &recovered(rt.alloc(), "256 used 256")?)?;
+    let map = map_text(rt.alloc(), &told_heap(rt.alloc(), "256 used 256")?)?;
     let map = map.as_slice();
     let begin = b"used 256 free 256 fresh 0\nsb 0 free\n".as_slice();
     must_hold(&rt, map.starts_with(begin), "its begin");

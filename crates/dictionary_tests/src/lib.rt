@@ -27,6 +27,8 @@ mod made;
 #[cfg(test)]
 mod readings;
 #[cfg(test)]
+mod recoveries;
+#[cfg(test)]
 mod run_tests;
 #[cfg(test)]
 mod schedules;

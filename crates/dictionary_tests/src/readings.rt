@@ -64,11 +64,15 @@ fn requests_text(alloc: Global, requests: &[Request]) -> Result<String, AllocErr
     Ok(text)
 }
 
+fn write_step(text: &mut String, seat: usize, event: Event) -> Result<(), AllocError> {
+    write!(text, ", {seat} {event:?}")
+}
+
 /// How many seats there are, and each step behind its seat.
 fn steps_text(alloc: Global, seats: usize, lines: &[(usize, Event)]) -> Result<String, AllocError> {
     let mut text = format!(in alloc; "{seats} seats")?;
     for (seat, event) in lines {
-        write!(text, ", {seat} {event:?}")?;
+        write_step(&mut text, *seat, *event)?;
     }
     Ok(text)
 }

@@ -1,5 +1,5 @@
 //! What the requests answer, and what is read back from the images that are left.
-use crate::asks::{Ask, MANY, found_in, model_of, run, set, value_of};
+use crate::asks::{Ask, MANY, found_in, held_in, is_after, run, set, value_of};
 use crate::checks::must_hold;
 use crate::standing::Standing;
 use block_heap::{AllocFault, Looks};
@@ -11,9 +11,8 @@ use std::test::Fail;
 
 /// Asserts that the image has a table alone, and no key.
 fn has_a_table_alone(rt: &(impl Abort + AllocGlobal), image: &[u64]) -> Result<(), Fail> {
-    let found = found_in(rt.alloc(), image)?;
-    let nothing = model_of(rt.alloc(), &[], 0)?;
-    must_hold(rt, found.held == 1 && found.shows(&nothing), "a table");
+    must_hold(rt, held_in(rt.alloc(), image)? == 1, "a table");
+    must_hold(rt, is_after(rt.alloc(), image, &[], 0)?, "no key");
     Ok(())
 }
 
@@ -37,6 +36,16 @@ const OLD: [Ask; 1] = [Ask::Put(0, 2, b'a')];
 
 const NEW: [Ask; 1] = [Ask::Put(0, 2, b'b')];
 
+/// Whether the value in the image is the new one, and not the old one.
+fn has_new_value(rt: &(impl Abort + AllocGlobal), image: &[u64]) -> Result<bool, Fail> {
+    let found = found_in(rt.alloc(), image)?;
+    must_hold(rt, found.held == 2, "a table and a node");
+    let is_new = found.is_after(rt.alloc(), &NEW, 1)?;
+    let is_old = found.is_after(rt.alloc(), &OLD, 1)?;
+    must_hold(rt, is_new || is_old, "a value");
+    Ok(is_new)
+}
+
 /// Stops a put over the image of the old value; the answer is whether it was done, and whether the
 /// value is the new one.
 fn stop_put(
@@ -44,16 +53,8 @@ fn stop_put(
     image: &[u64],
     bounds: (u64, u64),
 ) -> Result<(bool, bool), Fail> {
-    let alloc = rt.alloc();
-    let left = run(alloc, image, &NEW, bounds)?;
-    let found = found_in(alloc, &left.closed.kept)?;
-    let is_new = found.shows(&model_of(alloc, &NEW, 1)?);
-    must_hold(
-        rt,
-        is_new || found.shows(&model_of(alloc, &OLD, 1)?),
-        "a value",
-    );
-    must_hold(rt, found.held == 2, "a table and a node");
+    let left = run(rt.alloc(), image, &NEW, bounds)?;
+    let is_new = has_new_value(rt, &left.closed.kept)?;
     Ok((left.answered == 1, is_new))
 }
 
@@ -94,14 +95,10 @@ fn replaces(
     let asks = [Ask::Put(key, before, 1), Ask::Put(key, after, 2)];
     let left = run(alloc, image, &asks, (MANY, 0))?;
     must_hold(rt, left.answered == 2, "both are answered");
-    let kept = found_in(alloc, &left.closed.kept)?;
-    must_hold(
-        rt,
-        kept.shows(&model_of(alloc, &asks, 2)?),
-        "the second one",
-    );
-    let now = found_in(alloc, &left.closed.now)?;
-    must_hold(rt, now.held == 2, "a table and a node");
+    let is_second = is_after(alloc, &left.closed.kept, &asks, 2)?;
+    must_hold(rt, is_second, "the second one");
+    let held = held_in(alloc, &left.closed.now)?;
+    must_hold(rt, held == 2, "a table and a node");
     Ok(())
 }
 
@@ -147,6 +144,13 @@ fn fits_each(
     fits(rt, alloc, heap, key, (len, len.wrapping_add(9)))
 }
 
+/// Asks for a key that is not there.
+fn gets_nothing(rt: &impl Abort, heap: &mut Standing<ConstantChance>, key: u64) {
+    let mut out = [3; 4];
+    must_hold(rt, matches!(heap.get(key, &mut out), Ok(None)), "no value");
+    must_hold(rt, out == [3; 4], "nothing is put");
+}
+
 /// Asks for values of each length under the key, and then for a key that is not there.
 fn gets_each(rt: &(impl Abort + AllocGlobal), key: u64) -> Result<(), Fail> {
     let alloc = rt.alloc();
@@ -155,9 +159,7 @@ fn gets_each(rt: &(impl Abort + AllocGlobal), key: u64) -> Result<(), Fail> {
     for len in LENGTHS {
         fits_each(rt, alloc, &mut heap, (key, len))?;
     }
-    let mut out = [3; 4];
-    must_hold(rt, heap.get(key ^ 8, &mut out) == Ok(None), "no value");
-    must_hold(rt, out == [3; 4], "nothing is put");
+    gets_nothing(rt, &mut heap, key ^ 8);
     Ok(())
 }
 
@@ -180,11 +182,10 @@ fn leaves_its_chain(rt: &(impl Abort + AllocGlobal), gone: u64) -> Result<(), Fa
     ];
     let left = run(alloc, &format(alloc, 4)?, &asks, (MANY, 1))?;
     must_hold(rt, left.answered == 6, "all are answered");
-    let model = model_of(alloc, &asks, 6)?;
-    must_hold(rt, model.len() == 2, "two are left");
-    let found = found_in(alloc, &left.closed.kept)?;
-    must_hold(rt, found.shows(&model), "the two others");
-    must_hold(rt, found.held == 3, "a table and two nodes");
+    let is_left = is_after(alloc, &left.closed.kept, &asks, 6)?;
+    must_hold(rt, is_left, "the two others");
+    let held = held_in(alloc, &left.closed.kept)?;
+    must_hold(rt, held == 3, "a table and two nodes");
     Ok(())
 }
 
@@ -195,13 +196,11 @@ fn a_key_leaves_its_chain_wherever_it_stands(rt: HostRuntime) -> Result<(), Fail
     leaves_its_chain(&rt, 2_048)
 }
 
-/// The next of a row of numbers without a pattern.
+/// The next of a row of numbers, whose upper halves have no pattern.
 fn next(number: u64) -> u64 {
-    let mut next = number;
-    next ^= next << 13;
-    next ^= next >> 7;
-    next ^= next << 17;
-    next
+    number
+        .wrapping_mul(6_364_136_223_846_793_005)
+        .wrapping_add(1_442_695_040_888_963_407)
 }
 
 /// The request that a number draws, for one of twelve keys of four shards, three of each in one
@@ -221,7 +220,7 @@ fn script(alloc: Global, count: usize, seed: u64) -> Result<Vec<Ask>, AllocError
     let mut number = seed;
     for _ in 0..count {
         number = next(number);
-        asks.push(drawn(number))?;
+        asks.push(drawn(number >> 32))?;
     }
     Ok(asks)
 }
@@ -232,10 +231,9 @@ fn answers_as_a_map(rt: &(impl Abort + AllocGlobal), seed: u64, number: u64) -> 
     let asks = script(alloc, 300, seed)?;
     let left = run(alloc, &format(alloc, 16)?, &asks, (MANY, number))?;
     must_hold(rt, left.answered == 300, "all are answered");
-    let model = model_of(alloc, &asks, 300)?;
-    let now = found_in(alloc, &left.closed.now)?;
-    let kept = found_in(alloc, &left.closed.kept)?;
-    must_hold(rt, now.shows(&model) && kept.shows(&model), "the map");
+    let is_now = is_after(alloc, &left.closed.now, &asks, 300)?;
+    let is_kept = is_after(alloc, &left.closed.kept, &asks, 300)?;
+    must_hold(rt, is_now && is_kept, "the map");
     Ok(())
 }
 
@@ -261,9 +259,9 @@ fn stop_script(rt: &(impl Abort + AllocGlobal), image: &[u64], budget: u64) -> R
     let alloc = rt.alloc();
     let left = run(alloc, image, &ONE_CLASS, (budget, 1))?;
     let found = found_in(alloc, &left.closed.kept)?;
-    let before = model_of(alloc, &ONE_CLASS, left.answered)?;
-    let after = model_of(alloc, &ONE_CLASS, left.answered.wrapping_add(1))?;
-    must_hold(rt, found.shows(&before) || found.shows(&after), "a map");
+    let is_before = found.is_after(alloc, &ONE_CLASS, left.answered)?;
+    let is_done = found.is_after(alloc, &ONE_CLASS, left.answered.wrapping_add(1))?;
+    must_hold(rt, is_before || is_done, "a map");
     Ok(left.answered == 6)
 }
 
