@@ -21,16 +21,30 @@ fn holds_both(found: &Recovered) -> bool {
     holds(found, &HELD, &WORDS)
 }
 
+/// What a crash leaves of a recovery in place.
+fn crashed(left: InPlace) -> Vec<u64> {
+    torn(left.kept, 1)
+}
+
 /// Recovers what a crash left in place, stopped at this step, and what the stop leaves to its end.
 fn recover_again(
     rt: &(impl Abort + AllocGlobal),
-    crashed: &[u64],
+    image: &[u64],
     budget: u64,
     number: u64,
 ) -> Result<(), Fail> {
-    let second = in_place(rt.alloc(), crashed, budget, number)?;
+    let second = in_place(rt.alloc(), image, budget, number)?;
     must_hold(rt, holds_both(&second.found), "the second");
-    let third = in_place(rt.alloc(), &torn(second.kept, 1), u64::MAX, number)?;
+    recover_to_the_end(rt, &crashed(second), number)
+}
+
+/// Recovers what a crash left in place.
+fn recover_to_the_end(
+    rt: &(impl Abort + AllocGlobal),
+    image: &[u64],
+    number: u64,
+) -> Result<(), Fail> {
+    let third = in_place(rt.alloc(), image, u64::MAX, number)?;
     must_hold(rt, holds_both(&third.found), "the third");
     must_hold(rt, !third.stopped, "the third is done");
     Ok(())
@@ -57,9 +71,13 @@ fn stop_twice(
 ) -> Result<(), Fail> {
     let first = in_place(rt.alloc(), image, budget, number)?;
     must_go_on(rt, &first, budget);
-    let crashed = torn(first.kept, 1);
-    for again in (0..60).step_by(19) {
-        recover_again(rt, &crashed, again, number)?;
+    stop_again(rt, &crashed(first), number)
+}
+
+/// Recovers what a crash left in place, stopped at some steps.
+fn stop_again(rt: &(impl Abort + AllocGlobal), image: &[u64], number: u64) -> Result<(), Fail> {
+    for budget in [0, 19, 38, 57] {
+        recover_again(rt, image, budget, number)?;
     }
     Ok(())
 }
