@@ -1,6 +1,5 @@
 //! What the heap gives, and what it refuses.
 ghost use Rattle.std.specs.Prelude.{◌≤◌};
-ghost use Rattle.heap_model.specs.Geometry.{largest_capacity};
 
 use crate::drains::drained;
 use crate::fixtures::{at, free_at, must_equal, must_hold, offset_of, opened};
@@ -46,13 +45,18 @@ fn large_blocks_are_taken_from_those_never_taken(rt: HostRuntime) -> Result<(), 
     Ok(())
 }
 
-/// The offset of one block more of the class, or `None` where there is no room.
-fn next_offset(heap: &mut SeqHeap<ConstantChance>, class: SizeClass) -> Result<Option<u64>, Fail> {
-    match heap.alloc(size_of(class.number)) {
-        Ok(b) => Ok(Some(offset_of(b))),
-        Err(AllocFault::Full(_)) => Ok(None),
-        Err(AllocFault::Stopped(at)) => Err(at.into()),
+/// How many bytes a block of the class has.
+fn bytes_of(class: SizeClass) -> u64 {
+    size_of(class.number)
+}
+
+/// The offset of one block more of so many bytes, or `None` where there is no room.
+fn next_offset(heap: &mut SeqHeap<ConstantChance>, bytes: u64) -> Result<Option<u64>, Fail> {
+    let given = heap.alloc(bytes);
+    if let Err(AllocFault::Full(_)) = given {
+        return Ok(None);
     }
+    Ok(Some(offset_of(given?)))
 }
 
 /// Allocates in the class until there is no room, and gives the offsets of the blocks.
@@ -61,9 +65,10 @@ fn filled(
     heap: &mut SeqHeap<ConstantChance>,
     class: SizeClass,
 ) -> Result<Vec<u64>, Fail> {
+    let bytes = bytes_of(class);
     let mut offsets = Vec::new(alloc);
     for _ in 0..10_000 {
-        let Some(offset) = next_offset(heap, class)? else {
+        let Some(offset) = next_offset(heap, bytes)? else {
             break;
         };
         offsets.push(offset)?;
@@ -77,10 +82,11 @@ fn push_offsets(
     class: SizeClass,
     first_word: u64,
 ) -> Result<(), AllocError> {
+    let bytes = bytes_of(class);
     let mut offset = first_word.wrapping_mul(WORD_BYTES);
     for _ in 0..blocks_of(class.number) {
         offsets.push(offset)?;
-        offset = offset.wrapping_add(size_of(class.number));
+        offset = offset.wrapping_add(bytes);
     }
     Ok(())
 }
@@ -162,7 +168,7 @@ fn take_and_free(
 /// small block and then one of so many bytes.
 fn answers(alloc: Global, capacity: u64, count: u64, bytes: u64) -> Result<(bool, bool), Fail>
     requires some { 1 ≤ capacity }
-    requires small { capacity ≤ largest_capacity }
+    requires small { capacity ≤ 4 }
 {
     let mut heap = opened(alloc, capacity, "", 0)?;
     take_and_free(alloc, &mut heap, count)?;

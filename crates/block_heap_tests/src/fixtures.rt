@@ -1,6 +1,5 @@
 //! Heaps over recovered images, for the tests, and what they must have.
-ghost use Rattle.std.specs.Prelude.{◌<◌, ◌≤◌};
-ghost use Rattle.heap_model.specs.Geometry.{largest_capacity};
+ghost use Rattle.std.specs.Prelude.{◌≤◌};
 
 use block_heap::{Block, HeapSeat, SeqHeap};
 use dictionary::{DictFilter, root_kinds};
@@ -15,10 +14,11 @@ use super_block::{Ready, WORD_BYTES};
 /// More steps than any test here takes.
 pub const MANY: u64 = 1_000_000;
 
-/// What recovery makes of an empty image of so many superblocks with these changes.
+/// What recovery makes of an empty image of up to four superblocks with these changes.
+#[tactic(auto, unfolding(heap_model::specs::Geometry::largest_capacity))]
 pub fn recovered(alloc: Global, capacity: u64, words: &str) -> Result<Ready, Fail>
     requires some { 1 ≤ capacity }
-    requires small { capacity ≤ largest_capacity }
+    requires small { capacity ≤ 4 }
 {
     let image = image_of(alloc, capacity, words)?;
     Ok(recover(alloc, &image, &root_kinds(), &DictFilter)?.heap)
@@ -32,7 +32,7 @@ pub fn opened(
     drawn: u64,
 ) -> Result<SeqHeap<ConstantChance>, Fail>
     requires some { 1 ≤ capacity }
-    requires small { capacity ≤ largest_capacity }
+    requires small { capacity ≤ 4 }
 {
     let ready = recovered(alloc, capacity, words)?;
     Ok(SeqHeap::new(alloc, ready, MANY, ConstantChance(drawn))?)

@@ -1,7 +1,7 @@
 //! Tests of the heap for one thread: opened over recovered images, what it gives, where it stops,
 //! and what is left of it. The crate is nothing but these, so that a change of the program leaves
 //! them alone.
-#![tactic(auto, unfolding(heap_model::specs::Geometry::largest_capacity))]
+#![tactic(auto)]
 
 #[cfg(test)]
 mod blocks;
