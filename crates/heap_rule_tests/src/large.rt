@@ -15,6 +15,7 @@ use line_memory::Stopped;
 use super_block::{Geometry, Info};
 
 /// The info of superblock `e` of a large block that takes `n` superblocks from `d` on.
+#[tactic(auto, using(heap_model::specs::Geometry::largest_capacity_fits))]
 fn info_of(d: u64, n: u64, e: u64) -> u64
     requires { n ≤ largest_capacity }
     ensures { result ≡ info_in d n e }
@@ -26,6 +27,7 @@ fn info_of(d: u64, n: u64, e: u64) -> u64
 }
 
 /// The infos of the superblocks of a large block are stored, and made durable.
+#[tactic(auto, using(heap_model::specs::Geometry::largest_capacity_fits))]
 fn set_infos(seat: &mut Seat, shared: &Shared, d: u64, n: u64) -> Result<(), Stopped>
     requires seat { IsSeatOf shared.now seat.old }
     requires claimed { AreClaimed d n seat.old.view }

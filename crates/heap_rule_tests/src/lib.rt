@@ -1,6 +1,6 @@
 //! Users of the seats of a shared heap: rows of calls as a lock-free allocator has them, each with
 //! what it needs to go on.
-#![tactic(auto, using(heap_model::specs::Geometry::largest_capacity_fits))]
+#![tactic(auto)]
 
 mod batches;
 mod caches;
