@@ -1,6 +1,6 @@
 //! Threads over the seats of a shared heap: each takes random acts with a seat of its own, by the
 //! rows of calls of `heap_rule_tests`, and tells which blocks it holds at the end.
-#![tactic(auto, using(heap_model::specs::Geometry::largest_capacity_fits))]
+#![tactic(auto)]
 
 mod acts;
 mod changes;
