@@ -1,7 +1,6 @@
 //! Shared heaps for the tests, over recovered images.
 
 ghost use Rattle.std.specs.Prelude.{◌≡◌, ◌<◌, ◌≤◌, ℕ, [], IfOk, length, Contains, vec_len, vec_capacity};
-ghost use Rattle.heap_model.specs.Geometry.{largest_capacity};
 ghost use Rattle.heap_rule.specs.Seated.{IsSeatOf};
 ghost use Rattle.heap_rule.specs.Seats.{AreSeatsOf};
 ghost use Rattle.heap_rule_scenes.specs.Scenes.{HaveNoSpareBlocks, HasNoSpareBlocks, OwnRoots};
@@ -19,10 +18,11 @@ use super_block::{ROOTS, Ready};
 /// More tickets than any test here draws.
 pub const MANY: u64 = 1_000_000;
 
-/// What recovery makes of an empty image of so many superblocks with these changes.
+/// What recovery makes of an empty image of up to four superblocks with these changes.
+#[tactic(auto, unfolding(heap_model::specs::Geometry::largest_capacity))]
 pub fn recovered(alloc: Global, capacity: u64, words: &str) -> Result<Ready, Fail>
     requires some { 1 ≤ capacity }
-    requires small { capacity ≤ largest_capacity }
+    requires small { capacity ≤ 4 }
 {
     let image = image_of(alloc, capacity, words)?;
     Ok(recover(alloc, &image, &root_kinds(), &DictFilter)?.heap)

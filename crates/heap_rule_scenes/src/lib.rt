@@ -2,7 +2,7 @@
 //! thread take turns, with each answer and the words that are left; and the threads of
 //! `heap_rule_threads`, with what they leave beside what recovery finds. The crate is nothing but
 //! these, so that rows and threads are proved once.
-#![tactic(auto, unfolding(heap_model::specs::Geometry::largest_capacity))]
+#![tactic(auto)]
 
 #[cfg(test)]
 mod beside_core;

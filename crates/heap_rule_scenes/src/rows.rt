@@ -4,7 +4,6 @@
 //! then, and words that a crash leaves. Words are told as in `image_text`; `-` is none.
 
 ghost use Rattle.std.specs.Prelude.{◌≤◌};
-ghost use Rattle.heap_model.specs.Geometry.{largest_capacity};
 
 use crate::fixtures::{MANY, recovered};
 use crate::scene::{Scene, play};
@@ -50,7 +49,7 @@ fn show(
     row: &str,
 ) -> Result<(), Fail>
     requires some { 1 ≤ capacity }
-    requires small { capacity ≤ largest_capacity }
+    requires small { capacity ≤ 4 }
 {
     let mut columns = row.split(" | ");
     let budget = number(columns.next().unwrap_or(""))?.min(MANY);
@@ -66,7 +65,7 @@ fn show(
     Ok(())
 }
 
-/// Plays a scene once for each row, over a heap of so many superblocks, with these words.
+/// Plays a scene once for each row, over a heap of up to four superblocks, with these words.
 pub fn shows_each(
     rt: &(impl Abort + AllocGlobal),
     scene: Scene,
@@ -75,7 +74,7 @@ pub fn shows_each(
     rows: &str,
 ) -> Result<(), Fail>
     requires some { 1 ≤ capacity }
-    requires small { capacity ≤ largest_capacity }
+    requires small { capacity ≤ 4 }
 {
     for row in rows.split('\n') {
         if !row.is_empty() {

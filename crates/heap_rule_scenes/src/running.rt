@@ -26,6 +26,7 @@ fn recovered(alloc: Global, words: &[u64]) -> Result<Ready, Fail> {
 }
 
 /// What threads leave that work on an empty heap with these changes.
+#[tactic(auto, unfolding(heap_model::specs::Geometry::largest_capacity))]
 fn worked<R: Threads + Sync + AllocGlobal>(
     rt: &R,
     changes: &str,
