@@ -2,18 +2,17 @@
 ghost use Rattle.std.specs.Prelude.{◌<◌, ℕ, Contains, IfOk};
 ghost use Rattle.core_model.specs.declared.event.Event.{Event};
 
-use crate::checks::scramble;
-use crate::fixtures::{DRAW, MANY, must_hold, must_take, needs_ticket, opened, recovered};
+use crate::fixtures::{
+    DRAW, MANY, held_after_a_crash, must_hold, must_take, needs_ticket, opened, recovered,
+};
 use crate::schedules::parse;
 use crash_core::{Core, Event, StepAnswer, opened_table};
-use dictionary::{DictFilter, root_kinds};
-use heap_recover::{Was, recover};
-use image_text::number;
-use line_memory::{Chance, ConstantChance};
+use image_text::{anchor_word, link_word, number};
+use line_memory::Chance;
 use std::alloc::Global;
 use std::process::Abort;
 use std::test::Fail;
-use super_block::Block;
+use super_block::{Block, DIRTY, HEAD_WORD, LISTS, STATE_WORD};
 
 /// Two seats over two superblocks, of which superblock 0 is free: seat 0 takes superblock 1, holds
 /// it as a large block and splits it; seat 1 makes four blocks of superblock 0, holds them, and
@@ -52,14 +51,12 @@ fn all_are_done(
 ) -> Result<(), Fail> {
     run_all(rt, core, first)?;
     let alloc = rt.alloc();
-    let image = core.image(alloc, &mut ConstantChance(u64::MAX))?;
-    let left = recover(alloc, &image, &root_kinds(), &DictFilter)?;
     let held = Block {
         first_word: 1_080,
         words: 1_792,
     };
-    let is_held = left.heap.held() == [held].as_slice();
-    must_hold(rt, left.was == Was::Dirty && is_held, "the block is held");
+    let found = held_after_a_crash(alloc, core)?;
+    must_hold(rt, found.as_slice() == [held].as_slice(), "it is held");
     Ok(())
 }
 
@@ -73,6 +70,26 @@ fn steps_of_all_kinds_are_done_over_two_seats_and_eight(rt: HostRuntime) -> Resu
         all_are_done(&rt, &mut opened(rt.alloc(), &heap, 8, MANY)?, first)?;
     }
     Ok(())
+}
+
+/// Stores to the word, if the image has it.
+fn put(image: &mut [u64], word: u64, value: u64) {
+    if let Some(place) = image.get_mut(word as usize) {
+        *place = value;
+    }
+}
+
+/// Scrambles what a crash may: the head of each list, and the anchor and the link of each
+/// superblock. The image is dirty then.
+fn scramble(image: &mut [u64], capacity: u64, numbers: &mut impl Chance) {
+    for list in 0..LISTS {
+        put(image, list.wrapping_add(HEAD_WORD), numbers.draw());
+    }
+    for d in 0..capacity {
+        put(image, anchor_word(d), numbers.draw());
+        put(image, link_word(d), numbers.draw());
+    }
+    put(image, STATE_WORD, DIRTY);
 }
 
 /// A source that counts.

@@ -7,10 +7,11 @@ use crash_core::{Core, Event, Owners, StepAnswer};
 use dictionary::{DictFilter, root_kinds};
 use heap_recover::recover;
 use image_text::image_of;
+use line_memory::ConstantChance;
 use std::alloc::{AllocError, Global};
 use std::process::Abort;
 use std::test::Fail;
-use super_block::{ROOTS, Ready};
+use super_block::{Block, ROOTS, Ready};
 
 /// More tickets than any test here draws.
 pub const MANY: u64 = 1_000_000;
@@ -51,6 +52,13 @@ pub fn opened(alloc: Global, heap: &Ready, seats: usize, budget: u64) -> Result<
     let held = in_turn(alloc, heap.held().len(), seats)?;
     let roots = in_turn(alloc, ROOTS as usize, seats)?;
     Ok(Core::of(alloc, heap, &Owners::new(held, roots), seats, budget)?)
+}
+
+/// The blocks that recovery holds after a crash now, whatever it leaves of heads, anchors and links.
+pub fn held_after_a_crash(alloc: Global, core: &Core) -> Result<Vec<Block>, Fail> {
+    let image = core.image(alloc, &mut ConstantChance(u64::MAX))?;
+    let left = recover(alloc, &image, &root_kinds(), &DictFilter)?;
+    Ok(Vec::from_slice(alloc, left.heap.held())?)
 }
 
 /// Takes a step of the seat.

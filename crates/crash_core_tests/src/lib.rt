@@ -4,11 +4,7 @@
 #![tactic(auto, unfolding(heap_model::specs::Geometry::largest_capacity))]
 
 #[cfg(test)]
-mod checks;
-#[cfg(test)]
 mod crashes;
-#[cfg(test)]
-mod dice;
 #[cfg(test)]
 mod exchanges;
 #[cfg(test)]
@@ -20,13 +16,7 @@ mod own_words;
 #[cfg(test)]
 mod pieces;
 #[cfg(test)]
-mod plain;
-#[cfg(test)]
-mod plain_guards;
-#[cfg(test)]
-mod plain_steps;
-#[cfg(test)]
-mod random;
+mod recorded;
 #[cfg(test)]
 mod rows;
 #[cfg(test)]

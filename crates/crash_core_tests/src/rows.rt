@@ -1,63 +1,109 @@
 //! Schedules of which each answer is known.
-use crate::fixtures::{MANY, must_hold, opened, recovered, take_drawn};
+//!
+//! A table has schedules. One begins with its heap: how many superblocks and seats there are, and the
+//! words that differ from those of an empty image, between bars. Then come its steps, between commas
+//! and in lines, each with ` !` behind it where it is not done, and what is so after them: how many
+//! tickets were drawn, and the blocks that recovery holds after a crash, each with its first word and
+//! its length.
+use crate::fixtures::{MANY, held_after_a_crash, must_hold, opened, recovered, take_drawn};
 use crate::schedules::parse;
 use crash_core::{Core, StepAnswer};
+use image_text::number;
+use std::alloc::Global;
 use std::process::Abort;
 use std::test::Fail;
+use super_block::Block;
 
 /// A head that was seen before two pops and a push fits no more, though its descriptor is the first
-/// one again.
-const OVERTAKEN: &str = "0 head 0, 0 link, 1 head 0, 1 link, 1 pop, 1 head 0, 1 link, 1 pop, \
-    1 head 0, 1 store link:0 0, 1 push 0, 0 pop";
+/// one again. A cache is its seat's own: a block of 64 bytes is held. A superblock without a class
+/// enters no class's list.
+const KNOWN: &str = "
+heap 2 | 2 | used 2
+0 head 0, 0 link, 1 head 0, 1 link, 1 pop, 1 head 0, 1 link, 1 pop
+1 head 0, 1 store link:0 0, 1 push 0, 0 pop !
+tickets 12
+heap 2 | 2 | used 1, info:0 4, root:8 @1080
+0 head 4, 0 link, 0 pop, 0 anchor 0, 0 take-all 0, 0 alloc 4, 1 alloc 4 !, 0 store 1088 7
+tickets 7
+held 1080 8
+heap 1 | 1 | used 1
+0 head 0, 0 link, 0 pop, 0 store info:0 4, 0 head 4, 0 store link:0 0, 0 push 0 !
+tickets 7
+";
 
-/// A cache is its seat's own.
-const OWN_CACHE: &str = "0 head 4, 0 link, 0 pop, 0 anchor 0, 0 take-all 0, 0 alloc 4, 1 alloc 4, \
-    0 store 1088 7";
-
-/// A superblock without a class enters no class's list.
-const WITHOUT_CLASS: &str = "0 head 0, 0 link, 0 pop, 0 store info:0 4, 0 head 4, \
-    0 store link:0 0, 0 push 0";
-
-/// Takes the steps of the schedule, of which this one is refused, and which draw so many tickets.
-fn is_answered(
-    rt: &impl Abort,
-    mut core: Core,
-    schedule: &str,
-    refused: usize,
-    tickets: u64,
-) -> Result<(), Fail> {
-    for (at, line) in schedule.split(", ").enumerate() {
-        is_step_answered(rt, &mut core, line, at != refused)?;
+/// A core over the heap that the columns tell.
+fn core_of(alloc: Global, columns: &str) -> Result<Core, Fail> {
+    let mut columns = columns.split(" | ");
+    let superblocks = number(columns.next().unwrap_or(""))?;
+    let seats = number(columns.next().unwrap_or(""))? as usize;
+    if !(1..=3).contains(&superblocks) || !(1..=8).contains(&seats) {
+        return Err("no such heap".into());
     }
-    must_hold(rt, core.tickets() == tickets, schedule);
+    let heap = recovered(alloc, superblocks, columns.next().unwrap_or(""))?;
+    opened(alloc, &heap, seats, MANY)
+}
+
+/// Takes the steps of a line, each of which is done or is not.
+fn take_line(rt: &impl Abort, core: &mut Core, line: &str) -> Result<(), Fail> {
+    for told in line.split(", ") {
+        let (step, wanted) = match told.strip_suffix(" !") {
+            Some(step) => (step, StepAnswer::NotNow),
+            None => (told, StepAnswer::Done),
+        };
+        let (seat, event) = parse(step)?;
+        must_hold(rt, take_drawn(core, seat, event)? == wanted, line);
+    }
     Ok(())
 }
 
-/// Takes the step of the line, which is done or is not.
-fn is_step_answered(
-    rt: &impl Abort,
-    core: &mut Core,
-    line: &str,
-    is_done: bool,
-) -> Result<(), Fail> {
-    let (seat, event) = parse(line)?;
-    let wanted = if is_done {
-        StepAnswer::Done
-    } else {
-        StepAnswer::NotNow
-    };
-    must_hold(rt, take_drawn(core, seat, event)? == wanted, line);
+/// The blocks of the text.
+fn blocks(alloc: Global, text: &str) -> Result<Vec<Block>, Fail> {
+    let mut blocks = Vec::new(alloc);
+    for told in text.split(", ") {
+        let (first_word, words) = told.split_once(' ').ok_or("no block")?;
+        blocks.push(Block {
+            first_word: number(first_word)?,
+            words: number(words)?,
+        })?;
+    }
+    Ok(blocks)
+}
+
+/// Takes a line of steps, or looks whether what the line tells is so.
+fn play_line(rt: &(impl Abort + AllocGlobal), core: &mut Core, line: &str) -> Result<(), Fail> {
+    if let Some(tickets) = line.strip_prefix("tickets ") {
+        must_hold(rt, core.tickets() == number(tickets)?, line);
+        return Ok(());
+    }
+    if let Some(held) = line.strip_prefix("held ") {
+        let found = held_after_a_crash(rt.alloc(), core)?;
+        must_hold(rt, found == blocks(rt.alloc(), held)?, line);
+        return Ok(());
+    }
+    take_line(rt, core, line)
+}
+
+/// Plays a schedule.
+fn play(rt: &(impl Abort + AllocGlobal), schedule: &str) -> Result<(), Fail> {
+    let mut lines = schedule.split('\n');
+    let mut core = core_of(rt.alloc(), lines.next().unwrap_or(""))?;
+    for line in lines {
+        if !line.is_empty() {
+            play_line(rt, &mut core, line)?;
+        }
+    }
+    Ok(())
+}
+
+/// Plays the schedules of a table.
+pub fn play_all(rt: &(impl Abort + AllocGlobal), table: &str) -> Result<(), Fail> {
+    for schedule in table.split("heap ").skip(1) {
+        play(rt, schedule)?;
+    }
     Ok(())
 }
 
 #[test]
 fn known_schedules_are_answered(rt: HostRuntime) -> Result<(), Fail> {
-    let alloc = rt.alloc();
-    let heap = recovered(alloc, 2, "used 2")?;
-    is_answered(&rt, opened(alloc, &heap, 2, MANY)?, OVERTAKEN, 11, 12)?;
-    // Block 0 of a superblock of blocks of 64 bytes is held.
-    let heap = recovered(alloc, 2, "used 1, info:0 4, root:8 @1080")?;
-    is_answered(&rt, opened(alloc, &heap, 2, MANY)?, OWN_CACHE, 6, 7)?;
-    let heap = recovered(alloc, 1, "used 1")?;
-    is_answered(&rt, opened(alloc, &heap, 1, MANY)?, WITHOUT_CLASS, 6, 7)
+    play_all(&rt, KNOWN)
 }
