@@ -54,12 +54,14 @@ fn an_empty_image_has_the_size_of_its_capacity(rt: HostRuntime) -> Result<(), Fa
 /// taken; or the name of the fault.
 fn told(alloc: Global, found: Result<Header, BadHeader>) -> Result<String, AllocError> {
     match found {
-        Ok(header) => {
-            let state = if header.clean { "clean" } else { "dirty" };
-            format!(in alloc; "{} {state} {}", header.capacity, header.used)
-        }
+        Ok(header) => told_header(alloc, header),
         Err(cause) => format!(in alloc; "{cause:?}"),
     }
+}
+
+fn told_header(alloc: Global, header: Header) -> Result<String, AllocError> {
+    let state = if header.clean { "clean" } else { "dirty" };
+    format!(in alloc; "{} {state} {}", header.capacity, header.used)
 }
 
 /// Asserts that this is told.

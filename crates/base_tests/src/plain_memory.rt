@@ -121,11 +121,7 @@ fn run_naively<C: Chance>(
         let answer = naive.answer(&mut chance, budget, *step)?;
         answers.push(answer)?;
     }
-    Ok(Outcome {
-        answers,
-        volatile: Vec::from_slice(alloc, &naive.volatile)?,
-        durable: Vec::from_slice(alloc, &naive.durable)?,
-    })
+    naive.finish(answers)
 }
 
 /// A memory by the rules alone: whole arrays, and no list of lines.
@@ -149,6 +145,16 @@ impl Naive {
             drawn: 0,
             stopped: None,
         }
+    }
+
+    /// What is left, with these answers.
+    fn finish(self, answers: Vec<Result<u64, Stopped>>) -> Result<Outcome, AllocError> {
+        let alloc = *self.stores.allocator();
+        Ok(Outcome {
+            answers,
+            volatile: Vec::from_slice(alloc, &self.volatile)?,
+            durable: Vec::from_slice(alloc, &self.durable)?,
+        })
     }
 
     /// Draws a ticket, unless one was refused, and takes the step.

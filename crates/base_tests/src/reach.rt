@@ -4,7 +4,7 @@ ghost use Rattle.std.specs.List.{All};
 ghost use Rattle.heap_model.specs.Geometry.{roots};
 ghost use Rattle.base_tests.specs.Tables.{each_link, node_links};
 
-use crate::asserts::must_hold;
+use crate::asserts::{must_hold, three_columns};
 use crate::images::{block_of, good_image};
 use filter_trace::{Filter, Marks, TraceFault, trace};
 use heap_model::Block;
@@ -76,18 +76,26 @@ fn kinds(alloc: Global, first: u32, second: u32) -> Result<Vec<u32>, AllocError>
 fn kind(text: &str) -> Result<u32, Fail>
     ensures { IfOk result (λ kind. kind < 3) }
 {
-    match text {
-        "0" => Ok(0),
-        "1" => Ok(1),
-        "2" => Ok(2),
-        _ => Err("no kind".into()),
+    let kind = text.parse::<u32>().ok().ok_or("no kind")?;
+    if kind < 3 {
+        Ok(kind)
+    } else {
+        Err("no such kind".into())
     }
+}
+
+/// The kinds of the roots, of which the text tells the first two.
+fn kinds_of_roots(alloc: Global, told: &str) -> Result<Vec<u32>, Fail>
+    ensures long { IfOk result (λ kinds. length kinds.items ≡ roots) }
+    ensures below { IfOk result (λ kinds. All (λ kind. kind < 3) kinds.items) }
+{
+    let (first, second) = told.split_once(' ').ok_or("no two kinds")?;
+    Ok(kinds(alloc, kind(first)?, kind(second)?)?)
 }
 
 /// What roots 0 and 1, of these kinds, reach in the image of four superblocks with these words.
 fn traced(alloc: Global, roots: &str, words: &str) -> Result<Result<Marks, TraceFault>, Fail> {
-    let (first, second) = roots.split_once(' ').ok_or("no two kinds")?;
-    let kinds = kinds(alloc, kind(first)?, kind(second)?)?;
+    let kinds = kinds_of_roots(alloc, roots)?;
     let image = good_image(alloc, 4, words)?;
     Ok(trace(alloc, &image, &kinds, &Tables))
 }
@@ -96,9 +104,9 @@ fn traced(alloc: Global, roots: &str, words: &str) -> Result<Result<Marks, Trace
 /// number is told has, and `-` else.
 fn kinds_of(alloc: Global, marks: &Marks, block: Block, holds: bool) -> Result<String, AllocError> {
     let mut kinds = String::new(alloc);
-    for kind in [0, 1, 2, 3, u32::MAX] {
+    for (kind, name) in [(0, "0"), (1, "1"), (2, "2"), (3, "3"), (u32::MAX, "last")] {
         if marks.has(block, kind) {
-            write!(kinds, "{kind}")?;
+            kinds.push_str(name)?;
         }
     }
     if kinds.is_empty() {
@@ -123,11 +131,19 @@ fn must_be_reached(rt: &(impl Abort + AllocGlobal), marks: &Marks, told: &str) -
 /// Traces what a row tells, in columns between bars: the kinds of roots 0 and 1, the words of the
 /// image, and blocks with the kinds that they are reached as.
 fn must_reach(rt: &(impl Abort + AllocGlobal), row: &str) -> Result<(), Fail> {
-    let (roots, rest) = row.split_once(" | ").ok_or("no roots")?;
-    let (words, blocks) = rest.split_once(" | ").ok_or("no words")?;
+    let (roots, words, blocks) = three_columns(row)?;
     let marks = traced(rt.alloc(), roots, words)??;
+    must_be_marked(rt, &marks, blocks)
+}
+
+/// Asserts that the blocks have been reached as they are told.
+fn must_be_marked(
+    rt: &(impl Abort + AllocGlobal),
+    marks: &Marks,
+    blocks: &str,
+) -> Result<(), Fail> {
     for block in blocks.split(", ") {
-        must_be_reached(rt, &marks, block)?;
+        must_be_reached(rt, marks, block)?;
     }
     Ok(())
 }
@@ -185,17 +201,21 @@ const OUTSIDE: &str = "
     1104 5931522184223662656
 ";
 
-/// Traces what such a row tells.
-fn must_be_outside(rt: &(impl Abort + AllocGlobal), row: &str) -> Result<(), Fail> {
-    let (roots, rest) = row.split_once(" | ").ok_or("no roots")?;
-    let (words, outside) = rest.split_once(" | ").ok_or("no words")?;
-    let (at, value) = outside.split_once(' ').ok_or("no value")?;
-    let fault = TraceFault::Outside {
+/// The fault that tells a word and its value.
+fn outside(told: &str) -> Result<TraceFault, Fail> {
+    let (at, value) = told.split_once(' ').ok_or("no value")?;
+    Ok(TraceFault::Outside {
         at: number(at)?,
         value: number(value)?,
-    };
+    })
+}
+
+/// Traces what such a row tells.
+fn must_be_outside(rt: &(impl Abort + AllocGlobal), row: &str) -> Result<(), Fail> {
+    let (roots, words, told) = three_columns(row)?;
+    let wanted = outside(told)?;
     let found = traced(rt.alloc(), roots, words)?.err();
-    must_hold(rt, found == Some(fault), row);
+    must_hold(rt, found == Some(wanted), row);
     Ok(())
 }
 

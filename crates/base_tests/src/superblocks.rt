@@ -2,14 +2,17 @@
 ghost use Rattle.std.specs.Prelude.{◌<◌, ◌≤◌};
 ghost use Rattle.heap_model.specs.Geometry.{largest_capacity};
 
-use crate::asserts::must_hold;
+use crate::asserts::{must_hold, three_columns};
 use crate::images::{block_of, good_image};
 use image_text::number;
 use region_header::format;
 use size_table::{SizeClass, blocks_of};
+use std::alloc::Global;
 use std::process::Abort;
 use std::test::Fail;
-use super_block::{Directory, Geometry, Ready, WORD_BYTES, an_empty_heap_is_ready, block_at, name};
+use super_block::{
+    Block, Directory, Geometry, Ready, WORD_BYTES, an_empty_heap_is_ready, block_at, name,
+};
 
 /// Asserts that an image of so many superblocks has so many words, and where its superblocks begin.
 fn must_measure(rt: &impl Abort, capacity: u64, words: u64, start_byte: u64)
@@ -68,20 +71,28 @@ info:0 255, info:1 0 | 8640 | none
 
 /// Asserts what a row tells.
 fn must_name(rt: &(impl Abort + AllocGlobal), row: &str) -> Result<(), Fail> {
-    let (infos, rest) = row.split_once(" | ").ok_or("no infos")?;
-    let (offset, block) = rest.split_once(" | ").ok_or("no offset")?;
-    let offset = number(offset)?;
-    let wanted = if block == "none" {
-        None
-    } else {
-        Some(block_of(block)?)
-    };
-    let changes = format!(in rt.alloc(); "used 2, {infos}")?;
-    let words = good_image(rt.alloc(), 2, &changes)?;
-    must_hold(rt, name(&words, offset) == wanted, row);
-    let directory = Directory::of(rt.alloc(), &words)?;
-    must_hold(rt, directory.name(offset) == wanted, row);
+    let (infos, offset, block) = three_columns(row)?;
+    let (offset, wanted) = (number(offset)?, told_block(block)?);
+    let found = names(rt.alloc(), infos, offset)?;
+    must_hold(rt, found == (wanted, wanted), row);
     Ok(())
+}
+
+/// The block that is told, or none.
+fn told_block(told: &str) -> Result<Option<Block>, Fail> {
+    if told == "none" {
+        return Ok(None);
+    }
+    Ok(Some(block_of(told)?))
+}
+
+/// The block that the offset names in an image of two superblocks with these infos, by its words
+/// and by its directory.
+fn names(alloc: Global, infos: &str, offset: u64) -> Result<(Option<Block>, Option<Block>), Fail> {
+    let changes = format!(in alloc; "used 2, {infos}")?;
+    let words = good_image(alloc, 2, &changes)?;
+    let directory = Directory::of(alloc, &words)?;
+    Ok((name(&words, offset), directory.name(offset)))
 }
 
 #[test]
