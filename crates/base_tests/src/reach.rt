@@ -115,13 +115,19 @@ fn kinds_of(alloc: Global, marks: &Marks, block: Block, holds: bool) -> Result<S
     Ok(kinds)
 }
 
+/// The superblock and the index that stand in front, and what follows.
+fn place_of(told: &str) -> Result<(u64, u64, &str), Fail> {
+    let (superblock, rest) = told.split_once('.').ok_or("no superblock")?;
+    let (index, rest) = rest.split_once(' ').ok_or("no index")?;
+    Ok((number(superblock)?, number(index)?, rest))
+}
+
 /// Asserts that the block has been reached as just these kinds, and so the block with the number:
 /// superblock, index, block and kinds are told as in `0.1 1100/4 12`.
 fn must_be_reached(rt: &(impl Abort + AllocGlobal), marks: &Marks, told: &str) -> Result<(), Fail> {
-    let (superblock, rest) = told.split_once('.').ok_or("no superblock")?;
-    let (index, rest) = rest.split_once(' ').ok_or("no index")?;
+    let (superblock, index, rest) = place_of(told)?;
     let (block, kinds) = rest.split_once(' ').ok_or("no kinds")?;
-    let holds = marks.holds(number(superblock)?, number(index)?);
+    let holds = marks.holds(superblock, index);
     let found = kinds_of(rt.alloc(), marks, block_of(block)?, holds)?;
     must_hold(rt, found.as_str() == kinds, told);
     must_hold(rt, holds == (kinds != "-"), told);
