@@ -27,24 +27,37 @@ fn open(alloc: Global, image: &[u64]) -> Result<SeqHeap<ConstantChance>, Fail>
     Ok(SeqHeap::new(alloc, recovered.heap, BUDGET, ConstantChance(0))?)
 }
 
-fn main(rt: HostRuntime) -> Result<(), Fail> {
-    let alloc = rt.alloc();
-    let mut heap = open(alloc, &format(alloc, 2)?)?;
-    Shard::at(1).put(&mut heap, 1, b"one")?;
-    Shard::at(2).put(&mut heap, 2, b"two")?;
+/// Sets, reads and takes out keys, until the heap stops in the middle of a put.
+fn work(rt: &HostRuntime, heap: &mut SeqHeap<ConstantChance>) -> Result<(), Fail>
+    requires { HasShards (seat_of heap.old) }
+{
+    Shard::at(1).put(heap, 1, b"one")?;
+    Shard::at(2).put(heap, 2, b"two")?;
     let mut room = [0; 8];
-    let length = Shard::at(1).get(&mut heap, 1, &mut room)?;
+    let length = Shard::at(1).get(heap, 1, &mut room)?;
     println!(rt; "get 1: {length:?}")?;
-    let found = Shard::at(2).del(&mut heap, 2)?;
+    let found = Shard::at(2).del(heap, 2)?;
     println!(rt; "del 2: {found}")?;
-    if let Err(PutFault::Stopped(stopped)) = Shard::at(1).put(&mut heap, 1, b"uno") {
+    if let Err(PutFault::Stopped(stopped)) = Shard::at(1).put(heap, 1, b"uno") {
         println!(rt; "put 1: stopped at step {}", stopped.step)?;
     }
-    let left = recover(alloc, &heap.finish().kept, &root_kinds(), &DictFilter)?;
-    for map in &read_maps(alloc, &left)? {
+    Ok(())
+}
+
+/// Tells the keys that recovery finds in what a crash leaves.
+fn tell(rt: &HostRuntime, kept: &[u64]) -> Result<(), Fail> {
+    let left = recover(rt.alloc(), kept, &root_kinds(), &DictFilter)?;
+    for map in &read_maps(rt.alloc(), &left)? {
         for (key, value) in map {
             println!(rt; "{key} is {}", str::from_utf8(value.as_slice())?)?;
         }
     }
     Ok(())
+}
+
+fn main(rt: HostRuntime) -> Result<(), Fail> {
+    let alloc = rt.alloc();
+    let mut heap = open(alloc, &format(alloc, 2)?)?;
+    work(&rt, &mut heap)?;
+    tell(&rt, &heap.finish().kept)
 }
