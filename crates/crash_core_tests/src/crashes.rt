@@ -1,5 +1,5 @@
 //! Schedules in which a step of each kind is done, and what a crash leaves after them.
-ghost use Rattle.std.specs.Prelude.{◌<◌, ℕ, Contains, IfOk};
+ghost use Rattle.std.specs.Prelude.{◌<◌, ◌≤◌, ℕ, Contains, IfOk};
 ghost use Rattle.core_model.specs.declared.event.Event.{Event};
 
 use crate::fixtures::{
@@ -12,7 +12,7 @@ use line_memory::Chance;
 use std::alloc::Global;
 use std::process::Abort;
 use std::test::Fail;
-use super_block::{Block, DIRTY, HEAD_WORD, LISTS, STATE_WORD};
+use super_block::{Block, DIRTY, HEAD_WORD, LISTS, Ready, STATE_WORD};
 
 /// Two seats over two superblocks, of which superblock 0 is free: seat 0 takes superblock 1, holds
 /// it as a large block and splits it; seat 1 makes four blocks of superblock 0, holds them, and
@@ -60,16 +60,27 @@ fn all_are_done(
     Ok(())
 }
 
+/// Does so over the heap, open for so many seats, each of which is the first in turn.
+fn all_are_done_over(
+    rt: &(impl Abort + AllocGlobal),
+    heap: &Ready,
+    seats: usize,
+) -> Result<(), Fail>
+    requires some { 1 ≤ seats }
+    requires seats { seats ≤ 8 }
+{
+    for first in 0..seats {
+        let mut core = opened(rt.alloc(), heap, seats, MANY)?;
+        all_are_done(rt, &mut core, first)?;
+    }
+    Ok(())
+}
+
 #[test]
 fn steps_of_all_kinds_are_done_over_two_seats_and_eight(rt: HostRuntime) -> Result<(), Fail> {
     let heap = recovered(rt.alloc(), 2, ONE_FREE)?;
-    for first in 0..2 {
-        all_are_done(&rt, &mut opened(rt.alloc(), &heap, 2, MANY)?, first)?;
-    }
-    for first in 0..8 {
-        all_are_done(&rt, &mut opened(rt.alloc(), &heap, 8, MANY)?, first)?;
-    }
-    Ok(())
+    all_are_done_over(&rt, &heap, 2)?;
+    all_are_done_over(&rt, &heap, 8)
 }
 
 /// Stores to the word, if the image has it.

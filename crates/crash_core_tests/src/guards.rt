@@ -50,10 +50,21 @@ fn core_after(
 ) -> Result<Core, Fail> {
     let heap = recovered(rt.alloc(), 2, words)?;
     let mut core = opened(rt.alloc(), &heap, 2, MANY)?;
-    for step in before {
-        must_take(rt, &mut core, *step, row)?;
-    }
+    must_take_all(rt, &mut core, before, row)?;
     Ok(core)
+}
+
+/// Takes the steps, each of which is to be done.
+fn must_take_all(
+    rt: &impl Abort,
+    core: &mut Core,
+    steps: &[(usize, Event)],
+    row: &str,
+) -> Result<(), Fail> {
+    for step in steps {
+        must_take(rt, core, *step, row)?;
+    }
+    Ok(())
 }
 
 /// Takes the step, which is done or is not.
