@@ -1,6 +1,5 @@
 //! The header of an image, the image of an empty heap, and images as words and as bytes.
 ghost use Rattle.std.specs.Prelude.{◌≤◌};
-ghost use Rattle.heap_model.specs.Geometry.{largest_capacity};
 
 use crate::asserts::must_hold;
 use image_text::image_of;
@@ -16,6 +15,15 @@ fn count_filled(words: &[u64]) -> usize {
     words.iter().filter(|word| **word != 0).count()
 }
 
+/// An empty image of so many superblocks.
+#[tactic(auto, unfolding(heap_model::specs::Geometry::largest_capacity))]
+fn empty(alloc: Global, capacity: u64) -> Result<Vec<u64>, AllocError>
+    requires some { 1 ≤ capacity }
+    requires small { capacity ≤ 256 }
+{
+    format(alloc, capacity)
+}
+
 /// Asserts that an empty image of so many superblocks has so many words and bytes, the header of
 /// one, and no word that is not 0 beside the mark, the version, the capacity and the state.
 fn must_be_empty(
@@ -25,9 +33,9 @@ fn must_be_empty(
     bytes: usize,
 ) -> Result<(), Fail>
     requires some { 1 ≤ capacity }
-    requires small { capacity ≤ largest_capacity }
+    requires small { capacity ≤ 256 }
 {
-    let image = format(rt.alloc(), capacity)?;
+    let image = empty(rt.alloc(), capacity)?;
     let header = Header {
         capacity,
         clean: true,
@@ -106,6 +114,7 @@ state 2, used 1 => 1 dirty 1
 ";
 
 /// Asserts what a row tells.
+#[tactic(auto, unfolding(heap_model::specs::Geometry::largest_capacity))]
 fn must_tell_of_both(
     rt: &(impl Abort + AllocGlobal),
     changes: &str,
@@ -133,7 +142,7 @@ fn must_tell_of_bytes(
     length: usize,
     wanted: &str,
 ) -> Result<(), Fail> {
-    let mut bytes = words_to_bytes(rt.alloc(), &format(rt.alloc(), 1)?)?.into_vec();
+    let mut bytes = words_to_bytes(rt.alloc(), &empty(rt.alloc(), 1)?)?.into_vec();
     bytes.resize(length, 0)?;
     must_tell(rt, check_bytes(&bytes), wanted, wanted)
 }
@@ -144,7 +153,7 @@ fn must_tell_of_words(
     length: usize,
     wanted: &str,
 ) -> Result<(), Fail> {
-    let mut words = format(rt.alloc(), 1)?;
+    let mut words = empty(rt.alloc(), 1)?;
     words.resize(length, 0)?;
     must_tell(rt, read_header(&words), wanted, wanted)
 }

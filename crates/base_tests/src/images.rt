@@ -1,6 +1,5 @@
 //! Images with a good header, and blocks told as texts.
 ghost use Rattle.std.specs.Prelude.{◌≤◌, ◌*◌, length, slice_index, IfOk};
-ghost use Rattle.heap_model.specs.Geometry.{largest_capacity};
 ghost use Rattle.heap_model.specs.Header.{IsWellFormed};
 
 use heap_model::Block;
@@ -9,10 +8,11 @@ use region_header::read_header;
 use std::alloc::Global;
 use std::test::Fail;
 
-/// An empty image of so many superblocks with these changes (`image_text`), whose header is good.
+/// An empty image of up to four superblocks with these changes (`image_text`), whose header is good.
+#[tactic(auto, unfolding(heap_model::specs::Geometry::largest_capacity))]
 pub fn good_image(alloc: Global, capacity: u64, changes: &str) -> Result<Vec<u64>, Fail>
     requires some { 1 ≤ capacity }
-    requires small { capacity ≤ largest_capacity }
+    requires small { capacity ≤ 4 }
     ensures { IfOk result
         (λ image. IsWellFormed (8 * length image.items) (slice_index image.items)) }
 {

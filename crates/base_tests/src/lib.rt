@@ -1,7 +1,7 @@
 //! Tests of the crates that all others stand on: tables and packed words, where things stand in an
 //! image, its header, what roots reach, and the memory of lines. The crate is nothing but these, so
 //! that each of those crates is proved once, and not again with its tests.
-#![tactic(auto, unfolding(heap_model::specs::Geometry::largest_capacity))]
+#![tactic(auto)]
 
 #[cfg(test)]
 mod anchors;

@@ -28,6 +28,7 @@ fn must_measure(rt: &impl Abort, capacity: u64, words: u64, start_byte: u64)
     );
 }
 
+#[tactic(auto, unfolding(heap_model::specs::Geometry::largest_capacity))]
 #[test]
 fn an_image_has_the_length_of_its_capacity(rt: HostRuntime) {
     must_measure(&rt, 1, 9_264, 8_576);
@@ -37,6 +38,7 @@ fn an_image_has_the_length_of_its_capacity(rt: HostRuntime) {
 }
 
 /// Asserts where the descriptor of superblock d of four stands, and where the superblock begins.
+#[tactic(auto, unfolding(heap_model::specs::Geometry::largest_capacity))]
 fn must_stand(rt: &impl Abort, d: u64, info: u64, start: u64)
     requires { d < 4 }
 {
@@ -47,6 +49,7 @@ fn must_stand(rt: &impl Abort, d: u64, info: u64, start: u64)
     must_hold(rt, geometry.start(d) == start, "the start");
 }
 
+#[tactic(auto, unfolding(heap_model::specs::Geometry::largest_capacity))]
 #[test]
 fn a_descriptor_is_one_line_and_a_superblock_8192_words(rt: HostRuntime) {
     must_hold(&rt, Geometry::new(4).capacity() == 4, "the capacity");
@@ -103,6 +106,7 @@ fn an_offset_names_the_block_that_begins_there(rt: HostRuntime) -> Result<(), Fa
     Ok(())
 }
 
+#[tactic(auto, unfolding(heap_model::specs::Geometry::largest_capacity))]
 #[test]
 fn a_block_of_a_class_lies_in_its_superblock(rt: HostRuntime) {
     let geometry = Geometry::new(2);
@@ -112,6 +116,7 @@ fn a_block_of_a_class_lies_in_its_superblock(rt: HostRuntime) {
     must_hold(&rt, block.words == 4, "the words");
 }
 
+#[tactic(auto, unfolding(heap_model::specs::Geometry::largest_capacity))]
 #[test]
 fn an_empty_heap_is_made_and_taken_apart(rt: HostRuntime) -> Result<(), Fail> {
     an_empty_heap_is_ready();

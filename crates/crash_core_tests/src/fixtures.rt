@@ -1,6 +1,6 @@
 //! Cores over recovered images, for the tests, and steps of their seats.
 ghost use Rattle.std.specs.Prelude.{◌≡◌, ◌<◌, ◌≤◌, ℕ, length, Contains, IfOk};
-ghost use Rattle.heap_model.specs.Geometry.{largest_capacity, roots};
+ghost use Rattle.heap_model.specs.Geometry.{roots};
 ghost use Rattle.core_model.specs.Opening.{AreOwners};
 
 use crash_core::{Core, Event, Owners, StepAnswer};
@@ -19,10 +19,11 @@ pub const MANY: u64 = 1_000_000;
 /// A draw without a change.
 pub const DRAW: Event = Event::Tick { shift: None };
 
-/// What recovery makes of an empty image of so many superblocks with these changes.
+/// What recovery makes of an empty image of up to three superblocks with these changes.
+#[tactic(auto, unfolding(heap_model::specs::Geometry::largest_capacity))]
 pub fn recovered(alloc: Global, capacity: u64, words: &str) -> Result<Ready, Fail>
     requires some { 1 ≤ capacity }
-    requires small { capacity ≤ largest_capacity }
+    requires small { capacity ≤ 3 }
 {
     let image = image_of(alloc, capacity, words)?;
     Ok(recover(alloc, &image, &root_kinds(), &DictFilter)?.heap)

@@ -1,7 +1,7 @@
 //! Tests of the core of the shared heap: schedules of events over recovered images, with the answer
 //! of each, and what a crash leaves after them. The crate is nothing but these, so that a change of
 //! the core's insides leaves them alone.
-#![tactic(auto, unfolding(heap_model::specs::Geometry::largest_capacity))]
+#![tactic(auto)]
 
 #[cfg(test)]
 mod crashes;
