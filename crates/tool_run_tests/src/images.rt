@@ -21,7 +21,8 @@ fn base_words(alloc: Global, base: &str) -> Result<Vec<u64>, Fail> {
     image_of(alloc, superblocks, "")
 }
 
-/// The words of such an image, in which some words were changed: as `2`, or as `table: 9273 8, 9274 0`.
+/// The words of such an image, in which some words were changed: as `2`, or as
+/// `table: 9273 8, 9274 0`.
 fn image_words(alloc: Global, text: &str) -> Result<Vec<u64>, Fail> {
     let (base, changes) = text.split_once(": ").unwrap_or((text, ""));
     let mut words = base_words(alloc, base)?;
