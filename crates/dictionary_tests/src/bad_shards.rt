@@ -65,6 +65,7 @@ fn parts(row: &str) -> Result<(&str, &str, &str), Fail> {
 
 /// The image in which a place has a fault, and where that is told: at the link, or at the bad
 /// node's own.
+#[tactic(auto, unfolding(heap_model::specs::Geometry::largest_capacity))]
 fn image_with(alloc: Global, place: &str, fault: &str) -> Result<(Vec<u64>, u64), Fail> {
     let (link, key, before) = parts(place)?;
     let (_, fault) = fault.split_once(": ").ok_or("no name")?;
@@ -128,6 +129,7 @@ fn bad_shard(shard: &str, at: &str) -> Result<MapFault, Fail> {
 }
 
 /// The image with these roots.
+#[tactic(auto, unfolding(heap_model::specs::Geometry::largest_capacity))]
 fn image_with_roots(alloc: Global, roots: &str) -> Result<Vec<u64>, Fail> {
     let mut image = image_of(alloc, 4, BLOCKS)?;
     change(&mut image, roots)?;

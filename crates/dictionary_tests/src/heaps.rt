@@ -12,6 +12,7 @@ use std::test::Fail;
 use super_block::LARGEST_CAPACITY;
 use trace_text::{heap_line, map_text, report_text};
 
+#[tactic(auto, unfolding(heap_model::specs::Geometry::largest_capacity))]
 fn capacity_of(text: &str) -> Result<u64, Fail>
     ensures some { IfOk result (λ capacity. 1 ≤ capacity) }
     ensures small { IfOk result (λ capacity. capacity ≤ largest_capacity) }

@@ -2,7 +2,7 @@
 //! answers, and what a stop leaves of it; and the texts that are read and printed: traces,
 //! schedules, replies, answers, reports and maps. The crate is nothing but these, so that a change
 //! of the program leaves them alone.
-#![tactic(auto, unfolding(heap_model::specs::Geometry::largest_capacity))]
+#![tactic(auto)]
 
 mod runs;
 mod standing;

@@ -1,10 +1,9 @@
 //! What whole runs of a trace answer, and that what they leave can be run again.
 ghost use Rattle.std.specs.Prelude.{◌<◌, ◌≤◌, ◌^◌};
-ghost use Rattle.heap_model.specs.Geometry.{largest_capacity};
 
 use crate::checks::must_hold;
+use crate::recoveries::empty;
 use crate::runs::run_text;
-use region_header::format;
 use std::alloc::{AllocError, Global};
 use std::process::Abort;
 use std::test::Fail;
@@ -30,10 +29,10 @@ fn answers(
     told: &str,
 ) -> Result<(), Fail>
     requires some { 1 ≤ capacity }
-    requires small { capacity ≤ largest_capacity }
+    requires small { capacity ≤ 16 }
     requires budget { budget < 2 ^ 40 }
 {
-    let image = format(rt.alloc(), capacity)?;
+    let image = empty(rt.alloc(), capacity)?;
     let left = run_text(rt.alloc(), &image, text, budget)?;
     must_hold(rt, replies_are(rt.alloc(), &left, told)?, text);
     let state = if left.stopped { DIRTY } else { CLEAN };
@@ -103,7 +102,7 @@ fn stops_and_goes_on(
 
 #[test]
 fn what_a_stopped_run_leaves_can_be_run_again(rt: HostRuntime) -> Result<(), Fail> {
-    let image = format(rt.alloc(), 2)?;
+    let image = empty(rt.alloc(), 2)?;
     for step in 0..1_000u64 {
         if stops_and_goes_on(&rt, &image, 37 * step)? {
             return Ok(());

@@ -1,8 +1,9 @@
 //! Shards read from hand-made images.
 
+use crate::recoveries::empty;
 use dictionary::{DictFilter, MapFault, OTHER, read_map, read_maps, root_kinds};
 use heap_recover::{RecoverFault, Recovered, recover};
-use region_header::{Bytes, format};
+use region_header::Bytes;
 use std::alloc::{AllocError, Global};
 use std::collections::BTreeMap;
 use std::test::Fail;
@@ -22,7 +23,7 @@ const SECOND: u64 = 0x5250_0000_0001_21e0;
 
 /// The words of that image with these ones too.
 fn image_of(alloc: Global, words: &[(usize, u64)]) -> Result<Vec<u64>, AllocError> {
-    let mut image = format(alloc, 2)?;
+    let mut image = empty(alloc, 2)?;
     for (at, value) in TABLE_AND_NODES.iter().chain(words) {
         if let Some(word) = image.get_mut(*at) {
             *word = *value;

@@ -1,10 +1,10 @@
 //! What the requests answer, and what is read back from the images that are left.
 use crate::asks::{Ask, MANY, found_in, held_in, is_after, run, set, value_of};
 use crate::checks::must_hold;
+use crate::recoveries::empty;
 use crate::standing::Standing;
 use block_heap::{AllocFault, Looks};
 use line_memory::ConstantChance;
-use region_header::format;
 use std::alloc::{AllocError, Global};
 use std::process::Abort;
 use std::test::Fail;
@@ -19,7 +19,7 @@ fn has_a_table_alone(rt: &(impl Abort + AllocGlobal), image: &[u64]) -> Result<(
 #[test]
 fn a_put_without_room_for_its_node_leaves_a_table(rt: HostRuntime) -> Result<(), Fail> {
     let alloc = rt.alloc();
-    let image = format(alloc, 1)?;
+    let image = empty(alloc, 1)?;
     let mut heap = Standing::open(alloc, &image, MANY, ConstantChance(0))?;
     let full = AllocFault::Full(Looks {
         class_head: 0,
@@ -60,7 +60,7 @@ fn stop_put(
 
 /// Stops a put at each step until it is done: from some step on the value is the new one.
 fn stop_each_put(rt: &(impl Abort + AllocGlobal), number: u64) -> Result<(), Fail> {
-    let fresh = format(rt.alloc(), 4)?;
+    let fresh = empty(rt.alloc(), 4)?;
     let first = run(rt.alloc(), &fresh, &OLD, (MANY, number))?;
     let mut was_new = false;
     for budget in 0..1_000u64 {
@@ -104,7 +104,7 @@ fn replaces(
 
 #[test]
 fn values_of_each_length_replace_one_another(rt: HostRuntime) -> Result<(), Fail> {
-    let image = format(rt.alloc(), 8)?;
+    let image = empty(rt.alloc(), 8)?;
     for before in LENGTHS {
         for after in LENGTHS {
             replaces(&rt, &image, u64::MAX, (before, after))?;
@@ -154,7 +154,7 @@ fn gets_nothing(rt: &impl Abort, heap: &mut Standing<ConstantChance>, key: u64) 
 /// Asks for values of each length under the key, and then for a key that is not there.
 fn gets_each(rt: &(impl Abort + AllocGlobal), key: u64) -> Result<(), Fail> {
     let alloc = rt.alloc();
-    let image = format(alloc, 16)?;
+    let image = empty(alloc, 16)?;
     let mut heap = Standing::open(alloc, &image, MANY, ConstantChance(0))?;
     for len in LENGTHS {
         fits_each(rt, alloc, &mut heap, (key, len))?;
@@ -180,7 +180,7 @@ fn leaves_its_chain(rt: &(impl Abort + AllocGlobal), gone: u64) -> Result<(), Fa
         Ask::Del(gone),
         Ask::Del(3_072),
     ];
-    let left = run(alloc, &format(alloc, 4)?, &asks, (MANY, 1))?;
+    let left = run(alloc, &empty(alloc, 4)?, &asks, (MANY, 1))?;
     must_hold(rt, left.answered == 6, "all are answered");
     let is_left = is_after(alloc, &left.closed.kept, &asks, 6)?;
     must_hold(rt, is_left, "the two others");
@@ -229,7 +229,7 @@ fn script(alloc: Global, count: usize, seed: u64) -> Result<Vec<Ask>, AllocError
 fn answers_as_a_map(rt: &(impl Abort + AllocGlobal), seed: u64, number: u64) -> Result<(), Fail> {
     let alloc = rt.alloc();
     let asks = script(alloc, 300, seed)?;
-    let left = run(alloc, &format(alloc, 16)?, &asks, (MANY, number))?;
+    let left = run(alloc, &empty(alloc, 16)?, &asks, (MANY, number))?;
     must_hold(rt, left.answered == 300, "all are answered");
     let is_now = is_after(alloc, &left.closed.now, &asks, 300)?;
     let is_kept = is_after(alloc, &left.closed.kept, &asks, 300)?;
@@ -267,7 +267,7 @@ fn stop_script(rt: &(impl Abort + AllocGlobal), image: &[u64], budget: u64) -> R
 
 #[test]
 fn a_stopped_script_leaves_the_map_before_or_after(rt: HostRuntime) -> Result<(), Fail> {
-    let image = format(rt.alloc(), 1)?;
+    let image = empty(rt.alloc(), 1)?;
     for step in 0..20_000u64 {
         if stop_script(&rt, &image, 3 * step)? {
             return Ok(());

@@ -10,6 +10,7 @@ const TABLE: &str = "used 2, info:0 12, info:1 2, root:0 @1080, 1080 @9272";
 
 /// The words of an empty image of so many superblocks, one to four, or of one of two with that
 /// table.
+#[tactic(auto, unfolding(heap_model::specs::Geometry::largest_capacity))]
 fn base_words(alloc: Global, base: &str) -> Result<Vec<u64>, Fail> {
     if base == "table" {
         return image_of(alloc, 2, TABLE);

@@ -2,7 +2,7 @@
 //! at each step, and with each call of the outside failing; schedules replayed; and images with
 //! words that no run leaves. The crate is nothing but these, so that a change of the tool's texts
 //! or of its other commands leaves them alone.
-#![tactic(auto, unfolding(heap_model::specs::Geometry::largest_capacity))]
+#![tactic(auto)]
 
 #[cfg(test)]
 mod damage;
