@@ -2,8 +2,8 @@
 ghost use Rattle.std.specs.Prelude.{◌≤◌};
 
 use crate::drains::drained;
-use crate::fixtures::{at, free_at, must_equal, must_hold, offset_of, opened};
-use block_heap::{AllocFault, Block, HeapSeat, Looks, SeqHeap};
+use crate::fixtures::{ask, at, free_at, must_equal, must_hold, offset_of, opened};
+use block_heap::{AllocFault, Block, Looks, SeqHeap};
 use line_memory::ConstantChance;
 use size_table::{SizeClass, blocks_of, size_of};
 use std::alloc::{AllocError, Global};
@@ -15,7 +15,7 @@ use super_block::{LAST_CLASS, SUPERBLOCK_WORDS, WORD_BYTES};
 fn must_give(rt: &impl Abort, heap: &mut SeqHeap<ConstantChance>, bytes: u64, first_word: u64) {
     let words = SUPERBLOCK_WORDS * 2;
     let wanted = Block { first_word, words };
-    let given = heap.alloc(bytes).ok();
+    let given = ask(heap, bytes).ok();
     must_hold(rt, given == Some(wanted), "a block is given");
 }
 
@@ -27,7 +27,7 @@ fn must_be_full(rt: &impl Abort, heap: &mut SeqHeap<ConstantChance>, bytes: u64,
         used,
     };
     let wanted = Err(AllocFault::Full(looks));
-    must_hold(rt, heap.alloc(bytes) == wanted, "there is no room");
+    must_hold(rt, ask(heap, bytes) == wanted, "there is no room");
 }
 
 #[test]
@@ -39,7 +39,7 @@ fn large_blocks_are_taken_from_those_never_taken(rt: HostRuntime) -> Result<(), 
     must_hold(&rt, heap.held_at(8_768).is_none(), "the block was freed");
     must_give(&rt, &mut heap, 65_537, 17_480);
     must_be_full(&rt, &mut heap, 65_537, 4);
-    let small = heap.alloc(16)?;
+    let small = ask(&mut heap, 16)?;
     let is_in_freed = 1_096 <= small.first_word && small.first_word < 17_480;
     must_hold(&rt, small.words == 2 && is_in_freed, "a small block");
     Ok(())
@@ -52,11 +52,11 @@ fn bytes_of(class: SizeClass) -> u64 {
 
 /// The offset of one block more of so many bytes, or `None` where there is no room.
 fn next_offset(heap: &mut SeqHeap<ConstantChance>, bytes: u64) -> Result<Option<u64>, Fail> {
-    let given = heap.alloc(bytes);
-    if let Err(AllocFault::Full(_)) = given {
-        return Ok(None);
+    match ask(heap, bytes) {
+        Ok(b) => Ok(Some(offset_of(b))),
+        Err(AllocFault::Full(_)) => Ok(None),
+        Err(AllocFault::Stopped(at)) => Err(at.into()),
     }
-    Ok(Some(offset_of(given?)))
 }
 
 /// Allocates in the class until there is no room, and gives the offsets of the blocks.
@@ -156,7 +156,7 @@ fn take_and_free(
 ) -> Result<(), Fail> {
     let mut offsets = Vec::new(alloc);
     for _ in 0..count {
-        offsets.push(offset_of(heap.alloc(14_336)?))?;
+        offsets.push(offset_of(ask(heap, 14_336)?))?;
     }
     for offset in &offsets {
         free_at(heap, *offset)?;
@@ -172,8 +172,8 @@ fn answers(alloc: Global, capacity: u64, count: u64, bytes: u64) -> Result<(bool
 {
     let mut heap = opened(alloc, capacity, "", 0)?;
     take_and_free(alloc, &mut heap, count)?;
-    let gives_small = heap.alloc(16).is_ok();
-    Ok((gives_small, heap.alloc(bytes).is_ok()))
+    let gives_small = ask(&mut heap, 16).is_ok();
+    Ok((gives_small, ask(&mut heap, bytes).is_ok()))
 }
 
 #[test]

@@ -1,9 +1,9 @@
 //! Heaps over recovered images, for the tests, and what they must have.
 ghost use Rattle.std.specs.Prelude.{◌≤◌};
 
-use block_heap::{Block, HeapSeat, SeqHeap};
+use block_heap::{AllocFault, Block, HeapSeat, SeqHeap};
 use dictionary::{DictFilter, root_kinds};
-use heap_recover::recover;
+use heap_recover::{RecoverFault, Recovered, recover};
 use image_text::{image_of, number};
 use line_memory::ConstantChance;
 use std::alloc::Global;
@@ -21,7 +21,12 @@ pub fn recovered(alloc: Global, capacity: u64, words: &str) -> Result<Ready, Fai
     requires small { capacity ≤ 4 }
 {
     let image = image_of(alloc, capacity, words)?;
-    Ok(recover(alloc, &image, &root_kinds(), &DictFilter)?.heap)
+    Ok(recovery(alloc, &image)?.heap)
+}
+
+/// What recovery answers, without what it ensures of that.
+fn recovery(alloc: Global, image: &[u64]) -> Result<Recovered, RecoverFault> {
+    recover(alloc, image, &root_kinds(), &DictFilter)
 }
 
 /// A heap over it, whose draws give this number.
@@ -64,6 +69,12 @@ pub fn at(numbers: &[u64], place: usize) -> u64 {
 /// Where the block begins, in bytes.
 pub fn offset_of(b: Block) -> u64 {
     b.first_word.wrapping_mul(WORD_BYTES)
+}
+
+/// Asks for so many bytes. What a block's request ensures is much to carry through a `match`, and
+/// no test needs it.
+pub fn ask(heap: &mut SeqHeap<ConstantChance>, bytes: u64) -> Result<Block, AllocFault> {
+    heap.alloc(bytes)
 }
 
 /// Frees the held block that begins at the byte offset.

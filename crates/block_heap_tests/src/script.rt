@@ -15,7 +15,7 @@ ghost use Rattle.std.specs.Prelude.{Contains, IfOk};
 ghost use Rattle.heap_seat.specs.Words.{IsOwnSpot};
 ghost use Rattle.block_heap.specs.SeqState.{seat_of};
 
-use crate::fixtures::{at, numbers, offset_of};
+use crate::fixtures::{ask, at, numbers, offset_of};
 use block_heap::{AllocFault, Block, HeapSeat, SeqHeap, Spot, Stopped};
 use line_memory::ConstantChance;
 use std::alloc::Global;
@@ -56,7 +56,7 @@ fn allocate(
     given: &mut Vec<Option<Block>>,
     bytes: u64,
 ) -> Result<Option<Stopped>, Fail> {
-    match heap.alloc(bytes) {
+    match ask(heap, bytes) {
         Ok(b) => given.push(Some(b))?,
         Err(AllocFault::Full(_)) => given.push(None)?,
         Err(AllocFault::Stopped(at)) => return Ok(Some(at)),
