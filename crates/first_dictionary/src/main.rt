@@ -1,6 +1,6 @@
 //! The first user of the dictionary: it sets, reads and takes out keys on a heap in memory, is
 //! stopped in the middle of a put, and reads what a crash leaves.
-#![tactic(auto, unfolding(heap_model::specs::Geometry::largest_capacity))]
+#![tactic(auto)]
 
 ghost use Rattle.std.specs.Prelude.{IfOk};
 ghost use Rattle.block_heap.specs.SeqState.{seat_of};
@@ -55,6 +55,7 @@ fn tell(rt: &HostRuntime, kept: &[u64]) -> Result<(), Fail> {
     Ok(())
 }
 
+#[tactic(auto, unfolding(heap_model::specs::Geometry::largest_capacity))]
 fn main(rt: HostRuntime) -> Result<(), Fail> {
     let alloc = rt.alloc();
     let mut heap = open(alloc, &format(alloc, 2)?)?;
