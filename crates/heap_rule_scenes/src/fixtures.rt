@@ -7,7 +7,7 @@ ghost use Rattle.heap_rule_scenes.specs.Scenes.{HaveNoSpareBlocks, HasNoSpareBlo
 
 use crash_core::{Core, Owners};
 use dictionary::{DictFilter, root_kinds};
-use heap_recover::recover;
+use heap_recover::{RecoverFault, Recovered, recover};
 use heap_rule::{Seat, Shared, close_shared, open_shared};
 use image_text::image_of;
 use line_memory::Closed;
@@ -25,7 +25,12 @@ pub fn recovered(alloc: Global, capacity: u64, words: &str) -> Result<Ready, Fai
     requires small { capacity ≤ 4 }
 {
     let image = image_of(alloc, capacity, words)?;
-    Ok(recover(alloc, &image, &root_kinds(), &DictFilter)?.heap)
+    Ok(recovery(alloc, &image)?.heap)
+}
+
+/// What recovery answers, without what it ensures of that, which is much to carry through a `?`.
+pub fn recovery(alloc: Global, image: &[u64]) -> Result<Recovered, RecoverFault> {
+    recover(alloc, image, &root_kinds(), &DictFilter)
 }
 
 /// So many numbers of seats, in turn.

@@ -3,7 +3,7 @@
 ghost use Rattle.std.specs.Prelude.{◌<◌};
 
 use crate::fixtures::{MANY, recovered};
-use crate::rows::{has_words, must_answer, must_hold, shows_each};
+use crate::rows::{must_answer, must_hold, must_leave, shows_each};
 use crate::scene::{Scene, play};
 use line_memory::Closed;
 use std::process::Abort;
@@ -32,8 +32,7 @@ const WORDS: &str = "used 1, 36 16777216, info:0 20, anchor:0 2, link:0 0, 1072 
 #[test]
 fn blocks_are_given_back_and_taken_by_two_seats(rt: HostRuntime) -> Result<(), Fail> {
     let left = must_trade(&rt, MANY)?;
-    must_hold(&rt, has_words(&left.now, WORDS)?, WORDS);
-    Ok(())
+    must_leave(&rt, &left.now, WORDS)
 }
 
 /// The draw of a lift, a look at an anchor and a give; of a link and a push; of a pop and of the

@@ -7,32 +7,27 @@ ghost use Rattle.std.specs.Prelude.{◌≤◌};
 
 use crate::fixtures::{MANY, recovered};
 use crate::scene::{Scene, play};
-use image_text::number;
+use image_text::{change, number};
+use std::alloc::Global;
 use std::process::Abort;
 use std::test::Fail;
 
-/// Whether a word is as a text tells, as `used 1`.
-fn has_word(words: &[u64], told: &str) -> Result<bool, Fail> {
-    let (word, value) = told.split_once(' ').ok_or("no word and value")?;
-    Ok(words.get(number(word)? as usize).copied() == Some(number(value)?))
-}
-
-/// Whether all words are as a text tells.
-pub fn has_words(words: &[u64], told: &str) -> Result<bool, Fail> {
-    if told == "-" {
-        return Ok(true);
-    }
-    for word in told.split(", ") {
-        if !has_word(words, word)? {
-            return Ok(false);
-        }
-    }
-    Ok(true)
+/// Whether all words are as a text tells, as `used 1`: to write them changes nothing.
+fn has_words(alloc: Global, words: &[u64], told: &str) -> Result<bool, Fail> {
+    let mut written = Vec::from_slice(alloc, words)?;
+    change(&mut written, told)?;
+    Ok(written.as_slice() == words)
 }
 
 /// Asserts what the row tells.
 pub fn must_hold(rt: &impl Abort, holds: bool, row: &str) {
     assert!(rt; holds, "{row}");
+}
+
+/// Asserts that the words are as the text tells.
+pub fn must_leave(rt: &(impl Abort + AllocGlobal), words: &[u64], told: &str) -> Result<(), Fail> {
+    must_hold(rt, has_words(rt.alloc(), words, told)?, told);
+    Ok(())
 }
 
 /// Asserts that seats are answered so.
@@ -56,13 +51,8 @@ fn show(
     let heap = recovered(rt.alloc(), capacity, words)?;
     let (answer, left) = play(rt.alloc(), scene, heap, budget)?;
     must_answer(rt, &answer, columns.next().unwrap_or(""));
-    must_hold(rt, has_words(&left.now, columns.next().unwrap_or(""))?, row);
-    must_hold(
-        rt,
-        has_words(&left.kept, columns.next().unwrap_or(""))?,
-        row,
-    );
-    Ok(())
+    must_leave(rt, &left.now, columns.next().unwrap_or(""))?;
+    must_leave(rt, &left.kept, columns.next().unwrap_or(""))
 }
 
 /// Plays a scene once for each row, over a heap of up to four superblocks, with these words.

@@ -2,10 +2,9 @@
 
 ghost use Rattle.std.specs.Prelude.{◌≤◌, ◌<◌};
 
+use crate::fixtures::recovery;
 use crate::plain::{class_pops, size_of, wrong_with};
 use crate::rows::must_hold;
-use dictionary::{DictFilter, root_kinds};
-use heap_recover::recover;
 use heap_rule_threads::{Ended, Plan, Report, Task, work_together};
 use image_text::image_of;
 use std::alloc::{AllocError, Global};
@@ -22,7 +21,7 @@ const MANY: u64 = 1_000_000_000;
 
 /// What recovery makes of these words.
 fn recovered(alloc: Global, words: &[u64]) -> Result<Ready, Fail> {
-    Ok(recover(alloc, words, &root_kinds(), &DictFilter)?.heap)
+    Ok(recovery(alloc, words)?.heap)
 }
 
 /// What threads leave that work on an empty heap with these changes.
