@@ -30,19 +30,24 @@ fn must_be_full(rt: &impl Abort, heap: &mut SeqHeap<ConstantChance>, bytes: u64,
     must_hold(rt, ask(heap, bytes) == wanted, "there is no room");
 }
 
+/// Takes large blocks of a heap of four superblocks until there is no room, and a small one.
+fn take_large(rt: &impl Abort, heap: &mut SeqHeap<ConstantChance>) -> Result<(), Fail> {
+    must_give(rt, heap, 65_537, 1_096);
+    must_be_full(rt, heap, 131_073, 2);
+    free_at(heap, 8_768)?;
+    must_hold(rt, heap.held_at(8_768).is_none(), "the block was freed");
+    must_give(rt, heap, 65_537, 17_480);
+    must_be_full(rt, heap, 65_537, 4);
+    let small = ask(heap, 16)?;
+    let is_in_freed = 1_096 <= small.first_word && small.first_word < 17_480;
+    must_hold(rt, small.words == 2 && is_in_freed, "a small block");
+    Ok(())
+}
+
 #[test]
 fn large_blocks_are_taken_from_those_never_taken(rt: HostRuntime) -> Result<(), Fail> {
     let mut heap = opened(rt.alloc(), 4, "", 0)?;
-    must_give(&rt, &mut heap, 65_537, 1_096);
-    must_be_full(&rt, &mut heap, 131_073, 2);
-    free_at(&mut heap, 8_768)?;
-    must_hold(&rt, heap.held_at(8_768).is_none(), "the block was freed");
-    must_give(&rt, &mut heap, 65_537, 17_480);
-    must_be_full(&rt, &mut heap, 65_537, 4);
-    let small = ask(&mut heap, 16)?;
-    let is_in_freed = 1_096 <= small.first_word && small.first_word < 17_480;
-    must_hold(&rt, small.words == 2 && is_in_freed, "a small block");
-    Ok(())
+    take_large(&rt, &mut heap)
 }
 
 /// How many bytes a block of the class has.
@@ -118,6 +123,45 @@ fn free_all(heap: &mut SeqHeap<ConstantChance>, offsets: &[u64], order: u64) -> 
     Ok(())
 }
 
+/// Asserts that these are all offsets.
+fn must_be_all(
+    rt: &(impl Abort + AllocGlobal),
+    given: &[u64],
+    all: &[u64],
+) -> Result<(), AllocError> {
+    let mut sorted = Vec::from_slice(rt.alloc(), given)?;
+    sorted.sort()?;
+    must_equal(rt, &sorted, all, "given");
+    Ok(())
+}
+
+/// Frees the given blocks in the order: the heap has all of them then.
+fn has_all(
+    rt: &(impl Abort + AllocGlobal),
+    heap: &mut SeqHeap<ConstantChance>,
+    class: SizeClass,
+    (given, order): (&[u64], u64),
+    all: &[u64],
+) -> Result<(), Fail> {
+    free_all(heap, given, order)?;
+    let left = drained(rt.alloc(), heap, class)?;
+    must_equal(rt, &left, all, "drained");
+    Ok(())
+}
+
+/// Fills a heap with blocks of the class, each of all once, and frees them in the order.
+fn fill_and_free(
+    rt: &(impl Abort + AllocGlobal),
+    heap: &mut SeqHeap<ConstantChance>,
+    class: SizeClass,
+    order: u64,
+    all: &[u64],
+) -> Result<(), Fail> {
+    let given = filled(rt.alloc(), heap, class)?;
+    must_be_all(rt, &given, all)?;
+    has_all(rt, heap, class, (&given, order), all)
+}
+
 /// Fills a heap of two superblocks with blocks of the class, and frees them in the order: it gives
 /// each of all blocks once, and has each then.
 fn gives_each_once(
@@ -127,13 +171,7 @@ fn gives_each_once(
     all: &[u64],
 ) -> Result<(), Fail> {
     let mut heap = opened(rt.alloc(), 2, "", order % 2)?;
-    let given = filled(rt.alloc(), &mut heap, class)?;
-    let mut sorted = Vec::from_slice(rt.alloc(), &given)?;
-    sorted.sort()?;
-    must_equal(rt, &sorted, all, "given");
-    free_all(&mut heap, &given, order)?;
-    must_equal(rt, &drained(rt.alloc(), &mut heap, class)?, all, "drained");
-    Ok(())
+    fill_and_free(rt, &mut heap, class, order, all)
 }
 
 #[test]

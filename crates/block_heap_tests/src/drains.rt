@@ -48,18 +48,28 @@ fn class_of(number: u64) -> Result<SizeClass, Fail> {
     Err("no class".into())
 }
 
-/// Drains a heap of these words, where each block is found once.
-fn must_drain(rt: &(impl Abort + AllocGlobal), words: &str, wanted: &str) -> Result<(), Fail> {
-    let wanted = numbers(rt.alloc(), wanted)?;
-    let mut heap = opened(rt.alloc(), 2, words, 1)?;
-    let class = class_of(at(&wanted, 0))?;
-    let mut offsets = drained(rt.alloc(), &mut heap, class)?;
+/// The offsets of all free blocks of the class in a heap of these words, in order.
+fn drained_of(alloc: Global, words: &str, class: SizeClass) -> Result<Vec<u64>, Fail> {
+    let mut heap = opened(alloc, 2, words, 1)?;
+    drained(alloc, &mut heap, class)
+}
+
+/// Asserts what the offsets of the class are, each of which is found once.
+fn must_be(rt: &impl Abort, mut offsets: Vec<u64>, class: SizeClass, wanted: &[u64], words: &str) {
     let count = offsets.len();
     let last = at(&offsets, count.wrapping_sub(1));
     let found = [u64::from(class.number), count as u64, at(&offsets, 0), last];
-    must_equal(rt, &found, &wanted, words);
+    must_equal(rt, &found, wanted, words);
     offsets.dedup();
     must_equal(rt, &[offsets.len() as u64], &[count as u64], words);
+}
+
+/// Drains a heap of these words, where each block is found once.
+fn must_drain(rt: &(impl Abort + AllocGlobal), words: &str, wanted: &str) -> Result<(), Fail> {
+    let wanted = numbers(rt.alloc(), wanted)?;
+    let class = class_of(at(&wanted, 0))?;
+    let offsets = drained_of(rt.alloc(), words, class)?;
+    must_be(rt, offsets, class, &wanted, words);
     Ok(())
 }
 

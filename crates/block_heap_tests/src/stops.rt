@@ -20,22 +20,35 @@ store 0 2 5
 write-back 0 2
 free 0";
 
-#[test]
-fn a_heap_that_stopped_answers_its_ticket(rt: HostRuntime) -> Result<(), Fail> {
-    let alloc = rt.alloc();
-    let ready = recovered(alloc, 2, "used 1, info:0 4, root:8 @1080")?;
-    let mut heap = SeqHeap::new(alloc, ready, 0, ConstantChance(1))?;
-    let block = Block {
-        first_word: 1_080,
-        words: 8,
-    };
-    let mut given = vec![in alloc; Some(block); 1]?;
+/// The one block of that heap.
+const BLOCK: Block = Block {
+    first_word: 1_080,
+    words: 8,
+};
+
+/// Asserts that the heap answers its ticket to each request.
+fn must_answer(
+    rt: &(impl Abort + AllocGlobal),
+    heap: &mut SeqHeap<ConstantChance>,
+) -> Result<(), Fail> {
+    let mut given = vec![in rt.alloc(); Some(BLOCK); 1]?;
     let stopped = Some(Stopped { step: 0 });
     for line in EACH_KIND.split('\n') {
-        let answer = make(alloc, &mut heap, &mut given, line)?;
-        must_hold(&rt, answer == stopped, line);
+        must_hold(
+            rt,
+            make(rt.alloc(), heap, &mut given, line)? == stopped,
+            line,
+        );
     }
-    must_hold(&rt, heap.held_at(8_640) == Some(block), "it is held");
+    Ok(())
+}
+
+#[test]
+fn a_heap_that_stopped_answers_its_ticket(rt: HostRuntime) -> Result<(), Fail> {
+    let ready = recovered(rt.alloc(), 2, "used 1, info:0 4, root:8 @1080")?;
+    let mut heap = SeqHeap::new(rt.alloc(), ready, 0, ConstantChance(1))?;
+    must_answer(&rt, &mut heap)?;
+    must_hold(&rt, heap.held_at(8_640) == Some(BLOCK), "it is held");
     has_no_other(&rt, &heap)
 }
 
