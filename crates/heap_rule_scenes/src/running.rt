@@ -143,11 +143,26 @@ fn must_find<R: Threads + Sync + AllocGlobal + Abort>(
     must_hold(rt, are_done(&ended.reports), "no thread stops");
     let pops = class_pops(&ended.left.now);
     must_hold(rt, threads > 1 || pops > 0, "there are pops");
-    let held = told(rt.alloc(), &ended, false)?;
-    must_recover(rt, &ended.left.kept, &held)?;
-    let found = must_recover(rt, &ended.left.now, &held)?;
-    must_be_sound(rt, &ended.left.now, &held, threads)?;
-    must_be_sound(rt, found.words(), &held, 0)
+    finds_told(rt, &ended, threads)
+}
+
+/// Recovery finds what so many threads tell that they hold.
+fn finds_told(rt: &(impl Abort + AllocGlobal), ended: &Ended, threads: usize) -> Result<(), Fail> {
+    let held = told(rt.alloc(), ended, false)?;
+    finds_held(rt, ended, &held, threads)
+}
+
+/// Recovery finds that these blocks are held, in what loads saw and in what a crash leaves.
+fn finds_held(
+    rt: &(impl Abort + AllocGlobal),
+    ended: &Ended,
+    held: &[Block],
+    threads: usize,
+) -> Result<(), Fail> {
+    must_recover(rt, &ended.left.kept, held)?;
+    must_be_sound(rt, &ended.left.now, held, threads)?;
+    let found = must_recover(rt, &ended.left.now, held)?;
+    must_be_sound(rt, found.words(), held, 0)
 }
 
 #[test]
@@ -183,11 +198,30 @@ fn must_keep<R: Threads + Sync + AllocGlobal + Abort>(
     let ended = acted(rt, threads, budget, seed)?;
     must_hold(rt, !are_done(&ended.reports), "a thread stops");
     let held = told(rt.alloc(), &ended, false)?;
-    let published = told(rt.alloc(), &ended, true)?;
-    let left = recovered(rt.alloc(), &ended.left.kept)?;
-    must_hold(rt, are_among(&published, left.held()), "published blocks");
-    must_hold(rt, are_among(left.held(), &held), "held blocks");
     must_be_sound(rt, &ended.left.now, &held, threads)?;
+    keeps_published(rt, &ended, &held)
+}
+
+/// A crash leaves the blocks that are published, and none that is not among these.
+fn keeps_published(
+    rt: &(impl Abort + AllocGlobal),
+    ended: &Ended,
+    held: &[Block],
+) -> Result<(), Fail> {
+    let published = told(rt.alloc(), ended, true)?;
+    must_keep_both(rt, &ended.left.kept, &published, held)
+}
+
+/// Recovery of the words holds the published blocks, and none but the held ones.
+fn must_keep_both(
+    rt: &(impl Abort + AllocGlobal),
+    words: &[u64],
+    published: &[Block],
+    held: &[Block],
+) -> Result<(), Fail> {
+    let left = recovered(rt.alloc(), words)?;
+    must_hold(rt, are_among(published, left.held()), "published blocks");
+    must_hold(rt, are_among(left.held(), held), "held blocks");
     must_be_sound(rt, left.words(), left.held(), 0)
 }
 
