@@ -122,7 +122,7 @@ fn place_of(told: &str) -> Result<(u64, u64, &str), Fail> {
     Ok((number(superblock)?, number(index)?, rest))
 }
 
-/// Asserts that the block has been reached as just these kinds, and so the block with the number:
+/// Asserts that the block has been reached as just these kinds, and so the block with the index:
 /// superblock, index, block and kinds are told as in `0.1 1100/4 12`.
 fn must_be_reached(rt: &(impl Abort + AllocGlobal), marks: &Marks, told: &str) -> Result<(), Fail> {
     let (superblock, index, rest) = place_of(told)?;

@@ -5,7 +5,7 @@ use Rattle.heap_model.specs.Image.{Image}
 use Rattle.heap_model.specs.Blocks.{Layout}
 use Rattle.heap_model.specs.Reach.{Links, Reach, IsOutside}
 use Rattle.super_block.specs.Division.{Divisions}
-use Rattle.super_block.specs.Numbered.{IsNumbered}
+use Rattle.super_block.specs.Index.{HasIndex}
 use Rattle.filter_trace.specs.declared.fault.TraceFault.{TraceFault}
 use Rattle.filter_trace.specs.declared.fault.TraceFault.TheVariants.{Outside, Memory}
 
@@ -22,7 +22,7 @@ pub record AreReached (image : Image) (kinds : ℕ → ℕ) (links : Links) (pai
 pub record IsReachedAt (l : Layout) (pairs : List (Block × ℕ)) (d index : ℕ) : Type 0 where
   pub block : Block
   pub kind : ℕ
-  pub numbered : IsNumbered l d index block
+  pub indexed : HasIndex l d index block
   pub pair : Contains pairs (block, kind)
 
 -- the fault tells a word that is outside, and its value; of want of memory nothing is said

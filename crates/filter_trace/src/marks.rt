@@ -42,8 +42,8 @@ impl Marks {
     }
 
     /// Whether the block with the index in the superblock has been reached. The blocks of a class
-    /// are counted from 0, and a large block is number 0 of its first superblock; where the
-    /// superblock begins no such block the answer is no. Time grows with the number of kinds.
+    /// are counted from 0, and a large block has index 0 in its first superblock; where the
+    /// superblock begins no such block the answer is no. Time grows with how many kinds there are.
     pub fn holds(&self, superblock: u64, index: u64) -> bool
         ensures { (l : Layout) → Describes self.now.directory l
             → (IsTrue result ↔ IsReachedAt l self.now.pairs superblock index) }

@@ -10,8 +10,8 @@ use Rattle.heap_model.specs.Recovered.{IsBlockOfClass}
 use Rattle.heap_model.specs.Blocks.{Layout, of_class, IsBlockOf, IsBlock}
 use Rattle.heap_model.proofs.BlockLemmas.{block_step, some_words, begins_inside}
 use Rattle.heap_model.proofs.SizeLemmas.{two_words}
-use Rattle.super_block.specs.Numbered.{IsNumbered}
-use Rattle.super_block.proofs.NumberLemmas.{same_number}
+use Rattle.super_block.specs.Index.{HasIndex}
+use Rattle.super_block.proofs.IndexLemmas.{same_index}
 use Rattle.filter_trace.specs.Reached.{IsReachedAt}
 use Rattle.heap_recover.specs.Marked.{IsMarked, IsKeptAmong, IsSpareAmong, AreParted}
 use Rattle.heap_recover.proofs.AscendingLemmas.{ascending_none, ascending_same, ascending_push}
@@ -106,17 +106,17 @@ module _ (kept : Block → Type 0) (capacity class d : ℕ) (is : IsClass class)
           inr (subst (λ (y : Block). Contains (spares ++ b.first_word ∷ []) y.first_word) (sym same) (Contains-push spares b.first_word))
     ]
 
--- a block of the class that the superblock has is a block of the layout with that number
-pub class_number : (l : Layout) (class d index : ℕ) (b : Block) → d < l.used → l.info d ≡ class → IsClass class → IsBlockOfClass l.capacity class d index b → IsNumbered l d index b
-class_number l class d index b taken info is of = record {
+-- a block of the class that the superblock has is a block of the layout with that index
+pub class_index : (l : Layout) (class d index : ℕ) (b : Block) → d < l.used → l.info d ≡ class → IsClass class → IsBlockOfClass l.capacity class d index b → HasIndex l d index b
+class_index l class d index b taken info is of = record {
   words = words_of_class class;
   count = blocks_of class;
   is_of = record { taken = taken; begins = of_class class info is; below = of.below; at = of.at; size = of.size };
 }
 
--- a block that begins with its superblock has the number 0
-pub first_number : (l : Layout) (b : Block) (d : ℕ) → IsBlock l b → b.first_word ≡ start_word l.capacity d → IsNumbered l d 0 b
-first_number l b d is first =
+-- a block that begins with its superblock has index 0
+pub first_index : (l : Layout) (b : Block) (d : ℕ) → IsBlock l b → b.first_word ≡ start_word l.capacity d → HasIndex l d 0 b
+first_index l b d is first =
     let of = is.is_of in
     let inside = begins_inside l is.superblock is.index is.words is.count of.begins of.below in
     let some = some_words l is.superblock is.words is.count of.begins in
@@ -131,14 +131,14 @@ first_number l b d is first =
       is_of = subst (λ e. IsBlockOf l b e 0 is.words is.count) superblock (subst (λ i. IsBlockOf l b is.superblock i is.words is.count) index of);
     }
 
--- the answer of the marks decides whether the block with the number is marked
-pub marked_if : (l : Layout) (pairs : List (Block × ℕ)) (d index : ℕ) (b : Block) (answer : Bool) → IsNumbered l d index b
+-- the answer of the marks decides whether the block with the index is marked
+pub marked_if : (l : Layout) (pairs : List (Block × ℕ)) (d index : ℕ) (b : Block) (answer : Bool) → HasIndex l d index b
     → (IsTrue answer ↔ IsReachedAt l pairs d index) → answer ≡ true → IsMarked pairs b
-marked_if l pairs d index b answer numbered says is =
+marked_if l pairs d index b answer indexed says is =
     let at = says.0 is in
-    record { kind = at.kind; pair = subst (λ x. Contains pairs (x, at.kind)) (same_number l d index at.block b at.numbered numbered) at.pair }
+    record { kind = at.kind; pair = subst (λ x. Contains pairs (x, at.kind)) (same_index l d index at.block b at.indexed indexed) at.pair }
 
-pub unmarked_if : (l : Layout) (pairs : List (Block × ℕ)) (d index : ℕ) (b : Block) (answer : Bool) → IsNumbered l d index b
+pub unmarked_if : (l : Layout) (pairs : List (Block × ℕ)) (d index : ℕ) (b : Block) (answer : Bool) → HasIndex l d index b
     → (IsTrue answer ↔ IsReachedAt l pairs d index) → answer ≡ false → IsMarked pairs b → ⊥
-unmarked_if l pairs d index b answer numbered says is marked =
-    false≢true (sym is ∙ says.1 (record { block = b; kind = marked.kind; numbered = numbered; pair = marked.pair }))
+unmarked_if l pairs d index b answer indexed says is marked =
+    false≢true (sym is ∙ says.1 (record { block = b; kind = marked.kind; indexed = indexed; pair = marked.pair }))

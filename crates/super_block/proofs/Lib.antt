@@ -1,5 +1,5 @@
 pub mod ConstantLemmas
 pub mod DivisionLemmas
 pub mod NamingLemmas
-pub mod NumberLemmas
+pub mod IndexLemmas
 pub mod DirectoryLemmas

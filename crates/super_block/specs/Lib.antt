@@ -1,6 +1,6 @@
 pub mod Info
 pub mod Links
 pub mod Division
-pub mod Numbered
+pub mod Index
 pub mod Contents
 pub mod Examples

@@ -1,11 +1,12 @@
-//! How each superblock of an image is divided, read once, so that a name is found in constant time.
+//! How each superblock of an image is divided, read once, so that the block of an offset, or of an
+//! index, is found in constant time.
 
 ghost use Rattle.std.specs.Prelude.{◌*◌, length, slice_index, IfOk, IfSome, IfNone};
 ghost use Rattle.heap_model.specs.declared.block.Block.{Block};
 ghost use Rattle.heap_model.specs.Header.{IsWellFormed};
 ghost use Rattle.heap_model.specs.Blocks.{Layout, layout_of, NamesIn};
 ghost use Rattle.super_block.specs.Division.{Describes, DividesTaken, HasRoom};
-ghost use Rattle.super_block.specs.Numbered.{IsNumbered};
+ghost use Rattle.super_block.specs.Index.{HasIndex};
 
 use crate::division::{Division, division_at};
 use crate::layout::{CAPACITY_WORD, USED_WORD};
@@ -67,12 +68,13 @@ impl Directory {
     }
 
     /// The block with the index among those that the superblock begins, counted from 0, or `None`
-    /// where it begins fewer. A large block has the index 0 in the first of its superblocks.
+    /// where the superblock has not been taken or begins no such block. A large block has index 0 in
+    /// the first of its superblocks.
     pub fn block(&self, superblock: u64, index: u64) -> Option<Block>
         ensures some { (l : Layout) → Describes self.now l
-            → IfSome result (IsNumbered l superblock index) }
+            → IfSome result (HasIndex l superblock index) }
         ensures none { (l : Layout) → Describes self.now l
-            → IfNone result ((b : Block) → IsNumbered l superblock index b → ⊥) }
+            → IfNone result ((b : Block) → HasIndex l superblock index b → ⊥) }
     {
         let Some(division) = self.division(superblock) else {
             return None;

@@ -5,7 +5,7 @@ use Rattle.heap_model.specs.Sizes.{IsClass, blocks_of}
 use Rattle.super_block.proofs.DivisionLemmas.{nothing_begins, past_the_end}
 use Rattle.heap_recover.specs.declared.roles.Role.TheVariants.{Large}
 use Rattle.heap_recover.specs.Marked.{IsMarked, AreParted}
-use Rattle.heap_recover.proofs.PartLemmas.{first_number, unmarked_if}
+use Rattle.heap_recover.proofs.PartLemmas.{first_index, unmarked_if}
 use Rattle.heap_recover.proofs.SurveyLemmas.{none_begun, ends_here, free_survey, inside_survey, class_survey, large_survey, large_kept, large_unkept}
 use Rattle.heap_recover.proofs.surveys.survey_superblock.Goals as goal
 use Rattle.heap_recover.proofs.surveys.survey_superblock.Goals.{else-count-used-via-then-count-used+else-holds, else-count-used-via-else-count-used}
@@ -60,7 +60,7 @@ returns-else-count-used g c =
       ok = free_survey l (IsMarked pairs) keeps c.args.d c.args.end taken past c.requires.1.1.1.1.1.1.0
           (elim c.else-count-used.branch [
             | else-count-used-via-then-count-used+else-holds w ↦ large_unkept l (IsMarked pairs) keeps c.args.d c.in-Large.count taken c.in-Large.ensures.0 info block refl refl
-                (λ marked. unmarked_if l pairs c.args.d 0 block w.holds.result (first_number l block c.args.d (keeps.each block marked) refl)
+                (λ marked. unmarked_if l pairs c.args.d 0 block w.holds.result (first_index l block c.args.d (keeps.each block marked) refl)
                 (w.holds.ensures l c.requires.1.1.1.1.1.1.1) w.if-holds.false marked)
             | else-count-used-via-else-count-used w ↦ none_begun l (IsMarked pairs) keeps c.args.d (past_the_end l c.args.d c.in-Large.count info (let less = w.if-count-used.false in omega arith))
           ])
@@ -78,7 +78,7 @@ returns-then-holds g c =
     let first : c.start.result ≡ start_word l.capacity c.args.d = c.start.ensures ∙ ap (λ n. start_word n c.args.d) c.requires.0 in
     let here = (c.holds.ensures l c.requires.1.1.1.1.1.1.1).0 c.if-holds.true in
     let is_kept = large_kept l kept keeps c.args.d c.in-Large.count taken c.in-Large.ensures.0 info block first refl
-    here.block (record { kind = here.kind; pair = here.pair }) (omega (arith, here.numbered.is_of.at, first)) in
+    here.block (record { kind = here.kind; pair = here.pair }) (omega (arith, here.indexed.is_of.at, first)) in
     record {
       ok = large_survey l kept keeps c.args.d c.in-Large.count taken c.in-Large.ensures.0 info c.args.end c.requires.1.1.1.1.1.1.0 block first refl is_kept
           (record { role = Large; held = c.in_ok-vec-in-Large.field-0; spares = c.new.result; end = c.args.d + c.in-Large.count })

@@ -1,12 +1,12 @@
 use Rattle.std.proofs.Common.{◌+◌, ◌*◌, refl, ap, subst, sym, ◌∙◌, arith}
 use Rattle.heap_model.specs.Geometry.{start_word}
 use Rattle.super_block.specs.Division.{Divisions, Describes}
-use Rattle.super_block.proofs.NumberLemmas.{number_below}
+use Rattle.super_block.proofs.IndexLemmas.{index_below}
 use Rattle.super_block.proofs.directory.Directory.block.Goals as goal
 
 pub returns-then-index-division-clause-none : goal.returns-then-index-division-clause-none
-returns-then-index-division-clause-none c l is b numbered =
-    let below = number_below l c.args.superblock c.args.index c.in-Some.division b (c.in-Some.ensures.divided l is).1 numbered in
+returns-then-index-division-clause-none c l is b indexed =
+    let below = index_below l c.args.superblock c.args.index c.in-Some.division b (c.in-Some.ensures.divided l is).1 indexed in
     omega (arith, below, c.if-index-division.true)
 
 pub returns-clause-some : goal.returns-clause-some
