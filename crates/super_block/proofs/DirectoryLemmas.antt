@@ -8,7 +8,7 @@ use Rattle.heap_model.specs.Blocks.{Layout, Begins, of_class, as_large, NamesIn}
 use Rattle.heap_model.proofs.BlockLemmas.{some_words}
 use Rattle.heap_model.proofs.SizeLemmas.{blocks_fit}
 use Rattle.super_block.specs.declared.division.Division.{Division}
-use Rattle.super_block.specs.Division.{Divisions, Describes, DividesAs, DividesTaken, DividesFirst, HasRoom, IsPlaceOf}
+use Rattle.super_block.specs.Division.{Divisions, Describes, DividesAs, DividesTaken, DividesFirst, FitsIn, IsPlaceOf}
 use Rattle.super_block.specs.declared.naming.Place.{Place}
 use Rattle.super_block.proofs.NamingLemmas.{placed_block}
 
@@ -33,7 +33,7 @@ few_words : (l : Layout) (d w n : ℕ) → l.used ≤ l.capacity → d < l.used 
 few_words l d w n used taken (of_class c e is) = omega (arith, blocks_fit c is)
 few_words l d w n used taken (as_large k some e end zeros) = omega arith
 
-begun_room : (l : Layout) (d : ℕ) (found : Option Division) → l.used ≤ l.capacity → d < l.used → DividesAs l d found → IfSome found (HasRoom l.capacity d)
+begun_room : (l : Layout) (d : ℕ) (found : Option Division) → l.used ≤ l.capacity → d < l.used → DividesAs l d found → IfSome found (FitsIn l.capacity d)
 begun_room l d None used taken none = tt
 begun_room l d (Some division) used taken begins = record {
   below = omega arith;
@@ -43,7 +43,7 @@ begun_room l d (Some division) used taken begins = record {
 
 -- so in a directory all that is begun has room
 pub all_have_room : (l : Layout) (of : List (Option Division)) (count : ℕ) → l.used ≤ l.capacity → count ≤ l.used → DividesFirst l of count
-    → (d : ℕ) → d < length of → IfSome (slice_index_or of d None) (HasRoom l.capacity d)
+    → (d : ℕ) → d < length of → IfSome (slice_index_or of d None) (FitsIn l.capacity d)
 all_have_room l of count used taken first d below =
     let long = first.long in
     begun_room l d (slice_index_or of d None) used (omega arith) (first.each d (omega arith))

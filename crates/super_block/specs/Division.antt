@@ -46,7 +46,7 @@ pub record IsFound (l : Layout) (offset capacity : ℕ) (place : Place) (divisio
   pub divided : IsDivision l place.superblock division
 
 -- superblock d is one of the capacity, and what it begins has words, no more than all superblocks have
-pub record HasRoom (capacity d : ℕ) (division : Division) : Type 0 where
+pub record FitsIn (capacity d : ℕ) (division : Division) : Type 0 where
   pub below : d < capacity
   pub some : 1 ≤ division.words
   pub few : division.count * division.words ≤ superblock_words * capacity
@@ -54,4 +54,4 @@ pub record HasRoom (capacity d : ℕ) (division : Division) : Type 0 where
 -- what is begun has room, and the capacity is in range
 pub record AreDivisions (capacity : ℕ) (of : List (Option Division)) : Type 0 where
   pub small : capacity ≤ largest_capacity
-  pub room : (d : ℕ) → d < length of → IfSome (slice_index_or of d None) (HasRoom capacity d)
+  pub room : (d : ℕ) → d < length of → IfSome (slice_index_or of d None) (FitsIn capacity d)

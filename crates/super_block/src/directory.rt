@@ -5,7 +5,7 @@ ghost use Rattle.std.specs.Prelude.{◌*◌, length, slice_index, IfOk, IfSome, 
 ghost use Rattle.heap_model.specs.declared.block.Block.{Block};
 ghost use Rattle.heap_model.specs.Header.{IsWellFormed};
 ghost use Rattle.heap_model.specs.Blocks.{Layout, layout_of, NamesIn};
-ghost use Rattle.super_block.specs.Division.{Describes, DividesTaken, HasRoom};
+ghost use Rattle.super_block.specs.Division.{Describes, DividesTaken, FitsIn};
 ghost use Rattle.super_block.specs.Index.{HasIndex};
 
 use crate::division::{Division, division_at};
@@ -91,7 +91,7 @@ impl Directory {
     /// What the superblock begins, or `None` where it has not been taken or begins no block.
     fn division(&self, superblock: u64) -> Option<Division>
         ensures divided { (l : Layout) → Describes self.now l → DividesTaken l superblock result }
-        ensures room { IfSome result (HasRoom self.now.capacity superblock) }
+        ensures room { IfSome result (FitsIn self.now.capacity superblock) }
     {
         if superblock >= self.divisions.len() as u64 {
             return None;
