@@ -185,7 +185,7 @@ fn the_first_cause_of_a_bad_header_is_told(rt: HostRuntime) -> Result<(), Fail> 
     )?;
     must_refuse(
         &rt,
-        2,
+        1,
         "used 2, root:0 7",
         RecoverFault::Header(BadHeader::Used),
     )
