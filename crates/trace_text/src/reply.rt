@@ -155,11 +155,42 @@ impl Counts {
         ensures unanswered { result.unanswered ≡ count_by is_unanswered replies.now }
     {
         Counts {
-            ok: replies.iter().filter(|reply| reply.is_ok()).count(),
-            none: replies.iter().filter(|reply| reply.is_none()).count(),
-            value: replies.iter().filter(|reply| reply.is_value()).count(),
-            full: replies.iter().filter(|reply| reply.is_full()).count(),
-            unanswered: replies.iter().filter(|reply| reply.is_unanswered()).count(),
+            ok: count_ok(replies),
+            none: count_none(replies),
+            value: count_values(replies),
+            full: count_full(replies),
+            unanswered: count_unanswered(replies),
         }
     }
+}
+
+// One function a kind: a chain of calls is proved quickly alone, and slowly beside four others.
+fn count_ok(replies: &[Reply]) -> usize
+    ensures { result ≡ count_by is_ok replies.now }
+{
+    replies.iter().filter(|reply| reply.is_ok()).count()
+}
+
+fn count_none(replies: &[Reply]) -> usize
+    ensures { result ≡ count_by is_none replies.now }
+{
+    replies.iter().filter(|reply| reply.is_none()).count()
+}
+
+fn count_values(replies: &[Reply]) -> usize
+    ensures { result ≡ count_by is_value replies.now }
+{
+    replies.iter().filter(|reply| reply.is_value()).count()
+}
+
+fn count_full(replies: &[Reply]) -> usize
+    ensures { result ≡ count_by is_full replies.now }
+{
+    replies.iter().filter(|reply| reply.is_full()).count()
+}
+
+fn count_unanswered(replies: &[Reply]) -> usize
+    ensures { result ≡ count_by is_unanswered replies.now }
+{
+    replies.iter().filter(|reply| reply.is_unanswered()).count()
 }
