@@ -14,7 +14,7 @@ use super_block::{Geometry, block_words};
 
 /// Free blocks of one superblock in a chain: the index of the first one, the first word of the last
 /// one, and how many there are.
-#[derive(Clone, Copy, Debug, PartialEq, Eq)]
+#[derive(Clone, Copy)]
 pub(crate) struct Batch {
     pub(crate) first: u64,
     pub(crate) last: u64,

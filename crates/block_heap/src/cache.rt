@@ -1,7 +1,7 @@
 //! The free blocks that a thread keeps for itself.
 
 /// Free blocks of one class in a chain: the first word of the first one, and how many there are.
-#[derive(Clone, Copy, Debug, PartialEq, Eq)]
+#[derive(Clone, Copy)]
 pub(crate) struct Cache {
     pub(crate) first: u64,
     pub(crate) count: u64,

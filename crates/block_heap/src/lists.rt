@@ -4,7 +4,7 @@ use line_memory::{Chance, Stopped};
 use super_block::{Geometry, HEAD_WORD, ListHead};
 
 /// A descriptor that was popped, if the list had one, and the head as it was read.
-#[derive(Clone, Copy, Debug, PartialEq, Eq)]
+#[derive(Clone, Copy)]
 pub(crate) struct Popped {
     pub(crate) head: u64,
     pub(crate) first: Option<u64>,

@@ -7,7 +7,7 @@ use size_table::{SizeClass, blocks_of};
 use super_block::block_words;
 
 /// What was found first in the list of a class.
-#[derive(Clone, Copy, Debug, PartialEq, Eq)]
+#[derive(Clone, Copy)]
 pub(crate) enum Found {
     /// A superblock with blocks in use, whose free blocks are in the cache now.
     Blocks,

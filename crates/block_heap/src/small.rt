@@ -10,7 +10,7 @@ use size_table::{SizeClass, blocks_of};
 use super_block::{SUPERBLOCK_WORDS, block_words};
 
 /// A prefix of a cache, whose blocks lie in superblock `d`, and the cache behind it.
-#[derive(Clone, Copy, Debug, PartialEq, Eq)]
+#[derive(Clone, Copy)]
 pub(crate) struct CachePrefix {
     pub(crate) d: u64,
     pub(crate) batch: Batch,

@@ -5,7 +5,7 @@ use super_block::{Geometry, Info, USED_WORD};
 
 /// What was read of the mark of taken superblocks, and the first of those that were taken, if there
 /// was room.
-#[derive(Clone, Copy, Debug, PartialEq, Eq)]
+#[derive(Clone, Copy)]
 pub(crate) struct Fresh {
     pub(crate) used: u64,
     pub(crate) first: Option<u64>,

@@ -3,7 +3,7 @@
 use size_table::SizeClass;
 
 /// What recovery makes of a superblock that has been taken.
-#[derive(Clone, Copy, PartialEq, Eq, Debug)]
+#[derive(Clone, Copy)]
 pub enum Role {
     /// It holds no part of a kept block.
     Free,

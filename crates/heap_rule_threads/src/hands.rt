@@ -5,7 +5,7 @@ ghost use Rattle.std.specs.Prelude.{◌≡◌};
 use size_table::SizeClass;
 
 /// What a seat works on: at most one superblock, or one block on its way back.
-#[derive(Clone, Copy, Debug, PartialEq, Eq)]
+#[derive(Clone, Copy)]
 pub enum Hand {
     /// Nothing.
     Empty,
@@ -18,7 +18,7 @@ pub enum Hand {
 }
 
 /// What a seat has in hand after it has tried to change that.
-#[derive(Clone, Copy, Debug, PartialEq, Eq)]
+#[derive(Clone, Copy)]
 pub struct Tried {
     pub hand: Hand,
     /// Another seat was faster.

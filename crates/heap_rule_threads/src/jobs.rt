@@ -17,7 +17,7 @@ use super_block::{ROOTS, Ready};
 const FIRST_ROOT: u64 = 8;
 
 /// How threads are to work on a heap.
-#[derive(Clone, Copy, Debug)]
+#[derive(Clone, Copy)]
 pub struct Plan {
     /// How many threads there are, each with a seat.
     pub threads: usize,

@@ -3,7 +3,7 @@
 use size_table::SizeClass;
 
 /// A block of a class that is held, by its first word.
-#[derive(Clone, Copy, Debug, PartialEq, Eq)]
+#[derive(Clone, Copy)]
 pub struct HeldBlock {
     pub block: u64,
     pub class: SizeClass,
@@ -12,7 +12,7 @@ pub struct HeldBlock {
 }
 
 /// A root of the seat's own, and the held block that it is for.
-#[derive(Clone, Copy, Debug, PartialEq, Eq)]
+#[derive(Clone, Copy)]
 pub struct Slot {
     pub root: u64,
     pub held: Option<HeldBlock>,

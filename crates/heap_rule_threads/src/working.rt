@@ -12,7 +12,7 @@ use heap_rule::{Seat, Shared};
 use line_memory::Stopped;
 
 /// What a thread does again and again.
-#[derive(Clone, Copy, Debug, PartialEq, Eq)]
+#[derive(Clone, Copy)]
 pub enum Task {
     /// A random act: a draw by chance, a change of what it has in hand, or of what one of its slots
     /// holds.
@@ -24,7 +24,7 @@ pub enum Task {
 }
 
 /// What a thread is to do.
-#[derive(Clone, Copy, Debug, PartialEq, Eq)]
+#[derive(Clone, Copy)]
 pub struct Order {
     pub task: Task,
     /// How often it does that.
@@ -50,7 +50,7 @@ pub struct Worked {
 }
 
 /// What a thread tells of its work.
-#[derive(Clone, Copy, Debug, PartialEq, Eq)]
+#[derive(Clone, Copy)]
 pub struct WorkReport {
     /// Whether it has done its task as often as it was to. Else its seat has stopped.
     pub done: bool,
