@@ -1,4 +1,4 @@
-//! What the tests assert, and the columns of their tables.
+//! What the tests assert, what they count, and the columns of their tables.
 use std::process::Abort;
 use std::test::Fail;
 
@@ -8,15 +8,22 @@ pub fn must_hold(rt: &impl Abort, holds: bool, told: &str) {
     assert!(rt; holds, "{told}");
 }
 
-/// The two columns of a row, between bars.
-pub fn two_columns(row: &str) -> Result<(&str, &str), Fail> {
-    let columns = row.split_once(" | ").ok_or("no two columns")?;
-    Ok(columns)
+/// How many of the words have this value.
+pub fn count_of(words: &[u64], value: u64) -> usize {
+    words.iter().filter(|word| **word == value).count()
 }
 
-/// The three columns of a row.
+/// The three columns of a row, between bars.
 pub fn three_columns(row: &str) -> Result<(&str, &str, &str), Fail> {
-    let (first, rest) = two_columns(row)?;
-    let (second, third) = two_columns(rest)?;
-    Ok((first, second, third))
+    match three_parts(row, " | ") {
+        Some(columns) => Ok(columns),
+        None => Err("no three columns".into()),
+    }
+}
+
+/// The three parts of a text, with this between them.
+pub fn three_parts<'a>(text: &'a str, between: &str) -> Option<(&'a str, &'a str, &'a str)> {
+    let (first, rest) = text.split_once(between)?;
+    let (second, third) = rest.split_once(between)?;
+    Some((first, second, third))
 }

@@ -1,7 +1,7 @@
 //! The header of an image, the image of an empty heap, and images as words and as bytes.
 ghost use Rattle.std.specs.Prelude.{◌≤◌};
 
-use crate::asserts::must_hold;
+use crate::asserts::{count_of, must_hold};
 use image_text::image_of;
 use region_header::{
     BadHeader, Header, bytes_to_words, check_bytes, format, read_header, words_to_bytes,
@@ -9,11 +9,6 @@ use region_header::{
 use std::alloc::{AllocError, Global};
 use std::process::Abort;
 use std::test::Fail;
-
-/// How many of the words are not 0.
-fn count_filled(words: &[u64]) -> usize {
-    words.iter().filter(|word| **word != 0).count()
-}
 
 /// An empty image of so many superblocks.
 #[tactic(auto, unfolding(heap_model::specs::Geometry::largest_capacity))]
@@ -36,15 +31,31 @@ fn must_be_empty(
     requires small { capacity ≤ 256 }
 {
     let image = empty(rt.alloc(), capacity)?;
+    must_hold(rt, image.len() == words, "words");
+    must_have_no_more(rt, &image, capacity);
+    must_fill(rt, &image, bytes)?;
+    Ok(())
+}
+
+/// Asserts that the words are the header of so many superblocks, and zeros.
+fn must_have_no_more(rt: &impl Abort, image: &[u64], capacity: u64) {
     let header = Header {
         capacity,
         clean: true,
         used: 0,
     };
-    must_hold(rt, image.len() == words, "words");
-    must_hold(rt, read_header(&image) == Ok(header), "the header");
-    must_hold(rt, count_filled(&image) == 4, "words that are not 0");
-    let file = words_to_bytes(rt.alloc(), &image)?;
+    must_hold(rt, read_header(image) == Ok(header), "the header");
+    let filled = image.len().wrapping_sub(count_of(image, 0));
+    must_hold(rt, filled == 4, "words that are not 0");
+}
+
+/// Asserts that the image has so many bytes, which begin with the mark's text.
+fn must_fill(
+    rt: &(impl Abort + AllocGlobal),
+    image: &[u64],
+    bytes: usize,
+) -> Result<(), AllocError> {
+    let file = words_to_bytes(rt.alloc(), image)?;
     must_hold(rt, file.as_slice().len() == bytes, "bytes");
     must_hold(rt, file.as_slice().starts_with(b"10COLLAR"), "the text");
     Ok(())
@@ -121,9 +132,19 @@ fn must_tell_of_both(
     wanted: &str,
 ) -> Result<(), Fail> {
     let words = image_of(rt.alloc(), 1, changes)?;
-    let bytes = words_to_bytes(rt.alloc(), &words)?;
     must_tell(rt, read_header(&words), wanted, changes)?;
-    must_tell(rt, check_bytes(bytes.as_slice()), wanted, changes)
+    must_tell_of_file(rt, &words, wanted, changes)
+}
+
+/// Asserts that this is told of the bytes of these words.
+fn must_tell_of_file(
+    rt: &(impl Abort + AllocGlobal),
+    words: &[u64],
+    wanted: &str,
+    case: &str,
+) -> Result<(), Fail> {
+    let bytes = words_to_bytes(rt.alloc(), words)?;
+    must_tell(rt, check_bytes(bytes.as_slice()), wanted, case)
 }
 
 #[test]
@@ -158,29 +179,53 @@ fn must_tell_of_words(
     must_tell(rt, read_header(&words), wanted, wanted)
 }
 
+/// Numbers of bytes, and what is told.
+const BYTES_TOLD: [(usize, &str); 6] = [
+    (0, "Short"),
+    (8_511, "Short"),
+    (8_512, "Length"),
+    (74_111, "Length"),
+    (74_112, "1 clean 0"),
+    (74_120, "Length"),
+];
+
+/// Numbers of words, and what is told.
+const WORDS_TOLD: [(usize, &str); 4] = [
+    (1_063, "Short"),
+    (1_064, "Length"),
+    (9_263, "Length"),
+    (9_265, "Length"),
+];
+
 #[test]
 fn a_file_of_another_length_is_refused(rt: HostRuntime) -> Result<(), Fail> {
-    must_tell_of_bytes(&rt, 0, "Short")?;
-    must_tell_of_bytes(&rt, 8_511, "Short")?;
-    must_tell_of_bytes(&rt, 8_512, "Length")?;
-    must_tell_of_bytes(&rt, 74_111, "Length")?;
-    must_tell_of_bytes(&rt, 74_112, "1 clean 0")?;
-    must_tell_of_bytes(&rt, 74_120, "Length")?;
-    must_tell_of_words(&rt, 1_063, "Short")?;
-    must_tell_of_words(&rt, 1_064, "Length")?;
-    must_tell_of_words(&rt, 9_263, "Length")?;
-    must_tell_of_words(&rt, 9_265, "Length")
+    for (length, wanted) in BYTES_TOLD {
+        must_tell_of_bytes(&rt, length, wanted)?;
+    }
+    for (length, wanted) in WORDS_TOLD {
+        must_tell_of_words(&rt, length, wanted)?;
+    }
+    Ok(())
+}
+
+/// Three words.
+const WORDS: [u64; 3] = [0x0102_0304_0506_0708, 1, 1 << 63];
+
+/// Their bytes.
+const BYTES: [u8; 24] = [
+    8, 7, 6, 5, 4, 3, 2, 1, 1, 0, 0, 0, 0, 0, 0, 0, 0, 0, 0, 0, 0, 0, 0, 128,
+];
+
+#[test]
+fn the_lowest_byte_of_a_word_is_written_first(rt: HostRuntime) -> Result<(), Fail> {
+    let bytes = words_to_bytes(rt.alloc(), &WORDS)?;
+    must_hold(&rt, bytes.as_slice() == BYTES.as_slice(), "bytes");
+    Ok(())
 }
 
 #[test]
-fn the_lowest_byte_of_a_word_comes_first(rt: HostRuntime) -> Result<(), Fail> {
-    let words = [0x0102_0304_0506_0708, 1, 1 << 63];
-    let want = [
-        8, 7, 6, 5, 4, 3, 2, 1, 1, 0, 0, 0, 0, 0, 0, 0, 0, 0, 0, 0, 0, 0, 0, 128,
-    ];
-    let bytes = words_to_bytes(rt.alloc(), &words)?;
-    must_hold(&rt, bytes.as_slice() == want.as_slice(), "bytes");
-    let read = bytes_to_words(rt.alloc(), &want)?;
-    must_hold(&rt, read.as_slice() == words.as_slice(), "words");
+fn the_first_byte_that_is_read_is_the_lowest_of_a_word(rt: HostRuntime) -> Result<(), Fail> {
+    let words = bytes_to_words(rt.alloc(), &BYTES)?;
+    must_hold(&rt, words.as_slice() == WORDS.as_slice(), "words");
     Ok(())
 }

@@ -1,4 +1,4 @@
-//! Images with a good header, and blocks told as texts.
+//! Images with a good header, and blocks and pairs of numbers told as texts.
 ghost use Rattle.std.specs.Prelude.{◌≤◌, ◌*◌, length, slice_index, IfOk};
 ghost use Rattle.heap_model.specs.Header.{IsWellFormed};
 
@@ -16,7 +16,14 @@ pub fn good_image(alloc: Global, capacity: u64, changes: &str) -> Result<Vec<u64
     ensures { IfOk result
         (λ image. IsWellFormed (8 * length image.items) (slice_index image.items)) }
 {
-    let words = image_of(alloc, capacity, changes)?;
+    checked(image_of(alloc, capacity, changes)?)
+}
+
+/// The image, if its header is good.
+pub fn checked(words: Vec<u64>) -> Result<Vec<u64>, Fail>
+    ensures { IfOk result
+        (λ image. IsWellFormed (8 * length image.items) (slice_index image.items)) }
+{
     match read_header(&words) {
         Ok(_) => Ok(words),
         Err(_) => Err("a bad header".into()),
@@ -25,9 +32,12 @@ pub fn good_image(alloc: Global, capacity: u64, changes: &str) -> Result<Vec<u64
 
 /// The block told by its first word and its number of words, as `1080/128`.
 pub fn block_of(text: &str) -> Result<Block, Fail> {
-    let (first_word, words) = text.split_once('/').ok_or("no block")?;
-    Ok(Block {
-        first_word: number(first_word)?,
-        words: number(words)?,
-    })
+    let (first_word, words) = two_numbers(text, '/')?;
+    Ok(Block { first_word, words })
+}
+
+/// The two numbers that a text tells, with this between them.
+pub fn two_numbers(text: &str, between: char) -> Result<(u64, u64), Fail> {
+    let (first, second) = text.split_once(between).ok_or("no two numbers")?;
+    Ok((number(first)?, number(second)?))
 }

@@ -1,8 +1,10 @@
 //! The rules of the memory against a naive recomputation, and cases told by hand.
-ghost use Rattle.std.specs.Prelude.{◌≡◌};
+ghost use Rattle.std.specs.Prelude.{◌≡◌, IfOk};
+ghost use Rattle.line_memory.specs.Plain.{view_of};
 ghost use Rattle.line_memory.specs.View.{word_count};
 
-use crate::asserts::must_hold;
+use crate::asserts::{count_of, must_hold, three_columns};
+use crate::images::two_numbers;
 use image_text::number;
 use line_memory::{Chance, ConstantChance, LineMemory, PlainMemory, Stopped, persist};
 use std::alloc::{AllocError, Global};
@@ -36,8 +38,18 @@ enum Step {
 /// The step told as `load 3`, `store 3 31`, `write-back 0` or `fence`.
 fn read_step(text: &str) -> Result<Step, Fail> {
     let (kind, numbers) = text.split_once(' ').unwrap_or((text, "0"));
-    let (at, value) = numbers.split_once(' ').unwrap_or((numbers, "0"));
-    let (at, value) = (number(at)?, number(value)?);
+    let (at, value) = operands(numbers)?;
+    step_of(kind, at, value)
+}
+
+/// One number or two; 0 stands for the second.
+fn operands(text: &str) -> Result<(u64, u64), Fail> {
+    let (at, value) = text.split_once(' ').unwrap_or((text, "0"));
+    Ok((number(at)?, number(value)?))
+}
+
+/// The step of this kind.
+fn step_of(kind: &str, at: u64, value: u64) -> Result<Step, Fail> {
     match kind {
         "load" => Ok(Step::Load(at)),
         "store" => Ok(Step::Store(at, value)),
@@ -62,21 +74,13 @@ fn take<M: LineMemory>(memory: &mut M, step: Step) -> Result<u64, Stopped>
     ensures { word_count (M.view memory.new) ≡ 20 }
 {
     match step {
-        Step::Load(word) if word < 20 => memory.load(word),
-        Step::Store(word, value) if word < 20 => {
-            memory.store(word, value)?;
-            Ok(0)
-        }
-        Step::WriteBack(line) if line < 3 => {
-            memory.write_back(line)?;
-            Ok(0)
-        }
-        Step::Fence => {
-            memory.fence()?;
-            Ok(0)
-        }
-        _ => Ok(0),
+        Step::Load(word) if word < 20 => return memory.load(word),
+        Step::Store(word, value) if word < 20 => memory.store(word, value)?,
+        Step::WriteBack(line) if line < 3 => memory.write_back(line)?,
+        Step::Fence => memory.fence()?,
+        _ => {}
     }
+    Ok(0)
 }
 
 /// What a run answered and left.
@@ -87,19 +91,37 @@ struct Outcome {
     durable: Vec<u64>,
 }
 
-/// Takes all steps of the script on a memory of zeros.
+/// A memory of zeros.
+fn zeros<C: Chance>(alloc: Global, chance: C, budget: u64) -> Result<PlainMemory<C>, AllocError>
+    ensures { IfOk result (λ memory. word_count (view_of memory) ≡ 20) }
+{
+    PlainMemory::new(alloc, vec![in alloc; 0; WORDS]?, budget, chance)
+}
+
+/// Takes all steps of the script, and gives what each answers.
+fn take_all<C: Chance>(
+    alloc: Global,
+    memory: &mut PlainMemory<C>,
+    script: &[Step],
+) -> Result<Vec<Result<u64, Stopped>>, AllocError>
+    requires { word_count (view_of memory.old) ≡ 20 }
+{
+    let mut answers = Vec::new(alloc);
+    for step in script {
+        answers.push(take(memory, *step))?;
+    }
+    Ok(answers)
+}
+
+/// What all steps of the script answer and leave, on a memory of zeros.
 fn run<C: Chance>(
     alloc: Global,
     chance: C,
     budget: u64,
     script: &[Step],
 ) -> Result<Outcome, AllocError> {
-    let mut memory = PlainMemory::new(alloc, vec![in alloc; 0; WORDS]?, budget, chance)?;
-    let mut answers = Vec::new(alloc);
-    for step in script {
-        let answer = take(&mut memory, *step);
-        answers.push(answer)?;
-    }
+    let mut memory = zeros(alloc, chance, budget)?;
+    let answers = take_all(alloc, &mut memory, script)?;
     let closed = memory.finish();
     Ok(Outcome {
         answers,
@@ -111,16 +133,12 @@ fn run<C: Chance>(
 /// The same by the rules alone.
 fn run_naively<C: Chance>(
     alloc: Global,
-    mut chance: C,
+    chance: C,
     budget: u64,
     script: &[Step],
 ) -> Result<Outcome, AllocError> {
     let mut naive = Naive::new(alloc);
-    let mut answers = Vec::new(alloc);
-    for step in script {
-        let answer = naive.answer(&mut chance, budget, *step)?;
-        answers.push(answer)?;
-    }
+    let answers = naive.answer_all(alloc, chance, budget, script)?;
     naive.finish(answers)
 }
 
@@ -155,6 +173,21 @@ impl Naive {
             volatile: Vec::from_slice(alloc, &self.volatile)?,
             durable: Vec::from_slice(alloc, &self.durable)?,
         })
+    }
+
+    /// What each step of the script answers.
+    fn answer_all<C: Chance>(
+        &mut self,
+        alloc: Global,
+        mut chance: C,
+        budget: u64,
+        script: &[Step],
+    ) -> Result<Vec<Result<u64, Stopped>>, AllocError> {
+        let mut answers = Vec::new(alloc);
+        for step in script {
+            answers.push(self.answer(&mut chance, budget, *step)?)?;
+        }
+        Ok(answers)
     }
 
     /// Draws a ticket, unless one was refused, and takes the step.
@@ -238,12 +271,41 @@ fn must_agree<C: Chance + Copy>(
 ) -> Result<(), AllocError> {
     let real = run(rt.alloc(), chance, budget, script)?;
     let naive = run_naively(rt.alloc(), chance, budget, script)?;
-    let (answers, wanted) = (real.answers.as_slice(), naive.answers.as_slice());
-    must_hold(rt, answers == wanted, "the answers");
-    let (volatile, wanted) = (real.volatile.as_slice(), naive.volatile.as_slice());
-    must_hold(rt, volatile == wanted, "the volatile words");
-    let (durable, wanted) = (real.durable.as_slice(), naive.durable.as_slice());
-    must_hold(rt, durable == wanted, "the durable words");
+    must_be_same(rt, &real, &naive);
+    Ok(())
+}
+
+/// Asserts that the outcome is this one.
+fn must_be_same(rt: &impl Abort, outcome: &Outcome, wanted: &Outcome) {
+    let (answers, volatile, durable) = (&wanted.answers, &wanted.volatile, &wanted.durable);
+    must_hold(
+        rt,
+        outcome.answers.as_slice() == answers.as_slice(),
+        "the answers",
+    );
+    must_hold(
+        rt,
+        outcome.volatile.as_slice() == volatile.as_slice(),
+        "the volatile words",
+    );
+    must_hold(
+        rt,
+        outcome.durable.as_slice() == durable.as_slice(),
+        "the durable words",
+    );
+}
+
+/// The same with nothing written back early, all that can be, and from each of 32 numbers on.
+fn must_agree_by_each_chance(
+    rt: &(impl Abort + AllocGlobal),
+    budget: u64,
+    script: &[Step],
+) -> Result<(), AllocError> {
+    must_agree(rt, ConstantChance(0), budget, script)?;
+    must_agree(rt, ConstantChance(1), budget, script)?;
+    for next in 0..32 {
+        must_agree(rt, Counted { next }, budget, script)?;
+    }
     Ok(())
 }
 
@@ -251,25 +313,21 @@ fn must_agree<C: Chance + Copy>(
 fn each_stop_of_twenty_steps_leaves_what_the_rules_say(rt: HostRuntime) -> Result<(), Fail> {
     let script = steps(rt.alloc(), SCRIPT)?;
     for budget in 0..22 {
-        must_agree(&rt, ConstantChance(0), budget, &script)?;
-        must_agree(&rt, ConstantChance(1), budget, &script)?;
-        for next in 0..32 {
-            must_agree(&rt, Counted { next }, budget, &script)?;
-        }
+        must_agree_by_each_chance(&rt, budget, &script)?;
     }
     Ok(())
 }
 
-/// How many steps a script may take, and what is durable of words 3, 4 and 9 then, with nothing
-/// written back early.
+/// How many steps a script may take, and the values of durable words then, with nothing written
+/// back early.
 const LEFT: &str = "
 # A store after the write-back waits for the next.
-4 | store 3 1, store 3 2, write-back 0, store 3 5, fence, write-back 0, fence | 0 0 0
-5 | store 3 1, store 3 2, write-back 0, store 3 5, fence, write-back 0, fence | 0 0 0
-7 | store 3 1, store 3 2, write-back 0, store 3 5, fence, write-back 0, fence | 5 0 0
+4 | store 3 1, store 3 2, write-back 0, store 3 5, fence, write-back 0, fence | 3 0, 4 0, 9 0
+5 | store 3 1, store 3 2, write-back 0, store 3 5, fence, write-back 0, fence | 3 0, 4 0, 9 0
+7 | store 3 1, store 3 2, write-back 0, store 3 5, fence, write-back 0, fence | 3 5, 4 0, 9 0
 # A line is written back whole, and no other.
-4 | store 3 1, store 4 2, store 9 7, write-back 0, fence | 0 0 0
-5 | store 3 1, store 4 2, store 9 7, write-back 0, fence | 1 2 0
+4 | store 3 1, store 4 2, store 9 7, write-back 0, fence | 3 0, 4 0, 9 0
+5 | store 3 1, store 4 2, store 9 7, write-back 0, fence | 3 1, 4 2, 9 0
 ";
 
 /// The word that is told, or the greatest behind the end.
@@ -286,12 +344,17 @@ fn durable_after(alloc: Global, budget: &str, script: &str) -> Result<Vec<u64>, 
 
 /// Asserts what a row tells.
 fn must_leave(rt: &(impl Abort + AllocGlobal), row: &str) -> Result<(), Fail> {
-    let (budget, rest) = row.split_once(" | ").ok_or("no budget")?;
-    let (script, wanted) = rest.split_once(" | ").ok_or("no script")?;
-    let left = durable_after(rt.alloc(), budget, script)?;
-    let (three, four, nine) = (word(&left, 3), word(&left, 4), word(&left, 9));
-    let told = format!(in rt.alloc(); "{three} {four} {nine}")?;
-    must_hold(rt, told.as_str() == wanted, row);
+    let (budget, script, wanted) = three_columns(row)?;
+    let durable = durable_after(rt.alloc(), budget, script)?;
+    must_have(rt, &durable, wanted, row)
+}
+
+/// Asserts that the words have the values told.
+fn must_have(rt: &impl Abort, words: &[u64], told: &str, row: &str) -> Result<(), Fail> {
+    for pair in told.split(", ") {
+        let (at, value) = two_numbers(pair, ' ')?;
+        must_hold(rt, word(words, at as usize) == value, row);
+    }
     Ok(())
 }
 
@@ -346,30 +409,35 @@ fn must_write_back(
     count: usize,
 ) -> Result<(), AllocError> {
     let durable = written_back_early(rt.alloc(), number)?;
-    let found = durable.iter().filter(|value| **value == 9).count();
-    must_hold(rt, found == count, "how many");
+    must_hold(rt, count_of(&durable, 9) == count, "how many");
     must_hold(rt, (word(&durable, 0) == 9) == (count != 0), "the first");
     Ok(())
 }
 
+/// Numbers that are drawn 17 times, and how many stores each has written back. The last draw is the
+/// only one after which there are sixteen stores.
+const WRITTEN_BACK: [(u64, usize); 8] = [
+    (0, 0),
+    (1, 16),
+    (2, 0),
+    (3, 15),
+    (29, 2),
+    (31, 1),
+    (33, 16),
+    (63, 1),
+];
+
 #[test]
 fn an_odd_number_names_one_of_the_last_sixteen_stores(rt: HostRuntime) -> Result<(), Fail> {
-    // The last of the 17 draws is the only one after which there are sixteen stores.
-    must_write_back(&rt, 0, 0)?;
-    must_write_back(&rt, 1, 16)?;
-    must_write_back(&rt, 2, 0)?;
-    must_write_back(&rt, 3, 15)?;
-    must_write_back(&rt, 29, 2)?;
-    must_write_back(&rt, 31, 1)?;
-    must_write_back(&rt, 33, 16)?;
-    must_write_back(&rt, 63, 1)?;
+    for (number, count) in WRITTEN_BACK {
+        must_write_back(&rt, number, count)?;
+    }
     Ok(())
 }
 
 #[test]
 fn a_word_that_is_persisted_is_durable(rt: HostRuntime) -> Result<(), Fail> {
-    let alloc = rt.alloc();
-    let mut memory = PlainMemory::new(alloc, vec![in alloc; 0; WORDS]?, 3, ConstantChance(0))?;
+    let mut memory = zeros(rt.alloc(), ConstantChance(0), 3)?;
     let first = persist(&mut memory, 17, 5);
     must_hold(&rt, first == Ok(()), "the first");
     let second = persist(&mut memory, 18, 6);

@@ -26,10 +26,12 @@ fn a_pointer_word_is_decoded_to_its_offset(rt: HostRuntime) {
 #[test]
 fn a_word_without_the_tag_is_no_pointer(rt: HostRuntime) {
     must_hold(&rt, decode(0) == Ptr::Null, "0");
-    must_hold(&rt, decode(5) == Ptr::Alien, "5");
-    must_hold(&rt, decode(0x2180) == Ptr::Alien, "no tag");
-    let below = decode(0x524f_ffff_ffff_ffff);
-    must_hold(&rt, below == Ptr::Alien, "a tag below");
-    let above = decode(0x5251_0000_0000_2180);
-    must_hold(&rt, above == Ptr::Alien, "a tag above");
+    must_hold(&rt, is_alien(5), "5");
+    must_hold(&rt, is_alien(0x2180), "no tag");
+    must_hold(&rt, is_alien(0x524f_ffff_ffff_ffff), "a tag below");
+    must_hold(&rt, is_alien(0x5251_0000_0000_2180), "a tag above");
+}
+
+fn is_alien(word: u64) -> bool {
+    decode(word) == Ptr::Alien
 }

@@ -1,17 +1,27 @@
 //! What roots reach, through the links that a filter lists.
-ghost use Rattle.std.specs.Prelude.{◌≡◌, ◌<◌, length, slice_get, IfOk};
+ghost use Rattle.std.specs.Prelude.{
+  ◌≡◌,
+  ◌<◌,
+  ◌*◌,
+  length,
+  slice_get,
+  slice_index,
+  IfOk,
+};
 ghost use Rattle.std.specs.List.{All};
 ghost use Rattle.heap_model.specs.Geometry.{roots};
+ghost use Rattle.heap_model.specs.Header.{IsWellFormed};
 ghost use Rattle.base_tests.specs.Tables.{each_link, node_links};
 
-use crate::asserts::{must_hold, three_columns};
-use crate::images::{block_of, good_image};
+use crate::asserts::{must_hold, three_columns, three_parts};
+use crate::images::{block_of, checked, good_image, two_numbers};
 use filter_trace::{Filter, Marks, TraceFault, trace};
 use heap_model::Block;
-use image_text::number;
+use offset_ptr::encode;
 use std::alloc::{AllocError, Global};
 use std::process::Abort;
 use std::test::Fail;
+use super_block::WORD_BYTES;
 
 /// A block of kind 0 has no links, a table (1) links each of its words to a node (2), and a node
 /// its first word to a node.
@@ -72,65 +82,55 @@ fn kinds(alloc: Global, first: u32, second: u32) -> Result<Vec<u32>, AllocError>
     Ok(kinds)
 }
 
-/// The kind that the text tells.
-fn kind(text: &str) -> Result<u32, Fail>
-    ensures { IfOk result (λ kind. kind < 3) }
-{
-    let kind = text.parse::<u32>().ok().ok_or("no kind")?;
-    if kind < 3 {
-        Ok(kind)
-    } else {
-        Err("no such kind".into())
-    }
-}
-
 /// The kinds of the roots, of which the text tells the first two.
 fn kinds_of_roots(alloc: Global, told: &str) -> Result<Vec<u32>, Fail>
     ensures long { IfOk result (λ kinds. length kinds.items ≡ roots) }
     ensures below { IfOk result (λ kinds. All (λ kind. kind < 3) kinds.items) }
 {
-    let (first, second) = told.split_once(' ').ok_or("no two kinds")?;
-    Ok(kinds(alloc, kind(first)?, kind(second)?)?)
+    let (first, second) = two_numbers(told, ' ')?;
+    if first >= 3 || second >= 3 {
+        return Err("no such kind".into());
+    }
+    Ok(kinds(alloc, first as u32, second as u32)?)
 }
 
-/// What roots 0 and 1, of these kinds, reach in the image of four superblocks with these words.
-fn traced(alloc: Global, roots: &str, words: &str) -> Result<Result<Marks, TraceFault>, Fail> {
+/// What roots 0 and 1, of these kinds, reach in the image.
+fn reached(alloc: Global, roots: &str, image: &[u64]) -> Result<Result<Marks, TraceFault>, Fail>
+    requires { IsWellFormed (8 * length image.now) (slice_index image.now) }
+{
     let kinds = kinds_of_roots(alloc, roots)?;
-    let image = good_image(alloc, 4, words)?;
-    Ok(trace(alloc, &image, &kinds, &Tables))
+    Ok(trace(alloc, image, &kinds, &Tables))
 }
 
-/// The kinds that the block has been reached as. Where it has as none, `~` if the block whose
-/// number is told has, and `-` else.
-fn kinds_of(alloc: Global, marks: &Marks, block: Block, holds: bool) -> Result<String, AllocError> {
-    let mut kinds = String::new(alloc);
+/// What they reach in the image of four superblocks with these words.
+fn traced(alloc: Global, roots: &str, words: &str) -> Result<Result<Marks, TraceFault>, Fail> {
+    let image = good_image(alloc, 4, words)?;
+    reached(alloc, roots, &image)
+}
+
+/// Whether the block has been reached as just these kinds: as none for `~` and `-`.
+fn has_just(marks: &Marks, block: Block, kinds: &str) -> bool {
     for (kind, name) in [(0, "0"), (1, "1"), (2, "2"), (3, "3"), (u32::MAX, "last")] {
-        if marks.has(block, kind) {
-            kinds.push_str(name)?;
+        if marks.has(block, kind) != kinds.contains(name) {
+            return false;
         }
     }
-    if kinds.is_empty() {
-        kinds.push_str(if holds { "~" } else { "-" })?;
-    }
-    Ok(kinds)
+    true
 }
 
-/// The superblock and the index that stand in front, and what follows.
-fn place_of(told: &str) -> Result<(u64, u64, &str), Fail> {
-    let (superblock, rest) = told.split_once('.').ok_or("no superblock")?;
-    let (index, rest) = rest.split_once(' ').ok_or("no index")?;
-    Ok((number(superblock)?, number(index)?, rest))
+/// Whether the block has been reached as just these kinds, and for all but `-` also the one at this
+/// place, which is a superblock and an index.
+fn is_reached(marks: &Marks, place: (u64, u64), block: Block, kinds: &str) -> bool {
+    let holds = marks.holds(place.0, place.1);
+    has_just(marks, block, kinds) && holds == (kinds != "-")
 }
 
-/// Asserts that the block has been reached as just these kinds, and so the block with the index:
-/// superblock, index, block and kinds are told as in `0.1 1100/4 12`.
-fn must_be_reached(rt: &(impl Abort + AllocGlobal), marks: &Marks, told: &str) -> Result<(), Fail> {
-    let (superblock, index, rest) = place_of(told)?;
-    let (block, kinds) = rest.split_once(' ').ok_or("no kinds")?;
-    let holds = marks.holds(superblock, index);
-    let found = kinds_of(rt.alloc(), marks, block_of(block)?, holds)?;
-    must_hold(rt, found.as_str() == kinds, told);
-    must_hold(rt, holds == (kinds != "-"), told);
+/// Asserts that so the block has been reached: superblock, index, block and kinds are told as in
+/// `0.1 1100/4 12`.
+fn must_be_reached(rt: &impl Abort, marks: &Marks, told: &str) -> Result<(), Fail> {
+    let (place, block, kinds) = three_parts(told, " ").ok_or("no kinds")?;
+    let (place, block) = (two_numbers(place, '.')?, block_of(block)?);
+    must_hold(rt, is_reached(marks, place, block, kinds), told);
     Ok(())
 }
 
@@ -138,16 +138,17 @@ fn must_be_reached(rt: &(impl Abort + AllocGlobal), marks: &Marks, told: &str) -
 /// image, and blocks with the kinds that they are reached as.
 fn must_reach(rt: &(impl Abort + AllocGlobal), row: &str) -> Result<(), Fail> {
     let (roots, words, blocks) = three_columns(row)?;
-    let marks = traced(rt.alloc(), roots, words)??;
+    let marks = inside(traced(rt.alloc(), roots, words)?)?;
     must_be_marked(rt, &marks, blocks)
 }
 
+/// The marks, where no word is outside.
+fn inside(found: Result<Marks, TraceFault>) -> Result<Marks, Fail> {
+    Ok(found?)
+}
+
 /// Asserts that the blocks have been reached as they are told.
-fn must_be_marked(
-    rt: &(impl Abort + AllocGlobal),
-    marks: &Marks,
-    blocks: &str,
-) -> Result<(), Fail> {
+fn must_be_marked(rt: &impl Abort, marks: &Marks, blocks: &str) -> Result<(), Fail> {
     for block in blocks.split(", ") {
         must_be_reached(rt, marks, block)?;
     }
@@ -209,19 +210,20 @@ const OUTSIDE: &str = "
 
 /// The fault that tells a word and its value.
 fn outside(told: &str) -> Result<TraceFault, Fail> {
-    let (at, value) = told.split_once(' ').ok_or("no value")?;
-    Ok(TraceFault::Outside {
-        at: number(at)?,
-        value: number(value)?,
-    })
+    let (at, value) = two_numbers(told, ' ')?;
+    Ok(TraceFault::Outside { at, value })
+}
+
+/// The fault of a trace, if there is one.
+fn fault_of(alloc: Global, roots: &str, words: &str) -> Result<Option<TraceFault>, Fail> {
+    Ok(traced(alloc, roots, words)?.err())
 }
 
 /// Traces what such a row tells.
 fn must_be_outside(rt: &(impl Abort + AllocGlobal), row: &str) -> Result<(), Fail> {
     let (roots, words, told) = three_columns(row)?;
-    let wanted = outside(told)?;
-    let found = traced(rt.alloc(), roots, words)?.err();
-    must_hold(rt, found == Some(wanted), row);
+    let found = fault_of(rt.alloc(), roots, words)?;
+    must_hold(rt, found == Some(outside(told)?), row);
     Ok(())
 }
 
@@ -235,18 +237,42 @@ fn a_word_that_points_to_no_block_is_told(rt: HostRuntime) -> Result<(), Fail> {
     Ok(())
 }
 
+/// An image in which a chain from root 0 goes through all blocks of a superblock of class 1.
+fn chain(alloc: Global) -> Result<Vec<u64>, Fail>
+    ensures { IfOk result
+        (λ image. IsWellFormed (8 * length image.items) (slice_index image.items)) }
+{
+    let mut image = good_image(alloc, 4, "used 1, info:0 1, root:0 @1096")?;
+    link_all(&mut image)?;
+    checked(image)
+}
+
+/// Lets each of these blocks but the last point to the next.
+fn link_all(image: &mut [u64]) -> Result<(), Fail> {
+    for index in 0..4_095u64 {
+        let at = index * 2 + 1_096;
+        let word = image.get_mut(at as usize).ok_or("no such word")?;
+        *word = encode((at + 2) * WORD_BYTES);
+    }
+    Ok(())
+}
+
+/// Asserts that each of them has been reached as a node.
+fn must_be_followed(rt: &impl Abort, marks: &Marks) {
+    for index in 0..4_096u64 {
+        let first_word = index * 2 + 1_096;
+        let block = Block {
+            first_word,
+            words: 2,
+        };
+        assert!(rt; is_reached(marks, (0, index), block, "2"), "block {index}");
+    }
+}
+
 #[test]
 fn a_chain_through_a_whole_superblock_is_followed(rt: HostRuntime) -> Result<(), Fail> {
-    let alloc = rt.alloc();
-    let mut words = String::from_str(alloc, "used 1, info:0 1, root:0 @1096")?;
-    for block in 0..4_095u64 {
-        let at = block * 2 + 1_096;
-        write!(words, ", {at} @{}", at + 2)?;
-    }
-    let marks = traced(alloc, "2 0", &words)??;
-    for block in 0..4_096u64 {
-        let told = format!(in alloc; "0.{block} {}/2 2", block * 2 + 1_096)?;
-        must_be_reached(&rt, &marks, &told)?;
-    }
+    let image = chain(rt.alloc())?;
+    let marks = inside(reached(rt.alloc(), "2 0", &image)?)?;
+    must_be_followed(&rt, &marks);
     Ok(())
 }

@@ -58,25 +58,25 @@ fn a_descriptor_is_one_line_and_a_superblock_8192_words(rt: HostRuntime) {
     must_stand(&rt, 3, 1_088, 25_672);
 }
 
-/// Infos of two superblocks, an offset, and the block that begins there.
+/// The words of an image of two superblocks, an offset, and the block that begins there.
 const NAMED: &str = "
-info:0 12, info:1 2 | 8640 | 1080/128
-info:0 12, info:1 2 | 8648 | none
-info:0 12, info:1 2 | 8632 | none
-info:0 12, info:1 2 | 74208 | 9276/4
-info:0 12, info:1 21 | 74208 | none
-info:0 767, info:1 0 | 8640 | 1080/16384
-info:0 767, info:1 0 | 9664 | none
-info:0 767, info:1 4 | 8640 | none
-info:0 0, info:1 767 | 74176 | none
-info:0 255, info:1 0 | 8640 | none
+used 2, info:0 12, info:1 2 | 8640 | 1080/128
+used 2, info:0 12, info:1 2 | 8648 | none
+used 2, info:0 12, info:1 2 | 8632 | none
+used 2, info:0 12, info:1 2 | 74208 | 9276/4
+used 2, info:0 12, info:1 21 | 74208 | none
+used 2, info:0 767, info:1 0 | 8640 | 1080/16384
+used 2, info:0 767, info:1 0 | 9664 | none
+used 2, info:0 767, info:1 4 | 8640 | none
+used 2, info:0 0, info:1 767 | 74176 | none
+used 2, info:0 255, info:1 0 | 8640 | none
 ";
 
 /// Asserts what a row tells.
 fn must_name(rt: &(impl Abort + AllocGlobal), row: &str) -> Result<(), Fail> {
-    let (infos, offset, block) = three_columns(row)?;
-    let (offset, wanted) = (number(offset)?, told_block(block)?);
-    let found = names(rt.alloc(), infos, offset)?;
+    let (words, offset, block) = three_columns(row)?;
+    let found = names(rt.alloc(), words, number(offset)?)?;
+    let wanted = told_block(block)?;
     must_hold(rt, found == (wanted, wanted), row);
     Ok(())
 }
@@ -89,11 +89,10 @@ fn told_block(told: &str) -> Result<Option<Block>, Fail> {
     Ok(Some(block_of(told)?))
 }
 
-/// The block that the offset names in an image of two superblocks with these infos, by its words
+/// The block that the offset names in an image of two superblocks with these words, by the words
 /// and by its directory.
-fn names(alloc: Global, infos: &str, offset: u64) -> Result<(Option<Block>, Option<Block>), Fail> {
-    let changes = format!(in alloc; "used 2, {infos}")?;
-    let words = good_image(alloc, 2, &changes)?;
+fn names(alloc: Global, words: &str, offset: u64) -> Result<(Option<Block>, Option<Block>), Fail> {
+    let words = good_image(alloc, 2, words)?;
     let directory = Directory::of(alloc, &words)?;
     Ok((name(&words, offset), directory.name(offset)))
 }
