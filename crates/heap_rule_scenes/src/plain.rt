@@ -23,7 +23,7 @@ pub fn size_of(class: u64) -> u64 {
 }
 
 /// What is wrong with a heap.
-#[derive(Clone, Copy, Debug, PartialEq, Eq)]
+#[derive(Clone, Copy, Debug)]
 pub enum Wrong {
     /// A list leads to a superblock that was never taken, or is in a list already, or has no free
     /// block.
@@ -79,31 +79,34 @@ impl<'a> Look<'a> {
         first.wrapping_add(d.wrapping_mul(SUPERBLOCK))
     }
 
+    /// Whether a block of so many words may begin there in a superblock.
+    fn may_begin(&self, d: u64, block: u64, size: u64) -> bool {
+        let within = block.wrapping_sub(self.start(d));
+        within.checked_rem(size) == Some(0) && within.saturating_add(size) <= SUPERBLOCK
+    }
+
     /// Meets a block of a superblock: whether one of its class begins there, none of whose words
     /// was met.
     fn meet(&mut self, d: u64, block: u64) -> bool {
         let size = size_of(self.info(d));
-        let within = block.wrapping_sub(self.start(d));
-        if within.checked_rem(size) != Some(0) || within.saturating_add(size) > SUPERBLOCK {
-            return false;
-        }
-        for i in 0..size {
-            match self.met.get_mut(block.wrapping_add(i) as usize) {
-                Some(met) if !*met => *met = true,
-                _ => return false,
-            }
-        }
-        true
+        self.may_begin(d, block, size) && meet_words(&mut self.met, block, size)
     }
 
-    /// Meets a superblock in a list: whether it was taken, is in no other, and has free blocks of
-    /// the list's class, or nothing but free blocks.
-    fn meet_listed(&mut self, list: u64, d: u64) -> bool {
+    /// Whether a superblock was taken, and has free blocks of the list's class, or nothing but free
+    /// blocks.
+    fn may_list(&self, list: u64, d: u64) -> bool {
         let state = self.anchor(d) % 4;
-        if d >= self.at(8) || state > 1 {
-            return false;
-        }
-        if list == 0 && state != 0 || list != 0 && self.info(d) != list {
+        let fits = if list == 0 {
+            state == 0
+        } else {
+            state <= 1 && self.info(d) == list
+        };
+        fits && d < self.at(8)
+    }
+
+    /// Meets a superblock in a list: whether it may be there, and is in no other.
+    fn meet_listed(&mut self, list: u64, d: u64) -> bool {
+        if !self.may_list(list, d) {
             return false;
         }
         match self.list.get_mut(d as usize) {
@@ -170,11 +173,85 @@ impl<'a> Look<'a> {
         count
     }
 
+    /// Whether all blocks of the superblock are free, as its list says.
+    fn is_free(&self, d: u64) -> bool {
+        self.list.get(d as usize) == Some(&0)
+    }
+
     /// Meets a held block.
     fn meet_held(&mut self, block: u64) -> bool {
         let d = block.wrapping_sub(self.start(0)) / SUPERBLOCK;
-        d < self.at(8) && self.list.get(d as usize) != Some(&0) && self.meet(d, block)
+        d < self.at(8) && !self.is_free(d) && self.meet(d, block)
     }
+
+    /// The first list that is wrong.
+    fn wrong_list(&mut self) -> Option<Wrong> {
+        for list in 0..21 {
+            if !self.walks(list) {
+                return Some(Wrong::List(list));
+            }
+        }
+        None
+    }
+
+    /// The first superblock that is cut and wrong.
+    fn wrong_superblock(&mut self) -> Option<Wrong> {
+        for d in 0..self.at(8) {
+            if size_of(self.info(d)) != 0 && !self.is_free(d) {
+                if !self.is_anchored(d) {
+                    return Some(Wrong::Anchor(d));
+                }
+                if !self.walks_chain(d) {
+                    return Some(Wrong::Free(d));
+                }
+            }
+        }
+        None
+    }
+
+    /// Whether more superblocks are in no list than so many hands can have.
+    fn wrong_count(&self, hands: usize) -> Option<Wrong> {
+        let loose = self.loose();
+        if loose > hands as u64 {
+            return Some(Wrong::Loose(loose));
+        }
+        None
+    }
+
+    /// The first held block that is wrong.
+    fn wrong_held(&mut self, held: &[u64]) -> Option<Wrong> {
+        for block in held {
+            if !self.meet_held(*block) {
+                return Some(Wrong::Held(*block));
+            }
+        }
+        None
+    }
+
+    /// What is wrong first.
+    fn wrong(&mut self, held: &[u64], hands: usize) -> Option<Wrong> {
+        if let Some(wrong) = self.wrong_list() {
+            return Some(wrong);
+        }
+        if let Some(wrong) = self.wrong_superblock() {
+            return Some(wrong);
+        }
+        if let Some(wrong) = self.wrong_count(hands) {
+            return Some(wrong);
+        }
+        self.wrong_held(held)
+    }
+}
+
+/// Meets the words of a block: whether none of them was met.
+fn meet_words(met: &mut [bool], block: u64, size: u64) -> bool {
+    for i in 0..size {
+        match met.get_mut(block.wrapping_add(i) as usize) {
+            Some(met) if !*met => *met = true,
+            _ => return false,
+        }
+    }
+    true
 }
 
 /// What is wrong with a heap of which these blocks are held, by their first words, and so many
@@ -188,32 +265,7 @@ pub fn wrong_with(
     hands: usize,
 ) -> Result<Option<Wrong>, AllocError> {
     let mut look = Look::new(alloc, words)?;
-    for list in 0..21 {
-        if !look.walks(list) {
-            return Ok(Some(Wrong::List(list)));
-        }
-    }
-    for d in 0..look.at(8) {
-        if size_of(look.info(d)) == 0 || look.list.get(d as usize) == Some(&0) {
-            continue;
-        }
-        if !look.is_anchored(d) {
-            return Ok(Some(Wrong::Anchor(d)));
-        }
-        if !look.walks_chain(d) {
-            return Ok(Some(Wrong::Free(d)));
-        }
-    }
-    let loose = look.loose();
-    if loose > hands as u64 {
-        return Ok(Some(Wrong::Loose(loose)));
-    }
-    for block in held {
-        if !look.meet_held(*block) {
-            return Ok(Some(Wrong::Held(*block)));
-        }
-    }
-    Ok(None)
+    Ok(look.wrong(held, hands))
 }
 
 /// How often superblocks were popped off the lists of classes, as the heads count it.

@@ -69,9 +69,13 @@ fn must_clear(
 {
     let (answer, left) = clear(rt.alloc(), budget)?;
     must_hold(rt, answer == wanted, "the answer");
-    let root = left.now.get((ROOT_WORD + ROOT) as usize).copied();
-    must_hold(rt, root == Some(left_there), "the root");
+    must_hold(rt, root_of(&left.now) == Some(left_there), "the root");
     Ok(())
+}
+
+/// The root in the words of a heap.
+fn root_of(words: &[u64]) -> Option<u64> {
+    words.get((ROOT_WORD + ROOT) as usize).copied()
 }
 
 #[test]

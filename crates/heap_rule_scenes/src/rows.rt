@@ -8,6 +8,7 @@ ghost use Rattle.std.specs.Prelude.{◌≤◌};
 use crate::fixtures::{MANY, recovered};
 use crate::scene::{Scene, play};
 use image_text::{change, number};
+use line_memory::Closed;
 use std::alloc::Global;
 use std::process::Abort;
 use std::test::Fail;
@@ -35,6 +36,41 @@ pub fn must_answer(rt: &(impl Abort + AllocGlobal), answer: &str, wanted: &str) 
     assert_eq!(rt; answer, wanted);
 }
 
+/// The first column of a row, and those behind it.
+fn first_column(row: &str) -> (&str, &str) {
+    row.split_once(" | ").unwrap_or((row, ""))
+}
+
+/// Asserts that seats were answered as the columns tell, and that this is left.
+fn must_end(
+    rt: &(impl Abort + AllocGlobal),
+    answer: &str,
+    left: &Closed,
+    columns: &str,
+) -> Result<(), Fail> {
+    let (wanted, words) = first_column(columns);
+    must_answer(rt, answer, wanted);
+    let (now, kept) = first_column(words);
+    must_leave(rt, &left.now, now)?;
+    must_leave(rt, &left.kept, kept)
+}
+
+/// Plays a scene with a budget that is told, over what recovery makes of an image.
+fn played(
+    alloc: Global,
+    scene: Scene,
+    capacity: u64,
+    words: &str,
+    budget: &str,
+) -> Result<(String, Closed), Fail>
+    requires some { 1 ≤ capacity }
+    requires small { capacity ≤ 4 }
+{
+    let budget = number(budget)?.min(MANY);
+    let heap = recovered(alloc, capacity, words)?;
+    play(alloc, scene, heap, budget)
+}
+
 /// Plays a scene as the row tells.
 fn show(
     rt: &(impl Abort + AllocGlobal),
@@ -46,13 +82,9 @@ fn show(
     requires some { 1 ≤ capacity }
     requires small { capacity ≤ 4 }
 {
-    let mut columns = row.split(" | ");
-    let budget = number(columns.next().unwrap_or(""))?.min(MANY);
-    let heap = recovered(rt.alloc(), capacity, words)?;
-    let (answer, left) = play(rt.alloc(), scene, heap, budget)?;
-    must_answer(rt, &answer, columns.next().unwrap_or(""));
-    must_leave(rt, &left.now, columns.next().unwrap_or(""))?;
-    must_leave(rt, &left.kept, columns.next().unwrap_or(""))
+    let (budget, columns) = first_column(row);
+    let (answer, left) = played(rt.alloc(), scene, capacity, words, budget)?;
+    must_end(rt, &answer, &left, columns)
 }
 
 /// Plays a scene once for each row, over a heap of up to four superblocks, with these words.

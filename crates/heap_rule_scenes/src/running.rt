@@ -105,7 +105,7 @@ fn must_be_sound(
 ) -> Result<(), Fail> {
     let blocks = first_words(rt.alloc(), held)?;
     let wrong = wrong_with(rt.alloc(), words, &blocks, hands)?;
-    assert_eq!(rt; wrong, None);
+    assert!(rt; wrong.is_none(), "{wrong:?}");
     Ok(())
 }
 
@@ -140,14 +140,14 @@ fn must_find<R: Threads + Sync + AllocGlobal + Abort>(
     requires few { threads ≤ 8 }
 {
     let ended = acted(rt, threads, MANY, seed)?;
-    must_hold(rt, are_done(&ended.reports), "no thread stops");
-    let pops = class_pops(&ended.left.now);
-    must_hold(rt, threads > 1 || pops > 0, "there are pops");
     finds_told(rt, &ended, threads)
 }
 
-/// Recovery finds what so many threads tell that they hold.
+/// No thread stops, one alone pops superblocks, and recovery finds what they tell that they hold.
 fn finds_told(rt: &(impl Abort + AllocGlobal), ended: &Ended, threads: usize) -> Result<(), Fail> {
+    must_hold(rt, are_done(&ended.reports), "no thread stops");
+    let pops = class_pops(&ended.left.now);
+    must_hold(rt, threads > 1 || pops > 0, "there are pops");
     let held = told(rt.alloc(), ended, false)?;
     finds_held(rt, ended, &held, threads)
 }
@@ -196,10 +196,15 @@ fn must_keep<R: Threads + Sync + AllocGlobal + Abort>(
     requires budget { budget < 1099511627776 }
 {
     let ended = acted(rt, threads, budget, seed)?;
+    keeps_told(rt, &ended, threads)
+}
+
+/// A thread stops, and a crash leaves what threads have published of what they tell.
+fn keeps_told(rt: &(impl Abort + AllocGlobal), ended: &Ended, threads: usize) -> Result<(), Fail> {
     must_hold(rt, !are_done(&ended.reports), "a thread stops");
-    let held = told(rt.alloc(), &ended, false)?;
+    let held = told(rt.alloc(), ended, false)?;
     must_be_sound(rt, &ended.left.now, &held, threads)?;
-    keeps_published(rt, &ended, &held)
+    keeps_published(rt, ended, &held)
 }
 
 /// A crash leaves the blocks that are published, and none that is not among these.
@@ -263,6 +268,15 @@ fn must_do<R: Threads + Sync + AllocGlobal + Abort>(
         seed: 1,
     };
     let ended = worked(rt, "used 12", &plan)?;
+    must_be_done(rt, &ended, threads)
+}
+
+/// No thread stops, one alone loses nothing, and nothing is held.
+fn must_be_done(
+    rt: &(impl Abort + AllocGlobal),
+    ended: &Ended,
+    threads: usize,
+) -> Result<(), Fail> {
     must_hold(rt, are_done(&ended.reports), "no thread stops");
     must_hold(rt, threads > 1 || lose_nothing(&ended.reports), "losses");
     must_be_sound(rt, &ended.left.now, &[], threads)?;
