@@ -233,7 +233,12 @@ fn fresh_core(alloc: Global) -> Result<Core, Fail> {
 /// What a crash leaves of the core behind all steps, where all that it may scramble becomes 0.
 fn core_image(rt: &(impl Abort + AllocGlobal)) -> Result<Vec<u64>, Fail> {
     let mut core = fresh_core(rt.alloc())?;
-    trade_steps(rt, &mut core)?;
+    image_behind(rt, &mut core)
+}
+
+/// What a crash leaves of this core behind all steps.
+fn image_behind(rt: &(impl Abort + AllocGlobal), core: &mut Core) -> Result<Vec<u64>, Fail> {
+    trade_steps(rt, core)?;
     must_hold(rt, core.tickets() == 37, "the tickets");
     Ok(core.image(rt.alloc(), &mut ConstantChance(0))?)
 }

@@ -2,6 +2,7 @@
 //! code that keeps them.
 
 use std::alloc::{AllocError, Global};
+use super_block::Block;
 
 /// The words of a block of each class, and 0 where there is no class.
 const SIZES: [u64; 21] = [
@@ -219,17 +220,17 @@ impl<'a> Look<'a> {
     }
 
     /// The first held block that is wrong.
-    fn wrong_held(&mut self, held: &[u64]) -> Option<Wrong> {
+    fn wrong_held(&mut self, held: &[Block]) -> Option<Wrong> {
         for block in held {
-            if !self.meet_held(*block) {
-                return Some(Wrong::Held(*block));
+            if !self.meet_held(block.first_word) {
+                return Some(Wrong::Held(block.first_word));
             }
         }
         None
     }
 
     /// What is wrong first.
-    fn wrong(&mut self, held: &[u64], hands: usize) -> Option<Wrong> {
+    fn wrong(&mut self, held: &[Block], hands: usize) -> Option<Wrong> {
         if let Some(wrong) = self.wrong_list() {
             return Some(wrong);
         }
@@ -254,14 +255,14 @@ fn meet_words(met: &mut [bool], block: u64, size: u64) -> bool {
     true
 }
 
-/// What is wrong with a heap of which these blocks are held, by their first words, and so many
+/// What is wrong with a heap of which these blocks are held, told by their first words, and so many
 /// seats may have a superblock in hand; none where each superblock is in one list at most, those
 /// with free blocks are in one but for that many, and no word is in two blocks that are held or
 /// free.
 pub fn wrong_with(
     alloc: Global,
     words: &[u64],
-    held: &[u64],
+    held: &[Block],
     hands: usize,
 ) -> Result<Option<Wrong>, AllocError> {
     let mut look = Look::new(alloc, words)?;

@@ -3,7 +3,7 @@
 ghost use Rattle.std.specs.Prelude.{◌≤◌, ◌<◌};
 
 use crate::fixtures::recovery;
-use crate::plain::{class_pops, size_of, wrong_with};
+use crate::plain::{Wrong, class_pops, size_of, wrong_with};
 use crate::rows::must_hold;
 use heap_rule_threads::{Ended, Plan, Report, Task, work_together};
 use image_text::image_of;
@@ -87,13 +87,9 @@ fn told(alloc: Global, ended: &Ended, published: bool) -> Result<Vec<Block>, All
     Ok(blocks)
 }
 
-/// The first words of blocks.
-fn first_words(alloc: Global, blocks: &[Block]) -> Result<Vec<u64>, AllocError> {
-    let mut words = Vec::new(alloc);
-    for block in blocks {
-        words.push(block.first_word)?;
-    }
-    Ok(words)
+/// Asserts that nothing is wrong.
+fn must_be_right(rt: &impl Abort, wrong: Option<Wrong>) {
+    assert!(rt; wrong.is_none(), "{wrong:?}");
 }
 
 /// The slow look finds nothing wrong with the words of a heap of which these blocks are held.
@@ -103,21 +99,20 @@ fn must_be_sound(
     held: &[Block],
     hands: usize,
 ) -> Result<(), Fail> {
-    let blocks = first_words(rt.alloc(), held)?;
-    let wrong = wrong_with(rt.alloc(), words, &blocks, hands)?;
-    assert!(rt; wrong.is_none(), "{wrong:?}");
+    let wrong = wrong_with(rt.alloc(), words, held, hands)?;
+    must_be_right(rt, wrong);
     Ok(())
 }
 
-/// Recovery finds that these blocks are held. It answers the words that it makes.
+/// Recovery finds that these blocks are held, and what it makes is sound.
 fn must_recover(
     rt: &(impl Abort + AllocGlobal),
     words: &[u64],
     held: &[Block],
-) -> Result<Ready, Fail> {
+) -> Result<(), Fail> {
     let found = recovered(rt.alloc(), words)?;
     must_hold(rt, found.held() == held, "the held blocks");
-    Ok(found)
+    must_be_sound(rt, found.words(), held, 0)
 }
 
 /// Whether each thread has done its task as often as it was to.
@@ -161,8 +156,7 @@ fn finds_held(
 ) -> Result<(), Fail> {
     must_recover(rt, &ended.left.kept, held)?;
     must_be_sound(rt, &ended.left.now, held, threads)?;
-    let found = must_recover(rt, &ended.left.now, held)?;
-    must_be_sound(rt, found.words(), held, 0)
+    must_recover(rt, &ended.left.now, held)
 }
 
 #[test]
@@ -280,8 +274,7 @@ fn must_be_done(
     must_hold(rt, are_done(&ended.reports), "no thread stops");
     must_hold(rt, threads > 1 || lose_nothing(&ended.reports), "losses");
     must_be_sound(rt, &ended.left.now, &[], threads)?;
-    must_recover(rt, &ended.left.now, &[])?;
-    Ok(())
+    must_recover(rt, &ended.left.now, &[])
 }
 
 #[test]
