@@ -1,34 +1,16 @@
 -- What clap's matches say of the command that is asked for.
-use Rattle.std.proofs.Common.{◌≡◌, ◌≤◌, ◌<◌, ◌^◌, ◌∙◌, ℕ, Bool, List, [], ◌∷◌, length, String, Option, Some, None, Result, Ok, Err, IfNone, codes, refl, sym, ap, inl, inr, arith}
+use Rattle.std.proofs.Common.{◌≡◌, ◌<◌, ◌^◌, ◌∙◌, ℕ, Bool, List, [], ◌∷◌, length, String, Option, Some, None, Result, Ok, Err, codes, refl, sym, ap, subst, arith}
 use Rattle.std.specs.Prelude.{slice_get, unwrap_or}
 use Rattle.std.specs.declared.alloc.Global.{Global}
 use Rattle.std.specs.Str.Parse.{ParsesUnsigned}
-use Rattle.clap.specs.Words.{App, Row, ReadsOne, first_of, one_text, first_value, rows_of, found_of, fault_of, matches_of}
+use Rattle.clap.specs.Words.{App, ReadsOne, first_of, one_text, first_value, rows_of, found_of, fault_of, matches_of}
 use Rattle.clap.specs.declared.parser.matches.ArgMatches.{ArgMatches}
 use Rattle.clap.specs.declared.parser.matches.Found.{Found}
 use Rattle.clap.proofs.WalkLemmas.{one_text-rows, first_value-rows}
-use Rattle.heap_model.specs.Geometry.{largest_capacity}
-use Rattle.heap_model.specs.Sizes.{IsClass}
 use Rattle.tool_command.specs.Command.{format_image, show_image, drain_image, gen_trace, run_image, rebuild_image, replay_image, texts, AsksToFormat, AsksToShow, AsksToDrain, AsksToGen, AsksToRun, AsksToRebuild, AsksToReplay, IsUsage}
-use Rattle.tool_command.specs.declared.trace_plan.TheConstants.{MOST_REQUESTS, GREATEST_SEED}
 use Rattle.image_run.specs.Running.{Options}
-use Rattle.image_run.specs.declared.options.TheConstants.{MOST_WORKERS, MOST_BUDGET}
-use Rattle.tool_command.proofs.OneCommandLemmas.{first_word, letters}
-use Rattle.tool_command.specs.CommandLine.{format_app, show_app, drain_app, gen_app, run_app, rebuild_app, replay_app, image_id, capacity_id, class_id, map_id, requests_id, trace_seed_id, workers_id, stop_id, seed_id, sum_id, HasNumberOr, IsTaken, IsMatchedBy, HasNumber, HasFlag}
-
--- what holds where there is none
-pub if_none : {T P : Type 0} (result : Option T) → result ≡ None → IfNone result P → P
-if_none None is holds = holds
-if_none (Some x) is holds = cc
-
--- where a text was given, no number stands for none
-pub none_given : {T : Type 0} (result : Option T) (rows : List Row) (id text : List ℕ) (other least most : ℕ) → Some text ≡ first_of id rows
-    → IfNone result ((n : ℕ) → HasNumber rows id n → least ≤ n → n ≤ most → ⊥) → IfNone result ((n : ℕ) → HasNumberOr rows id other n → least ≤ n → n ≤ most → ⊥)
-none_given (Some x) rows id text other least most given none = tt
-none_given None rows id text other least most given none = λ n has low high. elim has as (λ _. ⊥) [
-  | inl number ↦ none n number low high
-  | inr (absent, same) ↦ let never : Some text ≡ None = given ∙ absent in absurd (cc)
-]
+use Rattle.tool_command.proofs.OneCommandLemmas.{first_word, letters, one_text_given, one_number, one_number_or, one_flag}
+use Rattle.tool_command.specs.CommandLine.{IsTaken, IsMatchedBy, HasText, HasNumber, HasNumberOr, HasFlag}
 
 -- the text of an argument stands in its row
 pub text_in_rows : (f : Found) (id : List ℕ) → first_value f id ≡ first_of id (rows_of f)
@@ -69,114 +51,30 @@ module _ (E : Type 0) (G : List ℕ → Result ℕ E → Type 0) (only : (u : Li
           let read : ReadsOne G has.text (Some m) = rw e at (value has.text text_is) in
           e ∙ ap (λ (k : ℕ). Some k) ((only has.text (Ok m) read).1 ∙ has.counted.value)
 
-module _ (app : App) (words : List (List ℕ)) (m : ArgMatches) (taken : IsMatchedBy app words m) where
-  rows_taken : (wanted : App) → app ≡ wanted → rows_of (found_of m) ≡ matches_of wanted words
-  rows_taken wanted is = taken.rows_are ∙ ap (λ (a : App). matches_of a words) is
+-- words that a command matches, which is told as this one, and which name it, are taken as its words
+pub taken_as : (app wanted : App) (words : List (List ℕ)) (m : ArgMatches) → IsMatchedBy app words m → app ≡ wanted → slice_get words 0 ≡ Some wanted.top.name
+    → IsTaken wanted words × IsMatchedBy wanted words m
+taken_as app wanted words m matched is first =
+    let same : IsMatchedBy wanted words m = subst (λ (a : App). IsMatchedBy a words m) is matched in
+    (record { named = first; faultless = same.faultless }, same)
 
-  pub is_taken : (wanted : App) → app ≡ wanted → slice_get words 0 ≡ Some wanted.top.name → IsTaken wanted words
-  is_taken wanted is first = record { named = first; faultless = sym (ap (λ (a : App). fault_of a words) is) ∙ taken.faultless }
+-- and those in which it finds a fault are at fault as its words
+pub faulty_as : (app wanted : App) (words : List (List ℕ)) → app ≡ wanted → (fault_of app words ≡ [] → ⊥) → fault_of wanted words ≡ [] → ⊥
+faulty_as app wanted words is faulty none = faulty (ap (λ (a : App). fault_of a words) is ∙ none)
 
-  pub asks_format : app ≡ format_app → slice_get words 0 ≡ Some (codes "format") → (image : List ℕ) (n : ℕ)
-      → Some image ≡ first_of image_id (rows_of (found_of m)) → HasNumber (rows_of (found_of m)) capacity_id n → 1 ≤ n → n ≤ largest_capacity
-      → AsksToFormat words image n
-  asks_format is first image n named counted least most = record {
-    taken = is_taken format_app is first;
-    named = rw (← rows_taken format_app is) (sym named);
-    counted = rw (← rows_taken format_app is) counted;
-    least = least;
-    most = most;
-  }
+-- what is read of the matches is what the words have
+module _ (app : App) (words : List (List ℕ)) (m : ArgMatches) (matched : IsMatchedBy app words m) where
+  pub text_is : (id text other : List ℕ) → HasText (rows_of (found_of m)) id text → HasText (matches_of app words) id other → text ≡ other
+  text_is id text other read has = one_text_given (matches_of app words) id text other (rw (← matched.rows_are) read) has
 
-  pub asks_drain : app ≡ drain_app → slice_get words 0 ≡ Some (codes "drain") → (image : List ℕ) (n : ℕ)
-      → Some image ≡ first_of image_id (rows_of (found_of m)) → HasNumber (rows_of (found_of m)) class_id n → IsClass n
-      → AsksToDrain words image n
-  asks_drain is first image n named counted class = record {
-    taken = is_taken drain_app is first;
-    named = rw (← rows_taken drain_app is) (sym named);
-    counted = rw (← rows_taken drain_app is) counted;
-    is_class = class;
-  }
+  pub number_is : (id : List ℕ) (n k : ℕ) → HasNumber (rows_of (found_of m)) id n → HasNumber (matches_of app words) id k → n ≡ k
+  number_is id n k read has = one_number (matches_of app words) id n k (rw (← matched.rows_are) read) has
 
-  pub asks_show : app ≡ show_app → slice_get words 0 ≡ Some (codes "show") → (image : List ℕ) (flag : Bool)
-      → Some image ≡ first_of image_id (rows_of (found_of m)) → HasFlag (rows_of (found_of m)) map_id flag
-      → AsksToShow words image flag
-  asks_show is first image flag named flagged = record {
-    taken = is_taken show_app is first;
-    named = rw (← rows_taken show_app is) (sym named);
-    flagged = rw (← rows_taken show_app is) flagged;
-  }
+  pub number_or_is : (id : List ℕ) (other n k : ℕ) → HasNumberOr (rows_of (found_of m)) id other n → HasNumberOr (matches_of app words) id other k → n ≡ k
+  number_or_is id other n k read has = one_number_or (matches_of app words) id other n k (rw (← matched.rows_are) read) has
 
-  pub asks_gen : app ≡ gen_app → slice_get words 0 ≡ Some (codes "gen") → (requests seed : ℕ)
-      → HasNumber (rows_of (found_of m)) requests_id requests → requests ≤ MOST_REQUESTS
-      → HasNumber (rows_of (found_of m)) trace_seed_id seed → seed ≤ GREATEST_SEED
-      → AsksToGen words requests seed
-  asks_gen is first requests seed counted few seeded small = record {
-    taken = is_taken gen_app is first;
-    counted = rw (← rows_taken gen_app is) counted;
-    few = few;
-    seeded = rw (← rows_taken gen_app is) seeded;
-    small = small;
-  }
-
-  pub asks_run : app ≡ run_app → slice_get words 0 ≡ Some (codes "run") → (image : List ℕ) (options : Options)
-      → Some image ≡ first_of image_id (rows_of (found_of m)) → HasNumber (rows_of (found_of m)) workers_id options.workers → 1 ≤ options.workers → options.workers ≤ MOST_WORKERS
-      → HasNumberOr (rows_of (found_of m)) stop_id MOST_BUDGET options.budget → options.budget ≤ MOST_BUDGET
-      → HasNumberOr (rows_of (found_of m)) seed_id 0 options.seed → options.seed < 2 ^ 64
-      → HasFlag (rows_of (found_of m)) sum_id options.with_sum → HasFlag (rows_of (found_of m)) map_id options.with_map
-      → AsksToRun words image options
-  asks_run is first image options named by some few within below seeded fits summed mapped = record {
-    taken = is_taken run_app is first;
-    named = rw (← rows_taken run_app is) (sym named);
-    by = rw (← rows_taken run_app is) by;
-    some = some;
-    few = few;
-    within = rw (← rows_taken run_app is) within;
-    below = below;
-    seeded = rw (← rows_taken run_app is) seeded;
-    fits = fits;
-    summed = rw (← rows_taken run_app is) summed;
-    mapped = rw (← rows_taken run_app is) mapped;
-  }
-
-  pub asks_rebuild : app ≡ rebuild_app → slice_get words 0 ≡ Some (codes "rebuild") → (image : List ℕ) (budget seed : ℕ)
-      → Some image ≡ first_of image_id (rows_of (found_of m)) → HasNumberOr (rows_of (found_of m)) stop_id MOST_BUDGET budget → budget ≤ MOST_BUDGET
-      → HasNumberOr (rows_of (found_of m)) seed_id 0 seed → seed < 2 ^ 64 → AsksToRebuild words image budget seed
-  asks_rebuild is first image budget seed named within below seeded fits = record {
-    taken = is_taken rebuild_app is first;
-    named = rw (← rows_taken rebuild_app is) (sym named);
-    within = rw (← rows_taken rebuild_app is) within;
-    below = below;
-    seeded = rw (← rows_taken rebuild_app is) seeded;
-    fits = fits;
-  }
-
-  pub asks_replay : app ≡ replay_app → slice_get words 0 ≡ Some (codes "replay") → (image : List ℕ) (seed : ℕ)
-      → Some image ≡ first_of image_id (rows_of (found_of m)) → HasNumberOr (rows_of (found_of m)) seed_id 0 seed → seed < 2 ^ 64 → AsksToReplay words image seed
-  asks_replay is first image seed named seeded fits = record {
-    taken = is_taken replay_app is first;
-    named = rw (← rows_taken replay_app is) (sym named);
-    seeded = rw (← rows_taken replay_app is) seeded;
-    fits = fits;
-  }
-
-  -- without the image's name nothing is asked for
-  pub no_image_given : (wanted : App) → app ≡ wanted → (image : List ℕ) → None ≡ first_of image_id (rows_of (found_of m))
-      → first_of image_id (matches_of wanted words) ≡ Some image → ⊥
-  no_image_given wanted is image none named =
-      let bad : None ≡ Some image = none ∙ ap (λ rows. first_of image_id rows) (rows_taken wanted is) ∙ named in
-      cc
-
-  -- nor without a number in its bounds
-  pub no_number_given : (wanted : App) → app ≡ wanted → (id : List ℕ) (least most n : ℕ)
-      → ((k : ℕ) → HasNumber (rows_of (found_of m)) id k → least ≤ k → k ≤ most → ⊥)
-      → HasNumber (matches_of wanted words) id n → least ≤ n → n ≤ most → ⊥
-  no_number_given wanted is id least most n none has low high = none n (rw (rows_taken wanted is) has) low high
-
-  -- nor without one in its bounds, where another may stand for none
-  pub no_number_or : (wanted : App) → app ≡ wanted → (id : List ℕ) (other least most n : ℕ)
-      → ((k : ℕ) → HasNumberOr (rows_of (found_of m)) id other k → least ≤ k → k ≤ most → ⊥)
-      → HasNumberOr (matches_of wanted words) id other n → least ≤ n → n ≤ most → ⊥
-  no_number_or wanted is id other least most n none has low high = none n (rw (rows_taken wanted is) has) low high
+  pub flag_is : (id : List ℕ) (a b : Bool) → HasFlag (rows_of (found_of m)) id a → HasFlag (matches_of app words) id b → a ≡ b
+  flag_is id a b read has = one_flag (matches_of app words) id a b (rw (← matched.rows_are) read) has
 
 -- one first word
 other_name : (words : List (List ℕ)) (a b : List ℕ) → slice_get words 0 ≡ Some a → slice_get words 0 ≡ Some b → (a ≡ b → ⊥) → ⊥

@@ -10,7 +10,7 @@ use Rattle.tool_command.specs.Command.{Command, Asks, format_image, show_image, 
 use Rattle.tool_command.specs.CommandLine.{format_app, drain_app, show_app, gen_app, run_app, rebuild_app, replay_app, image_id, capacity_id, class_id, map_id, requests_id, trace_seed_id, workers_id, stop_id, seed_id, sum_id, HasText, HasNumber, HasNumberOr, HasFlag}
 
 -- one number is written
-one_number : (rows : List Row) (id : List ℕ) (n m : ℕ) → HasNumber rows id n → HasNumber rows id m → n ≡ m
+pub one_number : (rows : List Row) (id : List ℕ) (n m : ℕ) → HasNumber rows id n → HasNumber rows id m → n ≡ m
 one_number rows id n m has also =
     let same : has.text ≡ also.text = ap (λ o. unwrap_or o []) (sym has.given ∙ also.given) in
     sym has.counted.value ∙ ap (λ text. digits_value 10 (without_leading_plus text)) same ∙ also.counted.value
@@ -26,18 +26,18 @@ no_text_given rows id text given none = go (find (λ r. bytes_eq r.id id) rows) 
         cc
 
 -- one number is written, or one stands for none
-one_number_or : (rows : List Row) (id : List ℕ) (other n m : ℕ) → HasNumberOr rows id other n → HasNumberOr rows id other m → n ≡ m
+pub one_number_or : (rows : List Row) (id : List ℕ) (other n m : ℕ) → HasNumberOr rows id other n → HasNumberOr rows id other m → n ≡ m
 one_number_or rows id other n m (inl has) (inl also) = one_number rows id n m has also
 one_number_or rows id other n m (inl has) (inr also) = absurd (no_text_given rows id has.text has.given also.0)
 one_number_or rows id other n m (inr has) (inl also) = absurd (no_text_given rows id also.text also.given has.0)
 one_number_or rows id other n m (inr has) (inr also) = has.1 ∙ sym also.1
 
 -- one text is given
-one_text_given : (rows : List Row) (id text other : List ℕ) → HasText rows id text → HasText rows id other → text ≡ other
+pub one_text_given : (rows : List Row) (id text other : List ℕ) → HasText rows id text → HasText rows id other → text ≡ other
 one_text_given rows id text other has also = ap (λ o. unwrap_or o []) (sym has ∙ also)
 
 -- an option is given or not
-one_flag : (rows : List Row) (id : List ℕ) (a b : Bool) → HasFlag rows id a → HasFlag rows id b → a ≡ b
+pub one_flag : (rows : List Row) (id : List ℕ) (a b : Bool) → HasFlag rows id a → HasFlag rows id b → a ≡ b
 one_flag rows id true b has also = sym (also.1 (has.0 refl))
 one_flag rows id false true has also = has.1 (also.0 refl)
 one_flag rows id false false has also = refl

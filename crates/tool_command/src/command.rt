@@ -1,20 +1,20 @@
 //! The command that the words of the command line ask for, as the crate clap takes them.
-ghost use Rattle.std.specs.Prelude.{◌≡◌, ◌≢◌, ℕ, Bool, List, [], Some, codes, slice_get, IfOk, IsErrOf};
+ghost use Rattle.std.specs.Prelude.{◌≡◌, ◌≢◌, ℕ, List, [], Some, codes, slice_get, IfOk, IsErrOf};
 ghost use Rattle.clap.specs.Words.{fault_of};
-ghost use Rattle.tool_command.specs.Command.{Asks, AsksToFormat, AsksToShow, AsksToDrain, AsksToGen, AsksToRun, AsksToRebuild, AsksToReplay, IsFaultless, IsUsage, texts, image_name};
-ghost use Rattle.tool_command.specs.CommandLine.{format_app, show_app, drain_app, gen_app, run_app, rebuild_app, replay_app};
-ghost use Rattle.image_run.specs.Running.{Options};
+ghost use Rattle.tool_command.specs.Command.{Asks, IsFaultless, IsUsage, texts, image_name};
+ghost use Rattle.tool_command.specs.CommandLine.{format_app, show_app, drain_app, gen_app, run_app, rebuild_app, replay_app, IsTaken, IsMatchedBy};
 ghost use Rattle.tool_command.specs.Invocations.{command_of};
 
 use crate::command_line::{
     Refusal, drain_command, format_command, gen_command, has_flag, match_words, number_of,
     number_or, rebuild_command, replay_command, run_command, show_command, text_of,
 };
-use crate::trace_plan::{GREATEST_SEED, MOST_REQUESTS, TracePlan};
-use image_run::{MOST_BUDGET, MOST_WORKERS, RunOptions};
+use crate::trace_plan::TracePlan;
+use clap::ArgMatches;
+use image_run::{MOST_BUDGET, RunOptions};
 use size_table::SizeClass;
 use std::alloc::Global;
-use super_block::{Geometry, LARGEST_CAPACITY, LAST_CLASS};
+use super_block::Geometry;
 
 /// What the words ask for.
 #[derive(Clone, Copy)]
@@ -118,147 +118,162 @@ fn parse_command<'a>(
     Err(Refusal::Usage)
 }
 
-// In words that clap takes, each argument that has to be there is, and each number lies in its
-// bounds: the arms for the want of one are never reached, here and in the functions below.
 fn parse_format<'a>(alloc: Global, words: &'a [String]) -> Result<Invocation<'a>, Refusal>
     requires { slice_get (texts words.now) 0 ≡ Some (codes "format") }
     ensures ok { IfOk result (λ invocation. Asks (texts words.entry.now) (command_of invocation)) }
-    ensures err { IsErrOf result Refusal.Usage → (image : List ℕ) (capacity : ℕ)
-        → AsksToFormat (texts words.entry.now) image capacity → ⊥ }
-    ensures usage { IsErrOf result Refusal.Usage
+    ensures err { IsErrOf result Refusal.Usage
         → fault_of format_app (texts words.entry.now) ≢ [] }
 {
     let matches = match_words(format_command(alloc)?, words)?;
-    let Some(image) = text_of(&matches, "IMAGE") else {
-        unreachable!();
-    };
-    let Some(capacity) = number_of(&matches, "S", 1, LARGEST_CAPACITY) else {
-        unreachable!();
-    };
-    let layout = Geometry::new(capacity);
-    Ok(Invocation::Format { image, layout })
+    Ok(read_format(&matches))
 }
 
 fn parse_show<'a>(alloc: Global, words: &'a [String]) -> Result<Invocation<'a>, Refusal>
     requires { slice_get (texts words.now) 0 ≡ Some (codes "show") }
     ensures ok { IfOk result (λ invocation. Asks (texts words.entry.now) (command_of invocation)) }
-    ensures err { IsErrOf result Refusal.Usage → (image : List ℕ) (with_map : Bool)
-        → AsksToShow (texts words.entry.now) image with_map → ⊥ }
-    ensures usage { IsErrOf result Refusal.Usage
+    ensures err { IsErrOf result Refusal.Usage
         → fault_of show_app (texts words.entry.now) ≢ [] }
 {
     let matches = match_words(show_command(alloc)?, words)?;
-    let Some(image) = text_of(&matches, "IMAGE") else {
-        unreachable!();
-    };
-    let with_map = has_flag(&matches, "map");
-    Ok(Invocation::Show { image, with_map })
+    Ok(read_show(&matches))
 }
 
 fn parse_drain<'a>(alloc: Global, words: &'a [String]) -> Result<Invocation<'a>, Refusal>
     requires { slice_get (texts words.now) 0 ≡ Some (codes "drain") }
     ensures ok { IfOk result (λ invocation. Asks (texts words.entry.now) (command_of invocation)) }
-    ensures err { IsErrOf result Refusal.Usage → (image : List ℕ) (class : ℕ)
-        → AsksToDrain (texts words.entry.now) image class → ⊥ }
-    ensures usage { IsErrOf result Refusal.Usage
+    ensures err { IsErrOf result Refusal.Usage
         → fault_of drain_app (texts words.entry.now) ≢ [] }
 {
     let matches = match_words(drain_command(alloc)?, words)?;
-    let Some(image) = text_of(&matches, "IMAGE") else {
-        unreachable!();
-    };
-    let Some(class) = number_of(&matches, "CLASS", 1, LAST_CLASS) else {
-        unreachable!();
-    };
-    let class = SizeClass::new(class as u8);
-    Ok(Invocation::Drain { image, class })
+    Ok(read_drain(&matches))
 }
 
 fn parse_gen<'a>(alloc: Global, words: &'a [String]) -> Result<Invocation<'a>, Refusal>
     requires { slice_get (texts words.now) 0 ≡ Some (codes "gen") }
     ensures ok { IfOk result (λ invocation. Asks (texts words.entry.now) (command_of invocation)) }
-    ensures err { IsErrOf result Refusal.Usage → (requests seed : ℕ)
-        → AsksToGen (texts words.entry.now) requests seed → ⊥ }
-    ensures usage { IsErrOf result Refusal.Usage
+    ensures err { IsErrOf result Refusal.Usage
         → fault_of gen_app (texts words.entry.now) ≢ [] }
 {
     let matches = match_words(gen_command(alloc)?, words)?;
-    let Some(requests) = number_of(&matches, "N", 0, MOST_REQUESTS) else {
-        unreachable!();
-    };
-    let Some(seed) = number_of(&matches, "SEED", 0, GREATEST_SEED) else {
-        unreachable!();
-    };
-    let plan = TracePlan::new(requests, seed);
-    Ok(Invocation::Gen { plan })
+    Ok(read_gen(&matches))
 }
 
 fn parse_run<'a>(alloc: Global, words: &'a [String]) -> Result<Invocation<'a>, Refusal>
     requires { slice_get (texts words.now) 0 ≡ Some (codes "run") }
     ensures ok { IfOk result (λ invocation. Asks (texts words.entry.now) (command_of invocation)) }
-    ensures err { IsErrOf result Refusal.Usage → (image : List ℕ) (options : Options)
-        → AsksToRun (texts words.entry.now) image options → ⊥ }
-    ensures usage { IsErrOf result Refusal.Usage
+    ensures err { IsErrOf result Refusal.Usage
         → fault_of run_app (texts words.entry.now) ≢ [] }
 {
     let matches = match_words(run_command(alloc)?, words)?;
-    let Some(image) = text_of(&matches, "IMAGE") else {
-        unreachable!();
-    };
-    let Some(workers) = number_of(&matches, "workers", 1, MOST_WORKERS) else {
-        unreachable!();
-    };
-    let Some(budget) = number_or(&matches, "stop", MOST_BUDGET, 0, MOST_BUDGET) else {
-        unreachable!();
-    };
-    let Some(seed) = number_or(&matches, "seed", 0, 0, u64::MAX) else {
-        unreachable!();
-    };
-    let sum = has_flag(&matches, "sum");
-    let map = has_flag(&matches, "map");
-    let options = RunOptions::new(workers, budget, seed).telling(sum, map);
-    Ok(Invocation::Run { image, options })
+    Ok(read_run(&matches))
 }
 
 fn parse_rebuild<'a>(alloc: Global, words: &'a [String]) -> Result<Invocation<'a>, Refusal>
     requires { slice_get (texts words.now) 0 ≡ Some (codes "rebuild") }
     ensures ok { IfOk result (λ invocation. Asks (texts words.entry.now) (command_of invocation)) }
-    ensures err { IsErrOf result Refusal.Usage → (image : List ℕ) (budget seed : ℕ)
-        → AsksToRebuild (texts words.entry.now) image budget seed → ⊥ }
-    ensures usage { IsErrOf result Refusal.Usage
+    ensures err { IsErrOf result Refusal.Usage
         → fault_of rebuild_app (texts words.entry.now) ≢ [] }
 {
     let matches = match_words(rebuild_command(alloc)?, words)?;
-    let Some(image) = text_of(&matches, "IMAGE") else {
-        unreachable!();
-    };
-    let Some(budget) = number_or(&matches, "stop", MOST_BUDGET, 0, MOST_BUDGET) else {
-        unreachable!();
-    };
-    let Some(seed) = number_or(&matches, "seed", 0, 0, u64::MAX) else {
-        unreachable!();
-    };
-    Ok(Invocation::Rebuild {
-        image,
-        budget,
-        seed,
-    })
+    Ok(read_rebuild(&matches))
 }
 
 fn parse_replay<'a>(alloc: Global, words: &'a [String]) -> Result<Invocation<'a>, Refusal>
     requires { slice_get (texts words.now) 0 ≡ Some (codes "replay") }
     ensures ok { IfOk result (λ invocation. Asks (texts words.entry.now) (command_of invocation)) }
-    ensures err { IsErrOf result Refusal.Usage → (image : List ℕ) (seed : ℕ)
-        → AsksToReplay (texts words.entry.now) image seed → ⊥ }
-    ensures usage { IsErrOf result Refusal.Usage
+    ensures err { IsErrOf result Refusal.Usage
         → fault_of replay_app (texts words.entry.now) ≢ [] }
 {
     let matches = match_words(replay_command(alloc)?, words)?;
-    let Some(image) = text_of(&matches, "IMAGE") else {
-        unreachable!();
-    };
-    let Some(seed) = number_or(&matches, "seed", 0, 0, u64::MAX) else {
-        unreachable!();
-    };
-    Ok(Invocation::Replay { image, seed })
+    Ok(read_replay(&matches))
+}
+
+// What the matches ask for, of words that clap took as those of the command: each argument that has
+// to be there is, and each number lies in its bounds.
+fn read_format<'a>(matches: &ArgMatches<'a>) -> Invocation<'a>
+    requires { (words : List (List ℕ)) × IsTaken format_app words
+        × IsMatchedBy format_app words matches.now }
+    ensures { (words : List (List ℕ)) → IsTaken format_app words
+        → IsMatchedBy format_app words matches.now → Asks words (command_of result) }
+{
+    let image = text_of(matches, "IMAGE");
+    let layout = Geometry::new(number_of(matches, "S"));
+    Invocation::Format { image, layout }
+}
+
+fn read_show<'a>(matches: &ArgMatches<'a>) -> Invocation<'a>
+    requires { (words : List (List ℕ)) × IsTaken show_app words
+        × IsMatchedBy show_app words matches.now }
+    ensures { (words : List (List ℕ)) → IsTaken show_app words
+        → IsMatchedBy show_app words matches.now → Asks words (command_of result) }
+{
+    let image = text_of(matches, "IMAGE");
+    let with_map = has_flag(matches, "map");
+    Invocation::Show { image, with_map }
+}
+
+fn read_drain<'a>(matches: &ArgMatches<'a>) -> Invocation<'a>
+    requires { (words : List (List ℕ)) × IsTaken drain_app words
+        × IsMatchedBy drain_app words matches.now }
+    ensures { (words : List (List ℕ)) → IsTaken drain_app words
+        → IsMatchedBy drain_app words matches.now → Asks words (command_of result) }
+{
+    let image = text_of(matches, "IMAGE");
+    let class = SizeClass::new(number_of(matches, "CLASS") as u8);
+    Invocation::Drain { image, class }
+}
+
+fn read_gen<'a>(matches: &ArgMatches<'a>) -> Invocation<'a>
+    requires { (words : List (List ℕ)) × IsTaken gen_app words
+        × IsMatchedBy gen_app words matches.now }
+    ensures { (words : List (List ℕ)) → IsTaken gen_app words
+        → IsMatchedBy gen_app words matches.now → Asks words (command_of result) }
+{
+    let requests = number_of(matches, "N");
+    let seed = number_of(matches, "SEED");
+    let plan = TracePlan::new(requests, seed);
+    Invocation::Gen { plan }
+}
+
+fn read_run<'a>(matches: &ArgMatches<'a>) -> Invocation<'a>
+    requires { (words : List (List ℕ)) × IsTaken run_app words
+        × IsMatchedBy run_app words matches.now }
+    ensures { (words : List (List ℕ)) → IsTaken run_app words
+        → IsMatchedBy run_app words matches.now → Asks words (command_of result) }
+{
+    let image = text_of(matches, "IMAGE");
+    let workers = number_of(matches, "workers");
+    let budget = number_or(matches, "stop", MOST_BUDGET);
+    let seed = number_or(matches, "seed", 0);
+    let sum = has_flag(matches, "sum");
+    let map = has_flag(matches, "map");
+    let options = RunOptions::new(workers, budget, seed).telling(sum, map);
+    Invocation::Run { image, options }
+}
+
+fn read_rebuild<'a>(matches: &ArgMatches<'a>) -> Invocation<'a>
+    requires { (words : List (List ℕ)) × IsTaken rebuild_app words
+        × IsMatchedBy rebuild_app words matches.now }
+    ensures { (words : List (List ℕ)) → IsTaken rebuild_app words
+        → IsMatchedBy rebuild_app words matches.now → Asks words (command_of result) }
+{
+    let image = text_of(matches, "IMAGE");
+    let budget = number_or(matches, "stop", MOST_BUDGET);
+    let seed = number_or(matches, "seed", 0);
+    Invocation::Rebuild {
+        image,
+        budget,
+        seed,
+    }
+}
+
+fn read_replay<'a>(matches: &ArgMatches<'a>) -> Invocation<'a>
+    requires { (words : List (List ℕ)) × IsTaken replay_app words
+        × IsMatchedBy replay_app words matches.now }
+    ensures { (words : List (List ℕ)) → IsTaken replay_app words
+        → IsMatchedBy replay_app words matches.now → Asks words (command_of result) }
+{
+    let image = text_of(matches, "IMAGE");
+    let seed = number_or(matches, "seed", 0);
+    Invocation::Replay { image, seed }
 }

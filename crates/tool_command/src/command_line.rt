@@ -1,9 +1,9 @@
 //! What the crate clap is told of each command, and what is read of its matches.
-ghost use Rattle.std.specs.Prelude.{◌≡◌, ◌≢◌, ◌≤◌, ℕ, true, [], Some, IfOk, IfSome, IfNone, IsErrOf, option_map};
-ghost use Rattle.clap.specs.Words.{app_of, kind_of, is_simple, is_simple_and_free, fault_of, first_of, rows_of, found_of, with_rule};
+ghost use Rattle.std.specs.Prelude.{◌≡◌, ◌≢◌, ◌<◌, ◌^◌, ℕ, true, List, [], IfOk, IsErrOf};
+ghost use Rattle.clap.specs.Words.{app_of, kind_of, is_simple, is_simple_and_free, fault_of, rows_of, found_of, with_rule};
 ghost use Rattle.clap.specs.declared.error.kind.ErrorKind.TheVariants.{OutOfMemory};
 ghost use Rattle.tool_command.specs.Command.{texts};
-ghost use Rattle.tool_command.specs.CommandLine.{format_app, show_app, drain_app, gen_app, with_limits, run_app, rebuild_app, replay_app, word_rule, number_rule, option_rule, needed_option_rule, flag_rule, IsMatchedBy, HasNumber, HasNumberOr, HasFlag};
+ghost use Rattle.tool_command.specs.CommandLine.{format_app, show_app, drain_app, gen_app, with_limits, run_app, rebuild_app, replay_app, word_rule, number_rule, option_rule, needed_option_rule, flag_rule, IsMatchedBy, HasText, HasNumber, HasNumberOr, HasFlag};
 ghost use Rattle.tool_command.specs.declared.command_line.Refusal.TheVariants.{Usage, Memory};
 
 use crate::trace_plan::{GREATEST_SEED, MOST_REQUESTS};
@@ -192,54 +192,47 @@ pub fn match_words<'a>(command: Command<'a>, words: &'a [String]) -> Result<ArgM
     Ok(command.try_get_matches_from(words)?)
 }
 
-/// The text given for an argument.
+/// The text given for an argument, which is given.
 #[tactic(auto, using(crate::proofs::CommandLemmas::text_in_rows))]
-pub fn text_of<'a>(matches: &ArgMatches<'a>, id: &str) -> Option<&'a str>
-    ensures { option_map (λ text. text.now) result
-        ≡ first_of id.now (rows_of (found_of matches.now)) }
+pub fn text_of<'a>(matches: &ArgMatches<'a>, id: &str) -> &'a str
+    requires { (text : List ℕ) × HasText (rows_of (found_of matches.now)) id.now text }
+    ensures { HasText (rows_of (found_of matches.now)) id.now result.now }
 {
-    matches.get_str(id)
+    let Some(text) = matches.get_str(id) else {
+        unreachable!();
+    };
+    text
 }
 
-/// The number given for an argument, which lies in these bounds.
-pub fn number_of(matches: &ArgMatches<'_>, id: &str, least: u64, most: u64) -> Option<u64>
-    ensures some { IfSome result (λ n. HasNumber (rows_of (found_of matches.now)) id.now n
-        × (least ≤ n) × (n ≤ most)) }
-    ensures none { IfNone result ((n : ℕ) → HasNumber (rows_of (found_of matches.now)) id.now n
-        → least ≤ n → n ≤ most → ⊥) }
+/// The number given for an argument, which is given.
+pub fn number_of(matches: &ArgMatches<'_>, id: &str) -> u64
+    requires { (n : ℕ) × HasNumber (rows_of (found_of matches.now)) id.now n × (n < 2 ^ 64) }
+    ensures { HasNumber (rows_of (found_of matches.now)) id.now result }
+{
+    let Some(number) = matches.get_one::<u64>(id) else {
+        unreachable!();
+    };
+    number
+}
+
+/// The number given for an argument; where none was given, the other.
+pub fn number_or(matches: &ArgMatches<'_>, id: &str, other: u64) -> u64
+    requires { (n : ℕ) × HasNumberOr (rows_of (found_of matches.now)) id.now other n
+        × (n < 2 ^ 64) }
+    ensures { HasNumberOr (rows_of (found_of matches.now)) id.now other result }
 {
     match matches.get_one::<u64>(id) {
-        Some(number) if least <= number && number <= most => Some(number),
-        _ => None,
-    }
-}
-
-/// The number given for an argument, which lies in these bounds; where none was given, the other.
-pub fn number_or(
-    matches: &ArgMatches<'_>,
-    id: &str,
-    other: u64,
-    least: u64,
-    most: u64,
-) -> Option<u64>
-    requires { (least ≤ other) × (other ≤ most) }
-    ensures some { IfSome result (λ n. HasNumberOr (rows_of (found_of matches.now)) id.now other n
-        × (least ≤ n) × (n ≤ most)) }
-    ensures none { IfNone result ((n : ℕ)
-        → HasNumberOr (rows_of (found_of matches.now)) id.now other n
-        → least ≤ n → n ≤ most → ⊥) }
-{
-    match text_of(matches, id) {
-        Some(_) => number_of(matches, id, least, most),
-        None => Some(other),
+        Some(number) => number,
+        None => other,
     }
 }
 
 /// Whether an option was given.
+#[tactic(auto, using(crate::proofs::CommandLemmas::text_in_rows))]
 pub fn has_flag(matches: &ArgMatches<'_>, id: &str) -> bool
     ensures { HasFlag (rows_of (found_of matches.now)) id.now result }
 {
-    match text_of(matches, id) {
+    match matches.get_str(id) {
         Some(text) => text == "true",
         None => false,
     }

@@ -1,26 +1,21 @@
-use Rattle.std.proofs.Common.{◌≡◌, ◌∙◌, ap, sym, rules, option_map, subst}
-use Rattle.heap_model.specs.Sizes.{IsClass}
-use Rattle.super_block.specs.declared.layout.TheConstants.{LAST_CLASS}
-use Rattle.tool_command.specs.CommandLine.{drain_app, class_id}
-use Rattle.tool_command.proofs.CommandLemmas.{asks_drain, is_taken, no_image_given, no_number_given, if_none}
-use Rattle.tool_command.proofs.TakenLemmas.{drain_asked}
+use Rattle.std.proofs.Common.{rules, IsErrOf}
+use Rattle.tool_command.specs.Command.{texts}
+use Rattle.tool_command.specs.CommandLine.{drain_app}
+use Rattle.tool_command.specs.declared.command_line.Refusal.TheVariants.{Usage}
+use Rattle.tool_command.proofs.CommandLemmas.{taken_as, faulty_as}
 use Rattle.tool_command.proofs.command.parse_drain.Goals as goal
 
-pub unreachable-requires : goal.unreachable-requires
-unreachable-requires c =
-    let asked = drain_asked _ (is_taken _ _ _ c.in_ok-matches.ensures.ok drain_app c.in_ok-drain_command.ensures c.requires) in
-    no_image_given _ _ _ c.in_ok-matches.ensures.ok drain_app c.in_ok-drain_command.ensures asked.0
-    (sym (ap (option_map (λ text. text.now)) c.in_default.is) ∙ c.text_of.ensures) asked.2.named
+pub read_drain-requires : goal.read_drain-requires
+read_drain-requires c =
+    let taken = taken_as _ drain_app _ _ c.in_ok-matches.ensures.ok c.in_ok-drain_command.ensures c.requires in
+    (texts c.args.words.now, taken.0, taken.1)
 
-pub unreachable-requires-in_default-number_of : goal.unreachable-requires-in_default-number_of
-unreachable-requires-in_default-number_of c =
-    let asked = drain_asked _ (is_taken _ _ _ c.in_ok-matches.ensures.ok drain_app c.in_ok-drain_command.ensures c.requires) in
-    no_number_given _ _ _ c.in_ok-matches.ensures.ok drain_app c.in_ok-drain_command.ensures class_id 1 LAST_CLASS asked.1
-    (if_none c.number_of.result c.in_default-number_of.is c.number_of.ensures.none) asked.2.counted asked.2.is_class.some asked.2.is_class.last
+pub returns-in_err-matches-clause-err : goal.returns-in_err-matches-clause-err
+returns-in_err-matches-clause-err c is =
+    let refused : IsErrOf c.match_words.result Usage = search rules in
+    faulty_as _ drain_app _ c.in_ok-drain_command.ensures (c.match_words.ensures.err refused)
 
 pub returns-clause-ok : goal.returns-clause-ok
 returns-clause-ok c =
-    let same : c.new-class.result.number ≡ c.in-Some-number_of.class = search rules in
-    rw same (asks_drain _ _ _ c.in_ok-matches.ensures.ok c.in_ok-drain_command.ensures c.requires c.in-Some.image.now c.in-Some-number_of.class
-    (sym (ap (option_map (λ text. text.now)) c.in-Some.is) ∙ c.text_of.ensures)
-    c.in-Some-number_of.ensures.some.0 (subst IsClass same c.new-class.result.is))
+    let taken = taken_as _ drain_app _ _ c.in_ok-matches.ensures.ok c.in_ok-drain_command.ensures c.requires in
+    c.read_drain.ensures _ taken.0 taken.1

@@ -1,24 +1,21 @@
-use Rattle.std.proofs.Common.{◌∙◌, ap, sym, option_map, arith}
-use Rattle.tool_command.specs.CommandLine.{replay_app, seed_id}
-use Rattle.tool_command.proofs.CommandLemmas.{asks_replay, is_taken, no_image_given, no_number_or, if_none}
-use Rattle.tool_command.proofs.TakenLemmas.{replay_asked}
+use Rattle.std.proofs.Common.{rules, IsErrOf}
+use Rattle.tool_command.specs.Command.{texts}
+use Rattle.tool_command.specs.CommandLine.{replay_app}
+use Rattle.tool_command.specs.declared.command_line.Refusal.TheVariants.{Usage}
+use Rattle.tool_command.proofs.CommandLemmas.{taken_as, faulty_as}
 use Rattle.tool_command.proofs.command.parse_replay.Goals as goal
 
-pub unreachable-requires : goal.unreachable-requires
-unreachable-requires c =
-    let asked = replay_asked _ (is_taken _ _ _ c.in_ok-matches.ensures.ok replay_app c.in_ok-replay_command.ensures c.requires) in
-    no_image_given _ _ _ c.in_ok-matches.ensures.ok replay_app c.in_ok-replay_command.ensures asked.0
-    (sym (ap (option_map (λ text. text.now)) c.in_default.is) ∙ c.text_of.ensures) asked.2.named
+pub read_replay-requires : goal.read_replay-requires
+read_replay-requires c =
+    let taken = taken_as _ replay_app _ _ c.in_ok-matches.ensures.ok c.in_ok-replay_command.ensures c.requires in
+    (texts c.args.words.now, taken.0, taken.1)
 
-pub unreachable-requires-in_default-number_or : goal.unreachable-requires-in_default-number_or
-unreachable-requires-in_default-number_or c =
-    let asked = replay_asked _ (is_taken _ _ _ c.in_ok-matches.ensures.ok replay_app c.in_ok-replay_command.ensures c.requires) in
-    no_number_or _ _ _ c.in_ok-matches.ensures.ok replay_app c.in_ok-replay_command.ensures seed_id 0 0 18446744073709551615 asked.1
-    (if_none c.number_or.result c.in_default-number_or.is c.number_or.ensures.none) asked.2.seeded (omega arith) (let fits = asked.2.fits in omega arith)
+pub returns-in_err-matches-clause-err : goal.returns-in_err-matches-clause-err
+returns-in_err-matches-clause-err c is =
+    let refused : IsErrOf c.match_words.result Usage = search rules in
+    faulty_as _ replay_app _ c.in_ok-replay_command.ensures (c.match_words.ensures.err refused)
 
 pub returns-clause-ok : goal.returns-clause-ok
 returns-clause-ok c =
-    let most = c.in-Some-number_or.ensures.some.2 in
-    asks_replay _ _ _ c.in_ok-matches.ensures.ok c.in_ok-replay_command.ensures c.requires c.in-Some.image.now c.in-Some-number_or.seed
-    (sym (ap (option_map (λ text. text.now)) c.in-Some.is) ∙ c.text_of.ensures)
-    c.in-Some-number_or.ensures.some.0 (omega arith)
+    let taken = taken_as _ replay_app _ _ c.in_ok-matches.ensures.ok c.in_ok-replay_command.ensures c.requires in
+    c.read_replay.ensures _ taken.0 taken.1

@@ -1,9 +1,20 @@
-use Rattle.std.proofs.Common.{◌∙◌, ap, sym, option_map}
-use Rattle.clap.specs.Words.{rows_of, found_of}
-use Rattle.tool_command.proofs.CommandLemmas.{none_given}
+use Rattle.std.proofs.Common.{◌≡◌, ◌∙◌, Some, None, sym, refl, inl, inr}
+use Rattle.std.specs.Str.Parse.{ParsesUnsigned, ExplainsUnsignedError, HasUnsignedDigitsIfOk}
+use Rattle.clap.specs.Words.{found_of}
+use Rattle.tool_command.proofs.CommandLemmas.{has_number, number_read}
 use Rattle.tool_command.proofs.command_line.number_or.Goals as goal
 
-pub returns-in-Some-clause-none : goal.returns-in-Some-clause-none
-returns-in-Some-clause-none c =
-    none_given c.number_of.result (rows_of (found_of c.args.matches.now)) c.args.id.now c.in-Some.field-0.now c.args.other c.args.least c.args.most
-    (sym (ap (option_map (λ text. text.now)) c.in-Some.is) ∙ c.text_of.ensures) c.number_of.ensures.none
+pub returns-in-Some : goal.returns-in-Some
+returns-in-Some c =
+    inl (has_number _ (λ bs r. ParsesUnsigned 64 10 bs r × ExplainsUnsignedError 10 bs r × HasUnsignedDigitsIfOk bs r) (λ u x g. g.0)
+    (found_of c.args.matches.now) c.args.id.now c.get_one.result c.get_one.ensures.none c.get_one.ensures.value c.in-Some.number c.in-Some.is)
+
+pub returns-in-None : goal.returns-in-None
+returns-in-None c = elim c.requires.1 [
+  | inl has ↦
+      let read = number_read _ (λ bs r. ParsesUnsigned 64 10 bs r × ExplainsUnsignedError 10 bs r × HasUnsignedDigitsIfOk bs r) (λ u x g. g.0)
+      (found_of c.args.matches.now) c.args.id.now c.get_one.result c.get_one.ensures.none c.get_one.ensures.value c.requires.0 has c.requires.2 in
+      let bad : Some c.requires.0 ≡ None = sym read ∙ c.in-None.is in
+      absurd (cc)
+  | inr absent ↦ inr (absent.0, refl)
+]
