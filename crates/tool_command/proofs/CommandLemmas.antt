@@ -1,9 +1,10 @@
 -- What clap's matches say of the command that is asked for.
-use Rattle.std.proofs.Common.{◌≡◌, ◌<◌, ◌^◌, ◌∙◌, ℕ, Bool, List, [], ◌∷◌, length, String, Option, Some, None, Result, Ok, Err, codes, refl, sym, ap, subst, arith}
-use Rattle.std.specs.Prelude.{slice_get, unwrap_or}
+use Rattle.std.proofs.Common.{◌≡◌, ◌<◌, ◌^◌, ◌∙◌, ℕ, Bool, List, [], ◌∷◌, length, String, Option, Some, None, Result, Ok, Err, IfOk, codes, refl, sym, ap, subst, arith}
+use Rattle.std.specs.Prelude.{IsOkAnd, slice_get, unwrap_or}
 use Rattle.std.specs.declared.alloc.Global.{Global}
 use Rattle.std.specs.Str.Parse.{ParsesUnsigned}
-use Rattle.clap.specs.Words.{App, ReadsOne, first_of, one_text, first_value, rows_of, found_of, fault_of, matches_of}
+use Rattle.clap.specs.Words.{App, app_of, ReadsOne, first_of, one_text, first_value, rows_of, found_of, fault_of, matches_of}
+use Rattle.clap.specs.declared.builder.command.Command.{Command}
 use Rattle.clap.specs.declared.parser.matches.ArgMatches.{ArgMatches}
 use Rattle.clap.specs.declared.parser.matches.Found.{Found}
 use Rattle.clap.proofs.WalkLemmas.{one_text-rows, first_value-rows}
@@ -52,15 +53,23 @@ module _ (E : Type 0) (G : List ℕ → Result ℕ E → Type 0) (only : (u : Li
           e ∙ ap (λ (k : ℕ). Some k) ((only has.text (Ok m) read).1 ∙ has.counted.value)
 
 -- words that a command matches, which is told as this one, and which name it, are taken as its words
-pub taken_as : (app wanted : App) (words : List (List ℕ)) (m : ArgMatches) → IsMatchedBy app words m → app ≡ wanted → slice_get words 0 ≡ Some wanted.top.name
-    → IsTaken wanted words × IsMatchedBy wanted words m
-taken_as app wanted words m matched is first =
+pub taken_as : {E : Type 0} (wanted : App) (words : List (List ℕ)) (m : ArgMatches) (command : Result Command E) → IsOkAnd command (λ c. IsMatchedBy (app_of c) words m)
+    → IfOk command (λ c. app_of c ≡ wanted) → slice_get words 0 ≡ Some wanted.top.name → IsTaken wanted words × IsMatchedBy wanted words m
+taken_as wanted words m (Ok command) matched is first =
     let same : IsMatchedBy wanted words m = subst (λ (a : App). IsMatchedBy a words m) is matched in
     (record { named = first; faultless = same.faultless }, same)
+taken_as wanted words m (Err e) matched is first = absurd matched
 
 -- and those in which it finds a fault are at fault as its words
-pub faulty_as : (app wanted : App) (words : List (List ℕ)) → app ≡ wanted → (fault_of app words ≡ [] → ⊥) → fault_of wanted words ≡ [] → ⊥
-faulty_as app wanted words is faulty none = faulty (ap (λ (a : App). fault_of a words) is ∙ none)
+pub faulty_as : {E : Type 0} (wanted : App) (words : List (List ℕ)) (command : Result Command E) → IsOkAnd command (λ c. fault_of (app_of c) words ≡ [] → ⊥)
+    → IfOk command (λ c. app_of c ≡ wanted) → fault_of wanted words ≡ [] → ⊥
+faulty_as wanted words (Ok command) faulty is none = faulty (ap (λ (a : App). fault_of a words) is ∙ none)
+faulty_as wanted words (Err e) faulty is none = absurd faulty
+
+-- what holds of the command that is wanted holds of the one that is told as it
+pub told_has : {E : Type 0} (wanted : App) (P : App → Type 0) (command : Result Command E) → IfOk command (λ c. app_of c ≡ wanted) → P wanted → IfOk command (λ c. P (app_of c))
+told_has wanted P (Ok command) is has = subst P (sym is) has
+told_has wanted P (Err e) is has = tt
 
 -- what is read of the matches is what the words have
 module _ (app : App) (words : List (List ℕ)) (m : ArgMatches) (matched : IsMatchedBy app words m) where

@@ -124,7 +124,7 @@ fn parse_format<'a>(alloc: Global, words: &'a [String]) -> Result<Invocation<'a>
     ensures err { IsErrOf result Refusal.Usage
         → fault_of format_app (texts words.entry.now) ≢ [] }
 {
-    let matches = match_words(format_command(alloc)?, words)?;
+    let matches = match_words(format_command(alloc), words)?;
     Ok(read_format(&matches))
 }
 
@@ -134,7 +134,7 @@ fn parse_show<'a>(alloc: Global, words: &'a [String]) -> Result<Invocation<'a>, 
     ensures err { IsErrOf result Refusal.Usage
         → fault_of show_app (texts words.entry.now) ≢ [] }
 {
-    let matches = match_words(show_command(alloc)?, words)?;
+    let matches = match_words(show_command(alloc), words)?;
     Ok(read_show(&matches))
 }
 
@@ -144,7 +144,7 @@ fn parse_drain<'a>(alloc: Global, words: &'a [String]) -> Result<Invocation<'a>,
     ensures err { IsErrOf result Refusal.Usage
         → fault_of drain_app (texts words.entry.now) ≢ [] }
 {
-    let matches = match_words(drain_command(alloc)?, words)?;
+    let matches = match_words(drain_command(alloc), words)?;
     Ok(read_drain(&matches))
 }
 
@@ -154,7 +154,7 @@ fn parse_gen<'a>(alloc: Global, words: &'a [String]) -> Result<Invocation<'a>, R
     ensures err { IsErrOf result Refusal.Usage
         → fault_of gen_app (texts words.entry.now) ≢ [] }
 {
-    let matches = match_words(gen_command(alloc)?, words)?;
+    let matches = match_words(gen_command(alloc), words)?;
     Ok(read_gen(&matches))
 }
 
@@ -164,7 +164,7 @@ fn parse_run<'a>(alloc: Global, words: &'a [String]) -> Result<Invocation<'a>, R
     ensures err { IsErrOf result Refusal.Usage
         → fault_of run_app (texts words.entry.now) ≢ [] }
 {
-    let matches = match_words(run_command(alloc)?, words)?;
+    let matches = match_words(run_command(alloc), words)?;
     Ok(read_run(&matches))
 }
 
@@ -174,7 +174,7 @@ fn parse_rebuild<'a>(alloc: Global, words: &'a [String]) -> Result<Invocation<'a
     ensures err { IsErrOf result Refusal.Usage
         → fault_of rebuild_app (texts words.entry.now) ≢ [] }
 {
-    let matches = match_words(rebuild_command(alloc)?, words)?;
+    let matches = match_words(rebuild_command(alloc), words)?;
     Ok(read_rebuild(&matches))
 }
 
@@ -184,7 +184,7 @@ fn parse_replay<'a>(alloc: Global, words: &'a [String]) -> Result<Invocation<'a>
     ensures err { IsErrOf result Refusal.Usage
         → fault_of replay_app (texts words.entry.now) ≢ [] }
 {
-    let matches = match_words(replay_command(alloc)?, words)?;
+    let matches = match_words(replay_command(alloc), words)?;
     Ok(read_replay(&matches))
 }
 

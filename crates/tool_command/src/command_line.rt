@@ -1,5 +1,5 @@
 //! What the crate clap is told of each command, and what is read of its matches.
-ghost use Rattle.std.specs.Prelude.{◌≡◌, ◌≢◌, ◌<◌, ◌^◌, ℕ, true, List, [], IfOk, IsErrOf};
+ghost use Rattle.std.specs.Prelude.{◌≡◌, ◌≢◌, ◌<◌, ◌^◌, ℕ, true, List, [], IfOk, IsOkAnd, IsErrOf};
 ghost use Rattle.clap.specs.Words.{app_of, kind_of, is_simple, is_simple_and_free, fault_of, rows_of, found_of, with_rule};
 ghost use Rattle.clap.specs.declared.error.kind.ErrorKind.TheVariants.{OutOfMemory};
 ghost use Rattle.tool_command.specs.Command.{texts};
@@ -181,15 +181,20 @@ fn with_flag<'a>(
     command.arg(flag)
 }
 
-/// What clap makes of the words, of which the first is the command's name.
-pub fn match_words<'a>(command: Command<'a>, words: &'a [String]) -> Result<ArgMatches<'a>, Refusal>
-    requires simple { is_simple (app_of command) ≡ true }
-    requires free { is_simple_and_free (app_of command) ≡ true }
-    ensures ok { IfOk result (IsMatchedBy (app_of command.entry) (texts words.entry.now)) }
-    ensures err { IsErrOf result Refusal.Usage
-        → fault_of (app_of command.entry) (texts words.entry.now) ≢ [] }
+/// What clap makes of the words, of which the first is the command's name. It takes the command as
+/// it was built, with the want of memory that there may have been.
+pub fn match_words<'a>(
+    command: Result<Command<'a>, AllocError>,
+    words: &'a [String],
+) -> Result<ArgMatches<'a>, Refusal>
+    requires simple { IfOk command (λ built. is_simple (app_of built) ≡ true) }
+    requires free { IfOk command (λ built. is_simple_and_free (app_of built) ≡ true) }
+    ensures ok { IfOk result (λ matches. IsOkAnd command.entry (λ built.
+        IsMatchedBy (app_of built) (texts words.entry.now) matches)) }
+    ensures err { IsErrOf result Refusal.Usage → IsOkAnd command.entry (λ built.
+        fault_of (app_of built) (texts words.entry.now) ≢ []) }
 {
-    Ok(command.try_get_matches_from(words)?)
+    Ok(command?.try_get_matches_from(words)?)
 }
 
 /// The text given for an argument, which is given.

@@ -53,5 +53,5 @@ returns c words taken matched =
     let summed = told.sum ∙ flag_is _ words _ matched _ _ _ c.has_flag-sum.ensures asked.2.summed in
     let mapped = told.map ∙ flag_is _ words _ matched _ _ _ c.has_flag-map.ensures asked.2.mapped in
     let same : options_of c.telling-options.result ≡ asked.1 =
-        λ i. record { workers = by i; budget = within i; seed = seeded i; with_sum = summed i; with_map = mapped i } in
+    λ i. record { workers = by i; budget = within i; seed = seeded i; with_sum = summed i; with_map = mapped i } in
     rw (named, same) asked.2

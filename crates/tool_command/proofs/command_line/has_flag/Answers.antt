@@ -7,5 +7,5 @@ pub returns-in-Some : goal.returns-in-Some
 returns-in-Some c =
     let f = found_of c.args.matches.now in
     let given : Some c.in-Some.text.now ≡ first_of c.args.id.now (rows_of f) =
-        sym (ap (option_map (λ text. text.now)) c.in-Some.is) ∙ c.get_str.ensures ∙ text_in_rows f c.args.id.now in
+    sym (ap (option_map (λ text. text.now)) c.in-Some.is) ∙ c.get_str.ensures ∙ text_in_rows f c.args.id.now in
     rw (← given) (search rules)
