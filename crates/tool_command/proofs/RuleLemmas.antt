@@ -1,5 +1,7 @@
 -- What clap is told of an argument, step by step, and of a command that it is added to.
 use Rattle.std.proofs.Common.{◌≡◌, ◌∙◌, true, false, Option, Some, Result, Ok, Err, IfOk, ap}
+use Rattle.std.specs.Prelude.{IsOkAnd}
+use Rattle.std.specs.declared.alloc.AllocError.{AllocError}
 use Rattle.clap.specs.Walk.{Rule}
 use Rattle.clap.specs.Words.{App, AddsArg, app_of, rule_of, with_rule}
 use Rattle.clap.specs.declared.builder.action.ArgAction.{ArgAction}
@@ -42,13 +44,24 @@ module _ (before after : Arg) (rule : Rule) (told : IsTold before rule) where
   }
 
 -- a command that it is added to has its rule behind those that it had
-pub rule_added : {E : Type 0} (before : Command) (argument : Arg) (rule : Rule) (result : Result Command E) → IfOk result (λ after. AddsArg before argument after)
-    → IsTold argument rule → IfOk result (λ after. app_of after ≡ with_rule (app_of before) rule)
-rule_added before argument rule (Ok after) adds told = adds.shape told.own ∙ ap (with_rule (app_of before)) told.is
-rule_added before argument rule (Err e) adds told = tt
+pub rule_added : (before : Command) (built : Result Command AllocError) (argument : Arg) (rule : Rule) (result : Result Command AllocError) → built ≡ Ok before → IfOk result (λ after. AddsArg before argument after)
+    → IsTold argument rule → IfOk result (λ after. IsOkAnd built (λ shorter. app_of after ≡ with_rule (app_of shorter) rule))
+rule_added before built argument rule (Ok after) is adds told =
+    rw is (adds.shape told.own ∙ ap (with_rule (app_of before)) told.is)
+rule_added before built argument rule (Err e) is adds told = tt
 
--- a command in other words
-pub told_as : {E : Type 0} (first second : App) (result : Result Command E) → IfOk result (λ command. app_of command ≡ first) → first ≡ second
-    → IfOk result (λ command. app_of command ≡ second)
-told_as first second (Ok command) told same = told ∙ same
-told_as first second (Err e) told same = tt
+-- a command that is made of one that is told as this is told as that with the change
+pub told_with : (change : App → App) (wanted : App) (built result : Result Command AllocError) → IfOk built (λ shorter. app_of shorter ≡ wanted)
+    → IfOk result (λ longer. IsOkAnd built (λ shorter. app_of longer ≡ change (app_of shorter))) → IfOk result (λ longer. app_of longer ≡ change wanted)
+told_with change wanted (Ok shorter) (Ok longer) told made = made ∙ ap change told
+told_with change wanted (Err e) (Ok longer) told made = absurd made
+told_with change wanted built (Err e) told made = tt
+
+-- and two changes, one after the other, are one
+pub told_twice : (first second : App → App) (built between result : Result Command AllocError)
+    → IfOk between (λ longer. IsOkAnd built (λ shorter. app_of longer ≡ first (app_of shorter))) → IfOk result (λ longer. IsOkAnd between (λ shorter. app_of longer ≡ second (app_of shorter)))
+    → IfOk result (λ longer. IsOkAnd built (λ shorter. app_of longer ≡ second (first (app_of shorter))))
+told_twice first second (Ok shorter) (Ok between) (Ok longer) once twice = twice ∙ ap second once
+told_twice first second (Err e) (Ok between) (Ok longer) once twice = absurd once
+told_twice first second built (Err e) (Ok longer) once twice = absurd twice
+told_twice first second built between (Err e) once twice = tt

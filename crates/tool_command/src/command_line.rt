@@ -43,11 +43,14 @@ impl From<Error> for Refusal {
     }
 }
 
+// Each part is added to the command as it was built so far, want of memory and all: so a command is
+// a chain of parts, and no step of it has a way out of its own.
+
 /// `format IMAGE S`.
 pub fn format_command<'a>(alloc: Global) -> Result<Command<'a>, AllocError>
     ensures { IfOk result (λ command. app_of command ≡ format_app) }
 {
-    let command = with_word(alloc, Command::new(alloc, "format"), "IMAGE")?;
+    let command = with_word(alloc, Ok(Command::new(alloc, "format")), "IMAGE");
     with_number(alloc, command, "S", 1, LARGEST_CAPACITY)
 }
 
@@ -55,7 +58,7 @@ pub fn format_command<'a>(alloc: Global) -> Result<Command<'a>, AllocError>
 pub fn show_command<'a>(alloc: Global) -> Result<Command<'a>, AllocError>
     ensures { IfOk result (λ command. app_of command ≡ show_app) }
 {
-    let command = with_word(alloc, Command::new(alloc, "show"), "IMAGE")?;
+    let command = with_word(alloc, Ok(Command::new(alloc, "show")), "IMAGE");
     with_flag(alloc, command, "map")
 }
 
@@ -63,7 +66,7 @@ pub fn show_command<'a>(alloc: Global) -> Result<Command<'a>, AllocError>
 pub fn drain_command<'a>(alloc: Global) -> Result<Command<'a>, AllocError>
     ensures { IfOk result (λ command. app_of command ≡ drain_app) }
 {
-    let command = with_word(alloc, Command::new(alloc, "drain"), "IMAGE")?;
+    let command = with_word(alloc, Ok(Command::new(alloc, "drain")), "IMAGE");
     with_number(alloc, command, "CLASS", 1, LAST_CLASS)
 }
 
@@ -71,7 +74,7 @@ pub fn drain_command<'a>(alloc: Global) -> Result<Command<'a>, AllocError>
 pub fn gen_command<'a>(alloc: Global) -> Result<Command<'a>, AllocError>
     ensures { IfOk result (λ command. app_of command ≡ gen_app) }
 {
-    let command = with_number(alloc, Command::new(alloc, "gen"), "N", 0, MOST_REQUESTS)?;
+    let command = with_number(alloc, Ok(Command::new(alloc, "gen")), "N", 0, MOST_REQUESTS);
     with_number(alloc, command, "SEED", 0, GREATEST_SEED)
 }
 
@@ -79,10 +82,10 @@ pub fn gen_command<'a>(alloc: Global) -> Result<Command<'a>, AllocError>
 pub fn run_command<'a>(alloc: Global) -> Result<Command<'a>, AllocError>
     ensures { IfOk result (λ command. app_of command ≡ run_app) }
 {
-    let command = with_word(alloc, Command::new(alloc, "run"), "IMAGE")?;
-    let command = with_needed_option(alloc, command, "workers", 1, MOST_WORKERS)?;
-    let command = with_limits(alloc, command)?;
-    let command = with_flag(alloc, command, "sum")?;
+    let command = with_word(alloc, Ok(Command::new(alloc, "run")), "IMAGE");
+    let command = with_needed_option(alloc, command, "workers", 1, MOST_WORKERS);
+    let command = with_limits(alloc, command);
+    let command = with_flag(alloc, command, "sum");
     with_flag(alloc, command, "map")
 }
 
@@ -90,7 +93,7 @@ pub fn run_command<'a>(alloc: Global) -> Result<Command<'a>, AllocError>
 pub fn rebuild_command<'a>(alloc: Global) -> Result<Command<'a>, AllocError>
     ensures { IfOk result (λ command. app_of command ≡ rebuild_app) }
 {
-    let command = with_word(alloc, Command::new(alloc, "rebuild"), "IMAGE")?;
+    let command = with_word(alloc, Ok(Command::new(alloc, "rebuild")), "IMAGE");
     with_limits(alloc, command)
 }
 
@@ -98,41 +101,47 @@ pub fn rebuild_command<'a>(alloc: Global) -> Result<Command<'a>, AllocError>
 pub fn replay_command<'a>(alloc: Global) -> Result<Command<'a>, AllocError>
     ensures { IfOk result (λ command. app_of command ≡ replay_app) }
 {
-    let command = with_word(alloc, Command::new(alloc, "replay"), "IMAGE")?;
+    let command = with_word(alloc, Ok(Command::new(alloc, "replay")), "IMAGE");
     with_option(alloc, command, "seed", 0, u64::MAX)
 }
 
 // The command with the options `[--stop K] [--seed X]`.
-fn with_limits<'a>(alloc: Global, command: Command<'a>) -> Result<Command<'a>, AllocError>
-    ensures { IfOk result (λ limited. app_of limited ≡ with_limits (app_of command.entry)) }
+fn with_limits<'a>(
+    alloc: Global,
+    command: Result<Command<'a>, AllocError>,
+) -> Result<Command<'a>, AllocError>
+    ensures { IfOk result (λ limited. IsOkAnd command.entry (λ shorter.
+        app_of limited ≡ with_limits (app_of shorter))) }
 {
-    let command = with_option(alloc, command, "stop", 0, MOST_BUDGET)?;
+    let command = with_option(alloc, command, "stop", 0, MOST_BUDGET);
     with_option(alloc, command, "seed", 0, u64::MAX)
 }
 
 // The command with a word that has to be there.
 fn with_word<'a>(
     alloc: Global,
-    command: Command<'a>,
+    command: Result<Command<'a>, AllocError>,
     id: &'a str,
 ) -> Result<Command<'a>, AllocError>
-    ensures { IfOk result (λ longer. app_of longer
-        ≡ with_rule (app_of command.entry) (word_rule id.entry.now)) }
+    ensures { IfOk result (λ longer. IsOkAnd command.entry (λ shorter.
+        app_of longer ≡ with_rule (app_of shorter) (word_rule id.entry.now))) }
 {
+    let command = command?;
     command.arg(Arg::new(alloc, id).required(true))
 }
 
 // The command with a number of these bounds that has to be there.
 fn with_number<'a>(
     alloc: Global,
-    command: Command<'a>,
+    command: Result<Command<'a>, AllocError>,
     id: &'a str,
     least: u64,
     most: u64,
 ) -> Result<Command<'a>, AllocError>
-    ensures { IfOk result (λ longer. app_of longer
-        ≡ with_rule (app_of command.entry) (number_rule id.entry.now least most)) }
+    ensures { IfOk result (λ longer. IsOkAnd command.entry (λ shorter.
+        app_of longer ≡ with_rule (app_of shorter) (number_rule id.entry.now least most))) }
 {
+    let command = command?;
     let number = ValueParser::unsigned(least, most);
     command.arg(Arg::new(alloc, id).required(true).value_parser(number))
 }
@@ -140,14 +149,15 @@ fn with_number<'a>(
 // The command with an option that takes a number of these bounds.
 fn with_option<'a>(
     alloc: Global,
-    command: Command<'a>,
+    command: Result<Command<'a>, AllocError>,
     id: &'a str,
     least: u64,
     most: u64,
 ) -> Result<Command<'a>, AllocError>
-    ensures { IfOk result (λ longer. app_of longer
-        ≡ with_rule (app_of command.entry) (option_rule id.entry.now least most)) }
+    ensures { IfOk result (λ longer. IsOkAnd command.entry (λ shorter.
+        app_of longer ≡ with_rule (app_of shorter) (option_rule id.entry.now least most))) }
 {
+    let command = command?;
     let number = ValueParser::unsigned(least, most);
     command.arg(Arg::new(alloc, id).long(id).value_parser(number))
 }
@@ -155,14 +165,15 @@ fn with_option<'a>(
 // The command with such an option that has to be there.
 fn with_needed_option<'a>(
     alloc: Global,
-    command: Command<'a>,
+    command: Result<Command<'a>, AllocError>,
     id: &'a str,
     least: u64,
     most: u64,
 ) -> Result<Command<'a>, AllocError>
-    ensures { IfOk result (λ longer. app_of longer
-        ≡ with_rule (app_of command.entry) (needed_option_rule id.entry.now least most)) }
+    ensures { IfOk result (λ longer. IsOkAnd command.entry (λ shorter.
+        app_of longer ≡ with_rule (app_of shorter) (needed_option_rule id.entry.now least most))) }
 {
+    let command = command?;
     let number = ValueParser::unsigned(least, most);
     let option = Arg::new(alloc, id).long(id).required(true);
     command.arg(option.value_parser(number))
@@ -171,12 +182,13 @@ fn with_needed_option<'a>(
 // The command with an option without a value.
 fn with_flag<'a>(
     alloc: Global,
-    command: Command<'a>,
+    command: Result<Command<'a>, AllocError>,
     id: &'a str,
 ) -> Result<Command<'a>, AllocError>
-    ensures { IfOk result (λ longer. app_of longer
-        ≡ with_rule (app_of command.entry) (flag_rule id.entry.now)) }
+    ensures { IfOk result (λ longer. IsOkAnd command.entry (λ shorter.
+        app_of longer ≡ with_rule (app_of shorter) (flag_rule id.entry.now))) }
 {
+    let command = command?;
     let flag = Arg::new(alloc, id).long(id).action(ArgAction::SetTrue);
     command.arg(flag)
 }

@@ -1,14 +1,14 @@
-use Rattle.std.proofs.Common.{◌∙◌, ap}
-use Rattle.clap.specs.Words.{App, with_rule}
+use Rattle.std.proofs.Common.{Ok, codes}
+use Rattle.clap.specs.Words.{App, new_app, with_rule}
 use Rattle.image_run.specs.declared.options.TheConstants.{MOST_WORKERS}
-use Rattle.tool_command.specs.CommandLine.{image_id, workers_id, sum_id, map_id, word_rule, needed_option_rule, flag_rule, with_limits}
-use Rattle.tool_command.proofs.RuleLemmas.{told_as}
+use Rattle.tool_command.specs.CommandLine.{flag_rule, image_id, map_id, needed_option_rule, sum_id, with_limits, word_rule, workers_id}
+use Rattle.tool_command.proofs.RuleLemmas.{told_with}
 use Rattle.tool_command.proofs.command_line.run_command.Goals as goal
 
 pub returns : goal.returns
 returns c =
-    let named = c.in_ok-command.ensures ∙ ap (λ (a : App). with_rule a (word_rule image_id)) c.new.ensures.app in
-    let worked = c.in_ok-command-2.ensures ∙ ap (λ (a : App). with_rule a (needed_option_rule workers_id 1 MOST_WORKERS)) named in
-    let limited = c.in_ok-command-3.ensures ∙ ap with_limits worked in
-    let summed = c.in_ok-command-4.ensures ∙ ap (λ (a : App). with_rule a (flag_rule sum_id)) limited in
-    told_as _ _ _ c.with_flag-2.ensures (ap (λ (a : App). with_rule a (flag_rule map_id)) summed)
+    let step0 = told_with (λ (a : App). with_rule a (word_rule image_id)) (new_app (codes "run")) (Ok c.new.result) _ c.new.ensures.app c.with_word-command.ensures in
+    let step1 = told_with (λ (a : App). with_rule a (needed_option_rule workers_id 1 MOST_WORKERS)) _ _ _ step0 c.with_needed_option-command.ensures in
+    let step2 = told_with with_limits _ _ _ step1 c.with_limits-command.ensures in
+    let step3 = told_with (λ (a : App). with_rule a (flag_rule sum_id)) _ _ _ step2 c.with_flag-command.ensures in
+    told_with (λ (a : App). with_rule a (flag_rule map_id)) _ _ _ step3 c.with_flag.ensures

@@ -1,4 +1,4 @@
-use Rattle.std.proofs.Common.{◌≡◌, Some, rules}
+use Rattle.std.proofs.Common.{◌≡◌, Some, rules, Ok}
 use Rattle.clap.specs.Words.{new_rule}
 use Rattle.clap.specs.declared.builder.value_parser.ValueParser.TheVariants as parser
 use Rattle.tool_command.proofs.RuleLemmas.{IsTold, rule_added, needed, parsed}
@@ -6,7 +6,8 @@ use Rattle.tool_command.proofs.command_line.with_number.Goals as goal
 
 pub returns : goal.returns
 returns c =
+    let built : c.args.command ≡ Ok c.in_ok-command.command = search rules in
     let fresh : IsTold c.new.result (new_rule c.args.id.now) = record { own = c.new.ensures.optional.1; is = c.new.ensures.rule } in
     let number : c.value_parser.result.value_parser ≡ Some (parser.Unsigned c.args.least c.args.most) = search rules in
     let word = needed _ _ _ fresh c.required.ensures in
-    rule_added _ _ _ _ c.arg.ensures (parsed _ _ _ word _ c.value_parser.ensures.others number)
+    rule_added _ _ _ _ _ built c.arg.ensures (parsed _ _ _ word _ c.value_parser.ensures.others number)
