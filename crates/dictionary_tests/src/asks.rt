@@ -93,7 +93,7 @@ fn note(model: &mut Model, ask: Ask) -> Result<(), AllocError> {
 }
 
 /// What the first so many requests leave of an empty map.
-pub fn model_of(alloc: Global, asks: &[Ask], count: usize) -> Result<Model, AllocError> {
+fn model_of(alloc: Global, asks: &[Ask], count: usize) -> Result<Model, AllocError> {
     let mut model = BTreeMap::new(alloc);
     for ask in asks.iter().take(count) {
         note(&mut model, *ask)?;
@@ -119,22 +119,30 @@ fn ask_all(
     Ok(answered)
 }
 
-/// Makes the requests over the image, until the heap stops.
-pub fn run(
+/// Opens the image with a budget of so many steps, and with chances that are all this number.
+pub fn opened(
     alloc: Global,
     image: &[u64],
-    asks: &[Ask],
     (budget, number): (u64, u64),
-) -> Result<Left, Fail> {
+) -> Result<Standing<ConstantChance>, Fail> {
     if budget > MANY {
         return Err("the budget is too large".into());
     }
-    let mut heap = Standing::open(alloc, image, budget, ConstantChance(number))?;
+    Standing::open(alloc, image, budget, ConstantChance(number))
+}
+
+/// Makes the requests of the heap until it stops, and closes it.
+fn run_on(alloc: Global, mut heap: Standing<ConstantChance>, asks: &[Ask]) -> Result<Left, Fail> {
     let answered = ask_all(alloc, &mut heap, asks)?;
     Ok(Left {
         answered,
         closed: heap.finish(),
     })
+}
+
+/// Makes the requests over the image, until the heap stops.
+pub fn run(alloc: Global, image: &[u64], asks: &[Ask], bounds: (u64, u64)) -> Result<Left, Fail> {
+    run_on(alloc, opened(alloc, image, bounds)?, asks)
 }
 
 /// Recovers the image and reads its shards.
@@ -146,22 +154,20 @@ pub fn found_in(alloc: Global, image: &[u64]) -> Result<RecoveredShards, Fail> {
     })
 }
 
-/// Whether the image has the keys and values that the first so many requests leave of an empty map.
-pub fn is_after(alloc: Global, image: &[u64], asks: &[Ask], count: usize) -> Result<bool, Fail> {
-    let found = found_in(alloc, image)?;
-    Ok(found.is_after(alloc, asks, count)?)
+/// Whether the image has the keys and values that the requests leave of an empty map.
+pub fn is_after(alloc: Global, image: &[u64], asks: &[Ask]) -> Result<bool, Fail> {
+    Ok(found_in(alloc, image)?.is_after(alloc, asks, asks.len())?)
 }
 
-/// How many blocks the image holds.
-pub fn held_in(alloc: Global, image: &[u64]) -> Result<usize, Fail> {
-    let found = found_in(alloc, image)?;
-    Ok(found.held)
+/// Whether each of the bytes is this one.
+pub fn all_are(bytes: &[u8], byte: u8) -> bool {
+    bytes.iter().all(|found| *found == byte)
 }
 
 /// Whether the value is this one, if there is one.
 fn is_value(value: &[u8], wanted: Option<&(usize, u8)>) -> bool {
     match wanted {
-        Some((len, byte)) => value.len() == *len && value.iter().all(|found| found == byte),
+        Some((len, byte)) => value.len() == *len && all_are(value, *byte),
         None => false,
     }
 }
@@ -184,7 +190,7 @@ impl RecoveredShards {
     }
 
     /// Whether the keys and values are those of the model.
-    pub fn shows(&self, model: &Model) -> bool {
+    fn shows(&self, model: &Model) -> bool {
         let mut count: usize = 0;
         for shard in &self.maps {
             if !has_all(model, shard) {

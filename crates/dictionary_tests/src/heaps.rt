@@ -6,6 +6,7 @@ use crate::checks::must_hold;
 use crate::recoveries::recovered;
 use heap_recover::Recovered;
 use image_text::{image_of, number};
+use region_header::Bytes;
 use std::alloc::{AllocError, Global};
 use std::process::Abort;
 use std::test::Fail;
@@ -32,28 +33,41 @@ fn told_heap(alloc: Global, text: &str) -> Result<Recovered, Fail> {
     recovered(alloc, &image)
 }
 
-fn joined(mut report: Vec<u8>, map: &[u8]) -> Result<Vec<u8>, AllocError> {
-    report.extend_from_slice(b"map:\n")?;
-    report.extend_from_slice(map)?;
-    Ok(report)
+fn reports(alloc: Global, heap: &Recovered, told: &str) -> Result<bool, AllocError> {
+    let report = report_text(alloc, heap, None, false)?;
+    Ok(report.as_slice() == told.as_bytes())
 }
 
-/// The report, a line, and the map.
-fn told(alloc: Global, heap: &Recovered) -> Result<Vec<u8>, AllocError> {
+fn maps(alloc: Global, heap: &Recovered, told: &str) -> Result<bool, AllocError> {
     let map = map_text(alloc, heap)?;
-    joined(
-        report_text(alloc, heap, None, false)?.into_vec(),
-        map.as_slice(),
-    )
+    Ok(map.as_slice() == told.as_bytes())
+}
+
+/// The image, the report and the map of a row.
+fn columns(row: &str) -> Option<(&str, &str, &str)> {
+    let (image, told) = row.split_once('\n')?;
+    let (report, map) = told.split_once("map:\n")?;
+    Some((image, report, map))
+}
+
+/// Asserts that this is told of the heap.
+fn must_tell(
+    rt: &(impl Abort + AllocGlobal),
+    heap: &Recovered,
+    (report, map): (&str, &str),
+    row: &str,
+) -> Result<(), AllocError> {
+    must_hold(rt, reports(rt.alloc(), heap, report)?, row);
+    must_hold(rt, maps(rt.alloc(), heap, map)?, row);
+    Ok(())
 }
 
 /// Reports and maps the heap of an image, of which the row's first line tells; the further ones are
-/// the report and the map.
+/// the report, and behind a line between them the map.
 fn tells(rt: &(impl Abort + AllocGlobal), row: &str) -> Result<(), Fail> {
-    let (image, wanted) = row.split_once('\n').ok_or("no row")?;
-    let found = told(rt.alloc(), &told_heap(rt.alloc(), image)?)?;
-    must_hold(rt, found.as_slice() == wanted.as_bytes(), row);
-    Ok(())
+    let (image, report, map) = columns(row).ok_or("no row")?;
+    let heap = told_heap(rt.alloc(), image)?;
+    Ok(must_tell(rt, &heap, (report, map), row)?)
 }
 
 /// Each row begins with `@`. The held blocks are those to which roots lead.
@@ -118,15 +132,24 @@ fn heaps_are_reported_and_mapped(rt: HostRuntime) -> Result<(), Fail> {
     Ok(())
 }
 
+/// Asserts that the map tells of 256 superblocks, all of them free.
+fn must_list_free(rt: &impl Abort, map: &[u8]) {
+    let begin = b"used 256 free 256 fresh 0\nsb 0 free\n".as_slice();
+    must_hold(rt, map.starts_with(begin), "its begin");
+    must_hold(rt, map.ends_with(b"\nsb 255 free\n".as_slice()), "its end");
+    let lines = map.iter().filter(|byte| **byte == b'\n').count();
+    must_hold(rt, lines == 257, "its lines");
+}
+
+/// The map of such an image.
+fn map_of(alloc: Global, text: &str) -> Result<Bytes, Fail> {
+    let heap = told_heap(alloc, text)?;
+    Ok(map_text(alloc, &heap)?)
+}
+
 #[test]
 fn a_heap_with_all_superblocks_taken_is_mapped(rt: HostRuntime) -> Result<(), Fail> {
-    let map = map_text(rt.alloc(), &told_heap(rt.alloc(), "256 used 256")?)?;
-    let map = map.as_slice();
-    let begin = b"used 256 free 256 fresh 0\nsb 0 free\n".as_slice();
-    must_hold(&rt, map.starts_with(begin), "its begin");
-    must_hold(&rt, map.ends_with(b"\nsb 255 free\n".as_slice()), "its end");
-    let lines = map.iter().filter(|byte| **byte == b'\n').count();
-    must_hold(&rt, lines == 257, "its lines");
+    must_list_free(&rt, map_of(rt.alloc(), "256 used 256")?.as_slice());
     Ok(())
 }
 

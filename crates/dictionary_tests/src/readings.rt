@@ -100,16 +100,31 @@ fn schedule_told(alloc: Global, text: &[u8]) -> Result<String, AllocError> {
     }
 }
 
+/// What is told of the text that a part of a row tells.
+fn told_of(alloc: Global, grammar: Grammar, part: &str) -> Result<String, AllocError> {
+    let text = bytes_of(alloc, part)?;
+    match grammar {
+        Grammar::Trace => trace_told(alloc, &text),
+        Grammar::Schedule => schedule_told(alloc, &text),
+    }
+}
+
+/// Asserts that what stands behind ` =>` in a row tells this text.
+fn must_tell(
+    rt: &(impl Abort + AllocGlobal),
+    told: &str,
+    text: &str,
+    row: &str,
+) -> Result<(), Fail> {
+    let told = bytes_of(rt.alloc(), told.strip_prefix(' ').unwrap_or(told))?;
+    must_hold(rt, told.as_slice() == text.as_bytes(), row);
+    Ok(())
+}
+
 fn reads(rt: &(impl Abort + AllocGlobal), grammar: Grammar, row: &str) -> Result<(), Fail> {
     let (text, told) = row.split_once(" =>").ok_or("no row")?;
-    let text = bytes_of(rt.alloc(), text)?;
-    let told = bytes_of(rt.alloc(), told.strip_prefix(' ').unwrap_or(told))?;
-    let found = match grammar {
-        Grammar::Trace => trace_told(rt.alloc(), &text)?,
-        Grammar::Schedule => schedule_told(rt.alloc(), &text)?,
-    };
-    must_hold(rt, found.as_bytes() == told.as_slice(), row);
-    Ok(())
+    let found = told_of(rt.alloc(), grammar, text)?;
+    must_tell(rt, told, &found, row)
 }
 
 /// Reads the text of each row, and asserts what is told of it.

@@ -20,6 +20,24 @@ fn replies_are(alloc: Global, left: &Outcome, told: &str) -> Result<bool, AllocE
     Ok(replies.as_slice() == told.as_bytes())
 }
 
+/// Asserts that the run left an image of so many words, clean or dirty, and has these replies.
+fn must_leave(
+    rt: &(impl Abort + AllocGlobal),
+    left: &Outcome,
+    length: usize,
+    told: &str,
+) -> Result<(), AllocError> {
+    must_hold(rt, replies_are(rt.alloc(), left, told)?, told);
+    let state = if left.stopped { DIRTY } else { CLEAN };
+    let found = left.image.get(STATE_WORD as usize);
+    must_hold(
+        rt,
+        found == Some(&state) && left.image.len() == length,
+        told,
+    );
+    Ok(())
+}
+
 /// Runs the trace over an empty heap.
 fn answers(
     rt: &(impl Abort + AllocGlobal),
@@ -34,15 +52,7 @@ fn answers(
 {
     let image = empty(rt.alloc(), capacity)?;
     let left = run_text(rt.alloc(), &image, text, budget)?;
-    must_hold(rt, replies_are(rt.alloc(), &left, told)?, text);
-    let state = if left.stopped { DIRTY } else { CLEAN };
-    must_hold(
-        rt,
-        left.image.get(STATE_WORD as usize) == Some(&state),
-        text,
-    );
-    must_hold(rt, left.image.len() == image.len(), text);
-    Ok(())
+    Ok(must_leave(rt, &left, image.len(), told)?)
 }
 
 const TRACE: &str = "put 1 6162
@@ -81,6 +91,14 @@ fn a_trace_is_answered_in_its_order(rt: HostRuntime) -> Result<(), Fail> {
     answers(&rt, 4, 0, "", "run closed\n")
 }
 
+/// Runs over what a stopped run left.
+fn goes_on(rt: &(impl Abort + AllocGlobal), image: &[u64]) -> Result<(), Fail> {
+    let again = run_text(rt.alloc(), image, "put 1 64\nget 1\n", MANY)?;
+    let are_told = replies_are(rt.alloc(), &again, "ok\n64\nrun closed\n")?;
+    must_hold(rt, are_told, "again");
+    Ok(())
+}
+
 /// Stops a run over the image, and tells whether it was done; then runs over what it left.
 fn stops_and_goes_on(
     rt: &(impl Abort + AllocGlobal),
@@ -89,14 +107,9 @@ fn stops_and_goes_on(
 ) -> Result<bool, Fail>
     requires { budget < 2 ^ 40 }
 {
-    let alloc = rt.alloc();
-    let first = run_text(alloc, image, "put 1 6162\nput 1 63\ndel 1\n", budget)?;
-    let again = run_text(alloc, &first.image, "put 1 64\nget 1\n", MANY)?;
-    must_hold(
-        rt,
-        replies_are(alloc, &again, "ok\n64\nrun closed\n")?,
-        "again",
-    );
+    let trace = "put 1 6162\nput 1 63\ndel 1\n";
+    let first = run_text(rt.alloc(), image, trace, budget)?;
+    goes_on(rt, &first.image)?;
     Ok(!first.stopped)
 }
 

@@ -1,41 +1,30 @@
 //! Shards read from hand-made images.
 
-use crate::recoveries::empty;
-use dictionary::{DictFilter, MapFault, OTHER, read_map, read_maps, root_kinds};
-use heap_recover::{RecoverFault, Recovered, recover};
+use crate::checks::must_hold;
+use crate::recoveries::{fault_in, first_fault_in, recovered};
+use dictionary::{DictFilter, MapFault, OTHER, read_map, read_maps};
+use heap_recover::{Recovered, recover};
+use image_text::{change, image_of};
 use region_header::Bytes;
-use std::alloc::{AllocError, Global};
+use std::alloc::Global;
 use std::collections::BTreeMap;
 use std::test::Fail;
 
-/// A table in superblock 0, to which root 0 points; superblock 1 has nodes of four words.
-const TABLE_AND_NODES: [(usize, u64); 4] = [
-    (8, 2),
-    (1_064, 12),
-    (1_072, 2),
-    (40, 0x5250_0000_0000_21c0),
-];
+/// A table in superblock 0, to which root 0 points; superblock 1 has nodes of four words, of which
+/// the first two begin at 9,272 and 9,276.
+const TABLE_AND_NODES: &str = "used 2, info:0 12, info:1 2, root:0 @1080";
 
-/// Pointers to the first two nodes.
-const FIRST: u64 = 0x5250_0000_0001_21c0;
-
-const SECOND: u64 = 0x5250_0000_0001_21e0;
-
-/// The words of that image with these ones too.
-fn image_of(alloc: Global, words: &[(usize, u64)]) -> Result<Vec<u64>, AllocError> {
-    let mut image = empty(alloc, 2)?;
-    for (at, value) in TABLE_AND_NODES.iter().chain(words) {
-        if let Some(word) = image.get_mut(*at) {
-            *word = *value;
-        }
-    }
+/// That image with these changes too.
+#[tactic(auto, unfolding(heap_model::specs::Geometry::largest_capacity))]
+fn image_with(alloc: Global, changes: &str) -> Result<Vec<u64>, Fail> {
+    let mut image = image_of(alloc, 2, TABLE_AND_NODES)?;
+    change(&mut image, changes)?;
     Ok(image)
 }
 
-/// The heap that recovery makes of it with the dictionary's filter.
-fn recovered(alloc: Global, words: &[(usize, u64)]) -> Result<Recovered, RecoverFault> {
-    let image = image_of(alloc, words)?;
-    recover(alloc, &image, &root_kinds(), &DictFilter)
+/// The heap that recovery makes of it.
+fn heap_with(alloc: Global, changes: &str) -> Result<Recovered, Fail> {
+    recovered(alloc, &image_with(alloc, changes)?)
 }
 
 /// Whether the map has the key with these bytes.
@@ -46,60 +35,71 @@ fn has(map: &BTreeMap<u64, Bytes>, key: u64, bytes: &[u8]) -> bool {
     }
 }
 
+/// Bucket 0 leads to the key 1024 with an empty value, and on to the key 0 with two bytes.
+const TWO_KEYS: &str = "1080 @9276, 9276 @9272, 9277 1024, 9274 2, 9275 16961";
+
+/// Whether shard 0 is the map of these two.
+fn has_two_keys(alloc: Global, heap: &Recovered) -> Result<bool, MapFault> {
+    let map = read_map(alloc, heap, 0)?;
+    Ok(map.len() == 2 && has(&map, 0, b"AB") && has(&map, 1_024, b""))
+}
+
+/// Whether shard 1 is an empty map.
+fn is_second_empty(alloc: Global, heap: &Recovered) -> Result<bool, MapFault> {
+    Ok(read_map(alloc, heap, 1)?.is_empty())
+}
+
+/// How many maps are read of all shards.
+fn map_count(alloc: Global, heap: &Recovered) -> Result<usize, MapFault> {
+    Ok(read_maps(alloc, heap)?.len())
+}
+
 #[test]
 fn a_shard_is_read_as_its_map(rt: HostRuntime) -> Result<(), Fail> {
-    // Bucket 0 leads to the key 1024 with an empty value, and on to the key 0 with two bytes.
-    let words = [
-        (1_080, SECOND),
-        (9_276, FIRST),
-        (9_277, 1_024),
-        (9_274, 2),
-        (9_275, 0x4241),
-    ];
-    let heap = recovered(rt.alloc(), &words).expect(&rt, "nothing is outside");
-    let map = read_map(rt.alloc(), &heap, 0).expect(&rt, "the shard is good");
-    assert_eq!(rt; map.len(), 2);
-    assert!(rt; has(&map, 0, b"AB"));
-    assert!(rt; has(&map, 1_024, b""));
-    let empty = read_map(rt.alloc(), &heap, 1).expect(&rt, "a null root is an empty shard");
-    assert!(rt; empty.is_empty());
-    let all = read_maps(rt.alloc(), &heap).expect(&rt, "all shards are good");
-    assert_eq!(rt; all.len(), 8);
+    let alloc = rt.alloc();
+    let heap = heap_with(alloc, TWO_KEYS)?;
+    must_hold(&rt, has_two_keys(alloc, &heap) == Ok(true), "two keys");
+    must_hold(
+        &rt,
+        is_second_empty(alloc, &heap) == Ok(true),
+        "a null root",
+    );
+    must_hold(&rt, map_count(alloc, &heap) == Ok(8), "all shards");
     Ok(())
+}
+
+fn bad(shard: usize, at: u64) -> Option<MapFault> {
+    Some(MapFault::BadShard { shard, at })
 }
 
 #[test]
 fn a_bad_shard_is_told_with_its_first_bad_link(rt: HostRuntime) -> Result<(), Fail> {
-    let words = [(1_080, FIRST), (9_272, FIRST), (41, SECOND)];
-    let heap = recovered(rt.alloc(), &words).expect(&rt, "nothing is outside");
-    for (shard, at) in [(0, 9_272), (1, 41)] {
-        let fault = read_map(rt.alloc(), &heap, shard).err();
-        assert_eq!(rt; fault, Some(MapFault::BadShard { shard, at }));
-    }
-    let fault = read_maps(rt.alloc(), &heap).err();
-    assert_eq!(rt;
-        fault,
-        Some(MapFault::BadShard {
-            shard: 0,
-            at: 9_272
-        })
+    let alloc = rt.alloc();
+    let heap = heap_with(alloc, "1080 @9272, 9272 @9272, root:1 @9276")?;
+    must_hold(&rt, fault_in(alloc, &heap, 0) == bad(0, 9_272), "shard 0");
+    must_hold(&rt, fault_in(alloc, &heap, 1) == bad(1, 41), "shard 1");
+    must_hold(
+        &rt,
+        first_fault_in(alloc, &heap) == bad(0, 9_272),
+        "all shards",
     );
     Ok(())
 }
 
+/// The heap that recovery makes of the image with kinds of roots that have no links.
+fn recovered_without_links(alloc: Global, image: &[u64]) -> Result<Recovered, Fail> {
+    Ok(recover(alloc, image, &[OTHER; 1_024], &DictFilter)?)
+}
+
 #[test]
 fn a_heap_recovered_without_links_has_bad_shards(rt: HostRuntime) -> Result<(), Fail> {
-    // With kinds that have no links the node isn't held, and its superblock is freed.
-    let image = image_of(rt.alloc(), &[(1_080, FIRST)])?;
-    let kinds = [OTHER; 1_024];
-    let heap = recover(rt.alloc(), &image, &kinds, &DictFilter).expect(&rt, "nothing is outside");
-    let fault = read_map(rt.alloc(), &heap, 0).err();
-    assert_eq!(rt;
-        fault,
-        Some(MapFault::BadShard {
-            shard: 0,
-            at: 1_080
-        })
+    // The node isn't held, and its superblock is freed.
+    let image = image_with(rt.alloc(), "1080 @9272")?;
+    let heap = recovered_without_links(rt.alloc(), &image)?;
+    must_hold(
+        &rt,
+        fault_in(rt.alloc(), &heap, 0) == bad(0, 1_080),
+        "shard 0",
     );
     Ok(())
 }

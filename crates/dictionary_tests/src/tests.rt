@@ -1,49 +1,117 @@
 //! What the requests answer, and what is read back from the images that are left.
-use crate::asks::{Ask, MANY, found_in, held_in, is_after, run, set, value_of};
+ghost use Rattle.std.specs.Prelude.{◌≤◌};
+
+use crate::asks::{
+    Ask, MANY, RecoveredShards, all_are, found_in, is_after, opened, run, set, value_of,
+};
 use crate::checks::must_hold;
 use crate::recoveries::empty;
 use crate::standing::Standing;
-use block_heap::{AllocFault, Looks};
+use block_heap::{AllocFault, Closed, Looks};
 use line_memory::ConstantChance;
 use std::alloc::{AllocError, Global};
 use std::process::Abort;
 use std::test::Fail;
 
-/// Asserts that the image has a table alone, and no key.
-fn has_a_table_alone(rt: &(impl Abort + AllocGlobal), image: &[u64]) -> Result<(), Fail> {
-    must_hold(rt, held_in(rt.alloc(), image)? == 1, "a table");
-    must_hold(rt, is_after(rt.alloc(), image, &[], 0)?, "no key");
+/// Asserts that the image has what the requests leave of an empty map, in so many blocks.
+fn must_have(
+    rt: &(impl Abort + AllocGlobal),
+    image: &[u64],
+    asks: &[Ask],
+    held: usize,
+) -> Result<(), Fail> {
+    let found = found_in(rt.alloc(), image)?;
+    must_hold(rt, found.held == held, "the blocks");
+    must_hold(rt, found.is_after(rt.alloc(), asks, asks.len())?, "the map");
     Ok(())
+}
+
+/// Asserts it of what loads saw and of what a crash would have left.
+fn must_both_have(
+    rt: &(impl Abort + AllocGlobal),
+    closed: &Closed,
+    asks: &[Ask],
+    held: usize,
+) -> Result<(), Fail> {
+    must_have(rt, &closed.now, asks, held)?;
+    must_have(rt, &closed.kept, asks, held)
+}
+
+/// Makes the requests over the image, all of which are answered.
+fn run_all(
+    rt: &(impl Abort + AllocGlobal),
+    image: &[u64],
+    asks: &[Ask],
+    number: u64,
+) -> Result<Closed, Fail> {
+    let left = run(rt.alloc(), image, asks, (MANY, number))?;
+    must_hold(rt, left.answered == asks.len(), "all are answered");
+    Ok(left.closed)
+}
+
+/// Makes the requests of an empty heap.
+fn run_on_empty(
+    rt: &(impl Abort + AllocGlobal),
+    capacity: u64,
+    asks: &[Ask],
+    number: u64,
+) -> Result<Closed, Fail>
+    requires some { 1 ≤ capacity }
+    requires small { capacity ≤ 16 }
+{
+    let image = empty(rt.alloc(), capacity)?;
+    run_all(rt, &image, asks, number)
+}
+
+/// Opens an empty heap of up to sixteen superblocks, with more steps than are taken.
+fn opened_empty(alloc: Global, capacity: u64) -> Result<Standing<ConstantChance>, Fail>
+    requires some { 1 ≤ capacity }
+    requires small { capacity ≤ 16 }
+{
+    opened(alloc, &empty(alloc, capacity)?, (MANY, 0))
+}
+
+/// Why a put finds no room for its node where the table takes the only superblock.
+const FULL: AllocFault = AllocFault::Full(Looks {
+    class_head: 0,
+    free_head: 0,
+    used: 1,
+});
+
+fn finds_no_room(rt: &impl Abort, heap: &mut Standing<ConstantChance>) -> Result<(), Fail> {
+    must_hold(rt, heap.put(1, b"12345678")? == Err(FULL), "no room");
+    Ok(())
+}
+
+/// What such a put leaves.
+fn left_without_room(rt: &(impl Abort + AllocGlobal)) -> Result<Closed, Fail> {
+    let mut heap = opened_empty(rt.alloc(), 1)?;
+    finds_no_room(rt, &mut heap)?;
+    Ok(heap.finish())
 }
 
 #[test]
 fn a_put_without_room_for_its_node_leaves_a_table(rt: HostRuntime) -> Result<(), Fail> {
-    let alloc = rt.alloc();
-    let image = empty(alloc, 1)?;
-    let mut heap = Standing::open(alloc, &image, MANY, ConstantChance(0))?;
-    let full = AllocFault::Full(Looks {
-        class_head: 0,
-        free_head: 0,
-        used: 1,
-    });
-    must_hold(&rt, heap.put(1, b"12345678")? == Err(full), "no room");
-    let closed = heap.finish();
-    has_a_table_alone(&rt, &closed.now)?;
-    has_a_table_alone(&rt, &closed.kept)
+    must_both_have(&rt, &left_without_room(&rt)?, &[], 1)
 }
 
 const OLD: [Ask; 1] = [Ask::Put(0, 2, b'a')];
 
 const NEW: [Ask; 1] = [Ask::Put(0, 2, b'b')];
 
-/// Whether the value in the image is the new one, and not the old one.
-fn has_new_value(rt: &(impl Abort + AllocGlobal), image: &[u64]) -> Result<bool, Fail> {
-    let found = found_in(rt.alloc(), image)?;
-    must_hold(rt, found.held == 2, "a table and a node");
+/// Whether the value is the new one, and not the old one.
+fn is_new(rt: &(impl Abort + AllocGlobal), found: &RecoveredShards) -> Result<bool, AllocError> {
     let is_new = found.is_after(rt.alloc(), &NEW, 1)?;
     let is_old = found.is_after(rt.alloc(), &OLD, 1)?;
     must_hold(rt, is_new || is_old, "a value");
     Ok(is_new)
+}
+
+/// Whether the value in the image is the new one, and not the old one.
+fn has_new_value(rt: &(impl Abort + AllocGlobal), image: &[u64]) -> Result<bool, Fail> {
+    let found = found_in(rt.alloc(), image)?;
+    must_hold(rt, found.held == 2, "a table and a node");
+    Ok(is_new(rt, &found)?)
 }
 
 /// Stops a put over the image of the old value; the answer is whether it was done, and whether the
@@ -58,13 +126,17 @@ fn stop_put(
     Ok((left.answered == 1, is_new))
 }
 
-/// Stops a put at each step until it is done: from some step on the value is the new one.
-fn stop_each_put(rt: &(impl Abort + AllocGlobal), number: u64) -> Result<(), Fail> {
-    let fresh = empty(rt.alloc(), 4)?;
-    let first = run(rt.alloc(), &fresh, &OLD, (MANY, number))?;
+/// The image of the old value.
+fn old_image(rt: &(impl Abort + AllocGlobal), number: u64) -> Result<Vec<u64>, Fail> {
+    Ok(run_on_empty(rt, 4, &OLD, number)?.kept)
+}
+
+/// Stops a put over that image at each step until it is done: from some step on the value is the
+/// new one.
+fn stop_each_put(rt: &(impl Abort + AllocGlobal), image: &[u64], number: u64) -> Result<(), Fail> {
     let mut was_new = false;
     for budget in 0..1_000u64 {
-        let (is_done, is_new) = stop_put(rt, &first.closed.kept, (budget, number))?;
+        let (is_done, is_new) = stop_put(rt, image, (budget, number))?;
         must_hold(rt, is_new || !was_new, "never the old value again");
         was_new = is_new;
         if is_done {
@@ -77,8 +149,8 @@ fn stop_each_put(rt: &(impl Abort + AllocGlobal), number: u64) -> Result<(), Fai
 
 #[test]
 fn a_replaced_value_is_the_old_one_until_it_is_the_new_one(rt: HostRuntime) -> Result<(), Fail> {
-    stop_each_put(&rt, 0)?;
-    stop_each_put(&rt, 1)
+    stop_each_put(&rt, &old_image(&rt, 0)?, 0)?;
+    stop_each_put(&rt, &old_image(&rt, 1)?, 1)
 }
 
 /// The lengths of values at both ends, and near a word.
@@ -88,32 +160,54 @@ const LENGTHS: [usize; 6] = [0, 1, 8, 9, 131_071, 131_072];
 fn replaces(
     rt: &(impl Abort + AllocGlobal),
     image: &[u64],
-    key: u64,
-    (before, after): (usize, usize),
+    before: usize,
+    after: usize,
 ) -> Result<(), Fail> {
-    let alloc = rt.alloc();
-    let asks = [Ask::Put(key, before, 1), Ask::Put(key, after, 2)];
-    let left = run(alloc, image, &asks, (MANY, 0))?;
-    must_hold(rt, left.answered == 2, "both are answered");
-    let is_second = is_after(alloc, &left.closed.kept, &asks, 2)?;
-    must_hold(rt, is_second, "the second one");
-    let held = held_in(alloc, &left.closed.now)?;
-    must_hold(rt, held == 2, "a table and a node");
+    let asks = [Ask::Put(u64::MAX, before, 1), Ask::Put(u64::MAX, after, 2)];
+    let closed = run_all(rt, image, &asks, 0)?;
+    must_both_have(rt, &closed, &asks, 2)
+}
+
+/// Puts a value of each length in place of one of this length.
+fn replaces_each(
+    rt: &(impl Abort + AllocGlobal),
+    image: &[u64],
+    before: usize,
+) -> Result<(), Fail> {
+    for after in &LENGTHS {
+        replaces(rt, image, before, *after)?;
+    }
     Ok(())
 }
 
 #[test]
 fn values_of_each_length_replace_one_another(rt: HostRuntime) -> Result<(), Fail> {
     let image = empty(rt.alloc(), 8)?;
-    for before in LENGTHS {
-        for after in LENGTHS {
-            replaces(&rt, &image, u64::MAX, (before, after))?;
-        }
+    for before in &LENGTHS {
+        replaces_each(&rt, &image, *before)?;
     }
     Ok(())
 }
 
-/// Asks for a value of `len` bytes 1 with room for so many, all 2 before.
+/// Whether the bytes are a value of so many bytes 1, as far as that fits, and 2 behind it.
+fn are_filled(bytes: &[u8], len: usize) -> bool {
+    let (filled, others) = bytes.split_at(len.min(bytes.len()));
+    all_are(filled, 1) && all_are(others, 2)
+}
+
+/// Asks for a value of `len` bytes 1, which is put as far as it fits.
+fn puts(
+    rt: &impl Abort,
+    heap: &mut Standing<ConstantChance>,
+    key: u64,
+    len: usize,
+    out: &mut [u8],
+) {
+    must_hold(rt, heap.get(key, out) == Ok(Some(len)), "its length");
+    must_hold(rt, are_filled(out, len), "the value, and the rest");
+}
+
+/// Asks for such a value with room for so many, all 2 before.
 fn fits(
     rt: &impl Abort,
     alloc: Global,
@@ -122,11 +216,8 @@ fn fits(
     (len, room): (usize, usize),
 ) -> Result<(), Fail> {
     let mut out = value_of(alloc, room, 2)?;
-    must_hold(rt, heap.get(key, &mut out) == Ok(Some(len)), "its length");
+    puts(rt, heap, key, len, &mut out);
     must_hold(rt, out.len() == room, "the room");
-    let (filled, others) = out.split_at(len.min(room).min(out.len()));
-    must_hold(rt, filled.iter().all(|byte| *byte == 1), "the value");
-    must_hold(rt, others.iter().all(|byte| *byte == 2), "the rest");
     Ok(())
 }
 
@@ -138,10 +229,10 @@ fn fits_each(
     (key, len): (u64, usize),
 ) -> Result<(), Fail> {
     set(alloc, heap, (key, len, 1))?;
-    fits(rt, alloc, heap, key, (len, 0))?;
-    fits(rt, alloc, heap, key, (len, len / 2))?;
-    fits(rt, alloc, heap, key, (len, len))?;
-    fits(rt, alloc, heap, key, (len, len.wrapping_add(9)))
+    for room in &[0, len / 2, len, len.wrapping_add(9)] {
+        fits(rt, alloc, heap, key, (len, *room))?;
+    }
+    Ok(())
 }
 
 /// Asks for a key that is not there.
@@ -152,15 +243,21 @@ fn gets_nothing(rt: &impl Abort, heap: &mut Standing<ConstantChance>, key: u64) 
 }
 
 /// Asks for values of each length under the key, and then for a key that is not there.
-fn gets_each(rt: &(impl Abort + AllocGlobal), key: u64) -> Result<(), Fail> {
-    let alloc = rt.alloc();
-    let image = empty(alloc, 16)?;
-    let mut heap = Standing::open(alloc, &image, MANY, ConstantChance(0))?;
-    for len in LENGTHS {
-        fits_each(rt, alloc, &mut heap, (key, len))?;
+fn gets_all(
+    rt: &(impl Abort + AllocGlobal),
+    heap: &mut Standing<ConstantChance>,
+    key: u64,
+) -> Result<(), Fail> {
+    for len in &LENGTHS {
+        fits_each(rt, rt.alloc(), heap, (key, *len))?;
     }
-    gets_nothing(rt, &mut heap, key ^ 8);
+    gets_nothing(rt, heap, key ^ 8);
     Ok(())
+}
+
+/// Does so in an empty heap.
+fn gets_each(rt: &(impl Abort + AllocGlobal), key: u64) -> Result<(), Fail> {
+    gets_all(rt, &mut opened_empty(rt.alloc(), 16)?, key)
 }
 
 #[test]
@@ -171,7 +268,6 @@ fn get_puts_as_much_of_a_value_as_fits(rt: HostRuntime) -> Result<(), Fail> {
 
 /// Three keys of one bucket, of which one goes; then it is gone, and so is another one.
 fn leaves_its_chain(rt: &(impl Abort + AllocGlobal), gone: u64) -> Result<(), Fail> {
-    let alloc = rt.alloc();
     let asks = [
         Ask::Put(0, 3, 1),
         Ask::Put(1_024, 4, 2),
@@ -180,13 +276,8 @@ fn leaves_its_chain(rt: &(impl Abort + AllocGlobal), gone: u64) -> Result<(), Fa
         Ask::Del(gone),
         Ask::Del(3_072),
     ];
-    let left = run(alloc, &empty(alloc, 4)?, &asks, (MANY, 1))?;
-    must_hold(rt, left.answered == 6, "all are answered");
-    let is_left = is_after(alloc, &left.closed.kept, &asks, 6)?;
-    must_hold(rt, is_left, "the two others");
-    let held = held_in(alloc, &left.closed.kept)?;
-    must_hold(rt, held == 3, "a table and two nodes");
-    Ok(())
+    let closed = run_on_empty(rt, 4, &asks, 1)?;
+    must_have(rt, &closed.kept, &asks, 3)
 }
 
 #[test]
@@ -225,22 +316,27 @@ fn script(alloc: Global, count: usize, seed: u64) -> Result<Vec<Ask>, AllocError
     Ok(asks)
 }
 
-/// Makes three hundred requests of a heap.
-fn answers_as_a_map(rt: &(impl Abort + AllocGlobal), seed: u64, number: u64) -> Result<(), Fail> {
-    let alloc = rt.alloc();
-    let asks = script(alloc, 300, seed)?;
-    let left = run(alloc, &empty(alloc, 16)?, &asks, (MANY, number))?;
-    must_hold(rt, left.answered == 300, "all are answered");
-    let is_now = is_after(alloc, &left.closed.now, &asks, 300)?;
-    let is_kept = is_after(alloc, &left.closed.kept, &asks, 300)?;
-    must_hold(rt, is_now && is_kept, "the map");
+/// Asserts that the image has what the requests leave of an empty map.
+fn must_be_after(rt: &(impl Abort + AllocGlobal), image: &[u64], asks: &[Ask]) -> Result<(), Fail> {
+    must_hold(rt, is_after(rt.alloc(), image, asks)?, "the map");
     Ok(())
+}
+
+/// Makes the requests of an empty heap, which leave it as they leave a map.
+fn answers_as_a_map(
+    rt: &(impl Abort + AllocGlobal),
+    asks: &[Ask],
+    number: u64,
+) -> Result<(), Fail> {
+    let closed = run_on_empty(rt, 16, asks, number)?;
+    must_be_after(rt, &closed.now, asks)?;
+    must_be_after(rt, &closed.kept, asks)
 }
 
 #[test]
 fn a_long_script_answers_as_an_ordered_map(rt: HostRuntime) -> Result<(), Fail> {
-    answers_as_a_map(&rt, 0x9e37_79b9_7f4a_7c15, 0)?;
-    answers_as_a_map(&rt, 0x1234_5678_9abc_def1, 1)
+    answers_as_a_map(&rt, &script(rt.alloc(), 300, 0x9e37_79b9_7f4a_7c15)?, 0)?;
+    answers_as_a_map(&rt, &script(rt.alloc(), 300, 0x1234_5678_9abc_def1)?, 1)
 }
 
 /// Requests whose blocks are of one class, so that one superblock serves.
@@ -253,15 +349,18 @@ const ONE_CLASS: [Ask; 6] = [
     Ask::Del(0),
 ];
 
-/// Stops the requests at the step, and tells whether they were done: the map that is left is that
-/// of the answered ones, or that with the next one.
+/// Whether the image has the map of the answered requests, or that with the next one.
+fn is_before_or_after(alloc: Global, image: &[u64], answered: usize) -> Result<bool, Fail> {
+    let found = found_in(alloc, image)?;
+    let is_before = found.is_after(alloc, &ONE_CLASS, answered)?;
+    Ok(is_before || found.is_after(alloc, &ONE_CLASS, answered.wrapping_add(1))?)
+}
+
+/// Stops the requests at the step, and tells whether they were done.
 fn stop_script(rt: &(impl Abort + AllocGlobal), image: &[u64], budget: u64) -> Result<bool, Fail> {
-    let alloc = rt.alloc();
-    let left = run(alloc, image, &ONE_CLASS, (budget, 1))?;
-    let found = found_in(alloc, &left.closed.kept)?;
-    let is_before = found.is_after(alloc, &ONE_CLASS, left.answered)?;
-    let is_done = found.is_after(alloc, &ONE_CLASS, left.answered.wrapping_add(1))?;
-    must_hold(rt, is_before || is_done, "a map");
+    let left = run(rt.alloc(), image, &ONE_CLASS, (budget, 1))?;
+    let is_map = is_before_or_after(rt.alloc(), &left.closed.kept, left.answered)?;
+    must_hold(rt, is_map, "a map");
     Ok(left.answered == 6)
 }
 
