@@ -156,7 +156,7 @@ pub fn found_in(alloc: Global, image: &[u64]) -> Result<RecoveredShards, Fail> {
 
 /// Whether the image has the keys and values that the requests leave of an empty map.
 pub fn is_after(alloc: Global, image: &[u64], asks: &[Ask]) -> Result<bool, Fail> {
-    Ok(found_in(alloc, image)?.is_after(alloc, asks, asks.len())?)
+    Ok(found_in(alloc, image)?.is_after(alloc, asks, asks.len()))
 }
 
 /// Whether each of the bytes is this one.
@@ -184,9 +184,11 @@ fn has_all(model: &Model, shard: &BTreeMap<u64, Bytes>) -> bool {
 
 impl RecoveredShards {
     /// Whether the keys and values are those that the first so many requests leave of an empty map.
-    pub fn is_after(&self, alloc: Global, asks: &[Ask], count: usize) -> Result<bool, AllocError> {
-        let model = model_of(alloc, asks, count)?;
-        Ok(self.shows(&model))
+    pub fn is_after(&self, alloc: Global, asks: &[Ask], count: usize) -> bool {
+        match model_of(alloc, asks, count) {
+            Ok(model) => self.shows(&model),
+            Err(_) => false,
+        }
     }
 
     /// Whether the keys and values are those of the model.

@@ -1,10 +1,10 @@
 //! What whole runs of a trace answer, and that what they leave can be run again.
 ghost use Rattle.std.specs.Prelude.{◌<◌, ◌≤◌, ◌^◌};
 
-use crate::checks::must_hold;
+use crate::checks::{must_hold, reads_so};
 use crate::recoveries::empty;
 use crate::runs::run_text;
-use std::alloc::{AllocError, Global};
+use std::alloc::Global;
 use std::process::Abort;
 use std::test::Fail;
 use super_block::{CLEAN, DIRTY, STATE_WORD};
@@ -15,27 +15,14 @@ use trace_text::reply_text;
 const MANY: u64 = 100_000_000;
 
 /// Whether the run's replies read so.
-fn replies_are(alloc: Global, left: &Outcome, told: &str) -> Result<bool, AllocError> {
-    let replies = reply_text(alloc, &left.replies, left.stopped, false)?;
-    Ok(replies.as_slice() == told.as_bytes())
+fn replies_are(alloc: Global, left: &Outcome, told: &str) -> bool {
+    reads_so(reply_text(alloc, &left.replies, left.stopped, false), told)
 }
 
-/// Asserts that the run left an image of so many words, clean or dirty, and has these replies.
-fn must_leave(
-    rt: &(impl Abort + AllocGlobal),
-    left: &Outcome,
-    length: usize,
-    told: &str,
-) -> Result<(), AllocError> {
-    must_hold(rt, replies_are(rt.alloc(), left, told)?, told);
+/// Whether the run left an image of so many words, which is clean if it wasn't stopped.
+fn has_state(left: &Outcome, length: usize) -> bool {
     let state = if left.stopped { DIRTY } else { CLEAN };
-    let found = left.image.get(STATE_WORD as usize);
-    must_hold(
-        rt,
-        found == Some(&state) && left.image.len() == length,
-        told,
-    );
-    Ok(())
+    left.image.len() == length && left.image.get(STATE_WORD as usize) == Some(&state)
 }
 
 /// Runs the trace over an empty heap.
@@ -52,7 +39,9 @@ fn answers(
 {
     let image = empty(rt.alloc(), capacity)?;
     let left = run_text(rt.alloc(), &image, text, budget)?;
-    Ok(must_leave(rt, &left, image.len(), told)?)
+    must_hold(rt, replies_are(rt.alloc(), &left, told), text);
+    must_hold(rt, has_state(&left, image.len()), text);
+    Ok(())
 }
 
 const TRACE: &str = "put 1 6162
@@ -94,8 +83,8 @@ fn a_trace_is_answered_in_its_order(rt: HostRuntime) -> Result<(), Fail> {
 /// Runs over what a stopped run left.
 fn goes_on(rt: &(impl Abort + AllocGlobal), image: &[u64]) -> Result<(), Fail> {
     let again = run_text(rt.alloc(), image, "put 1 64\nget 1\n", MANY)?;
-    let are_told = replies_are(rt.alloc(), &again, "ok\n64\nrun closed\n")?;
-    must_hold(rt, are_told, "again");
+    let told = "ok\n64\nrun closed\n";
+    must_hold(rt, replies_are(rt.alloc(), &again, told), "again");
     Ok(())
 }
 

@@ -1,6 +1,5 @@
 //! Schedules that are read, and those outside the grammar.
 use crate::readings::{Grammar, reads_each};
-use std::test::Fail;
 
 const EVENTS: &str = "
 seats 8;7 tick; => 8 seats, 7 Tick { shift: None }
@@ -26,8 +25,8 @@ seats 8;7 give 18446744073709551615; => 8 seats, 7 Give { d: 1844674407370955161
 ";
 
 #[test]
-fn each_event_is_read(rt: HostRuntime) -> Result<(), Fail> {
-    reads_each(&rt, Grammar::Schedule, EVENTS)
+fn each_event_is_read(rt: HostRuntime) {
+    reads_each(&rt, Grammar::Schedule, EVENTS);
 }
 
 const LINES: &str = "
@@ -39,8 +38,8 @@ seats 2;0 link;0 link;1 link => 2 seats, 0 LookLink, 0 LookLink, 1 LookLink
 ";
 
 #[test]
-fn lines_are_read_in_their_order(rt: HostRuntime) -> Result<(), Fail> {
-    reads_each(&rt, Grammar::Schedule, LINES)
+fn lines_are_read_in_their_order(rt: HostRuntime) {
+    reads_each(&rt, Grammar::Schedule, LINES);
 }
 
 const OUTSIDE: &str = "
@@ -71,8 +70,8 @@ seats 8;7 pop;18446744073709551616 pop => bad line 3
 ";
 
 #[test]
-fn the_first_line_outside_the_grammar_is_told(rt: HostRuntime) -> Result<(), Fail> {
-    reads_each(&rt, Grammar::Schedule, OUTSIDE)
+fn the_first_line_outside_the_grammar_is_told(rt: HostRuntime) {
+    reads_each(&rt, Grammar::Schedule, OUTSIDE);
 }
 
 const OTHER_WORDS: &str = "
@@ -107,6 +106,6 @@ seats 1;0 ? 1 => bad line 2
 ";
 
 #[test]
-fn other_words_are_outside_the_grammar(rt: HostRuntime) -> Result<(), Fail> {
-    reads_each(&rt, Grammar::Schedule, OTHER_WORDS)
+fn other_words_are_outside_the_grammar(rt: HostRuntime) {
+    reads_each(&rt, Grammar::Schedule, OTHER_WORDS);
 }

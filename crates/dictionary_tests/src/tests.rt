@@ -1,9 +1,7 @@
 //! What the requests answer, and what is read back from the images that are left.
 ghost use Rattle.std.specs.Prelude.{◌≤◌};
 
-use crate::asks::{
-    Ask, MANY, RecoveredShards, all_are, found_in, is_after, opened, run, set, value_of,
-};
+use crate::asks::{Ask, MANY, all_are, found_in, is_after, opened, run, set, value_of};
 use crate::checks::must_hold;
 use crate::recoveries::empty;
 use crate::standing::Standing;
@@ -22,7 +20,7 @@ fn must_have(
 ) -> Result<(), Fail> {
     let found = found_in(rt.alloc(), image)?;
     must_hold(rt, found.held == held, "the blocks");
-    must_hold(rt, found.is_after(rt.alloc(), asks, asks.len())?, "the map");
+    must_hold(rt, found.is_after(rt.alloc(), asks, asks.len()), "the map");
     Ok(())
 }
 
@@ -99,19 +97,14 @@ const OLD: [Ask; 1] = [Ask::Put(0, 2, b'a')];
 
 const NEW: [Ask; 1] = [Ask::Put(0, 2, b'b')];
 
-/// Whether the value is the new one, and not the old one.
-fn is_new(rt: &(impl Abort + AllocGlobal), found: &RecoveredShards) -> Result<bool, AllocError> {
-    let is_new = found.is_after(rt.alloc(), &NEW, 1)?;
-    let is_old = found.is_after(rt.alloc(), &OLD, 1)?;
-    must_hold(rt, is_new || is_old, "a value");
-    Ok(is_new)
-}
-
 /// Whether the value in the image is the new one, and not the old one.
 fn has_new_value(rt: &(impl Abort + AllocGlobal), image: &[u64]) -> Result<bool, Fail> {
     let found = found_in(rt.alloc(), image)?;
+    let is_new = found.is_after(rt.alloc(), &NEW, 1);
+    let is_old = found.is_after(rt.alloc(), &OLD, 1);
     must_hold(rt, found.held == 2, "a table and a node");
-    Ok(is_new(rt, &found)?)
+    must_hold(rt, is_new || is_old, "a value");
+    Ok(is_new)
 }
 
 /// Stops a put over the image of the old value; the answer is whether it was done, and whether the
@@ -352,8 +345,8 @@ const ONE_CLASS: [Ask; 6] = [
 /// Whether the image has the map of the answered requests, or that with the next one.
 fn is_before_or_after(alloc: Global, image: &[u64], answered: usize) -> Result<bool, Fail> {
     let found = found_in(alloc, image)?;
-    let is_before = found.is_after(alloc, &ONE_CLASS, answered)?;
-    Ok(is_before || found.is_after(alloc, &ONE_CLASS, answered.wrapping_add(1))?)
+    let is_before = found.is_after(alloc, &ONE_CLASS, answered);
+    Ok(is_before || found.is_after(alloc, &ONE_CLASS, answered.wrapping_add(1)))
 }
 
 /// Stops the requests at the step, and tells whether they were done.

@@ -4,7 +4,6 @@ use crate::readings::{Grammar, reads_each};
 use std::alloc::{AllocError, Global};
 use std::mem::size_of;
 use std::process::Abort;
-use std::test::Fail;
 use trace_text::{Request, parse_trace};
 
 const READ: &str = "
@@ -23,8 +22,8 @@ del 3498;put 2531 3738; => del 3498;put 2531 3738;
 ";
 
 #[test]
-fn traces_of_the_grammar_are_read(rt: HostRuntime) -> Result<(), Fail> {
-    reads_each(&rt, Grammar::Trace, READ)
+fn traces_of_the_grammar_are_read(rt: HostRuntime) {
+    reads_each(&rt, Grammar::Trace, READ);
 }
 
 const OUTSIDE: &str = "
@@ -77,8 +76,8 @@ get 1;get 2;get 3; move 1 2; => bad line 4
 ";
 
 #[test]
-fn the_first_line_outside_the_grammar_is_told(rt: HostRuntime) -> Result<(), Fail> {
-    reads_each(&rt, Grammar::Trace, OUTSIDE)
+fn the_first_line_outside_the_grammar_is_told(rt: HostRuntime) {
+    reads_each(&rt, Grammar::Trace, OUTSIDE);
 }
 
 const NO_TEXT: &str = "
@@ -89,8 +88,8 @@ get 1;\0 => bad line 2
 ";
 
 #[test]
-fn bytes_that_are_no_text_are_outside_the_grammar(rt: HostRuntime) -> Result<(), Fail> {
-    reads_each(&rt, Grammar::Trace, NO_TEXT)
+fn bytes_that_are_no_text_are_outside_the_grammar(rt: HostRuntime) {
+    reads_each(&rt, Grammar::Trace, NO_TEXT);
 }
 
 /// The line that puts a value of so many digits.
@@ -103,24 +102,27 @@ fn long_put(alloc: Global, digits: usize) -> Result<String, AllocError> {
     Ok(line)
 }
 
+/// Whether a value of so many digits is read.
+fn is_read(alloc: Global, digits: usize) -> Result<bool, AllocError> {
+    let line = long_put(alloc, digits)?;
+    Ok(parse_trace(alloc, line.as_bytes()).is_ok())
+}
+
 /// Tries to read a value of so many digits.
-fn reads_digits(rt: &(impl Abort + AllocGlobal), digits: usize, is_read: bool) -> Result<(), Fail> {
-    let line = long_put(rt.alloc(), digits)?;
-    let requests = parse_trace(rt.alloc(), line.as_bytes());
-    must_hold(rt, requests.is_ok() == is_read, "a long value");
-    Ok(())
+fn reads_digits(rt: &(impl Abort + AllocGlobal), digits: usize, wanted: bool) {
+    let found = is_read(rt.alloc(), digits);
+    must_hold(rt, found == Ok(wanted), "a long value");
 }
 
 #[test]
-fn the_longest_value_has_131072_bytes(rt: HostRuntime) -> Result<(), Fail> {
-    reads_digits(&rt, 262_142, true)?;
-    reads_digits(&rt, 262_143, false)?;
-    reads_digits(&rt, 262_144, true)?;
-    reads_digits(&rt, 262_146, false)
+fn the_longest_value_has_131072_bytes(rt: HostRuntime) {
+    reads_digits(&rt, 262_142, true);
+    reads_digits(&rt, 262_143, false);
+    reads_digits(&rt, 262_144, true);
+    reads_digits(&rt, 262_146, false);
 }
 
 #[test]
-fn a_request_takes_at_most_64_bytes(rt: HostRuntime) -> Result<(), Fail> {
+fn a_request_takes_at_most_64_bytes(rt: HostRuntime) {
     must_hold(&rt, size_of::<Request>() <= 64, "the room for a line");
-    Ok(())
 }
