@@ -23,11 +23,16 @@ fn greatest(alloc: Global, words: &str) -> Result<String, AllocError> {
     Ok(changes)
 }
 
+/// The image with these words.
+fn damaged(alloc: Global) -> Result<Vec<u8>, Fail> {
+    let changes = greatest(alloc, NOT_READ)?;
+    image_bytes(alloc, &changes)
+}
+
 #[test]
 fn words_that_recovery_does_not_read_change_nothing(rt: HostRuntime) -> Result<(), Fail> {
     // Clause `ok`: the reserved words of the header, and what recovery makes anew of a superblock.
-    let alloc = rt.alloc();
-    let image = image_bytes(alloc, &greatest(alloc, NOT_READ)?)?;
+    let image = damaged(rt.alloc())?;
     shows(&rt, &image, "show h", 0, AS_BEFORE)
 }
 

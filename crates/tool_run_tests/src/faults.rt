@@ -1,12 +1,11 @@
 //! Runs of which a call of the outside fails, that name a damaged image, or whose trace is outside
 //! the grammar.
 use crate::harness::{
-    Call, NO_CALL, has_image, image_after, image_in, make, must_end, must_hold, plain, runs, store,
+    Call, NO_CALL, ends_so, has_image, image_after, image_in, make, must_hold, plain, runs, store,
     store_with,
 };
 use crate::session::{play, shows_each};
 use line_memory::ConstantChance;
-use std::alloc::{AllocError, Global};
 use std::process::Abort;
 use std::test::Fail;
 use tool_ports::{FailedPut, MapStore, OpenGate};
@@ -45,7 +44,9 @@ const NONE: Failure = Failure {
 
 /// A failure, the status, what is printed, and whether the image is put. The store's call 0 put the
 /// image there, 1 gets it, and 2 puts what is left.
-const FAILURES: [(Failure, u8, &str, bool); 7] = [
+type Failing = (Failure, u8, &'static str, bool);
+
+const FAILURES: [Failing; 7] = [
     (Failure { store: 1, ..NONE }, 4, "read fault\n", false),
     (Failure { read: 0, ..NONE }, 4, "read fault\n", false),
     (Failure { read: 1, ..NONE }, 4, "read fault\n", false),
@@ -64,33 +65,35 @@ const FAILURES: [(Failure, u8, &str, bool); 7] = [
     (Failure { write: 1, ..NONE }, 0, TOLD, true),
 ];
 
-/// A run over the store, of which a read and a write fail: its status, and what it prints.
-fn failing_run(
-    alloc: Global,
+/// Makes the run over the store, of which a read and a write fail, and which ends so.
+fn must_end_so(
+    rt: &(impl Abort + AllocGlobal),
     images: &mut MapStore,
-    failing_reads: &[u64],
-    failing_writes: &[u64],
-) -> Result<(u8, Vec<u8>), AllocError> {
+    (failing_reads, failing_writes): (&[u64], &[u64]),
+    status: u8,
+    text: &str,
+) {
     let call = Call {
         failing_reads,
         failing_writes,
         ..plain(LINE, TRACE)
     };
-    make(alloc, call, images, &OpenGate, &mut ConstantChance(0))
+    let ended = make(rt.alloc(), call, images, &OpenGate, &mut ConstantChance(0));
+    must_hold(rt, ends_so(ended, status, text), text);
 }
 
 /// Makes the run over the old image with that failure: it ends so, and leaves the old or the new.
 fn fails(
     rt: &(impl Abort + AllocGlobal),
-    (old, left): (&[u8], &[u8]),
-    failure: Failure,
-    status: u8,
-    text: &str,
+    old: &[u8],
+    new: &[u8],
+    failing: &Failing,
 ) -> Result<(), Fail> {
+    let (failure, status, text, is_new) = *failing;
     let mut images = store_with(rt.alloc(), old, failure.store, failure.put)?;
-    let (reads, writes) = ([failure.read], [failure.write]);
-    let (code, printed) = failing_run(rt.alloc(), &mut images, &reads, &writes)?;
-    must_end(rt, text, (code, &printed), status, text);
+    let calls = ([failure.read], [failure.write]);
+    must_end_so(rt, &mut images, (&calls.0, &calls.1), status, text);
+    let left = if is_new { new } else { old };
     must_hold(rt, has_image(&images, left), text);
     Ok(())
 }
@@ -98,16 +101,15 @@ fn fails(
 /// The image that the run leaves of an old one, where nothing fails.
 fn image_run(rt: &(impl Abort + AllocGlobal), old: &[u8]) -> Result<Vec<u8>, Fail> {
     let mut images = store_with(rt.alloc(), old, NO_CALL, FailedPut::LeavesOld)?;
-    let (status, printed) = failing_run(rt.alloc(), &mut images, &[], &[])?;
-    must_end(rt, "no failure", (status, &printed), 0, TOLD);
+    must_end_so(rt, &mut images, (&[], &[]), 0, TOLD);
     Ok(image_in(rt.alloc(), &images)?)
 }
 
-/// Makes the run over the old image with each failure.
+/// Makes the run over the old image, which changes it, with each failure.
 fn fail_each(rt: &(impl Abort + AllocGlobal), old: &[u8], new: &[u8]) -> Result<(), Fail> {
-    for (failure, status, text, is_new) in FAILURES {
-        let left = if is_new { new } else { old };
-        fails(rt, (old, left), failure, status, text)?;
+    must_hold(rt, old != new, "the run changes the image");
+    for failing in &FAILURES {
+        fails(rt, old, new, failing)?;
     }
     Ok(())
 }
@@ -115,14 +117,14 @@ fn fail_each(rt: &(impl Abort + AllocGlobal), old: &[u8], new: &[u8]) -> Result<
 #[test]
 fn each_call_of_the_outside_fails_once(rt: HostRuntime) -> Result<(), Fail> {
     let old = image_after(rt.alloc(), "2", "")?;
-    let new = image_run(&rt, &old)?;
-    must_hold(&rt, old != new, "the run changes the image");
-    fail_each(&rt, &old, &new)
+    fail_each(&rt, &old, &image_run(&rt, &old)?)
 }
 
 /// A call of a store that fails, the first being that which puts the bytes `old` as h: what a
 /// failed put leaves, the line, the status, the text, and the length of h after it.
-const STORE_FAILURES: [(u64, FailedPut, &str, u8, &str, usize); 5] = [
+type StoreFailing = (u64, FailedPut, &'static str, u8, &'static str, usize);
+
+const STORE_FAILURES: [StoreFailing; 5] = [
     (1, FailedPut::LeavesOld, "show h", 4, "read fault\n", 3),
     (1, FailedPut::LeavesOld, "drain h 4", 4, "read fault\n", 3),
     (1, FailedPut::LeavesOld, "format h 1", 5, "write fault\n", 3),
@@ -144,12 +146,20 @@ const STORE_FAILURES: [(u64, FailedPut, &str, u8, &str, usize); 5] = [
     ),
 ];
 
+/// Makes the call over such a store.
+fn store_fails(rt: &(impl Abort + AllocGlobal), failing: &StoreFailing) -> Result<(), Fail> {
+    let (call, failed_put, line, status, text, length) = *failing;
+    let mut images = store_with(rt.alloc(), b"old", call, failed_put)?;
+    runs(rt, &mut images, line, b"", status, text);
+    let bytes = images.image("h").unwrap_or(&[]);
+    must_hold(rt, bytes.len() == length, line);
+    Ok(())
+}
+
 #[test]
 fn a_failing_store_is_told_and_has_the_old_bytes_or_the_new(rt: HostRuntime) -> Result<(), Fail> {
-    for (call, failed_put, line, status, text, length) in STORE_FAILURES {
-        let mut images = store_with(rt.alloc(), b"old", call, failed_put)?;
-        runs(&rt, &mut images, line, b"", status, text)?;
-        must_hold(&rt, image_in(rt.alloc(), &images)?.len() == length, line);
+    for failing in &STORE_FAILURES {
+        store_fails(&rt, failing)?;
     }
     Ok(())
 }
@@ -267,12 +277,17 @@ $ run h --workers 1
 ";
 
 #[test]
-fn the_last_key_and_the_last_line_are_read(rt: HostRuntime) -> Result<(), Fail> {
-    play(&rt, &mut store(rt.alloc()), LAST_KEY)
+fn the_last_key_and_the_last_line_are_read(rt: HostRuntime) {
+    play(&rt, &mut store(rt.alloc()), LAST_KEY);
 }
 
 /// The trace of each is outside the grammar.
 const BEFORE_ITS_TRACE: &str = "
+@ 1; 0
+$ run h --workers 1
+< outside
+= 7
+> bad header short
 @ table: state 0
 $ run h --workers 1
 < outside
@@ -301,14 +316,5 @@ $ run none.img --workers 1
 
 #[test]
 fn an_image_is_refused_before_its_trace(rt: HostRuntime) -> Result<(), Fail> {
-    shows_each(&rt, BEFORE_ITS_TRACE)?;
-    let mut images = store_with(rt.alloc(), b"", NO_CALL, FailedPut::LeavesOld)?;
-    runs(
-        &rt,
-        &mut images,
-        "run h --workers 1",
-        b"outside",
-        7,
-        "bad header short\n",
-    )
+    shows_each(&rt, BEFORE_ITS_TRACE)
 }

@@ -78,7 +78,7 @@ fn outside_of(alloc: Global, call: &Call<'_>) -> Result<Outside, AllocError> {
     })
 }
 
-fn told_by(alloc: Global, status: Status, out: &VecSink) -> Result<(u8, Vec<u8>), AllocError> {
+fn told_by(alloc: Global, status: Status, out: &VecSink) -> Ended {
     Ok((status.code(), Vec::from_slice(alloc, out.bytes())?))
 }
 
@@ -89,7 +89,7 @@ pub fn make<G: Gate + Sync, C: Chances>(
     images: &mut MapStore,
     gate: &G,
     chances: &mut C,
-) -> Result<(u8, Vec<u8>), AllocError> {
+) -> Ended {
     let Outside {
         words,
         mut trace,
@@ -109,12 +109,7 @@ pub fn make<G: Gate + Sync, C: Chances>(
 }
 
 /// Makes a call with an open gate and seeded chances.
-pub fn make_plain(
-    alloc: Global,
-    images: &mut MapStore,
-    line: &str,
-    trace: &[u8],
-) -> Result<(u8, Vec<u8>), AllocError> {
+pub fn make_plain(alloc: Global, images: &mut MapStore, line: &str, trace: &[u8]) -> Ended {
     make(
         alloc,
         plain(line, trace),
@@ -135,16 +130,16 @@ pub fn has_image(images: &MapStore, image: &[u8]) -> bool {
     images.image("h") == Some(image)
 }
 
-/// Asserts that a call ended with this status and printed this text.
-pub fn must_end(
-    rt: &impl Abort,
-    told: &str,
-    (status, printed): (u8, &[u8]),
-    wanted: u8,
-    text: &str,
-) {
-    must_hold(rt, printed == text.as_bytes(), told);
-    must_hold(rt, status == wanted, told);
+/// What a call ended with, and the bytes that it printed.
+pub type Ended = Result<(u8, Vec<u8>), AllocError>;
+
+/// Whether a call ended with this status and printed this text. (A `bool` is cheaper to prove than
+/// a `Result` on which each caller has a `?`.)
+pub fn ends_so(ended: Ended, status: u8, text: &str) -> bool {
+    match ended {
+        Ok((code, printed)) => code == status && printed.as_slice() == text.as_bytes(),
+        Err(_) => false,
+    }
 }
 
 /// Makes a call, which is to end with this status and to print this text.
@@ -155,10 +150,9 @@ pub fn runs(
     trace: &[u8],
     status: u8,
     text: &str,
-) -> Result<(), Fail> {
-    let (code, printed) = make_plain(rt.alloc(), images, line, trace)?;
-    must_end(rt, line, (code, &printed), status, text);
-    Ok(())
+) {
+    let ended = make_plain(rt.alloc(), images, line, trace);
+    must_hold(rt, ends_so(ended, status, text), line);
 }
 
 /// Makes a call on the image h, which it leaves as it is.
@@ -170,7 +164,7 @@ pub fn shows(
     text: &str,
 ) -> Result<(), Fail> {
     let mut images = store_with(rt.alloc(), image, NO_CALL, FailedPut::LeavesOld)?;
-    runs(rt, &mut images, line, b"", status, text)?;
+    runs(rt, &mut images, line, b"", status, text);
     must_hold(rt, has_image(&images, image), text);
     Ok(())
 }
@@ -200,12 +194,37 @@ pub fn image_in(alloc: Global, images: &MapStore) -> Result<Vec<u8>, AllocError>
     Vec::from_slice(alloc, images.image("h").unwrap_or(&[]))
 }
 
-/// The image that a call leaves of an empty one of some superblocks.
-pub fn image_after(alloc: Global, superblocks: &str, trace: &str) -> Result<Vec<u8>, Fail> {
-    let image = image_bytes(alloc, superblocks)?;
-    let mut images = store_with(alloc, &image, NO_CALL, FailedPut::LeavesOld)?;
+/// The image that a run leaves of one.
+fn image_behind(alloc: Global, image: &[u8], trace: &str) -> Result<Vec<u8>, Fail> {
+    let mut images = store_with(alloc, image, NO_CALL, FailedPut::LeavesOld)?;
     make_plain(alloc, &mut images, "run h --workers 1", trace.as_bytes())?;
     Ok(image_in(alloc, &images)?)
+}
+
+/// The image that a run leaves of an empty one of some superblocks.
+pub fn image_after(alloc: Global, superblocks: &str, trace: &str) -> Result<Vec<u8>, Fail> {
+    let image = image_bytes(alloc, superblocks)?;
+    image_behind(alloc, &image, trace)
+}
+
+/// Adds the pieces to the text.
+pub fn push_all(text: &mut String, pieces: &[&str]) -> Result<(), AllocError> {
+    for piece in pieces {
+        text.push_str(piece)?;
+    }
+    Ok(())
+}
+
+/// The pieces as one text.
+pub fn joined(alloc: Global, pieces: &[&str]) -> Result<String, AllocError> {
+    let mut text = String::new(alloc);
+    push_all(&mut text, pieces)?;
+    Ok(text)
+}
+
+/// The text with a number behind it.
+pub fn numbered(alloc: Global, text: &str, number: u64) -> Result<String, AllocError> {
+    format!(in alloc; "{text}{number}")
 }
 
 /// The word of an image at the place, or 0 behind its end.

@@ -36,12 +36,16 @@ fn resized(mut bytes: Vec<u8>, length: Result<u64, Fail>) -> Result<Vec<u8>, Fai
     Ok(bytes)
 }
 
+fn whole_bytes(alloc: Global, text: &str) -> Result<Vec<u8>, Fail> {
+    let words = image_words(alloc, text)?;
+    Ok(words_to_bytes(alloc, &words)?.into_vec())
+}
+
 /// The bytes of such an image, cut or filled up to a length where one is told: as
 /// `1: state 2; 8511`.
 pub fn image_bytes(alloc: Global, text: &str) -> Result<Vec<u8>, Fail> {
     let (text, length) = text.split_once("; ").unwrap_or((text, ""));
-    let words = image_words(alloc, text)?;
-    let bytes = words_to_bytes(alloc, &words)?.into_vec();
+    let bytes = whole_bytes(alloc, text)?;
     if length.is_empty() {
         return Ok(bytes);
     }

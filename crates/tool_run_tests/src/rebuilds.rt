@@ -1,5 +1,7 @@
 //! Recovery made in place, stopped at each step, and begun again on what a stop left.
-use crate::harness::{NO_CALL, has_image, make, must_end, must_hold, plain, runs, store_with};
+use crate::harness::{
+    Ended, NO_CALL, has_image, make, must_hold, numbered, plain, runs, store_with,
+};
 use crate::images::image_bytes;
 use crate::session::shows_each;
 use line_memory::ConstantChance;
@@ -21,9 +23,23 @@ fn stopped_at<C: Chances>(
     images: &mut MapStore,
     budget: u64,
     chances: &mut C,
-) -> Result<(u8, Vec<u8>), AllocError> {
-    let line = format!(in alloc; "rebuild h --stop {budget}")?;
+) -> Ended {
+    let line = numbered(alloc, "rebuild h --stop ", budget)?;
     make(alloc, plain(&line, b""), images, &OpenGate, chances)
+}
+
+/// Stops a recovery at this step, and answers whether there was no stop.
+fn stop_recovery<C: Chances>(
+    rt: &(impl Abort + AllocGlobal),
+    images: &mut MapStore,
+    budget: u64,
+    chances: &mut C,
+) -> Result<bool, AllocError> {
+    let (status, printed) = stopped_at(rt.alloc(), images, budget, chances)?;
+    let is_done = printed.as_slice() == DONE.as_bytes();
+    let is_stopped = printed.as_slice() == STOPPED.as_bytes();
+    must_hold(rt, status == 0 && (is_done || is_stopped), "a stop");
+    Ok(is_done)
 }
 
 /// Stops a recovery at this step, recovers what is left, and answers whether there was no stop.
@@ -34,11 +50,8 @@ fn stop_at<C: Chances>(
     chances: &mut C,
 ) -> Result<bool, Fail> {
     let mut images = store_with(rt.alloc(), image, NO_CALL, FailedPut::LeavesOld)?;
-    let (status, printed) = stopped_at(rt.alloc(), &mut images, budget, chances)?;
-    let is_done = printed.as_slice() == DONE.as_bytes();
-    let wanted = if is_done { DONE } else { STOPPED };
-    must_end(rt, "a stop", (status, &printed), 0, wanted);
-    runs(rt, &mut images, "rebuild h", b"", 0, DONE)?;
+    let is_done = stop_recovery(rt, &mut images, budget, chances)?;
+    runs(rt, &mut images, "rebuild h", b"", 0, DONE);
     Ok(is_done)
 }
 
@@ -46,11 +59,11 @@ fn stop_at<C: Chances>(
 /// each stop left. (The crate slow_tests takes every step.)
 fn goes_on_from_stops<C: Chances>(
     rt: &(impl Abort + AllocGlobal),
+    image: &[u8],
     chances: &mut C,
 ) -> Result<(), Fail> {
-    let image = image_bytes(rt.alloc(), ONE_BLOCK)?;
     for budget in (0..4).chain((4..100_000).step_by(683)) {
-        if stop_at(rt, &image, budget, chances)? {
+        if stop_at(rt, image, budget, chances)? {
             must_hold(rt, 1 < budget, "it takes steps");
             return Ok(());
         }
@@ -60,8 +73,9 @@ fn goes_on_from_stops<C: Chances>(
 
 #[test]
 fn a_stopped_recovery_is_gone_on_with(rt: HostRuntime) -> Result<(), Fail> {
-    goes_on_from_stops(&rt, &mut SeededChances::new())?;
-    goes_on_from_stops(&rt, &mut ConstantChance(0))
+    let image = image_bytes(rt.alloc(), ONE_BLOCK)?;
+    goes_on_from_stops(&rt, &image, &mut SeededChances::new())?;
+    goes_on_from_stops(&rt, &image, &mut ConstantChance(0))
 }
 
 const REFUSED: &str = "
@@ -100,31 +114,28 @@ fn what_recovery_refuses_is_left_as_it_is(rt: HostRuntime) -> Result<(), Fail> {
 
 /// A call of the store that fails, what a failed put leaves, the status, the text, and whether the
 /// old image is left. The store's call 0 put the image there, 1 gets it, and 2 puts what is left.
-const FAILURES: [(u64, FailedPut, u8, &str, bool); 3] = [
+type Failure = (u64, FailedPut, u8, &'static str, bool);
+
+const FAILURES: [Failure; 3] = [
     (1, FailedPut::LeavesOld, 4, "read fault\n", true),
     (2, FailedPut::LeavesOld, 5, "write fault\n", true),
     (2, FailedPut::LeavesNew, 5, "write fault\n", false),
 ];
 
-/// Recovers the image, which ends so: the answer is whether it is left as it was.
-fn leaves_image(
-    rt: &(impl Abort + AllocGlobal),
-    mut images: MapStore,
-    image: &[u8],
-    status: u8,
-    text: &str,
-) -> Result<bool, Fail> {
-    runs(rt, &mut images, "rebuild h", b"", status, text)?;
-    Ok(has_image(&images, image))
+/// Recovers the image over a store of which that call fails.
+fn fails(rt: &(impl Abort + AllocGlobal), image: &[u8], failure: &Failure) -> Result<(), Fail> {
+    let (call, failed, status, text, is_old) = *failure;
+    let mut images = store_with(rt.alloc(), image, call, failed)?;
+    runs(rt, &mut images, "rebuild h", b"", status, text);
+    must_hold(rt, has_image(&images, image) == is_old, text);
+    Ok(())
 }
 
 #[test]
 fn a_failed_call_of_the_store_is_told(rt: HostRuntime) -> Result<(), Fail> {
     let image = image_bytes(rt.alloc(), ONE_BLOCK)?;
-    for (call, failed, status, text, is_old) in FAILURES {
-        let images = store_with(rt.alloc(), &image, call, failed)?;
-        let is_left = leaves_image(&rt, images, &image, status, text)?;
-        must_hold(&rt, is_left == is_old, text);
+    for failure in &FAILURES {
+        fails(&rt, &image, failure)?;
     }
     Ok(())
 }

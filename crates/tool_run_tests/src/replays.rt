@@ -1,6 +1,6 @@
 //! Schedules replayed over images: what each step answers, and what is told of the crash behind.
 use crate::harness::{
-    Call, NO_CALL, has_image, make, must_end, must_hold, plain, runs, store_with,
+    Call, NO_CALL, ends_so, has_image, make, must_hold, numbered, plain, runs, store_with,
 };
 use crate::images::image_bytes;
 use crate::session::shows_each;
@@ -141,14 +141,17 @@ held 64 1
 ",
 );
 
+/// The schedule with a word index in place of its name.
+fn with_word(alloc: Global, schedule: &str, name: &str, word: u64) -> Result<String, AllocError> {
+    let word = numbered(alloc, "", word)?;
+    schedule.replace(alloc, name, &word)
+}
+
 /// The schedule with the word indices of superblock 0 in place of INFO and LINK: the tool reads
 /// numbers alone.
 fn written(alloc: Global, schedule: &str) -> Result<String, AllocError> {
-    let info = format!(in alloc; "{}", info_word(0))?;
-    let link = format!(in alloc; "{}", link_word(0))?;
-    schedule
-        .replace(alloc, "INFO", &info)?
-        .replace(alloc, "LINK", &link)
+    let schedule = with_word(alloc, schedule, "INFO", info_word(0))?;
+    with_word(alloc, &schedule, "LINK", link_word(0))
 }
 
 /// Replays a schedule by several chances. The image stays as it is.
@@ -159,9 +162,20 @@ fn replays(
     status: u8,
     text: &str,
 ) -> Result<(), Fail> {
-    let image = image_bytes(rt.alloc(), image)?;
     let schedule = written(rt.alloc(), schedule)?;
-    replays_bytes(rt, &image, schedule.as_bytes(), status, text)
+    replays_on(rt, image, schedule.as_bytes(), status, text)
+}
+
+/// The same of a schedule in bytes.
+fn replays_on(
+    rt: &(impl Abort + AllocGlobal),
+    image: &str,
+    schedule: &[u8],
+    status: u8,
+    text: &str,
+) -> Result<(), Fail> {
+    let image = image_bytes(rt.alloc(), image)?;
+    replays_bytes(rt, &image, schedule, status, text)
 }
 
 /// The same of an image and a schedule in bytes.
@@ -173,11 +187,22 @@ fn replays_bytes(
     text: &str,
 ) -> Result<(), Fail> {
     let mut images = store_with(rt.alloc(), image, NO_CALL, FailedPut::LeavesOld)?;
-    runs(rt, &mut images, "replay h", schedule, status, text)?;
-    runs(rt, &mut images, "replay h --seed 7", schedule, status, text)?;
-    replays_with_most(rt, &mut images, schedule, status, text)?;
+    replays_each(rt, &mut images, schedule, status, text);
     must_hold(rt, has_image(&images, image), text);
     Ok(())
+}
+
+/// Replays it by each of the chances.
+fn replays_each(
+    rt: &(impl Abort + AllocGlobal),
+    images: &mut MapStore,
+    schedule: &[u8],
+    status: u8,
+    text: &str,
+) {
+    runs(rt, images, "replay h", schedule, status, text);
+    runs(rt, images, "replay h --seed 7", schedule, status, text);
+    replays_with_most(rt, images, schedule, status, text);
 }
 
 /// Replays it where each number asked for is the greatest.
@@ -187,17 +212,16 @@ fn replays_with_most(
     schedule: &[u8],
     status: u8,
     text: &str,
-) -> Result<(), Fail> {
+) {
     let call = plain("replay h", schedule);
     let mut chance = ConstantChance(u64::MAX);
-    let (code, printed) = make(rt.alloc(), call, images, &OpenGate, &mut chance)?;
-    must_end(rt, text, (code, &printed), status, text);
-    Ok(())
+    let ended = make(rt.alloc(), call, images, &OpenGate, &mut chance);
+    must_hold(rt, ends_so(ended, status, text), text);
 }
 
 #[test]
 fn each_line_tells_whether_its_step_was_done(rt: HostRuntime) -> Result<(), Fail> {
-    for (image, schedule, text) in [OVERTAKEN, RAW, TAKEN, NO_STEP, DRAWN, LOST] {
+    for (image, schedule, text) in &[OVERTAKEN, RAW, TAKEN, NO_STEP, DRAWN, LOST] {
         replays(&rt, image, schedule, 0, text)?;
     }
     Ok(())
@@ -213,7 +237,7 @@ const BAD_SCHEDULES: [(&str, &str); 4] = [
 
 #[test]
 fn a_schedule_outside_the_grammar_is_told_by_its_first_line(rt: HostRuntime) -> Result<(), Fail> {
-    for (schedule, text) in BAD_SCHEDULES {
+    for (schedule, text) in &BAD_SCHEDULES {
         replays(&rt, ONE_BLOCK, schedule, 10, text)?;
     }
     Ok(())
@@ -247,24 +271,34 @@ fn the_image_is_told_before_the_schedule(rt: HostRuntime) -> Result<(), Fail> {
     shows_each(&rt, BEFORE_ITS_SCHEDULE)
 }
 
-#[test]
-fn a_failed_get_is_told_before_the_schedule(rt: HostRuntime) -> Result<(), Fail> {
-    let image = image_bytes(rt.alloc(), "1")?;
-    // The store's call 0 put the image there, and 1 gets it.
-    let mut images = store_with(rt.alloc(), &image, 1, FailedPut::LeavesOld)?;
-    runs(&rt, &mut images, "replay h", b"seats 9", 4, "read fault\n")
+/// A store with an empty image, of which the call of this number fails.
+fn failing_store(alloc: Global, failing: u64) -> Result<MapStore, Fail> {
+    let image = image_bytes(alloc, "1")?;
+    store_with(alloc, &image, failing, FailedPut::LeavesOld)
 }
 
 #[test]
-fn a_failed_read_is_told_before_the_schedule(rt: HostRuntime) -> Result<(), Fail> {
-    let image = image_bytes(rt.alloc(), "1")?;
-    let mut images = store_with(rt.alloc(), &image, NO_CALL, FailedPut::LeavesOld)?;
+fn a_failed_get_is_told_before_the_schedule(rt: HostRuntime) -> Result<(), Fail> {
+    // The store's call 0 put the image there, and 1 gets it.
+    let mut images = failing_store(rt.alloc(), 1)?;
+    runs(&rt, &mut images, "replay h", b"seats 9", 4, "read fault\n");
+    Ok(())
+}
+
+/// Replays a schedule that can't be read.
+fn read_fails(rt: &(impl Abort + AllocGlobal), images: &mut MapStore) {
     let call = Call {
         failing_reads: &[0],
         ..plain("replay h", b"seats 9")
     };
     let mut chance = ConstantChance(0);
-    let (status, printed) = make(rt.alloc(), call, &mut images, &OpenGate, &mut chance)?;
-    must_end(&rt, "a failed read", (status, &printed), 4, "read fault\n");
+    let ended = make(rt.alloc(), call, images, &OpenGate, &mut chance);
+    must_hold(rt, ends_so(ended, 4, "read fault\n"), "a failed read");
+}
+
+#[test]
+fn a_failed_read_is_told_before_the_schedule(rt: HostRuntime) -> Result<(), Fail> {
+    let mut images = failing_store(rt.alloc(), NO_CALL)?;
+    read_fails(&rt, &mut images);
     Ok(())
 }

@@ -1,8 +1,9 @@
 //! Traces worked off to their end: the replies, the report, and the image that is left.
-use crate::harness::{image_in, make_plain, must_hold, runs, store, word};
+use crate::harness::{make_plain, must_hold, runs, store, word};
 use crate::session::play;
 use image_text::number;
 use std::alloc::{AllocError, Global};
+use std::process::Abort;
 use std::test::Fail;
 
 const ANSWERED: &str = "
@@ -76,8 +77,8 @@ $ show none.img
 ";
 
 #[test]
-fn requests_are_answered_and_the_heap_is_told(rt: HostRuntime) -> Result<(), Fail> {
-    play(&rt, &mut store(rt.alloc()), ANSWERED)
+fn requests_are_answered_and_the_heap_is_told(rt: HostRuntime) {
+    play(&rt, &mut store(rt.alloc()), ANSWERED);
 }
 
 /// The last call shows that those before it left the heap as it was stopped.
@@ -144,8 +145,8 @@ $ show h
 ";
 
 #[test]
-fn a_refused_run_leaves_the_heap_as_it_is(rt: HostRuntime) -> Result<(), Fail> {
-    play(&rt, &mut store(rt.alloc()), REFUSED)
+fn a_refused_run_leaves_the_heap_as_it_is(rt: HostRuntime) {
+    play(&rt, &mut store(rt.alloc()), REFUSED);
 }
 
 const GONE_ON_WITH: &str = "
@@ -176,8 +177,8 @@ $ run h --workers 1
 ";
 
 #[test]
-fn a_stopped_run_is_gone_on_with(rt: HostRuntime) -> Result<(), Fail> {
-    play(&rt, &mut store(rt.alloc()), GONE_ON_WITH)
+fn a_stopped_run_is_gone_on_with(rt: HostRuntime) {
+    play(&rt, &mut store(rt.alloc()), GONE_ON_WITH);
 }
 
 const LAST_BUCKET: &str = "
@@ -201,14 +202,18 @@ fn leads_to(image: &[u8], place: &str, pointer: &str) -> Result<bool, Fail> {
     Ok(word(image, place)? == number(pointer)?)
 }
 
+/// Asserts that the last root leads to a table, and its last bucket to a node.
+fn leads_to_node(rt: &impl Abort, image: &[u8]) -> Result<(), Fail> {
+    must_hold(rt, leads_to(image, "root:7", "@1080")?, "the root");
+    must_hold(rt, leads_to(image, "1207", "@9272")?, "the bucket");
+    Ok(())
+}
+
 #[test]
 fn keys_at_the_end_stand_in_the_last_bucket(rt: HostRuntime) -> Result<(), Fail> {
     let mut images = store(rt.alloc());
-    play(&rt, &mut images, LAST_BUCKET)?;
-    let image = image_in(rt.alloc(), &images)?;
-    must_hold(&rt, leads_to(&image, "root:7", "@1080")?, "the root");
-    must_hold(&rt, leads_to(&image, "1207", "@9272")?, "the bucket");
-    Ok(())
+    play(&rt, &mut images, LAST_BUCKET);
+    leads_to_node(&rt, images.image("h").unwrap_or(&[]))
 }
 
 const LONG: &str = "
@@ -246,8 +251,8 @@ $ run h --workers 1 --sum --map
 ";
 
 #[test]
-fn long_values_take_blocks_of_their_own(rt: HostRuntime) -> Result<(), Fail> {
-    play(&rt, &mut store(rt.alloc()), LONG)
+fn long_values_take_blocks_of_their_own(rt: HostRuntime) {
+    play(&rt, &mut store(rt.alloc()), LONG);
 }
 
 const OTHER_CLASS: &str = "
@@ -284,8 +289,8 @@ $ run h --workers 1 --map
 ";
 
 #[test]
-fn freed_superblocks_serve_other_classes(rt: HostRuntime) -> Result<(), Fail> {
-    play(&rt, &mut store(rt.alloc()), OTHER_CLASS)
+fn freed_superblocks_serve_other_classes(rt: HostRuntime) {
+    play(&rt, &mut store(rt.alloc()), OTHER_CLASS);
 }
 
 const FIFTH_REFUSED: &str = "
@@ -309,8 +314,8 @@ $ run h --workers 1 --sum
 ";
 
 #[test]
-fn a_block_that_was_freed_serves_a_value_that_had_no_room(rt: HostRuntime) -> Result<(), Fail> {
-    play(&rt, &mut store(rt.alloc()), FIFTH_REFUSED)
+fn a_block_that_was_freed_serves_a_value_that_had_no_room(rt: HostRuntime) {
+    play(&rt, &mut store(rt.alloc()), FIFTH_REFUSED);
 }
 
 const GENERATED: &str = "
@@ -354,8 +359,8 @@ $ format h 8
 ";
 
 #[test]
-fn a_trace_is_made(rt: HostRuntime) -> Result<(), Fail> {
-    play(&rt, &mut store(rt.alloc()), GENERATED)
+fn a_trace_is_made(rt: HostRuntime) {
+    play(&rt, &mut store(rt.alloc()), GENERATED);
 }
 
 /// What a call prints.
@@ -376,18 +381,18 @@ sb 1 class 5 held 0-1
 sb 2 class 6 held 0-1
 ";
 
+/// Runs the trace over an empty heap.
+fn runs_eight(rt: &(impl Abort + AllocGlobal), trace: &[u8]) {
+    let mut images = store(rt.alloc());
+    let made = "formatted 8 bytes 533312\n";
+    runs(rt, &mut images, "format h 8", b"", 0, made);
+    let line = "run h --workers 1 --sum --map";
+    runs(rt, &mut images, line, trace, 0, EIGHT_RUN);
+}
+
 #[test]
 fn a_made_trace_is_run(rt: HostRuntime) -> Result<(), Fail> {
-    let alloc = rt.alloc();
-    let mut images = store(alloc);
-    make_plain(alloc, &mut images, "format h 8", b"")?;
-    let trace = printed(alloc, "gen 8 1")?;
-    runs(
-        &rt,
-        &mut images,
-        "run h --workers 1 --sum --map",
-        &trace,
-        0,
-        EIGHT_RUN,
-    )
+    let trace = printed(rt.alloc(), "gen 8 1")?;
+    runs_eight(&rt, &trace);
+    Ok(())
 }

@@ -1,10 +1,12 @@
 //! What a seed decides: the value that a put leaves where it is stopped, and the seed that each
 //! command gives its chances.
-use crate::harness::{NO_CALL, image_after, make, must_hold, plain, runs, store_with};
+use crate::harness::{NO_CALL, image_after, joined, make, must_hold, plain, runs, store_with};
+use image_text::number;
 use line_memory::ConstantChance;
+use std::alloc::AllocError;
 use std::process::Abort;
 use std::test::Fail;
-use tool_ports::{Chances, FailedPut, OpenGate};
+use tool_ports::{Chances, FailedPut, MapStore, OpenGate};
 
 /// What the heap went through before the put that is stopped.
 const BEFORE: &str = "put 1 616e6e
@@ -30,26 +32,35 @@ const STOPPED: &str = "
 26 --seed 13 => 6576
 ";
 
-/// Stops the put as the options say, which leaves the value.
+/// Makes the call, which stops the put and leaves the value.
 fn must_leave(
     rt: &(impl Abort + AllocGlobal),
     image: &[u8],
-    options: &str,
+    line: &str,
     value: &str,
 ) -> Result<(), Fail> {
-    let alloc = rt.alloc();
-    let mut images = store_with(alloc, image, NO_CALL, FailedPut::LeavesOld)?;
-    let line = format!(in alloc; "run h --workers 1 --stop {options}")?;
-    let text = format!(in alloc;
-        "unanswered\nrun stopped\nheap 2 dirty\nkey 1 {value}\nkey 9 -\n\
-        held 32 2\nheld 1024 2\n"
-    )?;
-    runs(rt, &mut images, &line, b"put 1 6576", 0, &text)
+    let before = "unanswered\nrun stopped\nheap 2 dirty\nkey 1 ";
+    let behind = "\nkey 9 -\nheld 32 2\nheld 1024 2\n";
+    let text = joined(rt.alloc(), &[before, value, behind])?;
+    stops(rt, image, line, &text)
+}
+
+/// Makes the call, which stops the put and prints this text.
+fn stops(
+    rt: &(impl Abort + AllocGlobal),
+    image: &[u8],
+    line: &str,
+    text: &str,
+) -> Result<(), Fail> {
+    let mut images = store_with(rt.alloc(), image, NO_CALL, FailedPut::LeavesOld)?;
+    runs(rt, &mut images, line, b"put 1 6576", 0, text);
+    Ok(())
 }
 
 fn leaves_as_told(rt: &(impl Abort + AllocGlobal), image: &[u8], row: &str) -> Result<(), Fail> {
     let (options, value) = row.split_once(" => ").ok_or("no row")?;
-    must_leave(rt, image, options, value)
+    let line = joined(rt.alloc(), &["run h --workers 1 --stop ", options])?;
+    must_leave(rt, image, &line, value)
 }
 
 #[test]
@@ -98,23 +109,31 @@ replay h --seed 14 < seats 1 => 14
 ";
 
 /// The seed that a call gives its chances, which are seeded once.
-fn seed_of_call(rt: &(impl Abort + AllocGlobal), image: &[u8], call: &str) -> Result<u64, Fail> {
+fn seed_given(
+    rt: &(impl Abort + AllocGlobal),
+    images: &mut MapStore,
+    call: &str,
+) -> Result<u64, AllocError> {
     let (line, input) = call.split_once(" < ").unwrap_or((call, ""));
-    let mut images = store_with(rt.alloc(), image, NO_CALL, FailedPut::LeavesOld)?;
     let mut chances = SeedRecorder {
         count: 0,
         latest: 0,
     };
     let call = plain(line, input.as_bytes());
-    let (status, _) = make(rt.alloc(), call, &mut images, &OpenGate, &mut chances)?;
+    let (status, _) = make(rt.alloc(), call, images, &OpenGate, &mut chances)?;
     must_hold(rt, status == 0 && chances.count == 1, line);
     Ok(chances.latest)
 }
 
+/// The seed that a call on the image gives its chances.
+fn seed_of_call(rt: &(impl Abort + AllocGlobal), image: &[u8], call: &str) -> Result<u64, Fail> {
+    let mut images = store_with(rt.alloc(), image, NO_CALL, FailedPut::LeavesOld)?;
+    Ok(seed_given(rt, &mut images, call)?)
+}
+
 fn gives_the_seed(rt: &(impl Abort + AllocGlobal), image: &[u8], row: &str) -> Result<(), Fail> {
     let (call, seed) = row.split_once(" => ").ok_or("no row")?;
-    let seed = seed.parse::<u64>().ok().ok_or("no seed")?;
-    must_hold(rt, seed_of_call(rt, image, call)? == seed, call);
+    must_hold(rt, seed_of_call(rt, image, call)? == number(seed)?, call);
     Ok(())
 }
 

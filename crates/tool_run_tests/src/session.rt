@@ -15,7 +15,9 @@
 //!
 //! Before its first call a session may name the image h, as `images` reads it, in a line that
 //! begins with `@`. Other lines say nothing.
-use crate::harness::{Call, NO_CALL, has_image, make, must_end, must_hold, shows, store_with};
+use crate::harness::{
+    Call, Ended, NO_CALL, ends_so, has_image, joined, make, must_hold, push_all, shows, store_with,
+};
 use crate::images::image_bytes;
 use std::alloc::{AllocError, Global};
 use std::process::Abort;
@@ -33,9 +35,7 @@ fn behind<'a>(line: &'a str, mark: &str) -> Option<&'a str> {
 
 /// Adds a request that puts so many zero bytes.
 fn push_put(input: &mut String, key: &str, length: u64) -> Result<(), AllocError> {
-    input.push_str("put ")?;
-    input.push_str(key)?;
-    input.push_str(" ")?;
+    push_all(input, &["put ", key, " "])?;
     for _ in 0..length {
         input.push_str("00")?;
     }
@@ -43,10 +43,9 @@ fn push_put(input: &mut String, key: &str, length: u64) -> Result<(), AllocError
 }
 
 /// Adds a request that puts zero bytes: its key, and how many they are.
-fn push_zeros(input: &mut String, put: &str) -> Result<(), Fail> {
-    let (key, length) = put.split_once(' ').ok_or("no length")?;
-    push_put(input, key, number(length)?)?;
-    Ok(())
+fn push_zeros(input: &mut String, put: &str) -> Result<(), AllocError> {
+    let (key, length) = put.split_once(' ').unwrap_or((put, ""));
+    push_put(input, key, length.parse::<u64>().unwrap_or(0))
 }
 
 /// Ends the line before, if there is one.
@@ -59,19 +58,20 @@ fn end_line(input: &mut String) -> Result<(), AllocError> {
 }
 
 /// Adds a line of input, behind a line feed where it isn't the first.
-fn push_input(input: &mut String, line: &str) -> Result<(), Fail> {
+fn push_input(input: &mut String, line: &str) -> Result<(), AllocError> {
     if let Some(text) = behind(line, "<") {
         end_line(input)?;
-        input.push_str(text)?;
-    } else if let Some(put) = behind(line, "<0") {
-        end_line(input)?;
-        push_zeros(input, put)?;
+        return input.push_str(text);
     }
-    Ok(())
+    let Some(put) = behind(line, "<0") else {
+        return Ok(());
+    };
+    end_line(input)?;
+    push_zeros(input, put)
 }
 
 /// The input of the call.
-fn input_of(alloc: Global, turn: &str) -> Result<String, Fail> {
+fn input_of(alloc: Global, turn: &str) -> Result<String, AllocError> {
     let mut input = String::new(alloc);
     for line in turn.split('\n') {
         push_input(&mut input, line)?;
@@ -100,12 +100,6 @@ fn printed_by(alloc: Global, turn: &str) -> Result<String, AllocError> {
     Ok(printed)
 }
 
-/// The number of a word.
-fn number(word: &str) -> Result<u64, Fail> {
-    let number = word.parse::<u64>().ok().ok_or("no number")?;
-    Ok(number)
-}
-
 /// What stands behind the mark, in the first line that begins with it.
 fn first_behind<'a>(turn: &'a str, mark: &str) -> Option<&'a str> {
     for line in turn.split('\n') {
@@ -117,33 +111,39 @@ fn first_behind<'a>(turn: &'a str, mark: &str) -> Option<&'a str> {
     None
 }
 
-fn numbers(alloc: Global, words: &str) -> Result<Vec<u64>, Fail> {
+/// The numbers of the words. A word that tells none names no call.
+fn numbers(alloc: Global, words: &str) -> Result<Vec<u64>, AllocError> {
     let mut numbers = Vec::new(alloc);
     for word in words.split(' ') {
-        numbers.push(number(word)?)?;
+        numbers.push(word.parse::<u64>().unwrap_or(NO_CALL))?;
     }
     Ok(numbers)
 }
 
 /// Which writes of the call fail.
-fn failing_writes(alloc: Global, turn: &str) -> Result<Vec<u64>, Fail> {
+fn failing_writes(alloc: Global, turn: &str) -> Result<Vec<u64>, AllocError> {
     match first_behind(turn, "!") {
         Some(words) => numbers(alloc, words),
         None => Ok(Vec::new(alloc)),
     }
 }
 
-fn status(number: u64) -> Result<u8, Fail> {
-    let status = u8::try_from(number).ok().ok_or("no status")?;
-    Ok(status)
+/// The status of a word. A word that tells none tells the status of no call.
+fn status(word: &str) -> u8 {
+    word.parse::<u8>().unwrap_or(u8::MAX)
 }
 
 /// The status that the call is to have.
-fn status_of(turn: &str) -> Result<u8, Fail> {
+fn status_of(turn: &str) -> u8 {
     match first_behind(turn, "=") {
-        Some(code) => status(number(code)?),
-        None => Ok(0),
+        Some(code) => status(code),
+        None => 0,
     }
+}
+
+/// The first line of a text.
+fn first_line(text: &str) -> &str {
+    text.split('\n').next().unwrap_or("")
 }
 
 /// Makes a call of a session, with this input and these failing writes.
@@ -153,7 +153,7 @@ fn make_call(
     line: &str,
     trace: &[u8],
     failing_writes: &[u64],
-) -> Result<(u8, Vec<u8>), AllocError> {
+) -> Ended {
     let call = Call {
         line,
         trace,
@@ -164,66 +164,62 @@ fn make_call(
     make(alloc, call, images, &OpenGate, &mut SeededChances::new())
 }
 
-/// Makes a call of a session: its status, and what it prints.
-fn make_turn(alloc: Global, images: &mut MapStore, turn: &str) -> Result<(u8, Vec<u8>), Fail> {
-    let line = turn.split('\n').next().unwrap_or("");
-    let input = input_of(alloc, turn)?;
+/// Makes a call of a session, with this input.
+fn make_with_input(alloc: Global, images: &mut MapStore, turn: &str, trace: &[u8]) -> Ended {
     let failing = failing_writes(alloc, turn)?;
-    Ok(make_call(alloc, images, line, input.as_bytes(), &failing)?)
+    make_call(alloc, images, first_line(turn), trace, &failing)
+}
+
+/// Makes a call of a session.
+fn make_turn(alloc: Global, images: &mut MapStore, turn: &str) -> Ended {
+    let input = input_of(alloc, turn)?;
+    make_with_input(alloc, images, turn, input.as_bytes())
 }
 
 /// Whether the image h is as long as the turn tells, if it does.
-fn has_length(images: &MapStore, turn: &str) -> Result<bool, Fail> {
+fn has_length(images: &MapStore, turn: &str) -> bool {
     let Some(length) = first_behind(turn, "~") else {
-        return Ok(true);
+        return true;
     };
-    Ok(images.image("h").unwrap_or(&[]).len() as u64 == number(length)?)
+    length.parse::<usize>().ok() == Some(images.image("h").unwrap_or(&[]).len())
 }
 
-/// A call ended with this status, having printed these bytes, as the turn tells.
-fn ends_as_told(
-    rt: &(impl Abort + AllocGlobal),
-    turn: &str,
-    (status, printed): (u8, &[u8]),
-) -> Result<(), Fail> {
-    let text = printed_by(rt.alloc(), turn)?;
-    must_end(rt, turn, (status, printed), status_of(turn)?, &text);
-    Ok(())
+/// Whether a call ended as the turn tells.
+fn ends_as_told(alloc: Global, turn: &str, ended: Ended) -> bool {
+    match printed_by(alloc, turn) {
+        Ok(text) => ends_so(ended, status_of(turn), &text),
+        Err(_) => false,
+    }
 }
 
-/// Makes a call of a session, which ends as it tells.
-fn take_turn(
-    rt: &(impl Abort + AllocGlobal),
-    images: &mut MapStore,
-    turn: &str,
-) -> Result<(), Fail> {
-    let (status, printed) = make_turn(rt.alloc(), images, turn)?;
-    ends_as_told(rt, turn, (status, &printed))?;
-    must_hold(rt, has_length(images, turn)?, turn);
-    Ok(())
+/// Makes a call of a session, which ends and leaves an image as it tells.
+fn take_turn(rt: &(impl Abort + AllocGlobal), images: &mut MapStore, turn: &str) {
+    let ended = make_turn(rt.alloc(), images, turn);
+    must_hold(rt, ends_as_told(rt.alloc(), turn, ended), turn);
+    must_hold(rt, has_length(images, turn), turn);
 }
 
 /// Makes the calls of a session over the store.
-pub fn play(
-    rt: &(impl Abort + AllocGlobal),
-    images: &mut MapStore,
-    session: &str,
-) -> Result<(), Fail> {
+pub fn play(rt: &(impl Abort + AllocGlobal), images: &mut MapStore, session: &str) {
     let mut turns = session.split("\n$ ");
     turns.next();
     for turn in turns {
-        take_turn(rt, images, turn)?;
+        take_turn(rt, images, turn);
     }
-    Ok(())
 }
 
 /// Plays a session over a store that has the image alone, which it leaves as it was.
-fn show(rt: &(impl Abort + AllocGlobal), session: &str) -> Result<(), Fail> {
-    let image = image_bytes(rt.alloc(), session.split('\n').next().unwrap_or(""))?;
-    let mut images = store_with(rt.alloc(), &image, NO_CALL, FailedPut::LeavesOld)?;
-    play(rt, &mut images, session)?;
-    must_hold(rt, has_image(&images, &image), session);
+fn show_image(rt: &(impl Abort + AllocGlobal), image: &[u8], session: &str) -> Result<(), Fail> {
+    let mut images = store_with(rt.alloc(), image, NO_CALL, FailedPut::LeavesOld)?;
+    play(rt, &mut images, session);
+    must_hold(rt, has_image(&images, image), session);
     Ok(())
+}
+
+/// Plays a session over a store that has the image alone that it names.
+fn show(rt: &(impl Abort + AllocGlobal), session: &str) -> Result<(), Fail> {
+    let image = image_bytes(rt.alloc(), first_line(session))?;
+    show_image(rt, &image, session)
 }
 
 /// Plays such sessions, each over a store of its own.
@@ -241,21 +237,19 @@ fn shows_line(
     rt: &(impl Abort + AllocGlobal),
     image: &[u8],
     call: &str,
-    status: u8,
-    line: &str,
+    (code, line): (&str, &str),
 ) -> Result<(), Fail> {
-    let text = format!(in rt.alloc(); "{line}\n")?;
-    shows(rt, image, call, status, &text)
+    let text = joined(rt.alloc(), &[line, "\n"])?;
+    shows(rt, image, call, status(code), &text)
 }
 
 /// Makes a call on the image of a row, which it leaves as it is. Behind the image, between bars,
 /// are the status and the line that is printed.
 fn show_row(rt: &(impl Abort + AllocGlobal), call: &str, row: &str) -> Result<(), Fail> {
-    let (image, rest) = row.split_once(" | ").ok_or("no image")?;
-    let (code, line) = rest.split_once(" | ").ok_or("no status")?;
-    let status = status(number(code)?)?;
+    let (image, rest) = row.split_once(" | ").unwrap_or((row, ""));
+    let (code, line) = rest.split_once(" | ").unwrap_or((rest, ""));
     let image = image_bytes(rt.alloc(), image)?;
-    shows_line(rt, &image, call, status, line)
+    shows_line(rt, &image, call, (code, line))
 }
 
 /// Makes the call on the image of each row. A line that begins with `#` is a comment.

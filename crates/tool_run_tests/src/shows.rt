@@ -1,5 +1,5 @@
 //! What is told of images: the report, what a class gives, and why there is none.
-use crate::harness::{runs, shows, store};
+use crate::harness::{shows, store};
 use crate::images::image_bytes;
 use crate::session::{play, shows_each, shows_rows};
 use std::alloc::{AllocError, Global};
@@ -23,8 +23,8 @@ $ show h
 ";
 
 #[test]
-fn an_image_is_made_and_shown(rt: HostRuntime) -> Result<(), Fail> {
-    play(&rt, &mut store(rt.alloc()), MADE)
+fn an_image_is_made_and_shown(rt: HostRuntime) {
+    play(&rt, &mut store(rt.alloc()), MADE);
 }
 
 /// An image of one superblock with these words, of a length, the status, and what is told of it.
@@ -208,49 +208,75 @@ fn superblocks_of_two_kinds_are_shown(rt: HostRuntime) -> Result<(), Fail> {
     shows_each(&rt, KINDS)
 }
 
-/// The text on a class that gives so many blocks, one behind the other.
+/// A call on an image of two superblocks, the first line that it prints, and the blocks that are
+/// listed behind it: the first of them, their size, and how many there are.
+type Drained = (&'static str, &'static str, &'static str, [u64; 3]);
+
+const DRAINED: [Drained; 4] = [
+    (
+        "2: used 1, info:0 4, root:8 @1080",
+        "drain h 04",
+        "class 4 size 64 blocks 2047",
+        [8_704, 64, 2_047],
+    ),
+    (
+        "2: used 1, info:0 4, root:8 @1080",
+        "drain h 012",
+        "class 12 size 1024 blocks 64",
+        [74_176, 1_024, 64],
+    ),
+    (
+        "2: state 2",
+        "drain h 01",
+        "class 1 size 16 blocks 8192",
+        [8_640, 16, 8_192],
+    ),
+    (
+        "2: used 2, info:0 767, root:8 @1080",
+        "drain h 02",
+        "class 2 size 32 blocks 0",
+        [0, 32, 0],
+    ),
+];
+
+/// The line, and behind it the blocks, a line each.
 fn drained_text(
     alloc: Global,
-    class: u64,
-    size: u64,
-    first: u64,
-    count: u64,
+    line: &str,
+    [first, size, count]: [u64; 3],
 ) -> Result<String, AllocError> {
-    let mut text = format!(in alloc; "class {class} size {size} blocks {count}\n")?;
+    let mut text = String::from_str(alloc, line)?;
     let mut offset = first;
     for _ in 0..count {
-        writeln!(text, "{offset}")?;
+        write!(text, "\n{offset}")?;
         offset = offset.wrapping_add(size);
     }
+    text.push_str("\n")?;
     Ok(text)
 }
 
-/// Images of two superblocks and a class, the size of its blocks, the first that is given, and how
-/// many are.
-const DRAINED: [(&str, [u64; 4]); 4] = [
-    ("2: used 1, info:0 4, root:8 @1080", [4, 64, 8_704, 2_047]),
-    ("2: used 1, info:0 4, root:8 @1080", [12, 1_024, 74_176, 64]),
-    ("2: state 2", [1, 16, 8_640, 8_192]),
-    ("2: used 2, info:0 767, root:8 @1080", [2, 32, 0, 0]),
-];
-
-/// Asks for the blocks of a class, of an image told in words.
+/// Makes a call on an image told in words.
 fn drains(
     rt: &(impl Abort + AllocGlobal),
     image: &str,
-    class: u64,
+    call: &str,
     text: &str,
 ) -> Result<(), Fail> {
     let image = image_bytes(rt.alloc(), image)?;
-    let line = format!(in rt.alloc(); "drain h 0{class}")?;
-    shows(rt, &image, &line, 0, text)
+    shows(rt, &image, call, 0, text)
+}
+
+/// Asks for the blocks of a class.
+fn is_drained(rt: &(impl Abort + AllocGlobal), row: &Drained) -> Result<(), Fail> {
+    let (image, call, line, blocks) = *row;
+    let text = drained_text(rt.alloc(), line, blocks)?;
+    drains(rt, image, call, &text)
 }
 
 #[test]
 fn what_a_class_gives_is_listed(rt: HostRuntime) -> Result<(), Fail> {
-    for (image, [class, size, first, count]) in DRAINED {
-        let text = drained_text(rt.alloc(), class, size, first, count)?;
-        drains(&rt, image, class, &text)?;
+    for row in &DRAINED {
+        is_drained(&rt, row)?;
     }
     Ok(())
 }

@@ -1,5 +1,7 @@
 //! Runs stopped at their steps: what is told of the image that is left, and that it is gone on with.
-use crate::harness::{NO_CALL, image_after, make, make_plain, must_hold, plain, runs, store_with};
+use crate::harness::{
+    NO_CALL, image_after, make, make_plain, must_hold, numbered, plain, runs, store_with,
+};
 use line_memory::ConstantChance;
 use std::alloc::{AllocError, Global};
 use std::process::Abort;
@@ -7,19 +9,17 @@ use std::sync::atomic::{AtomicU64, Ordering};
 use std::test::Fail;
 use tool_ports::{Chances, FailedPut, Gate, MapStore, OpenGate, SeededChances};
 
-/// A stopped run of a trace over an image: what it prints, and the image that it leaves.
+/// A stopped run of a trace over the image of the store: what it prints.
 fn stopped_run<C: Chances>(
     alloc: Global,
-    image: &[u8],
+    images: &mut MapStore,
     trace: &str,
     budget: u64,
     chances: &mut C,
-) -> Result<(Vec<u8>, MapStore), Fail> {
-    let mut images = store_with(alloc, image, NO_CALL, FailedPut::LeavesOld)?;
-    let line = format!(in alloc; "run h --workers 1 --stop {budget}")?;
+) -> Result<Vec<u8>, AllocError> {
+    let line = numbered(alloc, "run h --workers 1 --stop ", budget)?;
     let call = plain(&line, trace.as_bytes());
-    let (_, printed) = make(alloc, call, &mut images, &OpenGate, chances)?;
-    Ok((printed, images))
+    Ok(make(alloc, call, images, &OpenGate, chances)?.1)
 }
 
 /// What is told of a put that replaces a value, stopped before the step at which it does so.
@@ -69,6 +69,17 @@ fn seen_in(printed: &[u8]) -> Result<Seen, Fail> {
     }
 }
 
+/// Which of the three is printed where the put is stopped at this step.
+fn seen_at<C: Chances>(
+    alloc: Global,
+    images: &mut MapStore,
+    budget: u64,
+    chances: &mut C,
+) -> Result<Seen, Fail> {
+    let printed = stopped_run(alloc, images, "put 0 bb", budget, chances)?;
+    seen_in(&printed)
+}
+
 /// Stops the put at this step, and does it on what is left.
 fn stop_put<C: Chances>(
     rt: &(impl Abort + AllocGlobal),
@@ -76,11 +87,11 @@ fn stop_put<C: Chances>(
     budget: u64,
     chances: &mut C,
 ) -> Result<Seen, Fail> {
-    let (printed, mut images) = stopped_run(rt.alloc(), image, "put 0 bb", budget, chances)?;
-    let seen = seen_in(&printed)?;
+    let mut images = store_with(rt.alloc(), image, NO_CALL, FailedPut::LeavesOld)?;
+    let seen = seen_at(rt.alloc(), &mut images, budget, chances)?;
     if seen != Seen::Closed {
         let trace = b"put 0 bb".as_slice();
-        runs(rt, &mut images, "run h --workers 1", trace, 0, CLOSED)?;
+        runs(rt, &mut images, "run h --workers 1", trace, 0, CLOSED);
     }
     Ok(seen)
 }
@@ -98,12 +109,12 @@ fn must_follow(rt: &impl Abort, before: Seen, seen: Seen) {
 /// there on the new one.
 fn replaces_at_one_step<C: Chances>(
     rt: &(impl Abort + AllocGlobal),
+    image: &[u8],
     chances: &mut C,
 ) -> Result<(), Fail> {
-    let image = image_after(rt.alloc(), "2", "put 0 aa")?;
     let mut before = Seen::Old;
     for budget in 0..10_000 {
-        let seen = stop_put(rt, &image, budget, chances)?;
+        let seen = stop_put(rt, image, budget, chances)?;
         must_follow(rt, before, seen);
         if seen == Seen::Closed {
             must_hold(rt, 10 < budget, "it takes steps");
@@ -116,9 +127,10 @@ fn replaces_at_one_step<C: Chances>(
 
 #[test]
 fn a_replaced_value_is_old_or_new_at_each_stop(rt: HostRuntime) -> Result<(), Fail> {
-    replaces_at_one_step(&rt, &mut ConstantChance(0))?;
-    replaces_at_one_step(&rt, &mut ConstantChance(1))?;
-    replaces_at_one_step(&rt, &mut SeededChances::new())
+    let image = image_after(rt.alloc(), "2", "put 0 aa")?;
+    replaces_at_one_step(&rt, &image, &mut ConstantChance(0))?;
+    replaces_at_one_step(&rt, &image, &mut ConstantChance(1))?;
+    replaces_at_one_step(&rt, &image, &mut SeededChances::new())
 }
 
 /// How many lines of the text come before the first that begins with `run`, and how many of these
@@ -165,14 +177,23 @@ fn runs_rest(
     Ok(())
 }
 
+/// Stops a run of the requests at this step: how many are answered, and whether none was left.
+fn stop_requests(
+    alloc: Global,
+    images: &mut MapStore,
+    budget: u64,
+) -> Result<(usize, bool), AllocError> {
+    let mut chance = ConstantChance(budget);
+    let printed = stopped_run(alloc, images, REQUESTS, budget, &mut chance)?;
+    Ok((answered(&printed), printed.ends_with(REPORT)))
+}
+
 /// Stops a run of the requests at this step, and runs those left unanswered on what is left. The
 /// answer is whether none was.
 fn go_on(rt: &(impl Abort + AllocGlobal), image: &[u8], budget: u64) -> Result<bool, Fail> {
-    let mut chance = ConstantChance(budget);
-    let (printed, mut images) = stopped_run(rt.alloc(), image, REQUESTS, budget, &mut chance)?;
-    let count = answered(&printed);
+    let mut images = store_with(rt.alloc(), image, NO_CALL, FailedPut::LeavesOld)?;
+    let (count, is_closed) = stop_requests(rt.alloc(), &mut images, budget)?;
     runs_rest(rt, &mut images, count)?;
-    let is_closed = printed.ends_with(REPORT);
     must_hold(rt, !is_closed || count == 3, "all are answered in the end");
     Ok(is_closed)
 }
@@ -219,27 +240,22 @@ impl Gate for Recorder {
     }
 }
 
-/// How much a recorder is told of a run, which leaves an image.
-fn told_gate(rt: &(impl Abort + AllocGlobal), image: &[u8], line: &str) -> Result<u64, Fail> {
+/// How much a recorder is told of a run over the store.
+fn told_by_run(alloc: Global, images: &mut MapStore, line: &str) -> Result<u64, AllocError> {
     let gate = Recorder {
         told: AtomicU64::new(0),
     };
-    let trace = b"put 5 6162\nget 5\ndel 5\nget 5\nput 1 aa\n";
-    let mut images = store_with(rt.alloc(), image, NO_CALL, FailedPut::LeavesOld)?;
-    let mut chances = SeededChances::new();
-    make(
-        rt.alloc(),
-        plain(line, trace),
-        &mut images,
-        &gate,
-        &mut chances,
-    )?;
-    must_hold(
-        rt,
-        images.image("h").is_some_and(|image| !image.is_empty()),
-        line,
-    );
+    let call = plain(line, b"put 5 6162\nget 5\ndel 5\nget 5\nput 1 aa\n");
+    make(alloc, call, images, &gate, &mut SeededChances::new())?;
     Ok(gate.told.load(Ordering::SeqCst))
+}
+
+/// How much a recorder is told of a run, which leaves an image.
+fn told_gate(rt: &(impl Abort + AllocGlobal), image: &[u8], line: &str) -> Result<u64, Fail> {
+    let mut images = store_with(rt.alloc(), image, NO_CALL, FailedPut::LeavesOld)?;
+    let told = told_by_run(rt.alloc(), &mut images, line)?;
+    must_hold(rt, !images.image("h").unwrap_or(&[]).is_empty(), line);
+    Ok(told)
 }
 
 #[test]
@@ -247,6 +263,6 @@ fn the_gate_is_told_of_each_request_in_order(rt: HostRuntime) -> Result<(), Fail
     let image = image_after(rt.alloc(), "2", "")?;
     let all = told_gate(&rt, &image, "run h --workers 1")?;
     let first = told_gate(&rt, &image, "run h --workers 1 --stop 0")?;
-    assert!(rt; all == 10 && first == 2);
+    must_hold(&rt, all == 10 && first == 2, "each is told");
     Ok(())
 }

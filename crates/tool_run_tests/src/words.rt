@@ -2,7 +2,6 @@
 use crate::harness::{must_hold, runs, store};
 use crate::session::play;
 use std::process::Abort;
-use std::test::Fail;
 
 /// Words that ask for nothing, a call a line; the first call has one empty word.
 const NO_FORM: &str = "''
@@ -46,23 +45,22 @@ drain -h 4
 drain 4 h";
 
 /// Makes the calls, which ask for nothing.
-fn are_usage(rt: &(impl Abort + AllocGlobal), lines: &str) -> Result<(), Fail> {
+fn are_usage(rt: &(impl Abort + AllocGlobal), lines: &str) {
     let mut images = store(rt.alloc());
     for line in lines.split('\n') {
-        runs(rt, &mut images, line, b"", 2, "usage\n")?;
+        runs(rt, &mut images, line, b"", 2, "usage\n");
     }
     must_hold(rt, images.image("h").is_none(), "no image is put");
-    Ok(())
 }
 
 #[test]
-fn words_of_another_form_are_usage(rt: HostRuntime) -> Result<(), Fail> {
-    are_usage(&rt, NO_FORM)
+fn words_of_another_form_are_usage(rt: HostRuntime) {
+    are_usage(&rt, NO_FORM);
 }
 
 #[test]
-fn words_that_name_no_class_are_usage(rt: HostRuntime) -> Result<(), Fail> {
-    are_usage(&rt, NO_CLASS)
+fn words_that_name_no_class_are_usage(rt: HostRuntime) {
+    are_usage(&rt, NO_CLASS);
 }
 
 const OPTIONS: &str = "
@@ -85,8 +83,8 @@ $ show --map -- h
 ";
 
 #[test]
-fn options_stand_anywhere_behind_the_command(rt: HostRuntime) -> Result<(), Fail> {
-    play(&rt, &mut store(rt.alloc()), OPTIONS)
+fn options_stand_anywhere_behind_the_command(rt: HostRuntime) {
+    play(&rt, &mut store(rt.alloc()), OPTIONS);
 }
 
 const NO_IMAGE: &str = "
@@ -115,8 +113,8 @@ $ drain none.img 12
 ";
 
 #[test]
-fn an_image_that_is_not_there_is_named(rt: HostRuntime) -> Result<(), Fail> {
-    play(&rt, &mut store(rt.alloc()), NO_IMAGE)
+fn an_image_that_is_not_there_is_named(rt: HostRuntime) {
+    play(&rt, &mut store(rt.alloc()), NO_IMAGE);
 }
 
 const FAILING_SINK: &str = "
@@ -161,6 +159,6 @@ $ drain h 20
 ";
 
 #[test]
-fn a_failing_sink_is_told_behind_what_it_took(rt: HostRuntime) -> Result<(), Fail> {
-    play(&rt, &mut store(rt.alloc()), FAILING_SINK)
+fn a_failing_sink_is_told_behind_what_it_took(rt: HostRuntime) {
+    play(&rt, &mut store(rt.alloc()), FAILING_SINK);
 }
