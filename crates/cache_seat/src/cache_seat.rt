@@ -1,0 +1,90 @@
+//! A seat that allocates by caches.
+
+ghost use Rattle.std.specs.Prelude.{◌≡◌, ◌<◌, ℕ, None, Some, Contains, OnOk, IfErr};
+ghost use Rattle.std.proofs.Props.{props};
+ghost use Rattle.heap_model.specs.Geometry.{roots};
+ghost use Rattle.heap_rule.specs.Plays.{HasSoundState};
+ghost use Rattle.heap_rule.specs.Seated.{IsSeatOf};
+
+use heap_rule::{Seat, Shared};
+use line_memory::{Chance, Stopped};
+use seat_flush::flush;
+use size_table::SizeClass;
+use std::marker::Model;
+
+/// A thread's part of an open heap. Between its calls nothing is claimed and the batch is empty,
+/// unless it has stopped.
+#[derive(Drop)]
+pub struct CacheSeat<'a, C> {
+    shared: &'a Shared,
+    seat: Seat,
+    chance: C,
+    stopped: Option<u64>,
+    small_calls: u64,
+    large_calls: u64,
+    ghost of: { IsSeatOf shared.now seat } by { Prim.hlevel props },
+    ghost roots_are: { (i : ℕ) → Contains seat.view.roots i → i < roots },
+    ghost sound: { ∥ HasSoundState seat.view ∥₁ },
+    ghost stop: { stopped ≡ seat.view.stopped } by { Prim.hlevel props },
+}
+
+impl<'a, C> Model for CacheSeat<'a, C> {
+    ghost use Rattle.std.specs.Prelude.{[]};
+    ghost use Rattle.seat_view.specs.CacheState.{CacheState, no_looks};
+
+    ghost Value = { CacheState };
+
+    ghost view = { λ s. record {
+      view = s.seat.view;
+      marks = [];
+      small_calls = s.small_calls;
+      large_calls = s.large_calls;
+      refusals = 0;
+      refused_bytes = 0;
+      refused_looks = no_looks;
+      roots_are = s.roots_are;
+      sound = s.sound;
+    } };
+}
+
+impl<'a, C: Chance> CacheSeat<'a, C> {
+    ghost use Rattle.std.specs.Prelude.{◌≡◌, ◌<◌, ℕ, None, Some, Contains};
+    ghost use Rattle.heap_model.specs.Geometry.{roots};
+    ghost use Rattle.heap_rule.specs.Seated.{IsSeatOf};
+    ghost use Rattle.seat_view.specs.CacheState.{heap_view};
+    ghost use Rattle.heap_seat.specs.Words.{KeepsOwn};
+    ghost use Rattle.core_model.specs.View.{no_batch};
+
+    /// Makes a seat of a heap one that allocates.
+    pub fn new(shared: &'a Shared, seat: Seat, chance: C) -> CacheSeat<'a, C>
+        requires is_of { IsSeatOf shared.now seat }
+        requires roots_are { (i : ℕ) → Contains seat.view.roots i → i < roots }
+        requires going { seat.view.stopped ≡ None }
+        ensures { result.view ≡ seat.view }
+    {
+        seat.has_a_sound_state();
+        CacheSeat {
+            shared,
+            seat,
+            chance,
+            stopped: None,
+            small_calls: 0,
+            large_calls: 0,
+        }
+    }
+
+    /// Gives all blocks of a class's cache back.
+    pub fn flush_class(&mut self, class: SizeClass) -> Result<(), Stopped>
+        requires going { self.old.view.stopped ≡ None }
+        requires no_batch { self.old.view.batch ≡ no_batch }
+        ensures kept { KeepsOwn (heap_view self.old) (heap_view self.new) }
+    {
+        let done = flush(&mut self.seat, self.shared, class, &mut self.chance);
+        self.seat.has_a_sound_state();
+        if let Err(stop) = done {
+            self.stopped = Some(stop.step);
+            return Err(stop);
+        }
+        Ok(())
+    }
+}

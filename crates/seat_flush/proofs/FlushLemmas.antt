@@ -1,0 +1,205 @@
+-- What flushing a cache leaves.
+use Rattle.std.proofs.Common.{◌≡◌, ◌≢◌, ◌<◌, ◌≤◌, ℕ, zero, suc, ◌+◌, ◌-◌, ◌*◌, inl, inr, true, false, cond, nat_lt, List, [], ◌∷◌, ◌++◌, length, set, None, refl, ap, sym, subst, ◌∙◌, eq-eqb, length-append, arith}
+use Rattle.std.specs.Prelude.{Result, Ok, Err, OnOk}
+use Rattle.std.proofs.lemmas.Bool.{cases_eq}
+use Rattle.std.proofs.lemmas.List.{set-set}
+use Rattle.heap_model.specs.Counting.{times}
+use Rattle.heap_model.specs.Sizes.{IsClass}
+use Rattle.heap_model.specs.Words.{anchor_state, empty_state, partial_state}
+use Rattle.core_model.specs.Effects.{claim_class, last_of, seen_of, seen_word, without_claim}
+use Rattle.core_model.specs.Guards.{IsFreelyClaimed, MayLookAt}
+use Rattle.core_model.specs.Memory.{memory_of, used}
+use Rattle.core_model.specs.View.{Batch, Claim, Setup, View, no_batch, of_class, one_if_some, times_classed, times_raw}
+use Rattle.core_model.proofs.OwnLemmas.{one_at_most}
+use Rattle.core_model.proofs.PlaceLemmas.{not-lt, skip}
+use Rattle.core_model.proofs.TotalLemmas.{eq-eqb-one, total_at}
+use Rattle.heap_rule.specs.Plays.{HasSoundState}
+use Rattle.heap_rule.specs.Shown.{CanList, as_free, by_look, of_its_class}
+use Rattle.seat_lists.specs.Pops.{with_claim}
+use Rattle.seat_lists.specs.Pushes.{HasPushed, without_claim_of}
+use Rattle.seat_lists.proofs.PushLemmas.{freely_still}
+use Rattle.seat_flush.specs.Flushes.{HasFlushed, HasFlushedPrefix, HasListed, IsClaimOf, with_cache}
+use Rattle.seat_flush.specs.Gives.{HasGiven, HasSeenAnchor, IsBatchOf, given_parts}
+use Rattle.seat_flush.specs.Lifts.{HasLiftedPrefix}
+use Rattle.seat_flush.proofs.LiftLemmas.{cache_set, lifting_batch}
+use Rattle.steps.specs.Rows.{Parts, Row, Stops, parts}
+use Rattle.steps.proofs.RowLemmas.{row_most, row_none, row_then, stops_later}
+
+module _ (v : View) (has : HasSoundState v) (class d : ℕ) (claim : IsClaimOf class d v) where
+  raw_none : times_raw d v ≡ 0
+  raw_none =
+      let raw = total_at (times_raw d) has.views has.seat v has.below has.at in
+      let mine = total_at (λ (x : View). times_classed d x.classed) has.views has.seat v has.below has.at in
+      let p = has.sound.good.shaped.placed.one_place d in
+      let one = one_at_most (nat_lt d (used (memory_of v.setup.capacity has.words))) in
+      let some = claim.claimed in omega arith
+
+  pub claim_free : IsFreelyClaimed v d
+  claim_free = let none = raw_none in let some = claim.claimed in record { claimed = omega arith; not_cutting = omega arith }
+
+  pub claim_look : MayLookAt v d
+  claim_look = inl claim_free
+
+  -- by what was seen of its anchor
+  pub claim_lists : (t : View) (list found : ℕ) → HasSeenAnchor d found v t → anchor_state found < 2
+      → (anchor_state found ≡ partial_state → list ≡ class) → (anchor_state found ≢ partial_state → list ≡ 0) → CanList t d list
+  claim_lists t list found seen low partial other = elim (cases_eq (anchor_state found) partial_state) as (λ _. CanList t d list) [
+    | inl is ↦ subst (CanList t d) (sym (partial is)) (of_its_class class claim.is_class
+        (subst (λ (p : Parts). 0 < times_classed d p.classed) (sym seen.parts_are) claim.claimed)
+        (ap (λ (p : Parts). claim_class d p.classed) seen.parts_are ∙ claim.of))
+    | inr not ↦ subst (CanList t d) (sym (other not)) (as_free (freely_still v t d seen.parts_are claim_free)
+        (by_look (subst (λ (p : Parts). 0 < times_classed d p.classed) (sym seen.parts_are) claim.claimed) (ap one_if_some seen.is_seen) (ap seen_of seen.is_seen)
+        (ap (λ s. anchor_state (seen_word s)) seen.is_seen ∙ (let e : anchor_state found ≡ empty_state = omega (arith, not) in e))))
+  ]
+
+  pub listed : (t w : View) (list found : ℕ) → HasSeenAnchor d found v t → HasPushed list d 3 t w → HasListed d v w
+  listed t w list found seen pushed = record {
+    going = pushed.going;
+    parts_are = pushed.parts_are ∙ ap (without_claim_of d) seen.parts_are
+        ∙ skip (nat_lt 0 (times d v.raw + times d v.split)) _ _ (not-lt 0 (times d v.raw + times d v.split) (let none = raw_none in omega arith));
+  }
+
+  pub list_below : (list found : ℕ) → (anchor_state found ≡ partial_state → list ≡ class) → (anchor_state found ≢ partial_state → list ≡ 0) → list < 21
+  list_below list found partial other = let last = claim.is_class.last in elim (cases_eq (anchor_state found) partial_state) [
+    | inl is ↦ let e = partial is in omega arith
+    | inr not ↦ let e = other not in omega arith
+  ]
+
+-- the batch that was lifted
+pub lifted_batch : (v t : View) (has : HasSoundState v) (class d last : ℕ) (is : IsClass class) → HasLiftedPrefix class d last v t → IsBatchOf d class last t
+lifted_batch v t has class d last is prefix = let b = lifting_batch v has class is t d last prefix.lifting in record {
+  descriptor = ap (λ (x : Batch). x.descriptor) b;
+  class_is = ap (λ (x : Batch). x.class) b;
+  some = subst (λ (x : Batch). 1 ≤ length x.blocks) (sym b) prefix.lifting.some;
+  last_is = ap (λ (x : Batch). last_of x.blocks) b ∙ prefix.lifting.last_is;
+}
+
+-- a superblock that was full is claimed with the class
+given_claim : (class d : ℕ) (p : Parts) → IsClass class → with_claim class d p ≡ record p { classed = record { descriptor = d; class = class } ∷ p.classed }
+given_claim zero d p is = absurd (let f = is.some in omega arith)
+given_claim (suc class) d p is = refl
+
+module _ (v t x : View) (has : HasSoundState v) (class d last : ℕ) (is : IsClass class) (none : v.batch ≡ no_batch) (prefix : HasLiftedPrefix class d last v t) where
+  abbrev lifted : List ℕ
+  lifted = prefix.lifting.lifted
+
+  abbrev rest : List ℕ
+  rest = prefix.lifting.rest
+
+  full_parts : HasGiven d class true t x → parts x ≡ record (parts v) { caches = set v.caches class rest; batch = no_batch; classed = record { descriptor = d; class = class } ∷ v.classed }
+  full_parts given = given.parts_are ∙ ap (given_parts true d class) prefix.lifting.parts_are ∙ given_claim class d (record (parts v) { caches = set v.caches class rest; batch = no_batch }) is
+
+  pub given_claimed : HasGiven d class true t x → IsClaimOf class d x
+  given_claimed given = record {
+    is_class = is;
+    claimed = subst (λ (p : Parts). 0 < times_classed d p.classed) (sym (full_parts given)) (let one = eq-eqb-one d d refl in omega arith);
+    of = ap (λ (p : Parts). claim_class d p.classed) (full_parts given) ∙ ap (λ test. cond test class (claim_class d v.classed)) (eq-eqb d d refl);
+  }
+
+  same_batch : (classed : List Claim) → record (parts v) { caches = set v.caches class rest; batch = no_batch; classed = classed } ≡ record (parts v) { caches = set v.caches class rest; classed = classed }
+  same_batch classed = ap (λ (b : Batch). record (parts v) { caches = set v.caches class rest; batch = b; classed = classed }) (sym none)
+
+  pub given_free : HasGiven d class false t x → parts x ≡ with_cache class rest (parts v)
+  given_free given = given.parts_are ∙ ap (given_parts false d class) prefix.lifting.parts_are ∙ same_batch v.classed
+
+  pub given_listed : (w : View) → HasGiven d class true t x → HasListed d x w → parts w ≡ with_cache class rest (parts v)
+  given_listed w given listed = listed.parts_are
+      ∙ ap (λ (p : Parts). record p { classed = without_claim d p.classed }) (full_parts given)
+      ∙ ap (λ test. record (parts v) { caches = set v.caches class rest; batch = no_batch; classed = cond test v.classed (record { descriptor = d; class = class } ∷ without_claim d v.classed) }) (eq-eqb d d refl)
+      ∙ same_batch v.classed
+
+  few : length lifted ≤ length (of_class v.caches class)
+  few = let all = ap length prefix.lifting.both in let sum = length-append lifted rest in omega arith
+
+  pub prefix_row : {a c e : ℕ} (w : View) → a ≤ 7 → c ≤ 2 → e ≤ 1 → Row a 0 c 0 e t w → Row (9 * length (of_class v.caches class)) 0 (2 * length (of_class v.caches class)) 0 (length (of_class v.caches class)) v w
+  prefix_row w a c e row = let f = few in let s = prefix.lifting.some in
+      row_most (9 * length (of_class v.caches class)) (2 * length (of_class v.caches class)) (length (of_class v.caches class)) v w (row_then v t w prefix.lifting.row row) (omega arith) (omega arith) (omega arith)
+
+  pub prefix_done : {a c e : ℕ} (w : View) → a ≤ 7 → c ≤ 2 → e ≤ 1 → Row a 0 c 0 e t w → w.stopped ≡ None → parts w ≡ with_cache class rest (parts v) → HasFlushedPrefix class v w
+  prefix_done w a c e row going same = record {
+    ran = prefix.lifting.ran;
+    going = going;
+    room = prefix.lifting.room;
+    more = let d = row.drew in let m = prefix.lifting.more in omega arith;
+    flushed = lifted;
+    rest = rest;
+    both = prefix.lifting.both;
+    some = prefix.lifting.some;
+    parts_are = same;
+    row = let s = prefix.lifting.some in row_most (9 * length lifted) (2 * length lifted) (length lifted) v w (row_then v t w prefix.lifting.row row) (omega arith) (omega arith) (omega arith);
+  }
+
+-- how far a flush has come
+pub record Flushing (class : ℕ) (v t : View) : Type 0 where
+  pub ran : v.stopped ≡ None
+  pub going : t.stopped ≡ None
+  pub flushed : List ℕ
+  pub rest : List ℕ
+  pub both : of_class v.caches class ≡ flushed ++ rest
+  pub parts_are : parts t ≡ with_cache class rest (parts v)
+  pub row : Row (9 * length flushed) 0 (2 * length flushed) 0 (length flushed) v t
+
+set_own : (lists : List (List ℕ)) (class : ℕ) → set lists class (of_class lists class) ≡ lists
+set_own [] class = refl
+set_own (bs ∷ lists) zero = refl
+set_own (bs ∷ lists) (suc class) = ap (λ l. bs ∷ l) (set_own lists class)
+
+append_three : (xs ys zs : List ℕ) → (xs ++ ys) ++ zs ≡ xs ++ (ys ++ zs)
+append_three [] ys zs = refl
+append_three (x ∷ xs) ys zs = ap (λ l. x ∷ l) (append_three xs ys zs)
+
+pub flushing_begins : (v : View) (class : ℕ) → v.stopped ≡ None → Flushing class v v
+flushing_begins v class going = record {
+  ran = going;
+  going = going;
+  flushed = [];
+  rest = of_class v.caches class;
+  both = refl;
+  parts_are = ap (λ l. record (parts v) { caches = l }) (sym (set_own v.caches class));
+  row = row_none v;
+}
+
+module _ (v t : View) (has : HasSoundState v) (class : ℕ) (is : IsClass class) (flushing : Flushing class v t) where
+  pub flushing_cache : of_class t.caches class ≡ flushing.rest
+  flushing_cache = ap (λ (p : Parts). of_class p.caches class) flushing.parts_are ∙ cache_set v has class is flushing.rest
+
+  pub flushing_batch : v.batch ≡ no_batch → t.batch ≡ no_batch
+  flushing_batch none = ap (λ (p : Parts). p.batch) flushing.parts_are ∙ none
+
+  few_left : length flushing.flushed + length (of_class t.caches class) ≡ length (of_class v.caches class)
+  few_left = let all = ap length flushing.both in let sum = length-append flushing.flushed flushing.rest in let r = ap length flushing_cache in omega arith
+
+  pub flushing_row : Row (9 * length (of_class v.caches class)) 0 (2 * length (of_class v.caches class)) 0 (length (of_class v.caches class)) v t
+  flushing_row = let f = few_left in row_most (9 * length (of_class v.caches class)) (2 * length (of_class v.caches class)) (length (of_class v.caches class)) v t flushing.row (omega arith) (omega arith) (omega arith)
+
+  pub flushing_most : (w : View) → Row (9 * length (of_class t.caches class)) 0 (2 * length (of_class t.caches class)) 0 (length (of_class t.caches class)) t w
+      → Row (9 * length (of_class v.caches class)) 0 (2 * length (of_class v.caches class)) 0 (length (of_class v.caches class)) v w
+  flushing_most w row = let f = few_left in row_most (9 * length (of_class v.caches class)) (2 * length (of_class v.caches class)) (length (of_class v.caches class)) v w (row_then v t w flushing.row row) (omega arith) (omega arith) (omega arith)
+
+  pub flushing_stops : (w : View) (step : ℕ) → Stops step t w → Stops step v w
+  flushing_stops w step stop = stops_later v t w step flushing.ran flushing.going flushing.row stop
+
+  pub flushing_done : length (of_class t.caches class) ≡ 0 → HasFlushed class v t
+  flushing_done none = record { going = flushing.going; parts_are = flushing.parts_are ∙ ap (λ bs. with_cache class bs (parts v)) (empty flushing.rest (let r = ap length flushing_cache in omega arith)) } where
+    empty : (bs : List ℕ) → length bs ≡ 0 → bs ≡ []
+    empty [] e = refl
+    empty (b ∷ bs) e = absurd (omega arith)
+
+  pub flushing_on : (w : View) → HasFlushedPrefix class t w → Flushing class v w
+  flushing_on w prefix = record {
+    ran = flushing.ran;
+    going = prefix.going;
+    flushed = flushing.flushed ++ prefix.flushed;
+    rest = prefix.rest;
+    both = flushing.both ∙ ap (λ bs. flushing.flushed ++ bs) (sym flushing_cache ∙ prefix.both) ∙ sym (append_three flushing.flushed prefix.flushed prefix.rest);
+    parts_are = prefix.parts_are ∙ ap (with_cache class prefix.rest) flushing.parts_are ∙ ap (λ l. record (parts v) { caches = l }) (set-set v.caches class flushing.rest prefix.rest);
+    row = let many = length-append flushing.flushed prefix.flushed in
+        row_most (9 * length (flushing.flushed ++ prefix.flushed)) (2 * length (flushing.flushed ++ prefix.flushed)) (length (flushing.flushed ++ prefix.flushed)) v w (row_then v t w flushing.row prefix.row) (omega arith) (omega arith) (omega arith);
+  }
+
+pub flushing_less : (class : ℕ) (t w : View) → HasFlushedPrefix class t w → w.setup.budget - w.draws < t.setup.budget - t.draws
+flushing_less class t w prefix = let same = ap (λ (k : Setup). k.budget) prefix.row.setup in let room = prefix.room in let more = prefix.more in omega arith
+
+pub on_ok_then : {A E P Q : Type 0} (result : Result A E) → (P → Q) → OnOk result P → OnOk result Q
+on_ok_then (Ok x) more is = more is
+on_ok_then (Err e) more is = tt

@@ -1,0 +1,3 @@
+pub mod LiftLemmas
+pub mod GiveLemmas
+pub mod FlushLemmas

@@ -1,0 +1,14 @@
+use Rattle.seat_flush.proofs.GiveLemmas.{can_give, exchanged, give_seen_row}
+use Rattle.seat_flush.proofs.gives.give_seen.Goals as goal
+
+pub try_give-requires-clause-can : goal.try_give-requires-clause-can
+try_give-requires-clause-can g c =
+    can_give c.args.seat.now.view c.draw.new.seat.view c.has_a_sound_state.ensures c.args.d c.in_ok-draw.ensures.drawn c.requires.can
+
+pub returns-clause-done : goal.returns-clause-done
+returns-clause-done g c = let e = c.try_give.ensures.event in
+    exchanged c.args.seat.now.view c.draw.new.seat.view c.try_give.new.self.view c.args.d e.0 c.in_ok-draw.ensures.drawn c.draw.ensures.row e.1 c.is_ok.result c.try_give.result e.2 c.is_ok.ensures.value
+
+pub returns-clause-row : goal.returns-clause-row
+returns-clause-row g c = let e = c.try_give.ensures.event in
+    give_seen_row c.args.seat.now.view c.draw.new.seat.view c.try_give.new.self.view c.args.d e.0 c.in_ok-draw.ensures.drawn c.draw.ensures.row e.1

@@ -1,0 +1,14 @@
+use Rattle.seat_flush.proofs.GiveLemmas.{can_link_last, last_linked, last_row}
+use Rattle.seat_flush.proofs.gives.link_last.Goals as goal
+
+pub store_word-requires-clause-can : goal.store_word-requires-clause-can
+store_word-requires-clause-can g c =
+    can_link_last c.args.seat.now.view c.has_a_sound_state.ensures c.args.d c.args.class.number c.args.last c.requires.batch c.draw.new.seat.view c.args.first c.in_ok-draw.ensures.drawn
+
+pub returns-clause-linked : goal.returns-clause-linked
+returns-clause-linked g c = let e = c.store_word.ensures.event in
+    last_linked c.args.seat.now.view c.has_a_sound_state.ensures c.args.d c.args.class.number c.args.last c.requires.batch c.draw.new.seat.view c.store_word.new.self.view c.args.first e.0 c.in_ok-draw.ensures.drawn e.1
+
+pub returns-clause-row : goal.returns-clause-row
+returns-clause-row g c = let e = c.store_word.ensures.event in
+    last_row c.args.seat.now.view c.has_a_sound_state.ensures c.args.d c.args.class.number c.args.last c.requires.batch c.draw.new.seat.view c.store_word.new.self.view c.args.first e.0 c.in_ok-draw.ensures.drawn e.1 c.draw.ensures.row

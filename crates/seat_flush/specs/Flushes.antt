@@ -1,0 +1,39 @@
+-- What flushing a cache leaves of a seat.
+use Rattle.std.specs.Prelude.{◌≡◌, ◌<◌, ◌≤◌, ◌*◌, ℕ, List, [], ◌++◌, length, set, None}
+use Rattle.heap_model.specs.Sizes.{IsClass}
+use Rattle.core_model.specs.Effects.{claim_class, without_claim}
+use Rattle.core_model.specs.View.{View, of_class, times_classed}
+use Rattle.steps.specs.Rows.{Parts, Row, parts}
+
+-- a superblock that is claimed with the class
+pub record IsClaimOf (class d : ℕ) (v : View) : Type 0 where
+  pub is_class : IsClass class
+  pub claimed : 0 < times_classed d v.classed
+  pub of : claim_class d v.classed ≡ class
+
+-- it is in a list, and claimed no more
+pub record HasListed (d : ℕ) (v w : View) : Type 0 where
+  pub going : w.stopped ≡ None
+  pub parts_are : parts w ≡ record (parts v) { classed = without_claim d v.classed }
+
+-- the seat has its parts, but for the cache of the class
+abbrev pub with_cache : ℕ → List ℕ → Parts → Parts
+with_cache class blocks p = record p { caches = set p.caches class blocks }
+
+-- the first blocks of the cache are with their superblock again: at most 9 draws for each, 2 exchanges that are won, and a give
+pub record HasFlushedPrefix (class : ℕ) (v w : View) : Type 0 where
+  pub ran : v.stopped ≡ None
+  pub going : w.stopped ≡ None
+  pub room : v.draws < v.setup.budget
+  pub more : v.draws < w.draws
+  pub flushed : List ℕ
+  pub rest : List ℕ
+  pub both : of_class v.caches class ≡ flushed ++ rest
+  pub some : 1 ≤ length flushed
+  pub parts_are : parts w ≡ with_cache class rest (parts v)
+  pub row : Row (9 * length flushed) 0 (2 * length flushed) 0 (length flushed) v w
+
+-- all are
+pub record HasFlushed (class : ℕ) (v w : View) : Type 0 where
+  pub going : w.stopped ≡ None
+  pub parts_are : parts w ≡ with_cache class [] (parts v)

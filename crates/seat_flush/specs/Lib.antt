@@ -1,0 +1,3 @@
+pub mod Lifts
+pub mod Gives
+pub mod Flushes

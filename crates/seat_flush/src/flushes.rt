@@ -1,0 +1,108 @@
+//! A cache is flushed.
+
+ghost use Rattle.heap_rule.specs.Seated.{IsSeatOf};
+ghost use Rattle.std.specs.Prelude.{◌≡◌, ◌≢◌, ◌<◌, ◌≤◌, ◌*◌, None, length, OnOk, IfErr};
+ghost use Rattle.core_model.specs.View.{no_batch, of_class};
+ghost use Rattle.heap_model.specs.Words.{anchor_state, partial_state};
+ghost use Rattle.steps.specs.Rows.{Row, Stops};
+ghost use Rattle.seat_flush.specs.Flushes.{HasFlushed, HasFlushedPrefix, HasListed, IsClaimOf};
+
+use crate::gives::{give, look_anchor};
+use crate::lifts::lift_prefix;
+use anchor_word::is_partial;
+use heap_rule::{Seat, Shared};
+use line_memory::{Chance, Stopped};
+use seat_lists::push_to;
+use size_table::SizeClass;
+
+/// The list that a superblock with free blocks belongs to, by its anchor: that of its class, or
+/// that of the free ones.
+fn list_for(class: SizeClass, anchor: u64) -> u64
+    ensures partial { anchor_state anchor ≡ partial_state → result ≡ class.number }
+    ensures other { anchor_state anchor ≢ partial_state → result ≡ 0 }
+{
+    if is_partial(anchor) {
+        return class.number as u64;
+    }
+    0
+}
+
+/// Puts a superblock that is claimed with its class on the list where it belongs.
+fn list<C: Chance>(
+    seat: &mut Seat,
+    shared: &Shared,
+    d: u64,
+    class: SizeClass,
+    chance: &mut C,
+) -> Result<(), Stopped>
+    requires seat { IsSeatOf shared.now seat.old }
+    requires claim { IsClaimOf class.number d seat.old.view }
+    requires durable { d < seat.old.view.floor }
+    ensures listed { OnOk result (HasListed d seat.old.view seat.new.view) }
+    ensures stopped { IfErr result (λ e. Stops e.step seat.old.view seat.new.view) }
+    ensures row { Row 4 0 1 0 0 seat.old.view seat.new.view }
+    ensures seat { IsSeatOf shared.now seat.new }
+{
+    seat.has_a_sound_state();
+    let anchor = look_anchor(seat, shared, d, chance)?;
+    let list = list_for(class, anchor);
+    seat.has_a_sound_state();
+    push_to(seat, shared, list, d, chance)
+}
+
+/// Gives the first blocks of a cache, as many as lie together in one superblock, back to that,
+/// which is listed if it was not.
+fn flush_prefix<C: Chance>(
+    seat: &mut Seat,
+    shared: &Shared,
+    class: SizeClass,
+    chance: &mut C,
+) -> Result<(), Stopped>
+    requires seat { IsSeatOf shared.now seat.old }
+    requires going { seat.old.view.stopped ≡ None }
+    requires some { 1 ≤ length (of_class seat.old.view.caches class.number) }
+    requires no_batch { seat.old.view.batch ≡ no_batch }
+    ensures flushed { OnOk result (HasFlushedPrefix class.number
+        seat.old.view seat.new.view) }
+    ensures stopped { IfErr result (λ e. Stops e.step seat.old.view seat.new.view) }
+    ensures row { Row (9 * length (of_class seat.old.view.caches class.number)) 0
+        (2 * length (of_class seat.old.view.caches class.number)) 0
+        (length (of_class seat.old.view.caches class.number))
+        seat.old.view seat.new.view }
+    ensures seat { IsSeatOf shared.now seat.new }
+{
+    seat.has_a_sound_state();
+    let prefix = lift_prefix(seat, shared, class, chance)?;
+    if !give(seat, shared, prefix.d, class, prefix.last, chance)? {
+        return Ok(());
+    }
+    list(seat, shared, prefix.d, class, chance)
+}
+
+/// Gives all blocks of a cache back to their superblocks.
+pub fn flush<C: Chance>(
+    seat: &mut Seat,
+    shared: &Shared,
+    class: SizeClass,
+    chance: &mut C,
+) -> Result<(), Stopped>
+    requires seat { IsSeatOf shared.now seat.old }
+    requires going { seat.old.view.stopped ≡ None }
+    requires no_batch { seat.old.view.batch ≡ no_batch }
+    ensures flushed { OnOk result (HasFlushed class.number seat.old.view seat.new.view) }
+    ensures stopped { IfErr result (λ e. Stops e.step seat.old.view seat.new.view) }
+    ensures row { Row (9 * length (of_class seat.old.view.caches class.number)) 0
+        (2 * length (of_class seat.old.view.caches class.number)) 0
+        (length (of_class seat.old.view.caches class.number))
+        seat.old.view seat.new.view }
+    ensures seat { IsSeatOf shared.now seat.new }
+{
+    seat.has_a_sound_state();
+    loop {
+        let (_, count) = seat.cache(shared, class);
+        if count == 0 {
+            return Ok(());
+        }
+        flush_prefix(seat, shared, class, chance)?;
+    }
+}

@@ -1,0 +1,163 @@
+//! A batch goes back to its superblock.
+
+ghost use Rattle.heap_rule.specs.Seated.{IsSeatOf};
+ghost use Rattle.std.specs.Prelude.{◌≡◌, ◌<◌, IfOk, OnOk, IfErr};
+ghost use Rattle.core_model.specs.Guards.{MayLookAt};
+ghost use Rattle.core_model.specs.View.{times_classed};
+ghost use Rattle.heap_model.specs.Words.{anchor_state};
+ghost use Rattle.heap_rule.specs.Shown.{CanGive};
+ghost use Rattle.steps.specs.Rows.{Row, Stops};
+ghost use Rattle.seat_flush.specs.Gives.{Gives, GivesSeen, HasGiven, HasLinkedLast, HasSeenAnchor, IsBatchOf, anchor_seen};
+
+use crash_core::{anchor_after_take_all, first_free};
+use heap_rule::{Seat, Shared};
+use line_memory::{Chance, Stopped};
+use size_table::SizeClass;
+use steps::draw;
+use super_block::Geometry;
+
+/// Reads the anchor of a claimed superblock, or of the batch's, which it answers.
+pub fn look_anchor<C: Chance>(
+    seat: &mut Seat,
+    shared: &Shared,
+    d: u64,
+    chance: &mut C,
+) -> Result<u64, Stopped>
+    requires seat { IsSeatOf shared.now seat.old }
+    requires may { MayLookAt seat.old.view d }
+    ensures seen { IfOk result (λ anchor. HasSeenAnchor d anchor
+        seat.old.view seat.new.view) }
+    ensures of_class { IfOk result (λ anchor. 0 < times_classed d seat.old.view.classed
+        → anchor_state anchor < 2) }
+    ensures stopped { IfErr result (λ e. Stops e.step seat.old.view seat.new.view) }
+    ensures row { Row 1 0 0 0 0 seat.old.view seat.new.view }
+    ensures seat { IsSeatOf shared.now seat.new }
+{
+    draw(seat, shared, chance)?;
+    Ok(seat.look_anchor(shared, d))
+}
+
+/// The last block of the batch leads to another block.
+fn link_last<C: Chance>(
+    seat: &mut Seat,
+    shared: &Shared,
+    d: u64,
+    class: SizeClass,
+    last: u64,
+    first: u64,
+    chance: &mut C,
+) -> Result<(), Stopped>
+    requires seat { IsSeatOf shared.now seat.old }
+    requires batch { IsBatchOf d class.number last seat.old.view }
+    ensures linked { OnOk result (HasLinkedLast last first seat.old.view seat.new.view) }
+    ensures stopped { IfErr result (λ e. Stops e.step seat.old.view seat.new.view) }
+    ensures row { Row 1 0 0 0 0 seat.old.view seat.new.view }
+    ensures seat { IsSeatOf shared.now seat.new }
+{
+    let _batch = (d, class);
+    seat.has_a_sound_state();
+    draw(seat, shared, chance)?;
+    seat.store_word(shared, last, first);
+    Ok(())
+}
+
+/// Gives a batch whose superblock's anchor was seen.
+fn give_seen<C: Chance>(
+    seat: &mut Seat,
+    shared: &Shared,
+    d: u64,
+    chance: &mut C,
+) -> Result<bool, Stopped>
+    requires seat { IsSeatOf shared.now seat.old }
+    requires can { CanGive seat.old.view d }
+    ensures done { IfOk result (λ won. GivesSeen d won seat.old.view seat.new.view) }
+    ensures stopped { IfErr result (λ e. Stops e.step seat.old.view seat.new.view) }
+    ensures row { Row 1 0 1 0 1 seat.old.view seat.new.view }
+    ensures seat { IsSeatOf shared.now seat.new }
+{
+    seat.has_a_sound_state();
+    draw(seat, shared, chance)?;
+    Ok(seat.try_give(shared, d).is_ok())
+}
+
+/// Gives a batch whose superblock's anchor was seen, whatever it says: none where another seat was
+/// faster, and else whether no block was free before.
+fn give_looked<C: Chance>(
+    seat: &mut Seat,
+    shared: &Shared,
+    d: u64,
+    class: SizeClass,
+    last: u64,
+    anchor: u64,
+    chance: &mut C,
+) -> Result<Option<bool>, Stopped>
+    requires seat { IsSeatOf shared.now seat.old }
+    requires batch { IsBatchOf d class.number last seat.old.view }
+    requires sees { seat.old.view.seen_anchor ≡ anchor_seen d anchor }
+    ensures given { IfOk result (λ answer. Gives d class.number 2 answer
+        seat.old.view seat.new.view) }
+    ensures stopped { IfErr result (λ e. Stops e.step seat.old.view seat.new.view) }
+    ensures row { Row 2 0 1 0 1 seat.old.view seat.new.view }
+    ensures seat { IsSeatOf shared.now seat.new }
+{
+    seat.has_a_sound_state();
+    if anchor == anchor_after_take_all() {
+        if give_seen(seat, shared, d, chance)? {
+            return Ok(Some(true));
+        }
+        return Ok(None);
+    }
+    let geometry = Geometry::new(seat.capacity(shared));
+    let first = first_free(geometry, d, class, anchor);
+    link_last(seat, shared, d, class, last, first, chance)?;
+    if give_seen(seat, shared, d, chance)? {
+        return Ok(Some(false));
+    }
+    Ok(None)
+}
+
+/// Gives the batch, in one try.
+fn try_give<C: Chance>(
+    seat: &mut Seat,
+    shared: &Shared,
+    d: u64,
+    class: SizeClass,
+    last: u64,
+    chance: &mut C,
+) -> Result<Option<bool>, Stopped>
+    requires seat { IsSeatOf shared.now seat.old }
+    requires batch { IsBatchOf d class.number last seat.old.view }
+    ensures given { IfOk result (λ answer. Gives d class.number 3 answer
+        seat.old.view seat.new.view) }
+    ensures stopped { IfErr result (λ e. Stops e.step seat.old.view seat.new.view) }
+    ensures row { Row 3 0 1 0 1 seat.old.view seat.new.view }
+    ensures seat { IsSeatOf shared.now seat.new }
+{
+    let anchor = look_anchor(seat, shared, d, chance)?;
+    give_looked(seat, shared, d, class, last, anchor, chance)
+}
+
+/// Gives the batch back to its superblock, and says whether no block of that was free before: the
+/// superblock is claimed with its class then.
+pub fn give<C: Chance>(
+    seat: &mut Seat,
+    shared: &Shared,
+    d: u64,
+    class: SizeClass,
+    last: u64,
+    chance: &mut C,
+) -> Result<bool, Stopped>
+    requires seat { IsSeatOf shared.now seat.old }
+    requires batch { IsBatchOf d class.number last seat.old.view }
+    ensures given { IfOk result (λ full. HasGiven d class.number full
+        seat.old.view seat.new.view) }
+    ensures stopped { IfErr result (λ e. Stops e.step seat.old.view seat.new.view) }
+    ensures row { Row 3 0 1 0 1 seat.old.view seat.new.view }
+    ensures seat { IsSeatOf shared.now seat.new }
+{
+    loop {
+        if let Some(full) = try_give(seat, shared, d, class, last, chance)? {
+            return Ok(full);
+        }
+    }
+}

@@ -1,0 +1,2 @@
+pub mod PopLemmas
+pub mod PushLemmas

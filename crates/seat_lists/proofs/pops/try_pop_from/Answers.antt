@@ -1,0 +1,49 @@
+use Rattle.std.proofs.Common.{subst, ◌∙◌, ◌-◌}
+use Rattle.steps.proofs.RowLemmas.{row_then}
+use Rattle.seat_lists.specs.Pops.{Exchanges}
+use Rattle.seat_lists.proofs.PopLemmas.{goes_then, lost_later, popped_later, sees_first}
+use Rattle.seat_lists.proofs.pops.try_pop_from.Goals as goal
+
+pub pop_seen-requires-clause-seen : goal.pop_seen-requires-clause-seen
+pop_seen-requires-clause-seen g c = (
+  c.args.list,
+  (
+    c.head_first-first.result - 1,
+    sees_first c.args.seat.now.view c.look_list.new.seat.view c.look_link.new.seat.view c.args.list c.in_ok-head.head c.head_first-first.result
+        c.in_ok-head.ensures.seen c.in_ok-look_link.ensures.seen c.head_first-first.ensures c.if-first-eq0.false,
+  ),
+)
+
+pub returns-in_err-pop_seen-clause-row : goal.returns-in_err-pop_seen-clause-row
+returns-in_err-pop_seen-clause-row g c =
+    row_then c.args.seat.now.view c.look_link.new.seat.view c.pop_seen.new.seat.view
+    (row_then c.args.seat.now.view c.look_list.new.seat.view c.look_link.new.seat.view c.look_list.ensures.row c.look_link.ensures.row) c.pop_seen.ensures.row
+
+pub returns-then-branch-clause-row : goal.returns-then-branch-clause-row
+returns-then-branch-clause-row g c =
+    row_then c.args.seat.now.view c.look_link.new.seat.view c.pop_seen.new.seat.view
+    (row_then c.args.seat.now.view c.look_list.new.seat.view c.look_link.new.seat.view c.look_list.ensures.row c.look_link.ensures.row) c.pop_seen.ensures.row
+
+pub returns-clause-row : goal.returns-clause-row
+returns-clause-row g c =
+    row_then c.args.seat.now.view c.look_link.new.seat.view c.pop_seen.new.seat.view
+    (row_then c.args.seat.now.view c.look_list.new.seat.view c.look_link.new.seat.view c.look_list.ensures.row c.look_link.ensures.row) c.pop_seen.ensures.row
+
+pub returns-then-branch-clause-done : goal.returns-then-branch-clause-done
+returns-then-branch-clause-done g c =
+    let d = c.head_first-first.result - 1 in
+    let sees = sees_first c.args.seat.now.view c.look_list.new.seat.view c.look_link.new.seat.view c.args.list c.in_ok-head.head c.head_first-first.result
+    c.in_ok-head.ensures.seen c.in_ok-look_link.ensures.seen c.head_first-first.ensures c.if-first-eq0.false in
+    popped_later c.args.seat.now.view c.look_link.new.seat.view c.pop_seen.new.seat.view c.args.list d
+    (c.in_ok-look_link.ensures.seen.goes_on.parts_are ∙ c.in_ok-head.ensures.seen.goes_on.parts_are)
+    (subst (λ won. Exchanges c.args.list d won c.look_link.new.seat.view c.pop_seen.new.seat.view) c.if-branch.true (c.in_ok-pop_seen.ensures.done c.args.list d sees))
+
+pub returns-clause-done : goal.returns-clause-done
+returns-clause-done g c =
+    let d = c.head_first-first.result - 1 in
+    let sees = sees_first c.args.seat.now.view c.look_list.new.seat.view c.look_link.new.seat.view c.args.list c.in_ok-head.head c.head_first-first.result
+    c.in_ok-head.ensures.seen c.in_ok-look_link.ensures.seen c.head_first-first.ensures c.if-first-eq0.false in
+    lost_later c.args.seat.now.view c.look_link.new.seat.view c.pop_seen.new.seat.view
+    (goes_then c.args.seat.now.view c.look_list.new.seat.view c.look_link.new.seat.view c.in_ok-head.ensures.seen.goes_on c.in_ok-look_link.ensures.seen.goes_on)
+    (row_then c.args.seat.now.view c.look_list.new.seat.view c.look_link.new.seat.view c.look_list.ensures.row c.look_link.ensures.row)
+    (subst (λ won. Exchanges c.args.list d won c.look_link.new.seat.view c.pop_seen.new.seat.view) c.if-branch.false (c.in_ok-pop_seen.ensures.done c.args.list d sees))

@@ -1,0 +1,22 @@
+use Rattle.std.proofs.Common.{subst}
+use Rattle.seat_lists.specs.Pushes.{Pushes}
+use Rattle.seat_lists.proofs.PushLemmas.{pushing_done, pushing_on, pushing_row}
+use Rattle.seat_lists.proofs.pushes.push_to.Goals as goal
+
+pub returns-clause-done : goal.returns-clause-done
+returns-clause-done g c =
+    pushing_done c.args.seat.now.view c.loop.seat.view c.try_push_to.new.seat.view c.args.list c.args.d c.loop.invariant.pushing
+    (subst (λ won. Pushes c.args.list c.args.d 3 won c.loop.seat.view c.try_push_to.new.seat.view) c.if-not-branch.false c.in_ok-try_push_to.ensures.done)
+
+pub returns-in_err-try_push_to-clause-row : goal.returns-in_err-try_push_to-clause-row
+returns-in_err-try_push_to-clause-row g c = pushing_row c.args.seat.now.view c.loop.seat.view c.try_push_to.new.seat.view c.args.list c.args.d c.loop.invariant.pushing c.try_push_to.ensures.row
+
+pub returns-clause-row : goal.returns-clause-row
+returns-clause-row g c = pushing_row c.args.seat.now.view c.loop.seat.view c.try_push_to.new.seat.view c.args.list c.args.d c.loop.invariant.pushing c.try_push_to.ensures.row
+
+pub loop-preserved : goal.loop-preserved
+loop-preserved g c = record {
+  pushing = pushing_on c.args.seat.now.view c.loop.seat.view c.try_push_to.new.seat.view c.args.list c.args.d c.loop.invariant.pushing
+      (subst (λ won. Pushes c.args.list c.args.d 3 won c.loop.seat.view c.try_push_to.new.seat.view) c.if-not-branch.true c.in_ok-try_push_to.ensures.done);
+  is_of = c.try_push_to.ensures.seat;
+}

@@ -1,0 +1,24 @@
+use Rattle.std.proofs.Common.{◌<◌, ℕ, sym, subst, ◌∙◌}
+use Rattle.core_model.specs.declared.event.Event.TheVariants.{Store}
+use Rattle.heap_rule.specs.Shown.{Can}
+use Rattle.heap_rule.specs.Plays.{IsEvent}
+use Rattle.seat_lists.proofs.PushLemmas.{can_set_link, inside, link_row, link_set}
+use Rattle.seat_lists.proofs.pushes.set_link.Goals as goal
+
+pub link-link-requires : goal.link-link-requires
+link-link-requires g c = subst (λ n. c.args.d < n) (sym (c.new.ensures ∙ c.capacity.ensures)) (inside c.args.seat.now.view c.has_a_sound_state.ensures c.args.d c.requires.claimed)
+
+pub store_word-requires-clause-can : goal.store_word-requires-clause-can
+store_word-requires-clause-can g c =
+    subst (λ (n : ℕ). Can c.draw.new.seat.view (Store n c.args.first)) (sym c.link-link.ensures)
+    (can_set_link c.args.seat.now.view c.has_a_sound_state.ensures c.args.d c.requires.claimed c.draw.new.seat.view c.args.first c.in_ok-draw.ensures.drawn)
+
+pub returns-clause-linked : goal.returns-clause-linked
+returns-clause-linked g c = let e = c.store_word.ensures.event in
+    link_set c.args.seat.now.view c.has_a_sound_state.ensures c.args.d c.requires.claimed c.draw.new.seat.view c.store_word.new.self.view c.args.first e.0 c.in_ok-draw.ensures.drawn
+    (subst (λ (n : ℕ). IsEvent (Store n c.args.first) c.draw.new.seat.view e.0 c.store_word.new.self.view) c.link-link.ensures e.1)
+
+pub returns-clause-row : goal.returns-clause-row
+returns-clause-row g c = let e = c.store_word.ensures.event in
+    link_row c.args.seat.now.view c.has_a_sound_state.ensures c.args.d c.requires.claimed c.draw.new.seat.view c.store_word.new.self.view c.args.first e.0 c.in_ok-draw.ensures.drawn
+    (subst (λ (n : ℕ). IsEvent (Store n c.args.first) c.draw.new.seat.view e.0 c.store_word.new.self.view) c.link-link.ensures e.1) c.draw.ensures.row

@@ -1,0 +1,38 @@
+use Rattle.std.proofs.Common.{◌∙◌, arith}
+use Rattle.steps.proofs.RowLemmas.{row_most, row_then}
+use Rattle.seat_lists.proofs.PushLemmas.{can_later, freely, freely_still, ok_then, pushes_later, sees_linked}
+use Rattle.seat_lists.proofs.pushes.try_push_to.Goals as goal
+
+pub set_link-requires-clause-claimed : goal.set_link-requires-clause-claimed
+set_link-requires-clause-claimed g c =
+    freely_still c.args.seat.now.view c.look_list.new.seat.view c.args.d c.in_ok-head.ensures.seen.goes_on.parts_are (freely c.args.seat.now.view c.has_a_sound_state.ensures c.args.d c.args.list c.requires.can)
+
+pub push_seen-requires-clause-durable : goal.push_seen-requires-clause-durable
+push_seen-requires-clause-durable g c = let a = c.look_list.ensures.row.floor in let b = c.set_link.ensures.row.floor in let d = c.requires.durable in omega arith
+
+pub push_seen-requires-clause-listed : goal.push_seen-requires-clause-listed
+push_seen-requires-clause-listed g c = (
+  c.args.list,
+  sees_linked c.args.seat.now.view c.look_list.new.seat.view c.set_link.new.seat.view c.args.list c.args.d c.in_ok-head.head c.head_first.result c.in_ok-head.ensures.seen c.head_first.ensures c.in_ok-set_link.ensures.linked,
+  can_later c.args.seat.now.view c.look_list.new.seat.view c.set_link.new.seat.view c.has_a_sound_state.ensures c.args.list c.args.d c.in_ok-head.head c.head_first.result c.in_ok-head.ensures.seen c.in_ok-set_link.ensures.linked c.requires.can,
+)
+
+pub returns-in_err-set_link-clause-row : goal.returns-in_err-set_link-clause-row
+returns-in_err-set_link-clause-row g c =
+    row_most 3 1 0 c.args.seat.now.view c.set_link.new.seat.view (row_then c.args.seat.now.view c.look_list.new.seat.view c.set_link.new.seat.view c.look_list.ensures.row c.set_link.ensures.row) (omega arith) (omega arith) (omega arith)
+
+pub returns-clause-row : goal.returns-clause-row
+returns-clause-row g c =
+    row_then c.args.seat.now.view c.set_link.new.seat.view c.push_seen.new.seat.view
+    (row_then c.args.seat.now.view c.look_list.new.seat.view c.set_link.new.seat.view c.look_list.ensures.row c.set_link.ensures.row) c.push_seen.ensures.row
+
+pub returns-clause-done : goal.returns-clause-done
+returns-clause-done g c =
+    let v = c.args.seat.now.view in
+    let t = c.set_link.new.seat.view in
+    let w = c.push_seen.new.seat.view in
+    let go = c.in_ok-head.ensures.seen.goes_on in
+    let row = row_then v c.look_list.new.seat.view t c.look_list.ensures.row c.set_link.ensures.row in
+    let linked = sees_linked v c.look_list.new.seat.view t c.args.list c.args.d c.in_ok-head.head c.head_first.result c.in_ok-head.ensures.seen c.head_first.ensures c.in_ok-set_link.ensures.linked in
+    let can = can_later v c.look_list.new.seat.view t c.has_a_sound_state.ensures c.args.list c.args.d c.in_ok-head.head c.head_first.result c.in_ok-head.ensures.seen c.in_ok-set_link.ensures.linked c.requires.can in
+    ok_then c.push_seen.result (λ won is. pushes_later 1 won v t w c.args.list c.args.d go.ran row.drew row.setup go.room (c.in_ok-set_link.ensures.linked.parts_are ∙ go.parts_are) row (is c.args.list linked can)) c.push_seen.ensures.done

@@ -1,0 +1,57 @@
+-- What a push on a list of superblocks leaves of a seat.
+use Rattle.std.specs.Prelude.{◌≡◌, ◌≢◌, ◌<◌, ◌+◌, ℕ, Bool, true, false, None, cond, nat_lt}
+use Rattle.heap_model.specs.Counting.{times, without}
+use Rattle.heap_model.specs.Geometry.{link_word}
+use Rattle.heap_model.specs.Words.{head_first}
+use Rattle.core_model.specs.Cells.{link_cell}
+use Rattle.core_model.specs.Effects.{without_claim}
+use Rattle.core_model.specs.View.{View}
+use Rattle.heap_rule.specs.Fences.{Owns}
+use Rattle.heap_rule.specs.Shown.{CanList, Shows}
+use Rattle.seat_lists.specs.Pops.{list_head}
+use Rattle.steps.specs.Rows.{Parts, Row, parts}
+use Rattle.steps.specs.Words.{KeepsWord}
+
+-- the link of a claimed superblock leads to another of the list
+pub record HasSetLink (d first : ℕ) (v w : View) : Type 0 where
+  pub ran : v.stopped ≡ None
+  pub going : w.stopped ≡ None
+  pub parts_are : parts w ≡ parts v
+  pub losses : w.losses ≡ v.losses
+  pub head : w.seen_head ≡ v.seen_head
+  pub anchor : w.seen_anchor ≡ v.seen_anchor
+  pub floor : w.floor ≡ v.floor
+  pub link : Shows w (link_cell d) first
+  pub words : (word : ℕ) → word ≢ link_word d → Owns v word → KeepsWord v w word
+
+-- the head of a list was seen, and the superblock leads to its first one
+pub record SeesLinked (list d : ℕ) (v : View) : Type 0 where
+  pub head : ℕ
+  pub is_seen : v.seen_head ≡ list_head list head
+  pub link : Shows v (link_cell d) (head_first head)
+
+-- the superblock is not claimed any more
+abbrev pub without_claim_of : ℕ → Parts → Parts
+without_claim_of d p = cond (nat_lt 0 (times d p.raw + times d p.split)) (record p { raw = without d p.raw; split = without d p.split })
+    (record p { classed = without_claim d p.classed })
+
+-- it is in the list; one that was claimed with a class and is in the list of the free ones counts as moved there
+pub record HasPushed (list d draws : ℕ) (v w : View) : Type 0 where
+  pub going : w.stopped ≡ None
+  pub parts_are : parts w ≡ without_claim_of d (parts v)
+  pub row : Row draws 0 1 0 0 v w
+  pub moved : list ≡ 0 → times d v.raw + times d v.split ≡ 0 → Row draws 16 1 2 0 v w
+
+-- another seat was faster: the seat has its parts, and may push the superblock still
+pub record HasMissed (list d draws : ℕ) (v w : View) : Type 0 where
+  pub ran : v.stopped ≡ None
+  pub going : w.stopped ≡ None
+  pub room : v.draws < v.setup.budget
+  pub more : v.draws < w.draws
+  pub parts_are : parts w ≡ parts v
+  pub row : Row draws 4 0 0 0 v w
+  pub can : CanList w d list
+
+abbrev pub Pushes : ℕ → ℕ → ℕ → Bool → View → View → Type 0
+Pushes list d draws true v w = HasPushed list d draws v w
+Pushes list d draws false v w = HasMissed list d draws v w

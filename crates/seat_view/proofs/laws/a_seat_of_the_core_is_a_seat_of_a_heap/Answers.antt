@@ -1,0 +1,17 @@
+use Rattle.seat_view.proofs.HeldLemmas.{kept_law, may_be_law, mixed_law, named_law, seat_law}
+use Rattle.seat_view.proofs.laws.a_seat_of_the_core_is_a_seat_of_a_heap.Goals as goal
+
+pub returns-clause-seat : goal.returns-clause-seat
+returns-clause-seat c = seat_law
+
+pub returns-clause-mixed : goal.returns-clause-mixed
+returns-clause-mixed c = mixed_law
+
+pub returns-clause-named : goal.returns-clause-named
+returns-clause-named c = named_law
+
+pub returns-clause-may_be : goal.returns-clause-may_be
+returns-clause-may_be c = may_be_law
+
+pub returns-clause-kept : goal.returns-clause-kept
+returns-clause-kept c = kept_law

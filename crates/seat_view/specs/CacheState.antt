@@ -1,0 +1,74 @@
+-- What contracts see of a heap's seat that is a seat of the core.
+use Rattle.std.specs.Prelude.{ℕ, ◌+◌, ◌*◌, Bool, true, false, List, [], ◌∷◌, ◌++◌, get_or, Contains, ◌<◌}
+use Rattle.heap_model.specs.declared.block.Block.{Block}
+use Rattle.heap_model.specs.Geometry.{roots, start_word, superblock_words}
+use Rattle.heap_model.specs.Sizes.{words_of_class}
+use Rattle.heap_seat.specs.declared.fault.Looks.{Looks}
+use Rattle.heap_seat.specs.declared.look.Look.{Look}
+use Rattle.heap_seat.specs.View.{View as HeapView}
+use Rattle.core_model.specs.View.{LastLook, Span, View}
+use Rattle.heap_rule.specs.Plays.{HasSoundState}
+use Rattle.steps.specs.Rows.{next_of}
+use Rattle.steps.specs.Words.{left_at, seen_at}
+
+pub record CacheState : Type 0 where
+  pub view : View
+  pub marks : List Bool
+  pub small_calls : ℕ
+  pub large_calls : ℕ
+  pub refusals : ℕ
+  pub refused_bytes : ℕ
+  pub refused_looks : Looks
+  -- its roots are roots, and some sound state has the view
+  pub roots_are : (i : ℕ) → Contains view.roots i → i < roots
+  pub sound : ∥ HasSoundState view ∥₁
+
+-- the blocks of a class by their first words, and those of all classes from one on
+abbrev pub blocks_of_words : ℕ → List ℕ → List Block
+blocks_of_words words [] = []
+blocks_of_words words (b ∷ bs) = record { first_word = b; words = words } ∷ blocks_of_words words bs
+
+abbrev pub small_blocks : ℕ → List (List ℕ) → List Block
+small_blocks class [] = []
+small_blocks class (bs ∷ lists) = blocks_of_words (words_of_class class) bs ++ small_blocks (class + 1) lists
+
+abbrev pub large_blocks : ℕ → List Span → List Block
+large_blocks capacity [] = []
+large_blocks capacity (span ∷ spans) = record { first_word = start_word capacity span.first; words = superblock_words * span.count } ∷ large_blocks capacity spans
+
+abbrev pub held_blocks : View → List Block
+held_blocks v = small_blocks 0 v.small ++ large_blocks v.setup.capacity v.large
+
+-- the words that are marked, from an index on
+abbrev pub marked_from : ℕ → List Bool → List ℕ
+marked_from word [] = []
+marked_from word (true ∷ marks) = word ∷ marked_from (word + 1) marks
+marked_from word (false ∷ marks) = marked_from (word + 1) marks
+
+abbrev pub look_of : LastLook → Look
+look_of look = record { seen = look.word; ticket = look.ticket; taken = look.taken }
+
+abbrev pub heap_view : CacheState → HeapView
+heap_view s = record {
+  held = held_blocks s.view;
+  roots = s.view.roots;
+  volatile = seen_at s.view;
+  durable = left_at s.view;
+  pending = marked_from 0 s.marks;
+  capacity = s.view.setup.capacity;
+  budget = s.view.setup.budget;
+  next = next_of s.view;
+  stopped = s.view.stopped;
+  small_calls = s.small_calls;
+  large_calls = s.large_calls;
+  taken = s.view.taken;
+  refusals = s.refusals;
+  refused_bytes = s.refused_bytes;
+  refused_looks = s.refused_looks;
+  used_look = look_of s.view.used_look;
+  head_look = λ list. look_of (get_or s.view.head_looks list s.view.used_look);
+}
+
+-- of a seat that has refused no request
+abbrev pub no_looks : Looks
+no_looks = record { class_head = 0; free_head = 0; used = 0 }

@@ -1,0 +1,4 @@
+pub mod Draws
+pub mod Words
+pub mod Rows
+pub mod Alone

@@ -1,0 +1,36 @@
+-- What is recorded of words, and what steps leave of it.
+use Rattle.std.specs.Prelude.{◌≡◌, ◌<◌, ◌⊎◌, ⊤, ℕ, ◌+◌, get_or, Option, None, Some}
+use Rattle.heap_model.specs.Counting.{times}
+use Rattle.core_model.specs.Cells.{Cell, used_cell, head_cell, info_cell, anchor_cell, link_cell, root_cell, data_cell, no_cell, cell_at, superblock_at}
+use Rattle.core_model.specs.View.{View, times_in_classes, times_large}
+
+-- the value may be this one: it is, or it is not known
+abbrev pub MayBe : Option ℕ → ℕ → Type 0
+MayBe None value = ⊤
+MayBe (Some known) value = value ≡ known
+
+-- what the view has recorded of a word: what loads see, and what a crash leaves
+abbrev pub seen_at : View → ℕ → Option ℕ
+seen_at v word = get_or v.volatile word None
+
+abbrev pub left_at : View → ℕ → Option ℕ
+left_at v word = get_or v.durable word None
+
+-- the word is not stored to: what loads see stays, and what a crash leaves stays or is what loads saw
+pub record KeepsWord (v w : View) (word : ℕ) : Type 0 where
+  pub volatile : (value : ℕ) → seen_at v word ≡ Some value → seen_at w word ≡ Some value
+  pub durable : (value : ℕ) → MayBe (left_at w word) value → MayBe (seen_at v word) value ⊎ MayBe (left_at v word) value
+
+-- how often the word is one of a held block or an owned root
+abbrev pub times_held : View → Cell → ℕ
+times_held v used_cell = 0
+times_held v (head_cell list) = 0
+times_held v (info_cell d) = 0
+times_held v (anchor_cell d) = 0
+times_held v (link_cell d) = 0
+times_held v (root_cell i) = times i v.roots
+times_held v (data_cell word) = times_in_classes word 0 v.small + times_large (superblock_at v.setup.capacity word) v.large
+times_held v no_cell = 0
+
+abbrev pub IsHeldWord : View → ℕ → Type 0
+IsHeldWord v word = 0 < times_held v (cell_at v.setup.capacity word)
