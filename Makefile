@@ -1,12 +1,13 @@
 # make         builds the proved heap_tool and says where it lies
 # make test    runs the tests and the stored runs but those of slow_tests and absent_image, and proves nothing
+# make demo    a first session with a program that was not proved, in a minute or two
 # make check   every check: the gate
 # make bench   times the program beside the system's tools and other stores, runs of traces, and the heaps, and draws it
 # make faults  refuses each request for memory of a small run in turn, and says how the runs ended
 # make schedules  runs the schedules of docs/ALGORITHM.md, and compares their answers
 # make compare  holds the program against a second reading of the format, over damaged images, random traces and schedules, for a minute
 # make clean   removes what these made
-.PHONY: all test check bench faults schedules compare clean
+.PHONY: all test demo check bench faults schedules compare clean
 
 all: bin/heap_tool
 
@@ -19,6 +20,9 @@ bin/heap_tool: crates.txt $(wildcard crates/*/src/*.rt crates/*/specs/*.antt cra
 
 test:
 	tools/run_tests
+
+demo:
+	tools/demo
 
 check:
 	.ci/run
