@@ -6,8 +6,9 @@
 # make faults  refuses each request for memory of a small run in turn, and says how the runs ended
 # make schedules  runs the schedules of docs/ALGORITHM.md, and compares their answers
 # make compare  holds the program against a second reading of the format, over damaged images, random traces and schedules, for a minute
+# make kills   kills the program at random moments of a run, and counts which images and temporaries that leaves
 # make clean   removes what these made
-.PHONY: all test demo check bench faults schedules compare clean
+.PHONY: all test demo check bench faults schedules compare kills clean
 
 all: bin/heap_tool
 
@@ -38,6 +39,9 @@ schedules: bin/heap_tool
 
 compare: bin/heap_tool
 	tools/compare
+
+kills: bin/heap_tool
+	tools/kills
 
 clean:
 	rm -rf bin crates/*/out
