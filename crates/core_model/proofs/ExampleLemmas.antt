@@ -1,14 +1,18 @@
 -- Worked examples of steps that a seat may not take.
-use Rattle.std.proofs.Common.{◌≡◌, ◌%◌, [], ◌∷◌, None, Some, inl, inr, arith}
+use Rattle.std.proofs.Common.{◌≡◌, ◌%◌, [], ◌∷◌, None, Some, inl, inr, true, false, refl, arith}
 use Rattle.heap_model.specs.Geometry.{lists}
 use Rattle.core_model.specs.declared.event.Event.TheVariants.{LookUsed, KeepUsed, LookHead}
-use Rattle.core_model.specs.Cells.{info_cell}
-use Rattle.core_model.specs.Guards.{IsOwn, IsFreelyClaimed, MayTake, MayPop, MayLink, MayLookAt, MayPush, MayTakeAll, MayGive, MayCut, MayAlloc, MayFree, MayLift, MayHoldLarge, MaySplit, IsReadyFor, MayStep}
-use Rattle.core_model.specs.Examples.{idle, memory, saw_used, saw_head}
+use Rattle.core_model.specs.Cells.{info_cell, link_cell}
+use Rattle.core_model.specs.Guards.{IsOwn, IsFreelyClaimed, MayTake, MayPop, MayLink, MayLookAt, MayPush, MayTakeAll, MayGive, MayCut, MayAlloc, MayFree, MayLift, MayHoldLarge, MaySplit, IsReadyFor, MayStep, MayStore}
+use Rattle.core_model.specs.Examples.{idle, memory, saw_used, saw_head, behind, leading}
 
 -- more superblocks than there are
 pub takes_too_many : MayTake (saw_used 1) 2 → ⊥
 takes_too_many may = let room = may.room in omega arith
+
+-- no superblock
+pub takes_none : MayTake (saw_used 1) 0 → ⊥
+takes_none may = let some = may.some in omega arith
 
 -- nothing was seen of a head
 pub pops_unseen : MayPop idle → ⊥
@@ -25,6 +29,13 @@ owns_nothing own = omega (arith, own)
 -- a superblock whose blocks are being made goes nowhere else
 pub cutting_is_not_free : IsFreelyClaimed (record idle { cutting = 0 ∷ [] }) 0 → ⊥
 cutting_is_not_free free = let none = free.not_cutting in omega arith
+
+-- nor is its anchor looked at, or its link stored to
+pub looks_while_cutting : MayLookAt (record idle { cutting = 0 ∷ [] }) 0 → ⊥
+looks_while_cutting look = elim look [ inl free ↦ cutting_is_not_free free | inr batch ↦ let some = batch.1 in omega arith ]
+
+pub links_while_cutting : MayStore memory (record idle { cutting = 0 ∷ [] }) (link_cell 0) 5 → ⊥
+links_while_cutting none = omega (arith, none)
 
 -- nothing was seen of the mark
 pub keeps_unseen : IsReadyFor memory idle KeepUsed → ⊥
@@ -61,6 +72,13 @@ allocates_from_none may = let some = may.cached in omega arith
 pub lifts_from_none : MayLift memory idle 20 → ⊥
 lifts_from_none may = let some = may.cached in omega arith
 
+-- behind a block that leads to it, but not where a store may have changed that
+pub lifts_behind : MayLift leading (behind true) 20
+lifts_behind = record { is_class = record { some = omega arith; last = omega arith }; cached = omega arith; behind = λ some. record { same = refl; unchanged = refl; linked = refl } }
+
+pub lifts_behind_a_store : MayLift leading (behind false) 20 → ⊥
+lifts_behind_a_store may = let changed : false ≡ true = (may.behind (omega arith)).unchanged in absurd (cc)
+
 -- a block that is not held
 pub frees_nothing : MayFree memory idle 9272 → ⊥
 frees_nothing may = let some = may.held in omega arith
@@ -72,6 +90,10 @@ holds_none may = let some = may.some in omega arith
 -- no large block
 pub splits_nothing : MaySplit idle 1080 → ⊥
 splits_nothing may = let some = may.held in omega arith
+
+-- a word of a large block that is not its first
+pub splits_inside : MaySplit (record idle { large = record { first = 1; count = 1 } ∷ [] }) 9273 → ⊥
+splits_inside may = let first = may.first in omega arith
 
 -- a seat that has stopped, and a step without a ticket
 pub stopped_goes_nowhere : MayStep memory (record idle { stopped = Some 10 }) LookUsed → ⊥

@@ -1,12 +1,12 @@
 -- Worked examples by computation: two superblocks, of which the first is in the list of the free ones, and a seat with ticket 3.
-use Rattle.std.specs.Prelude.{◌≡◌, ℕ, ◌+◌, cond, nat_eq, true, [], ◌∷◌, replicate, None, Some, refl, get_or, set}
+use Rattle.std.specs.Prelude.{◌≡◌, ℕ, ◌+◌, cond, nat_eq, Bool, true, false, [], ◌∷◌, replicate, None, Some, refl, get_or, set}
 use Rattle.heap_model.specs.Sizes.{class_sizes, words_of_class, blocks_of}
 use Rattle.core_model.specs.declared.event.Event.TheVariants.{Tick, Load, Store, Settle, LookUsed, TakeFresh, KeepUsed, LookHead, LookLink, Pop, Push, LookAnchor, TakeAll, Give}
 use Rattle.core_model.specs.declared.event.Shift.TheVariants.{Cut, Alloc, Free, Lift, Large, Split}
 use Rattle.core_model.specs.Cells.{Cell, used_cell, head_cell, info_cell, anchor_cell, link_cell, root_cell, data_cell, no_cell, cell_at}
 use Rattle.core_model.specs.Memory.{Memory, write, volatile_at}
-use Rattle.core_model.specs.View.{Setup, View, LastLook, no_batch, times_own, of_class}
-use Rattle.core_model.specs.Effects.{left_there, view_after, chain, steps}
+use Rattle.core_model.specs.View.{Setup, View, LastLook, no_batch, times_own, of_class, known}
+use Rattle.core_model.specs.Effects.{left_there, view_after, chain, steps, learn_fresh}
 use Rattle.core_model.specs.Steps.{seat_after}
 
 -- word indices and cells
@@ -100,6 +100,24 @@ looks_at_used = refl
 pub looks_at_head : (seat_after memory idle (LookHead 0)).seen_head ≡ Some (record { of = 0; word = 16777217 })
 looks_at_head = refl
 
+-- a last look has the word, the ticket, and the counts by then; other lists' looks stay
+abbrev counted : View
+counted = record idle { wins = 2; taken = 1 }
+
+pub looked_at_used : (seat_after memory counted LookUsed).used_look ≡ record { word = 1; ticket = Some 3; wins = 2; taken = 1 }
+looked_at_used = refl
+
+pub looked_at_head : get_or (seat_after memory counted (LookHead 0)).head_looks 0 unread ≡ record {
+  word = 16777217;
+  ticket = Some 3;
+  wins = 2;
+  taken = 1;
+}
+looked_at_head = refl
+
+pub looked_at_no_other : get_or (seat_after memory counted (LookHead 0)).head_looks 20 unread ≡ unread
+looked_at_no_other = refl
+
 -- the mark is taken further where it is as it was seen, and not where another was seen
 abbrev pub saw_used : ℕ → View
 saw_used n = record idle { seen_used = Some n }
@@ -119,8 +137,28 @@ has_lost = refl
 pub has_lost_to : (seat_after memory (saw_used 0) (TakeFresh 1)).lost_to ≡ 1
 has_lost_to = refl
 
-pub keeps_used : (seat_after memory (saw_used 1) KeepUsed).floor ≡ 1
+-- it is known to be durable as far as it was seen, and does not fall where less was seen
+pub keeps_used : (seat_after memory (saw_used 2) KeepUsed).floor ≡ 2
 keeps_used = refl
+
+pub keeps_no_less : left_there memory (saw_used 0) KeepUsed 1 ≡ 1
+keeps_no_less = refl
+
+pub keeps_more : left_there memory (saw_used 2) KeepUsed 1 ≡ 2
+keeps_more = refl
+
+-- info, anchor and link of each descriptor that was taken are known to be 0, and no other
+pub fresh_info : known (learn_fresh (replicate 1080 None) 1 1) (info_cell 1) ≡ Some 0
+fresh_info = refl
+
+pub fresh_anchor : known (learn_fresh (replicate 1080 None) 1 1) (anchor_cell 1) ≡ Some 0
+fresh_anchor = refl
+
+pub fresh_link : known (learn_fresh (replicate 1080 None) 1 1) (link_cell 1) ≡ Some 0
+fresh_link = refl
+
+pub fresh_alone : known (learn_fresh (replicate 1080 None) 1 1) (info_cell 0) ≡ None
+fresh_alone = refl
 
 -- a pop counts, and the descriptor is claimed; with an old head it is lost
 abbrev pub saw_head : ℕ → View
@@ -140,6 +178,22 @@ pushes = refl
 
 pub has_pushed : (view_after memory (record (saw_head 33554432) { raw = 0 ∷ [] }) (Push 0) 33554432).raw ≡ []
 has_pushed = refl
+
+-- a descriptor of a class counts as moved where it goes to the list of the free ones; not in its class's list, nor one without a class
+abbrev claims_20 : ℕ → View
+claims_20 list = record idle {
+  classed = record { descriptor = 0; class = 20 } ∷ [];
+  seen_head = Some (record { of = list; word = 33554432 });
+}
+
+pub moves : (view_after memory (claims_20 0) (Push 0) 33554432).moves ≡ 1
+moves = refl
+
+pub moves_to_its_class : (view_after memory (claims_20 20) (Push 0) 33554432).moves ≡ 0
+moves_to_its_class = refl
+
+pub moves_raw : (view_after memory (record (saw_head 33554432) { raw = 0 ∷ [] }) (Push 0) 33554432).moves ≡ 0
+moves_raw = refl
 
 -- its link, info and anchor, and its words, are own words of a claimed superblock without a class
 pub owns_link : times_own (record idle { raw = 1 ∷ [] }) (link_cell 1) ≡ 1
@@ -244,6 +298,26 @@ lifts = refl
 
 pub lifts_from : (view_after memory cached (Tick (Some (Lift 20))) 4).batch.descriptor ≡ 0
 lifts_from = refl
+
+pub lifts_linked : (view_after memory cached (Tick (Some (Lift 20))) 4).batch.linked ≡ true
+lifts_linked = refl
+
+-- a store to the first word of the batch's last block ends its link, and one to another block's does not
+abbrev pub behind : Bool → View
+behind linked = record cached {
+  batch = record { descriptor = 0; class = 20; blocks = 4664 ∷ 6456 ∷ []; linked = linked };
+  volatile = replicate 17464 None;
+}
+
+-- the last block's first word leads to the first cached block
+abbrev pub leading : Memory
+leading = write memory (volatile_at (data_cell 6456)) 1080
+
+pub stores_to_last : (view_after memory (behind true) (Store 6456 7) 0).batch.linked ≡ false
+stores_to_last = refl
+
+pub stores_before_last : (view_after memory (behind true) (Store 4664 7) 0).batch.linked ≡ true
+stores_before_last = refl
 
 -- superblock 1 is of class 20
 abbrev of_20 : Memory

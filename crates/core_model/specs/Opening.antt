@@ -99,6 +99,16 @@ opened_state k held block_owners root_owners seats = record {
   views = tabulate (opened_view k held block_owners root_owners) 0 seats;
 }
 
+-- the seat has drawn, looked at and counted nothing yet, and has nothing but what it holds; it knows the opened mark to be durable
+pub record HasDoneNothing (k : Setup) (v : View) : Type 0 where
+  pub floor : v.floor ≡ k.used
+  pub tickets : (v.ticket ≡ None) × (v.last_ticket ≡ None) × (v.stopped ≡ None)
+  pub counts : (v.draws ≡ 0) × (v.wins ≡ 0) × (v.losses ≡ 0) × (v.taken ≡ 0) × (v.cuts ≡ 0) × (v.gives ≡ 0) × (v.moves ≡ 0)
+  pub free : (v.caches ≡ replicate lists []) × (v.batch ≡ no_batch)
+  pub claims : (v.raw ≡ []) × (v.split ≡ []) × (v.cutting ≡ []) × (v.classed ≡ [])
+  pub seen : (v.seen_used ≡ None) × (v.seen_head ≡ None) × (v.seen_link ≡ None) × (v.seen_anchor ≡ None)
+  pub looks : v.used_look ≡ unlooked k.used
+
 -- the block stands in the list where the seat is the owner
 pub record IsOwnerOf (held : List Block) (block_owners : List ℕ) (seat : ℕ) (b : Block) : Type 0 where
   pub at : ℕ

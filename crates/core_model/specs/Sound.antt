@@ -1,5 +1,5 @@
 -- What is so of memory and seats between any two steps, as records over no more than each reads. "In exactly one place" is a sum over lists, seats and the superblocks that are full in no list.
-use Rattle.std.specs.Prelude.{◌≡◌, ◌≢◌, ℕ, ◌+◌, ◌*◌, ◌<◌, ◌≤◌, ◌⊎◌, ◌↔◌, true, not, ◌&&◌, nat_eq, nat_lt, List, [], ◌∷◌, length, get_or, Contains, Option, None, Some, slice_index}
+use Rattle.std.specs.Prelude.{◌≡◌, ◌≢◌, ℕ, ◌+◌, ◌*◌, ◌<◌, ◌≤◌, ◌⊎◌, ◌↔◌, true, not, ◌&&◌, nat_eq, nat_lt, List, length, get_or, Contains, Option, None, Some, slice_index}
 use Rattle.heap_model.specs.Geometry.{lists, start_word, image_words, largest_capacity, capacity_word, used_word, IsFixed}
 use Rattle.std.specs.List.{range_with_len}
 use Rattle.heap_model.specs.Sizes.{last_class, IsClass, words_of_class, blocks_of}

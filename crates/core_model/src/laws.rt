@@ -15,7 +15,7 @@ ghost use Rattle.core_model.specs.Guards.{IsOwn, MayStep};
 ghost use Rattle.core_model.specs.Sound.{Good, Sound};
 ghost use Rattle.core_model.specs.Steps.{Keeps, TableState, IsSoundState, Runs, words_after, seat_after};
 ghost use Rattle.core_model.specs.Splitting.{Choice, remaining, given_off};
-ghost use Rattle.core_model.specs.Opening.{AreOwners, IsOwnerOf, setup_of, opened_view, opened_state};
+ghost use Rattle.core_model.specs.Opening.{AreOwners, HasDoneNothing, IsOwnerOf, setup_of, opened_view, opened_state};
 ghost use Rattle.core_model.specs.Held.{IsHeld, IsHeldBy, IsFirm, volatile_image, durable_image};
 ghost use Rattle.heap_model.specs.Header.{IsWellFormed, header_fault};
 ghost use Rattle.heap_model.specs.Image.{Image};
@@ -57,7 +57,7 @@ pub fn a_list_of_events_has_one_outcome()
 {}
 
 /// A heap at rest that is opened for some seats, with an owner for each held block and each root,
-/// is sound, and each seat has exactly what it owns; sound is whatever the seats make of it.
+/// is sound, and each seat has exactly what it owns and has done nothing yet; sound is whatever the seats make of it.
 pub fn an_opened_heap_is_sound()
     ensures opened { (words : List ℕ) (held : List Block) (budget seats : ℕ)
         (block_owners root_owners : List ℕ) → IsReady words held
@@ -74,6 +74,9 @@ pub fn an_opened_heap_is_sound()
         → (i n : ℕ) → (0 < times n
         (opened_view (setup_of words budget) held block_owners root_owners i).roots)
         ↔ ((n < roots) × (get_or root_owners n (i + 1) ≡ i)) }
+    ensures nothing_yet { (words : List ℕ) (held : List Block) (budget : ℕ)
+        (block_owners root_owners : List ℕ) (i : ℕ) → HasDoneNothing (setup_of words budget)
+        (opened_view (setup_of words budget) held block_owners root_owners i) }
     ensures running { (words : List ℕ) (held : List Block) (budget seats : ℕ)
         (block_owners root_owners : List ℕ) → IsReady words held
         → AreOwners held seats block_owners root_owners

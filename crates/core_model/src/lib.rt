@@ -3,10 +3,15 @@
 #![tactic(auto)]
 
 mod answer;
+mod count_laws;
 mod event;
 mod laws;
 
 pub use answer::StepAnswer;
+pub use count_laws::{
+    each_loss_is_a_win_of_another_seat, each_move_is_a_give_or_was_there,
+    the_mark_is_what_was_taken, tickets_end_at_the_budget,
+};
 pub use event::{Event, Shift};
 pub use laws::{
     a_crash_leaves_a_good_header, a_crash_leaves_each_held_block_named,

@@ -1,3 +1,4 @@
+use Rattle.std.proofs.Common.{refl}
 use Rattle.core_model.specs.Opening.{setup_of, opened_state}
 use Rattle.heap_model.specs.Geometry.{roots}
 use Rattle.core_model.proofs.OpenedLemmas.{opened}
@@ -14,6 +15,17 @@ returns-clause-held c = holds_exactly
 
 pub returns-clause-owned : goal.returns-clause-owned
 returns-clause-owned c words held budget seats block_owners root_owners owners i n = owns_root i roots root_owners n
+
+pub returns-clause-nothing_yet : goal.returns-clause-nothing_yet
+returns-clause-nothing_yet c words held budget block_owners root_owners i = record {
+  floor = refl;
+  tickets = (refl, refl, refl);
+  counts = (refl, refl, refl, refl, refl, refl, refl);
+  free = (refl, refl);
+  claims = (refl, refl, refl, refl);
+  seen = (refl, refl, refl, refl);
+  looks = refl;
+}
 
 pub returns-clause-running : goal.returns-clause-running
 returns-clause-running c words held budget seats block_owners root_owners ready owners events answers s runs =
