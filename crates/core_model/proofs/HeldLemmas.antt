@@ -130,7 +130,7 @@ firm k words views sound = record {
 }
 
 -- the durable capacity
-durable_capacity : (k : Setup) (words : List ℕ) (views : List View) → Sound k words views → durable_image k.capacity words 2 ≡ k.capacity
+pub durable_capacity : (k : Setup) (words : List ℕ) (views : List View) → Sound k words views → durable_image k.capacity words 2 ≡ k.capacity
 durable_capacity k words views sound = pick (nat_lt 2 (image_words k.capacity)) _ _ (lt-ltb 2 (image_words k.capacity) (omega arith)) ∙ (sound.fixed 2 (inl (omega arith))).1 ∙ sound.capacity
 
 -- what a crash leaves names each held block

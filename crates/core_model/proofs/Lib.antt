@@ -28,6 +28,7 @@ pub mod TableLemmas
 pub mod SoundLemmas
 pub mod OutcomeLemmas
 pub mod HeldLemmas
+pub mod HeldOnceLemmas
 pub mod HeaderLemmas
 pub mod AlikeLemmas
 pub mod OpenLemmas

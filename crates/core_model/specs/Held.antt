@@ -1,12 +1,13 @@
 -- The blocks that seats hold, and that every mixed image of the shared words names each of them.
-use Rattle.std.specs.Prelude.{◌≡◌, ℕ, ◌+◌, ◌*◌, ◌<◌, cond, nat_lt, List, get_or, length}
+use Rattle.std.specs.Prelude.{◌≡◌, ◌≢◌, ℕ, ◌+◌, ◌*◌, ◌<◌, ◌≤◌, ◌⊎◌, cond, nat_lt, List, get_or, length}
 use Rattle.heap_model.specs.declared.block.Block.{Block}
 use Rattle.heap_model.specs.Geometry.{start_word, superblock_words, image_words}
 use Rattle.heap_model.specs.Sizes.{words_of_class}
-use Rattle.heap_model.specs.Counting.{times}
+use Rattle.heap_model.specs.Blocks.{AreOneOrApart}
+use Rattle.heap_model.specs.Counting.{times, total}
 use Rattle.heap_model.specs.Image.{Image}
 use Rattle.heap_model.specs.Durability.{NamesAreDurable}
-use Rattle.core_model.specs.View.{View, of_class}
+use Rattle.core_model.specs.View.{View, of_class, times_block, times_large}
 use Rattle.core_model.specs.Effects.{span_count}
 
 -- a block that the seat holds
@@ -24,6 +25,19 @@ pub record IsHeldBy (views : List View) (b : Block) : Type 0 where
   pub below : seat < length views
   pub at : get_or views seat view ≡ view
   pub holds : IsHeld view b
+
+-- the blocks have no word in common
+abbrev pub AreApart : Block → Block → Type 0
+AreApart a b = (a.first_word + a.words ≤ b.first_word) ⊎ (b.first_word + b.words ≤ a.first_word)
+
+-- no block is held twice: each stands once in the lists of one seat; blocks of two seats have no word in common, and those of one seat are one or have none; and each lies in the superblocks of the image
+pub record AreHeldOnce (capacity : ℕ) (views : List View) : Type 0 where
+  pub small : (b : ℕ) → total (times_block b) views ≤ 1
+  pub large : (d : ℕ) → total (λ (v : View). times_large d v.large) views ≤ 1
+  pub by_two : (i j : ℕ) (v u : View) → j ≢ i → i < length views → get_or views i v ≡ v → j < length views → get_or views j u ≡ u
+      → (a b : Block) → IsHeld v a → IsHeld u b → AreApart a b
+  pub by_any : (a b : Block) → IsHeldBy views a → IsHeldBy views b → AreOneOrApart a b
+  pub inside : (b : Block) → IsHeldBy views b → (start_word capacity 0 ≤ b.first_word) × (b.first_word + b.words ≤ image_words capacity)
 
 -- the volatile words of the image, and the durable ones
 abbrev pub volatile_image : ℕ → List ℕ → Image

@@ -16,7 +16,7 @@ ghost use Rattle.core_model.specs.Sound.{Good, Sound};
 ghost use Rattle.core_model.specs.Steps.{Keeps, TableState, IsSoundState, Runs, words_after, seat_after};
 ghost use Rattle.core_model.specs.Splitting.{Choice, remaining, given_off};
 ghost use Rattle.core_model.specs.Opening.{AreOwners, HasDoneNothing, IsOwnerOf, setup_of, opened_view, opened_state};
-ghost use Rattle.core_model.specs.Held.{IsHeld, IsHeldBy, IsFirm, volatile_image, durable_image};
+ghost use Rattle.core_model.specs.Held.{AreHeldOnce, IsHeld, IsHeldBy, IsFirm, volatile_image, durable_image};
 ghost use Rattle.heap_model.specs.Header.{IsWellFormed, header_fault};
 ghost use Rattle.heap_model.specs.Image.{Image};
 ghost use Rattle.heap_model.specs.Blocks.{Names, layout_of};
@@ -145,6 +145,22 @@ pub fn whatever_a_crash_leaves_reaches_the_same()
         → IsCrashImage durable other → (kinds : ℕ → ℕ) (links : Links) (at : ℕ)
         → IsOutside image kinds links at
         → IsOutside other kinds links at × (other at ≡ image at) }
+{}
+
+/// No block is held twice: each stands once in the lists of one seat, blocks of two seats have no
+/// word in common, and each lies in the heap; so it is in each sound state, and in each that the
+/// seats of an opened heap at rest come to.
+pub fn no_block_is_held_twice()
+    ensures sound { (k : Setup) (s : TableState) → IsSoundState k s
+        → AreHeldOnce k.capacity s.views }
+    ensures running { (words : List ℕ) (held : List Block) (budget seats : ℕ)
+        (block_owners root_owners : List ℕ) → IsReady words held
+        → AreOwners held seats block_owners root_owners
+        → (events : List (ℕ × Event)) (answers : List StepAnswer) (s : TableState)
+        → Runs (setup_of words budget)
+        (opened_state (setup_of words budget) held block_owners root_owners seats) events
+        answers s
+        → AreHeldOnce (slice_index words capacity_word) s.views }
 {}
 
 /// A step that a seat may take works on a word of the shared table.
