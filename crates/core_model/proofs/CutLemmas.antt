@@ -174,7 +174,7 @@ module _ (k : Setup) (m : Memory) (views : List View) (i : ℕ) (v : View) (belo
         });
       }))
       (let s = seat.set_up in record {
-        set_up = record { setup = s.setup; small = s.small; caches = length-set v.caches class bs ∙ s.caches; looks = s.looks; volatile = length_only base 0 v.volatile ∙ s.volatile; durable = length_only base 0 v.durable ∙ s.durable };
+        set_up = record { setup = s.setup; roots = s.roots; small = s.small; caches = length-set v.caches class bs ∙ s.caches; looks = s.looks; volatile = length_only base 0 v.volatile ∙ s.volatile; durable = length_only base 0 v.durable ∙ s.durable };
         claims = (let c = seat.claims in record {
           is_raw = c.is_raw;
           is_split = c.is_split;

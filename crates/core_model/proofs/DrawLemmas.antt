@@ -91,7 +91,7 @@ module _ (k : Setup) (m : Memory) (views : List View) (i : ℕ) (v : View) (belo
 
   pub draw : m.drawn < v.setup.budget → Good k m' (set views i (drew v m.drawn))
   draw room = after_draw (drew v m.drawn) refl
-      (let s = seat.set_up in record { setup = s.setup; small = s.small; caches = s.caches; looks = s.looks; volatile = s.volatile; durable = s.durable })
+      (let s = seat.set_up in record { setup = s.setup; roots = s.roots; small = s.small; caches = s.caches; looks = s.looks; volatile = s.volatile; durable = s.durable })
       (let s = seat.knows in record { seen_head = s.seen_head; seen_used = s.seen_used; looked = s.looked; seen_anchor = s.seen_anchor; seen_empty = s.seen_empty; floor = s.floor }) refl refl
       (let t = seat.tickets in record {
         ticket = record { is_drawn = λ _. omega arith };
@@ -112,7 +112,7 @@ module _ (k : Setup) (m : Memory) (views : List View) (i : ℕ) (v : View) (belo
 
   pub stop : v.setup.budget ≤ m.drawn → Good k m' (set views i (stopped v m.drawn))
   stop spent = after_draw (stopped v m.drawn) refl
-      (let s = seat.set_up in record { setup = s.setup; small = s.small; caches = s.caches; looks = s.looks; volatile = s.volatile; durable = s.durable })
+      (let s = seat.set_up in record { setup = s.setup; roots = s.roots; small = s.small; caches = s.caches; looks = s.looks; volatile = s.volatile; durable = s.durable })
       (let s = seat.knows in record { seen_head = s.seen_head; seen_used = s.seen_used; looked = s.looked; seen_anchor = s.seen_anchor; seen_empty = s.seen_empty; floor = s.floor }) refl refl
       (let t = seat.tickets in record {
         ticket = none_drawn (m.drawn + 1);

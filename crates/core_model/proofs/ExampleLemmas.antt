@@ -1,10 +1,10 @@
--- Worked examples of steps that a seat may not take.
-use Rattle.std.proofs.Common.{◌≡◌, ◌%◌, [], ◌∷◌, None, Some, inl, inr, true, false, refl, arith}
+-- Worked examples of steps that a seat may take, and of such that it may not.
+use Rattle.std.proofs.Common.{◌≡◌, ◌%◌, [], ◌∷◌, replicate, set, None, Some, inl, inr, true, false, refl, arith}
 use Rattle.heap_model.specs.Geometry.{lists}
 use Rattle.core_model.specs.declared.event.Event.TheVariants.{LookUsed, KeepUsed, LookHead}
 use Rattle.core_model.specs.Cells.{info_cell, link_cell}
-use Rattle.core_model.specs.Guards.{IsOwn, IsFreelyClaimed, MayTake, MayPop, MayLink, MayLookAt, MayPush, MayTakeAll, MayGive, MayCut, MayAlloc, MayFree, MayLift, MayHoldLarge, MaySplit, IsReadyFor, MayStep, MayStore}
-use Rattle.core_model.specs.Examples.{idle, memory, saw_used, saw_head, behind, leading}
+use Rattle.core_model.specs.Guards.{IsOwn, IsFreelyClaimed, MayTake, MayPop, MayLink, MayLookAt, MayPush, MayTakeAll, MayGive, MayCut, MayAlloc, MayFree, MayLift, MayHoldLarge, MaySplit, IsReadyFor, MayStep, MayStore, as_free}
+use Rattle.core_model.specs.Examples.{idle, memory, saw_used, saw_head, batched, partial, holding, of_20, behind, leading}
 
 -- more superblocks than there are
 pub takes_too_many : MayTake (saw_used 1) 2 → ⊥
@@ -101,3 +101,45 @@ stopped_goes_nowhere may = let going = may.going in omega arith
 
 pub looks_without_a_ticket : MayStep memory (record idle { ticket = None }) LookUsed → ⊥
 looks_without_a_ticket may = let ticket = may.ticket in omega arith
+
+-- the last superblock that there is
+pub takes_the_last : MayTake (saw_used 1) 1
+takes_the_last = record { is_seen = refl; some = omega arith; room = omega arith }
+
+-- a list that was seen to have a descriptor has a link, and is popped once that was seen
+pub links : MayLink (saw_head 33554433)
+links = record { is_seen = refl; some = λ none. omega (arith, none) }
+
+pub pops : MayPop (saw_head 33554433)
+pops = record { is_seen = refl; link = refl }
+
+-- the last superblock below the durable mark
+pub pushes_the_last : MayPush memory (record (saw_head 33554432) { raw = 0 ∷ [] }) 0
+pushes_the_last = record { is_seen = refl; durable = omega arith; linked = refl; listed = as_free 0 refl (record { claimed = omega arith; not_cutting = refl }) refl }
+
+-- a claimed superblock, and that of the batch
+pub looks_at_claim : MayLookAt (record idle { raw = 0 ∷ [] }) 0
+looks_at_claim = inl (record { claimed = omega arith; not_cutting = refl })
+
+pub looks_at_batch : MayLookAt batched 0
+looks_at_batch = inr (refl, omega arith)
+
+-- a partial superblock whose class has an empty cache
+pub takes_all : MayTakeAll partial 0
+takes_all = record { claimed = omega arith; is_seen = refl; of = refl; partial = refl; uncached = refl }
+
+-- a batch to a full superblock, whatever its last block leads to
+pub gives : MayGive memory batched 0
+gives = record { batch = refl; some = omega arith; is_seen = refl; of = refl; linked = λ some. absurd (some refl) }
+
+-- the only cached block
+pub allocates_the_last : MayAlloc (record idle { caches = set (replicate 21 []) 20 (1080 ∷ []) }) 20
+allocates_the_last = record { is_class = record { some = omega arith; last = omega arith }; cached = omega arith }
+
+-- a held block, in front of an empty cache
+pub frees : MayFree of_20 holding 9272
+frees = record { is_class = record { some = omega arith; last = omega arith }; held = omega arith; linked = λ some. omega (arith, some) }
+
+-- a large block, by its first word
+pub splits : MaySplit (record idle { large = record { first = 1; count = 1 } ∷ [] }) 9272
+splits = record { held = omega arith; first = refl }

@@ -96,7 +96,7 @@ module _ (k : Setup) (m : Memory) (views : List View) (i : ℕ) (v : View) (belo
         };
       }))
       (let s = seat.set_up in record {
-        set_up = record { setup = s.setup; small = s.small; caches = s.caches; looks = s.looks; volatile = s.volatile; durable = s.durable };
+        set_up = record { setup = s.setup; roots = s.roots; small = s.small; caches = s.caches; looks = s.looks; volatile = s.volatile; durable = s.durable };
         claims = seat.claims;
         blocks = seat.blocks;
         knows = (let n = seat.knows in record { seen_head = n.seen_head; seen_used = n.seen_used; looked = n.looked; seen_anchor = n.seen_anchor; seen_empty = n.seen_empty; floor = let f = n.floor in omega arith });
@@ -225,7 +225,7 @@ module _ (k : Setup) (m : Memory) (views : List View) (i : ℕ) (v : View) (belo
           durable = let d = s.durable in let old = d.behind in let fits = room in record { behind = omega arith; room = omega arith; below = d.below; infos = d.infos };
         }))
         (let s = seat.set_up in record {
-          set_up = record { setup = s.setup; small = s.small; caches = s.caches; looks = s.looks; volatile = length_fresh v.volatile u n ∙ s.volatile; durable = length_fresh v.durable u n ∙ s.durable };
+          set_up = record { setup = s.setup; roots = s.roots; small = s.small; caches = s.caches; looks = s.looks; volatile = length_fresh v.volatile u n ∙ s.volatile; durable = length_fresh v.durable u n ∙ s.durable };
           claims = (let c = seat.claims in record {
             is_raw = λ d some. elim (cases_lt 0 (times d v.raw)) as (λ _. anchor_state (anchor m d) ≡ empty_state) [
               | inl old ↦ c.is_raw d old

@@ -258,7 +258,7 @@ module _ (k : Setup) (m : Memory) (views : List View) (i : ℕ) (v : View) (belo
         durable = s.durable;
       }))
       (record {
-        set_up = set_up_kept k v w seat.set_up refl refl refl refl (length_only w0 0 v.volatile) (length_only w0 0 v.durable);
+        set_up = set_up_kept k v w seat.set_up refl refl refl refl refl (length_only w0 0 v.volatile) (length_only w0 0 v.durable);
         claims = claims_now;
         blocks = blocks_now;
         knows = (let n = seat.knows in record { seen_head = n.seen_head; seen_used = n.seen_used; looked = n.looked; seen_anchor = λ e. absurd (not_there e); seen_empty = λ e. absurd (not_there e); floor = n.floor });
@@ -309,7 +309,7 @@ module _ (k : Setup) (m : Memory) (views : List View) (i : ℕ) (v : View) (belo
         durable = (let y = s.durable in record { behind = y.behind; room = y.room; below = λ e some. y.below e (let z = cut_same e in omega arith); infos = λ e some. y.infos e (let z = cut_same e in omega arith) });
       }))
       (record {
-        set_up = set_up_kept k v w seat.set_up refl refl refl refl (length_only w1 0 v.volatile) (length_only w1 0 v.durable);
+        set_up = set_up_kept k v w seat.set_up refl refl refl refl refl (length_only w1 0 v.volatile) (length_only w1 0 v.durable);
         claims = (let c = claims_now in record { is_raw = c.is_raw; is_split = c.is_split; is_cutting = c.is_cutting; is_classed = is_classed; is_large = c.is_large; is_part = c.is_part; some = c.some });
         blocks = blocks_now;
         knows = (let n = seat.knows in record {

@@ -33,6 +33,7 @@ pub mod HeaderLemmas
 pub mod AlikeLemmas
 pub mod OpenLemmas
 pub mod OpenCountLemmas
+pub mod RootLemmas
 pub mod OpenedLemmas
 pub mod OpenedHeldLemmas
 pub mod SplittingLemmas

@@ -1,6 +1,6 @@
 -- Who holds what of an opened heap.
 use Rattle.std.proofs.Common.{◌≡◌, ℕ, zero, suc, ◌+◌, ◌*◌, ◌/◌, ◌<◌, ◌≤◌, inl, inr, ◌⊎◌, ◌↔◌, Bool, true, false, cond, nat_eq, ◌&&◌, List, [], ◌∷◌, Contains, get_or, length, slice_index, refl, ap, sym, subst, ◌∙◌, eq-eqb, eqb-true, true≢false, arith}
-use Rattle.std.proofs.lemmas.Bool.{cases_eq, cases_lt}
+use Rattle.std.proofs.lemmas.Bool.{cases_lt}
 use Rattle.heap_model.specs.declared.block.Block.{Block}
 use Rattle.heap_model.specs.Geometry.{lists, info_word, start_word, superblock_words}
 use Rattle.heap_model.specs.Sizes.{words_of_class}
@@ -11,14 +11,15 @@ use Rattle.heap_model.proofs.BlockLemmas.{same_first}
 use Rattle.heap_model.proofs.PartLemmas.{same_fields}
 use Rattle.heap_model.proofs.MemberLemmas.{in_head, in_rest, head_or_rest, in_none}
 use Rattle.core_model.specs.Cells.{superblock_at}
-use Rattle.core_model.specs.Effects.{span_count, steps}
+use Rattle.core_model.specs.Effects.{span_count}
 use Rattle.core_model.specs.Held.{IsHeld, a_small, a_large}
 use Rattle.core_model.specs.Opening.{picked, is_small, small_blocks, large_blocks, AreOwners, IsOwnerOf}
-use Rattle.core_model.proofs.TotalLemmas.{eq-eqb-one, ne-eqb-none}
+use Rattle.core_model.proofs.TotalLemmas.{eq-eqb-one}
 use Rattle.core_model.proofs.PlaceLemmas.{and_is}
 use Rattle.core_model.proofs.OpenLemmas.{length_tabulate, picked_in, small_from, small_member, span_of_block}
 use Rattle.core_model.proofs.OpenCountLemmas.{beyond}
 use Rattle.core_model.proofs.OpenedLemmas as opened
+pub use Rattle.core_model.proofs.RootLemmas.{owns_root}
 
 -- what is picked for a seat stands where it is the owner, and all of that is picked
 pub owner_of : (seat : ℕ) (held : List Block) (owners : List ℕ) (b : Block) → Contains (picked seat held owners) b → IsOwnerOf held owners seat b
@@ -45,41 +46,6 @@ picked_for seat held owners b o = by_index held owners o.at o.inside o.is o.owne
     by_test : (t : Bool) → Contains (picked seat xs os) b → Contains (cond t (x ∷ picked seat xs os) (picked seat xs os)) b
     by_test true q = in_rest x b (picked seat xs os) q
     by_test false q = q
-
--- a root is picked for the seat that owns it
-root_owner : (i n from count : ℕ) (os : List ℕ) → 0 < times n (picked i (steps from 1 count) os) → (at : ℕ) × (n ≡ from + at) × (at < count) × (get_or os at (i + 1) ≡ i)
-root_owner i n from zero os some = absurd (omega arith)
-root_owner i n from (suc count) [] some = absurd (omega arith)
-root_owner i n from (suc count) (owner ∷ os) some = by_test (nat_eq owner i) refl some (root_owner i n (from + 1) count os) where
-  later : (at : ℕ) × (n ≡ from + 1 + at) × (at < count) × (get_or os at (i + 1) ≡ i) → (at : ℕ) × (n ≡ from + at) × (at < suc count) × (get_or (owner ∷ os) at (i + 1) ≡ i)
-  later r = (suc r.0, omega (arith, r.1), omega (arith, r.2), r.3)
-
-  by_test : (t : Bool) → nat_eq owner i ≡ t → 0 < times n (cond t (from ∷ picked i (steps (from + 1) 1 count) os) (picked i (steps (from + 1) 1 count) os))
-      → (0 < times n (picked i (steps (from + 1) 1 count) os) → (at : ℕ) × (n ≡ from + 1 + at) × (at < count) × (get_or os at (i + 1) ≡ i)) → (at : ℕ) × (n ≡ from + at) × (at < suc count) × (get_or (owner ∷ os) at (i + 1) ≡ i)
-  by_test true e more rest = elim (cases_eq from n) [
-    | inl same ↦ (0, omega (arith, same), omega arith, eqb-true owner i e)
-    | inr other ↦ later (rest (let z = ne-eqb-none from n other in omega arith))
-  ]
-  by_test false e more rest = later (rest more)
-
-root_picked : (i from count : ℕ) (os : List ℕ) (at : ℕ) → at < count → get_or os at (i + 1) ≡ i → 0 < times (from + at) (picked i (steps from 1 count) os)
-root_picked i from zero os at less owner = absurd (omega arith)
-root_picked i from (suc count) [] at less owner = absurd (omega (arith, owner))
-root_picked i from (suc count) (o ∷ os) zero less owner =
-    subst (λ t. 0 < times (from + 0) (cond t (from ∷ picked i (steps (from + 1) 1 count) os) (picked i (steps (from + 1) 1 count) os))) (sym (eq-eqb o i owner)) (let one = eq-eqb-one from (from + 0) (omega arith) in omega arith)
-root_picked i from (suc count) (o ∷ os) (suc at) less owner = by_test (nat_eq o i) (root_picked i (from + 1) count os at (omega arith) owner) where
-  same : from + 1 + at ≡ from + suc at
-  same = omega arith
-
-  by_test : (t : Bool) → 0 < times (from + 1 + at) (picked i (steps (from + 1) 1 count) os) → 0 < times (from + suc at) (cond t (from ∷ picked i (steps (from + 1) 1 count) os) (picked i (steps (from + 1) 1 count) os))
-  by_test true rest = let r = subst (λ x. 0 < times x (picked i (steps (from + 1) 1 count) os)) same rest in omega arith
-  by_test false rest = subst (λ x. 0 < times x (picked i (steps (from + 1) 1 count) os)) same rest
-
-pub owns_root : (i count : ℕ) (os : List ℕ) (n : ℕ) → (0 < times n (picked i (steps 0 1 count) os)) ↔ ((n < count) × (get_or os n (i + 1) ≡ i))
-owns_root i count os n = (
-  λ some. let r = root_owner i n 0 count os some in let same : r.0 ≡ n = omega (arith, r.1) in (omega (arith, r.2, same), subst (λ x. get_or os x (i + 1) ≡ i) same r.3),
-  λ owns. subst (λ x. 0 < times x (picked i (steps 0 1 count) os)) (let e : 0 + n ≡ n = omega arith in e) (root_picked i 0 count os n owns.0 owns.1),
-)
 
 -- a small block is in the list of its class
 small_there : (capacity : ℕ) (infos : ℕ → ℕ) (class : ℕ) (ps : List Block) (p : Block) → Contains ps p → is_small p ≡ true → infos (superblock_at capacity p.first_word) ≡ class → 0 < times p.first_word (small_blocks capacity infos class ps)

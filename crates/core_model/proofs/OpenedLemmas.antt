@@ -19,6 +19,7 @@ use Rattle.core_model.specs.View.{Setup, View, LastLook, one_if_some, times_raw,
 use Rattle.core_model.specs.Effects.{seen, steps, span_count}
 use Rattle.core_model.specs.Sound.{CoreShape, Tally, tally_of, IsInShape, IsCutBlock, IsAnchoredBy, AreChained, class_numbers, times_in_lists, times_cut, times_parked, IsSetUp, ClaimsOf, BlocksOf, Knows, KnowsWords, IsTicketDrawn, HasTickets, HasTotals, HasLost, Good, Sound}
 use Rattle.core_model.specs.Opening.{picked, tabulate, is_small, small_blocks, large_blocks, AreOwners, setup_of, unlooked, plain_view, opened_view}
+use Rattle.core_model.proofs.RootLemmas.{owns_root}
 use Rattle.core_model.proofs.TotalLemmas.{total_where, ne-eqb-none}
 use Rattle.core_model.proofs.FrameLemmas.{below_is, below_not}
 use Rattle.core_model.proofs.PlaceLemmas.{pick, index_within, and_both, and_is, not-lt}
@@ -419,6 +420,7 @@ module _ (words : List ℕ) (held : List Block) (budget seats : ℕ) (block_owne
   set_up : (j : ℕ) → IsSetUp k (V j)
   set_up j = record {
     setup = refl;
+    roots = λ i own. ((owns_root j roots root_owners i).0 own).0;
     small = length_tabulate (λ n. small_blocks c (λ d. image (info_word d)) n (picked j held block_owners)) 0 lists;
     caches = refl;
     looks = length_tabulate (λ list. unlooked (image (head_word list))) 0 lists;

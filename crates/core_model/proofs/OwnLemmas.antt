@@ -41,7 +41,7 @@ own_grows v w same raw claimed large (data_cell word) =
 own_grows v w same raw claimed large no_cell = omega arith
 
 -- the values of own words alone
-only_at : (v : View) (index n : ℕ) (values : List (Option ℕ)) → get_or (only_own v index values) n None ≡ cond (nat_lt 0 (times_own v (cell_at v.setup.capacity (index + n)))) (get_or values n None) None
+pub only_at : (v : View) (index n : ℕ) (values : List (Option ℕ)) → get_or (only_own v index values) n None ≡ cond (nat_lt 0 (times_own v (cell_at v.setup.capacity (index + n)))) (get_or values n None) None
 only_at v index n [] = none (nat_lt 0 (times_own v (cell_at v.setup.capacity (index + n)))) None where
   none : (test : Bool) (x : Option ℕ) → x ≡ cond test x x
   none true x = refl

@@ -49,7 +49,7 @@ module _ (k : Setup) (m : Memory) (views : List View) (i : ℕ) (v : View) (belo
   -- a load
   pub load : IsThere v.ticket → Good k m (set views i (record (used_up v) { volatile = learn v.volatile word (m.volatile cell) }))
   load ticket = quiet k m views i v w below_i at good refl refl
-      (let s = seat.set_up in record { setup = s.setup; small = s.small; caches = s.caches; looks = s.looks; volatile = length-set v.volatile word (Some (m.volatile cell)) ∙ s.volatile; durable = s.durable })
+      (let s = seat.set_up in record { setup = s.setup; roots = s.roots; small = s.small; caches = s.caches; looks = s.looks; volatile = length-set v.volatile word (Some (m.volatile cell)) ∙ s.volatile; durable = s.durable })
       (let s = seat.knows in record { seen_head = s.seen_head; seen_used = s.seen_used; looked = s.looked; seen_anchor = s.seen_anchor; seen_empty = s.seen_empty; floor = s.floor })
       (record {
         volatile = λ x value is knows. let r = learned k.capacity word (m.volatile cell) v.volatile m.volatile m.volatile v seat.set_up.volatile own_k (ap m.volatile same_cells) (λ _ _ _. refl) seat.words.volatile x value is knows in
@@ -64,7 +64,7 @@ module _ (k : Setup) (m : Memory) (views : List View) (i : ℕ) (v : View) (belo
   -- what a seat may record of an own word at any time
   pub learns : Good k m (set views i (record v { volatile = learn v.volatile word (m.volatile cell) }))
   learns = quiet k m views i v w below_i at good refl refl
-      (let s = seat.set_up in record { setup = s.setup; small = s.small; caches = s.caches; looks = s.looks; volatile = length-set v.volatile word (Some (m.volatile cell)) ∙ s.volatile; durable = s.durable })
+      (let s = seat.set_up in record { setup = s.setup; roots = s.roots; small = s.small; caches = s.caches; looks = s.looks; volatile = length-set v.volatile word (Some (m.volatile cell)) ∙ s.volatile; durable = s.durable })
       (let s = seat.knows in record { seen_head = s.seen_head; seen_used = s.seen_used; looked = s.looked; seen_anchor = s.seen_anchor; seen_empty = s.seen_empty; floor = s.floor })
       (record {
         volatile = λ x value is knows. let r = learned k.capacity word (m.volatile cell) v.volatile m.volatile m.volatile v seat.set_up.volatile own_k (ap m.volatile same_cells) (λ _ _ _. refl) seat.words.volatile x value is knows in
@@ -129,7 +129,7 @@ module _ (k : Setup) (m : Memory) (views : List View) (i : ℕ) (v : View) (belo
         });
       }))
       (let s = seat.set_up in record {
-        set_up = record { setup = s.setup; small = s.small; caches = s.caches; looks = s.looks; volatile = length-set v.volatile word (Some x) ∙ s.volatile; durable = length-set v.durable word (Some x) ∙ s.durable };
+        set_up = record { setup = s.setup; roots = s.roots; small = s.small; caches = s.caches; looks = s.looks; volatile = length-set v.volatile word (Some x) ∙ s.volatile; durable = length-set v.durable word (Some x) ∙ s.durable };
         claims = seat.claims;
         blocks = seat.blocks;
         knows = (let n = seat.knows in record { seen_head = n.seen_head; seen_used = n.seen_used; looked = n.looked; seen_anchor = n.seen_anchor; seen_empty = n.seen_empty; floor = (let f = n.floor in let mark = mark_same in omega arith) });

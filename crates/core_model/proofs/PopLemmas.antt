@@ -129,7 +129,7 @@ module _ (k : Setup) (m : Memory) (views : List View) (i : ℕ) (v : View) (belo
         });
       }))
       (let s = seat.set_up in record {
-        set_up = record { setup = s.setup; small = s.small; caches = s.caches; looks = s.looks; volatile = s.volatile; durable = s.durable };
+        set_up = record { setup = s.setup; roots = s.roots; small = s.small; caches = s.caches; looks = s.looks; volatile = s.volatile; durable = s.durable };
         claims = (let c = seat.claims in record {
           is_raw = λ e some. elim (cases_eq d e) as (λ _. anchor_state (anchor m e) ≡ empty_state) [
             | inl same ↦ subst (λ x. anchor_state (anchor m x) ≡ empty_state) same (good.shaped.listed.free d (let t = there in let z = ap (λ x. times d (good.shape.lists x)) is in omega arith))
@@ -197,7 +197,7 @@ module _ (k : Setup) (m : Memory) (views : List View) (i : ℕ) (v : View) (belo
         });
       }))
       (let s = seat.set_up in record {
-        set_up = record { setup = s.setup; small = s.small; caches = s.caches; looks = s.looks; volatile = s.volatile; durable = s.durable };
+        set_up = record { setup = s.setup; roots = s.roots; small = s.small; caches = s.caches; looks = s.looks; volatile = s.volatile; durable = s.durable };
         claims = (let x = seat.claims in record { is_raw = x.is_raw; is_split = x.is_split; is_cutting = x.is_cutting; is_classed = is_classed; is_large = x.is_large; is_part = x.is_part; some = x.some });
         blocks = seat.blocks;
         knows = knows_after w refl refl refl refl refl refl (λ e. omega arith) (λ e other. let n = ne-eqb-none d e other in omega arith) refl;

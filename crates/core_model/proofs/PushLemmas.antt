@@ -146,7 +146,7 @@ module _ (k : Setup) (m : Memory) (views : List View) (i : ℕ) (v : View) (belo
         });
       }))
       (record {
-        set_up = set_up_kept k v w seat.set_up refl refl refl refl (length_only base 0 v.volatile) (length_only base 0 v.durable);
+        set_up = set_up_kept k v w seat.set_up refl refl refl refl refl (length_only base 0 v.volatile) (length_only base 0 v.durable);
         claims = (let c = seat.claims in record {
           is_raw = λ e here. c.is_raw e (let z = without_less e d v.raw in omega arith);
           is_split = λ e here. c.is_split e (let z = without_less e d v.split in omega arith);
@@ -235,7 +235,7 @@ module _ (k : Setup) (m : Memory) (views : List View) (i : ℕ) (v : View) (belo
 
     mine : IsSeat k m' g' w
     mine = record {
-      set_up = set_up_kept k v w seat.set_up refl refl refl refl (length_only base 0 v.volatile) (length_only base 0 v.durable);
+      set_up = set_up_kept k v w seat.set_up refl refl refl refl refl (length_only base 0 v.volatile) (length_only base 0 v.durable);
       claims = claims_without (info m) (anchor m) v.raw v.split v.cutting v.classed v.large d once seat.claims;
       blocks = seat.blocks;
       knows = knows_after w refl refl refl refl refl refl (λ e other. let z = times_without_claim e d v.classed claimed in let n = ne-eqb-none d e other in omega arith) (λ e other. let z = times_without_claim e d v.classed claimed in let n = ne-eqb-none d e other in omega arith) refl;

@@ -129,7 +129,7 @@ module _ (k : Setup) (m : Memory) (views : List View) (i : ℕ) (v : View) (belo
 
   pub look_used : Good k m (set views i (record (used_up v) { seen_used = Some (used m); used_look = look v (used m) }))
   look_used = quiet k m views i v (record (used_up v) { seen_used = Some (used m); used_look = look v (used m) }) below at good refl refl
-      (let s = seat.set_up in record { setup = s.setup; small = s.small; caches = s.caches; looks = s.looks; volatile = s.volatile; durable = s.durable })
+      (let s = seat.set_up in record { setup = s.setup; roots = s.roots; small = s.small; caches = s.caches; looks = s.looks; volatile = s.volatile; durable = s.durable })
       (let s = seat.knows in record { seen_head = s.seen_head; seen_used = λ _. omega arith; looked = omega arith; seen_anchor = s.seen_anchor; seen_empty = s.seen_empty; floor = s.floor })
       (words_same k.capacity m v (record (used_up v) { seen_used = Some (used m); used_look = look v (used m) }) refl refl refl seat.words)
       (let s = seat.tickets in record { state = given_up k.budget v.ticket v.last_ticket v.stopped s.state; looked_then = (omega arith, omega arith); ticket = none_drawn m.drawn; last = s.last; used_look = s.ticket; head_looks = λ list is. looks list is; counts = let c = s.counts in omega arith; gives = s.gives; cuts = s.cuts })
@@ -157,7 +157,7 @@ module _ (k : Setup) (m : Memory) (views : List View) (i : ℕ) (v : View) (belo
       → Good k m (set views i (record (used_up v) { seen_head = Some (record { of = list; word = head m list }); seen_link = None; head_looks = set v.head_looks list (look v (head m list)) }))
   look_head list is = quiet k m views i v (record (used_up v) { seen_head = Some (record { of = list; word = head m list }); seen_link = None; head_looks = set v.head_looks list (look v (head m list)) })
       below at good refl refl
-      (let s = seat.set_up in record { setup = s.setup; small = s.small; caches = s.caches; looks = length-set v.head_looks list (look v (head m list)) ∙ s.looks; volatile = s.volatile; durable = s.durable })
+      (let s = seat.set_up in record { setup = s.setup; roots = s.roots; small = s.small; caches = s.caches; looks = length-set v.head_looks list (look v (head m list)) ∙ s.looks; volatile = s.volatile; durable = s.durable })
       (let s = seat.knows in record {
         seen_head = λ _. record {
           is_list = is;
@@ -184,7 +184,7 @@ module _ (k : Setup) (m : Memory) (views : List View) (i : ℕ) (v : View) (belo
 
   pub look_link : MayLink v → Good k m (set views i (record (used_up v) { seen_link = Some (link m (before (head_first (seen_word v.seen_head)))) }))
   look_link may = quiet k m views i v (record (used_up v) { seen_link = Some (link m (before (head_first (seen_word v.seen_head)))) }) below at good refl refl
-      (let s = seat.set_up in record { setup = s.setup; small = s.small; caches = s.caches; looks = s.looks; volatile = s.volatile; durable = s.durable })
+      (let s = seat.set_up in record { setup = s.setup; roots = s.roots; small = s.small; caches = s.caches; looks = s.looks; volatile = s.volatile; durable = s.durable })
       (let s = seat.knows in record {
         seen_head = λ there. let h = s.seen_head there in record { is_list = h.is_list; small = h.small; pops = h.pops; listed = h.listed; linked = λ _. (may.some, λ _. refl) };
         seen_used = s.seen_used;
@@ -199,7 +199,7 @@ module _ (k : Setup) (m : Memory) (views : List View) (i : ℕ) (v : View) (belo
 
   pub look_anchor : (d : ℕ) → MayLookAt v d → Good k m (set views i (record (used_up v) { seen_anchor = Some (record { of = d; word = anchor m d }) }))
   look_anchor d may = quiet k m views i v (record (used_up v) { seen_anchor = Some (record { of = d; word = anchor m d }) }) below at good refl refl
-      (let s = seat.set_up in record { setup = s.setup; small = s.small; caches = s.caches; looks = s.looks; volatile = s.volatile; durable = s.durable })
+      (let s = seat.set_up in record { setup = s.setup; roots = s.roots; small = s.small; caches = s.caches; looks = s.looks; volatile = s.volatile; durable = s.durable })
       (let s = seat.knows in record {
         seen_head = s.seen_head;
         seen_used = s.seen_used;
@@ -218,7 +218,7 @@ module _ (k : Setup) (m : Memory) (views : List View) (i : ℕ) (v : View) (belo
 
   pub lost_used : (found : ℕ) → IsThere v.seen_used → used m ≢ seen v.seen_used → Good k m (set views i (record (lost v found) { seen_used = None }))
   lost_used found there other = quiet k m views i v (record (lost v found) { seen_used = None }) below at good refl refl
-      (let s = seat.set_up in record { setup = s.setup; small = s.small; caches = s.caches; looks = s.looks; volatile = s.volatile; durable = s.durable })
+      (let s = seat.set_up in record { setup = s.setup; roots = s.roots; small = s.small; caches = s.caches; looks = s.looks; volatile = s.volatile; durable = s.durable })
       (let s = seat.knows in record { seen_head = s.seen_head; seen_used = λ e. absurd (not_there e); looked = s.looked; seen_anchor = s.seen_anchor; seen_empty = s.seen_empty; floor = s.floor })
       (words_same k.capacity m v (record (lost v found) { seen_used = None }) refl refl refl seat.words)
       (done_tickets (record (lost v found) { seen_used = None }) refl refl refl refl refl refl (omega arith))
@@ -230,7 +230,7 @@ module _ (k : Setup) (m : Memory) (views : List View) (i : ℕ) (v : View) (belo
 
   pub lost_head : (found : ℕ) → IsThere v.seen_head → head m (seen_of v.seen_head) ≢ seen_word v.seen_head → Good k m (set views i (record (lost v found) { seen_head = None }))
   lost_head found there other = quiet k m views i v (record (lost v found) { seen_head = None }) below at good refl refl
-      (let s = seat.set_up in record { setup = s.setup; small = s.small; caches = s.caches; looks = s.looks; volatile = s.volatile; durable = s.durable })
+      (let s = seat.set_up in record { setup = s.setup; roots = s.roots; small = s.small; caches = s.caches; looks = s.looks; volatile = s.volatile; durable = s.durable })
       (let s = seat.knows in record { seen_head = λ e. absurd (not_there e); seen_used = s.seen_used; looked = s.looked; seen_anchor = s.seen_anchor; seen_empty = s.seen_empty; floor = s.floor })
       (words_same k.capacity m v (record (lost v found) { seen_head = None }) refl refl refl seat.words)
       (done_tickets (record (lost v found) { seen_head = None }) refl refl refl refl refl refl (omega arith))
@@ -242,7 +242,7 @@ module _ (k : Setup) (m : Memory) (views : List View) (i : ℕ) (v : View) (belo
 
   pub lost_anchor : (found : ℕ) → IsThere v.seen_anchor → times_raw (seen_of v.seen_anchor) v ≡ 0 → anchor m (seen_of v.seen_anchor) ≢ seen_word v.seen_anchor → Good k m (set views i (record (lost v found) { seen_anchor = None }))
   lost_anchor found there not_raw other = quiet k m views i v (record (lost v found) { seen_anchor = None }) below at good refl refl
-      (let s = seat.set_up in record { setup = s.setup; small = s.small; caches = s.caches; looks = s.looks; volatile = s.volatile; durable = s.durable })
+      (let s = seat.set_up in record { setup = s.setup; roots = s.roots; small = s.small; caches = s.caches; looks = s.looks; volatile = s.volatile; durable = s.durable })
       (let s = seat.knows in record { seen_head = s.seen_head; seen_used = s.seen_used; looked = s.looked; seen_anchor = λ e. absurd (not_there e); seen_empty = λ e. absurd (not_there e); floor = s.floor })
       (words_same k.capacity m v (record (lost v found) { seen_anchor = None }) refl refl refl seat.words)
       (done_tickets (record (lost v found) { seen_anchor = None }) refl refl refl refl refl refl (omega arith))

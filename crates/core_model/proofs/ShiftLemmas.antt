@@ -109,7 +109,7 @@ module _ (k : Setup) (m : Memory) (views : List View) (i : ℕ) (v : View) (belo
   pub alloc : (class : ℕ) → MayAlloc v class → Good k m (set views i (after_alloc v class))
   alloc class may = shift_step w good.shape refl (subst (IsInShape k.capacity m good.shape) (sym tally) good.shaped)
       (let s = seat.set_up in record {
-        set_up = record { setup = s.setup; small = length-set v.small class (b ∷ of_class v.small class) ∙ s.small; caches = length-set v.caches class (rest_of cs) ∙ s.caches; looks = s.looks; volatile = s.volatile; durable = s.durable };
+        set_up = record { setup = s.setup; roots = s.roots; small = length-set v.small class (b ∷ of_class v.small class) ∙ s.small; caches = length-set v.caches class (rest_of cs) ∙ s.caches; looks = s.looks; volatile = s.volatile; durable = s.durable };
         claims = seat.claims;
         blocks = blocks_now;
         knows = (let n = seat.knows in record { seen_head = n.seen_head; seen_used = n.seen_used; looked = n.looked; seen_anchor = n.seen_anchor; seen_empty = n.seen_empty; floor = n.floor });
@@ -170,7 +170,7 @@ module _ (k : Setup) (m : Memory) (views : List View) (i : ℕ) (v : View) (belo
   pub free : (block : ℕ) → MayFree m v block → Good k m (set views i (after_free v (info m (superblock_at v.setup.capacity block)) block))
   free block may = shift_step w good.shape refl (subst (IsInShape k.capacity m good.shape) (sym tally) good.shaped)
       (let s = seat.set_up in record {
-        set_up = record { setup = s.setup; small = length-set v.small class (without block (of_class v.small class)) ∙ s.small; caches = length-set v.caches class (block ∷ cs) ∙ s.caches; looks = s.looks; volatile = s.volatile; durable = s.durable };
+        set_up = record { setup = s.setup; roots = s.roots; small = length-set v.small class (without block (of_class v.small class)) ∙ s.small; caches = length-set v.caches class (block ∷ cs) ∙ s.caches; looks = s.looks; volatile = s.volatile; durable = s.durable };
         claims = seat.claims;
         blocks = blocks_now;
         knows = (let n = seat.knows in record { seen_head = n.seen_head; seen_used = n.seen_used; looked = n.looked; seen_anchor = n.seen_anchor; seen_empty = n.seen_empty; floor = n.floor });
@@ -231,7 +231,7 @@ module _ (k : Setup) (m : Memory) (views : List View) (i : ℕ) (v : View) (belo
   pub lift : (class : ℕ) → MayLift m v class → Good k m (set views i (after_lift v class))
   lift class may = shift_step w good.shape refl (subst (IsInShape k.capacity m good.shape) (sym tally) good.shaped)
       (let s = seat.set_up in record {
-        set_up = record { setup = s.setup; small = s.small; caches = length-set v.caches class (rest_of cs) ∙ s.caches; looks = s.looks; volatile = s.volatile; durable = s.durable };
+        set_up = record { setup = s.setup; roots = s.roots; small = s.small; caches = length-set v.caches class (rest_of cs) ∙ s.caches; looks = s.looks; volatile = s.volatile; durable = s.durable };
         claims = seat.claims;
         blocks = blocks_now;
         knows = (let n = seat.knows in record {

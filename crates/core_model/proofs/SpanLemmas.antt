@@ -156,7 +156,7 @@ module _ (k : Setup) (m : Memory) (views : List View) (i : ℕ) (v : View) (belo
         });
       }))
       (let s = seat.set_up in record {
-        set_up = record { setup = s.setup; small = s.small; caches = s.caches; looks = s.looks; volatile = length_only base 0 v.volatile ∙ s.volatile; durable = length_only base 0 v.durable ∙ s.durable };
+        set_up = record { setup = s.setup; roots = s.roots; small = s.small; caches = s.caches; looks = s.looks; volatile = length_only base 0 v.volatile ∙ s.volatile; durable = length_only base 0 v.durable ∙ s.durable };
         claims = (let c = seat.claims in record {
           is_raw = λ e some. c.is_raw e (let l = less e v.raw in omega arith);
           is_split = λ e some. c.is_split e (let l = less e v.split in omega arith);
@@ -233,7 +233,7 @@ module _ (k : Setup) (m : Memory) (views : List View) (i : ℕ) (v : View) (belo
         });
       }))
       (let s = seat.set_up in record {
-        set_up = record { setup = s.setup; small = s.small; caches = s.caches; looks = s.looks; volatile = s.volatile; durable = s.durable };
+        set_up = record { setup = s.setup; roots = s.roots; small = s.small; caches = s.caches; looks = s.looks; volatile = s.volatile; durable = s.durable };
         claims = (let c = seat.claims in record {
           is_raw = c.is_raw;
           is_split = λ e some. elim (cases_lt 0 (times e v.split)) as (λ _. anchor_state (anchor m e) ≢ partial_state) [

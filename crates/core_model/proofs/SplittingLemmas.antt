@@ -173,6 +173,7 @@ module _ (k : Setup) (m : Memory) (views : List View) (i : ℕ) (v : View) (belo
   set_up_rest : IsSetUp k a
   set_up_rest = let s = seat.set_up in record {
     setup = s.setup;
+    roots = λ n own. s.roots n (let both = chosen_both c.roots n v.roots in omega arith);
     small = length_lists (others c).blocks v.small ∙ s.small;
     caches = s.caches;
     looks = s.looks;
@@ -183,6 +184,7 @@ module _ (k : Setup) (m : Memory) (views : List View) (i : ℕ) (v : View) (belo
   set_up_new : IsSetUp k b
   set_up_new = let s = seat.set_up in record {
     setup = s.setup;
+    roots = λ n own. s.roots n (let both = chosen_both c.roots n v.roots in omega arith);
     small = length_lists c.blocks v.small ∙ s.small;
     caches = refl;
     looks = s.looks;

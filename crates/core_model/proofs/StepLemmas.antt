@@ -1,10 +1,11 @@
 -- What a step of one seat owes, and that memory and seats then fit together again.
-use Rattle.std.proofs.Common.{◌≡◌, ◌≢◌, ℕ, ◌+◌, ◌<◌, ◌≤◌, List, get_or, set, length, ap, ◌∙◌, arith}
+use Rattle.std.proofs.Common.{◌≡◌, ◌≢◌, ℕ, ◌+◌, ◌<◌, ◌≤◌, List, get_or, set, length, ap, subst, ◌∙◌, arith}
 use Rattle.heap_model.specs.Counting.{times, total}
 use Rattle.heap_model.specs.Rest.{list_numbers}
 use Rattle.heap_model.specs.Words.{head_pops}
 use Rattle.core_model.specs.Memory.{Memory, used, head, anchor}
-use Rattle.core_model.specs.View.{Setup, View, Batch, Span, Claim, one_if_some, times_raw, times_classed, times_large, times_block}
+pub use Rattle.core_model.specs.View.{Parts, parts}
+use Rattle.core_model.specs.View.{Setup, View, one_if_some, times_raw, times_classed, times_large, times_block}
 use Rattle.core_model.specs.Sound.{CoreShape, tally_of, IsInShape, IsSetUp, ClaimsOf, BlocksOf, Knows, KnowsWords, HasTickets, HasTotals, HasLost, stale, times_parked, empties, Good}
 use Rattle.core_model.proofs.TotalLemmas.{total_set, total_same, each_set}
 
@@ -28,10 +29,11 @@ seat_at k m views good i v below at = record {
 }
 
 -- a seat is set up the same where its lists are as long
-pub set_up_kept : (k : Setup) (v w : View) → IsSetUp k v → w.setup ≡ v.setup → w.small ≡ v.small → w.caches ≡ v.caches → w.head_looks ≡ v.head_looks
+pub set_up_kept : (k : Setup) (v w : View) → IsSetUp k v → w.setup ≡ v.setup → w.roots ≡ v.roots → w.small ≡ v.small → w.caches ≡ v.caches → w.head_looks ≡ v.head_looks
     → length w.volatile ≡ length v.volatile → length w.durable ≡ length v.durable → IsSetUp k w
-set_up_kept k v w s setup small caches looks volatile durable = record {
+set_up_kept k v w s setup roots_same small caches looks volatile durable = record {
   setup = setup ∙ s.setup;
+  roots = λ i own. s.roots i (subst (λ rs. 0 < times i rs) roots_same own);
   small = ap length small ∙ s.small;
   caches = ap length caches ∙ s.caches;
   looks = ap length looks ∙ s.looks;
@@ -72,22 +74,6 @@ good_step k m m' views i v w good g below at shaped mine others adds loses their
 } where
   seat : (j : ℕ) (u : View) → j ≢ i → j < length views → get_or views j u ≡ u → IsSeat k m' g u
   seat j u other b a = others j u other b a (seat_at k m views good j u b a)
-
--- the parts of a view that say what is its own
-pub record Parts : Type 0 where
-  pub setup : Setup
-  pub small : List (List ℕ)
-  pub large : List Span
-  pub roots : List ℕ
-  pub caches : List (List ℕ)
-  pub batch : Batch
-  pub raw : List ℕ
-  pub split : List ℕ
-  pub cutting : List ℕ
-  pub classed : List Claim
-
-abbrev pub parts : View → Parts
-parts v = record { setup = v.setup; small = v.small; large = v.large; roots = v.roots; caches = v.caches; batch = v.batch; raw = v.raw; split = v.split; cutting = v.cutting; classed = v.classed }
 
 -- where a seat's parts stay, so do the sums of all
 pub tally_same : (views : List View) (i : ℕ) (v w : View) → i < length views → get_or views i v ≡ v → parts w ≡ parts v → tally_of (set views i w) ≡ tally_of views

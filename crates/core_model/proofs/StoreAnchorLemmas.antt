@@ -98,6 +98,7 @@ module _ (k : Setup) (m : Memory) (views : List View) (i : ℕ) (v : View) (belo
         (record {
           set_up = (let s = seat.set_up in record {
             setup = setup ∙ s.setup;
+            roots = λ n some. s.roots n (subst (λ (h : Holdings). 0 < times n h.roots) held some);
             small = ap length small ∙ s.small;
             caches = ap length caches ∙ s.caches;
             looks = ap length looks ∙ s.looks;

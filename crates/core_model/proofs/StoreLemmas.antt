@@ -45,7 +45,7 @@ module _ (k : Setup) (m : Memory) (views : List View) (i : ℕ) (v : View) (belo
   raw_alone d some = let raw = total_at (times_raw d) views i v below_i at in let p = good.shaped.placed.one_place d in let most = one_at_most (nat_lt d (used m)) in (omega arith, omega arith)
 
   pub set_up_now : IsSetUp k base
-  set_up_now = let s = seat.set_up in record { setup = s.setup; small = s.small; caches = s.caches; looks = s.looks; volatile = length-set v.volatile word (Some value) ∙ s.volatile; durable = s.durable }
+  set_up_now = let s = seat.set_up in record { setup = s.setup; roots = s.roots; small = s.small; caches = s.caches; looks = s.looks; volatile = length-set v.volatile word (Some value) ∙ s.volatile; durable = s.durable }
 
   module _ (cell : Cell) (is : cell_at v.setup.capacity word ≡ cell) (own : IsOwn v cell) where
     abbrev pub m' : Memory
@@ -274,7 +274,7 @@ module _ (k : Setup) (m : Memory) (views : List View) (i : ℕ) (v : View) (belo
         durable = s.durable;
       }))
       (record {
-        set_up = (let s = set_up_now in record { setup = s.setup; small = s.small; caches = s.caches; looks = s.looks; volatile = s.volatile; durable = s.durable });
+        set_up = (let s = set_up_now in record { setup = s.setup; roots = s.roots; small = s.small; caches = s.caches; looks = s.looks; volatile = s.volatile; durable = s.durable });
         claims = seat.claims;
         blocks = (let s = seat.blocks in record {
           held = s.held;

@@ -146,7 +146,7 @@ module _ (k : Setup) (m : Memory) (views : List View) (i : ℕ) (v : View) (belo
 
   mine : IsSeat k m' g' w
   mine = let s = seat.set_up in let none = on_anchor.not_here k m views i v below_i at good d full_anchor claim.2 i v below_i at in let zero_raw = none.0 in record {
-    set_up = record { setup = s.setup; small = s.small; caches = length-set v.caches class blocks ∙ s.caches; looks = s.looks; volatile = length_only base 0 v.volatile ∙ s.volatile; durable = length_only base 0 v.durable ∙ s.durable };
+    set_up = record { setup = s.setup; roots = s.roots; small = s.small; caches = length-set v.caches class blocks ∙ s.caches; looks = s.looks; volatile = length_only base 0 v.volatile ∙ s.volatile; durable = length_only base 0 v.durable ∙ s.durable };
     claims = on_anchor.claims_anchor (info m) (anchor m) d full_anchor v.raw v.split v.cutting (without_claim d v.classed) v.large (omega arith) (omega arith) (omega arith) none.1
         (λ some. absurd (let z = gone in omega arith))
         (claims_without (info m) (anchor m) v.raw v.split v.cutting v.classed v.large d once seat.claims);

@@ -93,9 +93,18 @@ draws = refl
 pub stops : (view_after memory idle (Tick None) 10).stopped ≡ Some 10
 stops = refl
 
--- looks
+pub counts_draw : (view_after memory idle (Tick None) 10).draws ≡ 5
+counts_draw = refl
+
+-- looks, which use up the ticket
 pub looks_at_used : (seat_after memory idle LookUsed).seen_used ≡ Some 1
 looks_at_used = refl
+
+pub used_up_at_used : (seat_after memory idle LookUsed).ticket ≡ None
+used_up_at_used = refl
+
+pub used_up_at_head : (seat_after memory idle (LookHead 0)).ticket ≡ None
+used_up_at_head = refl
 
 pub looks_at_head : (seat_after memory idle (LookHead 0)).seen_head ≡ Some (record { of = 0; word = 16777217 })
 looks_at_head = refl
@@ -147,6 +156,9 @@ keeps_no_less = refl
 pub keeps_more : left_there memory (saw_used 2) KeepUsed 1 ≡ 2
 keeps_more = refl
 
+pub used_up_at_keep : (seat_after memory (saw_used 2) KeepUsed).ticket ≡ None
+used_up_at_keep = refl
+
 -- info, anchor and link of each descriptor that was taken are known to be 0, and no other
 pub fresh_info : known (learn_fresh (replicate 1080 None) 1 1) (info_cell 1) ≡ Some 0
 fresh_info = refl
@@ -170,6 +182,18 @@ pops = refl
 pub has_popped : (seat_after memory (saw_head 16777217) Pop).raw ≡ 0 ∷ []
 has_popped = refl
 
+pub knows_popped : (seat_after memory (record (saw_head 16777217) { floor = 0 }) Pop).floor ≡ 1
+knows_popped = refl
+
+pub forgets_link : (seat_after memory (saw_head 16777217) Pop).seen_link ≡ None
+forgets_link = refl
+
+pub forgets_lost_head : (seat_after memory (saw_head 1) Pop).seen_head ≡ None
+forgets_lost_head = refl
+
+pub looks_at_new_head : (seat_after memory (saw_head 1) (LookHead 0)).seen_link ≡ None
+looks_at_new_head = refl
+
 pub loses_pop : (seat_after memory (saw_head 1) Pop).raw ≡ []
 loses_pop = refl
 
@@ -180,7 +204,7 @@ pub has_pushed : (view_after memory (record (saw_head 33554432) { raw = 0 ∷ []
 has_pushed = refl
 
 -- a descriptor of a class counts as moved where it goes to the list of the free ones; not in its class's list, nor one without a class
-abbrev claims_20 : ℕ → View
+abbrev pub claims_20 : ℕ → View
 claims_20 list = record idle {
   classed = record { descriptor = 0; class = 20 } ∷ [];
   seen_head = Some (record { of = list; word = 33554432 });
@@ -213,7 +237,7 @@ pub ends_cut : (view_after memory (record idle { cutting = 0 ∷ [] }) (Store 10
 ends_cut = refl
 
 -- the batch of two blocks of class 20 goes back to a full superblock, which is then claimed
-abbrev batched : View
+abbrev pub batched : View
 batched = record idle {
   batch = record { descriptor = 0; class = 20; blocks = 2872 ∷ 1080 ∷ []; linked = true };
   seen_anchor = Some (record { of = 0; word = 2 });
@@ -225,6 +249,12 @@ gives = refl
 
 pub has_given : (view_after memory batched (Give 0) 2).classed ≡ record { descriptor = 0; class = 20 } ∷ []
 has_given = refl
+
+pub counts_give : (view_after memory batched (Give 0) 2).gives ≡ 1
+counts_give = refl
+
+pub knows_given : (view_after memory (record batched { floor = 0 }) (Give 0) 2).floor ≡ 1
+knows_given = refl
 
 -- four words apart, and so many along the links
 pub three_steps : steps 8 4 3 ≡ 8 ∷ 12 ∷ 16 ∷ []
@@ -243,6 +273,9 @@ holds_large = refl
 pub splits : (view_after memory (record idle { large = record { first = 1; count = 1 } ∷ [] }) (Tick (Some (Split 9272))) 4).split ≡ 1 ∷ []
 splits = refl
 
+pub knows_split : (view_after memory (record idle { large = record { first = 1; count = 1 } ∷ [] }) (Tick (Some (Split 9272))) 4).floor ≡ 2
+knows_split = refl
+
 -- what a load, a store and a settling tell of a root
 abbrev with_root : View
 with_root = record idle { roots = 1 ∷ []; volatile = replicate 50 None; durable = replicate 50 None }
@@ -256,6 +289,15 @@ stores = refl
 pub settles : get_or (seat_after memory with_root (Settle 41)).durable 41 None ≡ Some 0
 settles = refl
 
+pub used_up_at_load : (seat_after memory with_root (Load 41)).ticket ≡ None
+used_up_at_load = refl
+
+pub used_up_at_store : (seat_after memory with_root (Store 41 7)).ticket ≡ None
+used_up_at_store = refl
+
+pub settles_without : (seat_after memory with_root (Settle 41)).ticket ≡ Some 3
+settles_without = refl
+
 pub owns_root : times_own with_root (cell_at 2 41) ≡ 1
 owns_root = refl
 
@@ -263,11 +305,17 @@ owns_root = refl
 pub looks_at_link : (seat_after memory (saw_head 16777217) LookLink).seen_link ≡ Some 0
 looks_at_link = refl
 
+pub used_up_at_link : (seat_after memory (saw_head 16777217) LookLink).ticket ≡ None
+used_up_at_link = refl
+
+pub used_up_at_anchor : (seat_after memory (record idle { raw = 0 ∷ [] }) (LookAnchor 0)).ticket ≡ None
+used_up_at_anchor = refl
+
 pub looks_at_anchor : (seat_after memory (record idle { raw = 0 ∷ [] }) (LookAnchor 0)).seen_anchor ≡ Some (record { of = 0; word = 0 })
 looks_at_anchor = refl
 
 -- two blocks of a partial superblock go to the cache of its class; the second one's link was never written
-abbrev partial : View
+abbrev pub partial : View
 partial = record idle { classed = record { descriptor = 0; class = 20 } ∷ []; seen_anchor = Some (record { of = 0; word = 17179869185 }) }
 
 pub takes_all : left_there memory partial (TakeAll 0) 17179869185 ≡ 2
@@ -284,7 +332,7 @@ pub loses_all : (view_after memory partial (TakeAll 0) 2).losses ≡ 1
 loses_all = refl
 
 -- a block is held, freed, and put behind the batch
-abbrev cached : View
+abbrev pub cached : View
 cached = record idle { caches = set (replicate 21 []) 20 (1080 ∷ 2872 ∷ []) }
 
 pub allocates : of_class (view_after memory cached (Tick (Some (Alloc 20))) 4).small 20 ≡ 1080 ∷ []
@@ -320,10 +368,10 @@ pub stores_before_last : (view_after memory (behind true) (Store 4664 7) 0).batc
 stores_before_last = refl
 
 -- superblock 1 is of class 20
-abbrev of_20 : Memory
+abbrev pub of_20 : Memory
 of_20 = write memory (volatile_at (info_cell 1)) 20
 
-abbrev holding : View
+abbrev pub holding : View
 holding = record idle { small = set (replicate 21 []) 20 (9272 ∷ []) }
 
 pub frees : of_class (view_after of_20 holding (Tick (Some (Free 9272))) 4).caches 20 ≡ 9272 ∷ []
@@ -333,3 +381,6 @@ pub cuts : of_class (view_after of_20 (record idle { cutting = 1 ∷ [] }) (Tick
     ≡ 9272 ∷ 11064 ∷ 12856 ∷ 14648 ∷ []
 unfolding words_of_class class_sizes blocks_of
 cuts = refl
+
+pub counts_cut : (view_after of_20 (record idle { cutting = 1 ∷ [] }) (Tick (Some (Cut 1))) 4).cuts ≡ 1
+counts_cut = refl

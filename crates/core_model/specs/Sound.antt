@@ -1,6 +1,6 @@
 -- What is so of memory and seats between any two steps, as records over no more than each reads. "In exactly one place" is a sum over lists, seats and the superblocks that are full in no list.
 use Rattle.std.specs.Prelude.{◌≡◌, ◌≢◌, ℕ, ◌+◌, ◌*◌, ◌<◌, ◌≤◌, ◌⊎◌, ◌↔◌, true, not, ◌&&◌, nat_eq, nat_lt, List, length, get_or, Contains, Option, None, Some, slice_index}
-use Rattle.heap_model.specs.Geometry.{lists, start_word, image_words, largest_capacity, capacity_word, used_word, IsFixed}
+use Rattle.heap_model.specs.Geometry.{lists, roots, start_word, image_words, largest_capacity, capacity_word, used_word, IsFixed}
 use Rattle.std.specs.List.{range_with_len}
 use Rattle.heap_model.specs.Sizes.{last_class, IsClass, words_of_class, blocks_of}
 use Rattle.heap_model.specs.Words.{head_first, head_pops, anchor_state, anchor_first, anchor_count, empty_state, partial_state, full_state, full_anchor, large_info}
@@ -119,10 +119,11 @@ pub record IsInShape (capacity : ℕ) (m : Memory) (g : CoreShape) (t : Tally) :
 abbrev pub Each : List View → (View → Type 0) → Type 0
 Each views P = (i : ℕ) (v : View) → i < length views → get_or views i v ≡ v → P v
 
--- the setup, and how long the lists of the view are
+-- the setup, how long the lists of the view are, and that owned roots are among those of the heap
 pub record IsSetUp (k : Setup) (v : View) : Type 0 where
   pub setup : v.setup ≡ k
   pub small : length v.small ≡ lists
+  pub roots : (i : ℕ) → 0 < times i v.roots → i < roots
   pub caches : length v.caches ≡ lists
   pub looks : length v.head_looks ≡ lists
   pub volatile : length v.volatile ≡ image_words k.capacity

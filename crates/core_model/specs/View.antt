@@ -83,6 +83,33 @@ pub record View : Type 0 where
   pub gives : ℕ
   pub moves : ℕ
 
+-- the parts of the heap that are the seat's
+pub record Parts : Type 0 where
+  pub setup : Setup
+  pub small : List (List ℕ)
+  pub large : List Span
+  pub roots : List ℕ
+  pub caches : List (List ℕ)
+  pub batch : Batch
+  pub raw : List ℕ
+  pub split : List ℕ
+  pub cutting : List ℕ
+  pub classed : List Claim
+
+abbrev pub parts : View → Parts
+parts v = record {
+  setup = v.setup;
+  small = v.small;
+  large = v.large;
+  roots = v.roots;
+  caches = v.caches;
+  batch = v.batch;
+  raw = v.raw;
+  split = v.split;
+  cutting = v.cutting;
+  classed = v.classed;
+}
+
 -- 1 where there is something
 abbrev pub one_if_some : {A : Type 0} → Option A → ℕ
 one_if_some None = 0
@@ -137,6 +164,21 @@ times_own v (data_cell word) = times_in_classes word 0 v.small + times_in_classe
     (words_of_class v.batch.class) word v.batch.blocks
     + times_large (superblock_at v.setup.capacity word) v.large + times_raw (superblock_at v.setup.capacity word) v
 times_own v no_cell = 0
+
+-- how often the word is one of a held block or an owned root
+abbrev pub times_held : View → Cell → ℕ
+times_held v used_cell = 0
+times_held v (head_cell list) = 0
+times_held v (info_cell d) = 0
+times_held v (anchor_cell d) = 0
+times_held v (link_cell d) = 0
+times_held v (root_cell i) = times i v.roots
+times_held v (data_cell word) = times_in_classes word 0 v.small + times_large (superblock_at v.setup.capacity word) v.large
+times_held v no_cell = 0
+
+-- how often the word is one of a cached block, or of one in the batch
+abbrev pub times_free : View → ℕ → ℕ
+times_free v word = times_in_classes word 0 v.caches + times_within (words_of_class v.batch.class) word v.batch.blocks
 
 -- what the seat knows of a word
 abbrev pub known : List (Option ℕ) → Cell → Option ℕ

@@ -1,18 +1,18 @@
 //! What follows from the definitions, as functions with nothing to run: a caller cites their
 //! clauses.
 
-ghost use Rattle.std.specs.Prelude.{◌≡◌, ◌≢◌, ◌<◌, ◌*◌, ◌++◌, ◌∷◌, [], ℕ, List, get_or, set, length, slice_index, ◌↔◌, ◌+◌, None};
+ghost use Rattle.std.specs.Prelude.{◌≡◌, ◌≢◌, ◌<◌, ◌≤◌, ◌*◌, ◌++◌, ◌∷◌, [], ℕ, List, get_or, set, length, slice_index, ◌↔◌, ◌+◌, None};
 ghost use Rattle.heap_model.specs.declared.block.Block.{Block};
 ghost use Rattle.heap_model.specs.Geometry.{capacity_word, image_words, roots};
 ghost use Rattle.heap_model.specs.Counting.{times};
 ghost use Rattle.heap_model.specs.Rest.{IsReady};
 ghost use Rattle.core_model.specs.declared.answer.StepAnswer.{StepAnswer};
 ghost use Rattle.core_model.specs.declared.event.Event.{Event};
-ghost use Rattle.core_model.specs.Cells.{Cell};
+ghost use Rattle.core_model.specs.Cells.{Cell, data_cell};
 ghost use Rattle.core_model.specs.Memory.{Memory, memory_of, table_index};
-ghost use Rattle.core_model.specs.View.{Setup, View, times_own};
+ghost use Rattle.core_model.specs.View.{Setup, View, times_free, times_held, times_own};
 ghost use Rattle.core_model.specs.Guards.{IsOwn, MayStep};
-ghost use Rattle.core_model.specs.Sound.{Good, Sound};
+ghost use Rattle.core_model.specs.Sound.{Each, Good, Sound};
 ghost use Rattle.core_model.specs.Steps.{Keeps, TableState, IsSoundState, Runs, words_after, seat_after};
 ghost use Rattle.core_model.specs.Splitting.{Choice, remaining, given_off};
 ghost use Rattle.core_model.specs.Opening.{AreOwners, HasDoneNothing, IsOwnerOf, setup_of, opened_view, opened_state};
@@ -176,4 +176,14 @@ pub fn a_word_is_own_to_at_most_one_seat()
     ensures { (k : Setup) (m : Memory) (views : List View) → Good k m views → (i j : ℕ) (v u : View)
         → j ≢ i → i < length views → get_or views i v ≡ v → j < length views → get_or views j u ≡ u
         → (cell : Cell) → IsOwn v cell → times_own u cell ≡ 0 }
+{}
+
+/// A seat has each word as its own at most once: so a word of a cached block, or of one in the
+/// batch, is no word of a held one.
+pub fn a_word_is_own_at_most_once()
+    ensures once { (k : Setup) (m : Memory) (views : List View) → Good k m views
+        → Each views (λ v. (cell : Cell) → times_own v cell ≤ 1) }
+    ensures not_held { (k : Setup) (m : Memory) (views : List View) → Good k m views
+        → Each views (λ v. (word : ℕ) → 0 < times_free v word
+        → times_held v (data_cell word) ≡ 0) }
 {}

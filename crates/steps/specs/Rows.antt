@@ -1,25 +1,10 @@
 -- What a row of steps leaves, whatever it answers, and what it costs.
-use Rattle.std.specs.Prelude.{◌≡◌, ◌<◌, ◌≤◌, ℕ, ◌+◌, ◌*◌, ◌⊎◌, get_or, List, Option, None, Some}
+use Rattle.std.specs.Prelude.{◌≡◌, ◌<◌, ◌≤◌, ℕ, ◌+◌, ◌*◌, ◌⊎◌, get_or, Option, None, Some}
 use Rattle.core_model.specs.Effects.{drew}
-use Rattle.core_model.specs.View.{Batch, Claim, LastLook, Setup, Span, View}
+use Rattle.core_model.specs.View.{LastLook, View}
+pub use Rattle.core_model.specs.View.{Parts, parts}
 use Rattle.heap_rule.specs.Fences.{Owns}
 use Rattle.steps.specs.Words.{KeepsWord, IsHeldWord}
-
--- the parts of the heap that are the seat's
-pub record Parts : Type 0 where
-  pub setup : Setup
-  pub small : List (List ℕ)
-  pub large : List Span
-  pub roots : List ℕ
-  pub caches : List (List ℕ)
-  pub batch : Batch
-  pub raw : List ℕ
-  pub split : List ℕ
-  pub cutting : List ℕ
-  pub classed : List Claim
-
-abbrev pub parts : View → Parts
-parts v = record { setup = v.setup; small = v.small; large = v.large; roots = v.roots; caches = v.caches; batch = v.batch; raw = v.raw; split = v.split; cutting = v.cutting; classed = v.classed }
 
 -- the least ticket that the seat may still draw
 abbrev pub after_ticket : Option ℕ → ℕ

@@ -1,8 +1,8 @@
 -- What is recorded of words, and what steps leave of it.
-use Rattle.std.specs.Prelude.{◌≡◌, ◌<◌, ◌⊎◌, ⊤, ℕ, ◌+◌, get_or, Option, None, Some}
-use Rattle.heap_model.specs.Counting.{times}
-use Rattle.core_model.specs.Cells.{Cell, used_cell, head_cell, info_cell, anchor_cell, link_cell, root_cell, data_cell, no_cell, cell_at, superblock_at}
-use Rattle.core_model.specs.View.{View, times_in_classes, times_large}
+use Rattle.std.specs.Prelude.{◌≡◌, ◌<◌, ◌⊎◌, ⊤, ℕ, get_or, Option, None, Some}
+use Rattle.core_model.specs.Cells.{cell_at}
+use Rattle.core_model.specs.View.{View}
+pub use Rattle.core_model.specs.View.{times_held}
 
 -- the value may be this one: it is, or it is not known
 abbrev pub MayBe : Option ℕ → ℕ → Type 0
@@ -21,16 +21,6 @@ pub record KeepsWord (v w : View) (word : ℕ) : Type 0 where
   pub volatile : (value : ℕ) → seen_at v word ≡ Some value → seen_at w word ≡ Some value
   pub durable : (value : ℕ) → MayBe (left_at w word) value → MayBe (seen_at v word) value ⊎ MayBe (left_at v word) value
 
--- how often the word is one of a held block or an owned root
-abbrev pub times_held : View → Cell → ℕ
-times_held v used_cell = 0
-times_held v (head_cell list) = 0
-times_held v (info_cell d) = 0
-times_held v (anchor_cell d) = 0
-times_held v (link_cell d) = 0
-times_held v (root_cell i) = times i v.roots
-times_held v (data_cell word) = times_in_classes word 0 v.small + times_large (superblock_at v.setup.capacity word) v.large
-times_held v no_cell = 0
-
+-- the word is one of a held block or an owned root
 abbrev pub IsHeldWord : View → ℕ → Type 0
 IsHeldWord v word = 0 < times_held v (cell_at v.setup.capacity word)
