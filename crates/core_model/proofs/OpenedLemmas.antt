@@ -35,7 +35,7 @@ use Rattle.core_model.proofs.OpenCountLemmas.{beyond, empty_at, member_at, follo
 
 module _ (words : List ℕ) (held : List Block) (budget seats : ℕ) (block_owners root_owners : List ℕ) (ready : IsReady words held) (owners : AreOwners held seats block_owners root_owners) where
   abbrev pub k : Setup
-  k = setup_of words budget
+  k = setup_of words budget seats
 
   abbrev pub c : ℕ
   c = slice_index words 2

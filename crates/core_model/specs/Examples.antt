@@ -32,7 +32,7 @@ pub at_block : cell_at 2 1080 ≡ data_cell 1080
 at_block = refl
 
 abbrev setup : Setup
-setup = record { capacity = 2; budget = 10; used = 1; opened = [] }
+setup = record { capacity = 2; budget = 10; seats = 2; used = 1; opened = [] }
 
 abbrev unread : LastLook
 unread = record { word = 1; ticket = None; wins = 0; taken = 0 }

@@ -41,10 +41,11 @@ pub record AreOwners (held : List Block) (seats : ℕ) (block_owners root_owners
   pub block_seats : (owner : ℕ) → Contains block_owners owner → owner < seats
   pub root_seats : (owner : ℕ) → Contains root_owners owner → owner < seats
 
-abbrev pub setup_of : List ℕ → ℕ → Setup
-setup_of words budget = record {
+abbrev pub setup_of : List ℕ → ℕ → ℕ → Setup
+setup_of words budget seats = record {
   capacity = slice_index words capacity_word;
   budget = budget;
+  seats = seats;
   used = slice_index words used_word;
   opened = words;
 }

@@ -4,10 +4,11 @@ use Rattle.heap_model.specs.Sizes.{words_of_class}
 use Rattle.heap_model.specs.Counting.{times, total, one_if}
 use Rattle.core_model.specs.Cells.{Cell, used_cell, head_cell, info_cell, anchor_cell, link_cell, root_cell, data_cell, no_cell, superblock_at, index_of}
 
--- what stays the same from the opening on: capacity and budget, and the words of the opened image
+-- what stays the same from the opening on: capacity and budget, for how many seats it was opened, and the words of the opened image
 pub record Setup : Type 0 where
   pub capacity : ℕ
   pub budget : ℕ
+  pub seats : ℕ
   pub used : ℕ
   pub opened : List ℕ
 

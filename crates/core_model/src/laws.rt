@@ -62,35 +62,35 @@ pub fn an_opened_heap_is_sound()
     ensures opened { (words : List ℕ) (held : List Block) (budget seats : ℕ)
         (block_owners root_owners : List ℕ) → IsReady words held
         → AreOwners held seats block_owners root_owners
-        → IsSoundState (setup_of words budget)
-        (opened_state (setup_of words budget) held block_owners root_owners seats) }
+        → IsSoundState (setup_of words budget seats)
+        (opened_state (setup_of words budget seats) held block_owners root_owners seats) }
     ensures held { (words : List ℕ) (held : List Block) (budget seats : ℕ)
         (block_owners root_owners : List ℕ) → IsReady words held
         → AreOwners held seats block_owners root_owners → (i : ℕ) (b : Block)
-        → IsHeld (opened_view (setup_of words budget) held block_owners root_owners i) b
+        → IsHeld (opened_view (setup_of words budget seats) held block_owners root_owners i) b
         ↔ IsOwnerOf held block_owners i b }
     ensures owned { (words : List ℕ) (held : List Block) (budget seats : ℕ)
         (block_owners root_owners : List ℕ) → AreOwners held seats block_owners root_owners
         → (i n : ℕ) → (0 < times n
-        (opened_view (setup_of words budget) held block_owners root_owners i).roots)
+        (opened_view (setup_of words budget seats) held block_owners root_owners i).roots)
         ↔ ((n < roots) × (get_or root_owners n (i + 1) ≡ i)) }
-    ensures nothing_yet { (words : List ℕ) (held : List Block) (budget : ℕ)
-        (block_owners root_owners : List ℕ) (i : ℕ) → HasDoneNothing (setup_of words budget)
-        (opened_view (setup_of words budget) held block_owners root_owners i) }
+    ensures nothing_yet { (words : List ℕ) (held : List Block) (budget seats : ℕ)
+        (block_owners root_owners : List ℕ) (i : ℕ) → HasDoneNothing (setup_of words budget seats)
+        (opened_view (setup_of words budget seats) held block_owners root_owners i) }
     ensures running { (words : List ℕ) (held : List Block) (budget seats : ℕ)
         (block_owners root_owners : List ℕ) → IsReady words held
         → AreOwners held seats block_owners root_owners
         → (events : List (ℕ × Event)) (answers : List StepAnswer) (s : TableState)
-        → Runs (setup_of words budget)
-        (opened_state (setup_of words budget) held block_owners root_owners seats) events
+        → Runs (setup_of words budget seats)
+        (opened_state (setup_of words budget seats) held block_owners root_owners seats) events
         answers s
-        → IsSoundState (setup_of words budget) s }
+        → IsSoundState (setup_of words budget seats) s }
     ensures firm { (words : List ℕ) (held : List Block) (budget seats : ℕ)
         (block_owners root_owners : List ℕ) → IsReady words held
         → AreOwners held seats block_owners root_owners
         → (events : List (ℕ × Event)) (answers : List StepAnswer) (s : TableState)
-        → Runs (setup_of words budget)
-        (opened_state (setup_of words budget) held block_owners root_owners seats) events
+        → Runs (setup_of words budget seats)
+        (opened_state (setup_of words budget seats) held block_owners root_owners seats) events
         answers s
         → IsFirm (slice_index words capacity_word) s.words s.views }
 {}
@@ -124,8 +124,8 @@ pub fn a_crash_leaves_a_good_header()
         (block_owners root_owners : List ℕ) → IsReady words held
         → AreOwners held seats block_owners root_owners
         → (events : List (ℕ × Event)) (answers : List StepAnswer) (s : TableState)
-        → Runs (setup_of words budget)
-        (opened_state (setup_of words budget) held block_owners root_owners seats) events
+        → Runs (setup_of words budget seats)
+        (opened_state (setup_of words budget seats) held block_owners root_owners seats) events
         answers s
         → (image : Image)
         → IsCrashImage (durable_image (slice_index words capacity_word) s.words) image
@@ -157,8 +157,8 @@ pub fn no_block_is_held_twice()
         (block_owners root_owners : List ℕ) → IsReady words held
         → AreOwners held seats block_owners root_owners
         → (events : List (ℕ × Event)) (answers : List StepAnswer) (s : TableState)
-        → Runs (setup_of words budget)
-        (opened_state (setup_of words budget) held block_owners root_owners seats) events
+        → Runs (setup_of words budget seats)
+        (opened_state (setup_of words budget seats) held block_owners root_owners seats) events
         answers s
         → AreHeldOnce (slice_index words capacity_word) s.views }
 {}

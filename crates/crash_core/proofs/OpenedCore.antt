@@ -54,7 +54,7 @@ pub record IsOpened (c : CoreState) (words : List ℕ) (held : List Block) (budg
 
 pub stands : (c : CoreState) (words : List ℕ) (held : List Block) (budget seats : ℕ) (block_owners root_owners : List ℕ) → IsOpened c words held budget seats block_owners root_owners
     → IsReady words held → AreOwners held seats block_owners root_owners → seats ≤ 8 → budget < 1099511627776
-    → StandsFor c (setup_of words budget) (opened_state (setup_of words budget) held block_owners root_owners seats)
+    → StandsFor c (setup_of words budget seats) (opened_state (setup_of words budget seats) held block_owners root_owners seats)
 stands c words held budget seats block_owners root_owners is ready owners few low = record {
   words = is.words_are;
   keeps = record {
@@ -73,7 +73,7 @@ stands c words held budget seats block_owners root_owners is ready owners few lo
   };
 } where
   k : Setup
-  k = setup_of words budget
+  k = setup_of words budget seats
 
   V : ℕ → View
   V = opened_view k held block_owners root_owners

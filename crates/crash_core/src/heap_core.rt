@@ -55,8 +55,8 @@ impl Core {
         requires some { 1 ≤ seats }
         requires seats { seats ≤ 8 }
         requires budget { budget < 1099511627776 }
-        ensures ok { IfOk result (λ core. StandsFor core.state (setup_of heap.now.words budget)
-            (opened_state (setup_of heap.now.words budget) heap.now.held
+        ensures ok { IfOk result (λ core. StandsFor core.state (setup_of heap.now.words budget seats)
+            (opened_state (setup_of heap.now.words budget seats) heap.now.held
             owners.now.held owners.now.roots seats)) }
         ensures seats { IfOk result (λ core. length core.state.seats.items ≡ seats) }
     {

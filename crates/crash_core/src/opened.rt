@@ -50,8 +50,8 @@ pub(crate) fn opened_core(
     requires owners { AreOwners heap.now.held seats owners.now.held owners.now.roots }
     requires seats { seats ≤ 8 }
     requires budget { budget < 1099511627776 }
-    ensures ok { IfOk result (λ core. StandsFor core (setup_of heap.now.words budget)
-        (opened_state (setup_of heap.now.words budget) heap.now.held
+    ensures ok { IfOk result (λ core. StandsFor core (setup_of heap.now.words budget seats)
+        (opened_state (setup_of heap.now.words budget seats) heap.now.held
         owners.now.held owners.now.roots seats)) }
 {
     Ok(CoreState {

@@ -53,7 +53,7 @@ pub fn opened_table(alloc: Global, heap: &Ready) -> Result<Vec<u64>, AllocError>
     ensures ok { IfOk result (λ table. table.items
         ≡ heap.now.words ++ (heap.now.words ++ (0 ∷ []))) }
     ensures state { IfOk result (λ table. (budget seats : ℕ) (owners : OwnerLists) → table.items
-        ≡ (opened_state (setup_of heap.now.words budget) heap.now.held
+        ≡ (opened_state (setup_of heap.now.words budget seats) heap.now.held
         owners.held owners.roots seats).words) }
 {
     let mut table = Vec::new(alloc);

@@ -33,9 +33,9 @@ use Rattle.heap_rule.proofs.ViewLemmas.{block_below}
 
 -- the view of a seat of the opened heap is one of a sound state
 opened_has : (heap : Contents) (owners : OwnerLists) (seats seat : ℕ) → IsReady heap.words heap.held → AreOwners heap.held seats owners.held owners.roots → seat < seats
-    → HasSoundState (opened_view (setup_of heap.words 0) heap.held owners.held owners.roots seat)
+    → HasSoundState (opened_view (setup_of heap.words 0 seats) heap.held owners.held owners.roots seat)
 opened_has heap owners seats seat ready are less = record {
-  words = (opened_state (setup_of heap.words 0) heap.held owners.held owners.roots seats).words;
+  words = (opened_state (setup_of heap.words 0 seats) heap.held owners.held owners.roots seats).words;
   views = tabulate V 0 seats;
   seat = seat;
   sound = opened heap.words heap.held 0 seats owners.held owners.roots ready are;
@@ -43,7 +43,7 @@ opened_has heap owners seats seat ready are less = record {
   at = tabulate_at V 0 seats seat (V seat) less ∙ ap V (let e : 0 + seat ≡ seat = omega arith in e);
 } where
   V : ℕ → View
-  V = opened_view (setup_of heap.words 0) heap.held owners.held owners.roots
+  V = opened_view (setup_of heap.words 0 seats) heap.held owners.held owners.roots
 
 -- the parts that a seat is opened with, by the key of the table
 pub opened_parts_are : (heap : Contents) (owners : OwnerLists) (seats budget i : ℕ) → parts_of (opened_view_of (opening_of heap owners seats budget) i) ≡ opened_parts heap owners i
@@ -96,7 +96,7 @@ gathered heap owners seats seat blocks superblocks o ready are less are_blocks a
   p = opened_parts heap owners seat
 
   v : View
-  v = opened_view (setup_of heap.words 0) heap.held owners.held owners.roots seat
+  v = opened_view (setup_of heap.words 0 seats) heap.held owners.held owners.roots seat
 
   info_of : ℕ → ℕ
   info_of d = slice_index heap.words (info_word d)

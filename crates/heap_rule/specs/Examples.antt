@@ -11,7 +11,7 @@ use Rattle.heap_rule.specs.Shown.{Shows, ShowsEmpty, CanAnchor, CanPush, CanStor
 
 -- a seat that has nothing, of a heap of two superblocks
 abbrev pub seat : View
-seat = record nobody { setup = record { capacity = 2; budget = 10; used = 2; opened = [] }; floor = 2; volatile = []; durable = [] }
+seat = record nobody { setup = record { capacity = 2; budget = 10; seats = 2; used = 2; opened = [] }; floor = 2; volatile = []; durable = [] }
 
 -- nothing is recorded but of one word
 abbrev pub only : ℕ → ℕ → List (Option ℕ)

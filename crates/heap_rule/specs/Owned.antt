@@ -131,4 +131,4 @@ stake_for (share.Large count) = stake.Large count
 
 -- the parts of a seat as a heap at rest is opened, whatever the budget
 abbrev pub opened_parts : Contents → OwnerLists → ℕ → OwnedParts
-opened_parts heap owners seat = parts_of (opened_view (setup_of heap.words 0) heap.held owners.held owners.roots seat)
+opened_parts heap owners seat = parts_of (opened_view (setup_of heap.words 0 0) heap.held owners.held owners.roots seat)

@@ -29,7 +29,7 @@ opening_of heap owners seats budget = record {
 }
 
 abbrev pub setup_for : Opening → Setup
-setup_for o = setup_of o.words o.budget
+setup_for o = setup_of o.words o.budget o.seats
 
 -- the most seats
 abbrev pub most_seats : ℕ

@@ -44,9 +44,9 @@ pub fn open_shared(
     requires some { 1 ≤ seats }
     requires few { seats ≤ 8 }
     requires budget { budget < 1099511627776 }
-    ensures setup { IfOk result (λ r. r.0.setup ≡ setup_of heap.words budget) }
+    ensures setup { IfOk result (λ r. r.0.setup ≡ setup_of heap.words budget seats) }
     ensures count { IfOk result (λ r. r.0.seats ≡ seats) }
-    ensures seats { IfOk result (λ r. AreOpenedSeats r.0 (opened_view (setup_of heap.words budget)
+    ensures seats { IfOk result (λ r. AreOpenedSeats r.0 (opened_view (setup_of heap.words budget seats)
         heap.held owners.now.held owners.now.roots) r.1.items) }
 {
     let geometry = heap.geometry();

@@ -39,21 +39,21 @@ first_owns held seats some = record {
 -- what the core does is what the seats do
 pub replayed : (words : List ℕ) (held : List Block) (seats : ℕ) (lines : List (ℕ × Event)) (block_owners root_owners : List ℕ) (events : List (ℕ × Event)) (answers : List StepAnswer) (tickets : ℕ)
     (left : List ℕ) (old new : CoreState) → block_owners ≡ replicate (length held) 0 → root_owners ≡ replicate roots 0 → events ≡ events_of lines
-    → StandsFor old (replay_setup words) (opened_state (replay_setup words) held block_owners root_owners seats) → RunsOn old events answers new
+    → StandsFor old (replay_setup words seats) (opened_state (replay_setup words seats) held block_owners root_owners seats) → RunsOn old events answers new
     → ((k : Setup) (s : TableState) → StandsFor new k s → tickets ≡ (memory_of k.capacity s.words).drawn)
     → ((k : Setup) (s : TableState) → StandsFor new k s → IsCrashImage (durable_image k.capacity s.words) (slice_index left))
     → ((k : Setup) (s : TableState) → StandsFor new k s → length left ≡ image_words k.capacity)
     → IsReplayed words held seats lines answers tickets left
 replayed words held seats lines block_owners root_owners events answers tickets left old new blocks_are roots_are events_are stands runs drawn crash long =
-    let here = subst (λ (l : List ℕ). StandsFor old (replay_setup words) (opened_state (replay_setup words) held l (replicate roots 0) seats)) blocks_are
-    (subst (λ (l : List ℕ). StandsFor old (replay_setup words) (opened_state (replay_setup words) held block_owners l seats)) roots_are stands) in
-    let ran = runs (replay_setup words) (replay_opening words held seats) here in
+    let here = subst (λ (l : List ℕ). StandsFor old (replay_setup words seats) (opened_state (replay_setup words seats) held l (replicate roots 0) seats)) blocks_are
+    (subst (λ (l : List ℕ). StandsFor old (replay_setup words seats) (opened_state (replay_setup words seats) held block_owners l seats)) roots_are stands) in
+    let ran = runs (replay_setup words seats) (replay_opening words held seats) here in
     record {
       state = ran.0;
-      runs = subst (λ (es : List (ℕ × Event)). Runs (replay_setup words) (replay_opening words held seats) es answers ran.0) events_are ran.1;
-      tickets_are = drawn (replay_setup words) ran.0 ran.2;
-      left_is = crash (replay_setup words) ran.0 ran.2;
-      long = long (replay_setup words) ran.0 ran.2;
+      runs = subst (λ (es : List (ℕ × Event)). Runs (replay_setup words seats) (replay_opening words held seats) es answers ran.0) events_are ran.1;
+      tickets_are = drawn (replay_setup words seats) ran.0 ran.2;
+      left_is = crash (replay_setup words seats) ran.0 ran.2;
+      long = long (replay_setup words seats) ran.0 ran.2;
     }
 
 -- a word that recovery tells as outside
@@ -73,5 +73,5 @@ pub left_good : (words : List ℕ) (held : List Block) (seats : ℕ) (lines : Li
     → IsReady words held → 1 ≤ seats → IsReplayed words held seats lines answers tickets left → header_fault (8 * length left) (slice_index left) ≡ None
 left_good words held seats lines answers tickets left ready some is =
     let opening = opened words held _ seats (replicate (length held) 0) (replicate roots 0) ready (first_owns held seats some) in
-    let sound = sound_runs (replay_setup words) (replay_opening words held seats) is.state _ answers opening is.runs in
-    subst (λ n. header_fault (8 * n) (slice_index left) ≡ None) (sym is.long) (crash_header (replay_setup words) is.state.words is.state.views sound (slice_index left) is.left_is ready.formed)
+    let sound = sound_runs (replay_setup words seats) (replay_opening words held seats) is.state _ answers opening is.runs in
+    subst (λ n. header_fault (8 * n) (slice_index left) ≡ None) (sym is.long) (crash_header (replay_setup words seats) is.state.words is.state.views sound (slice_index left) is.left_is ready.formed)

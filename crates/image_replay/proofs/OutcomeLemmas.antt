@@ -23,7 +23,7 @@ use Rattle.image_replay.specs.Replaying.{events_of, last_answers, replay_setup, 
 module _ (words : List ℕ) (held : List Block) (seats : ℕ) (lines : List (ℕ × Event)) (answers answers' : List StepAnswer) (tickets tickets' : ℕ) (left left' : List ℕ)
     (is : IsReplayed words held seats lines answers tickets left) (too : IsReplayed words held seats lines answers' tickets' left') where
   one : (answers ≡ answers') × (is.state ≡ too.state)
-  one = one_run (replay_setup words) (replay_opening words held seats) is.state too.state (events_of lines) answers answers' is.runs too.runs
+  one = one_run (replay_setup words seats) (replay_opening words held seats) is.state too.state (events_of lines) answers answers' is.runs too.runs
 
   pub one_answers : answers' ≡ answers
   one_answers = sym one.0

@@ -47,17 +47,17 @@ pub record CanBeReplayed (seats : ℕ) (lines : List (ℕ × Event)) : Type 0 wh
   pub below : (line : ℕ × Event) → Contains lines line → line.0 < seats
 
 -- the heap with the greatest budget, and its state as it is opened: all its blocks and roots belong to seat 0
-abbrev pub replay_setup : List ℕ → Setup
-replay_setup words = setup_of words MOST_BUDGET
+abbrev pub replay_setup : List ℕ → ℕ → Setup
+replay_setup words seats = setup_of words MOST_BUDGET seats
 
 abbrev pub replay_opening : List ℕ → List Block → ℕ → TableState
-replay_opening words held seats = opened_state (replay_setup words) held (replicate (length held) 0) (replicate roots 0) seats
+replay_opening words held seats = opened_state (replay_setup words seats) held (replicate (length held) 0) (replicate roots 0) seats
 
 -- what the heap's seats come to by the events of the lines, with these answers: so many tickets are drawn, and a crash leaves this image
 pub record IsReplayed (words : List ℕ) (held : List Block) (seats : ℕ) (lines : List (ℕ × Event)) (answers : List StepAnswer)
     (tickets : ℕ) (left : List ℕ) : Type 0 where
   pub state : TableState
-  pub runs : Runs (replay_setup words) (replay_opening words held seats) (events_of lines) answers state
+  pub runs : Runs (replay_setup words seats) (replay_opening words held seats) (events_of lines) answers state
   pub tickets_are : tickets ≡ (memory_of (capacity_of (slice_index words)) state.words).drawn
   pub left_is : IsCrashImage (durable_image (capacity_of (slice_index words)) state.words) (slice_index left)
   pub long : length left ≡ image_words (capacity_of (slice_index words))

@@ -17,7 +17,7 @@ pub returns-clause-owned : goal.returns-clause-owned
 returns-clause-owned c words held budget seats block_owners root_owners owners i n = owns_root i roots root_owners n
 
 pub returns-clause-nothing_yet : goal.returns-clause-nothing_yet
-returns-clause-nothing_yet c words held budget block_owners root_owners i = record {
+returns-clause-nothing_yet c words held budget seats block_owners root_owners i = record {
   floor = refl;
   tickets = (refl, refl, refl);
   counts = (refl, refl, refl, refl, refl, refl, refl);
@@ -29,9 +29,9 @@ returns-clause-nothing_yet c words held budget block_owners root_owners i = reco
 
 pub returns-clause-running : goal.returns-clause-running
 returns-clause-running c words held budget seats block_owners root_owners ready owners events answers s runs =
-    sound_runs (setup_of words budget) (opened_state (setup_of words budget) held block_owners root_owners seats) s events answers (opened words held budget seats block_owners root_owners ready owners) runs
+    sound_runs (setup_of words budget seats) (opened_state (setup_of words budget seats) held block_owners root_owners seats) s events answers (opened words held budget seats block_owners root_owners ready owners) runs
 
 pub returns-clause-firm : goal.returns-clause-firm
 returns-clause-firm c words held budget seats block_owners root_owners ready owners events answers s runs =
-    firm (setup_of words budget) s.words s.views
-    (sound_runs (setup_of words budget) (opened_state (setup_of words budget) held block_owners root_owners seats) s events answers (opened words held budget seats block_owners root_owners ready owners) runs)
+    firm (setup_of words budget seats) s.words s.views
+    (sound_runs (setup_of words budget seats) (opened_state (setup_of words budget seats) held block_owners root_owners seats) s events answers (opened words held budget seats block_owners root_owners ready owners) runs)

@@ -7,10 +7,10 @@ use Rattle.heap_rule_threads.proofs.JobLemmas.{opened_roots, opened_unbatched}
 use Rattle.heap_rule_threads.proofs.together.work_together.Goals as goal
 
 pub deal_jobs-requires-clause-roots : goal.deal_jobs-requires-clause-roots
-deal_jobs-requires-clause-roots g c = opened_roots c.in_ok-shared.shared (setup_of c.args.heap.words c.args.plan.now.budget) c.args.heap.held c.in_ok-owners.owners.held c.in_ok-owners.owners.roots c.in_ok-shared.seats.items c.in_ok-shared.ensures.seats
+deal_jobs-requires-clause-roots g c = opened_roots c.in_ok-shared.shared (setup_of c.args.heap.words c.args.plan.now.budget c.args.plan.now.threads) c.args.heap.held c.in_ok-owners.owners.held c.in_ok-owners.owners.roots c.in_ok-shared.seats.items c.in_ok-shared.ensures.seats
 
 pub deal_jobs-requires-clause-none : goal.deal_jobs-requires-clause-none
-deal_jobs-requires-clause-none g c = opened_unbatched c.in_ok-shared.shared (setup_of c.args.heap.words c.args.plan.now.budget) c.args.heap.held c.in_ok-owners.owners.held c.in_ok-owners.owners.roots c.in_ok-shared.seats.items c.in_ok-shared.ensures.seats
+deal_jobs-requires-clause-none g c = opened_unbatched c.in_ok-shared.shared (setup_of c.args.heap.words c.args.plan.now.budget c.args.plan.now.threads) c.args.heap.held c.in_ok-owners.owners.held c.in_ok-owners.owners.roots c.in_ok-shared.seats.items c.in_ok-shared.ensures.seats
 
 pub returns-clause-apart : goal.returns-clause-apart
 returns-clause-apart g c = told_apart c.in_ok-shared.shared.setup c.in_ok-left.left.now c.in_ok-left.left.kept c.in_ok-seats.reports.items c.in_ok-seats.seats.items c.in_ok-left.ensures c.in_ok-seats.ensures.told
