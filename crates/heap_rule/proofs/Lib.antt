@@ -35,3 +35,4 @@ pub mod OwnedReads
 pub mod OwnedOpening
 pub mod FenceLemmas
 pub mod DrawLemmas
+pub mod HeldLemmas

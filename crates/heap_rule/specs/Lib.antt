@@ -5,6 +5,7 @@ pub mod Shown
 pub mod Seated
 pub mod Seats
 pub mod Images
+pub mod Held
 pub mod Parts
 pub mod Owned
 pub mod Changed

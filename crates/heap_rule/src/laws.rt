@@ -14,7 +14,10 @@ ghost use Rattle.core_model.specs.declared.event.Shift.{Shift};
 ghost use Rattle.core_model.specs.Cells.{cell_at};
 ghost use Rattle.core_model.specs.Held.{IsHeldBy, IsFirm};
 ghost use Rattle.core_model.specs.View.{Setup, View};
-ghost use Rattle.heap_rule.specs.Plays.{IsEvent};
+ghost use Rattle.heap_rule.specs.Held.{NoneHeldTwice};
+ghost use Rattle.heap_rule.specs.Joint.{Joint, all_views};
+ghost use Rattle.heap_rule.specs.Plays.{HasSoundState, IsEvent};
+ghost use Rattle.heap_rule.specs.Rule.{HasAllSeats, Opening};
 ghost use Rattle.heap_rule.specs.Seats.{IsClosedSound};
 ghost use Rattle.heap_rule.specs.Shown.{Shows};
 
@@ -60,4 +63,14 @@ pub fn a_closed_heap_names_each_held_block()
         → IsWellFormed (8 * length k.opened) (slice_index k.opened)
         → (image : Image) → IsClosedImage (slice_index now) image
         → header_fault (8 * image_words k.capacity) image ≡ None }
+{}
+
+/// No block is held twice: of the seats of a shared heap between any two steps of any of them, of
+/// each sound state in which a seat has its view, and of the seats of a closed heap.
+pub fn no_block_is_held_twice()
+    ensures shared { (o : Opening) (words : List ℕ) (joints : List Joint)
+        → HasAllSeats o words joints → NoneHeldTwice (all_views joints) }
+    ensures state { (v : View) → (has : HasSoundState v) → NoneHeldTwice has.views }
+    ensures closed { (k : Setup) (now kept : List ℕ) (views : List View)
+        → IsClosedSound k now kept views → NoneHeldTwice views }
 {}

@@ -38,7 +38,9 @@ pub use closing::close_shared;
 pub use image_laws::{
     an_image_of_a_seat_has_its_blocks_and_words, each_choice_of_words_is_an_image_of_the_seat,
 };
-pub use laws::{a_closed_heap_names_each_held_block, a_step_tells_of_the_heap};
+pub use laws::{
+    a_closed_heap_names_each_held_block, a_step_tells_of_the_heap, no_block_is_held_twice,
+};
 pub use opening::open_shared;
 pub use seat::Seat;
 pub use shared::Shared;
