@@ -2,13 +2,14 @@
 use Rattle.std.proofs.Common.{◌≡◌, ℕ, ◌+◌, ◌*◌, ◌<◌, ◌≤◌, List, [], ◌∷◌, ◌++◌, get_or, length, slice_index, ap, sym, subst, ◌∙◌, get_or-append-add, arith}
 use Rattle.std.proofs.lemmas.List.{get_or_append_left}
 use Rattle.heap_model.specs.Counting.{total}
-use Rattle.heap_model.specs.Durability.{Mixes}
+use Rattle.heap_model.specs.Durability.{IsClosedImage, IsCrashImage, Mixes}
 use Rattle.heap_model.specs.Geometry.{image_words, used_word}
 use Rattle.heap_model.specs.Image.{Image}
 use Rattle.core_model.specs.Held.{volatile_image, durable_image}
 use Rattle.core_model.specs.Sound.{Each, Sound}
 use Rattle.core_model.specs.View.{Setup, View}
 use Rattle.heap_rule.specs.Images.{HasRecorded, IsImageOf}
+use Rattle.heap_rule.specs.Left.{IsCloseOf, IsCrashOf}
 use Rattle.heap_rule.specs.Plays.{HasSoundState}
 use Rattle.heap_rule.specs.Seats.{IsClosedSound}
 use Rattle.heap_rule.proofs.ImageLemmas.{volatile_is, durable_is}
@@ -58,6 +59,20 @@ module _ (k : Setup) (now kept : List ℕ) (views : List View) (closed : IsClose
   images image mixed i v below at = record {
     has = last_state i v below at;
     mixed = subst (λ c. Mixes (volatile_image c words) (durable_image c words) image) (sym (ap (λ (s : Setup). s.capacity) (closed.sound.good.set_up i v below at).setup)) (mixed_is image mixed);
+  }
+
+  pub crashes : (image : Image) → IsCrashImage (slice_index kept) image → Each views (λ v. IsCrashOf v image)
+  crashes image crash i v below at = record {
+    has = last_state i v below at;
+    crash = subst (λ (kept : Image). IsCrashImage kept image) (sym (ap (λ (s : Setup). durable_image s.capacity words) (closed.sound.good.set_up i v below at).setup
+        ∙ durable_is k.capacity now kept closed.drawn closed.now_long closed.kept_long)) crash;
+  }
+
+  pub closes : (image : Image) → IsClosedImage (slice_index now) image → Each views (λ v. IsCloseOf v image)
+  closes image close i v below at = record {
+    has = last_state i v below at;
+    close = subst (λ (now : Image). IsClosedImage now image) (sym (ap (λ (s : Setup). volatile_image s.capacity words) (closed.sound.good.set_up i v below at).setup
+        ∙ volatile_is k.capacity now kept closed.drawn closed.now_long closed.kept_long)) close;
   }
 
   pub taken_in_all : slice_index now used_word ≡ k.used + total (λ (v : View). v.taken) views

@@ -36,3 +36,4 @@ pub mod OwnedOpening
 pub mod FenceLemmas
 pub mod DrawLemmas
 pub mod HeldLemmas
+pub mod CrashLemmas

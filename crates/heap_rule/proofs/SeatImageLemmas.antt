@@ -20,7 +20,7 @@ use Rattle.heap_rule.proofs.SettleLemmas.{own_there, own_index, own_below}
 use Rattle.heap_rule.proofs.ViewLemmas.{shown, shown_durable}
 
 -- the words that no step changes lie in the image
-fixed_below : (c word : ℕ) → IsFixed c word → word < image_words c
+pub fixed_below : (c word : ℕ) → IsFixed c word → word < image_words c
 fixed_below c word (inl first) = omega arith
 fixed_below c word (inr (in_header w after before other list)) = omega (arith, before)
 fixed_below c word (inr (in_descriptor d at w less low high is)) = omega (arith, less, high, is)

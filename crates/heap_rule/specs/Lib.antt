@@ -6,6 +6,7 @@ pub mod Seated
 pub mod Seats
 pub mod Images
 pub mod Held
+pub mod Left
 pub mod Parts
 pub mod Owned
 pub mod Changed

@@ -3,13 +3,14 @@
 
 ghost use Rattle.std.specs.Prelude.{◌≡◌, ◌≤◌, ◌+◌, ◌*◌, ℕ, List, None, length, slice_index};
 ghost use Rattle.heap_model.specs.Counting.{total};
-ghost use Rattle.heap_model.specs.Durability.{Mixes};
+ghost use Rattle.heap_model.specs.Durability.{IsClosedImage, IsCrashImage, Mixes};
 ghost use Rattle.heap_model.specs.Geometry.{image_words, used_word};
 ghost use Rattle.heap_model.specs.Header.{IsWellFormed, header_fault};
 ghost use Rattle.heap_model.specs.Image.{Image};
 ghost use Rattle.core_model.specs.Sound.{Each};
 ghost use Rattle.core_model.specs.View.{Setup, View};
 ghost use Rattle.heap_rule.specs.Images.{HasRecorded, IsImageOf, HasFixedWords};
+ghost use Rattle.heap_rule.specs.Left.{IsCloseOf, IsCrashOf};
 ghost use Rattle.heap_rule.specs.Seats.{IsClosedSound};
 
 /// Of each own word a seat has recorded what a close left: the volatile value and the durable one.
@@ -54,4 +55,17 @@ pub fn a_closed_heap_has_images_of_its_seats()
     ensures { (k : Setup) (now kept : List ℕ) (views : List View) → IsClosedSound k now kept views
         → (image : Image) → Mixes (slice_index now) (slice_index kept) image
         → Each views (λ v. IsImageOf v image) }
+{}
+
+/// What a crash leaves of a closed heap is what a crash may leave of each of its seats, with the
+/// seat's last view, and so it is with a close: it has the seat's blocks and recorded words.
+pub fn a_crash_or_a_close_of_a_closed_heap_is_one_of_each_seat()
+    ensures crash { (k : Setup) (now kept : List ℕ) (views : List View)
+        → IsClosedSound k now kept views
+        → (image : Image) → IsCrashImage (slice_index kept) image
+        → Each views (λ v. IsCrashOf v image) }
+    ensures close { (k : Setup) (now kept : List ℕ) (views : List View)
+        → IsClosedSound k now kept views
+        → (image : Image) → IsClosedImage (slice_index now) image
+        → Each views (λ v. IsCloseOf v image) }
 {}

@@ -33,10 +33,13 @@ mod words;
 pub use closed_laws::{
     a_closed_heap_counts_what_its_seats_did, a_closed_heap_has_images_of_its_seats,
     a_closed_heap_has_the_opened_header, a_closed_heap_has_the_recorded_words,
+    a_crash_or_a_close_of_a_closed_heap_is_one_of_each_seat,
 };
 pub use closing::close_shared;
 pub use image_laws::{
-    an_image_of_a_seat_has_its_blocks_and_words, each_choice_of_words_is_an_image_of_the_seat,
+    a_close_leaves_a_seat_its_blocks_and_words, a_crash_leaves_a_seat_its_blocks_and_words,
+    a_crash_may_leave_any_heads_anchors_and_links, an_image_of_a_seat_has_its_blocks_and_words,
+    each_choice_of_words_is_an_image_of_the_seat, what_may_be_left_has_a_seats_blocks_and_words,
 };
 pub use laws::{
     a_closed_heap_names_each_held_block, a_step_tells_of_the_heap, no_block_is_held_twice,
