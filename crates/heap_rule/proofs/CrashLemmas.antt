@@ -52,7 +52,7 @@ own_not_state : (v : View) (word : ℕ) → IsOwn v (cell_at v.setup.capacity wo
 own_not_state v word own same = let none : 0 < times_own v (cell_at v.setup.capacity 3) = subst (λ n. 0 < times_own v (cell_at v.setup.capacity n)) same own in omega arith
 
 module _ (v : View) (s : HasSoundState v) where
-  kept_capacity : capacity_of (durable_image v.setup.capacity s.words) ≡ v.setup.capacity
+  pub kept_capacity : capacity_of (durable_image v.setup.capacity s.words) ≡ v.setup.capacity
   kept_capacity = pick (nat_lt 2 (image_words v.setup.capacity)) _ _ (lt-ltb 2 (image_words v.setup.capacity) (omega arith)) ∙ (s.sound.fixed 2 (inl (omega arith))).1 ∙ s.sound.capacity
 
   lasts : (word : ℕ) → IsOwn v (cell_at v.setup.capacity word) → Lasts (cell_at v.setup.capacity word) → IsTransient (capacity_of (durable_image v.setup.capacity s.words)) word → ⊥

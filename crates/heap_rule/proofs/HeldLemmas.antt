@@ -1,25 +1,29 @@
 -- No block is held twice.
-use Rattle.std.proofs.Common.{◌≡◌, ◌≢◌, ◌<◌, ◌≤◌, ℕ, inl, inr, nat_lt, List, get_or, length, refl, ap, sym, subst, ◌∙◌, arith}
+use Rattle.std.proofs.Common.{◌+◌, ◌≡◌, ◌≢◌, ◌<◌, ◌≤◌, ℕ, inl, inr, nat_lt, List, get_or, length, refl, ap, sym, subst, ◌∙◌, lt-ltb, arith}
 use Rattle.std.proofs.lemmas.Bool.{cases_lt}
 use Rattle.heap_model.specs.declared.block.Block.{Block}
 use Rattle.heap_model.specs.Blocks.{AreOneOrApart, layout_of}
-use Rattle.heap_model.specs.Counting.{total}
+use Rattle.heap_model.specs.Counting.{times, total}
 use Rattle.heap_model.specs.Durability.{Mixes}
+use Rattle.heap_model.specs.Geometry.{image_words, largest_capacity, used_word}
 use Rattle.heap_model.specs.Image.{Image}
 use Rattle.heap_model.specs.Sizes.{IsClass}
-use Rattle.heap_model.proofs.BlockLemmas.{never_overlap}
+use Rattle.heap_model.proofs.BlockLemmas.{block_inside, block_words, never_overlap}
 use Rattle.heap_model.proofs.ListLemmas.{one_at_most}
 use Rattle.heap_model.proofs.SizeLemmas.{few_words}
 use Rattle.core_model.specs.Cells.{superblock_at}
 use Rattle.core_model.specs.Held.{IsHeld, IsHeldBy, a_small, a_large, volatile_image, durable_image}
-use Rattle.core_model.specs.Memory.{Memory, memory_of, info, used}
+use Rattle.core_model.specs.Memory.{Memory, memory_of, durable_used, info, used}
 use Rattle.core_model.specs.Sound.{Good, Sound}
 use Rattle.core_model.specs.View.{Setup, View, times_block, times_large}
 use Rattle.core_model.proofs.HeldLemmas.{firm}
 use Rattle.core_model.proofs.LinkFrameLemmas.{span_covers}
 use Rattle.core_model.proofs.OwnerLemmas.{in_lists_total}
+use Rattle.core_model.proofs.PlaceLemmas.{pick}
 use Rattle.core_model.proofs.TotalLemmas.{total_at, total_two}
-use Rattle.heap_rule.specs.Held.{AreApart, NoneHeldTwice}
+use Rattle.heap_rule.specs.Held.{AreApart, IsPlacedBelow, NoneHeldTwice}
+use Rattle.heap_rule.specs.Plays.{HasSoundState}
+use Rattle.heap_rule.proofs.CrashLemmas.{kept_capacity}
 
 module _ (k : Setup) (words : List ℕ) (views : List View) (sound : Sound k words views) where
   abbrev m : Memory
@@ -37,14 +41,14 @@ module _ (k : Setup) (words : List ℕ) (views : List View) (sound : Sound k wor
   large_once : (d : ℕ) → total (λ (v : View). times_large d v.large) views ≤ 1
   large_once d = let place = good.shaped.placed.one_place d in let one = one_at_most (nat_lt d (used m)) in omega arith
 
-  capacity_of : (i : ℕ) (v : View) → i < length views → get_or views i v ≡ v → v.setup.capacity ≡ k.capacity
-  capacity_of i v below at = ap (λ (s : Setup). s.capacity) (good.set_up i v below at).setup
+  seat_capacity : (i : ℕ) (v : View) → i < length views → get_or views i v ≡ v → v.setup.capacity ≡ k.capacity
+  seat_capacity i v below at = ap (λ (s : Setup). s.capacity) (good.set_up i v below at).setup
 
   class_of : (i : ℕ) (v : View) → i < length views → get_or views i v ≡ v → (class b : ℕ) → 0 < times_block b v → info m (superblock_at v.setup.capacity b) ≡ class → IsClass class
   class_of i v below at class b some is =
       let mine = total_at (times_block b) views i v below at in
       let there = good.shaped.chained.inside b (omega arith) in
-      subst IsClass (ap (λ c. info m (superblock_at c b)) (sym (capacity_of i v below at)) ∙ is) (good.shaped.chained.is_class (superblock_at k.capacity b) there.0)
+      subst IsClass (ap (λ c. info m (superblock_at c b)) (sym (seat_capacity i v below at)) ∙ is) (good.shaped.chained.is_class (superblock_at k.capacity b) there.0)
 
   -- two seats do not hold one block
   not_one : (i j : ℕ) (v w : View) → j ≢ i → i < length views → get_or views i v ≡ v → j < length views → get_or views j w ≡ w
@@ -57,7 +61,7 @@ module _ (k : Setup) (words : List ℕ) (views : List View) (sound : Sound k wor
       let one = small_once x in omega arith
   not_one i j v w other below at below' at' a b (a_large d n some count) (a_large d' n' some' count') same =
       let words = ap (λ (c : Block). c.first_word) same in
-      let first : d' ≡ d = let c = capacity_of i v below at in let c' = capacity_of j w below' at' in omega arith in
+      let first : d' ≡ d = let c = seat_capacity i v below at in let c' = seat_capacity j w below' at' in omega arith in
       let mine = span_covers d d v.large (omega arith) (omega arith) (omega arith) in
       let theirs : 0 < times_large d w.large = subst (λ e. 0 < times_large e w.large) first (span_covers d' d' w.large (omega arith) (omega arith) (omega arith)) in
       let two = total_two (λ (u : View). times_large d u.large) views i j v w other below at below' at' in
@@ -89,3 +93,43 @@ module _ (k : Setup) (words : List ℕ) (views : List View) (sound : Sound k wor
     small = small_once;
     large = large_once;
   }
+
+-- what is so of a view that some sound state has
+module _ (v : View) (s : HasSoundState v) where
+  none : NoneHeldTwice s.views
+  none = none_held_twice v.setup s.words s.views s.sound
+
+  by_seat : (b : Block) → IsHeld v b → IsHeldBy s.views b
+  by_seat b held = record { seat = s.seat; view = v; below = s.below; at = s.at; holds = held }
+
+  -- the durable words are a mixture, and have the durable mark
+  abbrev kept : Image
+  kept = durable_image v.setup.capacity s.words
+
+  kept_word : (word : ℕ) → word < 16 → kept word ≡ get_or s.words (image_words v.setup.capacity + word) 0
+  kept_word word low = pick (nat_lt word (image_words v.setup.capacity)) _ _ (lt-ltb word (image_words v.setup.capacity) (omega arith))
+
+  pub held_placed : (b : Block) → IsHeld v b → IsPlacedBelow v.setup.capacity (durable_used (memory_of v.setup.capacity s.words)) b
+  held_placed b held =
+      let is = ((firm v.setup s.words s.views s.sound).each kept (record { each = λ word. inr refl }) b (by_seat b held)).block in
+      let two = block_words (layout_of kept) b is in
+      let inside = block_inside (layout_of kept) b is in let from = inside.0 in let until = inside.1 in
+      let capacity = kept_capacity v s in let mark = kept_word used_word (omega arith) in
+      let behind = s.sound.good.shaped.durable.behind in let room = s.sound.good.shaped.durable.room in
+      record { some = omega arith; from = omega arith; until = omega arith; low = omega arith }
+
+  pub marks_in_order : (durable_used (memory_of v.setup.capacity s.words) ≤ used (memory_of v.setup.capacity s.words)) × (used (memory_of v.setup.capacity s.words) ≤ v.setup.capacity)
+      × (v.setup.capacity ≤ largest_capacity)
+  marks_in_order = (s.sound.good.shaped.durable.behind, s.sound.good.shaped.durable.room, s.sound.good.small)
+
+  pub held_apart : (a b : Block) → IsHeld v a → IsHeld v b → AreOneOrApart a b
+  held_apart a b one other = none.one_or_apart a b (by_seat a one) (by_seat b other)
+
+  pub one_block : (b : ℕ) → times_block b v ≤ 1
+  one_block b = let mine = total_at (times_block b) s.views s.seat v s.below s.at in let most = none.small b in omega arith
+
+  pub one_large : (d : ℕ) → times_large d v.large ≤ 1
+  one_large d = let mine = total_at (λ (u : View). times_large d u.large) s.views s.seat v s.below s.at in let most = none.large d in omega arith
+
+  pub one_root : (n : ℕ) → times n v.roots ≤ 1
+  one_root n = let mine = total_at (λ (u : View). times n u.roots) s.views s.seat v s.below s.at in let most = s.sound.good.adds.roots n in omega arith

@@ -37,3 +37,4 @@ pub mod FenceLemmas
 pub mod DrawLemmas
 pub mod HeldLemmas
 pub mod CrashLemmas
+pub mod TicketLemmas

@@ -30,7 +30,7 @@ parts_alone m v (Some (Large d n)) = record { ticket = refl; stopped_is = refl; 
 parts_alone m v (Some (Split block)) = record { ticket = refl; stopped_is = refl; draws = refl }
 
 -- the ticket is the count of all draws
-draws_before : (shift : Option Shift) (v w : View) (ticket : ℕ) → IsEvent (Tick shift) v ticket w → v.draws ≤ ticket
+pub draws_before : (shift : Option Shift) (v w : View) (ticket : ℕ) → IsEvent (Tick shift) v ticket w → v.draws ≤ ticket
 draws_before shift v w ticket e =
     let all = e.before.sound.good.adds.draws in
     let mine = total_at (λ (u : View). u.draws) e.before.views e.before.seat v e.before.below e.before.at in

@@ -3,6 +3,7 @@ use Rattle.std.specs.Prelude.{◌≢◌, ◌⊎◌, ◌+◌, ◌≤◌, ℕ, Lis
 use Rattle.heap_model.specs.declared.block.Block.{Block}
 use Rattle.heap_model.specs.Blocks.{AreOneOrApart}
 use Rattle.heap_model.specs.Counting.{total}
+use Rattle.heap_model.specs.Geometry.{start_word}
 use Rattle.core_model.specs.Held.{IsHeldBy}
 use Rattle.core_model.specs.View.{View, times_block, times_large}
 
@@ -16,3 +17,10 @@ pub record NoneHeldTwice (views : List View) : Type 0 where
   pub one_or_apart : (a b : Block) → IsHeldBy views a → IsHeldBy views b → AreOneOrApart a b
   pub small : (b : ℕ) → total (times_block b) views ≤ 1
   pub large : (d : ℕ) → total (λ (v : View). times_large d v.large) views ≤ 1
+
+-- the block has words, and lies in superblocks of the image below the mark
+pub record IsPlacedBelow (capacity mark : ℕ) (b : Block) : Type 0 where
+  pub some : 1 ≤ b.words
+  pub from : start_word capacity 0 ≤ b.first_word
+  pub until : b.first_word + b.words ≤ start_word capacity mark
+  pub low : mark ≤ capacity

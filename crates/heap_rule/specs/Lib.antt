@@ -8,6 +8,7 @@ pub mod Images
 pub mod Held
 pub mod Left
 pub mod Parts
+pub mod Tickets
 pub mod Owned
 pub mod Changed
 pub mod Rooms

@@ -1,7 +1,7 @@
 //! What a step leaves of the seat's view, as functions with nothing to run: a caller cites their
 //! clauses.
 
-ghost use Rattle.std.specs.Prelude.{◌≡◌, ◌≢◌, ◌≤◌, ℕ, Option, None, Some, Result, IfErr, ⊤};
+ghost use Rattle.std.specs.Prelude.{◌≡◌, ◌≢◌, ◌≤◌, ◌+◌, ℕ, Option, None, Some, Result, IfErr, ⊤};
 ghost use Rattle.core_model.specs.declared.answer.StepAnswer.TheVariants.{Done, Stopped};
 ghost use Rattle.core_model.specs.declared.event.Event.{Event};
 ghost use Rattle.core_model.specs.declared.event.Event.TheVariants.{Tick, Load, LookUsed, LookHead, LookLink, LookAnchor, KeepUsed, TakeFresh, Pop, Push, TakeAll, Give};
@@ -18,6 +18,7 @@ ghost use Rattle.heap_rule.specs.Parts.{KeepsParts, cut_for};
 ghost use Rattle.heap_rule.specs.Plays.{IsEvent, learned, state_before, state_with};
 ghost use Rattle.heap_rule.specs.Seated.{HasLostTo, SeatView, Tells};
 ghost use Rattle.heap_rule.specs.Shown.{CanCut, CanFree};
+ghost use Rattle.heap_rule.specs.Tickets.{next_of};
 
 /// A draw that goes on leaves the ticket in hand and its change done; one that stops the seat
 /// leaves nothing else changed. What a view shows of a superblock's class is the class that its
@@ -128,4 +129,19 @@ pub fn a_step_that_changes_nothing_keeps_the_parts()
 /// What is read of `used` is within the capacity.
 pub fn a_seen_used_is_within_the_capacity()
     ensures { (v w : View) (found : ℕ) → IsEvent LookUsed v found w → found ≤ v.setup.capacity }
+{}
+
+/// A look at the mark of taken superblocks finds no less than the last one, and what the seat has
+/// taken since. A ticket that is drawn is above the seat's last one, and is the last one then; the
+/// seat has drawn at most as many as there are up to it.
+pub fn looks_and_tickets_rise()
+    ensures used { (v w : View) (found : ℕ) → IsEvent LookUsed v found w
+        → v.used_look.word + v.taken ≤ found + v.used_look.taken }
+    ensures ticket { (shift : Option Shift) (v w : View) (ticket : ℕ)
+        → IsEvent (Tick shift) v ticket w → next_of v ≤ ticket }
+    ensures last { (shift : Option Shift) (v w : View) (ticket : ℕ)
+        → IsEvent (Tick shift) v ticket w → w.last_ticket ≡ Some ticket }
+    ensures draws { (shift : Option Shift) (v w : View) (ticket : ℕ)
+        → IsEvent (Tick shift) v ticket w
+        → (w.draws ≡ v.draws + 1) × (w.draws ≤ ticket + 1) }
 {}

@@ -11,22 +11,13 @@ use Rattle.heap_rule.specs.Fences.{Owns}
 use Rattle.heap_rule.specs.Plays.{HasSoundState, IsEvent}
 use Rattle.heap_rule.specs.Seated.{TellsDraw}
 use Rattle.heap_rule.proofs.LeftLemmas.{draw_done, draw_stops}
+use Rattle.heap_rule.proofs.TicketLemmas.{rises}
 use Rattle.heap_rule.proofs.ToldLemmas.{drawn_told, stop_told}
 use Rattle.steps.specs.Draws.{Settles}
-use Rattle.steps.specs.Rows.{HasDrawn, Row, Stops, after_ticket, next_of}
+use Rattle.steps.specs.Rows.{HasDrawn, Row, Stops, next_of}
 use Rattle.steps.specs.Words.{KeepsWord}
 use Rattle.steps.proofs.RowLemmas.{not_both, row_none, row_most}
 use Rattle.steps.proofs.WordLemmas.{owns_held, settled_word, word_same}
-
--- a seat's tickets rise
-pub rises : (shift : Option Shift) (v w : View) (ticket : ℕ) → IsEvent (Tick shift) v ticket w → next_of v ≤ ticket
-rises shift v w ticket e = by_last v.last_ticket refl where
-  by_last : (o : Option ℕ) → v.last_ticket ≡ o → after_ticket o ≤ ticket
-  by_last None none = omega arith
-  by_last (Some t) some =
-      let told = (e.before.sound.good.tickets e.before.seat v e.before.below e.before.at).last.is_drawn in
-      let here : t < (memory_of v.setup.capacity e.before.words).drawn = rw some at told (refl) in
-      let found = e.found_is in omega arith
 
 -- chance changes what is recorded alone
 module _ (v early : View) (settles : Settles v early) where

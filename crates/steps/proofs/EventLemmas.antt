@@ -3,7 +3,7 @@ use Rattle.std.proofs.Common.{inl, ◌≡◌, ◌≢◌, ℕ, zero, suc, ◌+◌
 use Rattle.heap_model.specs.Counting.{times, without}
 use Rattle.heap_model.specs.Geometry.{link_word}
 use Rattle.heap_model.specs.Words.{full_anchor, head_first}
-use Rattle.core_model.specs.declared.event.Event.TheVariants.{Load, LookHead, LookLink, Pop, Push, LookAnchor, Give}
+use Rattle.core_model.specs.declared.event.Event.TheVariants.{Load, LookLink, Pop, Push, LookAnchor, Give}
 use Rattle.core_model.specs.Cells.{link_cell, cell_at}
 use Rattle.core_model.specs.Effects.{before, claimed, cleared, given, learn, lost, popped, pushed, pushed_raw, pushed_classed, seen_of, seen_word, trimmed, used_up, without_claim, won}
 use Rattle.core_model.specs.View.{View, no_batch}

@@ -1,18 +1,12 @@
 -- What a row of steps leaves, whatever it answers, and what it costs.
-use Rattle.std.specs.Prelude.{◌≡◌, ◌<◌, ◌≤◌, ℕ, ◌+◌, ◌*◌, ◌⊎◌, get_or, Option, None, Some}
+use Rattle.std.specs.Prelude.{◌≡◌, ◌<◌, ◌≤◌, ℕ, ◌+◌, ◌*◌, ◌⊎◌, get_or, None, Some}
 use Rattle.core_model.specs.Effects.{drew}
 use Rattle.core_model.specs.View.{LastLook, View}
 pub use Rattle.core_model.specs.View.{Parts, parts}
 use Rattle.heap_rule.specs.Fences.{Owns}
+pub use Rattle.heap_rule.specs.Tickets.{after_ticket, next_of}
 use Rattle.steps.specs.Words.{KeepsWord, IsHeldWord}
 
--- the least ticket that the seat may still draw
-abbrev pub after_ticket : Option ℕ → ℕ
-after_ticket None = 0
-after_ticket (Some ticket) = ticket + 1
-
-abbrev pub next_of : View → ℕ
-next_of v = after_ticket v.last_ticket
 
 -- the last look at a list
 abbrev pub head_look : View → ℕ → LastLook

@@ -1,9 +1,6 @@
 //! What is so of a seat that is alone at its heap, as a function with nothing to run.
 
-ghost use Rattle.std.specs.Prelude.{◌≡◌, ◌≤◌, ◌+◌, ℕ, List, [], ◌∷◌, Option};
-ghost use Rattle.core_model.specs.declared.event.Event.TheVariants.{LookUsed, Tick};
-ghost use Rattle.core_model.specs.declared.event.Shift.{Shift};
-ghost use Rattle.steps.specs.Rows.{next_of};
+ghost use Rattle.std.specs.Prelude.{◌≡◌, ℕ, List, [], ◌∷◌};
 ghost use Rattle.core_model.specs.declared.event.Event.{Event};
 ghost use Rattle.core_model.specs.Guards.{MayStep};
 ghost use Rattle.core_model.specs.Memory.{Memory, memory_of};
@@ -21,13 +18,4 @@ pub fn a_seat_that_is_alone_loses_nothing()
         → e.before.views ≡ v ∷ [] → w.losses ≡ 0 }
     ensures looks { (k : Setup) (m : Memory) (v : View) (event : Event) → Good k m (v ∷ [])
         → MayStep m v event → Steady m v → Steady (memory_after m v event) (seat_after m v event) }
-{}
-
-/// A look at the mark of taken superblocks finds no less than the last one, and what the seat has
-/// taken since; and a seat's tickets rise.
-pub fn looks_and_tickets_rise()
-    ensures used { (v w : View) (found : ℕ) → IsEvent LookUsed v found w
-        → v.used_look.word + v.taken ≤ found + v.used_look.taken }
-    ensures ticket { (shift : Option Shift) (v w : View) (ticket : ℕ)
-        → IsEvent (Tick shift) v ticket w → next_of v ≤ ticket }
 {}

@@ -5,4 +5,4 @@ mod draws;
 mod laws;
 
 pub use draws::{draw, draw_with};
-pub use laws::{a_seat_that_is_alone_loses_nothing, looks_and_tickets_rise};
+pub use laws::a_seat_that_is_alone_loses_nothing;
