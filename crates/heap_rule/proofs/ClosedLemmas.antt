@@ -7,7 +7,7 @@ use Rattle.heap_model.specs.Geometry.{image_words, used_word}
 use Rattle.heap_model.specs.Image.{Image}
 use Rattle.core_model.specs.Held.{volatile_image, durable_image}
 use Rattle.core_model.specs.Sound.{Each, Sound}
-use Rattle.core_model.specs.View.{Setup, View}
+use Rattle.core_model.specs.View.{Setup, View, one_if_some}
 use Rattle.heap_rule.specs.Images.{HasRecorded, IsImageOf}
 use Rattle.heap_rule.specs.Left.{IsCloseOf, IsCrashOf}
 use Rattle.heap_rule.specs.Plays.{HasSoundState}
@@ -86,3 +86,25 @@ module _ (k : Setup) (now kept : List ℕ) (views : List View) (closed : IsClose
 
   pub drawn_in_all : closed.drawn ≡ total (λ (v : View). v.draws) views
   drawn_in_all = sym drawn_at ∙ closed.sound.good.adds.draws
+
+  -- the bounds that soundness has
+  pub lost_at_most : Each views (λ v. v.losses + v.wins ≤ total (λ (u : View). u.wins) views)
+  lost_at_most i v below at = let told = closed.sound.good.lost i v below at in omega arith
+
+  pub moved_at_most : total (λ (v : View). v.moves) views ≤ total (λ (v : View). v.gives) views + k.capacity
+  moved_at_most = let told = closed.sound.good.moves in omega arith
+
+  pub drawn_at_most : closed.drawn ≤ k.budget + total (λ (v : View). one_if_some v.stopped) views
+  drawn_at_most = let told = closed.sound.good.adds.stopped in let at = drawn_at in omega arith
+
+  pub looked_at_most : Each views (λ v. v.used_look.word + v.taken ≤ slice_index now used_word + v.used_look.taken)
+  looked_at_most i v below at = let told = (closed.sound.good.knows i v below at).looked in let is = now_at used_word (omega arith) in omega arith
+
+  pub tried_at_most : Each views (λ v. v.wins + v.losses ≤ v.draws)
+  tried_at_most i v below at = let told = (closed.sound.good.tickets i v below at).counts in omega arith
+
+  pub gave_at_most : Each views (λ v. v.gives + v.moves ≤ v.wins)
+  gave_at_most i v below at = (closed.sound.good.tickets i v below at).gives
+
+  pub cut_at_most : Each views (λ v. v.cuts ≤ v.draws)
+  cut_at_most i v below at = (closed.sound.good.tickets i v below at).cuts

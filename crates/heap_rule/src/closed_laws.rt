@@ -8,7 +8,7 @@ ghost use Rattle.heap_model.specs.Geometry.{image_words, used_word};
 ghost use Rattle.heap_model.specs.Header.{IsWellFormed, header_fault};
 ghost use Rattle.heap_model.specs.Image.{Image};
 ghost use Rattle.core_model.specs.Sound.{Each};
-ghost use Rattle.core_model.specs.View.{Setup, View};
+ghost use Rattle.core_model.specs.View.{Setup, View, one_if_some};
 ghost use Rattle.heap_rule.specs.Images.{HasRecorded, IsImageOf, HasFixedWords};
 ghost use Rattle.heap_rule.specs.Left.{IsCloseOf, IsCrashOf};
 ghost use Rattle.heap_rule.specs.Seats.{IsClosedSound};
@@ -68,4 +68,32 @@ pub fn a_crash_or_a_close_of_a_closed_heap_is_one_of_each_seat()
         → IsClosedSound k now kept views
         → (image : Image) → IsClosedImage (slice_index now) image
         → Each views (λ v. IsCloseOf v image) }
+{}
+
+/// The bounds on what the seats of a closed heap did. Each lost at most as many exchanges as the
+/// others won. All together moved at most as many superblocks to the list of the free ones as they
+/// gave batches, and the capacity besides. At most as many tickets were drawn as the budget allows,
+/// and one for each seat that stopped. A seat's last look at the mark, and what the seat took
+/// since, is at most the mark. Each seat won and lost at most as many exchanges as it drew tickets,
+/// gave and moved at most as often as it won, and cut at most as many superblocks as it drew.
+pub fn a_closed_heap_bounds_what_its_seats_did()
+    ensures lost { (k : Setup) (now kept : List ℕ) (views : List View)
+        → IsClosedSound k now kept views
+        → Each views (λ v. v.losses + v.wins ≤ total (λ (u : View). u.wins) views) }
+    ensures moved { (k : Setup) (now kept : List ℕ) (views : List View)
+        → IsClosedSound k now kept views
+        → total (λ (v : View). v.moves) views ≤ total (λ (v : View). v.gives) views + k.capacity }
+    ensures drawn { (k : Setup) (now kept : List ℕ) (views : List View)
+        → (closed : IsClosedSound k now kept views)
+        → closed.drawn ≤ k.budget + total (λ (v : View). one_if_some v.stopped) views }
+    ensures looked { (k : Setup) (now kept : List ℕ) (views : List View)
+        → IsClosedSound k now kept views
+        → Each views (λ v. v.used_look.word + v.taken
+        ≤ slice_index now used_word + v.used_look.taken) }
+    ensures tried { (k : Setup) (now kept : List ℕ) (views : List View)
+        → IsClosedSound k now kept views → Each views (λ v. v.wins + v.losses ≤ v.draws) }
+    ensures gave { (k : Setup) (now kept : List ℕ) (views : List View)
+        → IsClosedSound k now kept views → Each views (λ v. v.gives + v.moves ≤ v.wins) }
+    ensures cut { (k : Setup) (now kept : List ℕ) (views : List View)
+        → IsClosedSound k now kept views → Each views (λ v. v.cuts ≤ v.draws) }
 {}

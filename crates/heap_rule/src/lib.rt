@@ -31,9 +31,9 @@ mod view_laws;
 mod words;
 
 pub use closed_laws::{
-    a_closed_heap_counts_what_its_seats_did, a_closed_heap_has_images_of_its_seats,
-    a_closed_heap_has_the_opened_header, a_closed_heap_has_the_recorded_words,
-    a_crash_or_a_close_of_a_closed_heap_is_one_of_each_seat,
+    a_closed_heap_bounds_what_its_seats_did, a_closed_heap_counts_what_its_seats_did,
+    a_closed_heap_has_images_of_its_seats, a_closed_heap_has_the_opened_header,
+    a_closed_heap_has_the_recorded_words, a_crash_or_a_close_of_a_closed_heap_is_one_of_each_seat,
 };
 pub use closing::close_shared;
 pub use image_laws::{
