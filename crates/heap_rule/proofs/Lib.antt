@@ -38,3 +38,4 @@ pub mod DrawLemmas
 pub mod HeldLemmas
 pub mod CrashLemmas
 pub mod TicketLemmas
+pub mod RecordLemmas

@@ -9,6 +9,7 @@ pub mod Held
 pub mod Left
 pub mod Parts
 pub mod Tickets
+pub mod Records
 pub mod Owned
 pub mod Changed
 pub mod Rooms

@@ -8,7 +8,8 @@ ghost use Rattle.core_model.specs.declared.event.Event.TheVariants.{Tick, Load, 
 ghost use Rattle.core_model.specs.declared.event.Shift.{Shift};
 ghost use Rattle.core_model.specs.declared.event.Shift.TheVariants.{Cut, Free};
 ghost use Rattle.core_model.specs.Effects.{after_free, before, drew, given, lost, popped, pushed, seen, seen_of, seen_word, shifted, stopped, taken_all, taken_fresh};
-ghost use Rattle.core_model.specs.Guards.{IsAsSeen};
+ghost use Rattle.core_model.specs.Cells.{cell_at};
+ghost use Rattle.core_model.specs.Guards.{IsAsSeen, IsOwn};
 ghost use Rattle.core_model.specs.Memory.{memory_of};
 ghost use Rattle.core_model.specs.Steps.{StepsTo, words_after};
 ghost use Rattle.core_model.specs.View.{View};
@@ -16,6 +17,7 @@ ghost use Rattle.heap_model.specs.Words.{head_first};
 ghost use Rattle.heap_rule.specs.Fences.{IsSeatFence};
 ghost use Rattle.heap_rule.specs.Parts.{KeepsParts, cut_for};
 ghost use Rattle.heap_rule.specs.Plays.{IsEvent, learned, state_before, state_with};
+ghost use Rattle.heap_rule.specs.Records.{IsOn, KeepsRecord};
 ghost use Rattle.heap_rule.specs.Seated.{HasLostTo, SeatView, Tells};
 ghost use Rattle.heap_rule.specs.Shown.{CanCut, CanFree};
 ghost use Rattle.heap_rule.specs.Tickets.{next_of};
@@ -144,4 +146,12 @@ pub fn looks_and_tickets_rise()
     ensures draws { (shift : Option Shift) (v w : View) (ticket : ℕ)
         → IsEvent (Tick shift) v ticket w
         → (w.draws ≡ v.draws + 1) × (w.draws ≤ ticket + 1) }
+{}
+
+/// What is recorded of a seat's own word that stays its own is the same after each of its steps,
+/// but for the word that is loaded, stored to or made durable.
+pub fn own_words_keep_what_is_recorded()
+    ensures { (event : Event) (v w : View) (found word : ℕ) → IsEvent event v found w
+        → IsOwn v (cell_at v.setup.capacity word) → IsOwn w (cell_at v.setup.capacity word)
+        → (IsOn event word → ⊥) → KeepsRecord word v w }
 {}
