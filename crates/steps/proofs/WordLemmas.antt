@@ -1,16 +1,17 @@
 -- What is recorded of words, from step to step.
-use Rattle.std.proofs.Common.{◌≡◌, ◌≢◌, ◌<◌, ◌≤◌, ℕ, zero, suc, ◌+◌, inl, inr, cond, get_or, List, [], ◌∷◌, Option, None, Some, refl, ap, sym, subst, ◌∙◌, lt-ltb, arith}
+use Rattle.std.proofs.Common.{◌≡◌, ◌≢◌, ◌<◌, ◌≤◌, ℕ, ◌+◌, inl, inr, get_or, List, Option, None, Some, refl, ap, sym, subst, ◌∙◌, arith}
 use Rattle.std.proofs.lemmas.Bool.{cases_eq}
 use Rattle.std.proofs.lemmas.List.{get_or-set_same, get_or-set_other}
 use Rattle.heap_model.specs.Counting.{times}
 use Rattle.core_model.specs.declared.event.Event.TheVariants.{Settle}
 use Rattle.core_model.specs.Cells.{Cell, used_cell, head_cell, info_cell, anchor_cell, link_cell, root_cell, data_cell, no_cell, cell_at, superblock_at}
-use Rattle.core_model.specs.Effects.{learn, only_own, trimmed}
+use Rattle.core_model.specs.Effects.{learn, trimmed}
 use Rattle.core_model.specs.Memory.{memory_of}
 use Rattle.core_model.specs.View.{Setup, View, known, times_own, times_in_classes, times_large}
 use Rattle.heap_rule.specs.Fences.{Owns}
 use Rattle.heap_rule.specs.Plays.{HasSoundState, IsEvent}
 use Rattle.heap_rule.proofs.RawLemmas.{volatile_long, durable_long}
+use Rattle.heap_rule.proofs.RecordLemmas.{only_at}
 use Rattle.heap_rule.proofs.SettleLemmas.{own_below, own_index, own_there}
 use Rattle.heap_rule.proofs.ViewLemmas.{shown}
 use Rattle.steps.specs.Words.{IsHeldWord, KeepsWord, MayBe, left_at, seen_at, times_held}
@@ -105,12 +106,6 @@ module _ (v w : View) (word found : ℕ) (event : IsEvent (Settle word) v found 
     by_seen (Some y) some value is = is ∙ word_shown v event.before word y event.may.ready some
 
 -- an own word of a trimmed view
-only_at : (v : View) (index n : ℕ) (values : List (Option ℕ)) → 0 < times_own v (cell_at v.setup.capacity (index + n)) → get_or (only_own v index values) n None ≡ get_or values n None
-only_at v index n [] own = refl
-only_at v index zero (value ∷ values) own =
-    ap (λ test. cond test value None) (lt-ltb 0 (times_own v (cell_at v.setup.capacity index)) (subst (λ j. 0 < times_own v (cell_at v.setup.capacity j)) (let e : index + 0 ≡ index = omega arith in e) own))
-only_at v index (suc n) (value ∷ values) own = only_at v (index + 1) n values (subst (λ j. 0 < times_own v (cell_at v.setup.capacity j)) (let e : index + suc n ≡ index + 1 + n = omega arith in e) own)
-
 pub trimmed_word : (v : View) (word : ℕ) → Owns v word → KeepsWord v (trimmed v) word
 trimmed_word v word own = word_same v (trimmed v) word
     (only_at v 0 word v.volatile (subst (λ j. 0 < times_own v (cell_at v.setup.capacity j)) (let e : word ≡ 0 + word = omega arith in e) own))
