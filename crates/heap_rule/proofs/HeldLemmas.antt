@@ -1,27 +1,30 @@
 -- No block is held twice.
-use Rattle.std.proofs.Common.{◌+◌, ◌≡◌, ◌≢◌, ◌<◌, ◌≤◌, ℕ, inl, inr, nat_lt, List, get_or, length, refl, ap, sym, subst, ◌∙◌, lt-ltb, arith}
+use Rattle.std.proofs.Common.{◌+◌, ◌≡◌, ◌≢◌, ◌<◌, ◌≤◌, ℕ, inl, inr, nat_le, nat_lt, List, get_or, length, refl, ap, sym, subst, ◌∙◌, le-leb, lt-ltb, arith}
 use Rattle.std.proofs.lemmas.Bool.{cases_lt}
 use Rattle.heap_model.specs.declared.block.Block.{Block}
-use Rattle.heap_model.specs.Blocks.{AreOneOrApart, layout_of}
+use Rattle.heap_model.specs.Blocks.{AreOneOrApart, layout_of, IsIn}
 use Rattle.heap_model.specs.Counting.{times, total}
 use Rattle.heap_model.specs.Durability.{Mixes}
-use Rattle.heap_model.specs.Geometry.{image_words, largest_capacity, used_word}
+use Rattle.heap_model.specs.Geometry.{image_words, largest_capacity, used_word, root_word, roots, start_word}
 use Rattle.heap_model.specs.Image.{Image}
-use Rattle.heap_model.specs.Sizes.{IsClass}
+use Rattle.heap_model.specs.Sizes.{IsClass, words_of_class}
 use Rattle.heap_model.proofs.BlockLemmas.{block_inside, block_words, never_overlap}
 use Rattle.heap_model.proofs.ListLemmas.{one_at_most}
 use Rattle.heap_model.proofs.SizeLemmas.{few_words}
-use Rattle.core_model.specs.Cells.{superblock_at}
+use Rattle.core_model.specs.Cells.{Cell, cell_at, data_cell, root_cell, superblock_at}
+use Rattle.core_model.specs.Guards.{IsOwn}
 use Rattle.core_model.specs.Held.{IsHeld, IsHeldBy, a_small, a_large, volatile_image, durable_image}
 use Rattle.core_model.specs.Memory.{Memory, memory_of, durable_used, info, used}
 use Rattle.core_model.specs.Sound.{Good, Sound}
-use Rattle.core_model.specs.View.{Setup, View, times_block, times_large}
+use Rattle.core_model.specs.View.{Setup, View, times_block, times_large, times_own}
 use Rattle.core_model.proofs.HeldLemmas.{firm}
 use Rattle.core_model.proofs.LinkFrameLemmas.{span_covers}
 use Rattle.core_model.proofs.OwnerLemmas.{in_lists_total}
-use Rattle.core_model.proofs.PlaceLemmas.{pick}
+use Rattle.core_model.proofs.PlaceLemmas.{and_is, cell_at_index, pick}
 use Rattle.core_model.proofs.TotalLemmas.{total_at, total_two}
 use Rattle.heap_rule.specs.Held.{AreApart, IsPlacedBelow, NoneHeldTwice}
+use Rattle.crash_core.proofs.OwnDecision.{in_classes_word}
+use Rattle.heap_rule.specs.Left.{Lasts, a_data, a_root}
 use Rattle.heap_rule.specs.Plays.{HasSoundState}
 use Rattle.heap_rule.proofs.CrashLemmas.{kept_capacity}
 
@@ -133,3 +136,23 @@ module _ (v : View) (s : HasSoundState v) where
 
   pub one_root : (n : ℕ) → times n v.roots ≤ 1
   one_root n = let mine = total_at (λ (u : View). times n u.roots) s.views s.seat v s.below s.at in let most = s.sound.good.adds.roots n in omega arith
+
+  -- a word of a held block is one of a superblock of the image
+  held_cell : (b : Block) → IsHeld v b → (word : ℕ) → IsIn b word → cell_at v.setup.capacity word ≡ data_cell word
+  held_cell b held word within =
+      let placed = held_placed b held in
+      let from = placed.from in let until = placed.until in let low = placed.low in let first = within.from in let last = within.until in
+      cell_at_index v.setup.capacity (data_cell word) (and_is (nat_le (start_word v.setup.capacity 0) word) (nat_lt word (image_words v.setup.capacity))
+      (le-leb (start_word v.setup.capacity 0) word (omega arith)) (lt-ltb word (image_words v.setup.capacity) (omega arith)))
+
+  held_own : (b : Block) → IsHeld v b → (word : ℕ) → IsIn b word → 0 < times_own v (data_cell word)
+  held_own b (a_small class first there) word within = let from = within.from in let until = within.until in
+      let own = in_classes_word word first 0 class v.small from (let e = ap words_of_class (let p : class ≡ 0 + class = omega arith in p) in omega arith) there in omega arith
+  held_own b (a_large d n some count) word within = let from = within.from in let until = within.until in
+      let own = span_covers d (superblock_at v.setup.capacity word) v.large (omega arith) (omega arith) (omega arith) in omega arith
+
+  pub block_words_own : (b : Block) → IsHeld v b → (word : ℕ) → IsIn b word → IsOwn v (cell_at v.setup.capacity word) × Lasts (cell_at v.setup.capacity word)
+  block_words_own b held word within = subst (λ (cell : Cell). IsOwn v cell × Lasts cell) (sym (held_cell b held word within)) (held_own b held word within, a_data word)
+
+pub root_own : (v : View) (n : ℕ) → n < roots → 0 < times n v.roots → IsOwn v (cell_at v.setup.capacity (root_word n)) × Lasts (cell_at v.setup.capacity (root_word n))
+root_own v n less own = subst (λ (cell : Cell). IsOwn v cell × Lasts cell) (sym (cell_at_index v.setup.capacity (root_cell n) (lt-ltb n roots less))) (own, a_root n)

@@ -60,10 +60,13 @@ pub fn a_close_leaves_a_seat_its_blocks_and_words()
         → header_fault (8 * image_words v.setup.capacity) image ≡ None }
 {}
 
-/// Whatever may be left while a seat has its view, a mixture, by a crash or by a close, names each
-/// block that the seat holds, and has one of the two recorded values of each own word that a crash
-/// leaves as it is durable.
+/// What may be left while a seat has its view is a mixture, what a crash leaves, or a close. It names
+/// each block that the seat holds, and has one of the two recorded values of each own word that a
+/// crash leaves as it is durable.
 pub fn what_may_be_left_has_a_seats_blocks_and_words()
+    ensures by_mixture { (v : View) (image : Image) → IsImageOf v image → MayBeLeft v image }
+    ensures by_crash { (v : View) (image : Image) → IsCrashOf v image → MayBeLeft v image }
+    ensures by_close { (v : View) (image : Image) → IsCloseOf v image → MayBeLeft v image }
     ensures named { (v : View) (image : Image) → MayBeLeft v image
         → (b : Block) → IsHeld v b → Names image (8 * b.first_word) b }
     ensures mixed { (v : View) (image : Image) → MayBeLeft v image → MixesLasting v image }

@@ -56,5 +56,5 @@ pub use step_laws::{
 pub use view_laws::{
     a_stopped_seat_keeps_its_last_ticket, a_store_is_recorded,
     a_superblock_without_a_class_is_the_seats_alone, a_view_records_each_word,
-    held_blocks_are_placed_and_apart,
+    held_blocks_are_placed_and_apart, words_of_held_blocks_and_roots_are_own,
 };

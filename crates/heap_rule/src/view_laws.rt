@@ -3,9 +3,9 @@
 
 ghost use Rattle.std.specs.Prelude.{◌≡◌, ◌≤◌, ◌<◌, ℕ, None, Some, length, set};
 ghost use Rattle.heap_model.specs.declared.block.Block.{Block};
-ghost use Rattle.heap_model.specs.Blocks.{AreOneOrApart};
+ghost use Rattle.heap_model.specs.Blocks.{AreOneOrApart, IsIn};
 ghost use Rattle.heap_model.specs.Counting.{times, total};
-ghost use Rattle.heap_model.specs.Geometry.{image_words, largest_capacity};
+ghost use Rattle.heap_model.specs.Geometry.{image_words, largest_capacity, root_word, roots};
 ghost use Rattle.core_model.specs.declared.event.Event.TheVariants.{Load, Store, Settle};
 ghost use Rattle.core_model.specs.Cells.{cell_at, superblock_at};
 ghost use Rattle.core_model.specs.Effects.{learn};
@@ -14,6 +14,7 @@ ghost use Rattle.core_model.specs.Held.{IsHeld};
 ghost use Rattle.core_model.specs.Memory.{durable_used, memory_of, used};
 ghost use Rattle.core_model.specs.View.{View, times_block, times_large, times_raw};
 ghost use Rattle.heap_rule.specs.Held.{IsPlacedBelow};
+ghost use Rattle.heap_rule.specs.Left.{Lasts};
 ghost use Rattle.heap_rule.specs.Plays.{HasSoundState, IsEvent};
 ghost use Rattle.heap_rule.specs.Shown.{Shows, ShowsDurable};
 
@@ -87,4 +88,15 @@ pub fn a_stopped_seat_keeps_its_last_ticket()
         → (v.last_ticket ≡ Some ticket) × (ticket < v.setup.budget) }
     ensures going { (v : View) → HasSoundState v → (ticket : ℕ) → v.stopped ≡ None
         → v.last_ticket ≡ Some ticket → ticket < v.setup.budget }
+{}
+
+/// Each word of a block that a seat holds is the seat's own, and so is each root that it owns; a
+/// crash leaves them as they are durable.
+pub fn words_of_held_blocks_and_roots_are_own()
+    ensures block { (v : View) → HasSoundState v → (b : Block) → IsHeld v b
+        → (word : ℕ) → IsIn b word
+        → IsOwn v (cell_at v.setup.capacity word) × Lasts (cell_at v.setup.capacity word) }
+    ensures root { (v : View) → (i : ℕ) → i < roots → 0 < times i v.roots
+        → IsOwn v (cell_at v.setup.capacity (root_word i))
+        × Lasts (cell_at v.setup.capacity (root_word i)) }
 {}
