@@ -12,12 +12,11 @@ ghost use Rattle.core_model.specs.declared.event.Event.{Event};
 ghost use Rattle.core_model.specs.declared.event.Event.TheVariants.{Tick, Load};
 ghost use Rattle.core_model.specs.declared.event.Shift.{Shift};
 ghost use Rattle.core_model.specs.Cells.{cell_at};
-ghost use Rattle.core_model.specs.Held.{IsHeldBy, IsFirm};
+ghost use Rattle.core_model.specs.Held.{AreHeldOnce, IsHeldBy, IsFirm};
 ghost use Rattle.core_model.specs.View.{Setup, View};
-ghost use Rattle.heap_rule.specs.Held.{NoneHeldTwice};
 ghost use Rattle.heap_rule.specs.Joint.{Joint, all_views};
 ghost use Rattle.heap_rule.specs.Plays.{HasSoundState, IsEvent};
-ghost use Rattle.heap_rule.specs.Rule.{HasAllSeats, Opening};
+ghost use Rattle.heap_rule.specs.Rule.{HasAllSeats, Opening, setup_for};
 ghost use Rattle.heap_rule.specs.Seats.{IsClosedSound};
 ghost use Rattle.heap_rule.specs.Shown.{Shows};
 
@@ -69,8 +68,10 @@ pub fn a_closed_heap_names_each_held_block()
 /// each sound state in which a seat has its view, and of the seats of a closed heap.
 pub fn no_block_is_held_twice()
     ensures shared { (o : Opening) (words : List ℕ) (joints : List Joint)
-        → HasAllSeats o words joints → NoneHeldTwice (all_views joints) }
-    ensures state { (v : View) → (has : HasSoundState v) → NoneHeldTwice has.views }
+        → HasAllSeats o words joints
+        → AreHeldOnce (setup_for o).capacity (all_views joints) }
+    ensures state { (v : View) → (has : HasSoundState v)
+        → AreHeldOnce v.setup.capacity has.views }
     ensures closed { (k : Setup) (now kept : List ℕ) (views : List View)
-        → IsClosedSound k now kept views → NoneHeldTwice views }
+        → IsClosedSound k now kept views → AreHeldOnce k.capacity views }
 {}

@@ -1,14 +1,14 @@
 use Rattle.std.proofs.Common.{[], ◌∷◌, ◌++◌}
 use Rattle.heap_rule.specs.Joint.{all_views}
 use Rattle.heap_rule.specs.Rule.{setup_for}
-use Rattle.heap_rule.proofs.HeldLemmas.{none_held_twice}
+use Rattle.core_model.proofs.HeldOnceLemmas.{held_once}
 use Rattle.heap_rule.proofs.laws.no_block_is_held_twice.Goals as goal
 
 pub returns-clause-shared : goal.returns-clause-shared
-returns-clause-shared c o words joints all = none_held_twice (setup_for o) words (all_views joints) all.sound
+returns-clause-shared c o words joints all = held_once (setup_for o) words (all_views joints) all.sound
 
 pub returns-clause-state : goal.returns-clause-state
-returns-clause-state c v has = none_held_twice v.setup has.words has.views has.sound
+returns-clause-state c v has = held_once v.setup has.words has.views has.sound
 
 pub returns-clause-closed : goal.returns-clause-closed
-returns-clause-closed c k now kept views closed = none_held_twice k (now ++ (kept ++ (closed.drawn ∷ []))) views closed.sound
+returns-clause-closed c k now kept views closed = held_once k (now ++ (kept ++ (closed.drawn ∷ []))) views closed.sound
