@@ -1,11 +1,11 @@
 //! What a crash leaves of the shared words.
 
-ghost use Rattle.std.specs.Prelude.{◌≡◌, ◌≤◌, ℕ, length, slice_index, IfOk};
-ghost use Rattle.heap_model.specs.Geometry.{image_words, state_word, capacity_word};
+ghost use Rattle.std.specs.Prelude.{◌≡◌, ◌<◌, ◌≤◌, ℕ, length, map, slice_index, IfOk};
+ghost use Rattle.heap_model.specs.Geometry.{fixed_words, image_words, lists, state_word, capacity_word};
 ghost use Rattle.heap_model.specs.Durability.{IsCrashImage};
 ghost use Rattle.core_model.specs.Memory.{table_length};
 ghost use Rattle.core_model.specs.Held.{durable_image};
-ghost use Rattle.crash_core.specs.Crash.{IsLeft};
+ghost use Rattle.crash_core.specs.Crash.{GivesAll, IsLeft, descriptors_below, heads_below, transient_words};
 
 use line_memory::Chance;
 use std::alloc::{AllocError, Global};
@@ -26,6 +26,8 @@ pub fn crash_image<C: Chance>(
     ensures ok { IfOk result (λ image. IsCrashImage (durable_image geometry.capacity table.now)
         (slice_index image.items)) }
     ensures length { IfOk result (λ image. length image.items ≡ image_words geometry.capacity) }
+    ensures drawn { IfOk result (λ image. GivesAll C.draw_gives scramble.old
+        (map (slice_index image.items) (transient_words geometry.capacity)) scramble.new) }
 {
     let words = geometry.length() as usize;
     let mut image = Vec::new(alloc);
@@ -39,7 +41,9 @@ pub fn crash_image<C: Chance>(
 /// Any heads.
 fn scramble_heads<C: Chance>(image: &mut Vec<u64>, scramble: &mut C)
     requires { image_words 0 ≤ length image.old.items }
-    ensures { (capacity : ℕ) → IsLeft capacity image.old.items image.new.items }
+    ensures left { (capacity : ℕ) → IsLeft capacity image.old.items image.new.items }
+    ensures drawn { GivesAll C.draw_gives scramble.old
+        (map (slice_index image.new.items) (heads_below lists)) scramble.new }
 {
     for list in 0..LISTS {
         image[(HEAD_WORD + list) as usize] = scramble.draw();
@@ -49,7 +53,11 @@ fn scramble_heads<C: Chance>(image: &mut Vec<u64>, scramble: &mut C)
 /// Any anchors and links.
 fn scramble_descriptors<C: Chance>(image: &mut Vec<u64>, geometry: Geometry, scramble: &mut C)
     requires { length image.old.items ≡ image_words geometry.capacity }
-    ensures { IsLeft geometry.capacity image.old.items image.new.items }
+    ensures left { IsLeft geometry.capacity image.old.items image.new.items }
+    ensures heads { (word : ℕ) → word < fixed_words
+        → slice_index image.new.items word ≡ slice_index image.old.items word }
+    ensures drawn { GivesAll C.draw_gives scramble.old
+        (map (slice_index image.new.items) (descriptors_below geometry.capacity)) scramble.new }
 {
     for d in 0..geometry.capacity() {
         image[geometry.anchor(d) as usize] = scramble.draw();

@@ -1,14 +1,15 @@
 //! The core: a heap opened for some seats, that takes their steps in any order.
 
-ghost use Rattle.std.specs.Prelude.{◌≡◌, ◌<◌, ◌≤◌, ◌+◌, ℕ, length, slice_index, IfOk, IfErr, Contains};
+ghost use Rattle.std.specs.Prelude.{◌≡◌, ◌<◌, ◌≤◌, ◌+◌, ℕ, length, map, slice_index, IfOk, IfErr, Contains};
 ghost use Rattle.heap_model.specs.Geometry.{image_words};
 ghost use Rattle.heap_model.specs.Durability.{IsCrashImage};
 ghost use Rattle.core_model.specs.declared.event.Event.{Event};
-ghost use Rattle.core_model.specs.Held.{durable_image};
+ghost use Rattle.core_model.specs.Held.{durable_image, volatile_image};
 ghost use Rattle.core_model.specs.Memory.{memory_of};
 ghost use Rattle.core_model.specs.Opening.{AreOwners, setup_of, opened_state};
 ghost use Rattle.core_model.specs.Steps.{TableState};
 ghost use Rattle.core_model.specs.View.{Setup};
+ghost use Rattle.crash_core.specs.Crash.{GivesAll, transient_words};
 ghost use Rattle.crash_core.specs.Standing.{StandsFor, Follows, RunsOn};
 
 use crate::crash::crash_image;
@@ -102,15 +103,30 @@ impl Core {
         run(&mut self.state, alloc, events)
     }
 
-    /// An image that a crash may leave of the state.
+    /// An image that a crash may leave of the state. Each head, anchor and link is a number of
+    /// `scramble`, in the order of word index.
     pub fn image<C: Chance>(&self, alloc: Global, scramble: &mut C) -> Result<Vec<u64>, AllocError>
         ensures ok { IfOk result (λ image. (k : Setup) (s : TableState)
             → StandsFor self.now.state k s
             → IsCrashImage (durable_image k.capacity s.words) (slice_index image.items)) }
         ensures length { IfOk result (λ image. (k : Setup) (s : TableState)
             → StandsFor self.now.state k s → length image.items ≡ image_words k.capacity) }
+        ensures drawn { IfOk result (λ image. (k : Setup) (s : TableState)
+            → StandsFor self.now.state k s → GivesAll C.draw_gives scramble.old
+            (map (slice_index image.items) (transient_words k.capacity)) scramble.new) }
     {
         crash_image(alloc, &self.state.words, self.state.geometry, scramble)
+    }
+
+    /// What loads see of a word of the image; 0 beyond.
+    pub fn volatile(&self, word: u64) -> u64
+        ensures { (k : Setup) (s : TableState) → StandsFor self.now.state k s
+            → result ≡ volatile_image k.capacity s.words word }
+    {
+        if word >= self.state.geometry.length() {
+            return 0;
+        }
+        self.state.words[word as usize]
     }
 
     /// How many tickets were drawn.

@@ -1,6 +1,7 @@
-use Rattle.std.proofs.Common.{ℕ}
-use Rattle.crash_core.specs.Crash.{IsLeft}
+use Rattle.std.proofs.Common.{ℕ, map, slice_index}
+use Rattle.crash_core.specs.Crash.{GivesAll, IsLeft, heads_below}
 use Rattle.crash_core.proofs.crash.scramble_heads.Given as goal
 
 abbrev pub invariant-loop-list : goal.invariant-loop-list
-invariant-loop-list g l = (capacity : ℕ) → IsLeft capacity l.initial.image.items l.image.items
+invariant-loop-list g l = ((capacity : ℕ) → IsLeft capacity l.initial.image.items l.image.items)
+    × GivesAll g.C.Chance.draw_gives l.initial.scramble (map (slice_index l.image.items) (heads_below l.list)) l.scramble
