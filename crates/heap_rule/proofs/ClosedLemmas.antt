@@ -39,6 +39,7 @@ module _ (k : Setup) (now kept : List ℕ) (views : List View) (closed : IsClose
     views = views;
     seat = i;
     sound = subst (λ s. Sound s words views) (sym (closed.sound.good.set_up i v below at).setup) closed.sound;
+    count = closed.count ∙ sym (ap (λ (s : Setup). s.seats) (closed.sound.good.set_up i v below at).setup);
     below = below;
     at = at;
   }

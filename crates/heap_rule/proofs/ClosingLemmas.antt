@@ -68,6 +68,7 @@ closed_sound o words slots id n joint final count half = record {
   kept_long = length-take-le n (drop n words) (let l = length-drop n words in omega (arith, long, l)) ∙ half;
   drawn = get_or (drop n (drop n words)) 0 0;
   sound = sound;
+  count = count;
 } where
   keeps : HasAllSeats o final.0.words final.0.views
   keeps = final.1.0

@@ -68,6 +68,7 @@ is_seat o i capacity budget me is less me_is capacity_is budget_is = subst (λ m
       views = first_joint o;
       seat = i;
       sound = subst (Sound (setup_for o) is.words) (append-nil (first_joint o)) is.keeps.sound;
+      count = length_tabulate (opened_view_of o) 0 o.seats;
       below = (let l = length_tabulate (opened_view_of o) 0 o.seats in omega arith);
       at = tabulate_at (opened_view_of o) 0 o.seats i (opened_view_of o i) less ∙ ap (opened_view_of o) (let e : 0 + i ≡ i = omega arith in e);
     };

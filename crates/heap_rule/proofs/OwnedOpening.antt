@@ -39,6 +39,7 @@ opened_has heap owners seats seat ready are less = record {
   views = tabulate V 0 seats;
   seat = seat;
   sound = opened heap.words heap.held 0 seats owners.held owners.roots ready are;
+  count = length_tabulate V 0 seats;
   below = (let l = length_tabulate V 0 seats in omega arith);
   at = tabulate_at V 0 seats seat (V seat) less ∙ ap V (let e : 0 + seat ≡ seat = omega arith in e);
 } where

@@ -8,7 +8,7 @@ use Rattle.atomic_table.specs.Table.{Allows, keeps}
 use Rattle.core_model.specs.declared.event.Event.{Event}
 use Rattle.core_model.specs.Cells.{cell_at, is_cell}
 use Rattle.core_model.specs.Memory.{Memory, memory_of}
-use Rattle.core_model.specs.View.{View, times_own}
+use Rattle.core_model.specs.View.{Setup, View, times_own}
 use Rattle.core_model.specs.Effects.{place_of, left_there, view_after}
 use Rattle.core_model.specs.Guards.{IsOwn, MayStep}
 use Rattle.core_model.specs.Sound.{Good, Sound}
@@ -29,6 +29,7 @@ state_with o words joints id joint v setup holds at single = record {
   views = all_views joints;
   seat = offset id joints;
   sound = subst (λ k. Sound k words (all_views joints)) (sym setup) holds.sound;
+  count = holds.count ∙ sym (ap (λ (s : Setup). s.seats) setup);
   below = offset_below joints id joint v at single;
   at = at_offset joints id joint v at single;
 }
@@ -149,6 +150,7 @@ allowed_learn o count id joint slots v word single setup own s holds none at fit
         views = set (all_views s.views) has.seat w;
         seat = has.seat;
         sound = sound;
+        count = length-set (all_views s.views) has.seat w ∙ has.count;
         below = let l = length-set (all_views s.views) has.seat w in let b = has.below in omega arith;
         at = get_or-set_same (all_views s.views) has.seat w w has.below;
       }

@@ -11,12 +11,13 @@ use Rattle.core_model.specs.Steps.{TableState, found_by, words_after}
 use Rattle.heap_rule.specs.Joint.{Joint, IsSingle, all_views}
 use Rattle.heap_rule.specs.Rule.{Opening, HasAllSeats, setup_for}
 
--- a sound state in which a seat has the view
+-- a sound state of all seats that the heap was opened for, in which one has the view
 pub record HasSoundState (v : View) : Type 0 where
   pub words : List ℕ
   pub views : List View
   pub seat : ℕ
   pub sound : Sound v.setup words views
+  pub count : length views ≡ v.setup.seats
   pub below : seat < length views
   pub at : get_or views seat v ≡ v
 

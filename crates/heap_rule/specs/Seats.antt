@@ -33,6 +33,7 @@ pub record IsClosedSound (k : Setup) (now kept : List ℕ) (views : List View) :
   pub kept_long : length kept ≡ image_words k.capacity
   pub drawn : ℕ
   pub sound : Sound k (now ++ (kept ++ (drawn ∷ []))) views
+  pub count : length views ≡ k.seats
 
 -- the first seats of a table, in their order, each with its view
 abbrev pub dealt_seats : TableId → (ℕ → View) → ℕ → ℕ → List SeatView
