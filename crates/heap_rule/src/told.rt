@@ -18,6 +18,13 @@ impl Seat {
         let _opened = self.geometry;
     }
 
+    /// The ticket at which the seat stopped, if it has.
+    pub fn stopped(&self) -> Option<u64>
+        ensures { result ≡ self.now.view.stopped }
+    {
+        self.notes.stopped
+    }
+
     /// How many superblocks the heap has.
     pub fn capacity(&self, shared: &Shared) -> u64
         requires seat { IsSeatOf shared.now self.now }
